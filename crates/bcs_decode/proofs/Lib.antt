@@ -1,0 +1,2 @@
+mod Repeating
+pub mod TakingLemmas

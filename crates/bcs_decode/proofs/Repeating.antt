@@ -1,0 +1,12 @@
+-- Copies of one byte, some of them in a buffer.
+use Rattle.std.proofs.Common.{◌≡◌, ℕ, ◌+◌, ◌-◌, ◌≤◌, List, ◌++◌, take, replicate, sym, ap, ◌∙◌, arith, subst}
+use Rattle.std.proofs.lemmas.List.{replicate-append-replicate, length-replicate}
+use Rattle.std.proofs.Math.Seq.{take-append_seam}
+
+-- of m copies, n stand at the front of a buffer, and the others are left
+pub replicate_front : (m n byte : ℕ) (tail : List ℕ) → n ≤ m → replicate m byte ≡ take n (replicate n byte ++ tail) ++ replicate (m - n) byte
+replicate_front m n byte tail h =
+    let all : m ≡ n + (m - n) = omega arith in
+    let front : take n (replicate n byte ++ tail) ≡ replicate n byte =
+    subst (λ k. take k (replicate n byte ++ tail) ≡ replicate n byte) (length-replicate n byte) (take-append_seam (replicate n byte) tail) in
+    ap (λ k. replicate k byte) all ∙ sym (replicate-append-replicate n (m - n) byte) ∙ ap (λ xs. xs ++ replicate (m - n) byte) (sym front)

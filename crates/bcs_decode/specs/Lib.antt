@@ -1,0 +1,4 @@
+pub mod PieceSource
+pub mod ReadSource
+pub mod RepeatSource
+pub mod Taking

@@ -1,0 +1,14 @@
+//! Where bytes come from, and the values that they are.
+#![tactic(auto)]
+
+pub mod pieces;
+mod read_source;
+mod slice_source;
+mod source;
+
+pub use read_source::ReadSource;
+pub use slice_source::SliceSource;
+pub use source::{ByteSource, SourceFailed};
+
+#[cfg(test)]
+mod tests;

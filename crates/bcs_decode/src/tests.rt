@@ -1,0 +1,114 @@
+use crate::pieces::{PieceSource, RepeatSource};
+use crate::{ByteSource, ReadSource, SliceSource, SourceFailed};
+use std::io;
+use std::io::{ErrorKind, Read};
+use std::test::Fail;
+
+#[test]
+fn piece_source_fails_from_the_chosen_call_on(rt: HostRuntime) -> Result<(), Fail> {
+    for fail_at in 1..6 {
+        let mut source = PieceSource::new(b"abc", 1, Some(fail_at));
+        let mut buf = [0u8; 8];
+        // The fourth call and the fifth meet the end of the content.
+        for call in 1..fail_at {
+            let answer = source.next(&mut buf);
+            assert_eq!(rt;
+                answer,
+                Ok(usize::from(call < 4)),
+                "call {call} before {fail_at}"
+            );
+            assert!(rt; !source.failed(), "call {call} before {fail_at}");
+        }
+        let given = source.given();
+        assert_eq!(rt; given, (fail_at - 1).min(3), "before call {fail_at}");
+        for room in [8, 0, 1] {
+            let answer = source.next(&mut buf[..room]);
+            assert_eq!(rt; answer, Err(SourceFailed), "from call {fail_at} on");
+            assert!(rt; source.failed(), "from call {fail_at} on");
+            assert_eq!(rt; source.given(), given, "from call {fail_at} on");
+        }
+    }
+    Ok(())
+}
+
+#[test]
+fn sources_give_their_bytes_in_turn(rt: HostRuntime) -> Result<(), Fail> {
+    let bytes: &[u8] = b"abcde";
+    let mut slice = SliceSource::new(bytes);
+    let mut reader = ReadSource::new(bytes);
+    let mut pieces = PieceSource::new(bytes, 2, None);
+    for (room, whole, piece, rest) in [
+        (3, "abc", "ab", "de"),
+        (0, "", "", "de"),
+        (1, "d", "c", "e"),
+        (4, "e", "de", ""),
+        (4, "", "", ""),
+    ] {
+        let mut buf = [0u8; 4];
+        assert_eq!(rt; slice.next(&mut buf[..room]), Ok(whole.len()), "{whole}");
+        assert_eq!(rt; &buf[..whole.len()], whole.as_bytes());
+        assert_eq!(rt; slice.rest(), rest.as_bytes());
+        assert_eq!(rt; reader.next(&mut buf[..room]), Ok(whole.len()), "{whole}");
+        assert_eq!(rt; &buf[..whole.len()], whole.as_bytes());
+        assert_eq!(rt; pieces.next(&mut buf[..room]), Ok(piece.len()), "{piece}");
+        assert_eq!(rt; &buf[..piece.len()], piece.as_bytes());
+    }
+    assert_eq!(rt; pieces.given(), 5);
+    assert!(rt; !slice.failed() && !reader.failed() && !pieces.failed());
+    Ok(())
+}
+
+#[test]
+fn repeat_source_gives_one_byte(rt: HostRuntime) -> Result<(), Fail> {
+    let mut source = RepeatSource::new(0xa5);
+    for (room, given) in [(1, 1), (0, 1), (300, 301), (2, 303)] {
+        let mut buf = [0u8; 300];
+        assert_eq!(rt; source.next(&mut buf[..room]), Ok(room));
+        assert!(rt; buf[..room].iter().all(|byte| *byte == 0xa5));
+        assert_eq!(rt; source.given(), given);
+    }
+    assert!(rt; !source.failed());
+    Ok(())
+}
+
+/// A reader that gives as many bytes a call as it is told, and answers an error where it isn't.
+#[derive(Drop)]
+struct Told<'a> {
+    counts: &'a [Option<usize>],
+    calls: usize,
+}
+
+impl<'a> Read for Told<'a> {
+    fn read(&mut self, buf: &mut [u8]) -> io::Result<usize> {
+        let count = self.counts.get(self.calls).copied().flatten();
+        self.calls = self.calls.saturating_add(1);
+        match count {
+            Some(count) => Ok(count.min(buf.len())),
+            None => Err(io::Error::from(ErrorKind::Interrupted)),
+        }
+    }
+}
+
+#[test]
+fn read_source_reads_no_more_after_a_failure(rt: HostRuntime) -> Result<(), Fail> {
+    let tables: [&[Option<usize>]; 4] = [
+        &[None],
+        &[Some(0), None],
+        &[Some(3), None],
+        &[Some(1), Some(2), Some(1), None],
+    ];
+    for counts in tables {
+        let mut reader = Told { counts, calls: 0 };
+        let mut source = ReadSource::new(&mut reader);
+        let mut buf = [0u8; 4];
+        for count in counts {
+            let answer = count.ok_or(SourceFailed);
+            assert_eq!(rt; source.next(&mut buf), answer, "{counts:?}");
+            assert_eq!(rt; source.failed(), answer.is_err(), "{counts:?}");
+        }
+        assert_eq!(rt; source.next(&mut buf), Err(SourceFailed), "{counts:?}");
+        assert_eq!(rt; source.next(&mut []), Err(SourceFailed), "{counts:?}");
+        assert_eq!(rt; reader.calls, counts.len(), "{counts:?}");
+    }
+    Ok(())
+}

@@ -1,0 +1,4 @@
+pub mod Calls
+pub mod PieceSink
+pub mod Taking
+pub mod WriteSink

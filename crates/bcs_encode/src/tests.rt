@@ -1,0 +1,101 @@
+use crate::pieces::PieceSink;
+use crate::{ByteSink, SinkFailed, WriteSink};
+use std::io;
+use std::io::{ErrorKind, Write};
+use std::test::Fail;
+
+#[test]
+fn piece_sink_fails_from_the_chosen_call_on(rt: HostRuntime) -> Result<(), Fail> {
+    for (fail_at, taken) in [(1, ""), (2, "a"), (3, "aa"), (4, "aaa")] {
+        let mut sink = PieceSink::<8>::new(1, Some(fail_at));
+        for call in 1..fail_at {
+            assert_eq!(rt; sink.put(b"ab"), Ok(1), "call {call} before {fail_at}");
+            assert!(rt; !sink.failed(), "call {call} before {fail_at}");
+        }
+        for piece in ["ab", "", "c"] {
+            assert_eq!(rt;
+                sink.put(piece.as_bytes()),
+                Err(SinkFailed),
+                "from call {fail_at} on"
+            );
+            assert!(rt; sink.failed(), "from call {fail_at} on");
+        }
+        assert_eq!(rt; sink.taken(), taken.as_bytes(), "after call {fail_at}");
+    }
+    Ok(())
+}
+
+#[test]
+fn piece_sink_is_full_at_its_array(rt: HostRuntime) -> Result<(), Fail> {
+    let mut sink = PieceSink::<4>::new(3, None);
+    for (piece, answer, taken) in [
+        ("abcde", Ok(3), "abc"),
+        ("", Ok(0), "abc"),
+        ("de", Ok(1), "abcd"),
+        ("", Ok(0), "abcd"),
+        ("e", Err(SinkFailed), "abcd"),
+        ("", Err(SinkFailed), "abcd"),
+    ] {
+        assert_eq!(rt; sink.put(piece.as_bytes()), answer, "{piece} to {taken}");
+        assert_eq!(rt; sink.failed(), answer.is_err(), "{piece} to {taken}");
+        assert_eq!(rt; sink.taken(), taken.as_bytes(), "{piece}");
+    }
+    Ok(())
+}
+
+#[test]
+fn write_sink_gives_its_writer_the_bytes(rt: HostRuntime) -> Result<(), Fail> {
+    let mut bytes = Vec::new(rt.alloc());
+    let mut sink = WriteSink::new(&mut bytes);
+    for piece in ["ab", "", "c"] {
+        assert_eq!(rt; sink.put(piece.as_bytes()), Ok(piece.len()), "{piece}");
+    }
+    assert!(rt; !sink.failed());
+    assert_eq!(rt; bytes.as_slice(), b"abc".as_slice());
+    Ok(())
+}
+
+/// A writer that takes as many bytes a call as it is told, and answers an error where it isn't.
+#[derive(Drop)]
+struct Told<'a> {
+    counts: &'a [Option<usize>],
+    calls: usize,
+}
+
+impl<'a> Write for Told<'a> {
+    fn write(&mut self, buf: &[u8]) -> io::Result<usize> {
+        let count = self.counts.get(self.calls).copied().flatten();
+        self.calls = self.calls.saturating_add(1);
+        match count {
+            Some(count) => Ok(count.min(buf.len())),
+            None => Err(io::Error::from(ErrorKind::StorageFull)),
+        }
+    }
+
+    fn flush(&mut self) -> io::Result<()> {
+        Ok(())
+    }
+}
+
+#[test]
+fn write_sink_writes_no_more_after_a_failure(rt: HostRuntime) -> Result<(), Fail> {
+    let tables: [&[Option<usize>]; 4] = [
+        &[None],
+        &[Some(0)],
+        &[Some(1), None],
+        &[Some(2), Some(1), Some(0)],
+    ];
+    for counts in tables {
+        let mut writer = Told { counts, calls: 0 };
+        let mut sink = WriteSink::new(&mut writer);
+        for count in counts {
+            let answer = count.filter(|count| *count > 0).ok_or(SinkFailed);
+            assert_eq!(rt; sink.put(b"abc"), answer, "{counts:?}");
+            assert_eq!(rt; sink.failed(), answer.is_err(), "{counts:?}");
+        }
+        assert_eq!(rt; sink.put(b"abc"), Err(SinkFailed), "{counts:?}");
+        assert_eq!(rt; sink.put(b""), Err(SinkFailed), "{counts:?}");
+        assert_eq!(rt; writer.calls, counts.len(), "{counts:?}");
+    }
+    Ok(())
+}

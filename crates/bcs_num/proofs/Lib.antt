@@ -1,0 +1,7 @@
+pub mod Decimals
+pub mod LeLaws
+mod LeReading
+mod Room
+pub mod UlebLaws
+pub mod UlebReading
+mod UlebWriting

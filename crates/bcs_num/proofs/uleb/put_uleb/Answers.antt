@@ -1,0 +1,30 @@
+use Rattle.std.proofs.Common.{◌≡◌, ap, length, take, length-take, length-append, add-one, arith}
+use Rattle.std.proofs.lemmas.List.{drop-set-lt}
+use Rattle.std.proofs.lemmas.Grind.{common_steps}
+use Rattle.bcs_num.specs.Uleb.{uleb}
+use Rattle.bcs_num.proofs.UlebLaws.{uleb-low}
+use Rattle.bcs_num.proofs.Room.{room_few, room_next}
+use Rattle.bcs_num.proofs.UlebWriting.{put_more, put_last}
+use Rattle.bcs_num.proofs.uleb.put_uleb.Goals as goal
+
+pub loop-left-preserved : goal.loop-left-preserved
+loop-left-preserved c =
+    let here = room_few c.loop-left.i c.loop-left.left c.loop-left.invariant.fits in
+    record {
+      written = put_more c.loop-left.out c.loop-left.i c.loop-left.left _ (omega arith) c.loop-left-test.true c.loop-left.invariant.written;
+      kept = grind (arith, common_steps, drop-set-lt);
+      fits = rw add-one (room_next c.loop-left.i c.loop-left.left c.loop-left-test.true c.loop-left.invariant.fits).1;
+    }
+
+pub returns-clause-bytes : goal.returns-clause-bytes
+returns-clause-bytes c =
+    let here = room_few c.loop-left.i c.loop-left.left c.loop-left.invariant.fits in
+    put_last c.loop-left.out c.loop-left.i c.loop-left.left _ (omega arith) c.loop-left-test.false c.loop-left.invariant.written
+
+pub returns-clause-len : goal.returns-clause-len
+returns-clause-len c =
+    let here = room_few c.loop-left.i c.loop-left.left c.loop-left.invariant.fits in
+    let one : length (uleb c.loop-left.left) ≡ 1 = ap length (uleb-low c.loop-left.left c.loop-left-test.false) in
+    let front = length-take c.loop-left.i c.loop-left.out in
+    let both = length-append (take c.loop-left.i c.loop-left.out) (uleb c.loop-left.left) in
+    omega (arith, ap length c.loop-left.invariant.written)

@@ -1,0 +1,38 @@
+-- Whole numbers of a fixed width, as BCS writes them (BCS specification): two's complement, the
+-- lowest byte first.
+use Rattle.std.specs.Prelude.{ℕ, zero, suc, ℤ, ◌/◌, ◌%◌, ◌^◌, ◌<◌, List, [], ◌∷◌}
+use Rattle.std.specs.Int.{w8, w16, w32, w64, w128, byte_len, cast_unsigned}
+use Rattle.std.specs.Int as int
+use Rattle.std.specs.Int.RustNames.{FitsSigned}
+use mir.Val.{bits}
+use Rattle.bcs_num.specs.declared.width.Width.{Width}
+use Rattle.bcs_num.specs.declared.width.Width.TheVariants.{W1, W2, W4, W8, W16}
+
+-- std's word for the width
+abbrev pub width_of : Width → int.Width
+width_of W1 = w8
+width_of W2 = w16
+width_of W4 = w32
+width_of W8 = w64
+width_of W16 = w128
+
+-- n is a value of the unsigned type of the width
+abbrev pub IsUnsigned : int.Width → ℕ → Type 0
+IsUnsigned w n = n < 2 ^ bits w
+
+-- z is a value of the signed type of the width
+abbrev pub IsSigned : int.Width → ℤ → Type 0
+IsSigned w z = FitsSigned w z
+
+-- the lowest k bytes of n, the lowest first
+abbrev pub low_bytes : ℕ → ℕ → List ℕ
+low_bytes zero n = []
+low_bytes (suc k) n = (n % 256) ∷ low_bytes k (n / 256)
+
+-- the bytes of an unsigned number
+unfoldable pub le : int.Width → ℕ → List ℕ
+le w n = low_bytes (byte_len w) n
+
+-- the bytes of a signed number: those of its two's complement, which is z, or 2 ^ bits + z below 0
+abbrev pub le_signed : int.Width → ℤ → List ℕ
+le_signed w z = le w (cast_unsigned w z)

@@ -1,0 +1,2 @@
+pub mod Le
+pub mod Uleb

@@ -1,0 +1,17 @@
+//! What keeps bytes from being a number.
+
+use thiserror::Error;
+
+/// Why no number was taken. The message of each is its name.
+#[derive(Clone, Copy, Debug, PartialEq, Eq, Error)]
+pub enum NumFault {
+    /// The bytes end within the number.
+    #[error("EndOfInput")]
+    EndOfInput,
+    /// The last byte of a ULEB128 number is `00` after another byte, so that a shorter form exists.
+    #[error("LongForm")]
+    LongForm,
+    /// A ULEB128 number above 4294967295.
+    #[error("NumberTooLarge")]
+    NumberTooLarge,
+}
