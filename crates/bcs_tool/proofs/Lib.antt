@@ -1,0 +1,6 @@
+mod Views
+mod AnswerLemmas
+mod CommandLines
+mod CommandNames
+mod LineFaultLemmas
+mod Subcommands

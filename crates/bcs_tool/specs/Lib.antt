@@ -1,0 +1,10 @@
+pub mod Json
+pub mod ServedFormat
+pub mod Front
+pub mod Spelling
+pub mod RunFault
+pub mod Answers
+pub mod Files
+pub mod CommandLine
+pub mod Jobs
+pub mod LineFaults

@@ -1,0 +1,44 @@
+//! What is printed.
+ghost use Rattle.std.specs.Prelude.{◌≡◌, IfOk, string_bytes};
+ghost use Rattle.bcs_tool.specs.Answers.{line_of, printed, refusal_line};
+
+use std::alloc::{AllocError, Global};
+
+/// The program's status, and what it prints.
+#[derive(Debug, Drop)]
+pub struct Answer {
+    pub status: u8,
+    pub output: Vec<u8>,
+}
+
+/// The line of a refusal.
+pub fn refused(alloc: Global, name: &str) -> Result<Answer, AllocError>
+    ensures { IfOk result (λ a. (a.status ≡ 2) × (a.output.items ≡ refusal_line name.now)) }
+{
+    let mut text = String::from_str(alloc, "refused: ")?;
+    text.push_str(name)?;
+    Ok(Answer {
+        status: 2,
+        output: line(text)?,
+    })
+}
+
+/// The bytes of a value, as they are where `raw` is asked for, or as a line of hexadecimal digits.
+pub fn encoded(alloc: Global, bytes: &[u8], raw: bool) -> Result<Answer, AllocError>
+    ensures { IfOk result (λ a. (a.status ≡ 0) × (a.output.items ≡ printed raw bytes.now)) }
+{
+    let output = if raw {
+        Vec::from_slice(alloc, bytes)?
+    } else {
+        line(hex::encode(alloc, bytes)?)?
+    };
+    Ok(Answer { status: 0, output })
+}
+
+// The text and a line end.
+fn line(mut text: String) -> Result<Vec<u8>, AllocError>
+    ensures { IfOk result (λ bytes. bytes.items ≡ line_of (string_bytes text)) }
+{
+    text.push_str("\n")?;
+    Ok(text.into_bytes())
+}

@@ -1,0 +1,91 @@
+//! A job, its input and its output.
+ghost use Rattle.std.specs.Prelude.{◌≡◌, ◌⊎◌, ◌<◌, ◌+◌, ℕ, List, length, take, true, Err, IfOk, codes};
+ghost use Rattle.bcs_encode.specs.Taking as sink;
+ghost use Rattle.bcs_decode.specs.Taking as source;
+ghost use Rattle.bcs_tool.specs.Answers.{Answers, IsContent, IsFaultNote, size_limit};
+ghost use Rattle.bcs_tool.specs.Front.{ReadsInput, RefusesEarly};
+ghost use Rattle.bcs_tool.specs.declared.front_fault.FrontFault.{FrontFault};
+
+use crate::answering::answer;
+use crate::putting::put_all;
+use crate::run_fault::RunFault;
+use crate::work::{Outcome, Work};
+use bcs_decode::ByteSource;
+use bcs_encode::ByteSink;
+use std::alloc::Global;
+
+/// Puts the answer to a job and its input. The whole answer is made before its first byte is put.
+pub fn run<S: ByteSource, K: ByteSink>(
+    alloc: Global,
+    work: &Work,
+    input: &mut S,
+    out: &mut K,
+) -> Outcome
+    ensures status { (result.status < 3) ⊎ (result.status ≡ 4) }
+    ensures answered { result.status < 3 → (result.note.now ≡ codes "")
+        × ((bytes : List ℕ) × (output : List ℕ) × IsContent (S.content input.old) bytes
+        × Answers work.now bytes result.status output
+        × sink.Took K.taken K.is_failed out.old out.new output) }
+    ensures noted { result.status ≡ 4 → IsFaultNote result.note.now }
+
+    // A job that its own words refuse leaves the input as it was.
+    ensures untouched { (e : FrontFault) → RefusesEarly work.now e → input.new ≡ input.old }
+    ensures read { result.note.now ≡ codes "fault: read" → ReadsInput work.now
+        × (S.is_failed input.new ≡ true) × (out.new ≡ out.old) }
+    ensures too_large { result.note.now ≡ codes "fault: too large" → ReadsInput work.now
+        × ((bytes : List ℕ) × (length bytes ≡ size_limit + 1)
+        × source.Took S.content S.is_failed S.allowance input.old input.new bytes)
+        × (out.new ≡ out.old) }
+    ensures memory { result.note.now ≡ codes "fault: memory" → out.new ≡ out.old }
+
+    // Less than the whole answer was put.
+    ensures write { result.note.now ≡ codes "fault: write" → (bytes : List ℕ) × (status : ℕ)
+        × (output : List ℕ) × (n : ℕ) × IsContent (S.content input.old) bytes
+        × Answers work.now bytes status output × (n < length output)
+        × sink.Lost K.taken K.is_failed out.old out.new (take n output) }
+{
+    match perform(alloc, work, input, out) {
+        Ok(status) => Outcome { status, note: "" },
+        Err(RunFault::Read) => failed("fault: read"),
+        Err(RunFault::Write) => failed("fault: write"),
+        Err(RunFault::TooLarge) => failed("fault: too large"),
+        Err(RunFault::OutOfMemory) => failed("fault: memory"),
+    }
+}
+
+fn failed(note: &'static str) -> Outcome
+    ensures status { result.status ≡ 4 }
+    ensures note { result.note.now ≡ note.now }
+{
+    Outcome { status: 4, note }
+}
+
+// Puts the answer, and gives its status.
+fn perform<S: ByteSource, K: ByteSink>(
+    alloc: Global,
+    work: &Work,
+    input: &mut S,
+    out: &mut K,
+) -> Result<u8, RunFault>
+    ensures ok { IfOk result (λ status. (status < 3) × ((bytes : List ℕ) × (output : List ℕ)
+        × IsContent (S.content input.old) bytes × Answers work.now bytes status output
+        × sink.Took K.taken K.is_failed out.old out.new output)) }
+    ensures untouched { (e : FrontFault) → RefusesEarly work.now e → input.new ≡ input.old }
+    ensures read { result ≡ Err RunFault.Read → ReadsInput work.now
+        × (S.is_failed input.new ≡ true) × (out.new ≡ out.old) }
+    ensures too_large { result ≡ Err RunFault.TooLarge → ReadsInput work.now
+        × ((bytes : List ℕ) × (length bytes ≡ size_limit + 1)
+        × source.Took S.content S.is_failed S.allowance input.old input.new bytes)
+        × (out.new ≡ out.old) }
+    ensures memory { result ≡ Err RunFault.OutOfMemory → out.new ≡ out.old }
+    ensures write { result ≡ Err RunFault.Write → (bytes : List ℕ) × (status : ℕ)
+        × (output : List ℕ) × (n : ℕ) × IsContent (S.content input.old) bytes
+        × Answers work.now bytes status output × (n < length output)
+        × sink.Lost K.taken K.is_failed out.old out.new (take n output) }
+{
+    let answer = answer(alloc, work, input)?;
+    match put_all(answer.output.as_slice(), out) {
+        Ok(()) => Ok(answer.status),
+        Err(_) => Err(RunFault::Write),
+    }
+}
