@@ -1,6 +1,6 @@
 pub mod Decimals
 pub mod LeLaws
-mod LeReading
+pub mod LeReading
 mod Room
 pub mod UlebLaws
 pub mod UlebReading

@@ -1,0 +1,11 @@
+use Rattle.std.proofs.Common.{sym, ap, ◌∙◌, option_map}
+use Rattle.bcs_registry.specs.Container.{container_at}
+use Rattle.bcs_registry.specs.View.{container_of}
+use Rattle.bcs_registry.proofs.Lookup.{map-copied, find-container}
+use Rattle.bcs_registry.proofs.registry.Registry.container.Goals as goal
+
+pub returns-clause-found : goal.returns-clause-found
+returns-clause-found c =
+    map-copied container_of c.get.result ∙ ap (option_map container_of) c.get.ensures.value
+    ∙ sym (find-container c.args.name.now c.self.inside.containers.entries)
+    ∙ ap (container_at c.args.name.now) c.self.view_is

@@ -1,0 +1,19 @@
+use Rattle.std.proofs.Common.{ap, subst, ◌∙◌}
+use Rattle.bcs_registry.specs.Growing.{growth_fault}
+use Rattle.bcs_registry.specs.Order.{NamesRise}
+use Rattle.bcs_registry.specs.View.{entries_of}
+use Rattle.bcs_registry.proofs.FirstFaults.{ok_exactly, fault_exactly}
+use Rattle.bcs_registry.proofs.registry.Registry.grows.Goals as goal
+
+pub returns-clause-ok : goal.returns-clause-ok
+returns-clause-ok c =
+    ok_exactly c.args.self.now c.args.newer.now c.containers_grow.result
+    (c.containers_grow.ensures.fault ∙ ap (λ r. growth_fault r (entries_of c.containers-2.result.now.entries)) c.containers.ensures ∙ ap (growth_fault c.args.self.now) c.containers-2.ensures)
+
+pub returns-clause-fault : goal.returns-clause-fault
+returns-clause-fault c =
+    fault_exactly c.args.self.now c.args.newer.now c.containers_grow.result
+    (c.containers_grow.ensures.fault ∙ ap (λ r. growth_fault r (entries_of c.containers-2.result.now.entries)) c.containers.ensures ∙ ap (growth_fault c.args.self.now) c.containers-2.ensures)
+
+pub returns-clause-rising : goal.returns-clause-rising
+returns-clause-rising c = subst NamesRise c.containers.ensures c.containers_grow.ensures.rising

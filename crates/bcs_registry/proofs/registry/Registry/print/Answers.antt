@@ -1,0 +1,36 @@
+use Rattle.std.proofs.Common.{string_bytes, ◌≡◌, ◌∙◌, ◌≤◌, false, sym, ap, subst}
+use Rattle.std.proofs.lemmas.Result.{IfOk-weaker}
+use Rattle.std.proofs.lemmas.Str.{IsUtf8-string_bytes}
+use Rattle.serde_json.specs.Data.{depth}
+use Rattle.serde_json.specs.Read.{max_depth}
+use Rattle.serde_json.specs.View.{view}
+use Rattle.serde_json.specs.Written.{compact_text, has_float}
+use Rattle.bcs_registry.specs.Shown.{shown}
+use Rattle.bcs_registry.specs.Text.{IsRegistryText, WritesRegistry}
+use Rattle.bcs_registry.specs.View.{entries_of}
+use Rattle.bcs_registry.proofs.ShownDepth.{depth-shown}
+use Rattle.bcs_registry.proofs.ShownFloats.{no_float-shown}
+use Rattle.bcs_registry.proofs.OneText.{same_registry}
+use Rattle.bcs_registry.proofs.registry.Registry.print.Goals as goal
+
+pub returns-clause-text : goal.returns-clause-text
+returns-clause-text c =
+    let entries = entries_of c.self.inside.containers.entries in
+    let built = view c.in_ok-registry_value.field-0 in
+    let is : built ≡ shown entries = c.in_ok-registry_value.ensures.is in
+    let plain : has_float built ≡ false = ap has_float is ∙ no_float-shown entries in
+    IfOk-weaker c.to_string.result _ _ (λ s h. h plain ∙ ap compact_text (is ∙ ap shown c.self.view_is)) c.to_string.ensures.text
+
+pub returns-clause-reads_back : goal.returns-clause-reads_back
+returns-clause-reads_back c =
+    let entries = entries_of c.self.inside.containers.entries in
+    let built = view c.in_ok-registry_value.field-0 in
+    let writes : IsRegistryText built entries = c.in_ok-registry_value.ensures in
+    let shallow : depth built ≤ max_depth = subst (λ d. depth d ≤ max_depth) (sym writes.is) (depth-shown entries c.self.invariant) in
+    IfOk-weaker c.to_string.result _ _
+    (λ s h. (built, (IsUtf8-string_bytes s, h shallow), subst (IsRegistryText built) c.self.view_is writes)) c.to_string.ensures.reads_back
+
+pub returns-clause-no_other : goal.returns-clause-no_other
+returns-clause-no_other c =
+    IfOk-weaker c.to_string.result (λ s. WritesRegistry (string_bytes s) c.args.self.now) _
+    (λ s writes other h. same_registry (string_bytes s) other c.args.self.now h writes) (returns-clause-reads_back c)

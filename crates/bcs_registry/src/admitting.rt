@@ -1,0 +1,36 @@
+//! Which formats may be used with a registry.
+ghost use Rattle.std.specs.Prelude.{◌≡◌, OnOk, IfErr};
+ghost use Rattle.bcs_registry.specs.Breaks.{FormatBreaks};
+ghost use Rattle.bcs_registry.specs.View.{shape_of};
+ghost use Rattle.bcs_registry.specs.WellFormed.{admits, Admits};
+
+use crate::fault::RegistryFault;
+use crate::format::Format;
+use crate::known::is_known;
+use crate::levels::has_few_levels;
+use crate::registry::Registry;
+
+impl Registry {
+    /// Whether the format may be used with this registry: it has at most 32 levels, and each
+    /// `TypeName` in it is a name of the registry.
+    pub fn admits(&self, format: &Format) -> bool
+        ensures { result ≡ admits self.now (shape_of format.now) }
+    {
+        has_few_levels(format) && is_known(format, self.containers())
+    }
+
+    /// Refuses a format that isn't admitted, by the first rule that it breaks: `TooNested`, then
+    /// `UnknownName`.
+    pub(crate) fn judge_format(&self, format: &Format) -> Result<(), RegistryFault>
+        ensures ok { OnOk result (Admits self.now (shape_of format.now)) }
+        ensures fault { IfErr result (λ e. FormatBreaks self.now (shape_of format.now) e) }
+    {
+        if !has_few_levels(format) {
+            return Err(RegistryFault::TooNested);
+        }
+        if !is_known(format, self.containers()) {
+            return Err(RegistryFault::UnknownName);
+        }
+        Ok(())
+    }
+}

@@ -1,0 +1,86 @@
+//! Registries and formats from JSON texts.
+ghost use Rattle.std.specs.Prelude.{◌≡◌, ◌≢◌, IfErr, IfOk};
+ghost use Rattle.serde_json.specs.View.{view};
+ghost use Rattle.bcs_registry.specs.Faults.{IsLeastFault, IsLeastFormatFault};
+ghost use Rattle.bcs_registry.specs.Parts.{IsLeastFaultBy};
+ghost use Rattle.bcs_registry.specs.Shaped.{is_format, is_registry};
+ghost use Rattle.bcs_registry.specs.Text.{IsFormatText, IsRegistryText, WritesFormat, WritesRegistry};
+ghost use Rattle.bcs_registry.specs.View.{entries_of, shape_of};
+ghost use Rattle.bcs_registry.specs.WellFormed.{Admits, IsWellFormed};
+
+use crate::checking::checked;
+use crate::container::Container;
+use crate::container_text::containers_from;
+use crate::fault::RegistryFault;
+use crate::format::Format;
+use crate::format_text::format_from;
+use crate::json_text::read_json;
+use crate::registry::Registry;
+use crate::shaped::{is_format_shaped, is_registry_shaped};
+use serde_json::Value;
+use std::alloc::Global;
+use std::collections::BTreeMap;
+
+impl Registry {
+    /// The registry that a JSON text writes down. Else the least fault that stands anywhere in the text, in the order
+    /// of [`RegistryFault`]: `NotJson`, `BadShape`, `BadNumber`, `TooNested`, `RepeatedName`, `UnknownName`.
+    /// `OutOfMemory` comes where memory ran out, before any fault that would be found later.
+    pub fn read(alloc: Global, text: &[u8]) -> Result<Registry, RegistryFault>
+        ensures ok { IfOk result (λ r. WritesRegistry text.now r × IsWellFormed r) }
+        ensures fault { IfErr result (λ e. e ≢ RegistryFault.OutOfMemory → IsLeastFault text.now e) }
+    {
+        let value = read_json(alloc, text)?;
+        let containers = written_containers(alloc, &value)?;
+        drop(value);
+        checked(alloc, containers)
+    }
+
+    /// The format that a JSON text writes down, which may be used with this registry. Else the least fault that stands
+    /// anywhere in the text: `NotJson`, `BadShape`, `BadNumber`, `TooNested`, `UnknownName`. `OutOfMemory` is as in
+    /// [`Registry::read`].
+    pub fn read_format(&self, alloc: Global, text: &[u8]) -> Result<Format, RegistryFault>
+        ensures ok { IfOk result (λ f. WritesFormat text.now (shape_of f) × Admits self.now (shape_of f)) }
+        ensures fault { IfErr result (λ e. e ≢ RegistryFault.OutOfMemory
+            → IsLeastFormatFault self.now text.now e) }
+    {
+        let value = read_json(alloc, text)?;
+        let format = written_format(alloc, &value)?;
+        self.judge_format(&format)?;
+        Ok(format)
+    }
+}
+
+/// The containers that a registry's JSON writes down.
+fn written_containers(
+    alloc: Global,
+    value: &Value,
+) -> Result<BTreeMap<String, Container>, RegistryFault>
+    ensures ok { IfOk result (λ m. IsRegistryText (view value.now) (entries_of m.entries)) }
+    ensures fault { IfErr result (IsLeastFaultBy (λ loose. is_registry loose (view value.now))) }
+{
+    match containers_from(alloc, value) {
+        // A part further on may have another shape, which is the lesser fault.
+        Err(RegistryFault::BadNumber) => if is_registry_shaped(value) {
+            Err(RegistryFault::BadNumber)
+        } else {
+            Err(RegistryFault::BadShape)
+        },
+        outcome => outcome,
+    }
+}
+
+/// The format that a format's JSON writes down.
+fn written_format(alloc: Global, value: &Value) -> Result<Format, RegistryFault>
+    ensures ok { IfOk result (λ f. IsFormatText (view value.now) (shape_of f)) }
+    ensures fault { IfErr result (IsLeastFaultBy (λ loose. is_format loose (view value.now))) }
+{
+    match format_from(alloc, value) {
+        // A part further on may have another shape, which is the lesser fault.
+        Err(RegistryFault::BadNumber) => if is_format_shaped(value) {
+            Err(RegistryFault::BadNumber)
+        } else {
+            Err(RegistryFault::BadShape)
+        },
+        outcome => outcome,
+    }
+}

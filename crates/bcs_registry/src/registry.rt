@@ -1,0 +1,80 @@
+//! Registries: containers by name.
+ghost use Rattle.std.specs.Prelude.{◌≡◌, option_map, length, string_bytes, IfOk};
+ghost use Rattle.bcs_registry.specs.Container.{Entries, container_at};
+ghost use Rattle.bcs_registry.specs.Shown.{shown};
+ghost use Rattle.bcs_registry.specs.Text.{WritesRegistry};
+ghost use Rattle.bcs_registry.specs.View.{container_of, entries_of};
+ghost use Rattle.bcs_registry.specs.WellFormed.{IsWellFormed};
+ghost use Rattle.serde_json.specs.Written.{compact_text};
+
+use crate::container::Container;
+use crate::printing::registry_value;
+use std::alloc::{AllocError, Global};
+use std::collections::BTreeMap;
+use std::marker::Model;
+
+/// A finite map from names to containers, which is well-formed for good: every `TypeName` is a name of the map, every
+/// format has at most 32 levels, and names are distinct within a struct, a struct payload and an enum.
+#[derive(Drop)]
+pub struct Registry {
+    containers: BTreeMap<String, Container>,
+}
+
+impl Model for Registry {
+    ghost use Rattle.bcs_registry.specs.Container.{Entries};
+    ghost use Rattle.bcs_registry.specs.View.{entries_of};
+    ghost use Rattle.bcs_registry.specs.WellFormed.{IsWellFormed};
+    ghost use Rattle.std.specs.Coded.{codes};
+    ghost use Rattle.bcs_registry.specs.Codes.{shape_coded, shapes_coded};
+
+    ghost Value = { Entries };
+
+    ghost coded = { Prim.hlevel (codes, shape_coded, shapes_coded) };
+
+    ghost view = { λ r. entries_of r.containers.entries };
+
+    ghost invariant = { λ r. IsWellFormed (entries_of r.containers.entries) };
+}
+
+impl Registry {
+    /// The container of this name.
+    pub fn container(&self, name: &str) -> Option<&Container>
+        ensures found { option_map (λ c. container_of c.now) result ≡ container_at name.now self.now }
+        ensures well_formed { IsWellFormed self.now }
+    {
+        self.containers.get(name)
+    }
+
+    /// How many containers there are.
+    pub fn len(&self) -> usize
+        ensures { result ≡ length self.now }
+    {
+        self.containers.len()
+    }
+
+    /// The containers by name.
+    pub(crate) fn containers(&self) -> &BTreeMap<String, Container>
+        ensures { entries_of result.now.entries ≡ self.now }
+    {
+        &self.containers
+    }
+
+    /// The registry of these containers.
+    pub(crate) fn of(containers: BTreeMap<String, Container>) -> Registry
+        requires { IsWellFormed (entries_of containers.entries) }
+        ensures { result ≡ entries_of containers.entries }
+    {
+        Registry { containers }
+    }
+
+    /// The compact JSON text of the registry. The members of an object rise by the bytes of their names. Fails only
+    /// for want of memory.
+    pub fn print(&self, alloc: Global) -> Result<String, AllocError>
+        ensures text { IfOk result (λ s. string_bytes s ≡ compact_text (shown self.now)) }
+        ensures reads_back { IfOk result (λ s. WritesRegistry (string_bytes s) self.now) }
+        ensures no_other { IfOk result (λ s.
+            (other : Entries) → WritesRegistry (string_bytes s) other → other ≡ self.now) }
+    {
+        registry_value(alloc, &self.containers)?.to_string(alloc)
+    }
+}

@@ -1,0 +1,14 @@
+//! What a variant carries.
+
+use crate::format::Format;
+use crate::named::Named;
+
+/// The payload of an enum's variant.
+#[derive(Debug, Drop)]
+pub enum VariantFormat {
+    Unit,
+    NewType(Format),
+    Tuple(Vec<Format>),
+    /// The fields in the order of their encoding.
+    Struct(Vec<Named<Format>>),
+}
