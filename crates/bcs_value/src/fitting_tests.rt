@@ -1,0 +1,259 @@
+use crate::{Value, depth, fits_loosely, has_format, nodes};
+use bcs_registry::{Format, Registry};
+use std::alloc::{AllocError, Global};
+use std::process::Abort;
+use std::test::Fail;
+
+/// L is a linked list, E an enum of each payload, N a newtype, T a tuple struct, U a unit struct.
+const REGISTRY: &[u8] = br#"{
+    "E": {"ENUM": {
+        "0": {"A": "UNIT"}, "300": {"B": {"NEWTYPE": "U8"}},
+        "301": {"C": {"TUPLE": ["U8", "BOOL"]}}, "302": {"D": {"STRUCT": [{"x": "U8"}]}}
+    }},
+    "L": {"STRUCT": [{"next": {"OPTION": {"TYPENAME": "L"}}}]},
+    "N": {"NEWTYPESTRUCT": "STR"},
+    "T": {"TUPLESTRUCT": ["U8", "BOOL"]},
+    "U": "UNITSTRUCT"
+}"#;
+
+fn named(alloc: Global, value: Value) -> Result<Value, AllocError> {
+    Ok(Value::Named(Box::new(alloc, value)?))
+}
+
+fn variant(alloc: Global, number: u32, value: Value) -> Result<Value, AllocError> {
+    Ok(Value::Variant(number, Box::new(alloc, value)?))
+}
+
+fn bytes_of(alloc: Global, numbers: &[u128]) -> Result<Value, AllocError> {
+    let mut items = Vec::with_capacity(alloc, numbers.len())?;
+    for number in numbers {
+        items.push(Value::Unsigned(*number))?;
+    }
+    Ok(Value::Items(items))
+}
+
+/// What a tuple struct of `U8` and `BOOL` holds.
+fn row(alloc: Global) -> Result<Value, AllocError> {
+    Ok(Value::Items(vec![in alloc; Value::Unsigned(7), Value::Bool(true)]?))
+}
+
+/// One of each shape.
+fn shapes(alloc: Global) -> Result<Vec<Value>, AllocError> {
+    let shapes = vec![in alloc;
+        Value::Unit,
+        Value::Bool(true),
+        Value::Unsigned(7),
+        Value::Signed(-7),
+        Value::Text("a".to_string(alloc)?),
+        Value::Bytes(vec![in alloc; 97]?),
+        Value::Absent,
+        Value::Present(Box::new(alloc, Value::Unsigned(7))?),
+        bytes_of(alloc, &[1, 2])?,
+        variant(alloc, 0, Value::Unit)?,
+        Value::Pairs(vec![in alloc; (Value::Unsigned(1), Value::Bool(true))]?),
+        named(alloc, Value::Unit)?,
+    ]?;
+    Ok(shapes)
+}
+
+/// Whether the values have the format strictly, and loosely.
+fn judge(
+    rt: &impl Abort,
+    alloc: Global,
+    format: &str,
+    values: &[Value],
+) -> Result<(Vec<bool>, Vec<bool>), Fail> {
+    let registry = Registry::read(alloc, REGISTRY)?;
+    let format = registry.read_format(alloc, format.as_bytes())?;
+    assert!(rt; registry.admits(&format));
+    let mut strictly = Vec::with_capacity(alloc, values.len())?;
+    let mut loosely = Vec::with_capacity(alloc, values.len())?;
+    for value in values {
+        strictly.push(has_format(&registry, &format, value))?;
+        loosely.push(fits_loosely(&registry, &format, value))?;
+    }
+    Ok((strictly, loosely))
+}
+
+#[test]
+fn each_shape_at_each_format(rt: HostRuntime) -> Result<(), Fail> {
+    let alloc = rt.alloc();
+    let values = shapes(alloc)?;
+    // The place of the shapes that the format takes, the first of which is 0.
+    for (format, takes) in [
+        (r#""UNIT""#, [0].as_slice()),
+        (r#""BOOL""#, [1].as_slice()),
+        (r#""U8""#, [2].as_slice()),
+        (r#""U16""#, [2].as_slice()),
+        (r#""U32""#, [2].as_slice()),
+        (r#""U64""#, [2].as_slice()),
+        (r#""U128""#, [2].as_slice()),
+        (r#""I8""#, [3].as_slice()),
+        (r#""I16""#, [3].as_slice()),
+        (r#""I32""#, [3].as_slice()),
+        (r#""I64""#, [3].as_slice()),
+        (r#""I128""#, [3].as_slice()),
+        (r#""STR""#, [4].as_slice()),
+        (r#""BYTES""#, [5].as_slice()),
+        (r#"{"OPTION": "U8"}"#, [6, 7].as_slice()),
+        (r#"{"OPTION": "BOOL"}"#, [6].as_slice()),
+        (r#"{"SEQ": "U8"}"#, [8].as_slice()),
+        (r#"{"SEQ": "BOOL"}"#, [].as_slice()),
+        (r#"{"TUPLE": ["U8", "U16"]}"#, [8].as_slice()),
+        (r#"{"TUPLE": ["U8"]}"#, [].as_slice()),
+        (r#"{"TUPLE": ["U8", "BOOL"]}"#, [].as_slice()),
+        (
+            r#"{"TUPLEARRAY": {"CONTENT": "U8", "SIZE": 2}}"#,
+            [8].as_slice(),
+        ),
+        (
+            r#"{"TUPLEARRAY": {"CONTENT": "U8", "SIZE": 3}}"#,
+            [].as_slice(),
+        ),
+        (
+            r#"{"MAP": {"KEY": "U8", "VALUE": "BOOL"}}"#,
+            [10].as_slice(),
+        ),
+        (r#"{"MAP": {"KEY": "U8", "VALUE": "U8"}}"#, [].as_slice()),
+        (r#"{"TYPENAME": "U"}"#, [11].as_slice()),
+        (r#"{"TYPENAME": "E"}"#, [].as_slice()),
+    ] {
+        let (strictly, loosely) = judge(&rt, alloc, format, &values)?;
+        for (place, fits) in strictly.iter().enumerate() {
+            assert_eq!(rt; *fits, takes.contains(&place), "{format} at {place}");
+        }
+        assert!(rt; strictly == loosely, "{format}");
+    }
+    Ok(())
+}
+
+#[test]
+fn every_value_stands_loosely(rt: HostRuntime) -> Result<(), Fail> {
+    let alloc = rt.alloc();
+    let values = shapes(alloc)?;
+    for format in [r#""F32""#, r#""F64""#, r#""CHAR""#] {
+        let (strictly, loosely) = judge(&rt, alloc, format, &values)?;
+        assert!(rt; strictly.iter().all(|fits| !*fits), "{format}");
+        assert!(rt; loosely.iter().all(|fits| *fits), "{format}");
+    }
+    // Loosely is only there: a number out of range fits nowhere.
+    let rows = vec![in alloc; bytes_of(alloc, &[1, 7])?, bytes_of(alloc, &[1, 256])?]?;
+    let (strictly, loosely) = judge(&rt, alloc, r#"{"TUPLE": ["F64", "U8"]}"#, &rows)?;
+    assert!(rt; strictly.as_slice() == [false, false].as_slice());
+    assert!(rt; loosely.as_slice() == [true, false].as_slice());
+    Ok(())
+}
+
+#[test]
+fn numbers_in_range(rt: HostRuntime) -> Result<(), Fail> {
+    let alloc = rt.alloc();
+    for (format, greatest) in [
+        (r#""U8""#, 255),
+        (r#""U16""#, 65535),
+        (r#""U32""#, 4294967295),
+        (r#""U64""#, 18446744073709551615),
+    ] {
+        let values = vec![in alloc;
+            Value::Unsigned(0),
+            Value::Unsigned(greatest),
+            Value::Unsigned(greatest + 1),
+        ]?;
+        let (strictly, _) = judge(&rt, alloc, format, &values)?;
+        assert!(rt;
+            strictly.as_slice() == [true, true, false].as_slice(),
+            "{format}"
+        );
+    }
+    for (format, half) in [
+        (r#""I8""#, 128),
+        (r#""I16""#, 32768),
+        (r#""I32""#, 2147483648),
+        (r#""I64""#, 9223372036854775808),
+    ] {
+        let values = vec![in alloc;
+            Value::Signed(-half - 1),
+            Value::Signed(-half),
+            Value::Signed(half - 1),
+            Value::Signed(half),
+        ]?;
+        let (strictly, _) = judge(&rt, alloc, format, &values)?;
+        assert!(rt;
+            strictly.as_slice() == [false, true, true, false].as_slice(),
+            "{format}"
+        );
+    }
+    let values = vec![in alloc; Value::Signed(i128::MIN), Value::Signed(i128::MAX)]?;
+    let (strictly, _) = judge(&rt, alloc, r#""I128""#, &values)?;
+    assert!(rt; strictly.as_slice() == [true, true].as_slice());
+    let values = vec![in alloc; Value::Unsigned(u128::MAX)]?;
+    let (strictly, _) = judge(&rt, alloc, r#""U128""#, &values)?;
+    assert!(rt; strictly.as_slice() == [true].as_slice());
+    Ok(())
+}
+
+#[test]
+fn containers(rt: HostRuntime) -> Result<(), Fail> {
+    let alloc = rt.alloc();
+    let text = Value::Text("a".to_string(alloc)?);
+    let values = vec![in alloc;
+        named(alloc, Value::Unit)?,
+        named(alloc, text)?,
+        named(alloc, row(alloc)?)?,
+        named(alloc, Value::Items(vec![in alloc; Value::Absent]?))?,
+        named(alloc, bytes_of(alloc, &[7])?)?,
+        named(alloc, variant(alloc, 0, Value::Unit)?)?,
+        named(alloc, variant(alloc, 0, Value::Unsigned(7))?)?,
+        named(alloc, variant(alloc, 1, Value::Unit)?)?,
+        named(alloc, variant(alloc, 300, Value::Unsigned(7))?)?,
+        named(alloc, variant(alloc, 300, Value::Unit)?)?,
+        named(alloc, variant(alloc, 301, row(alloc)?)?)?,
+        named(alloc, variant(alloc, 302, bytes_of(alloc, &[7])?)?)?,
+        named(alloc, variant(alloc, 302, bytes_of(alloc, &[7, 7])?)?)?,
+        row(alloc)?,
+    ]?;
+    for (name, takes) in [
+        ("U", [0].as_slice()),
+        ("N", [1].as_slice()),
+        ("T", [2].as_slice()),
+        ("L", [3].as_slice()),
+        ("E", [5, 8, 10, 11].as_slice()),
+    ] {
+        let format = format!(in alloc; r#"{{"TYPENAME": "{name}"}}"#)?;
+        let (strictly, _) = judge(&rt, alloc, &format, &values)?;
+        for (place, fits) in strictly.iter().enumerate() {
+            assert_eq!(rt; *fits, takes.contains(&place), "{name} at {place}");
+        }
+    }
+    Ok(())
+}
+
+#[test]
+fn the_stack_holds_500_containers_of_32_levels(rt: HostRuntime) -> Result<(), Fail> {
+    let alloc = rt.alloc();
+    let mut text = "".to_string(alloc)?;
+    text.push_str(r#"{"D": {"ENUM": {"7": {"V": {"STRUCT": [{"x": "#)?;
+    for _ in 0..32 {
+        text.push_str(r#"{"OPTION": "#)?;
+    }
+    text.push_str(r#"{"TYPENAME": "D"}"#)?;
+    for _ in 0..32 {
+        text.push_str("}")?;
+    }
+    text.push_str("}]}}}}}")?;
+    let registry = Registry::read(alloc, text.as_bytes())?;
+    let format = Format::TypeName("D".to_string(alloc)?);
+
+    let mut value = Value::Absent;
+    for container in 0..500 {
+        // The innermost option is absent.
+        for _ in 0..if container == 0 { 31 } else { 32 } {
+            value = Value::Present(Box::new(alloc, value)?);
+        }
+        value = variant(alloc, 7, Value::Items(vec![in alloc; value]?))?;
+        value = named(alloc, value)?;
+    }
+    assert!(rt; has_format(&registry, &format, &value));
+    assert_eq!(rt; depth(&value), 500);
+    assert_eq!(rt; nodes(&value), 500 * 35);
+    Ok(())
+}

@@ -1,0 +1,22 @@
+//! Value trees: what bytes and texts stand for.
+#![tactic(auto)]
+
+mod copying;
+mod counting;
+mod fitting;
+#[cfg(test)]
+mod fitting_tests;
+pub mod laws;
+mod limits;
+mod nesting;
+mod sameness;
+#[cfg(test)]
+mod tests;
+mod value;
+
+pub use counting::nodes;
+pub use fitting::{fits_loosely, has_format};
+pub use limits::Limits;
+pub use nesting::depth;
+pub use sameness::same;
+pub use value::Value;
