@@ -1,12 +1,40 @@
 //! The canonical bytes of values, and where they go.
 #![tactic(auto)]
 
+mod arranging;
+mod by_entries;
+mod encoding;
+#[cfg(test)]
+mod encoding_tests;
+mod entry_bytes;
+mod fault;
+#[cfg(test)]
+mod form_tests;
+mod formed_entries;
+mod formed_entry;
+mod forming;
+#[cfg(test)]
+mod large_value_tests;
+pub mod laws;
+mod lengths;
 pub mod pieces;
+mod putting;
 mod sink;
+mod soundness;
+mod span;
+mod spans;
+mod workspace;
+mod wrapping;
 mod write_sink;
+mod writing;
 
+pub use by_entries::encode_by_entries;
+pub use encoding::encode;
+pub use fault::{EncodeFault, WriteFault};
+pub use forming::canonicalise;
 pub use sink::{ByteSink, SinkFailed};
 pub use write_sink::WriteSink;
+pub use writing::write;
 
 #[cfg(test)]
 mod tests;

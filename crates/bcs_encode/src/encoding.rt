@@ -1,0 +1,271 @@
+//! The encoder: one buffer for the output, in which the entries of maps are brought into order.
+ghost use Rattle.std.specs.Prelude.{◌≡◌, ◌≢◌, IfErr, IfOk, OnOk, map};
+ghost use Rattle.bcs_registry.specs.Container.{of, content, field_shapes, payload_shape};
+ghost use Rattle.bcs_registry.specs.Shape.{map as map_shape, tuple};
+ghost use Rattle.bcs_registry.specs.View.{container_of, field_of, formats_shapes, payload_of, shape_of};
+ghost use Rattle.bcs_registry.specs.WellFormed.{Admits};
+ghost use Rattle.bcs_value.specs.Tree.{items as items_tree, pairs as pairs_tree};
+ghost use Rattle.bcs_value.specs.View.{entries_pairs, items_trees, tree_of};
+ghost use Rattle.bcs_encode.specs.Encodes.{Encodes};
+ghost use Rattle.bcs_encode.specs.Laying.{entries_laid};
+ghost use Rattle.bcs_encode.specs.Refused.{IsSoundBesidesKeys, Refuses};
+ghost use Rattle.bcs_encode.specs.Writing as spec;
+ghost use Rattle.bcs_encode.specs.Writing.{Tells};
+ghost use Rattle.bcs_encode.specs.declared.fault.EncodeFault.TheVariants.{OutOfMemory};
+
+use crate::fault::EncodeFault;
+use crate::putting::{put_byte, put_bytes, put_length, put_number, put_signed, put_unsigned};
+use crate::soundness::check_soundness;
+use crate::span::Span;
+use crate::spans::arrange;
+use crate::workspace::Workspace;
+use bcs_num::Width;
+use bcs_registry::{Container, Format, Named, Registry, VariantFormat};
+use bcs_value::{Limits, Value};
+use std::alloc::Global;
+
+/// The one encoding of a sound value (Binary Canonical Serialization). The pairs of a map may stand in any order.
+///
+/// `NotOfFormat`: the value isn't one of the format, even if every value were let stand at `F32`, `F64` and `CHAR`.
+/// `Unsupported`: it is one only then. `TooDeep`, `TooManyNodes`: it is beyond the limits. `TooLong`: a list, a map, a
+/// text or a byte string is longer than 2147483647. These are looked for in that order over the whole value, before any
+/// byte is made and without memory. `RepeatedKey`: two keys of one map are the same value.
+pub fn encode(
+    alloc: Global,
+    registry: &Registry,
+    format: &Format,
+    limits: &Limits,
+    value: &Value,
+) -> Result<Vec<u8>, EncodeFault>
+    requires { Admits registry.now (shape_of format.now) }
+    ensures encoding { IfOk result (λ b. Encodes registry.now limits.now (shape_of format.now) (tree_of value.now) b.items) }
+    ensures fault { IfErr result (λ e. e ≢ OutOfMemory → Refuses registry.now limits.now (shape_of format.now) (tree_of value.now) e) }
+    ensures memory { IfErr result (λ e. e ≡ OutOfMemory → IsSoundBesidesKeys registry.now limits.now (shape_of format.now) (tree_of value.now)) }
+{
+    check_soundness(registry, format, limits, value)?;
+    let mut work = Workspace {
+        out: Vec::new(alloc),
+        spans: Vec::new(alloc),
+        scratch: Vec::new(alloc),
+    };
+    put(value, format, registry, &mut work)?;
+    Ok(work.out)
+}
+
+/// Appends the bytes of a value.
+#[cycle(encoding)]
+fn put(
+    value: &Value,
+    format: &Format,
+    registry: &Registry,
+    work: &mut Workspace,
+) -> Result<(), EncodeFault>
+    ensures tells { Tells result (spec.written registry.now (tree_of value.now) (of (shape_of format.now)) work.old.out.items) work.new.out.items }
+    ensures kept { OnOk result (work.new.spans.items ≡ work.old.spans.items) }
+{
+    match (value, format) {
+        (_, Format::F32 | Format::F64 | Format::Char) => Err(EncodeFault::NotOfFormat),
+        (Value::Unit, Format::Unit) => Ok(()),
+        (Value::Bool(truth), Format::Bool) => put_byte(u8::from(*truth), &mut work.out),
+        (Value::Unsigned(number), Format::U8) => put_unsigned(Width::W1, *number, &mut work.out),
+        (Value::Unsigned(number), Format::U16) => put_unsigned(Width::W2, *number, &mut work.out),
+        (Value::Unsigned(number), Format::U32) => put_unsigned(Width::W4, *number, &mut work.out),
+        (Value::Unsigned(number), Format::U64) => put_unsigned(Width::W8, *number, &mut work.out),
+        (Value::Unsigned(number), Format::U128) => put_unsigned(Width::W16, *number, &mut work.out),
+        (Value::Signed(number), Format::I8) => put_signed(Width::W1, *number, &mut work.out),
+        (Value::Signed(number), Format::I16) => put_signed(Width::W2, *number, &mut work.out),
+        (Value::Signed(number), Format::I32) => put_signed(Width::W4, *number, &mut work.out),
+        (Value::Signed(number), Format::I64) => put_signed(Width::W8, *number, &mut work.out),
+        (Value::Signed(number), Format::I128) => put_signed(Width::W16, *number, &mut work.out),
+        (Value::Text(text), Format::Str) => put_bytes(text.as_bytes(), &mut work.out),
+        (Value::Bytes(bytes), Format::Bytes) => put_bytes(bytes, &mut work.out),
+        (Value::Absent, Format::Opt(_)) => put_byte(0, &mut work.out),
+        (Value::Present(inner), Format::Opt(content)) => {
+            put_byte(1, &mut work.out)?;
+            put(inner, content, registry, work)
+        }
+        (Value::Items(items), Format::Seq(element)) => {
+            put_length(items.len(), &mut work.out)?;
+            put_all(items, element, registry, work)
+        }
+        (Value::Items(items), Format::Tuple(formats)) => {
+            put_each(items, formats, registry, work)
+        }
+        (Value::Items(items), Format::TupleArray(element, size)) => {
+            if items.len() as u64 != *size {
+                return Err(EncodeFault::NotOfFormat);
+            }
+            put_all(items, element, registry, work)
+        }
+        (Value::Pairs(pairs), Format::Map(key, value)) => {
+            put_map(pairs, key, value, registry, work)
+        }
+        (Value::Named(inner), Format::TypeName(name)) => match registry.container(name.as_str()) {
+            Some(container) => put_content(inner, container, registry, work),
+            None => Err(EncodeFault::NotOfFormat),
+        },
+        _ => Err(EncodeFault::NotOfFormat),
+    }
+}
+
+/// Appends the bytes of what stands in a container.
+#[cycle(encoding)]
+fn put_content(
+    value: &Value,
+    container: &Container,
+    registry: &Registry,
+    work: &mut Workspace,
+) -> Result<(), EncodeFault>
+    ensures tells { Tells result (spec.written registry.now (tree_of value.now) (content (container_of container.now)) work.old.out.items) work.new.out.items }
+    ensures kept { OnOk result (work.new.spans.items ≡ work.old.spans.items) }
+{
+    match (container, value) {
+        (Container::UnitStruct, Value::Unit) => Ok(()),
+        (Container::NewTypeStruct(format), _) => put(value, format, registry, work),
+        (Container::TupleStruct(formats), Value::Items(items)) => {
+            put_each(items, formats, registry, work)
+        }
+        (Container::Struct(fields), Value::Items(items)) => {
+            put_fields(items, fields, registry, work)
+        }
+        (Container::Enum(variants), Value::Variant(number, inner)) => {
+            put_number(*number, &mut work.out)?;
+            match variants.get(number) {
+                Some(variant) => put_payload(inner, &variant.value, registry, work),
+                None => Err(EncodeFault::NotOfFormat),
+            }
+        }
+        _ => Err(EncodeFault::NotOfFormat),
+    }
+}
+
+/// Appends the bytes of what a variant carries.
+#[cycle(encoding)]
+fn put_payload(
+    value: &Value,
+    payload: &VariantFormat,
+    registry: &Registry,
+    work: &mut Workspace,
+) -> Result<(), EncodeFault>
+    ensures tells { Tells result (spec.written registry.now (tree_of value.now) (of (payload_shape (payload_of payload.now))) work.old.out.items) work.new.out.items }
+    ensures kept { OnOk result (work.new.spans.items ≡ work.old.spans.items) }
+{
+    match (payload, value) {
+        (VariantFormat::Unit, Value::Unit) => Ok(()),
+        (VariantFormat::NewType(format), _) => put(value, format, registry, work),
+        (VariantFormat::Tuple(formats), Value::Items(items)) => {
+            put_each(items, formats, registry, work)
+        }
+        (VariantFormat::Struct(fields), Value::Items(items)) => {
+            put_fields(items, fields, registry, work)
+        }
+        _ => Err(EncodeFault::NotOfFormat),
+    }
+}
+
+/// Appends the bytes of elements of one format.
+#[cycle(encoding)]
+fn put_all(
+    items: &[Value],
+    element: &Format,
+    registry: &Registry,
+    work: &mut Workspace,
+) -> Result<(), EncodeFault>
+    ensures tells { Tells result (spec.items_written registry.now (items_trees items.now) (shape_of element.now) work.old.out.items) work.new.out.items }
+    ensures kept { OnOk result (work.new.spans.items ≡ work.old.spans.items) }
+{
+    for item in items {
+        put(item, element, registry, work)?;
+    }
+    Ok(())
+}
+
+/// Appends the bytes of the elements of a tuple.
+#[cycle(encoding)]
+#[tactic(auto, using(crate::proofs::WalkViews::count_items, crate::proofs::WritingViews::count_formats))]
+fn put_each(
+    items: &[Value],
+    formats: &[Format],
+    registry: &Registry,
+    work: &mut Workspace,
+) -> Result<(), EncodeFault>
+    ensures tells { Tells result (spec.written registry.now (items_tree (items_trees items.now)) (of (tuple (formats_shapes formats.now))) work.old.out.items) work.new.out.items }
+    ensures kept { OnOk result (work.new.spans.items ≡ work.old.spans.items) }
+{
+    if items.len() != formats.len() {
+        return Err(EncodeFault::NotOfFormat);
+    }
+    for (i, item) in items.iter().enumerate() {
+        put(item, &formats[i], registry, work)?;
+    }
+    Ok(())
+}
+
+/// Appends the bytes of the fields of a struct.
+#[cycle(encoding)]
+#[tactic(auto, using(crate::proofs::WalkViews::count_items, crate::proofs::WritingViews::count_fields))]
+fn put_fields(
+    items: &[Value],
+    fields: &[Named<Format>],
+    registry: &Registry,
+    work: &mut Workspace,
+) -> Result<(), EncodeFault>
+    ensures tells { Tells result (spec.written registry.now (items_tree (items_trees items.now)) (of (tuple (field_shapes (map field_of fields.now)))) work.old.out.items) work.new.out.items }
+    ensures kept { OnOk result (work.new.spans.items ≡ work.old.spans.items) }
+{
+    if items.len() != fields.len() {
+        return Err(EncodeFault::NotOfFormat);
+    }
+    for (i, item) in items.iter().enumerate() {
+        put(item, &fields[i].value, registry, work)?;
+    }
+    Ok(())
+}
+
+/// Appends the bytes of a map.
+#[cycle(encoding)]
+fn put_map(
+    pairs: &[(Value, Value)],
+    key: &Format,
+    value: &Format,
+    registry: &Registry,
+    work: &mut Workspace,
+) -> Result<(), EncodeFault>
+    ensures tells { Tells result
+        (spec.written registry.now (pairs_tree (entries_pairs pairs.now)) (of (map_shape (shape_of key.now) (shape_of value.now))) work.old.out.items)
+        work.new.out.items }
+    ensures kept { OnOk result (work.new.spans.items ≡ work.old.spans.items) }
+{
+    put_length(pairs.len(), &mut work.out)?;
+    let first = work.spans.len();
+    let start = work.out.len();
+    lay_entries(pairs, key, value, registry, work)?;
+    arrange(work, first, start)
+}
+
+/// Appends a map's entries in the order of the pairs, and their spans.
+#[cycle(encoding)]
+fn lay_entries(
+    pairs: &[(Value, Value)],
+    key: &Format,
+    value: &Format,
+    registry: &Registry,
+    work: &mut Workspace,
+) -> Result<(), EncodeFault>
+    ensures { Tells result
+        (entries_laid registry.now (entries_pairs pairs.now) (shape_of key.now) (shape_of value.now) work.old.out.items work.old.spans.items)
+        (work.new.out.items, work.new.spans.items) }
+{
+    for (k, v) in pairs {
+        let start = work.out.len();
+        put(k, key, registry, work)?;
+        let middle = work.out.len();
+        put(v, value, registry, work)?;
+        work.spans.push(Span {
+            key: start,
+            value: middle,
+            end: work.out.len(),
+        })?;
+    }
+    Ok(())
+}

@@ -1,0 +1,74 @@
+//! The canonical entries of a map in the order of their keys' bytes.
+ghost use Rattle.std.specs.Prelude.{◌≡◌, ◌++◌, Ok, IfOk, OnOk, map};
+ghost use Rattle.std.specs.List.{flat_map};
+ghost use Rattle.std.specs.List.Sorted.{IsPermutation, IsSortedByKey};
+ghost use Rattle.std.specs.Ordering.{nat_cmp};
+ghost use Rattle.std.specs.Cmp.Lexicographic.{slice_cmp};
+ghost use Rattle.bcs_value.specs.Tree.{Tree};
+ghost use Rattle.bcs_value.specs.View.{tree_of};
+ghost use Rattle.bcs_encode.specs.Entries.{entry_bytes};
+ghost use Rattle.bcs_encode.specs.FormedView.{bytes_entry, keyed_of};
+ghost use Rattle.bcs_encode.specs.Forming.{pairs_in_order};
+ghost use Rattle.bcs_encode.specs.Writing.{Tells, entries_put, has_twins};
+
+use crate::fault::EncodeFault;
+use crate::formed_entry::FormedEntry;
+use bcs_value::Value;
+use std::alloc::{AllocError, Global};
+
+/// Appends the entries' bytes by rising keys, and gives the entries in that order; or refuses two with one key.
+pub(crate) fn order_entries(
+    mut entries: Vec<FormedEntry>,
+    alloc: Global,
+    out: &mut Vec<u8>,
+) -> Result<Vec<(Value, Value)>, EncodeFault>
+    ensures tells { Tells result (entries_put (map bytes_entry entries.items) out.old.items) out.new.items }
+    ensures formed { IfOk result (λ ps. map {B = Tree × Tree} (λ p. (tree_of p.0, tree_of p.1)) ps.items ≡ pairs_in_order (map keyed_of entries.items)) }
+{
+    sort_by_keys(&mut entries)?;
+    if have_equal_neighbours(&entries) {
+        return Err(EncodeFault::RepeatedKey);
+    }
+    append_bytes(&entries, out)?;
+    Ok(values_of(entries, alloc)?)
+}
+
+fn sort_by_keys(entries: &mut Vec<FormedEntry>) -> Result<(), AllocError>
+    ensures permutation { IsPermutation entries.old.items entries.new.items }
+    ensures sorted { OnOk result (IsSortedByKey (λ e. e.bytes.key.items) (slice_cmp nat_cmp) entries.new.items) }
+{
+    entries.sort_by(|a, b| a.bytes.key.as_slice().cmp(b.bytes.key.as_slice()))
+}
+
+/// Whether two entries that stand next to each other have one key.
+fn have_equal_neighbours(entries: &[FormedEntry]) -> bool
+    ensures { result ≡ has_twins (map bytes_entry entries.now) }
+{
+    for i in 1..entries.len() {
+        if entries[i - 1].bytes.key.as_slice() == entries[i].bytes.key.as_slice() {
+            return true;
+        }
+    }
+    false
+}
+
+fn append_bytes(entries: &[FormedEntry], out: &mut Vec<u8>) -> Result<(), EncodeFault>
+    ensures { Tells result (Ok (out.old.items ++ flat_map entry_bytes (map bytes_entry entries.now))) out.new.items }
+{
+    for entry in entries {
+        out.extend_from_slice(&entry.bytes.key)?;
+        out.extend_from_slice(&entry.bytes.value)?;
+    }
+    Ok(())
+}
+
+/// The keys and values of the entries.
+fn values_of(entries: Vec<FormedEntry>, alloc: Global) -> Result<Vec<(Value, Value)>, AllocError>
+    ensures { IfOk result (λ ps. map {B = Tree × Tree} (λ p. (tree_of p.0, tree_of p.1)) ps.items ≡ map (λ e. e.1) (map keyed_of entries.items)) }
+{
+    let mut pairs = Vec::with_capacity(alloc, entries.len())?;
+    for entry in entries {
+        pairs.push((entry.key, entry.value))?;
+    }
+    Ok(pairs)
+}

@@ -1,0 +1,39 @@
+//! Whether a value has an encoding, but for the keys of its maps.
+ghost use Rattle.std.specs.Prelude.{◌≡◌, IfErr, OnOk};
+ghost use Rattle.bcs_registry.specs.View.{shape_of};
+ghost use Rattle.bcs_value.specs.View.{tree_of};
+ghost use Rattle.bcs_encode.specs.Refused.{IsSoundBesidesKeys, Refuses};
+
+use crate::fault::EncodeFault;
+use crate::lengths::lengths_hold;
+use bcs_registry::{Format, Registry};
+use bcs_value::{Limits, Value, depth, fits_loosely, has_format, nodes};
+
+/// Looks for every fault but a repeated key, over the whole value and without memory.
+pub(crate) fn check_soundness(
+    registry: &Registry,
+    format: &Format,
+    limits: &Limits,
+    value: &Value,
+) -> Result<(), EncodeFault>
+    ensures sound { OnOk result (IsSoundBesidesKeys registry.now limits.now (shape_of format.now) (tree_of value.now)) }
+    ensures fault { IfErr result (λ e. Refuses registry.now limits.now (shape_of format.now) (tree_of value.now) e) }
+{
+    if !has_format(registry, format, value) {
+        return Err(if fits_loosely(registry, format, value) {
+            EncodeFault::Unsupported
+        } else {
+            EncodeFault::NotOfFormat
+        });
+    }
+    if depth(value) > u64::from(limits.depth()) {
+        return Err(EncodeFault::TooDeep);
+    }
+    if nodes(value) > u64::from(limits.nodes()) {
+        return Err(EncodeFault::TooManyNodes);
+    }
+    if !lengths_hold(value, format, registry) {
+        return Err(EncodeFault::TooLong);
+    }
+    Ok(())
+}
