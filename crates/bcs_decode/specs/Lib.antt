@@ -2,3 +2,13 @@ pub mod PieceSource
 pub mod ReadSource
 pub mod RepeatSource
 pub mod Taking
+pub mod Stop
+pub mod Accepting
+pub mod Stopping
+pub mod Reading
+pub mod Exact
+pub mod Laws
+pub mod Passing
+pub mod Filling
+pub mod Sees
+pub mod Whole

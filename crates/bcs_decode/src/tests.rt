@@ -1,5 +1,5 @@
 use crate::pieces::{PieceSource, RepeatSource};
-use crate::{ByteSource, ReadSource, SliceSource, SourceFailed};
+use crate::{ByteSource, DecodeFault, ReadSource, Reason, SliceSource, SourceFailed, Stop};
 use std::io;
 use std::io::{ErrorKind, Read};
 use std::test::Fail;
@@ -109,6 +109,41 @@ fn read_source_reads_no_more_after_a_failure(rt: HostRuntime) -> Result<(), Fail
         assert_eq!(rt; source.next(&mut buf), Err(SourceFailed), "{counts:?}");
         assert_eq!(rt; source.next(&mut []), Err(SourceFailed), "{counts:?}");
         assert_eq!(rt; reader.calls, counts.len(), "{counts:?}");
+    }
+    Ok(())
+}
+
+#[test]
+fn messages(rt: HostRuntime) -> Result<(), Fail> {
+    for (reason, name) in [
+        (Reason::EndOfInput, "EndOfInput"),
+        (Reason::BadBool, "BadBool"),
+        (Reason::BadOption, "BadOption"),
+        (Reason::LongForm, "LongForm"),
+        (Reason::NumberTooLarge, "NumberTooLarge"),
+        (Reason::LengthTooLarge, "LengthTooLarge"),
+        (Reason::UnknownVariant, "UnknownVariant"),
+        (Reason::BadUtf8, "BadUtf8"),
+        (Reason::KeyOrder, "KeyOrder"),
+        (Reason::KeyRepeated, "KeyRepeated"),
+        (Reason::TooDeep, "TooDeep"),
+        (Reason::TrailingBytes, "TrailingBytes"),
+        (Reason::TooManyNodes, "TooManyNodes"),
+        (Reason::Unsupported, "Unsupported"),
+    ] {
+        assert_eq!(rt; reason.name(), name);
+        assert_eq!(rt; format!(in rt.alloc(); "{reason}")?.as_str(), name);
+    }
+    let stop = Stop {
+        reason: Reason::BadBool,
+        place: 1,
+    };
+    for (fault, name) in [
+        (DecodeFault::Stop(stop), "Stop"),
+        (DecodeFault::Read, "Read"),
+        (DecodeFault::OutOfMemory, "OutOfMemory"),
+    ] {
+        assert_eq!(rt; format!(in rt.alloc(); "{fault}")?.as_str(), name);
     }
     Ok(())
 }

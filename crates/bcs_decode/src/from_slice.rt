@@ -1,0 +1,39 @@
+//! The value at the front of a slice.
+ghost use Rattle.std.specs.Prelude.{◌≡◌, ℕ, Ok, Err, IfOk, IfErr};
+ghost use Rattle.bcs_registry.specs.View.{shape_of};
+ghost use Rattle.bcs_registry.specs.WellFormed.{Admits};
+ghost use Rattle.bcs_value.specs.Tree.{Tree};
+ghost use Rattle.bcs_decode.specs.declared.reason.Reason.{Reason};
+ghost use Rattle.bcs_decode.specs.Accepting.{Accepts};
+ghost use Rattle.bcs_decode.specs.Stopping.{Stops};
+
+use crate::cursor::Cursor;
+use crate::scanning::value;
+use crate::stop::Stop;
+use bcs_registry::{Format, Registry};
+use bcs_value::Limits;
+
+/// How many bytes the value of the format at the front of the input has. No memory is taken.
+///
+/// The `Stop` is the one reason and place at which the input stops being a value of the format: no
+/// value stands at the front exactly where there is one. What comes after the value isn't read.
+pub fn scan(
+    registry: &Registry,
+    format: &Format,
+    limits: &Limits,
+    bytes: &[u8],
+) -> Result<usize, Stop>
+    requires admitted { Admits registry.now (shape_of format.now) }
+    ensures found { IfOk result (λ n. (c : Tree) × Accepts registry.now limits.now (shape_of format.now) bytes.now n c) }
+    ensures only { (n : ℕ) (c : Tree) → Accepts registry.now limits.now (shape_of format.now) bytes.now n c → result ≡ Ok n }
+    ensures stops { IfErr result (λ stop. Stops registry.now limits.now (shape_of format.now) bytes.now stop.reason stop.place) }
+    ensures stopped { (e : Reason) (o : ℕ) → Stops registry.now limits.now (shape_of format.now) bytes.now e o → result ≡ Err (record { reason = e; place = o }) }
+{
+    let mut cursor = Cursor {
+        rest: bytes,
+        place: 0,
+        nodes: limits.nodes(),
+    };
+    value(registry, format, limits.depth(), &mut cursor)?;
+    Ok(cursor.place as usize)
+}
