@@ -23,7 +23,11 @@ fn main(rt: HostRuntime) -> ExitCode {
     };
     match line(rt.alloc(), words.as_slice()) {
         Ok(job) => perform(&rt, job),
-        Err(LineFault::Usage(text)) => tell(&rt, text.as_str(), 3),
+        // clap's text ends its own line.
+        Err(LineFault::Usage(text)) => {
+            let _ = eprint!(&rt; "{text}");
+            ExitCode::from(3)
+        },
         Err(LineFault::Help(text)) => match print!(&rt; "{text}") {
             Ok(()) => ExitCode::SUCCESS,
             Err(_) => tell(&rt, "fault: write", 4),

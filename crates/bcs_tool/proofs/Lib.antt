@@ -1,5 +1,5 @@
-mod Views
 mod AnswerLemmas
+mod FrontLemmas
 mod CommandLines
 mod CommandNames
 mod LineFaultLemmas

@@ -1,17 +1,28 @@
 -- What the program answers to a job and its input: a status, and the bytes of the standard output.
 use Rattle.std.specs.Prelude.{◌≡◌, ◌⊎◌, ◌≤◌, ◌++◌, ◌∷◌, [], ℕ, List, Bool, Option, Some, None, codes, length, if◌then◌else◌}
+use Rattle.std.specs.Fmt.{decimal}
 use Rattle.hex.specs.Hex.{encode_lower}
-use Rattle.bcs_tool.specs.Front.{Asks, RefusesEarly, front_name}
-use Rattle.bcs_tool.specs.Spelling.{Denotes, RefusesText, bytes_of, input_name}
+use Rattle.bcs_registry.specs.Container.{Entries}
+use Rattle.bcs_registry.specs.Grows.{Grows}
+use Rattle.bcs_registry.specs.Shape.{Shape}
+use Rattle.bcs_value.specs.Limits.{Bounds}
+use Rattle.bcs_value.specs.Tree.{Tree}
+use Rattle.bcs_encode.specs.Encodes.{Encodes}
+use Rattle.bcs_tool.specs.Front.{Asks, IsRegistry, RefusesEarly, front_name}
+use Rattle.bcs_tool.specs.Spelling.{Denotes, RefusesText, input_name}
+use Rattle.bcs_tool.specs.declared.command.Command.TheVariants as command
+use Rattle.bcs_tool.specs.declared.command.Command.TheVariants.{Check}
 use Rattle.bcs_tool.specs.declared.front_fault.FrontFault.{FrontFault}
 use Rattle.bcs_tool.specs.declared.input_fault.InputFault.{InputFault}
-use Rattle.bcs_tool.specs.declared.scalar.Scalar.{Scalar}
-use Rattle.bcs_tool.specs.declared.served_format.ServedFormat.{ServedFormat}
 use Rattle.bcs_tool.specs.declared.work.Work.{Work}
 
 -- the most bytes of an input, and of a registry's text
 abbrev pub size_limit : ℕ
 size_limit = 268435456
+
+-- the limits of a value
+abbrev pub standard_bounds : Bounds
+standard_bounds = record { depth = 500; nodes = 4294967295 }
 
 -- the text, and a line end
 abbrev pub line_of : List ℕ → List ℕ
@@ -25,14 +36,22 @@ refusal_line name = line_of (codes "refused: " ++ name)
 abbrev pub printed : Bool → List ℕ → List ℕ
 printed raw bytes = if raw then bytes else line_of (encode_lower bytes)
 
+-- the line for a registry of so many containers
+abbrev pub count_line : ℕ → List ℕ
+count_line n = line_of (codes "ok " ++ decimal n)
+
 -- a case for each kind of answer
 pub data Answers (work : Work) (input : List ℕ) : ℕ → List ℕ → Type 0 where
   -- the words are refused, whatever the input
   refused_early : (fault : FrontFault) → RefusesEarly work fault → Answers work input 2 (refusal_line (front_name fault))
+  -- `check`: how many containers the registry has
+  checked : (registry : Entries) → work.command ≡ Check → IsRegistry work.registry.items registry → Answers work input 0 (count_line (length registry))
+  -- `grows`: the newer registry keeps all that the older one has
+  grown : (older newer : Entries) → work.command ≡ command.Grows → IsRegistry work.registry.items older → IsRegistry work.second.items newer → Grows older newer → Answers work input 0 (line_of (codes "grows"))
   -- the input is refused
-  refused : (format : ServedFormat) (fault : InputFault) → Asks work format → length input ≤ size_limit → RefusesText format input fault → Answers work input 2 (refusal_line (input_name fault))
-  -- the bytes of the value
-  encoded : (format : ServedFormat) (value : Scalar) → Asks work format → length input ≤ size_limit → Denotes format input value → Answers work input 0 (printed work.raw (bytes_of value))
+  refused : (registry : Entries) (s : Shape) (fault : InputFault) → Asks work registry s → length input ≤ size_limit → RefusesText s input fault → Answers work input 2 (refusal_line (input_name fault))
+  -- `encode`: the bytes of the value
+  encoded : (registry : Entries) (s : Shape) (value : Tree) (bytes : List ℕ) → Asks work registry s → length input ≤ size_limit → Denotes s input value → Encodes registry standard_bounds s value bytes → Answers work input 0 (printed work.raw bytes)
 
 -- these bytes may be the content: they are it, where it is known
 abbrev pub IsContent : Option (List ℕ) → List ℕ → Type 0

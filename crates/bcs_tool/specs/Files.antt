@@ -6,6 +6,8 @@ use Rattle.bcs_tool.specs.declared.command.Command.TheVariants.{Check, Encode, G
 use Rattle.bcs_tool.specs.declared.file_fault.FileFault.{FileFault}
 use Rattle.bcs_tool.specs.declared.file_fault.FileFault.TheVariants.{Open, Read, TooLarge, OutOfMemory}
 use Rattle.bcs_tool.specs.declared.job.Job.{Job}
+use Rattle.bcs_tool.specs.declared.taking.TakeFault.{TakeFault}
+use Rattle.bcs_tool.specs.declared.taking.TakeFault.TheVariants as taking
 use Rattle.bcs_tool.specs.declared.work.Work.{Work}
 
 -- what the standard error is told
@@ -29,6 +31,16 @@ abbrev pub IsSecondOf : Command → List ℕ → List ℕ → Type 0
 IsSecondOf Check word text = text ≡ []
 IsSecondOf Encode word text = text ≡ []
 IsSecondOf Grows word text = IsTextOf word text
+
+-- the job's registries are texts themselves, so that no file is read for its work
+abbrev pub NamesNoRegistryFile : Job → Type 0
+NamesNoRegistryFile job = (is_registry_text (string_bytes job.registry) ≡ true)
+    × (job.command ≡ Grows → is_registry_text (string_bytes job.second) ≡ true)
+
+abbrev pub file_fault_of : TakeFault → FileFault
+file_fault_of taking.Read = Read
+file_fault_of taking.TooLarge = TooLarge
+file_fault_of taking.OutOfMemory = OutOfMemory
 
 -- the job's work, and the name of the input's file
 pub record IsWorkOf (job : Job) (work : Work) (file : Option (String Global)) : Type 0 where

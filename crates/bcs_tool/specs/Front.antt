@@ -1,49 +1,49 @@
--- What is judged of a job before its input is read. Until registries are read, a registry has no
--- containers, and a format is one of the served words.
-use Rattle.std.specs.Prelude.{◌≡◌, ◌⊎◌, ◌==◌, ◌||◌, ℕ, List, [], ◌∷◌, Option, Some, None, Bool, true, false, codes, option_and_then, string_bytes}
-use Rattle.serde_json.specs.Data.{Data, object, no_members, member}
-use Rattle.serde_json.specs.Find.{as_object, as_str}
-use Rattle.bcs_tool.specs.Json.{IsJson, IsNotJson}
-use Rattle.bcs_tool.specs.ServedFormat.{served_named}
+-- What is judged of a job before its input is read: its registries, and then the format.
+use Rattle.std.specs.Prelude.{◌≡◌, ◌⊎◌, ◌==◌, ◌||◌, ℕ, List, [], ◌∷◌, None, Bool, true, false, codes, is_some, string_bytes}
+use Rattle.bcs_registry.specs.Container.{Entries, container_at}
+use Rattle.bcs_registry.specs.Faults.{IsLeastFault, IsLeastFormatFault}
+use Rattle.bcs_registry.specs.Grows.{IsFirstGrowthFault}
+use Rattle.bcs_registry.specs.Shape.{Shape, name}
+use Rattle.bcs_registry.specs.Text.{WritesRegistry, WritesFormat}
+use Rattle.bcs_registry.specs.WellFormed.{IsWellFormed, Admits}
+use Rattle.bcs_registry.specs.declared.fault.RegistryFault.{RegistryFault}
+use Rattle.bcs_registry.specs.declared.fault.RegistryFault.TheVariants.{NotJson, BadShape, BadNumber, TooNested, RepeatedName, UnknownName, OutOfMemory}
+use Rattle.bcs_registry.specs.declared.growth_fault.GrowthFault.{GrowthFault}
+use Rattle.bcs_registry.specs.declared.growth_fault.GrowthFault.TheVariants.{Missing, Changed, VariantMissing, VariantChanged}
+use Rattle.bcs_tool.specs.Spelling.{is_served}
 use Rattle.bcs_tool.specs.declared.command.Command.{Command}
-use Rattle.bcs_tool.specs.declared.command.Command.TheVariants.{Check, Encode, Grows}
+use Rattle.bcs_tool.specs.declared.command.Command.TheVariants as command
 use Rattle.bcs_tool.specs.declared.front_fault.FrontFault.{FrontFault}
-use Rattle.bcs_tool.specs.declared.front_fault.FrontFault.TheVariants.{NotJson, BadShape, UnknownName, NotYet, OutOfMemory}
-use Rattle.bcs_tool.specs.declared.json_text.TextFault.{TextFault}
-use Rattle.bcs_tool.specs.declared.json_text.TextFault.TheVariants as text
-use Rattle.bcs_tool.specs.declared.served_format.ServedFormat.{ServedFormat}
+use Rattle.bcs_tool.specs.declared.front_fault.FrontFault.TheVariants as front
 use Rattle.bcs_tool.specs.declared.work.Work.{Work}
 
--- the name that is printed
-abbrev pub front_name : FrontFault → List ℕ
-front_name NotJson = codes "NotJson"
-front_name BadShape = codes "BadShape"
-front_name UnknownName = codes "UnknownName"
-front_name NotYet = codes "NotYet"
-front_name OutOfMemory = codes "OutOfMemory"
+-- ---- the names that are printed
 
-abbrev pub front_fault_of : TextFault → FrontFault
-front_fault_of text.NotJson = NotJson
-front_fault_of text.OutOfMemory = OutOfMemory
+abbrev pub registry_fault_name : RegistryFault → List ℕ
+registry_fault_name NotJson = codes "NotJson"
+registry_fault_name BadShape = codes "BadShape"
+registry_fault_name BadNumber = codes "BadNumber"
+registry_fault_name TooNested = codes "TooNested"
+registry_fault_name RepeatedName = codes "RepeatedName"
+registry_fault_name UnknownName = codes "UnknownName"
+registry_fault_name OutOfMemory = codes "OutOfMemory"
+
+abbrev pub growth_fault_name : GrowthFault → List ℕ
+growth_fault_name Missing = codes "Missing"
+growth_fault_name Changed = codes "Changed"
+growth_fault_name VariantMissing = codes "VariantMissing"
+growth_fault_name VariantChanged = codes "VariantChanged"
+
+abbrev pub front_name : FrontFault → List ℕ
+front_name (front.Registry fault) = registry_fault_name fault
+front_name (front.Growth fault) = growth_fault_name fault
+front_name front.NotYet = codes "NotYet"
 
 -- ---- the registry's text
 
--- an object with no members
-abbrev pub IsEmptyRegistry : List ℕ → Type 0
-IsEmptyRegistry text = IsJson text (object no_members)
-
--- an object with a member
-abbrev pub HasMember : Data → Type 0
-HasMember (object (member name d ms)) = Unit {0}
-HasMember _ = ⊥
-
--- serde_json doesn't read it; or it is no object; or the object has members
-abbrev pub RefusesRegistry : List ℕ → FrontFault → Type 0
-RefusesRegistry text NotJson = IsNotJson text
-RefusesRegistry text BadShape = (d : Data) × IsJson text d × (as_object d ≡ None)
-RefusesRegistry text NotYet = (d : Data) × IsJson text d × HasMember d
-RefusesRegistry text UnknownName = ⊥
-RefusesRegistry text OutOfMemory = ⊥
+-- the text writes down this registry, which is well-formed
+abbrev pub IsRegistry : List ℕ → Entries → Type 0
+IsRegistry text registry = WritesRegistry text registry × IsWellFormed registry
 
 -- ---- the format's word
 
@@ -52,44 +52,55 @@ abbrev pub is_json_word : List ℕ → Bool
 is_json_word [] = false
 is_json_word (c ∷ cs) = c == 123 || c == 34
 
--- what a format's JSON stands for: a string that is a served word
-abbrev pub format_of : Data → Option ServedFormat
-format_of d = option_and_then served_named (as_str d)
+-- the word is the JSON of a format that the registry admits, or the name of one of its containers
+abbrev pub IsFormat : Entries → List ℕ → Shape → Type 0
+IsFormat registry word s = ((is_json_word word ≡ true) × WritesFormat word s × Admits registry s)
+    ⊎ ((is_json_word word ≡ false) × (is_some (container_at word registry) ≡ true) × (s ≡ name word))
 
--- the word is the JSON of a served format
-abbrev pub Serves : List ℕ → ServedFormat → Type 0
-Serves word format =
-    (is_json_word word ≡ true) × ((d : Data) × IsJson word d × (format_of d ≡ Some format))
-
--- it is a container's name, which no container has; or serde_json doesn't read it; or it is the
--- JSON of another format, or of none
-abbrev pub RefusesFormat : List ℕ → FrontFault → Type 0
-RefusesFormat word UnknownName = is_json_word word ≡ false
-RefusesFormat word NotJson = (is_json_word word ≡ true) × IsNotJson word
-RefusesFormat word NotYet =
-    (is_json_word word ≡ true) × ((d : Data) × IsJson word d × (format_of d ≡ None))
-RefusesFormat word BadShape = ⊥
-RefusesFormat word OutOfMemory = ⊥
+-- it is JSON with this fault, or a name that no container has
+abbrev pub RefusesFormat : Entries → List ℕ → RegistryFault → Type 0
+RefusesFormat registry word fault = ((is_json_word word ≡ true) × IsLeastFormatFault registry word fault)
+    ⊎ ((is_json_word word ≡ false) × (container_at word registry ≡ None) × (fault ≡ UnknownName))
 
 -- ---- the job
 
--- the job is to encode at this format
-pub record Asks (work : Work) (format : ServedFormat) : Type 0 where
-  pub command : work.command ≡ Encode
-  pub registry : IsEmptyRegistry work.registry.items
-  pub serves : Serves (string_bytes work.format) format
+-- the job is to encode at this format of this registry
+pub record Asks (work : Work) (registry : Entries) (s : Shape) : Type 0 where
+  pub command : work.command ≡ command.Encode
+  pub is_registry : IsRegistry work.registry.items registry
+  pub is_format : IsFormat registry (string_bytes work.format) s
+  pub serves : is_served s ≡ true
 
--- the job's words are served, so that its input is read
+-- the job's words are served, and it has an input, which is read
 abbrev pub ReadsInput : Work → Type 0
-ReadsInput work = (format : ServedFormat) × Asks work format
+ReadsInput work = (registry : Entries) × (s : Shape) × Asks work registry s
 
--- the registry's fault, or else the format's; no other command is served yet
+-- the registry's fault, or else the format's, or else the format isn't served yet
+abbrev pub RefusesEncoding : Work → FrontFault → Type 0
+RefusesEncoding work (front.Registry fault) = IsLeastFault work.registry.items fault
+    ⊎ ((registry : Entries) × IsRegistry work.registry.items registry × RefusesFormat registry (string_bytes work.format) fault)
+RefusesEncoding work (front.Growth fault) = ⊥
+RefusesEncoding work front.NotYet = (registry : Entries) × (s : Shape) × IsRegistry work.registry.items registry
+    × IsFormat registry (string_bytes work.format) s × (is_served s ≡ false)
+
+abbrev pub RefusesCheck : Work → FrontFault → Type 0
+RefusesCheck work (front.Registry fault) = IsLeastFault work.registry.items fault
+RefusesCheck work (front.Growth fault) = ⊥
+RefusesCheck work front.NotYet = ⊥
+
+-- the older registry's fault, or else the newer's, or else why the one has not grown into the other
+abbrev pub RefusesGrowth : Work → FrontFault → Type 0
+RefusesGrowth work (front.Registry fault) = IsLeastFault work.registry.items fault
+    ⊎ ((older : Entries) × IsRegistry work.registry.items older × IsLeastFault work.second.items fault)
+RefusesGrowth work (front.Growth fault) = (older : Entries) × (newer : Entries) × IsRegistry work.registry.items older
+    × IsRegistry work.second.items newer × IsFirstGrowthFault older newer fault
+RefusesGrowth work front.NotYet = ⊥
+
 abbrev pub RefusesAt : Command → Work → FrontFault → Type 0
-RefusesAt Encode work fault = RefusesRegistry work.registry.items fault
-    ⊎ (IsEmptyRegistry work.registry.items × RefusesFormat (string_bytes work.format) fault)
-RefusesAt Check work fault = fault ≡ NotYet
-RefusesAt Grows work fault = fault ≡ NotYet
+RefusesAt command.Encode = RefusesEncoding
+RefusesAt command.Check = RefusesCheck
+RefusesAt command.Grows = RefusesGrowth
 
--- the job is refused before its input is read
+-- the job is refused before an input is read
 abbrev pub RefusesEarly : Work → FrontFault → Type 0
 RefusesEarly work = RefusesAt work.command work

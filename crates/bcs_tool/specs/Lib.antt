@@ -1,5 +1,3 @@
-pub mod Json
-pub mod ServedFormat
 pub mod Front
 pub mod Spelling
 pub mod RunFault

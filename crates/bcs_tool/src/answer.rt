@@ -1,6 +1,6 @@
 //! What is printed.
-ghost use Rattle.std.specs.Prelude.{◌≡◌, IfOk, string_bytes};
-ghost use Rattle.bcs_tool.specs.Answers.{line_of, printed, refusal_line};
+ghost use Rattle.std.specs.Prelude.{◌≡◌, IfOk, codes, string_bytes};
+ghost use Rattle.bcs_tool.specs.Answers.{count_line, line_of, printed, refusal_line};
 
 use std::alloc::{AllocError, Global};
 
@@ -19,6 +19,28 @@ pub fn refused(alloc: Global, name: &str) -> Result<Answer, AllocError>
     text.push_str(name)?;
     Ok(Answer {
         status: 2,
+        output: line(text)?,
+    })
+}
+
+/// The line for a registry of so many containers.
+pub fn counted(alloc: Global, count: usize) -> Result<Answer, AllocError>
+    ensures { IfOk result (λ a. (a.status ≡ 0) × (a.output.items ≡ count_line count)) }
+{
+    let text = format!(in alloc; "ok {count}")?;
+    Ok(Answer {
+        status: 0,
+        output: line(text)?,
+    })
+}
+
+/// The line for a registry that has grown.
+pub fn grown(alloc: Global) -> Result<Answer, AllocError>
+    ensures { IfOk result (λ a. (a.status ≡ 0) × (a.output.items ≡ line_of (codes "grows"))) }
+{
+    let text = String::from_str(alloc, "grows")?;
+    Ok(Answer {
+        status: 0,
         output: line(text)?,
     })
 }

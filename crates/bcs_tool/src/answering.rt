@@ -1,67 +1,123 @@
 //! The answer to a job and its input.
 ghost use Rattle.std.specs.Prelude.{◌≡◌, ◌≢◌, ◌≤◌, ◌+◌, ℕ, List, length, true, Err, IfOk};
 ghost use Rattle.bcs_decode.specs.Taking.{Took};
-ghost use Rattle.bcs_tool.specs.Answers.{Answers, IsContent, size_limit, printed};
-ghost use Rattle.bcs_tool.specs.Front.{Asks, ReadsInput, RefusesEarly};
-ghost use Rattle.bcs_tool.specs.Spelling.{IsInRange, bytes_of};
-ghost use Rattle.bcs_tool.specs.declared.front_fault.FrontFault.{FrontFault};
+ghost use Rattle.bcs_registry.specs.View.{shape_of};
+ghost use Rattle.bcs_value.specs.View.{tree_of};
+ghost use Rattle.bcs_encode.specs.Encodes.{Encodes};
+ghost use Rattle.bcs_tool.specs.Answers.{Answers, IsContent, size_limit, printed, standard_bounds};
+ghost use Rattle.bcs_tool.specs.Front.{Asks, ReadsInput};
 
-use crate::answer::{Answer, encoded};
-use crate::front::judge;
-use crate::front_fault::FrontFault;
+use crate::answer::{Answer, counted, encoded, grown};
+use crate::command::Command;
+use crate::front::{Asked, judge_check, judge_encoding, judge_growth};
 use crate::limits::SIZE_LIMIT;
 use crate::reading::read_text;
 use crate::run_fault::RunFault;
-use crate::scalar::Scalar;
-use crate::served_format::ServedFormat;
 use crate::taking::take_all;
 use crate::work::Work;
 use bcs_decode::ByteSource;
+use bcs_encode::encode;
+use bcs_value::{Limits, Value};
 use std::alloc::{AllocError, Global};
 
-/// The answer to the job. The input is read only where the job's own words are not refused.
+/// The answer to the job. The input is read only where the job has one and its own words are not refused.
 pub fn answer<S: ByteSource>(alloc: Global, work: &Work, input: &mut S) -> Result<Answer, RunFault>
     ensures ok { IfOk result (λ a. (bytes : List ℕ) × IsContent (S.content input.old) bytes
         × Answers work.now bytes a.status a.output.items) }
-    ensures untouched { (e : FrontFault) → RefusesEarly work.now e → input.new ≡ input.old }
+    ensures untouched { ¬ ReadsInput work.now → input.new ≡ input.old }
     ensures read { result ≡ Err RunFault.Read → ReadsInput work.now × (S.is_failed input.new ≡ true) }
     ensures too_large { result ≡ Err RunFault.TooLarge → ReadsInput work.now
         × ((bytes : List ℕ) × (length bytes ≡ size_limit + 1)
         × Took S.content S.is_failed S.allowance input.old input.new bytes) }
     ensures write { result ≢ Err RunFault.Write }
 {
-    match judge(alloc, work) {
-        Ok(format) => {
+    match work.command {
+        Command::Check => Ok(answer_check(alloc, work)?),
+        Command::Grows => Ok(answer_growth(alloc, work)?),
+        Command::Encode => answer_encoding(alloc, work, input),
+    }
+}
+
+// How many containers the registry has, whatever the input.
+fn answer_check(alloc: Global, work: &Work) -> Result<Answer, AllocError>
+    requires { work.now.command ≡ Command.Check }
+    ensures { IfOk result (λ a. (bytes : List ℕ) → Answers work.now bytes a.status a.output.items) }
+{
+    match judge_check(alloc, work) {
+        Ok(count) => counted(alloc, count),
+        Err(fault) => fault.answer(alloc),
+    }
+}
+
+// Whether the older registry has grown into the newer, whatever the input.
+fn answer_growth(alloc: Global, work: &Work) -> Result<Answer, AllocError>
+    requires { work.now.command ≡ Command.Grows }
+    ensures { IfOk result (λ a. (bytes : List ℕ) → Answers work.now bytes a.status a.output.items) }
+{
+    match judge_growth(alloc, work) {
+        Ok(()) => grown(alloc),
+        Err(fault) => fault.answer(alloc),
+    }
+}
+
+// The bytes of the input's text at the job's format.
+fn answer_encoding<S: ByteSource>(
+    alloc: Global,
+    work: &Work,
+    input: &mut S,
+) -> Result<Answer, RunFault>
+    requires { work.now.command ≡ Command.Encode }
+    ensures ok { IfOk result (λ a. (bytes : List ℕ) × IsContent (S.content input.old) bytes
+        × Answers work.now bytes a.status a.output.items) }
+    ensures untouched { ¬ ReadsInput work.now → input.new ≡ input.old }
+    ensures read { result ≡ Err RunFault.Read → ReadsInput work.now × (S.is_failed input.new ≡ true) }
+    ensures too_large { result ≡ Err RunFault.TooLarge → ReadsInput work.now
+        × ((bytes : List ℕ) × (length bytes ≡ size_limit + 1)
+        × Took S.content S.is_failed S.allowance input.old input.new bytes) }
+    ensures write { result ≢ Err RunFault.Write }
+{
+    match judge_encoding(alloc, work) {
+        Ok(asked) => {
             let text = take_all(alloc, input, SIZE_LIMIT)?;
-            Ok(answer_text(alloc, work, format, text.as_slice())?)
+            Ok(answer_text(alloc, work, &asked, text.as_slice())?)
         }
         Err(fault) => Ok(fault.answer(alloc)?),
     }
 }
 
 // The answer to the input's text, where the job asks for this format.
-fn answer_text(
-    alloc: Global,
-    work: &Work,
-    format: ServedFormat,
-    text: &[u8],
-) -> Result<Answer, AllocError>
-    requires asks { Asks work.now format }
+fn answer_text(alloc: Global, work: &Work, asked: &Asked, text: &[u8]) -> Result<Answer, AllocError>
+    requires asks { Asks work.now asked.now.registry (shape_of asked.now.format) }
     requires within { length text.now ≤ size_limit }
     ensures { IfOk result (λ a. Answers work.now text.now a.status a.output.items) }
 {
-    match read_text(alloc, format, text) {
-        Ok(value) => answer_value(alloc, value, work.raw),
+    match read_text(alloc, &asked.format, text) {
+        Ok(value) => answer_value(alloc, work, asked, &value),
         Err(fault) => fault.answer(alloc),
     }
 }
 
 // The bytes of a value, as they are printed.
-fn answer_value(alloc: Global, value: Scalar, raw: bool) -> Result<Answer, AllocError>
-    requires { IsInRange value }
-    ensures { IfOk result (λ a. (a.status ≡ 0) × (a.output.items ≡ printed raw (bytes_of value))) }
+fn answer_value(
+    alloc: Global,
+    work: &Work,
+    asked: &Asked,
+    value: &Value,
+) -> Result<Answer, AllocError>
+    requires asks { Asks work.now asked.now.registry (shape_of asked.now.format) }
+    ensures { IfOk result (λ a. (a.status ≡ 0) × ((bytes : List ℕ)
+        × Encodes asked.now.registry standard_bounds (shape_of asked.now.format) (tree_of value.now) bytes
+        × (a.output.items ≡ printed work.now.raw bytes))) }
 {
-    let mut bytes = [0; 16];
-    let count = value.put(&mut bytes);
-    encoded(alloc, &bytes[..count], raw)
+    match encode(
+        alloc,
+        &asked.registry,
+        &asked.format,
+        &Limits::standard(),
+        value,
+    ) {
+        Ok(bytes) => encoded(alloc, bytes.as_slice(), work.raw),
+        // A value that was read is sound, so that memory alone is a fault.
+        Err(_) => Err(AllocError),
+    }
 }

@@ -37,6 +37,10 @@ impl FileFault {
 }
 
 impl From<TakeFault> for FileFault {
+    ghost use Rattle.bcs_tool.specs.Files.{file_fault_of};
+
+    ghost from_gives = { λ fault result. result ≡ file_fault_of fault };
+
     fn from(fault: TakeFault) -> FileFault {
         match fault {
             TakeFault::Read => FileFault::Read,

@@ -1,7 +1,7 @@
 //! The files that a job names.
 ghost use Rattle.std.specs.Prelude.{◌≡◌, ◌≤◌, true, vec_len, IfOk, IsOkUnless};
 ghost use Rattle.bcs_tool.specs.Answers.{size_limit};
-ghost use Rattle.bcs_tool.specs.Files.{IsWorkOf, is_registry_text};
+ghost use Rattle.bcs_tool.specs.Files.{IsWorkOf, NamesNoRegistryFile, is_registry_text};
 
 use crate::command::Command;
 use crate::file_fault::FileFault;
@@ -30,7 +30,8 @@ pub fn read_work<R: Files + AllocGlobal>(
     rt: &R,
     job: Job,
 ) -> Result<(Work, Option<String>), FileFault>
-    ensures { IfOk result (λ r. IsWorkOf job r.0 r.1) }
+    ensures work { IfOk result (λ r. IsWorkOf job r.0 r.1) }
+    ensures good { NamesNoRegistryFile job → IsOkUnless result FileFault.OutOfMemory }
 {
     let registry = read_registry(rt, job.registry.as_str())?;
     let second = match job.command {

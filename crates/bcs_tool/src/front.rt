@@ -1,65 +1,86 @@
-//! What is judged of a job before its input is read: the registry, and then the format.
-ghost use Rattle.std.specs.Prelude.{◌≡◌, ◌≢◌, IfOk, IfErr, OnOk, string_bytes};
-ghost use Rattle.bcs_tool.specs.Front.{Asks, IsEmptyRegistry, RefusesEarly, RefusesFormat, RefusesRegistry, Serves, format_of, is_json_word};
-ghost use Rattle.serde_json.specs.View.{view};
+//! What is judged of a job before its input is read: its registries, and then the format.
+ghost use Rattle.std.specs.Prelude.{◌≡◌, ◌≢◌, ℕ, length, IfOk, IfErr, OnOk};
+ghost use Rattle.bcs_registry.specs.Container.{Entries};
+ghost use Rattle.bcs_registry.specs.Grows.{Grows};
+ghost use Rattle.bcs_registry.specs.Shape as shape;
+ghost use Rattle.bcs_registry.specs.View.{shape_of};
+ghost use Rattle.bcs_registry.specs.declared.fault.RegistryFault.TheVariants.{OutOfMemory};
+ghost use Rattle.bcs_tool.specs.Front.{Asks, IsFormat, IsRegistry, RefusesCheck, RefusesEncoding, RefusesFormat, RefusesGrowth, is_json_word};
 
 use crate::command::Command;
 use crate::front_fault::FrontFault;
-use crate::json_text::read_json;
-use crate::served_format::ServedFormat;
+use crate::reading::is_served;
 use crate::work::Work;
-use serde_json::Value;
+use bcs_registry::{Format, Registry, RegistryFault};
 use std::alloc::Global;
 
-/// The format that the job asks for. The registry's fault comes before the format's.
-pub fn judge(alloc: Global, work: &Work) -> Result<ServedFormat, FrontFault>
-    ensures ok { IfOk result (Asks work.now) }
-    ensures fault { IfErr result (λ e. e ≢ FrontFault.OutOfMemory → RefusesEarly work.now e) }
+/// How many containers the registry has.
+pub fn judge_check(alloc: Global, work: &Work) -> Result<usize, FrontFault>
+    ensures ok { IfOk result (λ count. (registry : Entries) × IsRegistry work.now.registry.items registry
+        × (count ≡ length registry)) }
+    ensures fault { IfErr result (λ e. e ≢ FrontFault.Registry OutOfMemory → RefusesCheck work.now e) }
 {
-    match work.command {
-        Command::Encode => {
-            judge_registry(alloc, work.registry.as_slice())?;
-            judge_format(alloc, work.format.as_str())
-        }
-        Command::Check | Command::Grows => Err(FrontFault::NotYet),
+    let registry = Registry::read(alloc, work.registry.as_slice())?;
+    Ok(registry.len())
+}
+
+/// Finds whether the older registry has grown into the newer. A fault of the older comes before one of the newer.
+pub fn judge_growth(alloc: Global, work: &Work) -> Result<(), FrontFault>
+    ensures ok { OnOk result ((older : Entries) × (newer : Entries) × IsRegistry work.now.registry.items older
+        × IsRegistry work.now.second.items newer × Grows older newer) }
+    ensures fault { IfErr result (λ e. e ≢ FrontFault.Registry OutOfMemory → RefusesGrowth work.now e) }
+{
+    let older = Registry::read(alloc, work.registry.as_slice())?;
+    let newer = Registry::read(alloc, work.second.as_slice())?;
+    older.grows(&newer)?;
+    Ok(())
+}
+
+/// What a job is to encode at.
+#[derive(Drop)]
+pub struct Asked {
+    pub registry: Registry,
+    pub format: Format,
+}
+
+/// The registry and the format that the job asks for. The registry's fault comes before the format's.
+pub fn judge_encoding(alloc: Global, work: &Work) -> Result<Asked, FrontFault>
+    requires { work.now.command ≡ Command.Encode }
+    ensures ok { IfOk result (λ asked. Asks work.now asked.registry (shape_of asked.format)) }
+    ensures fault { IfErr result (λ e. e ≢ FrontFault.Registry OutOfMemory → RefusesEncoding work.now e) }
+{
+    let registry = Registry::read(alloc, work.registry.as_slice())?;
+    let format = judge_format(alloc, &registry, work.format.as_str())?;
+    if is_served(&format) {
+        Ok(Asked { registry, format })
+    } else {
+        Err(FrontFault::NotYet)
     }
 }
 
-// Finds whether the text is a registry without containers.
-fn judge_registry(alloc: Global, text: &[u8]) -> Result<(), FrontFault>
-    ensures ok { OnOk result (IsEmptyRegistry text.now) }
-    ensures fault { IfErr result (λ e. e ≢ FrontFault.OutOfMemory → RefusesRegistry text.now e) }
+// The format of a word: its JSON, or a container's name.
+fn judge_format(alloc: Global, registry: &Registry, word: &str) -> Result<Format, RegistryFault>
+    ensures ok { IfOk result (λ format. IsFormat registry.now word.now (shape_of format)) }
+    ensures fault { IfErr result (λ e. e ≢ OutOfMemory → RefusesFormat registry.now word.now e) }
 {
-    match read_json(alloc, text)? {
-        Value::Object(members) => if members.is_empty() {
-            Ok(())
-        } else {
-            Err(FrontFault::NotYet)
-        },
-        _ => Err(FrontFault::BadShape),
+    if begins_json(word) {
+        return registry.read_format(alloc, word.as_bytes());
+    }
+    match registry.container(word) {
+        Some(_) => named(alloc, word),
+        None => Err(RegistryFault::UnknownName),
     }
 }
 
-// The format of a word, where no container has a name.
-fn judge_format(alloc: Global, word: &str) -> Result<ServedFormat, FrontFault>
-    ensures ok { IfOk result (Serves word.now) }
-    ensures fault { IfErr result (λ e. e ≢ FrontFault.OutOfMemory → RefusesFormat word.now e) }
+// The format of a container's values.
+fn named(alloc: Global, name: &str) -> Result<Format, RegistryFault>
+    ensures ok { IfOk result (λ format. shape_of format ≡ shape.name name.now) }
+    ensures fault { IfErr result (λ e. e ≡ OutOfMemory) }
 {
-    if !begins_json(word) {
-        return Err(FrontFault::UnknownName);
+    match String::from_str(alloc, name) {
+        Ok(name) => Ok(Format::TypeName(name)),
+        Err(_) => Err(RegistryFault::OutOfMemory),
     }
-    let value = read_json(alloc, word.as_bytes())?;
-    match served_format(&value) {
-        Some(format) => Ok(format),
-        None => Err(FrontFault::NotYet),
-    }
-}
-
-// The format that a JSON value stands for.
-fn served_format(value: &Value) -> Option<ServedFormat>
-    ensures { result ≡ format_of (view value.now) }
-{
-    value.as_str().and_then(ServedFormat::named)
 }
 
 // Whether a format's word is JSON, and no name of a container.

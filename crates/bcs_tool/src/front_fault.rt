@@ -1,41 +1,36 @@
 //! Why a job is refused by its words alone.
 ghost use Rattle.std.specs.Prelude.{◌≡◌, ◌≢◌, IfOk};
+ghost use Rattle.bcs_registry.specs.declared.fault.RegistryFault.TheVariants.{OutOfMemory};
 ghost use Rattle.bcs_tool.specs.Answers.{refusal_line};
-ghost use Rattle.bcs_tool.specs.Front.{front_name};
+ghost use Rattle.bcs_tool.specs.Front.{front_name, growth_fault_name, registry_fault_name};
 
 use crate::answer::{Answer, refused};
-use crate::json_text::TextFault;
+use bcs_registry::{GrowthFault, RegistryFault};
 use std::alloc::{AllocError, Global};
 use thiserror::Error;
 
-/// Why a job is refused before its input is read. The message is the variant's name alone.
+/// Why a job is refused before its input is read.
 #[derive(Clone, Copy, Debug, Drop, PartialEq, Eq, Error)]
 pub enum FrontFault {
-    /// `serde_json` doesn't read the registry's or the format's text.
-    #[error("NotJson")]
-    NotJson,
-    /// The registry's text is no object.
-    #[error("BadShape")]
-    BadShape,
-    /// No container has the format's name.
-    #[error("UnknownName")]
-    UnknownName,
-    /// The command, a registry with containers, or the format isn't served yet.
+    /// A registry's text or FORMAT is refused.
+    #[error("{0}")]
+    Registry(RegistryFault),
+    /// The newer registry doesn't keep all that the older one has.
+    #[error("{0}")]
+    Growth(GrowthFault),
+    /// The format isn't served yet.
     #[error("NotYet")]
     NotYet,
-    /// Memory ran out.
-    #[error("OutOfMemory")]
-    OutOfMemory,
 }
 
 impl FrontFault {
     /// The answer to a job that is refused. Want of memory is no refusal.
     pub fn answer(self, alloc: Global) -> Result<Answer, AllocError>
-        ensures { IfOk result (λ a. (self ≢ FrontFault.OutOfMemory) × (a.status ≡ 2)
+        ensures { IfOk result (λ a. (self ≢ FrontFault.Registry OutOfMemory) × (a.status ≡ 2)
             × (a.output.items ≡ refusal_line (front_name self))) }
     {
         match self {
-            FrontFault::OutOfMemory => Err(AllocError),
+            FrontFault::Registry(RegistryFault::OutOfMemory) => Err(AllocError),
             _ => refused(alloc, self.name()),
         }
     }
@@ -45,24 +40,56 @@ impl FrontFault {
         ensures { result.now ≡ front_name self }
     {
         match self {
-            FrontFault::NotJson => "NotJson",
-            FrontFault::BadShape => "BadShape",
-            FrontFault::UnknownName => "UnknownName",
+            FrontFault::Registry(fault) => registry_name(fault),
+            FrontFault::Growth(fault) => growth_name(fault),
             FrontFault::NotYet => "NotYet",
-            FrontFault::OutOfMemory => "OutOfMemory",
         }
     }
 }
 
-impl From<TextFault> for FrontFault {
-    ghost use Rattle.bcs_tool.specs.Front.{front_fault_of};
+fn registry_name(fault: RegistryFault) -> &'static str
+    ensures { result.now ≡ registry_fault_name fault }
+{
+    match fault {
+        RegistryFault::NotJson => "NotJson",
+        RegistryFault::BadShape => "BadShape",
+        RegistryFault::BadNumber => "BadNumber",
+        RegistryFault::TooNested => "TooNested",
+        RegistryFault::RepeatedName => "RepeatedName",
+        RegistryFault::UnknownName => "UnknownName",
+        RegistryFault::OutOfMemory => "OutOfMemory",
+    }
+}
 
-    ghost from_gives = { λ fault result. result ≡ front_fault_of fault };
+fn growth_name(fault: GrowthFault) -> &'static str
+    ensures { result.now ≡ growth_fault_name fault }
+{
+    match fault {
+        GrowthFault::Missing => "Missing",
+        GrowthFault::Changed => "Changed",
+        GrowthFault::VariantMissing => "VariantMissing",
+        GrowthFault::VariantChanged => "VariantChanged",
+    }
+}
 
-    fn from(fault: TextFault) -> FrontFault {
-        match fault {
-            TextFault::NotJson => FrontFault::NotJson,
-            TextFault::OutOfMemory => FrontFault::OutOfMemory,
-        }
+impl From<RegistryFault> for FrontFault {
+    ghost use Rattle.std.specs.Prelude.{◌≡◌};
+    ghost use Rattle.bcs_tool.specs.declared.front_fault.FrontFault.TheVariants.{Registry};
+
+    ghost from_gives = { λ fault result. result ≡ Registry fault };
+
+    fn from(fault: RegistryFault) -> FrontFault {
+        FrontFault::Registry(fault)
+    }
+}
+
+impl From<GrowthFault> for FrontFault {
+    ghost use Rattle.std.specs.Prelude.{◌≡◌};
+    ghost use Rattle.bcs_tool.specs.declared.front_fault.FrontFault.TheVariants.{Growth};
+
+    ghost from_gives = { λ fault result. result ≡ Growth fault };
+
+    fn from(fault: GrowthFault) -> FrontFault {
+        FrontFault::Growth(fault)
     }
 }

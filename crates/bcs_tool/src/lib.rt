@@ -19,8 +19,6 @@ mod putting;
 mod reading;
 mod run_fault;
 mod running;
-mod scalar;
-mod served_format;
 mod taking;
 mod whole_number;
 mod work;
@@ -40,5 +38,7 @@ pub use work::{Outcome, Work};
 
 #[cfg(test)]
 mod line_tests;
+#[cfg(test)]
+mod registry_tests;
 #[cfg(test)]
 mod tests;

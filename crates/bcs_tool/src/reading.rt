@@ -1,23 +1,45 @@
 //! Reading a value's JSON text.
 ghost use Rattle.std.specs.Prelude.{◌≡◌, ◌≢◌, IfOk, IfErr};
 ghost use Rattle.serde_json.specs.View.{view};
-ghost use Rattle.bcs_tool.specs.Spelling.{Denotes, RefusesText, Spells, refusal};
+ghost use Rattle.bcs_registry.specs.View.{shape_of};
+ghost use Rattle.bcs_value.specs.Tree.{Tree};
+ghost use Rattle.bcs_value.specs.View.{tree_of};
+ghost use Rattle.bcs_tool.specs.Spelling.{Denotes, RefusesText, Spells, is_served, refusal};
 
 use crate::input_fault::InputFault;
 use crate::json_text::read_json;
 use crate::limits::NESTING_LIMIT;
 use crate::nesting::nests_within;
-use crate::scalar::Scalar;
-use crate::served_format::ServedFormat;
 use crate::whole_number::{read_signed, read_unsigned};
-use serde_json::Value;
+use bcs_num::Width;
+use bcs_registry::Format;
+use bcs_value::Value;
+use serde_json::Value as Json;
 use std::alloc::Global;
+
+/// Whether values of the format are read so far.
+pub fn is_served(format: &Format) -> bool
+    ensures { result ≡ is_served (shape_of format.now) }
+{
+    !matches!(
+        format,
+        Format::Str
+            | Format::Bytes
+            | Format::TypeName(_)
+            | Format::Opt(_)
+            | Format::Seq(_)
+            | Format::Map(_, _)
+            | Format::Tuple(_)
+            | Format::TupleArray(_, _)
+    )
+}
 
 /// The value that a text denotes at a format. The fault of the text comes first, then the nesting
 /// of the whole text, and then the fault of what it spells.
-pub fn read_text(alloc: Global, format: ServedFormat, text: &[u8]) -> Result<Scalar, InputFault>
-    ensures ok { IfOk result (Denotes format text.now) }
-    ensures fault { IfErr result (λ e. e ≢ InputFault.OutOfMemory → RefusesText format text.now e) }
+pub fn read_text(alloc: Global, format: &Format, text: &[u8]) -> Result<Value, InputFault>
+    ensures ok { IfOk result (λ v. Denotes (shape_of format.now) text.now (tree_of v)) }
+    ensures fault { IfErr result (λ e. e ≢ InputFault.OutOfMemory
+        → RefusesText (shape_of format.now) text.now e) }
 {
     let value = read_json(alloc, text)?;
     if !nests_within(&value, NESTING_LIMIT) {
@@ -27,28 +49,30 @@ pub fn read_text(alloc: Global, format: ServedFormat, text: &[u8]) -> Result<Sca
 }
 
 // The value that a JSON value spells at a format.
-fn read_value(format: ServedFormat, value: &Value) -> Result<Scalar, InputFault>
-    ensures ok { IfOk result (Spells format (view value.now)) }
-    ensures none { IfErr result (λ _. (v : Scalar) → ¬ Spells format (view value.now) v) }
-    ensures fault { IfErr result (λ e. e ≡ refusal format (view value.now)) }
+fn read_value(format: &Format, json: &Json) -> Result<Value, InputFault>
+    ensures ok { IfOk result (λ v. Spells (shape_of format.now) (view json.now) (tree_of v)) }
+    ensures none { IfErr result (λ _. (t : Tree) → ¬ Spells (shape_of format.now) (view json.now) t) }
+    ensures fault { IfErr result (λ e. e ≡ refusal (shape_of format.now) (view json.now)) }
 {
     match format {
-        ServedFormat::Unit => match value {
-            Value::Null => Ok(Scalar::Unit),
+        Format::Unit => match json {
+            Json::Null => Ok(Value::Unit),
             _ => Err(InputFault::BadShape),
         },
-        ServedFormat::Bool => match value {
-            Value::Bool(truth) => Ok(Scalar::Bool(*truth)),
+        Format::Bool => match json {
+            Json::Bool(truth) => Ok(Value::Bool(*truth)),
             _ => Err(InputFault::BadShape),
         },
-        ServedFormat::Unsigned(width) => {
-            let number = read_unsigned(width, value)?;
-            Ok(Scalar::Unsigned(width, number))
-        }
-        ServedFormat::Signed(width) => {
-            let number = read_signed(width, value)?;
-            Ok(Scalar::Signed(width, number))
-        }
-        ServedFormat::Unsupported => Err(InputFault::Unsupported),
+        Format::U8 => Ok(Value::Unsigned(read_unsigned(Width::W1, json)?)),
+        Format::U16 => Ok(Value::Unsigned(read_unsigned(Width::W2, json)?)),
+        Format::U32 => Ok(Value::Unsigned(read_unsigned(Width::W4, json)?)),
+        Format::U64 => Ok(Value::Unsigned(read_unsigned(Width::W8, json)?)),
+        Format::U128 => Ok(Value::Unsigned(read_unsigned(Width::W16, json)?)),
+        Format::I8 => Ok(Value::Signed(read_signed(Width::W1, json)?)),
+        Format::I16 => Ok(Value::Signed(read_signed(Width::W2, json)?)),
+        Format::I32 => Ok(Value::Signed(read_signed(Width::W4, json)?)),
+        Format::I64 => Ok(Value::Signed(read_signed(Width::W8, json)?)),
+        Format::I128 => Ok(Value::Signed(read_signed(Width::W16, json)?)),
+        _ => Err(InputFault::Unsupported),
     }
 }

@@ -3,8 +3,7 @@ ghost use Rattle.std.specs.Prelude.{◌≡◌, ◌⊎◌, ◌<◌, ◌+◌, ℕ,
 ghost use Rattle.bcs_encode.specs.Taking as sink;
 ghost use Rattle.bcs_decode.specs.Taking as source;
 ghost use Rattle.bcs_tool.specs.Answers.{Answers, IsContent, IsFaultNote, size_limit};
-ghost use Rattle.bcs_tool.specs.Front.{ReadsInput, RefusesEarly};
-ghost use Rattle.bcs_tool.specs.declared.front_fault.FrontFault.{FrontFault};
+ghost use Rattle.bcs_tool.specs.Front.{ReadsInput};
 
 use crate::answering::answer;
 use crate::putting::put_all;
@@ -28,8 +27,8 @@ pub fn run<S: ByteSource, K: ByteSink>(
         × sink.Took K.taken K.is_failed out.old out.new output) }
     ensures noted { result.status ≡ 4 → IsFaultNote result.note.now }
 
-    // A job that its own words refuse leaves the input as it was.
-    ensures untouched { (e : FrontFault) → RefusesEarly work.now e → input.new ≡ input.old }
+    // A job that has no input, or that its own words refuse, leaves the input as it was.
+    ensures untouched { ¬ ReadsInput work.now → input.new ≡ input.old }
     ensures read { result.note.now ≡ codes "fault: read" → ReadsInput work.now
         × (S.is_failed input.new ≡ true) × (out.new ≡ out.old) }
     ensures too_large { result.note.now ≡ codes "fault: too large" → ReadsInput work.now
@@ -70,7 +69,7 @@ fn perform<S: ByteSource, K: ByteSink>(
     ensures ok { IfOk result (λ status. (status < 3) × ((bytes : List ℕ) × (output : List ℕ)
         × IsContent (S.content input.old) bytes × Answers work.now bytes status output
         × sink.Took K.taken K.is_failed out.old out.new output)) }
-    ensures untouched { (e : FrontFault) → RefusesEarly work.now e → input.new ≡ input.old }
+    ensures untouched { ¬ ReadsInput work.now → input.new ≡ input.old }
     ensures read { result ≡ Err RunFault.Read → ReadsInput work.now
         × (S.is_failed input.new ≡ true) × (out.new ≡ out.old) }
     ensures too_large { result ≡ Err RunFault.TooLarge → ReadsInput work.now

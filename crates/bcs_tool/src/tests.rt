@@ -9,6 +9,7 @@ use crate::{Command, Job, Work};
 use bcs_decode::pieces::{PieceSource, RepeatSource};
 use bcs_decode::{ByteSource, SliceSource};
 use bcs_encode::pieces::PieceSink;
+use bcs_registry::{GrowthFault, RegistryFault};
 use std::alloc::{AllocError, Global};
 use std::fs;
 use std::test::Fail;
@@ -159,7 +160,14 @@ fn refuses_words_before_the_input(rt: HostRuntime) -> Result<(), Fail> {
     for (command, registry, format, name) in [
         (Command::Encode, "{", "x", "NotJson"),
         (Command::Encode, "[]", "\"U8", "BadShape"),
-        (Command::Encode, "{\"S\":\"UNITSTRUCT\"}", "x", "NotYet"),
+        (Command::Encode, "{\"S\":7}", "x", "BadShape"),
+        (
+            Command::Encode,
+            "{\"S\":\"UNITSTRUCT\"}",
+            "x",
+            "UnknownName",
+        ),
+        (Command::Encode, "{\"S\":\"UNITSTRUCT\"}", "S", "NotYet"),
         (Command::Encode, "{}", "S", "UnknownName"),
         (Command::Encode, "{}", "", "UnknownName"),
         (Command::Encode, "{}", " \"U8\"", "UnknownName"),
@@ -167,10 +175,15 @@ fn refuses_words_before_the_input(rt: HostRuntime) -> Result<(), Fail> {
         (Command::Encode, "{}", "{", "NotJson"),
         (Command::Encode, "{}", "\"STR\"", "NotYet"),
         (Command::Encode, "{}", "\"BYTES\"", "NotYet"),
-        (Command::Encode, "{}", "\"u8\"", "NotYet"),
+        (Command::Encode, "{}", "\"u8\"", "BadShape"),
         (Command::Encode, "{}", "{\"SEQ\":\"U8\"}", "NotYet"),
-        (Command::Check, "{}", "", "NotYet"),
-        (Command::Grows, "{}", "", "NotYet"),
+        (Command::Encode, "{}", "{\"TYPENAME\":\"S\"}", "UnknownName"),
+        (
+            Command::Encode,
+            "{}",
+            "{\"TUPLEARRAY\":{\"CONTENT\":\"U8\",\"SIZE\":-1}}",
+            "BadNumber",
+        ),
     ] {
         let work = work_of(alloc, command, registry, format, false)?;
         let mut input = PieceSource::new(b"tru", 1, Some(1));
@@ -342,11 +355,9 @@ fn faults_have_their_names(rt: HostRuntime) -> Result<(), Fail> {
         assert_eq!(rt; fault.note(), note);
     }
     for (fault, name) in [
-        (FrontFault::NotJson, "NotJson"),
-        (FrontFault::BadShape, "BadShape"),
-        (FrontFault::UnknownName, "UnknownName"),
+        (FrontFault::Registry(RegistryFault::BadShape), "BadShape"),
+        (FrontFault::Growth(GrowthFault::Missing), "Missing"),
         (FrontFault::NotYet, "NotYet"),
-        (FrontFault::OutOfMemory, "OutOfMemory"),
     ] {
         assert_eq!(rt; format!(in alloc; "{fault}")?.as_str(), name);
     }

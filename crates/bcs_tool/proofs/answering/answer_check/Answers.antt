@@ -1,0 +1,21 @@
+use Rattle.std.proofs.Common.{sym, subst, ◌∙◌, ap}
+use Rattle.std.proofs.lemmas.Result.{IfOk-weaker}
+use Rattle.bcs_tool.specs.Answers.{checked, count_line, refused_early, refusal_line}
+use Rattle.bcs_tool.specs.Front.{RefusesAt, front_name}
+use Rattle.bcs_tool.specs.declared.command.Command.{Command}
+use Rattle.bcs_tool.proofs.AnswerLemmas.{same_answer}
+use Rattle.bcs_tool.proofs.answering.answer_check.Goals as goal
+
+pub returns-in-Ok : goal.returns-in-Ok
+returns-in-Ok c =
+    let work = c.args.work.now in
+    let is = c.in-Ok.ensures.ok in
+    IfOk-weaker c.counted.result _ _ (λ a made bytes. same_answer work bytes 0 a.status _ a.output.items made.0 (made.1 ∙ ap count_line is.2)
+    (checked is.0 c.requires is.1)) c.counted.ensures
+
+pub returns-in-Err : goal.returns-in-Err
+returns-in-Err c =
+    let work = c.args.work.now in
+    let fault = c.in-Err.fault in
+    IfOk-weaker c.answer.result _ _ (λ a made bytes. same_answer work bytes 2 a.status (refusal_line (front_name fault)) a.output.items made.1 made.2
+    (refused_early fault (subst (λ (asked : Command). RefusesAt asked work fault) (sym c.requires) (c.in-Err.ensures.fault made.0)))) c.answer.ensures
