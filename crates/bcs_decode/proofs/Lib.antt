@@ -29,3 +29,4 @@ pub mod Streamed
 pub mod StreamedRows
 pub mod ValueViews
 pub mod Wholes
+pub mod Slices

@@ -1,6 +1,9 @@
 -- From what is seen of told bytes to what is promised.
-use Rattle.std.proofs.Common.{◌≡◌, ℕ, List, length, drop, Option, Some, None, Ok, Err, refl, sym, ap, ap₂, ◌∙◌, arith}
+use Rattle.std.proofs.Common.{◌≡◌, ◌<◌, ℕ, zero, suc, List, [], ◌∷◌, inl, inr, subst, length-drop, length, drop, Option, Some, None, Ok, Err, refl, sym, ap, ap₂, ◌∙◌, arith}
 use Rattle.std.proofs.lemmas.List.{drop_at}
+use Rattle.std.specs.Io.KnownBytes.{Consumes, IsAtEnd}
+use Rattle.bcs_decode.specs.Accepting.{Accepts}
+use Rattle.bcs_decode.specs.declared.reason.Reason.TheVariants.{TrailingBytes}
 use Rattle.bcs_registry.specs.Shape.{Shape}
 use Rattle.bcs_registry.specs.Container.{Entries}
 use Rattle.bcs_value.specs.Limits.{Bounds}
@@ -11,31 +14,39 @@ use Rattle.bcs_decode.specs.declared.streaming.at.At.{At}
 use Rattle.bcs_decode.specs.declared.decode_fault.DecodeFault.{DecodeFault}
 use Rattle.bcs_decode.specs.declared.decode_fault.DecodeFault.TheVariants.{Stop, Read, OutOfMemory}
 use Rattle.bcs_decode.specs.Sees.{Refuses, Left, Halts, read}
-use Rattle.bcs_decode.specs.Whole.{DecodesFrom}
+use Rattle.bcs_decode.specs.Whole.{DecodesAll, DecodesFrom, DecodesFront}
 use Rattle.bcs_decode.specs.Reading as Reading
 use Rattle.bcs_decode.specs.Reading.{read_value}
 use Rattle.bcs_decode.proofs.StreamedRows.{Found}
 use Rattle.bcs_decode.proofs.Values.{exact_value}
 use Rattle.bcs_decode.proofs.Verdicts.{reads_accepts}
 
+some_same : {x y : List ℕ} → Some x ≡ Some y → x ≡ y
+some_same h = cc
+
+drop-suc : (n : ℕ) (b : List ℕ) → drop (suc n) b ≡ drop 1 (drop n b)
+drop-suc zero b = refl
+drop-suc (suc n) [] = refl
+drop-suc (suc n) (x ∷ b) = drop-suc n b
+
 module _ (registry : Entries) (limits : Bounds) (s : Shape) where
   from_start : (p : At) → p.place ≡ 0 → p.nodes ≡ limits.nodes → (b : List ℕ) (x : Reading.Read Tree) → read registry limits.depth s p.place p.nodes b ≡ x → read_value registry limits s b ≡ x
   from_start p place nodes b x h = ap₂ (λ (o m : ℕ). read registry limits.depth s o m b) (sym place) (sym nodes) ∙ h
 
-  pub decoded : (c d : Option (List ℕ)) (v : Value) (p q : At) → p.place ≡ 0 → p.nodes ≡ limits.nodes → Found (tree_of v) (read registry limits.depth s) c d p q → DecodesFrom registry limits s c d (Ok v)
+  pub decoded : (c d : Option (List ℕ)) (v : Value) (p q : At) → p.place ≡ 0 → p.nodes ≡ limits.nodes → Found (tree_of v) (read registry limits.depth s) c d p q → DecodesFront registry limits s c d (Ok (v, q.place))
   decoded None d v p q place nodes h = tt
   decoded (Some b) None v p q place nodes h = let w = (h refl).1 in absurd cc
   decoded (Some b) (Some c) v p q place nodes h = λ bytes.
       (let e = from_start p place nodes b _ (h refl).0 in
       let t = (exact_value registry limits.depth s).ok 0 limits.nodes b (tree_of v) q.place q.nodes c bytes e in
       let l : length t.1 ≡ q.place = omega (arith, t.4) in
-      (q.place, reads_accepts registry limits s b (tree_of v) q.place q.nodes c bytes e, ap Some (sym (ap (drop q.place) t.3 ∙ drop_at t.1 c q.place l))))
+      (reads_accepts registry limits s b (tree_of v) q.place q.nodes c bytes e, ap Some (sym (ap (drop q.place) t.3 ∙ drop_at t.1 c q.place l))))
 
   told_rest : (n : ℕ) (b : List ℕ) (d : Option (List ℕ)) → Left b n d → d ≡ Some (drop n b)
   told_rest n b None l = absurd (let e = l.told in cc)
   told_rest n b (Some c) l = ap Some l.is
 
-  pub stopped : (c d : Option (List ℕ)) (x : DecodeFault) (p q : At) → p.place ≡ 0 → p.nodes ≡ limits.nodes → Refuses x c p (read registry limits.depth s) → Halts x c p d q → DecodesFrom registry limits s c d (Err x)
+  pub stopped : (c d : Option (List ℕ)) (x : DecodeFault) (p q : At) → p.place ≡ 0 → p.nodes ≡ limits.nodes → Refuses x c p (read registry limits.depth s) → Halts x c p d q → DecodesFront registry limits s c d (Err x)
   stopped None d x p q place nodes h k = tt
   stopped (Some b) d (Stop stop) p q place nodes h k = λ bytes.
       (let start : Left b p.place (Some b) = record { told = refl; within = omega arith; is = ap (λ i. drop i b) (sym place) } in
@@ -45,3 +56,45 @@ module _ (registry : Entries) (limits : Bounds) (s : Shape) where
       ))
   stopped (Some b) d Read p q place nodes h k = tt
   stopped (Some b) d OutOfMemory p q place nodes h k = tt
+
+  pub front_value : (c d : Option (List ℕ)) (r : Value × ℕ) → DecodesFront registry limits s c d (Ok r) → DecodesFrom registry limits s c d (Ok r.0)
+  front_value None d r h = tt
+  front_value (Some b) d r h = λ bytes. (r.1, (h bytes).0, (h bytes).1)
+
+  pub front_stop : (c d : Option (List ℕ)) (x : DecodeFault) → DecodesFront registry limits s c d (Err x) → DecodesFrom registry limits s c d (Err x)
+  front_stop None d x h = tt
+  front_stop (Some b) d (Stop stop) h = h
+  front_stop (Some b) d Read h = tt
+  front_stop (Some b) d OutOfMemory h = tt
+
+  pub all_stop : (c d : Option (List ℕ)) (x : DecodeFault) → DecodesFront registry limits s c d (Err x) → DecodesAll registry limits s c d (Err x)
+  all_stop None d x h = tt
+  all_stop (Some b) d (Stop stop) h = λ bytes. (inl (h bytes).0, inl (h bytes))
+  all_stop (Some b) d Read h = tt
+  all_stop (Some b) d OutOfMemory h = tt
+
+  -- the content ends where the value does
+  pub all_value : (c d e : Option (List ℕ)) (r : Value × ℕ) → DecodesFront registry limits s c d (Ok r) → Consumes d e [] → IsAtEnd e → DecodesAll registry limits s c e (Ok r.0)
+  all_value None d e r h k at = tt
+  all_value (Some b) None e r h k at = λ bytes. absurd (let w = (h bytes).1 in cc)
+  all_value (Some b) (Some x) None r h k at = absurd k
+  all_value (Some b) (Some x) (Some y) r h k at = λ bytes.
+      (let left : drop r.1 b ≡ [] = some_same (sym (h bytes).1) ∙ k ∙ at in
+      let whole : length b ≡ r.1 = omega (arith, (h bytes).0.within, length-drop r.1 b, ap length left) in
+      (subst (λ n. Accepts registry limits s b n (tree_of r.0)) (sym whole) (h bytes).0, ap Some at))
+
+  -- a byte comes after it
+  pub all_trails : (c d e : Option (List ℕ)) (r : Value × ℕ) (x : ℕ) → DecodesFront registry limits s c d (Ok r) → Consumes d e (x ∷ []) → DecodesAll registry limits s c e (Err (Stop (record { reason = TrailingBytes; place = r.1 })))
+  all_trails None d e r x h k = tt
+  all_trails (Some b) None e r x h k = λ bytes. absurd (let w = (h bytes).1 in cc)
+  all_trails (Some b) (Some z) None r x h k = absurd k
+  all_trails (Some b) (Some z) (Some y) r x h k = λ bytes.
+      (let left : drop r.1 b ≡ x ∷ y = some_same (sym (h bytes).1) ∙ k in
+      let more : r.1 < length b = omega (arith, (h bytes).0.within, length-drop r.1 b, ap length left) in
+      let next : drop (suc r.1) b ≡ y = drop-suc r.1 b ∙ ap (drop 1) left in
+      (inr (r.1, tree_of r.0, (h bytes).0, more, refl, refl), inr (record { reason = refl; value = tree_of r.0; accepted = (h bytes).0; after = more; gone = ap Some (sym next) })))
+
+  pub trails_by : (c d e : Option (List ℕ)) (r : Value × ℕ) (bs : List ℕ) → length bs ≡ 1 → DecodesFront registry limits s c d (Ok r) → Consumes d e bs → DecodesAll registry limits s c e (Err (Stop (record { reason = TrailingBytes; place = r.1 })))
+  trails_by c d e r [] len h k = absurd (omega (arith, len))
+  trails_by c d e r (x ∷ []) len h k = all_trails c d e r x h k
+  trails_by c d e r (x ∷ (y ∷ zs)) len h k = absurd (omega (arith, len))

@@ -12,3 +12,4 @@ pub mod Passing
 pub mod Filling
 pub mod Sees
 pub mod Whole
+pub mod Sliced

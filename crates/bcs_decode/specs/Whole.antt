@@ -1,5 +1,5 @@
 -- What decoding answers of a source.
-use Rattle.std.specs.Prelude.{◌≡◌, ◌≤◌, ℕ, List, length, drop, Option, Some, None, Result, Ok, Err}
+use Rattle.std.specs.Prelude.{◌≡◌, ◌<◌, ◌≤◌, ◌⊎◌, ℕ, suc, List, [], length, drop, Option, Some, None, Result, Ok, Err}
 use Rattle.bcs_registry.specs.Shape.{Shape}
 use Rattle.bcs_registry.specs.Container.{Entries}
 use Rattle.bcs_value.specs.Limits.{Bounds}
@@ -8,14 +8,48 @@ use Rattle.bcs_value.specs.declared.value.Value.{Value}
 use Rattle.bcs_decode.specs.declared.decode_fault.DecodeFault.{DecodeFault}
 use Rattle.bcs_decode.specs.declared.decode_fault.DecodeFault.TheVariants.{Stop, Read, OutOfMemory}
 use Rattle.bcs_decode.specs.Accepting.{Accepts}
-use Rattle.bcs_decode.specs.Stopping.{Stops}
+use Rattle.bcs_decode.specs.Stopping.{Stops, StopsAll}
+use Rattle.bcs_decode.specs.declared.stop.Stop as stop
+use Rattle.bcs_decode.specs.declared.reason.Reason.TheVariants.{TrailingBytes}
+use Rattle.bcs_value.specs.Tree.{Tree}
 use Rattle.bcs_decode.specs.Exact.{AreBytes}
+
+-- of told bytes a front is gone that isn't shorter than the place
+abbrev pub GoneTo : List ℕ → Option (List ℕ) → ℕ → Type 0
+GoneTo b rest place = (n : ℕ) × (place ≤ n) × (n ≤ length b) × (rest ≡ Some (drop n b))
+
+-- of bytes that are told: the value that is accepted and its length, whose bytes alone are gone; or the one stop; or
+-- another cause
+abbrev pub DecodesFront : Entries → Bounds → Shape → Option (List ℕ) → Option (List ℕ) → Result (Value × ℕ) DecodeFault → Type 0
+DecodesFront registry limits s None rest r = Unit {0}
+DecodesFront registry limits s (Some b) rest (Ok r) = AreBytes b → Accepts registry limits s b r.1 (tree_of r.0) × (rest ≡ Some (drop r.1 b))
+DecodesFront registry limits s (Some b) rest (Err (Stop stop)) = AreBytes b → Stops registry limits s b stop.reason stop.place × GoneTo b rest stop.place
+DecodesFront registry limits s (Some b) rest (Err Read) = Unit {0}
+DecodesFront registry limits s (Some b) rest (Err OutOfMemory) = Unit {0}
 
 -- of bytes that are told: the value that is accepted, whose bytes alone are gone; or the one stop, and of the bytes a
 -- front is gone that isn't shorter than its place; or another cause
 abbrev pub DecodesFrom : Entries → Bounds → Shape → Option (List ℕ) → Option (List ℕ) → Result Value DecodeFault → Type 0
 DecodesFrom registry limits s None rest r = Unit {0}
 DecodesFrom registry limits s (Some b) rest (Ok v) = AreBytes b → (n : ℕ) × Accepts registry limits s b n (tree_of v) × (rest ≡ Some (drop n b))
-DecodesFrom registry limits s (Some b) rest (Err (Stop stop)) = AreBytes b → Stops registry limits s b stop.reason stop.place × ((n : ℕ) × (stop.place ≤ n) × (n ≤ length b) × (rest ≡ Some (drop n b)))
+DecodesFrom registry limits s (Some b) rest (Err (Stop stop)) = AreBytes b → Stops registry limits s b stop.reason stop.place × GoneTo b rest stop.place
 DecodesFrom registry limits s (Some b) rest (Err Read) = Unit {0}
 DecodesFrom registry limits s (Some b) rest (Err OutOfMemory) = Unit {0}
+
+-- bytes come after a value that ends here; it is gone, and one byte more
+pub record Trails (registry : Entries) (limits : Bounds) (s : Shape) (b : List ℕ) (rest : Option (List ℕ)) (stop : stop.Stop) : Type 0 where
+  pub reason : stop.reason ≡ TrailingBytes
+  pub value : Tree
+  pub accepted : Accepts registry limits s b stop.place value
+  pub after : stop.place < length b
+  pub gone : rest ≡ Some (drop (suc stop.place) b)
+
+-- of bytes that are told: the value that all of them are; or the stop of the whole input, where a stop within the value
+-- is that of its front; or another cause
+abbrev pub DecodesAll : Entries → Bounds → Shape → Option (List ℕ) → Option (List ℕ) → Result Value DecodeFault → Type 0
+DecodesAll registry limits s None rest r = Unit {0}
+DecodesAll registry limits s (Some b) rest (Ok v) = AreBytes b → Accepts registry limits s b (length b) (tree_of v) × (rest ≡ Some [])
+DecodesAll registry limits s (Some b) rest (Err (Stop stop)) = AreBytes b → StopsAll registry limits s b stop.reason stop.place
+    × ((Stops registry limits s b stop.reason stop.place × GoneTo b rest stop.place) ⊎ Trails registry limits s b rest stop)
+DecodesAll registry limits s (Some b) rest (Err Read) = Unit {0}
+DecodesAll registry limits s (Some b) rest (Err OutOfMemory) = Unit {0}

@@ -3,10 +3,12 @@ ghost use Rattle.std.specs.Prelude.{◌≡◌, ◌≢◌, true, Err, IsErrOf};
 ghost use Rattle.bcs_registry.specs.View.{shape_of};
 ghost use Rattle.bcs_registry.specs.WellFormed.{Admits};
 ghost use Rattle.bcs_decode.specs.Sees.{takes_no_memory};
-ghost use Rattle.bcs_decode.specs.Whole.{DecodesFrom};
+ghost use Rattle.bcs_decode.specs.Whole.{DecodesAll, DecodesFrom, DecodesFront};
 
 use crate::decode_fault::DecodeFault;
+use crate::reason::Reason;
 use crate::source::ByteSource;
+use crate::stop::Stop;
 use crate::streaming::{At, value};
 use bcs_registry::{Format, Registry};
 use bcs_value::{Limits, Value};
@@ -24,6 +26,52 @@ pub fn decode_from<S: ByteSource>(
 ) -> Result<Value, DecodeFault>
     requires { Admits registry.now (shape_of format.now) }
     ensures told { DecodesFrom registry.now limits.now (shape_of format.now) (S.content source.old) (S.content source.new) result }
+    ensures read { IsErrOf result DecodeFault.Read → S.is_failed source.new ≡ true }
+    ensures memory { takes_no_memory (shape_of format.now) ≡ true → result ≢ Err DecodeFault.OutOfMemory }
+{
+    match front(alloc, registry, format, limits, source) {
+        Ok((value, _)) => Ok(value),
+        Err(fault) => Err(fault),
+    }
+}
+
+/// The canonical value that all of the source's content is. A byte after the value is taken, and refused as
+/// `TrailingBytes`. The other refusals are those of [`decode_from`](crate::decode_from).
+pub fn decode_all<S: ByteSource>(
+    alloc: Global,
+    registry: &Registry,
+    format: &Format,
+    limits: &Limits,
+    source: &mut S,
+) -> Result<Value, DecodeFault>
+    requires { Admits registry.now (shape_of format.now) }
+    ensures told { DecodesAll registry.now limits.now (shape_of format.now) (S.content source.old) (S.content source.new) result }
+    ensures read { IsErrOf result DecodeFault.Read → S.is_failed source.new ≡ true }
+    ensures memory { takes_no_memory (shape_of format.now) ≡ true → result ≢ Err DecodeFault.OutOfMemory }
+{
+    match front(alloc, registry, format, limits, source) {
+        Ok((value, length)) => match source.next(&mut [0]) {
+            Ok(0) => Ok(value),
+            Ok(_) => Err(DecodeFault::Stop(Stop {
+                reason: Reason::TrailingBytes,
+                place: length,
+            })),
+            Err(_) => Err(DecodeFault::Read),
+        },
+        Err(fault) => Err(fault),
+    }
+}
+
+// The value at the front, and how many bytes it has.
+fn front<S: ByteSource>(
+    alloc: Global,
+    registry: &Registry,
+    format: &Format,
+    limits: &Limits,
+    source: &mut S,
+) -> Result<(Value, u64), DecodeFault>
+    requires { Admits registry.now (shape_of format.now) }
+    ensures told { DecodesFront registry.now limits.now (shape_of format.now) (S.content source.old) (S.content source.new) result }
     ensures read { IsErrOf result DecodeFault.Read → S.is_failed source.new ≡ true }
     ensures memory { takes_no_memory (shape_of format.now) ≡ true → result ≢ Err DecodeFault.OutOfMemory }
 {
@@ -46,5 +94,5 @@ pub fn decode_from<S: ByteSource>(
         &mut at,
         &mut found,
     )?;
-    Ok(found)
+    Ok((found, at.place))
 }

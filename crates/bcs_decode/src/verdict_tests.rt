@@ -1,5 +1,7 @@
 use crate::pieces::{PieceSource, RepeatSource};
-use crate::{ByteSource, DecodeFault, Reason, Stop, decode_from, scan};
+use crate::{
+    ByteSource, DecodeFault, Reason, SliceSource, Stop, decode_all, decode_from, decode_slice, scan,
+};
 use bcs_encode::encode;
 use bcs_registry::{Format, Registry};
 use bcs_value::Limits;
@@ -64,6 +66,33 @@ fn accepts(
     for piece in PIECES {
         decodes(rt, &registry, &format, limits, bytes, piece, length)?;
     }
+    slices(rt, &registry, &format, limits, bytes, length)
+}
+
+// A slice gives a value of this length, and the whole input is one exactly if no byte follows.
+fn slices(
+    rt: &(impl Abort + AllocGlobal),
+    registry: &Registry,
+    format: &Format,
+    limits: &Limits,
+    bytes: &[u8],
+    length: usize,
+) -> Result<(), Fail> {
+    assert!(rt; registry.admits(format));
+    let (_, taken) = decode_slice(rt.alloc(), registry, format, limits, bytes)?;
+    assert_eq!(rt; taken, length, "{bytes:?}");
+    let mut source = SliceSource::new(bytes);
+    let all = decode_all(rt.alloc(), registry, format, limits, &mut source).err();
+    let trailing = Stop {
+        reason: Reason::TrailingBytes,
+        place: length as u64,
+    };
+    let wanted = if length == bytes.len() {
+        None
+    } else {
+        Some(DecodeFault::Stop(trailing))
+    };
+    assert_eq!(rt; all, wanted, "{bytes:?}");
     Ok(())
 }
 
@@ -106,15 +135,31 @@ fn stops(
         "{bytes:?}"
     );
     for piece in PIECES {
-        assert!(rt; 1 <= piece);
-        let mut source = PieceSource::new(bytes, piece, None);
-        let decoded = decode_from(alloc, &registry, &format, limits, &mut source).err();
-        assert_eq!(rt;
-            decoded,
-            Some(DecodeFault::Stop(stop)),
-            "{bytes:?} by {piece}"
-        );
+        refuses(rt, &registry, &format, limits, bytes, piece, stop)?;
     }
+    Ok(())
+}
+
+// Each decoding call answers this stop.
+fn refuses(
+    rt: &(impl Abort + AllocGlobal),
+    registry: &Registry,
+    format: &Format,
+    limits: &Limits,
+    bytes: &[u8],
+    piece: usize,
+    stop: Stop,
+) -> Result<(), Fail> {
+    assert!(rt; 1 <= piece && registry.admits(format));
+    let wanted = Some(DecodeFault::Stop(stop));
+    let mut source = PieceSource::new(bytes, piece, None);
+    let decoded = decode_from(rt.alloc(), registry, format, limits, &mut source).err();
+    assert_eq!(rt; decoded, wanted, "{bytes:?} by {piece}");
+    let mut source = PieceSource::new(bytes, piece, None);
+    let all = decode_all(rt.alloc(), registry, format, limits, &mut source).err();
+    assert_eq!(rt; all, wanted, "{bytes:?} by {piece}");
+    let sliced = decode_slice(rt.alloc(), registry, format, limits, bytes).err();
+    assert_eq!(rt; sliced, wanted, "{bytes:?}");
     Ok(())
 }
 

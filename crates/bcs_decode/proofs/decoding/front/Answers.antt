@@ -2,7 +2,7 @@ use Rattle.std.proofs.Common.{refl, false}
 use Rattle.std.proofs.lemmas.Result.{err_from_is_err_and}
 use Rattle.bcs_registry.specs.View.{shape_of}
 use Rattle.bcs_decode.proofs.Wholes.{decoded, stopped}
-use Rattle.bcs_decode.proofs.decoding.decode_from.Goals as goal
+use Rattle.bcs_decode.proofs.decoding.front.Goals as goal
 
 pub returns-in_err-value-clause-told : goal.returns-in_err-value-clause-told
 returns-in_err-value-clause-told g c =

@@ -1,0 +1,45 @@
+//! Values from slices.
+ghost use Rattle.std.specs.Prelude.{◌≡◌, ◌≢◌, ℕ, true, Err};
+ghost use Rattle.bcs_registry.specs.View.{shape_of};
+ghost use Rattle.bcs_registry.specs.WellFormed.{Admits};
+ghost use Rattle.bcs_decode.specs.Sees.{takes_no_memory};
+ghost use Rattle.bcs_decode.specs.Sliced.{DecodesSlice};
+ghost use Rattle.bcs_decode.specs.Stopping.{Stops};
+ghost use Rattle.bcs_decode.specs.declared.reason.Reason.{Reason};
+
+use crate::decode_fault::DecodeFault;
+use crate::decoding::decode_from;
+use crate::from_slice::scan;
+use crate::slice_source::SliceSource;
+use bcs_registry::{Format, Registry};
+use bcs_value::{Limits, Value};
+use std::alloc::Global;
+
+/// The canonical value of the format at the front of the input, and how many bytes it has.
+///
+/// A `Stop` is that of [`scan`](crate::scan), and is answered before memory is taken. `OutOfMemory` comes only where a
+/// value stands at the front, and never at `UNIT`, `BOOL` and whole numbers. `Read` never comes.
+pub fn decode_slice(
+    alloc: Global,
+    registry: &Registry,
+    format: &Format,
+    limits: &Limits,
+    bytes: &[u8],
+) -> Result<(Value, usize), DecodeFault>
+    requires { Admits registry.now (shape_of format.now) }
+    ensures decodes { DecodesSlice registry.now limits.now (shape_of format.now) bytes.now result }
+    ensures stopped { (e : Reason) (o : ℕ) → Stops registry.now limits.now (shape_of format.now) bytes.now e o
+        → result ≡ Err (DecodeFault.Stop (record { reason = e; place = o })) }
+    ensures memory { takes_no_memory (shape_of format.now) ≡ true → result ≢ Err DecodeFault.OutOfMemory }
+{
+    match scan(registry, format, limits, bytes) {
+        Ok(length) => {
+            let mut source = SliceSource::new(bytes);
+            match decode_from(alloc, registry, format, limits, &mut source) {
+                Ok(value) => Ok((value, length)),
+                Err(fault) => Err(fault),
+            }
+        }
+        Err(stop) => Err(DecodeFault::Stop(stop)),
+    }
+}
