@@ -1,11 +1,11 @@
 //! Copies of values.
-ghost use Rattle.std.specs.Prelude.{◌≡◌, ◌++◌, [], ◌∷◌, IfOk, OnOk, string_bytes};
-ghost use Rattle.bcs_value.specs.Tree.{bytes as bytes_tree, items as items_tree, named, pairs as pairs_tree, present, text as text_tree, variant};
+ghost use Rattle.std.specs.Prelude.{◌≡◌, IfOk, OnOk, string_bytes};
+ghost use Rattle.bcs_value.specs.Tree.{bytes as bytes_tree, items as items_tree, pairs as pairs_tree, text as text_tree};
 ghost use Rattle.bcs_value.specs.View.{entries_pairs, items_trees, tree_of};
 
+use crate::slot::{keep, keep_entry, put_items, put_pairs, wrap_named, wrap_present, wrap_variant};
 use crate::value::Value;
 use std::alloc::{AllocError, Global};
-use std::mem;
 
 impl Value {
     /// An equal value. The memory of a list or of a map is asked for once, by its length.
@@ -26,15 +26,15 @@ fn copy_to(value: &Value, slot: &mut Value, alloc: Global) -> Result<(), AllocEr
     match value {
         Value::Present(inner) => {
             copy_to(inner, slot, alloc)?;
-            wrap_present(slot, alloc)
+            wrap_present(alloc, slot)
         }
         Value::Named(inner) => {
             copy_to(inner, slot, alloc)?;
-            wrap_named(slot, alloc)
+            wrap_named(alloc, slot)
         }
         Value::Variant(number, inner) => {
             copy_to(inner, slot, alloc)?;
-            wrap_variant(*number, slot, alloc)
+            wrap_variant(alloc, *number, slot)
         }
         Value::Items(items) => copy_items(items, slot, alloc),
         Value::Pairs(pairs) => copy_pairs(pairs, slot, alloc),
@@ -57,7 +57,8 @@ fn copy_items(items: &[Value], slot: &mut Value, alloc: Global) -> Result<(), Al
         copy_to(item, slot, alloc)?;
         keep(&mut copies, slot)?;
     }
-    put(Value::Items(copies), slot)
+    put_items(alloc, slot, &mut copies);
+    Ok(())
 }
 
 #[cycle(copy)]
@@ -69,9 +70,10 @@ fn copy_pairs(pairs: &[(Value, Value)], slot: &mut Value, alloc: Global) -> Resu
         let mut copied = Value::Unit;
         copy_to(key, &mut copied, alloc)?;
         copy_to(value, slot, alloc)?;
-        keep_entry(&mut copies, copied, slot)?;
+        keep_entry(&mut copies, &mut copied, slot)?;
     }
-    put(Value::Pairs(copies), slot)
+    put_pairs(alloc, slot, &mut copies);
+    Ok(())
 }
 
 #[inline(never)]
@@ -95,49 +97,5 @@ fn copy_bytes(bytes: &Vec<u8>, slot: &mut Value) -> Result<(), AllocError>
     ensures { OnOk result (tree_of slot.new ≡ bytes_tree bytes.now.items) }
 {
     *slot = Value::Bytes(bytes.clone()?);
-    Ok(())
-}
-
-#[inline(never)]
-fn wrap_present(slot: &mut Value, alloc: Global) -> Result<(), AllocError>
-    ensures { OnOk result (tree_of slot.new ≡ present (tree_of slot.old)) }
-{
-    *slot = Value::Present(Box::new(alloc, mem::replace(slot, Value::Unit))?);
-    Ok(())
-}
-
-#[inline(never)]
-fn wrap_named(slot: &mut Value, alloc: Global) -> Result<(), AllocError>
-    ensures { OnOk result (tree_of slot.new ≡ named (tree_of slot.old)) }
-{
-    *slot = Value::Named(Box::new(alloc, mem::replace(slot, Value::Unit))?);
-    Ok(())
-}
-
-#[inline(never)]
-fn wrap_variant(number: u32, slot: &mut Value, alloc: Global) -> Result<(), AllocError>
-    ensures { OnOk result (tree_of slot.new ≡ variant number (tree_of slot.old)) }
-{
-    *slot = Value::Variant(number, Box::new(alloc, mem::replace(slot, Value::Unit))?);
-    Ok(())
-}
-
-#[inline(never)]
-fn keep(copies: &mut Vec<Value>, slot: &mut Value) -> Result<(), AllocError>
-    ensures { OnOk result (copies.new.items ≡ copies.old.items ++ slot.old ∷ []) }
-{
-    copies.push(mem::replace(slot, Value::Unit))?;
-    Ok(())
-}
-
-#[inline(never)]
-fn keep_entry(
-    copies: &mut Vec<(Value, Value)>,
-    key: Value,
-    slot: &mut Value,
-) -> Result<(), AllocError>
-    ensures { OnOk result (copies.new.items ≡ copies.old.items ++ (key, slot.old) ∷ []) }
-{
-    copies.push((key, mem::replace(slot, Value::Unit)))?;
     Ok(())
 }

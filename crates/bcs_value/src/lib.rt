@@ -10,6 +10,7 @@ pub mod laws;
 mod limits;
 mod nesting;
 mod sameness;
+pub mod slot;
 #[cfg(test)]
 mod tests;
 mod value;
