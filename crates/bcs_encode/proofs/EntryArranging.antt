@@ -5,12 +5,12 @@ use Rattle.std.specs.List.Sorted.{IsPermutation, IsSortedByKey}
 use Rattle.std.specs.Str.{bytes_eq}
 use Rattle.std.specs.Ordering.{nat_cmp}
 use Rattle.std.specs.Cmp.Lexicographic.{slice_cmp}
-use Rattle.std.proofs.lemmas.Bool.{cases_Bool, or_left, or_right, true≢false}
+use Rattle.std.proofs.lemmas.Bool.{cases_Bool, and_parts, or_left, or_right, true≢false}
 use Rattle.std.proofs.lemmas.List.Sorted.{IsPermutation-refl, IsPermutation-sym, IsPermutation-trans, IsPermutation-cons, IsPermutation-swap, IsPermutation-map}
 use Rattle.bcs_value.proofs.Equivalence.{bytes-same, bytes-refl}
 use Rattle.bcs_encode.specs.Canonical.{Below}
 use Rattle.bcs_encode.specs.Entries.{Entry, entry_bytes, EntriesRiseFrom, EntriesRise, HasTwins}
-use Rattle.bcs_encode.specs.Writing.{is_below, put_in_order, in_order, has_twins, entries_put}
+use Rattle.bcs_encode.specs.Writing.{is_below, put_in_order, in_order, has_twins, keys_rise, entries_put}
 use Rattle.bcs_encode.specs.declared.fault.EncodeFault.TheVariants.{RepeatedKey}
 use Rattle.bcs_encode.proofs.BelowLaws.{order, not_below, Below-is_lt}
 use Rattle.bcs_encode.proofs.Sorting.{rise_or_twins}
@@ -131,6 +131,24 @@ twins_put es rs b p twins = elim (in_order_rises_or_twins es) [
   | inl rises ↦ absurd (twins_twice rs twins
       (once_moved rs es (IsPermutation-sym es rs p) (once_moved es (in_order es) (in_order_moves es) (rising_once (in_order es) rises))))
 ]
+
+-- ---- entries that rise as they stand
+
+rise_from : (e : Entry) (es : List Entry) → keys_rise (e ∷ es) ≡ true → EntriesRiseFrom e.0 es
+rise_from e [] h = tt
+rise_from e (d ∷ es) h = let p = and_parts (is_below e.0 d.0) (keys_rise (d ∷ es)) h in ((Below-is_lt e.0 d.0).0 p.0, rise_from d es p.1)
+
+keys_rise_up : (es : List Entry) → keys_rise es ≡ true → EntriesRise es
+keys_rise_up [] h = tt
+keys_rise_up (e ∷ es) h = rise_from e es h
+
+pub rising_put : (es : List Entry) (b : List ℕ) → keys_rise es ≡ true → entries_put es b ≡ Ok (b ++ flat_map entry_bytes es)
+rising_put es b h = sorted_put es es b (IsPermutation-refl es) (keys_rise_up es h)
+
+pub few_rise : (es : List Entry) → length es ≤ 1 → keys_rise es ≡ true
+few_rise [] h = refl
+few_rise (e ∷ []) h = refl
+few_rise (e ∷ d ∷ es) h = absurd (omega arith)
 
 -- fewer than two entries
 pub few_no_twins : (es : List Entry) → length es ≤ 1 → has_twins es ≡ false

@@ -230,19 +230,37 @@ laid_keeps registry k v ps b d ss us h =
     let l = laid_entries registry k v ps b d ss us h in
     (omega (arith, ap length l.spans, length-append ss (spans_from (length b) l.es)), ap (take (length ss)) l.spans ∙ take-append_seam ss (spans_from (length b) l.es))
 
+-- the entries that the spans stand for, and what stood before them
+record Laid (b d : List ℕ) (es : List Entry) (ss us : List Span) : Type 0 where
+  entries : map (span_entry d) (drop (length ss) us) ≡ es
+  before : take (length b) d ≡ b
+
+laid : (registry : Entries) (k v : Shape) (ps : Pairs) (b d : List ℕ) (ss us : List Span) (l : LaidEntries registry k v ps b d ss us) → Laid b d l.es ss us
+laid registry k v ps b d ss us l =
+    let spans_are : drop (length ss) us ≡ spans_from (length b) l.es = ap (drop (length ss)) l.spans ∙ drop-append_seam ss (spans_from (length b) l.es) in
+    record {
+      entries = ap₂ (λ (x : List ℕ) (y : List Span). map (span_entry x) y) l.bytes spans_are ∙ spans_entries l.es b;
+      before = ap (take (length b)) l.bytes ∙ take-append_seam b (flat_map entry_bytes l.es);
+    }
+
+-- the bytes are what stood before, and then those of the spans in turn
+pub laid_whole : (registry : Entries) (k v : Shape) (ps : Pairs) (b d : List ℕ) (ss us : List Span) → entries_laid registry ps k v b ss ≡ Ok (d, us)
+    → take (length b) d ++ flat_map entry_bytes (map (span_entry d) (drop (length ss) us)) ≡ d
+laid_whole registry k v ps b d ss us h =
+    let l = laid_entries registry k v ps b d ss us h in
+    let parts = laid registry k v ps b d ss us l in
+    ap₂ (λ (x : List ℕ) (es : List Entry). x ++ flat_map entry_bytes es) parts.before parts.entries ∙ sym l.bytes
+
 -- a map whose entries were laid and then put in order
 pub laid_map : (registry : Entries) (k v : Shape) (ps : Pairs) (n : ℕ) (b c d : List ℕ) (ss us : List Span) → pair_count ps ≡ n → length_written n b ≡ Ok c → entries_laid registry ps k v c ss ≡ Ok (d, us)
     → written registry (tree.pairs ps) (of (shape.map k v)) b ≡ entries_put (map (span_entry d) (drop (length ss) us)) (take (length c) d)
 laid_map registry k v ps n b c d ss us count lengthed h =
     let l = laid_entries registry k v ps c d ss us h in
     let length_is : length_written (pair_count ps) b ≡ Ok c = ap (λ (m : ℕ). length_written m b) count ∙ lengthed in
-    let spans_are : drop (length ss) us ≡ spans_from (length c) l.es = ap (drop (length ss)) l.spans ∙ drop-append_seam ss (spans_from (length c) l.es) in
-    let entries_are : map (span_entry d) (drop (length ss) us) ≡ l.es =
-    ap₂ (λ (x : List ℕ) (y : List Span). map (span_entry x) y) l.bytes spans_are ∙ spans_entries l.es c in
-    let before_is : take (length c) d ≡ c = ap (take (length c)) l.bytes ∙ take-append_seam c (flat_map entry_bytes l.es) in
+    let parts = laid registry k v ps c d ss us l in
     ap (λ (u : Verdict). chain u (λ x. chain (entries_written registry ps k v []) (λ es. entries_put es x))) length_is
     ∙ ap (λ (u : Result (List Entry) EncodeFault). chain u (λ es. entries_put es c)) l.own
-    ∙ sym (ap₂ (λ (es : List Entry) (x : List ℕ). entries_put es x) entries_are before_is)
+    ∙ sym (ap₂ (λ (es : List Entry) (x : List ℕ). entries_put es x) parts.entries parts.before)
 
 -- a map with a part that has no bytes, or of which there are too many
 pub unlaid_map : (registry : Entries) (k v : Shape) (ps : Pairs) (n : ℕ) (b c : List ℕ) (ss : List Span) (e : EncodeFault) → pair_count ps ≡ n → length_written n b ≡ Ok c → entries_laid registry ps k v c ss ≡ Err e

@@ -9,6 +9,7 @@ pub mod Growth
 pub mod KeyedOrder
 pub mod LayingLaws
 pub mod LengthViews
+pub mod NumberViews
 pub mod Outcomes
 pub mod PrefixLaws
 pub mod Sorting

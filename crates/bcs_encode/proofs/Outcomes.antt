@@ -1,6 +1,5 @@
 -- What the verdict on a value that is sound besides its keys says of the value.
-use Rattle.std.proofs.Common.{◌≡◌, ℕ, true, List, [], sym, subst, ◌∙◌, Result, Ok, Err}
-use Rattle.std.specs.Prelude.{IfErr, IfOk, OnOk}
+use Rattle.std.proofs.Common.{◌≡◌, ℕ, true, List, [], sym, subst, ◌∙◌, Ok, Err}
 use Rattle.std.proofs.lemmas.Bool.{false≢true}
 use Rattle.bcs_registry.specs.Shape.{Shape}
 use Rattle.bcs_registry.specs.Container.{Entries, of}
@@ -10,11 +9,10 @@ use Rattle.bcs_value.specs.Same.{distinct}
 use Rattle.bcs_encode.specs.Encodes.{Encodes, IsForm}
 use Rattle.bcs_encode.specs.Plain.{plain}
 use Rattle.bcs_encode.specs.Refused.{IsSoundBesidesKeys, Refuses}
-use Rattle.bcs_encode.specs.Writing.{Verdict, Tells, written}
+use Rattle.bcs_encode.specs.Writing.{Verdict, written}
 use Rattle.bcs_encode.specs.declared.fault.EncodeFault.{EncodeFault}
 use Rattle.bcs_encode.specs.declared.fault.EncodeFault.TheVariants.{NotOfFormat, Unsupported, TooDeep, TooManyNodes, TooLong, RepeatedKey, OutOfMemory}
 use Rattle.bcs_encode.specs.Forming.{formed}
-use Rattle.bcs_encode.specs.Sound.{IsSound}
 use Rattle.bcs_encode.specs.FormOf.{form_of}
 use Rattle.bcs_encode.proofs.FormingLaws.{formed_is_form}
 use Rattle.bcs_encode.proofs.FormLaws.{form_of_is_form}
@@ -48,24 +46,10 @@ unwritten_refuses registry limits s t TooManyNodes h is = absurd (told_at regist
 unwritten_refuses registry limits s t TooLong h is = absurd (told_at registry limits s t (Err TooLong) h is)
 unwritten_refuses registry limits s t OutOfMemory h is = absurd (told_at registry limits s t (Err OutOfMemory) h is)
 
--- ---- what a call says that makes the form beside the bytes
-
-module _ {A : Type 0} (registry : Entries) (limits : Bounds) (s : Shape) (t : Tree) (h : IsSoundBesidesKeys registry limits s t) where
-  pub told_sound : (r : Result A EncodeFault) (new : List ℕ) → Tells r (written registry t (of s) []) new → OnOk r (IsSound registry limits s t)
-  told_sound (Ok a) new k = (written_encodes registry limits s t new h k).sound
-  told_sound (Err e) new k = tt
-
-  pub told_form : (view : A → Tree) (r : Result A EncodeFault) (new : List ℕ) → Tells r (written registry t (of s) []) new → IfOk r (λ a. view a ≡ formed registry t (of s)) → IfOk r (λ a. IsForm registry (of s) t (view a))
-  told_form view (Ok a) new k f =
-      let d : distinct t ≡ true = (written_encodes registry limits s t new h k).sound.distinct in
-      let is : view a ≡ form_of registry t (of s) = f ∙ formed_is_form registry t (of s) h.fit h.lengths d in
-      subst (IsForm registry (of s) t) (sym is) (form_of_is_form registry (of s) t h.fit d)
-  told_form view (Err e) new k f = tt
-
-  pub told_fault : (r : Result A EncodeFault) (new : List ℕ) → Tells r (written registry t (of s) []) new → IfErr r (λ e. (e ≡ OutOfMemory → ⊥) → Refuses registry limits s t e)
-  told_fault (Ok a) new k = tt
-  told_fault (Err e) new k = λ n. unwritten_refuses registry limits s t e h (k n)
-
-  pub told_memory : (r : Result A EncodeFault) → IfErr r (λ e. e ≡ OutOfMemory → IsSoundBesidesKeys registry limits s t)
-  told_memory (Ok a) = tt
-  told_memory (Err e) = λ n. h
+-- and what was formed beside it is the canonical form
+pub written_form : (registry : Entries) (limits : Bounds) (s : Shape) (t u : Tree) (b : List ℕ) → IsSoundBesidesKeys registry limits s t → written registry t (of s) [] ≡ Ok b
+    → u ≡ formed registry t (of s) → IsForm registry (of s) t u
+written_form registry limits s t u b h e f =
+    let d : distinct t ≡ true = (written_encodes registry limits s t b h e).sound.distinct in
+    let is : u ≡ form_of registry t (of s) = f ∙ formed_is_form registry t (of s) h.fit h.lengths d in
+    subst (IsForm registry (of s) t) (sym is) (form_of_is_form registry (of s) t h.fit d)

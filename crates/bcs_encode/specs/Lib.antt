@@ -17,3 +17,4 @@ pub mod Laying
 pub mod Wrote
 pub mod Forming
 pub mod FormedView
+pub mod NumberShape

@@ -1,6 +1,6 @@
 -- What the writing of a value makes of the bytes before it: those bytes with the value's after them, or a fault. These
 -- functions carry the proofs of the encoder; the public contracts name `Encodes` and `Refuses` alone.
-use Rattle.std.specs.Prelude.{◌≡◌, ℕ, ℤ, suc, ◌^◌, Bool, false, ◌||◌, ◌==◌, nat_lt, nat_le, if◌then◌else◌, List, [], ◌∷◌, ◌++◌, length, Result, Ok, Err}
+use Rattle.std.specs.Prelude.{◌≡◌, ℕ, ℤ, suc, ◌^◌, Bool, true, false, ◌||◌, ◌&&◌, ◌==◌, nat_lt, nat_le, if◌then◌else◌, List, [], ◌∷◌, ◌++◌, length, Result, Ok, Err}
 use Rattle.std.specs.List.{flat_map}
 use Rattle.std.specs.Str.{bytes_eq}
 use Rattle.std.specs.Int.{Width}
@@ -67,6 +67,12 @@ abbrev pub has_twins : List Entry → Bool
 has_twins [] = false
 has_twins (e ∷ []) = false
 has_twins (e ∷ d ∷ es) = bytes_eq e.0 d.0 || has_twins (d ∷ es)
+
+-- from each entry to the next, the keys' bytes rise
+abbrev pub keys_rise : List Entry → Bool
+keys_rise [] = true
+keys_rise (e ∷ []) = true
+keys_rise (e ∷ d ∷ es) = is_below e.0 d.0 && keys_rise (d ∷ es)
 
 unfoldable pub entries_put : List Entry → List ℕ → Verdict
 entries_put es b = if has_twins (in_order es) then Err RepeatedKey else Ok (b ++ flat_map entry_bytes (in_order es))

@@ -14,6 +14,8 @@ ghost use Rattle.bcs_encode.specs.Writing.{Tells};
 ghost use Rattle.bcs_encode.specs.declared.fault.EncodeFault.TheVariants.{OutOfMemory};
 
 use crate::fault::EncodeFault;
+use crate::number_format::NumberFormat;
+use crate::number_rows::put_numbers;
 use crate::putting::{put_byte, put_bytes, put_length, put_number, put_signed, put_unsigned};
 use crate::soundness::check_soundness;
 use crate::span::Span;
@@ -174,6 +176,9 @@ fn put_all(
     ensures tells { Tells result (spec.items_written registry.now (items_trees items.now) (shape_of element.now) work.old.out.items) work.new.out.items }
     ensures kept { OnOk result (work.new.spans.items ≡ work.old.spans.items) }
 {
+    if let Some(format) = NumberFormat::of(element) {
+        return put_numbers(format, items, &mut work.out);
+    }
     for item in items {
         put(item, element, registry, work)?;
     }

@@ -73,7 +73,7 @@ fn hex(alloc: Global, bytes: &[u8]) -> Result<String, AllocError> {
 }
 
 /// Both encoders give these bytes.
-fn gives(
+pub(crate) fn gives(
     rt: &(impl Abort + AllocGlobal),
     format: &str,
     value: &Value,

@@ -4,8 +4,8 @@ ghost use Rattle.std.specs.List.{flat_map};
 ghost use Rattle.std.specs.List.Sorted.{IsPermutation, IsSortedByKey};
 ghost use Rattle.std.specs.Ordering.{nat_cmp};
 ghost use Rattle.std.specs.Cmp.Lexicographic.{slice_cmp};
-ghost use Rattle.bcs_value.specs.Tree.{Tree};
-ghost use Rattle.bcs_value.specs.View.{tree_of};
+ghost use Rattle.bcs_value.specs.Tree.{Tree, pairs as pairs_tree};
+ghost use Rattle.bcs_value.specs.View.{pairs_of, tree_of};
 ghost use Rattle.bcs_encode.specs.Entries.{entry_bytes};
 ghost use Rattle.bcs_encode.specs.FormedView.{bytes_entry, keyed_of};
 ghost use Rattle.bcs_encode.specs.Forming.{pairs_in_order};
@@ -14,23 +14,29 @@ ghost use Rattle.bcs_encode.specs.Writing.{Tells, entries_put, has_twins};
 use crate::fault::EncodeFault;
 use crate::formed_entry::FormedEntry;
 use bcs_value::Value;
+use bcs_value::slot::put_pairs;
 use std::alloc::{AllocError, Global};
 
-/// Appends the entries' bytes by rising keys, and gives the entries in that order; or refuses two with one key.
+/// Appends the entries' bytes by rising keys, and leaves the map of the entries in that order in the slot; or refuses two
+/// with one key.
+#[inline(never)]
 pub(crate) fn order_entries(
     mut entries: Vec<FormedEntry>,
     alloc: Global,
     out: &mut Vec<u8>,
-) -> Result<Vec<(Value, Value)>, EncodeFault>
+    slot: &mut Value,
+) -> Result<(), EncodeFault>
     ensures tells { Tells result (entries_put (map bytes_entry entries.items) out.old.items) out.new.items }
-    ensures formed { IfOk result (λ ps. map {B = Tree × Tree} (λ p. (tree_of p.0, tree_of p.1)) ps.items ≡ pairs_in_order (map keyed_of entries.items)) }
+    ensures formed { OnOk result (tree_of slot.new ≡ pairs_tree (pairs_of (pairs_in_order (map keyed_of entries.items)))) }
 {
     sort_by_keys(&mut entries)?;
     if have_equal_neighbours(&entries) {
         return Err(EncodeFault::RepeatedKey);
     }
     append_bytes(&entries, out)?;
-    Ok(values_of(entries, alloc)?)
+    let mut pairs = values_of(entries, alloc)?;
+    put_pairs(alloc, slot, &mut pairs);
+    Ok(())
 }
 
 fn sort_by_keys(entries: &mut Vec<FormedEntry>) -> Result<(), AllocError>

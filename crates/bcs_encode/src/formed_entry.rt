@@ -1,7 +1,9 @@
 //! An entry of a map in canonical form.
+ghost use Rattle.std.specs.Prelude.{◌≡◌, ◌∷◌, ◌++◌, [], IfOk, OnOk};
 
 use crate::entry_bytes::EntryBytes;
 use bcs_value::Value;
+use std::alloc::{AllocError, Global};
 
 /// The canonical key and value of an entry, with their bytes.
 #[derive(Drop)]
@@ -9,4 +11,37 @@ pub(crate) struct FormedEntry {
     pub(crate) bytes: EntryBytes,
     pub(crate) key: Value,
     pub(crate) value: Value,
+}
+
+impl FormedEntry {
+    /// An entry that is still to be formed: it has no bytes. It stands on the heap, so that a level of maps takes little of
+    /// the stack.
+    #[inline(never)]
+    pub(crate) fn unformed(alloc: Global) -> Result<Box<FormedEntry>, AllocError>
+        ensures key { IfOk result (λ e. e.value.bytes.key.items ≡ []) }
+        ensures value { IfOk result (λ e. e.value.bytes.value.items ≡ []) }
+    {
+        let entry = FormedEntry {
+            bytes: EntryBytes {
+                key: Vec::new(alloc),
+                value: Vec::new(alloc),
+            },
+            key: Value::Unit,
+            value: Value::Unit,
+        };
+        Ok(Box::new(alloc, entry)?)
+    }
+}
+
+/// Moves an entry to the end of those before. It stands outside the walk that forms them, so that the frames of its calls
+/// stay small.
+#[inline(never)]
+pub(crate) fn keep_formed(
+    entries: &mut Vec<FormedEntry>,
+    entry: Box<FormedEntry>,
+) -> Result<(), AllocError>
+    ensures { OnOk result (entries.new.items ≡ entries.old.items ++ entry.value ∷ []) }
+{
+    entries.push(Box::into_inner(entry))?;
+    Ok(())
 }

@@ -1,11 +1,12 @@
-//! The canonical form of a value, made together with its bytes, by which the entries of maps are ordered.
-ghost use Rattle.std.specs.Prelude.{◌≡◌, ◌≢◌, [], IfErr, IfOk, OnOk, map};
-ghost use Rattle.bcs_registry.specs.Container.{of, content, field_shapes, payload_shape};
+//! The canonical form of a value, made together with its bytes, by which the entries of maps are ordered. Each value is
+//! formed in the caller's slot, so that a level of a deep value needs little of the stack.
+ghost use Rattle.std.specs.Prelude.{◌≡◌, ◌≢◌, ◌++◌, ◌∷◌, [], IfErr, IfOk, OnOk, map};
+ghost use Rattle.bcs_registry.specs.Container.{of, content, content_at, field_shapes, payload_shape};
 ghost use Rattle.bcs_registry.specs.Shape.{map as map_shape, tuple};
 ghost use Rattle.bcs_registry.specs.View.{container_of, field_of, formats_shapes, payload_of, shape_of};
 ghost use Rattle.bcs_registry.specs.WellFormed.{Admits};
-ghost use Rattle.bcs_value.specs.Tree.{Tree, items as items_tree, pairs as pairs_tree};
-ghost use Rattle.bcs_value.specs.View.{entries_pairs, items_trees, tree_of};
+ghost use Rattle.bcs_value.specs.Tree.{items as items_tree, named, pairs as pairs_tree, present, unit};
+ghost use Rattle.bcs_value.specs.View.{entries_pairs, items_trees, pairs_of, tree_of, trees_of};
 ghost use Rattle.bcs_encode.specs.Encodes.{IsForm};
 ghost use Rattle.bcs_encode.specs.FormedView.{bytes_entry, keyed_of};
 ghost use Rattle.bcs_encode.specs.Forming.{each_formed, formed, items_formed, keyed_formed, pairs_in_order};
@@ -16,14 +17,13 @@ ghost use Rattle.bcs_encode.specs.Writing.{Tells};
 ghost use Rattle.bcs_encode.specs.declared.fault.EncodeFault.TheVariants.{OutOfMemory};
 
 use crate::by_entries::put;
-use crate::entry_bytes::EntryBytes;
 use crate::fault::EncodeFault;
 use crate::formed_entries::order_entries;
-use crate::formed_entry::FormedEntry;
+use crate::formed_entry::{FormedEntry, keep_formed};
 use crate::putting::{put_byte, put_length, put_number};
 use crate::soundness::check_soundness;
-use crate::wrapping::{keep, wrap_named, wrap_present, wrap_variant};
 use bcs_registry::{Container, Format, Named, Registry, VariantFormat};
+use bcs_value::slot::{keep, put_items, wrap_named, wrap_present, wrap_variant};
 use bcs_value::{Limits, Value};
 use std::alloc::Global;
 
@@ -43,58 +43,56 @@ pub fn canonicalise(
 {
     check_soundness(registry, format, limits, value)?;
     let mut out = Vec::new(alloc);
-    form(value, format, registry, alloc, &mut out)
+    let mut slot = Value::Unit;
+    form(value, format, registry, alloc, &mut out, &mut slot)?;
+    Ok(slot)
 }
 
-/// A value's form, and appends its bytes.
+/// Leaves a value's form in the slot, and appends its bytes.
 #[cycle(forming)]
+#[inline(always)]
 fn form(
     value: &Value,
     format: &Format,
     registry: &Registry,
     alloc: Global,
     out: &mut Vec<u8>,
-) -> Result<Value, EncodeFault>
+    slot: &mut Value,
+) -> Result<(), EncodeFault>
     ensures tells { Tells result (spec.written registry.now (tree_of value.now) (of (shape_of format.now)) out.old.items) out.new.items }
-    ensures formed { IfOk result (λ v. tree_of v ≡ formed registry.now (tree_of value.now) (of (shape_of format.now))) }
+    ensures formed { OnOk result (tree_of slot.new ≡ formed registry.now (tree_of value.now) (of (shape_of format.now))) }
 {
     match (value, format) {
         (_, Format::F32 | Format::F64 | Format::Char) => Err(EncodeFault::NotOfFormat),
-        (Value::Unit, _) => form_plain(value, format, registry, alloc, out),
-        (Value::Bool(_), _) => form_plain(value, format, registry, alloc, out),
-        (Value::Unsigned(_), _) => form_plain(value, format, registry, alloc, out),
-        (Value::Signed(_), _) => form_plain(value, format, registry, alloc, out),
-        (Value::Text(_), _) => form_plain(value, format, registry, alloc, out),
-        (Value::Bytes(_), _) => form_plain(value, format, registry, alloc, out),
-        (Value::Absent, _) => form_plain(value, format, registry, alloc, out),
+        (Value::Unit, _) => form_plain(value, format, registry, alloc, out, slot),
+        (Value::Bool(_), _) => form_plain(value, format, registry, alloc, out, slot),
+        (Value::Unsigned(_), _) => form_plain(value, format, registry, alloc, out, slot),
+        (Value::Signed(_), _) => form_plain(value, format, registry, alloc, out, slot),
+        (Value::Text(_), _) => form_plain(value, format, registry, alloc, out, slot),
+        (Value::Bytes(_), _) => form_plain(value, format, registry, alloc, out, slot),
+        (Value::Absent, _) => form_plain(value, format, registry, alloc, out, slot),
         (Value::Present(inner), Format::Opt(content)) => {
-            put_byte(1, out)?;
-            let inside = form(inner, content, registry, alloc, out)?;
-            Ok(wrap_present(alloc, inside)?)
+            form_present(inner, content, registry, alloc, out, slot)
         }
         (Value::Items(items), Format::Seq(element)) => {
             put_length(items.len(), out)?;
-            Ok(Value::Items(form_all(items, element, registry, alloc, out)?))
+            form_all(items, element, registry, alloc, out, slot)
         }
         (Value::Items(items), Format::Tuple(formats)) => {
-            Ok(Value::Items(form_each(items, formats, registry, alloc, out)?))
+            form_each(items, formats, registry, alloc, out, slot)
         }
         (Value::Items(items), Format::TupleArray(element, size)) => {
             if items.len() as u64 != *size {
                 return Err(EncodeFault::NotOfFormat);
             }
-            Ok(Value::Items(form_all(items, element, registry, alloc, out)?))
+            form_all(items, element, registry, alloc, out, slot)
         }
         (Value::Pairs(pairs), Format::Map(key, value)) => {
-            Ok(Value::Pairs(form_map(pairs, key, value, registry, alloc, out)?))
+            form_map(pairs, key, value, registry, alloc, out, slot)
         }
-        (Value::Named(inner), Format::TypeName(name)) => match registry.container(name.as_str()) {
-            Some(container) => {
-                let inside = form_content(inner, container, registry, alloc, out)?;
-                Ok(wrap_named(alloc, inside)?)
-            }
-            None => Err(EncodeFault::NotOfFormat),
-        },
+        (Value::Named(inner), Format::TypeName(name)) => {
+            form_named(inner, name.as_str(), registry, alloc, out, slot)
+        }
         _ => Err(EncodeFault::NotOfFormat),
     }
 }
@@ -107,12 +105,66 @@ fn form_plain(
     registry: &Registry,
     alloc: Global,
     out: &mut Vec<u8>,
-) -> Result<Value, EncodeFault>
+    slot: &mut Value,
+) -> Result<(), EncodeFault>
     ensures tells { Tells result (spec.written registry.now (tree_of value.now) (of (shape_of format.now)) out.old.items) out.new.items }
-    ensures same { IfOk result (λ v. tree_of v ≡ tree_of value.now) }
+    ensures same { OnOk result (tree_of slot.new ≡ tree_of value.now) }
 {
     put(value, format, registry, alloc, out)?;
-    Ok(value.copy(alloc)?)
+    *slot = value.copy(alloc)?;
+    Ok(())
+}
+
+/// The form of a unit struct's content, or of what a unit variant carries.
+#[inline(never)]
+fn form_unit(slot: &mut Value)
+    ensures { tree_of slot.new ≡ unit }
+{
+    *slot = Value::Unit;
+}
+
+/// The form of an option with this value.
+#[cycle(forming)]
+#[inline(never)]
+fn form_present(
+    inner: &Value,
+    content: &Format,
+    registry: &Registry,
+    alloc: Global,
+    out: &mut Vec<u8>,
+    slot: &mut Value,
+) -> Result<(), EncodeFault>
+    ensures tells { Tells result (spec.written registry.now (tree_of inner.now) (of (shape_of content.now)) (out.old.items ++ 1 ∷ [])) out.new.items }
+    ensures formed { OnOk result (tree_of slot.new ≡ present (formed registry.now (tree_of inner.now) (of (shape_of content.now)))) }
+{
+    put_byte(1, out)?;
+    form(inner, content, registry, alloc, out, slot)?;
+    wrap_present(alloc, slot)?;
+    Ok(())
+}
+
+/// The form of a value of the container that has this name.
+#[cycle(forming)]
+#[inline(never)]
+fn form_named(
+    inner: &Value,
+    name: &str,
+    registry: &Registry,
+    alloc: Global,
+    out: &mut Vec<u8>,
+    slot: &mut Value,
+) -> Result<(), EncodeFault>
+    ensures tells { Tells result (spec.written registry.now (tree_of inner.now) (content_at name.now registry.now) out.old.items) out.new.items }
+    ensures formed { OnOk result (tree_of slot.new ≡ named (formed registry.now (tree_of inner.now) (content_at name.now registry.now))) }
+{
+    match registry.container(name) {
+        Some(container) => {
+            form_content(inner, container, registry, alloc, out, slot)?;
+            wrap_named(alloc, slot)?;
+            Ok(())
+        }
+        None => Err(EncodeFault::NotOfFormat),
+    }
 }
 
 /// The form of what stands in a container.
@@ -124,25 +176,30 @@ fn form_content(
     registry: &Registry,
     alloc: Global,
     out: &mut Vec<u8>,
-) -> Result<Value, EncodeFault>
+    slot: &mut Value,
+) -> Result<(), EncodeFault>
     ensures tells { Tells result (spec.written registry.now (tree_of value.now) (content (container_of container.now)) out.old.items) out.new.items }
-    ensures formed { IfOk result (λ v. tree_of v ≡ formed registry.now (tree_of value.now) (content (container_of container.now))) }
+    ensures formed { OnOk result (tree_of slot.new ≡ formed registry.now (tree_of value.now) (content (container_of container.now))) }
 {
     match (container, value) {
-        (Container::UnitStruct, Value::Unit) => Ok(Value::Unit),
-        (Container::NewTypeStruct(format), _) => form(value, format, registry, alloc, out),
+        (Container::UnitStruct, Value::Unit) => {
+            form_unit(slot);
+            Ok(())
+        }
+        (Container::NewTypeStruct(format), _) => form(value, format, registry, alloc, out, slot),
         (Container::TupleStruct(formats), Value::Items(items)) => {
-            Ok(Value::Items(form_each(items, formats, registry, alloc, out)?))
+            form_each(items, formats, registry, alloc, out, slot)
         }
         (Container::Struct(fields), Value::Items(items)) => {
-            Ok(Value::Items(form_fields(items, fields, registry, alloc, out)?))
+            form_fields(items, fields, registry, alloc, out, slot)
         }
         (Container::Enum(variants), Value::Variant(number, inner)) => {
             put_number(*number, out)?;
             match variants.get(number) {
                 Some(variant) => {
-                    let inside = form_payload(inner, &variant.value, registry, alloc, out)?;
-                    Ok(wrap_variant(alloc, *number, inside)?)
+                    form_payload(inner, &variant.value, registry, alloc, out, slot)?;
+                    wrap_variant(alloc, *number, slot)?;
+                    Ok(())
                 }
                 None => Err(EncodeFault::NotOfFormat),
             }
@@ -160,18 +217,22 @@ fn form_payload(
     registry: &Registry,
     alloc: Global,
     out: &mut Vec<u8>,
-) -> Result<Value, EncodeFault>
+    slot: &mut Value,
+) -> Result<(), EncodeFault>
     ensures tells { Tells result (spec.written registry.now (tree_of value.now) (of (payload_shape (payload_of payload.now))) out.old.items) out.new.items }
-    ensures formed { IfOk result (λ v. tree_of v ≡ formed registry.now (tree_of value.now) (of (payload_shape (payload_of payload.now)))) }
+    ensures formed { OnOk result (tree_of slot.new ≡ formed registry.now (tree_of value.now) (of (payload_shape (payload_of payload.now)))) }
 {
     match (payload, value) {
-        (VariantFormat::Unit, Value::Unit) => Ok(Value::Unit),
-        (VariantFormat::NewType(format), _) => form(value, format, registry, alloc, out),
+        (VariantFormat::Unit, Value::Unit) => {
+            form_unit(slot);
+            Ok(())
+        }
+        (VariantFormat::NewType(format), _) => form(value, format, registry, alloc, out, slot),
         (VariantFormat::Tuple(formats), Value::Items(items)) => {
-            Ok(Value::Items(form_each(items, formats, registry, alloc, out)?))
+            form_each(items, formats, registry, alloc, out, slot)
         }
         (VariantFormat::Struct(fields), Value::Items(items)) => {
-            Ok(Value::Items(form_fields(items, fields, registry, alloc, out)?))
+            form_fields(items, fields, registry, alloc, out, slot)
         }
         _ => Err(EncodeFault::NotOfFormat),
     }
@@ -186,15 +247,19 @@ fn form_all(
     registry: &Registry,
     alloc: Global,
     out: &mut Vec<u8>,
-) -> Result<Vec<Value>, EncodeFault>
+    slot: &mut Value,
+) -> Result<(), EncodeFault>
     ensures tells { Tells result (spec.items_written registry.now (items_trees items.now) (shape_of element.now) out.old.items) out.new.items }
-    ensures formed { IfOk result (λ vs. map tree_of vs.items ≡ items_formed registry.now (items_trees items.now) (shape_of element.now) []) }
+    ensures formed { OnOk result (tree_of slot.new
+        ≡ items_tree (trees_of (items_formed registry.now (items_trees items.now) (shape_of element.now) []))) }
 {
     let mut forms = Vec::with_capacity(alloc, items.len())?;
     for item in items {
-        keep(form(item, element, registry, alloc, out)?, &mut forms)?;
+        form(item, element, registry, alloc, out, slot)?;
+        keep(&mut forms, slot)?;
     }
-    Ok(forms)
+    put_items(alloc, slot, &mut forms);
+    Ok(())
 }
 
 /// The forms of the elements of a tuple.
@@ -207,18 +272,22 @@ fn form_each(
     registry: &Registry,
     alloc: Global,
     out: &mut Vec<u8>,
-) -> Result<Vec<Value>, EncodeFault>
+    slot: &mut Value,
+) -> Result<(), EncodeFault>
     ensures tells { Tells result (spec.written registry.now (items_tree (items_trees items.now)) (of (tuple (formats_shapes formats.now))) out.old.items) out.new.items }
-    ensures formed { IfOk result (λ vs. map tree_of vs.items ≡ each_formed registry.now (items_trees items.now) (formats_shapes formats.now) []) }
+    ensures formed { OnOk result (tree_of slot.new
+        ≡ items_tree (trees_of (each_formed registry.now (items_trees items.now) (formats_shapes formats.now) []))) }
 {
     if items.len() != formats.len() {
         return Err(EncodeFault::NotOfFormat);
     }
     let mut forms = Vec::with_capacity(alloc, items.len())?;
     for (i, item) in items.iter().enumerate() {
-        keep(form(item, &formats[i], registry, alloc, out)?, &mut forms)?;
+        form(item, &formats[i], registry, alloc, out, slot)?;
+        keep(&mut forms, slot)?;
     }
-    Ok(forms)
+    put_items(alloc, slot, &mut forms);
+    Ok(())
 }
 
 /// The forms of the fields of a struct.
@@ -231,21 +300,22 @@ fn form_fields(
     registry: &Registry,
     alloc: Global,
     out: &mut Vec<u8>,
-) -> Result<Vec<Value>, EncodeFault>
+    slot: &mut Value,
+) -> Result<(), EncodeFault>
     ensures tells { Tells result (spec.written registry.now (items_tree (items_trees items.now)) (of (tuple (field_shapes (map field_of fields.now)))) out.old.items) out.new.items }
-    ensures formed { IfOk result (λ vs. map tree_of vs.items ≡ each_formed registry.now (items_trees items.now) (field_shapes (map field_of fields.now)) []) }
+    ensures formed { OnOk result (tree_of slot.new
+        ≡ items_tree (trees_of (each_formed registry.now (items_trees items.now) (field_shapes (map field_of fields.now)) []))) }
 {
     if items.len() != fields.len() {
         return Err(EncodeFault::NotOfFormat);
     }
     let mut forms = Vec::with_capacity(alloc, items.len())?;
     for (i, item) in items.iter().enumerate() {
-        keep(
-            form(item, &fields[i].value, registry, alloc, out)?,
-            &mut forms,
-        )?;
+        form(item, &fields[i].value, registry, alloc, out, slot)?;
+        keep(&mut forms, slot)?;
     }
-    Ok(forms)
+    put_items(alloc, slot, &mut forms);
+    Ok(())
 }
 
 /// The forms of a map's entries, in the order of their keys' bytes.
@@ -258,17 +328,18 @@ fn form_map(
     registry: &Registry,
     alloc: Global,
     out: &mut Vec<u8>,
-) -> Result<Vec<(Value, Value)>, EncodeFault>
+    slot: &mut Value,
+) -> Result<(), EncodeFault>
     ensures tells { Tells result
         (spec.written registry.now (pairs_tree (entries_pairs pairs.now)) (of (map_shape (shape_of key.now) (shape_of value.now))) out.old.items)
         out.new.items }
-    ensures formed { IfOk result (λ ps. map {B = Tree × Tree} (λ p. (tree_of p.0, tree_of p.1)) ps.items
-        ≡ pairs_in_order (keyed_formed registry.now (entries_pairs pairs.now) (shape_of key.now) (shape_of value.now) [])) }
+    ensures formed { OnOk result (tree_of slot.new
+        ≡ pairs_tree (pairs_of (pairs_in_order (keyed_formed registry.now (entries_pairs pairs.now) (shape_of key.now) (shape_of value.now) [])))) }
 {
     put_length(pairs.len(), out)?;
     let mut entries = Vec::new(alloc);
     form_entries(pairs, key, value, registry, alloc, &mut entries)?;
-    order_entries(entries, alloc, out)
+    order_entries(entries, alloc, out, slot)
 }
 
 /// Appends the forms of a map's entries to those before, in the order of the pairs.
@@ -289,18 +360,25 @@ fn form_entries(
         ≡ keyed_formed registry.now (entries_pairs pairs.now) (shape_of key.now) (shape_of value.now) (map keyed_of entries.old.items)) }
 {
     for (k, v) in pairs {
-        let mut key_bytes = Vec::new(alloc);
-        let formed_key = form(k, key, registry, alloc, &mut key_bytes)?;
-        let mut value_bytes = Vec::new(alloc);
-        let formed_value = form(v, value, registry, alloc, &mut value_bytes)?;
-        entries.push(FormedEntry {
-            bytes: EntryBytes {
-                key: key_bytes,
-                value: value_bytes,
-            },
-            key: formed_key,
-            value: formed_value,
-        })?;
+        let mut entry = FormedEntry::unformed(alloc)?;
+        let formed = &mut *entry;
+        form(
+            k,
+            key,
+            registry,
+            alloc,
+            &mut formed.bytes.key,
+            &mut formed.key,
+        )?;
+        form(
+            v,
+            value,
+            registry,
+            alloc,
+            &mut formed.bytes.value,
+            &mut formed.value,
+        )?;
+        keep_formed(entries, entry)?;
     }
     Ok(())
 }

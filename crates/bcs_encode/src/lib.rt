@@ -17,6 +17,10 @@ mod forming;
 mod large_value_tests;
 pub mod laws;
 mod lengths;
+mod number_format;
+mod number_rows;
+#[cfg(test)]
+mod number_rows_tests;
 pub mod pieces;
 mod putting;
 mod sink;
@@ -24,7 +28,6 @@ mod soundness;
 mod span;
 mod spans;
 mod workspace;
-mod wrapping;
 mod write_sink;
 mod writing;
 

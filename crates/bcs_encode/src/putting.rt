@@ -48,11 +48,16 @@ pub(crate) fn put_bytes(bytes: &[u8], out: &mut Vec<u8>) -> Result<(), EncodeFau
 }
 
 /// Appends an unsigned number in its width, or refuses one that the width can't hold.
+#[tactic(auto, using(crate::proofs::NumberViews::one_byte))]
 pub(crate) fn put_unsigned(width: Width, number: u128, out: &mut Vec<u8>) -> Result<(), EncodeFault>
     ensures { Tells result (unsigned_written (width_of width) number out.old.items) out.new.items }
 {
     if !is_unsigned(width, number) {
         return Err(EncodeFault::NotOfFormat);
+    }
+    if let Width::W1 = width {
+        out.push(number as u8)?;
+        return Ok(());
     }
     let mut bytes = [0; 16];
     let len = put_le(width, number, &mut bytes);
@@ -82,7 +87,7 @@ fn is_unsigned(width: Width, number: u128) -> bool
         Width::W2 => number < 0x1_0000,
         Width::W4 => number < 0x1_0000_0000,
         Width::W8 => number < 0x1_0000_0000_0000_0000,
-        Width::W16 => number <= u128::MAX,
+        Width::W16 => true,
     }
 }
 

@@ -1,5 +1,5 @@
 //! The entries of a map, laid into one buffer, in the order of their keys' bytes.
-ghost use Rattle.std.specs.Prelude.{◌≡◌, ◌≤◌, [], Ok, OnOk, drop, length, map, take};
+ghost use Rattle.std.specs.Prelude.{◌≡◌, ◌≤◌, ◌++◌, [], Ok, OnOk, drop, length, map, take};
 ghost use Rattle.std.specs.List.{flat_map};
 ghost use Rattle.std.specs.List.Sorted.{IsPermutation, IsSortedByKey};
 ghost use Rattle.std.specs.Ordering.{nat_cmp};
@@ -7,7 +7,7 @@ ghost use Rattle.std.specs.Cmp.Lexicographic.{slice_cmp};
 ghost use Rattle.bcs_encode.specs.Entries.{entry_bytes};
 ghost use Rattle.bcs_encode.specs.Laying as spec;
 ghost use Rattle.bcs_encode.specs.Laying.{span_entry};
-ghost use Rattle.bcs_encode.specs.Writing.{Tells, entries_put, has_twins};
+ghost use Rattle.bcs_encode.specs.Writing.{Tells, entries_put, has_twins, keys_rise};
 
 use crate::fault::EncodeFault;
 use crate::span::Span;
@@ -16,6 +16,22 @@ use crate::workspace::Workspace;
 /// Brings the entries of the spans from `first` on, whose bytes begin at `start`, into the order of their keys' bytes,
 /// and drops the spans; or refuses two entries with one key.
 pub(crate) fn arrange(work: &mut Workspace, first: usize, start: usize) -> Result<(), EncodeFault>
+    requires first { first ≤ length work.old.spans.items }
+    requires laid { take start work.old.out.items ++ flat_map entry_bytes (map (span_entry work.old.out.items) (drop first work.old.spans.items)) ≡ work.old.out.items }
+    ensures tells { Tells result
+        (entries_put (map (span_entry work.old.out.items) (drop first work.old.spans.items)) (take start work.old.out.items))
+        work.new.out.items }
+    ensures kept { OnOk result (work.new.spans.items ≡ take first work.old.spans.items) }
+{
+    if rise(&work.spans[first..], &work.out) {
+        work.spans.truncate(first);
+        return Ok(());
+    }
+    rearrange(work, first, start)
+}
+
+/// The same, wherever the entries stand.
+fn rearrange(work: &mut Workspace, first: usize, start: usize) -> Result<(), EncodeFault>
     requires { first ≤ length work.old.spans.items }
     ensures tells { Tells result
         (entries_put (map (span_entry work.old.out.items) (drop first work.old.spans.items)) (take start work.old.out.items))
@@ -27,6 +43,22 @@ pub(crate) fn arrange(work: &mut Workspace, first: usize, start: usize) -> Resul
     work.out.truncate(start);
     work.out.extend_from_slice(&work.scratch)?;
     Ok(())
+}
+
+/// Whether the keys' bytes rise from each entry to the next. Then the entries stay where they are, so that maps nested
+/// in canonical values aren't copied once a level.
+fn rise(spans: &[Span], bytes: &[u8]) -> bool
+    ensures { result ≡ keys_rise (map (span_entry bytes.now) spans.now) }
+{
+    for i in 1..spans.len() {
+        let before = spans[i - 1];
+        let span = spans[i];
+        let order = part(bytes, before.key, before.value).cmp(part(bytes, span.key, span.value));
+        if !order.is_lt() {
+            return false;
+        }
+    }
+    true
 }
 
 /// The bytes of the entries by rising keys; or refuses two entries with one key.

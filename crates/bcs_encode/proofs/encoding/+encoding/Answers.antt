@@ -1,12 +1,13 @@
-use Rattle.std.proofs.Common.{◌≡◌, ℕ, ◌∙◌, ap, arith, length, rules, take}
+use Rattle.std.proofs.Common.{◌≡◌, ℕ, [], ◌∙◌, ap, arith, length, rules, take}
 use Rattle.std.proofs.lemmas.Grind.{common_steps}
 use Rattle.bcs_encode.proofs.WritingViews.{tells_along, array_refused, array_written, list_written, tuple_written, fields_written, variant_written, no_variant_written}
 use Rattle.bcs_encode.specs.Writing.{written}
 use Rattle.bcs_registry.specs.View.{shape_of}
-use Rattle.bcs_value.specs.View.{entries_pairs}
+use Rattle.bcs_value.specs.View.{entries_pairs, items_trees}
 use Rattle.std.proofs.lemmas.Result.{err_from_is_err_and, on_ok_weaker}
+use Rattle.bcs_encode.proofs.NumberViews.{numbers_anywhere}
 use Rattle.bcs_encode.proofs.WalkViews.{at_map, count_pairs}
-use Rattle.bcs_encode.proofs.LayingLaws.{laid_keeps, laid_map, unlaid_map, unlengthed_map}
+use Rattle.bcs_encode.proofs.LayingLaws.{laid_keeps, laid_map, laid_whole, unlaid_map, unlengthed_map}
 use Rattle.bcs_encode.proofs.encoding.+encoding.Goals as goal
 
 pub put-returns-in_err-put_length-in-Items-Seq-clause-tells : goal.put-returns-in_err-put_length-in-Items-Seq-clause-tells
@@ -72,12 +73,19 @@ put_map-returns-in_err-lay_entries-clause-tells t c =
     rw p.1 (λ k. unlaid_map c.args.registry.now (shape_of c.args.key.now) (shape_of c.args.value.now) (entries_pairs c.args.pairs.now) (length c.args.pairs.now) c.args.work.now.out.items
     c.put_length.new.out.items c.args.work.now.spans.items _ (count_pairs c.args.pairs.now) c.in_ok-put_length.ensures (search rules))
 
-pub put_map-arrange-requires : goal.put_map-arrange-requires
-put_map-arrange-requires t c =
+pub put_map-arrange-requires-clause-first : goal.put_map-arrange-requires-clause-first
+put_map-arrange-requires-clause-first t c =
     let keeps = laid_keeps c.args.registry.now (shape_of c.args.key.now) (shape_of c.args.value.now) (entries_pairs c.args.pairs.now) c.put_length.new.out.items c.lay_entries.new.work.out.items
     c.args.work.now.spans.items c.lay_entries.new.work.spans.items c.in_ok-lay_entries.ensures in
     let first : c.len-first.result ≡ length c.args.work.now.spans.items = search rules in
     omega (arith, keeps.0)
+
+pub put_map-arrange-requires-clause-laid : goal.put_map-arrange-requires-clause-laid
+put_map-arrange-requires-clause-laid t c =
+    let first : c.len-first.result ≡ length c.args.work.now.spans.items = search rules in
+    let start : c.len-start.result ≡ length c.put_length.new.out.items = search rules in
+    rw (first, start) (laid_whole c.args.registry.now (shape_of c.args.key.now) (shape_of c.args.value.now) (entries_pairs c.args.pairs.now)
+    c.put_length.new.out.items c.lay_entries.new.work.out.items c.args.work.now.spans.items c.lay_entries.new.work.spans.items c.in_ok-lay_entries.ensures)
 
 pub put_map-returns-clause-tells : goal.put_map-returns-clause-tells
 put_map-returns-clause-tells t c =
@@ -95,3 +103,7 @@ put_map-returns-clause-kept t c =
     c.args.work.now.spans.items c.lay_entries.new.work.spans.items c.in_ok-lay_entries.ensures in
     let first : c.len-first.result ≡ length c.args.work.now.spans.items = search rules in
     on_ok_weaker c.arrange.result (λ h. h ∙ ap (λ (n : ℕ). take n c.lay_entries.new.work.spans.items) first ∙ keeps.1) c.arrange.ensures.kept
+
+pub put_all-returns-in-Some-clause-tells : goal.put_all-returns-in-Some-clause-tells
+put_all-returns-in-Some-clause-tells t c =
+    tells_along c.put_numbers.result _ _ _ (numbers_anywhere c.args.registry.now [] c.in-Some.format (shape_of c.args.element.now) (items_trees c.args.items.now) c.args.work.now.out.items (search rules)) c.put_numbers.ensures

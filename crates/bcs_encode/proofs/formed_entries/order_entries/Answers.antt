@@ -1,4 +1,7 @@
-use Rattle.std.proofs.Common.{◌∙◌, sym, rules}
+use Rattle.std.proofs.Common.{List, ◌∙◌, sym, ap, rules}
+use Rattle.bcs_value.specs.Tree as tree
+use Rattle.bcs_value.specs.Tree.{Tree}
+use Rattle.bcs_value.specs.View.{pairs_of}
 use Rattle.bcs_encode.specs.FormedView.{bytes_entry}
 use Rattle.bcs_encode.proofs.EntryArranging.{repeated_put, distinct_put}
 use Rattle.bcs_encode.proofs.FormedSorting.{formed_sorted}
@@ -17,6 +20,7 @@ returns-clause-tells c =
 
 pub returns-clause-formed : goal.returns-clause-formed
 returns-clause-formed c =
-    c.in_ok-values_of.ensures
+    c.put_pairs.ensures.put
+    ∙ ap (λ (ps : List (Tree × Tree)). tree.pairs (pairs_of ps)) (c.in_ok-pairs.ensures
     ∙ sym (formed_sorted c.args.entries.items c.sort_by_keys.new.entries.items
-    c.sort_by_keys.ensures.permutation c.in_ok-sort_by_keys.ensures.sorted (search rules))
+    c.sort_by_keys.ensures.permutation c.in_ok-sort_by_keys.ensures.sorted (search rules)))

@@ -1,10 +1,10 @@
 use Rattle.std.proofs.Common.{◌≡◌, ◌∙◌, sym, ap, arith, rules}
 use Rattle.std.proofs.lemmas.Grind.{common_steps}
+use Rattle.std.proofs.lemmas.Result.{on_ok_weaker}
 use Rattle.bcs_registry.specs.View.{shape_of, payload_of}
 use Rattle.bcs_registry.specs.Container.{of, payload_shape}
 use Rattle.bcs_value.specs.Tree as tree
-use Rattle.bcs_value.specs.View.{pairs_of, tree_of}
-use Rattle.bcs_value.proofs.Views.{tree_of_pairs}
+use Rattle.bcs_value.specs.View.{tree_of}
 use Rattle.bcs_encode.specs.Forming.{formed}
 use Rattle.bcs_encode.specs.Writing.{written}
 use Rattle.bcs_encode.proofs.WalkViews.{at_enum, at_map, choice-found}
@@ -16,50 +16,35 @@ form-returns-in_err-put_length-in-Items-Seq-clause-tells t c =
     let m = c.in-Items-Seq in
     tells_along _ _ _ _ (list_written c.args.registry.now c.args.value.now c.args.format.now m.items m.element c.len.result c.args.out.now.items m.is-0 m.is-1 (search rules)) (search rules)
 
-pub form-returns-in_err-form_all-in-Items-Seq-clause-tells : goal.form-returns-in_err-form_all-in-Items-Seq-clause-tells
-form-returns-in_err-form_all-in-Items-Seq-clause-tells t c =
+pub form-returns-in_ok-put_length-in-Items-Seq-clause-tells : goal.form-returns-in_ok-put_length-in-Items-Seq-clause-tells
+form-returns-in_ok-put_length-in-Items-Seq-clause-tells t c =
     let m = c.in-Items-Seq in
     tells_along _ _ _ _ (list_written c.args.registry.now c.args.value.now c.args.format.now m.items m.element c.len.result c.args.out.now.items m.is-0 m.is-1 (search rules)) (search rules)
-
-pub form-returns-in_ok-form_all-in-Items-Seq-clause-tells : goal.form-returns-in_ok-form_all-in-Items-Seq-clause-tells
-form-returns-in_ok-form_all-in-Items-Seq-clause-tells t c =
-    let m = c.in-Items-Seq in
-    list_written c.args.registry.now c.args.value.now c.args.format.now m.items m.element c.len.result c.args.out.now.items m.is-0 m.is-1 (search rules) ∙ search rules
 
 pub form-returns-then-len-size-clause-tells : goal.form-returns-then-len-size-clause-tells
 form-returns-then-len-size-clause-tells t c _ =
     let m = c.in-Items-TupleArray in
     array_refused c.args.registry.now c.args.value.now c.args.format.now m.items m.element m.size c.len-in-Items-TupleArray.result c.args.out.now.items m.is-0 m.is-1 (search rules) c.if-len-size.true
 
-pub form-returns-in_err-form_all-in-Items-TupleArray-clause-tells : goal.form-returns-in_err-form_all-in-Items-TupleArray-clause-tells
-form-returns-in_err-form_all-in-Items-TupleArray-clause-tells t c =
+pub form-returns-else-len-size-clause-tells : goal.form-returns-else-len-size-clause-tells
+form-returns-else-len-size-clause-tells t c =
     let m = c.in-Items-TupleArray in
     tells_along _ _ _ _ (array_written c.args.registry.now c.args.value.now c.args.format.now m.items m.element m.size c.len-in-Items-TupleArray.result c.args.out.now.items m.is-0 m.is-1 (search rules) (search rules)) (search rules)
 
-pub form-returns-in_ok-form_all-in-Items-TupleArray-clause-tells : goal.form-returns-in_ok-form_all-in-Items-TupleArray-clause-tells
-form-returns-in_ok-form_all-in-Items-TupleArray-clause-tells t c =
-    let m = c.in-Items-TupleArray in
-    array_written c.args.registry.now c.args.value.now c.args.format.now m.items m.element m.size c.len-in-Items-TupleArray.result c.args.out.now.items m.is-0 m.is-1 (search rules) (search rules) ∙ search rules
-
-pub form-returns-in_err-form_map-in-Pairs-Map-clause-tells : goal.form-returns-in_err-form_map-in-Pairs-Map-clause-tells
-form-returns-in_err-form_map-in-Pairs-Map-clause-tells t c =
+pub form-returns-in-Pairs-Map-clause-tells : goal.form-returns-in-Pairs-Map-clause-tells
+form-returns-in-Pairs-Map-clause-tells t c =
     let m = c.in-Pairs-Map in
     tells_along _ _ _ _ (at_map (λ t f. written c.args.registry.now t f c.args.out.now.items) c.args.value.now c.args.format.now m.pairs m.key m.value m.is-0 m.is-1) (search rules)
 
-pub form-returns-in_ok-form_map-in-Pairs-Map-clause-tells : goal.form-returns-in_ok-form_map-in-Pairs-Map-clause-tells
-form-returns-in_ok-form_map-in-Pairs-Map-clause-tells t c =
+pub form-returns-in-Pairs-Map-clause-formed : goal.form-returns-in-Pairs-Map-clause-formed
+form-returns-in-Pairs-Map-clause-formed t c =
     let m = c.in-Pairs-Map in
-    at_map (λ t f. written c.args.registry.now t f c.args.out.now.items) c.args.value.now c.args.format.now m.pairs m.key m.value m.is-0 m.is-1 ∙ search rules
+    on_ok_weaker c.form_map.result (λ h. h
+    ∙ rw (c.deref-in-Pairs-Map.ensures.value, c.deref-in-Pairs-Map-2.ensures, c.deref-in-Pairs-Map-3.ensures) (sym (at_map (formed c.args.registry.now) c.args.value.now c.args.format.now m.pairs m.key m.value m.is-0 m.is-1)))
+    c.form_map.ensures.formed
 
-pub form-returns-in_ok-form_map-in-Pairs-Map-clause-formed : goal.form-returns-in_ok-form_map-in-Pairs-Map-clause-formed
-form-returns-in_ok-form_map-in-Pairs-Map-clause-formed t c =
-    let m = c.in-Pairs-Map in
-    let f = c.in_ok-form_map-in-Pairs-Map in
-    tree_of_pairs f.field-0 ∙ ap (λ es. tree.pairs (pairs_of es)) f.ensures.formed
-    ∙ rw (c.deref-in-Pairs-Map.ensures.value, c.deref-in-Pairs-Map-2.ensures, c.deref-in-Pairs-Map-3.ensures) (sym (at_map (formed c.args.registry.now) c.args.value.now c.args.format.now m.pairs m.key m.value m.is-0 m.is-1))
-
-pub form_content-returns-in_err-inside-in-Some-clause-tells : goal.form_content-returns-in_err-inside-in-Some-clause-tells
-form_content-returns-in_err-inside-in-Some-clause-tells t c =
+pub form_content-returns-in_err-form_payload-in-Some-clause-tells : goal.form_content-returns-in_err-form_payload-in-Some-clause-tells
+form_content-returns-in_err-form_payload-in-Some-clause-tells t c =
     let m = c.in-Enum-Variant in
     tells_along _ _ _ _ (variant_written c.args.registry.now c.args.value.now c.args.container.now m.variants m.number m.inner c.in-Some.variant c.get.result c.args.out.now.items m.is-0 m.is-1 c.get.ensures.value c.in-Some.is) (search rules)
 
@@ -71,7 +56,7 @@ form_content-returns-in_ok-wrap_variant-in-Some-clause-tells t c =
 pub form_content-returns-in_ok-wrap_variant-in-Some-clause-formed : goal.form_content-returns-in_ok-wrap_variant-in-Some-clause-formed
 form_content-returns-in_ok-wrap_variant-in-Some-clause-formed t c =
     let m = c.in-Enum-Variant in
-    let inside : tree_of c.in_ok-inside-in-Some.inside ≡ formed c.args.registry.now (tree_of m.inner.value) (of (payload_shape (payload_of c.in-Some.variant.now.value))) = search rules in
+    let inside : tree_of c.form_payload.new.slot ≡ formed c.args.registry.now (tree_of m.inner.value) (of (payload_shape (payload_of c.in-Some.variant.now.value))) = search rules in
     c.in_ok-wrap_variant-in-Some.ensures
     ∙ ap (tree.variant m.number) (inside ∙ ap (formed c.args.registry.now (tree_of m.inner.value)) (sym (choice-found m.number m.variants.entries c.in-Some.variant c.get.result c.get.ensures.value c.in-Some.is)))
     ∙ sym (at_enum (formed c.args.registry.now) c.args.value.now c.args.container.now m.variants m.number m.inner m.is-0 m.is-1)

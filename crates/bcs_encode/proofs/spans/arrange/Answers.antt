@@ -1,22 +1,18 @@
-use Rattle.std.proofs.Common.{◌∙◌, ap, arith, take, drop, length, length-drop, ◌-◌, refl, rules, Ok}
+use Rattle.std.proofs.Common.{◌≡◌, ℕ, ◌-◌, ◌∙◌, ap, ap₂, sym, arith, List, take, drop, length, length-drop, map, rules, Ok}
 use Rattle.std.proofs.lemmas.List.{take_all}
-use Rattle.bcs_encode.proofs.LayingLaws.{arranged}
-use Rattle.bcs_encode.proofs.WritingViews.{tells_along}
+use Rattle.bcs_encode.specs.Laying.{span_entry}
+use Rattle.bcs_encode.specs.Writing.{keys_rise}
+use Rattle.bcs_encode.specs.declared.span.Span.{Span}
+use Rattle.bcs_encode.proofs.EntryArranging.{rising_put}
 use Rattle.bcs_encode.proofs.spans.arrange.Goals as goal
 
-pub returns-in_err-gather_in_order-clause-tells : goal.returns-in_err-gather_in_order-clause-tells
-returns-in_err-gather_in_order-clause-tells c =
+pub returns-then-rise-clause-tells : goal.returns-then-rise-clause-tells
+returns-then-rise-clause-tells c =
     let w = c.args.work.now in
-    let m = c.deref_mut.result.now in
-    tells_along c.from_residual.result _ _ w.out.items
-    (arranged (take c.args.start w.out.items) w.out.items _ (drop c.args.first w.spans.items) _ _ c.deref.ensures.value
-    (take_all (length m - c.args.first) (drop c.args.first m) (omega (arith, length-drop c.args.first m)) ∙ ap (drop c.args.first) c.deref_mut.ensures.value) refl)
-    (search rules)
-
-pub returns-clause-tells : goal.returns-clause-tells
-returns-clause-tells c =
-    let w = c.args.work.now in
-    let m = c.deref_mut.result.now in
-    arranged (take c.args.start w.out.items) w.out.items _ (drop c.args.first w.spans.items) _ (Ok c.gather_in_order.new.scratch.items) c.deref.ensures.value
-    (take_all (length m - c.args.first) (drop c.args.first m) (omega (arith, length-drop c.args.first m)) ∙ ap (drop c.args.first) c.deref_mut.ensures.value) (search rules)
-    ∙ search rules
+    let m = c.deref.result.now in
+    let spans : take (length m - c.args.first) (drop c.args.first m) ≡ drop c.args.first w.spans.items =
+    take_all (length m - c.args.first) (drop c.args.first m) (omega (arith, length-drop c.args.first m)) ∙ ap (drop c.args.first) c.deref.ensures.value in
+    rising_put (map (span_entry w.out.items) (drop c.args.first w.spans.items)) (take c.args.start w.out.items)
+    (ap₂ (λ (x : List ℕ) (ys : List Span). keys_rise (map (span_entry x) ys)) (sym c.deref-2.ensures.value) (sym spans)
+    ∙ sym c.rise.ensures ∙ c.if-rise.true)
+    ∙ search (rules, c.requires.laid)
