@@ -1,5 +1,5 @@
 -- Steps over a source, one after another.
-use Rattle.std.proofs.Common.{◌≡◌, ℕ, ◌+◌, ◌-◌, ◌<◌, ◌≤◌, Bool, true, false, List, ◌++◌, length, take, drop, replicate, length-take-le, length-take, take-take, take_all, length-drop, take-add, Option, Some, None, Result, Ok, Err, IsErr, Vec, Global, refl, sym, ap, subst, ◌∙◌, arith, append_assoc}
+use Rattle.std.proofs.Common.{◌≡◌, ℕ, ◌+◌, ◌-◌, ◌<◌, ◌≤◌, Bool, true, false, List, ◌++◌, length, take, drop, replicate, length-take-le, length-take, take-take, take_all, length-drop, take-add, Option, Some, None, Result, Ok, Err, IsErr, refl, sym, ap, subst, ◌∙◌, arith, append_assoc}
 use Rattle.std.specs.Io.KnownBytes.{Consumes, IsAtEnd}
 use Rattle.std.proofs.lemmas.Bool.{le-ltb, lt-ltb}
 use Rattle.std.proofs.lemmas.List.{length-replicate, take_at, drop_at, drop-drop, take-append-le, length-append, append-nil}
@@ -11,13 +11,16 @@ use Rattle.bcs_decode.specs.declared.decode_fault.DecodeFault.{DecodeFault}
 use Rattle.bcs_decode.specs.declared.decode_fault.DecodeFault.TheVariants.{Stop, Read as ReadFault, OutOfMemory}
 use Rattle.bcs_decode.specs.declared.streaming.at.At.{At}
 use Rattle.bcs_decode.specs.Reading.{Parser, bytes_here}
-use Rattle.bcs_decode.specs.Sees.{is_told, rest_of, Refuses, Sees, Judges, last_bytes, key_of, Left, Records, Along, Halts}
+use Rattle.bcs_decode.specs.Sees.{is_told, rest_of, Refuses, Sees, Judges, Left, Records, Along, AlongMap, Halts}
 
 -- ---- one after another
 
+pub front_length : (xs ys : List ℕ) → take (length xs) ys ≡ xs → length xs ≤ length ys
+front_length xs ys h = omega (arith, ap length (sym h), length-take (length xs) ys)
+
 front_then : (xs ys zs : List ℕ) → take (length xs) ys ≡ xs → take (length ys) zs ≡ ys → take (length xs) zs ≡ xs
 front_then xs ys zs h k =
-    let few : length xs ≤ length ys = omega (arith, ap length (sym h), length-take (length xs) ys) in
+    let few : length xs ≤ length ys = front_length xs ys h in
     sym (take-take (length xs) (length ys) zs few) ∙ ap (take (length xs)) k ∙ h
 
 pub Along-then : {c d e : Option (List ℕ)} {p q r : At} → Along c p d q → Along d q e r → Along c p e r
@@ -40,10 +43,69 @@ Along-none c p = record {
   recorded = λ yes b base from l s. s;
 }
 
+pub Halts-after : (x : DecodeFault) (c d e : Option (List ℕ)) (p q r : At) → ((b : List ℕ) → Left b p.place c → Left b q.place d) → Halts x d q e r → Halts x c p e r
+Halts-after (Stop s) c d e p q r gone k = (λ b l. k.0 b (gone b l), k.1)
+Halts-after ReadFault c d e p q r gone k = tt
+Halts-after OutOfMemory c d e p q r gone k = tt
+
 pub Halts-then : (x : DecodeFault) (c d e : Option (List ℕ)) (p q r : At) → Along c p d q → Halts x d q e r → Halts x c p e r
-Halts-then (Stop s) c d e p q r h k = (λ b l. k.0 b (h.gone b l), k.1)
-Halts-then ReadFault c d e p q r h k = tt
-Halts-then OutOfMemory c d e p q r h k = tt
+Halts-then x c d e p q r h k = Halts-after x c d e p q r h.gone k
+
+-- of what a map's part keeps, the first bytes are those of the whole
+pub AlongMap-then : (n m : ℕ) (c d e : Option (List ℕ)) (p q r : At) → AlongMap n c p d q → n ≡ m → AlongMap m d q e r → AlongMap n c p e r
+AlongMap-then n m c d e p q r h same next = record {
+  gone = λ b l. next.gone b (h.gone b l);
+  later = let x = h.later in let y = next.later in omega arith;
+  same = next.same ∙ h.same;
+  front = ap (λ i. take i r.kept.items) same ∙ next.front ∙ ap (λ i. take i q.kept.items) (sym same) ∙ h.front;
+  recorded = λ yes b base from l s. next.recorded (h.same ∙ yes) b base from (h.gone b l) (h.recorded yes b base from l s);
+}
+
+-- a value within a map
+pub AlongMap-value : (n : ℕ) (c d : Option (List ℕ)) (p q : At) → n ≤ length p.kept.items → Along c p d q → AlongMap n c p d q
+AlongMap-value n c d p q few h = record {
+  gone = h.gone;
+  later = h.later;
+  same = h.same;
+  front = sym (take-take n (length p.kept.items) q.kept.items few) ∙ ap (take n) h.front;
+  recorded = h.recorded;
+}
+
+-- a map whose keys were let go
+pub Along-map : (c d : Option (List ℕ)) (p q r : At) → AlongMap (length p.kept.items) c p d q → r.place ≡ q.place → r.is_in_key ≡ q.is_in_key
+    → (q.is_in_key ≡ true → r.kept.items ≡ q.kept.items) → (q.is_in_key ≡ false → r.kept.items ≡ take (length p.kept.items) q.kept.items) → Along c p d r
+Along-map c d p q r h place inside stays cut = record {
+  gone = λ b l. subst (λ (i : ℕ). Left b i d) (sym place) (h.gone b l);
+  later = let x = h.later in omega (arith, place);
+  same = inside ∙ h.same;
+  front = front_of q.is_in_key refl;
+  unrecorded = λ outside. unchanged (h.same ∙ outside);
+  recorded = λ yes b base from l s. (let t = h.recorded yes b base from l s in record { begun = let x = t.begun in omega (arith, place); is = stays (h.same ∙ yes) ∙ t.is ∙ ap (λ i. base ++ take (i - from) (drop from b)) (sym place) });
+}
+  where
+    whole : take (length p.kept.items) p.kept.items ≡ p.kept.items
+    whole = take_all (length p.kept.items) p.kept.items (omega arith)
+
+    unchanged : q.is_in_key ≡ false → r.kept.items ≡ p.kept.items
+    unchanged outside = cut outside ∙ h.front ∙ whole
+
+    front_of : (key : Bool) → q.is_in_key ≡ key → take (length p.kept.items) r.kept.items ≡ p.kept.items
+    front_of true within = ap (take (length p.kept.items)) (stays within) ∙ h.front ∙ whole
+    front_of false outside = ap (take (length p.kept.items)) (unchanged outside) ∙ whole
+
+-- a key was read, and its bytes were made the last key's
+pub AlongMap-key : (n : ℕ) (c d : Option (List ℕ)) (p v q : At) → n ≤ length p.kept.items → Along c (record p { is_in_key = true }) d v → q.place ≡ v.place → q.is_in_key ≡ p.is_in_key
+    → (p.is_in_key ≡ true → q.kept.items ≡ v.kept.items) → take n q.kept.items ≡ take n v.kept.items → AlongMap n c p d q
+AlongMap-key n c d p v q few h place inside stays front = record {
+  gone = λ b l. subst (λ (i : ℕ). Left b i d) (sym place) (h.gone b l);
+  later = let x = h.later in omega (arith, place);
+  same = inside;
+  front = front ∙ sym (take-take n (length p.kept.items) v.kept.items few) ∙ ap (take n) h.front;
+  recorded = λ yes b base from l s.
+      (let start : Records b base from (record p { is_in_key = true }) = record { begun = s.begun; is = s.is } in
+      let t = h.recorded refl b base from l start in
+      record { begun = let x = t.begun in omega (arith, place); is = stays yes ∙ t.is ∙ ap (λ i. base ++ take (i - from) (drop from b)) (sym place) });
+}
 
 -- a stop of a later part is one of the whole
 pub Refuses-whole : {A B : Type 0} (x : DecodeFault) (c d : Option (List ℕ)) (p q : At) (f : Parser A) (h : Parser B)
@@ -68,11 +130,7 @@ pub Refuses-judged : {A : Type 0} (x : DecodeFault) (c : Option (List ℕ)) (p :
     → Judges (Err x) h at → Refuses x c p f
 Refuses-judged (Stop s) c p f h at whole k = λ told. whole s.reason s.place told k.1
 Refuses-judged ReadFault c p f h at whole k = absurd k
-Refuses-judged OutOfMemory c p f h at whole k = tt
-
-pub same_key : (last : Option (Vec ℕ Global)) (key : List ℕ) → last_bytes last ≡ Some key → key_of last ≡ key
-same_key None key h = absurd cc
-same_key (Some v) key h = cc
+Refuses-judged OutOfMemory c p f h at whole k = absurd k
 
 -- what only refuses may be seen as it likes
 pub blame : {X A : Type 0} (view other : X → A) (r : Result X DecodeFault) (c d : Option (List ℕ)) (p q : At) (f : Parser A) → IsErr r → Sees view r c p f q d → Sees other r c p f q d

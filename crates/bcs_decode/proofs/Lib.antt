@@ -30,3 +30,5 @@ pub mod StreamedRows
 pub mod ValueViews
 pub mod Wholes
 pub mod Slices
+pub mod KeptKeys
+pub mod StreamedKeys

@@ -51,7 +51,7 @@ mapped_node f p q h i (suc m) b = h i m b
 -- ---- what is made
 
 -- f, g and h lead from what one makes to what the other makes
-pub record Leads {V R E V2 R2 E2 : Type 0} (make : Making V R E) (remake : Making V2 R2 E2) (f : V → V2) (g : R → R2) (h : E → E2) : Type 0 where
+pub record Leads {V R E V' R' E' : Type 0} (make : Making V R E) (remake : Making V' R' E') (f : V → V') (g : R → R') (h : E → E') : Type 0 where
   pub unit_is : f make.unit ≡ remake.unit
   pub truth_is : (x : Bool) → f (make.truth x) ≡ remake.truth x
   pub unsigned_is : (x : ℕ) → f (make.unsigned x) ≡ remake.unsigned x
@@ -69,8 +69,8 @@ pub record Leads {V R E V2 R2 E2 : Type 0} (make : Making V R E) (remake : Makin
   pub no_entries_is : h make.no_entries ≡ remake.no_entries
   pub entry_is : (x y : V) (z : E) → h (make.entry x y z) ≡ remake.entry (f x) (f y) (h z)
 
-module _ {V R E V2 R2 E2 : Type 0} (make : Making V R E) (remake : Making V2 R2 E2) (f : V → V2) (g : R → R2) (h : E → E2) (leads : Leads make remake f g h) where
-  mapped_items : (p : Parser V) (q : Parser V2) → IsMapped f p q → (n : ℕ) → IsMapped g (items_here make p n) (items_here remake q n)
+module _ {V R E V' R' E' : Type 0} (make : Making V R E) (remake : Making V' R' E') (f : V → V') (g : R → R') (h : E → E') (leads : Leads make remake f g h) where
+  mapped_items : (p : Parser V) (q : Parser V') → IsMapped f p q → (n : ℕ) → IsMapped g (items_here make p n) (items_here remake q n)
   unfolding items_here
   mapped_items p q k zero = mapped_give g make.no_items remake.no_items leads.no_items_is
   mapped_items p q k (suc n) =
@@ -78,26 +78,26 @@ module _ {V R E V2 R2 E2 : Type 0} (make : Making V R E) (remake : Making V2 R2 
       (λ t. mapped_then g g (items_here make p n) (items_here remake q n) (λ ts. give (make.item t ts)) (λ ts. give (remake.item (f t) ts)) (mapped_items p q k n)
       (λ ts. mapped_give g (make.item t ts) (remake.item (f t) (g ts)) (leads.item_is t ts)))
 
-  abbrev keyed : V × List ℕ → V2 × List ℕ
+  abbrev keyed : V × List ℕ → V' × List ℕ
   keyed a = (f a.0, a.1)
 
-  mapped_key : (p : Parser V) (q : Parser V2) → IsMapped f p q → (last : Option (List ℕ)) → IsMapped keyed (key_here p last) (key_here q last)
+  mapped_key : (p : Parser V) (q : Parser V') → IsMapped f p q → (last : Option (List ℕ)) → IsMapped keyed (key_here p last) (key_here q last)
   unfolding key_here give
   mapped_key p q k last i m b =
-      ap (λ r. follow r (λ a j l c. follow (key_after last (take (j - i) b) i j l c) (λ _. give {A = V2 × List ℕ} (a, take (j - i) b)))) (k i m b) ∙ at (p i m b)
+      ap (λ r. follow r (λ a j l c. follow (key_after last (take (j - i) b) i j l c) (λ _. give {A = V' × List ℕ} (a, take (j - i) b)))) (k i m b) ∙ at (p i m b)
     where
       after : (x : V) (key : List ℕ) (r : Read (Unit {0}))
-          → follow r (λ _. give {A = V2 × List ℕ} (f x, key)) ≡ mapped keyed (follow r (λ _. give {A = V × List ℕ} (x, key)))
+          → follow r (λ _. give {A = V' × List ℕ} (f x, key)) ≡ mapped keyed (follow r (λ _. give {A = V × List ℕ} (x, key)))
       after x key (Ok y) = refl
       after x key (Err e) = refl
 
       at : (r : Read V)
-          → follow (mapped f r) (λ a j l c. follow (key_after last (take (j - i) b) i j l c) (λ _. give {A = V2 × List ℕ} (a, take (j - i) b)))
+          → follow (mapped f r) (λ a j l c. follow (key_after last (take (j - i) b) i j l c) (λ _. give {A = V' × List ℕ} (a, take (j - i) b)))
           ≡ mapped keyed (follow r (λ a j l c. follow (key_after last (take (j - i) b) i j l c) (λ _. give {A = V × List ℕ} (a, take (j - i) b))))
       at (Ok x) = after x.0 (take (x.1 - i) b) (key_after last (take (x.1 - i) b) i x.1 x.2 x.3)
       at (Err e) = refl
 
-  mapped_pairs : (p v : Parser V) (q w : Parser V2) → IsMapped f p q → IsMapped f v w → (n : ℕ) (last : Option (List ℕ))
+  mapped_pairs : (p v : Parser V) (q w : Parser V') → IsMapped f p q → IsMapped f v w → (n : ℕ) (last : Option (List ℕ))
       → IsMapped h (pairs_here make p v last n) (pairs_here remake q w last n)
   unfolding pairs_here
   mapped_pairs p v q w k l zero last = mapped_give h make.no_entries remake.no_entries leads.no_entries_is
@@ -111,7 +111,7 @@ module _ {V R E V2 R2 E2 : Type 0} (make : Making V R E) (remake : Making V2 R2 
       (λ x. mapped_then h h (pairs_here make p v (Some a.1) n) (pairs_here remake q w (Some a.1) n) (λ ps. give (make.entry a.0 x ps)) (λ ps. give (remake.entry (f a.0) (f x) ps)) (mapped_pairs p v q w k l n (Some a.1))
       (λ ps. mapped_give h (make.entry a.0 x ps) (remake.entry (f a.0) (f x) (h ps)) (leads.entry_is a.0 x ps))))
 
-  mapped_option : (p : Parser V) (q : Parser V2) → IsMapped f p q → IsMapped f (option_here make p) (option_here remake q)
+  mapped_option : (p : Parser V) (q : Parser V') → IsMapped f p q → IsMapped f (option_here make p) (option_here remake q)
   unfolding option_here
   mapped_option p q k =
       mapped_after f (flag_here BadOption) (λ some. if some then chain p (λ t. give (make.present t)) else give make.absent) (λ some. if some then chain q (λ t. give (remake.present t)) else give remake.absent) at
@@ -123,13 +123,13 @@ module _ {V R E V2 R2 E2 : Type 0} (make : Making V R E) (remake : Making V2 R2 
       at false = mapped_give f make.absent remake.absent leads.absent_is
 
   -- a value without parts
-  made : {A : Type 0} (p : Parser A) (mk : A → V) (mk2 : A → V2) → ((x : A) → f (mk x) ≡ mk2 x)
+  made : {A : Type 0} (p : Parser A) (mk : A → V) (mk2 : A → V') → ((x : A) → f (mk x) ≡ mk2 x)
       → IsMapped f (node (chain p (λ x. give (mk x)))) (node (chain p (λ x. give (mk2 x))))
   made p mk mk2 k =
       mapped_node f (chain p (λ x. give (mk x))) (chain p (λ x. give (mk2 x))) (mapped_after f p (λ x. give (mk x)) (λ x. give (mk2 x)) (λ x. mapped_give f (mk x) (mk2 x) (k x)))
 
   -- one after its length
-  counted : {A : Type 0} {A2 : Type 0} (k : A → A2) (p : ℕ → Parser A) (q : ℕ → Parser A2) (mk : A → V) (mk2 : A2 → V2)
+  counted : {A : Type 0} {A2 : Type 0} (k : A → A2) (p : ℕ → Parser A) (q : ℕ → Parser A2) (mk : A → V) (mk2 : A2 → V')
       → ((n : ℕ) → IsMapped k (p n) (q n)) → ((x : A) → f (mk x) ≡ mk2 (k x))
       → IsMapped f (node (chain length_here (λ n. chain (p n) (λ x. give (mk x))))) (node (chain length_here (λ n. chain (q n) (λ x. give (mk2 x)))))
   counted k p q mk mk2 parts is =
@@ -138,7 +138,7 @@ module _ {V R E V2 R2 E2 : Type 0} (make : Making V R E) (remake : Making V2 R2 
       (λ n. mapped_then k f (p n) (q n) (λ x. give (mk x)) (λ x. give (mk2 x)) (parts n) (λ x. mapped_give f (mk x) (mk2 (k x)) (is x))))
 
   -- values in a row
-  row : (p : Parser R) (q : Parser R2) → IsMapped g p q
+  row : (p : Parser R) (q : Parser R') → IsMapped g p q
       → IsMapped f (node (chain p (λ ts. give (make.items ts)))) (node (chain q (λ ts. give (remake.items ts))))
   row p q k =
       mapped_node f (chain p (λ ts. give (make.items ts))) (chain q (λ ts. give (remake.items ts)))
@@ -148,7 +148,7 @@ module _ {V R E V2 R2 E2 : Type 0} (make : Making V R E) (remake : Making V2 R2 
   unfolding fail_here
   nothing_read e i m b = refl
 
-  module _ (r : List ℕ → Parser V) (s : List ℕ → Parser V2) (names : (n : List ℕ) → IsMapped f (r n) (s n)) where
+  module _ (r : List ℕ → Parser V) (s : List ℕ → Parser V') (names : (n : List ℕ) → IsMapped f (r n) (s n)) where
     mutual
       unfolding shape_here
 

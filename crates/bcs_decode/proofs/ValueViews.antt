@@ -1,5 +1,5 @@
 -- Values, level by level.
-use Rattle.std.proofs.Common.{◌≡◌, ℕ, ℤ, Bool, Vec, Box, Global, String, string_bytes, rules}
+use Rattle.std.proofs.Common.{◌≡◌, ℕ, ℤ, Bool, Vec, Global, String, string_bytes, rules}
 use Rattle.bcs_value.specs.Tree as tree
 use Rattle.bcs_value.specs.View.{tree_of, items_trees, entries_pairs}
 use Rattle.bcs_value.specs.declared.value.Value.{Value, the_lemmas}
@@ -26,17 +26,8 @@ tree_bytes v = search (rules, the_lemmas)
 pub tree_absent : tree_of value.Absent ≡ tree.absent
 tree_absent = search (rules, the_lemmas)
 
-pub tree_present : (b : Box Value Global) → tree_of (value.Present b) ≡ tree.present (tree_of b.value)
-tree_present b = search (rules, the_lemmas)
-
 pub tree_items : (v : Vec Value Global) → tree_of (value.Items v) ≡ tree.items (items_trees v.items)
 tree_items v = search (rules, the_lemmas)
 
-pub tree_variant : (n : ℕ) (b : Box Value Global) → tree_of (value.Variant n b) ≡ tree.variant n (tree_of b.value)
-tree_variant n b = search (rules, the_lemmas)
-
 pub tree_pairs : (v : Vec (Value × Value) Global) → tree_of (value.Pairs v) ≡ tree.pairs (entries_pairs v.items)
 tree_pairs v = search (rules, the_lemmas)
-
-pub tree_named : (b : Box Value Global) → tree_of (value.Named b) ≡ tree.named (tree_of b.value)
-tree_named b = search (rules, the_lemmas)

@@ -1,8 +1,7 @@
 -- What a step over a source says of the bytes that were to come, where they are told.
 use Rattle.std.specs.Prelude.{◌≡◌, ℕ, zero, suc, ◌+◌, ◌≤◌, Bool, false, true, if◌then◌else◌, ◌-◌, List, [], ◌++◌, length, take, drop, get_or, Option, Some, None, Result, Ok, Err}
 use Rattle.std.specs.Int.{Width}
-use Rattle.std.specs.declared.alloc.Global.{Global}
-use Rattle.std.specs.declared.vec.Vec.{Vec}
+use Rattle.std.specs.List.{slice_range}
 use Rattle.bcs_value.specs.Tree as tree
 use Rattle.bcs_registry.specs.Shape as shape
 use Rattle.bcs_registry.specs.Shape.{Shape, Shapes}
@@ -13,6 +12,7 @@ use Rattle.bcs_num.specs.declared.fault.NumFault.TheVariants as num
 use Rattle.bcs_decode.specs.declared.reason.Reason.TheVariants.{EndOfInput, LongForm, NumberTooLarge, TooDeep, BadBool, BadOption, Unsupported}
 use Rattle.bcs_decode.specs.Reading as Reading
 use Rattle.bcs_decode.specs.Reading.{Parser, node, give, chain, fail_here, bytes_here, length_here, uleb_from, flag_here, text_here, unsigned_here, signed_here, number_here, value_here, items_here, pairs_here, key_here, each_here, named_here, content_here, building}
+use Rattle.bcs_decode.specs.declared.streaming.keys.Span.{Span}
 use Rattle.bcs_decode.specs.declared.decode_fault.DecodeFault.{DecodeFault}
 use Rattle.bcs_decode.specs.declared.decode_fault.DecodeFault.TheVariants.{Stop, Read, OutOfMemory}
 use Rattle.bcs_decode.specs.declared.streaming.at.At.{At}
@@ -73,6 +73,18 @@ Halts OutOfMemory c p d q = Unit {0}
 abbrev pub Goes : {X : Type 0} → Result X DecodeFault → Option (List ℕ) → At → Option (List ℕ) → At → Type 0
 Goes (Ok x) c p d q = Along c p d q
 Goes (Err e) c p d q = Halts e c p d q
+
+-- the same within a map: of the bytes that are kept the first n stayed
+pub record AlongMap (n : ℕ) (c : Option (List ℕ)) (p : At) (d : Option (List ℕ)) (q : At) : Type 0 where
+  pub gone : (b : List ℕ) → Left b p.place c → Left b q.place d
+  pub later : p.place ≤ q.place
+  pub same : q.is_in_key ≡ p.is_in_key
+  pub front : take n q.kept.items ≡ take n p.kept.items
+  pub recorded : p.is_in_key ≡ true → (b base : List ℕ) (from : ℕ) → Left b p.place c → Records b base from p → Records b base from q
+
+abbrev pub GoesInMap : {X : Type 0} → ℕ → Result X DecodeFault → Option (List ℕ) → At → Option (List ℕ) → At → Type 0
+GoesInMap n (Ok x) c p d q = AlongMap n c p d q
+GoesInMap n (Err e) c p d q = Halts e c p d q
 
 -- want of memory is answered in an open key alone
 abbrev pub SparesMemory : {X : Type 0} → Result X DecodeFault → At → Type 0
@@ -182,21 +194,26 @@ entries_leaf f g n = pairs_here building f g None n
 abbrev pub key_leaf : Parser Tree → Option (List ℕ) → Parser (Tree × List ℕ)
 key_leaf f last = key_here f last
 
--- the bytes of the last key
-abbrev pub last_bytes : Option (Vec ℕ Global) → Option (List ℕ)
-last_bytes None = None
-last_bytes (Some v) = Some v.items
+-- the bytes of the last key, among those that are kept
+abbrev pub last_bytes : Option Span → List ℕ → Option (List ℕ)
+last_bytes None kept = None
+last_bytes (Some s) kept = Some (slice_range kept s.from s.to)
 
-abbrev pub key_of : Option (Vec ℕ Global) → List ℕ
-key_of None = []
-key_of (Some v) = v.items
+abbrev pub key_of : Option Span → List ℕ → List ℕ
+key_of None kept = []
+key_of (Some s) kept = slice_range kept s.from s.to
+
+-- the last key stands among the first n bytes that are kept, behind those of before the map
+abbrev pub Stands : Option Span → ℕ → ℕ → Type 0
+Stands None begun n = begun ≤ n
+Stands (Some s) begun n = (begun ≤ s.from) × (s.from ≤ s.to) × (s.to ≤ n)
 
 -- a test that reads nothing
 abbrev pub Judges : Result (Unit {0}) DecodeFault → Parser (Unit {0}) → ℕ → Type 0
 Judges (Ok u) f o = (p m : ℕ) (b : List ℕ) → f p m b ≡ Ok (tt, p, m, b)
 Judges (Err (Stop s)) f o = (s.place ≡ o) × ((p m : ℕ) (b : List ℕ) → f p m b ≡ Err (s.reason, s.place))
 Judges (Err Read) f o = ⊥
-Judges (Err OutOfMemory) f o = Unit {0}
+Judges (Err OutOfMemory) f o = ⊥
 
 -- what stands in a container
 abbrev pub content_value : Entries → ℕ → Content → Parser Tree

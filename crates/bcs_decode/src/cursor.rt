@@ -8,7 +8,7 @@ use crate::stop::Stop;
 use bcs_num::{NumFault, take_uleb};
 
 /// The greatest length of a list, a map, a text or a byte string.
-const LENGTH_LIMIT: u32 = 2147483647;
+pub(crate) const LENGTH_LIMIT: u32 = 2147483647;
 
 /// What is left of a slice.
 #[derive(Drop)]

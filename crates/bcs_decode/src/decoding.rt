@@ -15,8 +15,10 @@ use bcs_value::{Limits, Value};
 use std::alloc::Global;
 
 /// The canonical value that the source gives, of which it takes exactly the bytes. A refusal is the stop at which the
-/// bytes stop being a value, or `Read` where the source failed, or `OutOfMemory` where a growth was refused. No memory
-/// is asked for by a length that the bytes announce. After a refusal the source isn't to be read on.
+/// bytes stop being a value, or `Read` where the source failed, or `OutOfMemory` where a growth was refused.
+/// Memory follows the bytes and elements that were read, and none is asked for by a length that the bytes announce.
+/// Elements that have no bytes take memory one by one too, as many as the limit of nodes lets begin. After a refusal the
+/// source isn't to be read on.
 pub fn decode_from<S: ByteSource>(
     alloc: Global,
     registry: &Registry,
@@ -29,7 +31,24 @@ pub fn decode_from<S: ByteSource>(
     ensures read { IsErrOf result DecodeFault.Read → S.is_failed source.new ≡ true }
     ensures memory { takes_no_memory (shape_of format.now) ≡ true → result ≢ Err DecodeFault.OutOfMemory }
 {
-    match front(alloc, registry, format, limits, source) {
+    decode_known(alloc, registry, format, limits, 0, source)
+}
+
+/// The same of a source of which so many bytes are known to come. Vectors begin with room for what that may hold.
+pub(crate) fn decode_known<S: ByteSource>(
+    alloc: Global,
+    registry: &Registry,
+    format: &Format,
+    limits: &Limits,
+    known: u64,
+    source: &mut S,
+) -> Result<Value, DecodeFault>
+    requires { Admits registry.now (shape_of format.now) }
+    ensures told { DecodesFrom registry.now limits.now (shape_of format.now) (S.content source.old) (S.content source.new) result }
+    ensures read { IsErrOf result DecodeFault.Read → S.is_failed source.new ≡ true }
+    ensures memory { takes_no_memory (shape_of format.now) ≡ true → result ≢ Err DecodeFault.OutOfMemory }
+{
+    match front(alloc, registry, format, limits, known, source) {
         Ok((value, _)) => Ok(value),
         Err(fault) => Err(fault),
     }
@@ -49,7 +68,7 @@ pub fn decode_all<S: ByteSource>(
     ensures read { IsErrOf result DecodeFault.Read → S.is_failed source.new ≡ true }
     ensures memory { takes_no_memory (shape_of format.now) ≡ true → result ≢ Err DecodeFault.OutOfMemory }
 {
-    match front(alloc, registry, format, limits, source) {
+    match front(alloc, registry, format, limits, 0, source) {
         Ok((value, length)) => match source.next(&mut [0]) {
             Ok(0) => Ok(value),
             Ok(_) => Err(DecodeFault::Stop(Stop {
@@ -68,6 +87,7 @@ fn front<S: ByteSource>(
     registry: &Registry,
     format: &Format,
     limits: &Limits,
+    known: u64,
     source: &mut S,
 ) -> Result<(Value, u64), DecodeFault>
     requires { Admits registry.now (shape_of format.now) }
@@ -80,6 +100,7 @@ fn front<S: ByteSource>(
     }
     let mut at = At {
         place: 0,
+        known,
         nodes: limits.nodes(),
         is_in_key: false,
         kept: Vec::new(alloc),

@@ -30,6 +30,10 @@ pub use source::{ByteSource, SourceFailed};
 pub use stop::Stop;
 
 #[cfg(test)]
+mod every_change_tests;
+#[cfg(test)]
+mod test_calls;
+#[cfg(test)]
 mod tests;
 #[cfg(test)]
 mod verdict_tests;

@@ -8,7 +8,7 @@ ghost use Rattle.bcs_decode.specs.Stopping.{Stops};
 ghost use Rattle.bcs_decode.specs.declared.reason.Reason.{Reason};
 
 use crate::decode_fault::DecodeFault;
-use crate::decoding::decode_from;
+use crate::decoding::decode_known;
 use crate::from_slice::scan;
 use crate::slice_source::SliceSource;
 use bcs_registry::{Format, Registry};
@@ -35,7 +35,7 @@ pub fn decode_slice(
     match scan(registry, format, limits, bytes) {
         Ok(length) => {
             let mut source = SliceSource::new(bytes);
-            match decode_from(alloc, registry, format, limits, &mut source) {
+            match decode_known(alloc, registry, format, limits, length as u64, &mut source) {
                 Ok(value) => Ok((value, length)),
                 Err(fault) => Err(fault),
             }

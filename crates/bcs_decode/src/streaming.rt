@@ -2,11 +2,15 @@
 
 mod at;
 mod bytes;
+mod containers;
 mod filling;
 mod keys;
 mod leaves;
+mod maps;
 mod names;
 mod number;
+mod room;
+mod rows;
 mod slots;
 mod strings;
 mod values;

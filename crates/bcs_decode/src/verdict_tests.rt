@@ -1,10 +1,8 @@
 use crate::pieces::{PieceSource, RepeatSource};
-use crate::{
-    ByteSource, DecodeFault, Reason, SliceSource, Stop, decode_all, decode_from, decode_slice, scan,
-};
-use bcs_encode::encode;
-use bcs_registry::{Format, Registry};
-use bcs_value::Limits;
+use crate::test_calls::Question;
+use crate::{ByteSource, DecodeFault, Reason, Stop, decode_all, decode_from, test_calls};
+use bcs_registry::Registry;
+use bcs_value::{Limits, Value};
 use std::alloc::AllocGlobal;
 use std::process::Abort;
 use std::test::Fail;
@@ -42,12 +40,15 @@ const NUMBERS: &str = r#"{"MAP":{"KEY":"U8","VALUE":"U8"}}"#;
 
 const TEXTS: &str = r#"{"MAP":{"KEY":"STR","VALUE":"STR"}}"#;
 
+/// Maps stand in its keys and in its values.
+const MAPS: &str =
+    r#"{"MAP":{"KEY":{"MAP":{"KEY":"U8","VALUE":"U8"}},"VALUE":{"MAP":{"KEY":"STR","VALUE":"U8"}}}}"#;
+
+const LETTERS: &str = r#"{"MAP":{"KEY":"STR","VALUE":"U8"}}"#;
+
 const OPTIONS: &str = r#"{"OPTION":{"OPTION":"BOOL"}}"#;
 
-// The bytes in pieces of 1, 2 and 3, and whole.
-const PIECES: [usize; 4] = [1, 2, 3, 65536];
-
-// The front is a value of this length, by `scan` and however a source cuts it, and its encoding is the front again.
+// The front is a value of this length.
 fn accepts(
     rt: &(impl Abort + AllocGlobal),
     format: &str,
@@ -55,68 +56,17 @@ fn accepts(
     bytes: &[u8],
     length: usize,
 ) -> Result<(), Fail> {
-    let alloc = rt.alloc();
-    let registry = Registry::read(alloc, REGISTRY)?;
-    let format = registry.read_format(alloc, format.as_bytes())?;
-    assert_eq!(rt;
-        scan(&registry, &format, limits, bytes),
-        Ok(length),
-        "{bytes:?}"
-    );
-    for piece in PIECES {
-        decodes(rt, &registry, &format, limits, bytes, piece, length)?;
-    }
-    slices(rt, &registry, &format, limits, bytes, length)
-}
-
-// A slice gives a value of this length, and the whole input is one exactly if no byte follows.
-fn slices(
-    rt: &(impl Abort + AllocGlobal),
-    registry: &Registry,
-    format: &Format,
-    limits: &Limits,
-    bytes: &[u8],
-    length: usize,
-) -> Result<(), Fail> {
-    assert!(rt; registry.admits(format));
-    let (_, taken) = decode_slice(rt.alloc(), registry, format, limits, bytes)?;
-    assert_eq!(rt; taken, length, "{bytes:?}");
-    let mut source = SliceSource::new(bytes);
-    let all = decode_all(rt.alloc(), registry, format, limits, &mut source).err();
-    let trailing = Stop {
-        reason: Reason::TrailingBytes,
-        place: length as u64,
+    let registry = Registry::read(rt.alloc(), REGISTRY)?;
+    let format = registry.read_format(rt.alloc(), format.as_bytes())?;
+    let question = Question {
+        registry: &registry,
+        format: &format,
+        limits,
     };
-    let wanted = if length == bytes.len() {
-        None
-    } else {
-        Some(DecodeFault::Stop(trailing))
-    };
-    assert_eq!(rt; all, wanted, "{bytes:?}");
-    Ok(())
+    test_calls::accepts(rt, &question, bytes, length)
 }
 
-// The source gives a value of this length, whose encoding is the front of the bytes.
-fn decodes(
-    rt: &(impl Abort + AllocGlobal),
-    registry: &Registry,
-    format: &Format,
-    limits: &Limits,
-    bytes: &[u8],
-    piece: usize,
-    length: usize,
-) -> Result<(), Fail> {
-    assert!(rt; 1 <= piece && registry.admits(format));
-    let mut source = PieceSource::new(bytes, piece, None);
-    let value = decode_from(rt.alloc(), registry, format, limits, &mut source)?;
-    assert_eq!(rt; source.given(), length as u64, "{bytes:?} by {piece}");
-    let again = encode(rt.alloc(), registry, format, limits, &value)?;
-    assert!(rt; bytes.starts_with(again.as_slice()), "{bytes:?} by {piece}");
-    assert_eq!(rt; again.len(), length, "{bytes:?} by {piece}");
-    Ok(())
-}
-
-// The front stops being a value at this place for this reason, by `scan` and however a source cuts it.
+// The front stops being a value at this place for this reason.
 fn stops(
     rt: &(impl Abort + AllocGlobal),
     format: &str,
@@ -125,42 +75,14 @@ fn stops(
     reason: Reason,
     place: u64,
 ) -> Result<(), Fail> {
-    let alloc = rt.alloc();
-    let registry = Registry::read(alloc, REGISTRY)?;
-    let format = registry.read_format(alloc, format.as_bytes())?;
-    let stop = Stop { reason, place };
-    assert_eq!(rt;
-        scan(&registry, &format, limits, bytes),
-        Err(stop),
-        "{bytes:?}"
-    );
-    for piece in PIECES {
-        refuses(rt, &registry, &format, limits, bytes, piece, stop)?;
-    }
-    Ok(())
-}
-
-// Each decoding call answers this stop.
-fn refuses(
-    rt: &(impl Abort + AllocGlobal),
-    registry: &Registry,
-    format: &Format,
-    limits: &Limits,
-    bytes: &[u8],
-    piece: usize,
-    stop: Stop,
-) -> Result<(), Fail> {
-    assert!(rt; 1 <= piece && registry.admits(format));
-    let wanted = Some(DecodeFault::Stop(stop));
-    let mut source = PieceSource::new(bytes, piece, None);
-    let decoded = decode_from(rt.alloc(), registry, format, limits, &mut source).err();
-    assert_eq!(rt; decoded, wanted, "{bytes:?} by {piece}");
-    let mut source = PieceSource::new(bytes, piece, None);
-    let all = decode_all(rt.alloc(), registry, format, limits, &mut source).err();
-    assert_eq!(rt; all, wanted, "{bytes:?} by {piece}");
-    let sliced = decode_slice(rt.alloc(), registry, format, limits, bytes).err();
-    assert_eq!(rt; sliced, wanted, "{bytes:?}");
-    Ok(())
+    let registry = Registry::read(rt.alloc(), REGISTRY)?;
+    let format = registry.read_format(rt.alloc(), format.as_bytes())?;
+    let question = Question {
+        registry: &registry,
+        format: &format,
+        limits,
+    };
+    test_calls::stops(rt, &question, bytes, Stop { reason, place })
 }
 
 #[test]
@@ -183,6 +105,11 @@ fn values_at_the_front(rt: HostRuntime) -> Result<(), Fail> {
             13,
         ),
         (SWITCHES, b"\x02\x00\x01\x00\x01\x00\x01", 7),
+        (
+            MAPS,
+            b"\x02\x01\x01\x05\x02\x01\x61\x07\x01\x62\x08\x01\x02\x00\x00",
+            15,
+        ),
         (SHORTS, b"\x02\x01\x00\x02\x00\x03", 5),
         (E, b"\x00", 1),
         (E, b"\xac\x02\x07", 3),
@@ -209,7 +136,7 @@ fn values_at_the_front(rt: HostRuntime) -> Result<(), Fail> {
 }
 
 #[test]
-fn stops_within_values(rt: HostRuntime) -> Result<(), Fail> {
+fn stops_at_maps(rt: HostRuntime) -> Result<(), Fail> {
     let standard = Limits::standard();
     for (format, bytes, reason, place) in [
         ("\"BOOL\"", b"".as_slice(), Reason::EndOfInput, 0),
@@ -235,7 +162,75 @@ fn stops_within_values(rt: HostRuntime) -> Result<(), Fail> {
             Reason::KeyOrder,
             5,
         ),
-        ("\"BYTES\"", b"\x80\x00", Reason::LongForm, 0),
+    ] {
+        stops(&rt, format, &standard, bytes, reason, place)?;
+    }
+    Ok(())
+}
+
+#[test]
+fn stops_at_maps_within_maps(rt: HostRuntime) -> Result<(), Fail> {
+    let standard = Limits::standard();
+    for (bytes, reason, place) in [
+        (
+            b"\x02\x01\x01\x05\x00\x01\x01\x05\x00".as_slice(),
+            Reason::KeyRepeated,
+            5,
+        ),
+        (
+            b"\x02\x01\x02\x00\x02\x01\x61\x07\x01\x62\x08\x01\x01\x09\x00",
+            Reason::KeyOrder,
+            11,
+        ),
+        (b"\x01\x02\x02\x00\x01\x00\x00", Reason::KeyOrder, 4),
+        (
+            b"\x01\x01\x01\x05\x02\x01\x62\x00\x01\x62\x00",
+            Reason::KeyRepeated,
+            8,
+        ),
+    ] {
+        stops(&rt, MAPS, &standard, bytes, reason, place)?;
+    }
+    Ok(())
+}
+
+#[test]
+fn stops_within_a_map_of_texts(rt: HostRuntime) -> Result<(), Fail> {
+    let standard = Limits::standard();
+    let map = b"\x02\x01\x62\x01\x02\x61\x61\x02";
+    for length in 0..map.len() {
+        stops(
+            &rt,
+            LETTERS,
+            &standard,
+            &map[..length],
+            Reason::EndOfInput,
+            length as u64,
+        )?;
+    }
+    accepts(&rt, LETTERS, &standard, map, 8)?;
+    for (bytes, reason, place) in [
+        (
+            b"\x02\x01\x62\x01\x03\x61\x61\x02".as_slice(),
+            Reason::EndOfInput,
+            8,
+        ),
+        (b"\x02\x01\x62\x01\x00\x61\x61\x02", Reason::KeyOrder, 4),
+        (b"\x02\x01\x62\x01\x01\x62\x61\x02", Reason::KeyRepeated, 4),
+        (b"\x02\x01\x62\x01\x02\xff\x61\x02", Reason::BadUtf8, 5),
+        (b"\x82\x01\x62\x01\x02\x61\x61\x02", Reason::EndOfInput, 8),
+        (b"\x82\x00\x62\x01\x02\x61\x61\x02", Reason::LongForm, 0),
+    ] {
+        stops(&rt, LETTERS, &standard, bytes, reason, place)?;
+    }
+    Ok(())
+}
+
+#[test]
+fn stops_at_lengths(rt: HostRuntime) -> Result<(), Fail> {
+    let standard = Limits::standard();
+    for (format, bytes, reason, place) in [
+        ("\"BYTES\"", b"\x80\x00".as_slice(), Reason::LongForm, 0),
         ("\"BYTES\"", b"\xff\x00", Reason::LongForm, 0),
         ("\"BYTES\"", b"\x80\x80\x80\x80\x00", Reason::LongForm, 0),
         (
@@ -271,7 +266,22 @@ fn stops_within_values(rt: HostRuntime) -> Result<(), Fail> {
         ("\"BYTES\"", b"\xff\xff\xff\xff", Reason::EndOfInput, 4),
         ("\"BYTES\"", b"\x80\x80", Reason::EndOfInput, 2),
         ("\"BYTES\"", b"", Reason::EndOfInput, 0),
-        (LIST, b"\xff\xff\xff\xff\x07", Reason::EndOfInput, 5),
+    ] {
+        stops(&rt, format, &standard, bytes, reason, place)?;
+    }
+    Ok(())
+}
+
+#[test]
+fn stops_within_values(rt: HostRuntime) -> Result<(), Fail> {
+    let standard = Limits::standard();
+    for (format, bytes, reason, place) in [
+        (
+            LIST,
+            b"\xff\xff\xff\xff\x07".as_slice(),
+            Reason::EndOfInput,
+            5,
+        ),
         (SHORTS, b"\x02\x01\x00\x02", Reason::EndOfInput, 4),
         ("\"STR\"", b"\x03\x61\xff\x62", Reason::BadUtf8, 2),
         ("\"STR\"", b"\x03\x61\xff", Reason::EndOfInput, 3),
@@ -343,9 +353,9 @@ fn limits_are_met(rt: HostRuntime) -> Result<(), Fail> {
     Ok(())
 }
 
-// Endless bytes end the reading, and a failed read is told as one.
+// Endless bytes end the reading.
 #[test]
-fn sources_of_other_kinds(rt: HostRuntime) -> Result<(), Fail> {
+fn endless_sources(rt: HostRuntime) -> Result<(), Fail> {
     let alloc = rt.alloc();
     let registry = Registry::read(alloc, REGISTRY)?;
     let limits = Limits::standard();
@@ -374,10 +384,36 @@ fn sources_of_other_kinds(rt: HostRuntime) -> Result<(), Fail> {
     };
     let answer = decode_from(alloc, &registry, &list, &limits, &mut RepeatSource::new(1)).err();
     assert_eq!(rt; answer, Some(DecodeFault::Stop(deep)));
-    let short = registry.read_format(alloc, br#""I16""#)?;
-    let mut failing = PieceSource::new(b"\xcc\xed", 1, Some(2));
-    let answer = decode_from(alloc, &registry, &short, &limits, &mut failing).err();
-    assert_eq!(rt; answer, Some(DecodeFault::Read));
-    assert!(rt; failing.failed());
+    Ok(())
+}
+
+// The source gives a byte a call, and its second call fails.
+#[test]
+fn reads_fail_only_where_a_byte_is_wanted(rt: HostRuntime) -> Result<(), Fail> {
+    let alloc = rt.alloc();
+    let registry = Registry::read(alloc, REGISTRY)?;
+    let limits = Limits::standard();
+    let number = registry.read_format(alloc, br#""I16""#)?;
+    let mut source = PieceSource::new(b"\xcc\xed", 1, Some(2));
+    let cut = decode_from(alloc, &registry, &number, &limits, &mut source).err();
+    assert_eq!(rt; cut, Some(DecodeFault::Read));
+    assert!(rt; source.failed());
+    let truth = registry.read_format(alloc, br#""BOOL""#)?;
+    let mut source = PieceSource::new(b"\x01", 1, Some(2));
+    let front = decode_from(alloc, &registry, &truth, &limits, &mut source)?;
+    assert!(rt; matches!(front, Value::Bool(true)));
+    assert!(rt; !source.failed());
+    let mut source = PieceSource::new(b"\x01", 1, Some(2));
+    let whole = decode_all(alloc, &registry, &truth, &limits, &mut source).err();
+    assert_eq!(rt; whole, Some(DecodeFault::Read));
+    assert!(rt; source.failed());
+    let mut source = PieceSource::new(b"\x02", 1, Some(2));
+    let bad = Stop {
+        reason: Reason::BadBool,
+        place: 0,
+    };
+    let refused = decode_from(alloc, &registry, &truth, &limits, &mut source).err();
+    assert_eq!(rt; refused, Some(DecodeFault::Stop(bad)));
+    assert!(rt; !source.failed());
     Ok(())
 }

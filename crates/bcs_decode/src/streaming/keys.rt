@@ -1,41 +1,64 @@
-//! The order of keys.
-ghost use Rattle.std.specs.Prelude.{◌≡◌, Some, IfOk};
+//! The keys of a map that is being read.
+ghost use Rattle.std.specs.Prelude.{◌≡◌, ℕ, ◌≤◌, length, take, drop, false, true, Some, IfOk};
 ghost use Rattle.bcs_decode.specs.Reading.{key_after};
-ghost use Rattle.bcs_decode.specs.Sees.{Judges, last_bytes};
+ghost use Rattle.bcs_decode.specs.Sees.{Judges, Stands, last_bytes};
 
 use crate::decode_fault::DecodeFault;
 use crate::reason::Reason;
 use crate::stop::Stop;
-use std::alloc::Global;
+use crate::streaming::at::At;
 use std::cmp::Ordering;
 
-/// Tests that a key may follow the last one, and makes it the last.
+/// The keys of a map that is being read, among the bytes that are kept.
+#[derive(Drop)]
+pub(crate) struct MapKeys {
+    /// How many bytes were kept when the map began.
+    pub begun: usize,
+    /// Where the last key stands.
+    pub last: Option<Span>,
+}
+
+/// A range of the bytes that are kept.
+#[derive(Clone, Copy)]
+pub(crate) struct Span {
+    pub from: usize,
+    pub to: usize,
+}
+
+/// Tests that the key that is kept from `from` on may follow the last one, and makes it the last.
 #[inline(never)]
 pub(crate) fn follow(
-    alloc: Global,
-    last: &mut Option<Vec<u8>>,
-    key: &[u8],
+    at: &mut At,
+    keys: &mut MapKeys,
+    from: usize,
     start: u64,
 ) -> Result<(), DecodeFault>
-    ensures judges { Judges result (key_after (last_bytes last.old) key.now start) start }
-    ensures last { IfOk result (λ _. last_bytes last.new ≡ Some key.now) }
+    requires stands { Stands keys.old.last keys.old.begun from }
+    requires long { from ≤ length at.old.kept.items }
+    ensures judges { Judges result (key_after (last_bytes keys.old.last at.old.kept.items) (drop from at.old.kept.items) start) start }
+    ensures same { (at.new.place ≡ at.old.place) × (at.new.nodes ≡ at.old.nodes) × (at.new.is_in_key ≡ at.old.is_in_key) }
+    ensures recorded { at.old.is_in_key ≡ true → at.new.kept.items ≡ at.old.kept.items }
+    ensures front { take keys.old.begun at.new.kept.items ≡ take keys.old.begun at.old.kept.items }
+    ensures begun { keys.new.begun ≡ keys.old.begun }
+    ensures stands { IfOk result (λ _. Stands keys.new.last keys.new.begun (length at.new.kept.items)) }
+    ensures last { IfOk result (λ _. last_bytes keys.new.last at.new.kept.items ≡ Some (drop from at.old.kept.items)) }
 {
-    judge(last, key, start)?;
-    let mut kept = Vec::new(alloc);
-    kept.extend_from_slice(key)?;
-    *last = Some(kept);
+    judge(keys, at.kept.as_slice(), from, start)?;
+    settle(at, keys, from);
     Ok(())
 }
 
-/// Whether a key may follow the last one.
+/// Whether the key that is kept from `from` on may follow the last one.
 #[tactic(auto, unfolding(crate::specs::Reading::key_after, crate::specs::Reading::give, crate::specs::Reading::fail))]
-fn judge(last: &Option<Vec<u8>>, key: &[u8], start: u64) -> Result<(), DecodeFault>
-    ensures judges { Judges result (key_after (last_bytes last.now) key.now start) start }
+fn judge(keys: &MapKeys, kept: &[u8], from: usize, start: u64) -> Result<(), DecodeFault>
+    requires stands { Stands keys.now.last keys.now.begun from }
+    requires long { from ≤ length kept.now }
+    ensures judges { Judges result (key_after (last_bytes keys.now.last kept.now) (drop from kept.now) start) start }
 {
-    let Some(last) = last else {
+    let Some(last) = keys.last else {
         return Ok(());
     };
-    match last.as_slice().cmp(key) {
+    match kept[last.from..last.to].cmp(&kept[from..]) {
         Ordering::Less => Ok(()),
         Ordering::Equal => Err(DecodeFault::Stop(Stop {
             reason: Reason::KeyRepeated,
@@ -45,5 +68,42 @@ fn judge(last: &Option<Vec<u8>>, key: &[u8], start: u64) -> Result<(), DecodeFau
             reason: Reason::KeyOrder,
             place: start,
         })),
+    }
+}
+
+/// Makes the key that is kept from `from` on the last one. Outside keys it is moved to where the map began.
+fn settle(at: &mut At, keys: &mut MapKeys, from: usize)
+    requires stands { Stands keys.old.last keys.old.begun from }
+    requires long { from ≤ length at.old.kept.items }
+    ensures same { (at.new.place ≡ at.old.place) × (at.new.nodes ≡ at.old.nodes) × (at.new.is_in_key ≡ at.old.is_in_key) }
+    ensures recorded { at.old.is_in_key ≡ true → at.new.kept.items ≡ at.old.kept.items }
+    ensures front { take keys.old.begun at.new.kept.items ≡ take keys.old.begun at.old.kept.items }
+    ensures begun { keys.new.begun ≡ keys.old.begun }
+    ensures stands { Stands keys.new.last keys.new.begun (length at.new.kept.items) }
+    ensures last { last_bytes keys.new.last at.new.kept.items ≡ Some (drop from at.old.kept.items) }
+{
+    let to = at.kept.len();
+    if at.is_in_key {
+        keys.last = Some(Span { from, to });
+        return;
+    }
+    let end = keys.begun + (to - from);
+    at.kept.copy_within(from..to, keys.begun);
+    at.kept.truncate(end);
+    keys.last = Some(Span {
+        from: keys.begun,
+        to: end,
+    });
+}
+
+/// Lets the last key of a map go that stands outside keys.
+#[inline(never)]
+pub(crate) fn let_go(at: &mut At, keys: &MapKeys)
+    ensures same { (at.new.place ≡ at.old.place) × (at.new.nodes ≡ at.old.nodes) × (at.new.is_in_key ≡ at.old.is_in_key) }
+    ensures recorded { at.old.is_in_key ≡ true → at.new.kept.items ≡ at.old.kept.items }
+    ensures unrecorded { at.old.is_in_key ≡ false → at.new.kept.items ≡ take keys.now.begun at.old.kept.items }
+{
+    if !at.is_in_key {
+        at.kept.truncate(keys.begun);
     }
 }

@@ -3,15 +3,13 @@ ghost use Rattle.std.specs.Prelude.{◌≡◌, ℕ, ◌+◌, ◌<◌, ◌≤◌,
 ghost use Rattle.bcs_decode.specs.Reading.{number_here, length_here};
 ghost use Rattle.bcs_decode.specs.Sees.{Sees, FailedIfRead, Goes, tail_here, tail_limit, row_here};
 
+use crate::cursor::LENGTH_LIMIT;
 use crate::decode_fault::DecodeFault;
 use crate::reason::Reason;
 use crate::source::ByteSource;
 use crate::stop::Stop;
 use crate::streaming::at::At;
 use crate::streaming::bytes::{begin, byte};
-
-/// The greatest length of a list, a map, a text or a byte string.
-const LENGTH_LIMIT: u32 = 2147483647;
 
 /// A number.
 #[tactic(auto, using(crate::proofs::Chains::number_is))]

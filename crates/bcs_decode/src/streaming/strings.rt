@@ -9,6 +9,7 @@ use crate::source::ByteSource;
 use crate::stop::Stop;
 use crate::streaming::at::At;
 use crate::streaming::bytes::read_exact;
+use crate::streaming::room::make_room;
 use std::alloc::Global;
 
 /// How many bytes are taken at a time.
@@ -30,6 +31,7 @@ pub(crate) fn bytes<S: ByteSource>(
     ensures far { IfOk result (λ v. at.new.place ≡ at.old.place + length v.items) }
 {
     let mut found = Vec::new(alloc);
+    make_room(alloc, &mut found, at, u64::from(count))?;
     let mut block = [0u8; BLOCK];
     while found.len() < count as usize {
         let size = (count as usize - found.len()).min(BLOCK);

@@ -6,18 +6,18 @@ use Rattle.bcs_decode.specs.Whole.{DecodesFrom}
 use Rattle.bcs_decode.proofs.Slices.{refused_slice}
 use Rattle.bcs_decode.proofs.slice_decoding.decode_slice.Goals as goal
 
-pub returns-in-Ok-decode_from-clause-stopped : goal.returns-in-Ok-decode_from-clause-stopped
-returns-in-Ok-decode_from-clause-stopped c = λ e o bad. absurd (let h = c.in-Ok.ensures.stopped e o bad in cc)
+pub returns-in-Ok-decode_known-clause-stopped : goal.returns-in-Ok-decode_known-clause-stopped
+returns-in-Ok-decode_known-clause-stopped c = λ e o bad. absurd (let h = c.in-Ok.ensures.stopped e o bad in cc)
 
-pub returns-in-Err-decode_from-clause-decodes : goal.returns-in-Err-decode_from-clause-decodes
-returns-in-Err-decode_from-clause-decodes c =
+pub returns-in-Err-decode_known-clause-decodes : goal.returns-in-Err-decode_known-clause-decodes
+returns-in-Err-decode_known-clause-decodes c =
     let r = c.args.registry.now in
     let l = c.args.limits.now in
     let s = shape_of c.args.format.now in
     let b = c.args.bytes.now in
     let bytes : AreBytes b = λ k d lt. (let same = get_or_default b k d 0 lt in omega (arith, same, c.type_inv.bytes k)) in
-    let told = subst (λ (x : List ℕ). DecodesFrom r l s (Some x) (Some c.decode_from.new.source) (Err c.in-Err-decode_from.fault)) c.new-source.ensures c.in-Err-decode_from.ensures.told in
-    refused_slice r l s b (Some c.decode_from.new.source) c.in-Err-decode_from.fault bytes told (λ read. (let h = c.in-Err-decode_from.ensures.read (ap Err read) in cc)) (c.in-Ok.length, c.in-Ok.ensures.found.0, c.in-Ok.ensures.found.1)
+    let told = subst (λ (x : List ℕ). DecodesFrom r l s (Some x) (Some c.decode_known.new.source) (Err c.in-Err-decode_known.fault)) c.new-source.ensures c.in-Err-decode_known.ensures.told in
+    refused_slice r l s b (Some c.decode_known.new.source) c.in-Err-decode_known.fault bytes told (λ read. (let h = c.in-Err-decode_known.ensures.read (ap Err read) in cc)) (c.in-Ok.length, c.in-Ok.ensures.found.0, c.in-Ok.ensures.found.1)
 
-pub returns-in-Err-decode_from-clause-stopped : goal.returns-in-Err-decode_from-clause-stopped
-returns-in-Err-decode_from-clause-stopped c = λ e o bad. absurd (let h = c.in-Ok.ensures.stopped e o bad in cc)
+pub returns-in-Err-decode_known-clause-stopped : goal.returns-in-Err-decode_known-clause-stopped
+returns-in-Err-decode_known-clause-stopped c = λ e o bad. absurd (let h = c.in-Ok.ensures.stopped e o bad in cc)

@@ -11,16 +11,16 @@ pub loop-block-init : goal.loop-block-init
 loop-block-init g c = record {
   good = c.requires.good;
   room = c.requires.room;
-  within = omega (arith, ap length c.new-found.ensures.items);
-  far = omega (arith, ap length c.new-found.ensures.items);
+  within = omega (arith, ap length c.in_ok-make_room.ensures.empty);
+  far = omega (arith, ap length c.in_ok-make_room.ensures.empty);
   block = omega arith;
-  sees = rw c.new-found.ensures.items (bytes_none c.args.count (g.S.ByteSource.content c.args.source.now) c.args.at.now);
+  sees = rw c.in_ok-make_room.ensures.empty (bytes_none c.args.count (g.S.ByteSource.content c.args.source.now) c.args.at.now);
   goes = Along-none (g.S.ByteSource.content c.args.source.now) c.args.at.now;
 }
 
 pub returns-in_err-read_exact-clause-sees : goal.returns-in_err-read_exact-clause-sees
 returns-in_err-read_exact-clause-sees g c =
-    let p = err_from_is_err_and c.from_residual.result c.from_residual.ensures.1 in
+    let p = err_from_is_err_and c.from_residual-in_err-read_exact.result c.from_residual-in_err-read_exact.ensures.1 in
     let size = c.min-size.result in
     let front : length (take size c.loop-block.block) ≡ size = length-take-le size c.loop-block.block (omega arith) in
     rw (p.1, p.2) (bytes_refused c.in_err-read_exact.field-0.0 c.args.count size c.loop-block.found.items _ _ c.args.at.now c.loop-block.at (omega arith) c.loop-block.invariant.sees
