@@ -58,7 +58,7 @@ fn read(rt: HostRuntime) -> Result<(), Fail> {
 }
 
 #[test]
-fn refused(rt: HostRuntime) {
+fn texts_and_tags_that_are_refused(rt: HostRuntime) {
     for (text, fault) in [
         ("", RegistryFault::NotJson),
         (r#"{"S":"UNITSTRUCT""#, RegistryFault::NotJson),
@@ -91,6 +91,18 @@ fn refused(rt: HostRuntime) {
             r#"{"S":{"NEWTYPESTRUCT":{"MAP":{"KEY":"U8","VALUE":"U8","X":"U8"}}}}"#,
             RegistryFault::BadShape,
         ),
+    ] {
+        assert!(rt; fault_of(rt.alloc(), text) == Some(fault), "{text}");
+    }
+    assert!(rt;
+        Registry::read(rt.alloc(), b"{\"\xff\":\"UNITSTRUCT\"}").err()
+            == Some(RegistryFault::NotJson)
+    );
+}
+
+#[test]
+fn parts_that_are_refused(rt: HostRuntime) {
+    for (text, fault) in [
         (
             r#"{"S":{"NEWTYPESTRUCT":{"TUPLE":{}}}}"#,
             RegistryFault::BadShape,
@@ -115,6 +127,14 @@ fn refused(rt: HostRuntime) {
             r#"{"S":{"ENUM":{"00":{"A":"UNIT"}}},"T":7}"#,
             RegistryFault::BadShape,
         ),
+    ] {
+        assert!(rt; fault_of(rt.alloc(), text) == Some(fault), "{text}");
+    }
+}
+
+#[test]
+fn numbers_that_are_refused(rt: HostRuntime) {
+    for (text, fault) in [
         (
             r#"{"S":{"ENUM":{"00":{"A":"UNIT"}}}}"#,
             RegistryFault::BadNumber,
@@ -155,6 +175,14 @@ fn refused(rt: HostRuntime) {
             r#"{"S":{"NEWTYPESTRUCT":{"TUPLEARRAY":{"CONTENT":"U8","SIZE":18446744073709551616}}}}"#,
             RegistryFault::BadNumber,
         ),
+    ] {
+        assert!(rt; fault_of(rt.alloc(), text) == Some(fault), "{text}");
+    }
+}
+
+#[test]
+fn names_that_are_refused(rt: HostRuntime) {
+    for (text, fault) in [
         (
             r#"{"S":{"ENUM":{"0":{"A":"UNIT"},"1":{"A":"UNIT"}}}}"#,
             RegistryFault::RepeatedName,
@@ -170,10 +198,6 @@ fn refused(rt: HostRuntime) {
     ] {
         assert!(rt; fault_of(rt.alloc(), text) == Some(fault), "{text}");
     }
-    assert!(rt;
-        Registry::read(rt.alloc(), b"{\"\xff\":\"UNITSTRUCT\"}").err()
-            == Some(RegistryFault::NotJson)
-    );
 }
 
 #[test]
