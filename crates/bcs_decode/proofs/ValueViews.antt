@@ -1,7 +1,7 @@
 -- Values, level by level.
 use Rattle.std.proofs.Common.{◌≡◌, ℕ, ℤ, Bool, Vec, Global, String, string_bytes, rules}
 use Rattle.bcs_value.specs.Tree as tree
-use Rattle.bcs_value.specs.View.{tree_of, items_trees, entries_pairs}
+use Rattle.bcs_value.specs.View.{tree_of}
 use Rattle.bcs_value.specs.declared.value.Value.{Value, the_lemmas}
 use Rattle.bcs_value.specs.declared.value.Value as value
 
@@ -25,9 +25,3 @@ tree_bytes v = search (rules, the_lemmas)
 
 pub tree_absent : tree_of value.Absent ≡ tree.absent
 tree_absent = search (rules, the_lemmas)
-
-pub tree_items : (v : Vec Value Global) → tree_of (value.Items v) ≡ tree.items (items_trees v.items)
-tree_items v = search (rules, the_lemmas)
-
-pub tree_pairs : (v : Vec (Value × Value) Global) → tree_of (value.Pairs v) ≡ tree.pairs (entries_pairs v.items)
-tree_pairs v = search (rules, the_lemmas)

@@ -3,6 +3,7 @@
 mod at;
 mod bytes;
 mod containers;
+mod entries;
 mod filling;
 mod keys;
 mod leaves;

@@ -34,8 +34,7 @@ pub(crate) fn order_entries(
         return Err(EncodeFault::RepeatedKey);
     }
     append_bytes(&entries, out)?;
-    let mut pairs = values_of(entries, alloc)?;
-    put_pairs(alloc, slot, &mut pairs);
+    put_pairs(slot, values_of(entries, alloc)?);
     Ok(())
 }
 

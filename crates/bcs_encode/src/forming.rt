@@ -258,7 +258,7 @@ fn form_all(
         form(item, element, registry, alloc, out, slot)?;
         keep(&mut forms, slot)?;
     }
-    put_items(alloc, slot, &mut forms);
+    put_items(slot, forms);
     Ok(())
 }
 
@@ -286,7 +286,7 @@ fn form_each(
         form(item, &formats[i], registry, alloc, out, slot)?;
         keep(&mut forms, slot)?;
     }
-    put_items(alloc, slot, &mut forms);
+    put_items(slot, forms);
     Ok(())
 }
 
@@ -314,7 +314,7 @@ fn form_fields(
         form(item, &fields[i].value, registry, alloc, out, slot)?;
         keep(&mut forms, slot)?;
     }
-    put_items(alloc, slot, &mut forms);
+    put_items(slot, forms);
     Ok(())
 }
 

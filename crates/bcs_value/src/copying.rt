@@ -57,7 +57,7 @@ fn copy_items(items: &[Value], slot: &mut Value, alloc: Global) -> Result<(), Al
         copy_to(item, slot, alloc)?;
         keep(&mut copies, slot)?;
     }
-    put_items(alloc, slot, &mut copies);
+    put_items(slot, copies);
     Ok(())
 }
 
@@ -72,7 +72,7 @@ fn copy_pairs(pairs: &[(Value, Value)], slot: &mut Value, alloc: Global) -> Resu
         copy_to(value, slot, alloc)?;
         keep_entry(&mut copies, &mut copied, slot)?;
     }
-    put_pairs(alloc, slot, &mut copies);
+    put_pairs(slot, copies);
     Ok(())
 }
 

@@ -39,24 +39,20 @@ pub fn wrap_variant(alloc: Global, number: u32, slot: &mut Value) -> Result<(), 
     Ok(())
 }
 
-/// Puts the row into the slot, and leaves an empty one.
+/// Puts the row into the slot.
 #[inline(never)]
-pub fn put_items(alloc: Global, slot: &mut Value, found: &mut Vec<Value>)
-    ensures put { tree_of slot.new ≡ items (items_trees found.old.items) }
-    ensures emptied { found.new.items ≡ [] }
+pub fn put_items(slot: &mut Value, found: Vec<Value>)
+    ensures { tree_of slot.new ≡ items (items_trees found.items) }
 {
-    let taken = mem::replace(found, Vec::new(alloc));
-    *slot = Value::Items(taken);
+    *slot = Value::Items(found);
 }
 
-/// Puts the entries into the slot, and leaves none.
+/// Puts the entries into the slot.
 #[inline(never)]
-pub fn put_pairs(alloc: Global, slot: &mut Value, found: &mut Vec<(Value, Value)>)
-    ensures put { tree_of slot.new ≡ pairs (entries_pairs found.old.items) }
-    ensures emptied { found.new.items ≡ [] }
+pub fn put_pairs(slot: &mut Value, found: Vec<(Value, Value)>)
+    ensures { tree_of slot.new ≡ pairs (entries_pairs found.items) }
 {
-    let taken = mem::replace(found, Vec::new(alloc));
-    *slot = Value::Pairs(taken);
+    *slot = Value::Pairs(found);
 }
 
 /// Moves the value from the slot to the end of the row, and leaves `Unit`. An error comes only for want of memory.

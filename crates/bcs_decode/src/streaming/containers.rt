@@ -15,11 +15,11 @@ use crate::streaming::leaves::put_unit;
 use crate::streaming::names::{enter, variant_number};
 use crate::streaming::room::make_room;
 use crate::streaming::rows::tuple;
-use crate::streaming::slots::{discard, put_items};
+use crate::streaming::slots::discard;
 use crate::streaming::values::value;
 use bcs_registry::{Container, Format, Named, Registry, VariantFormat};
 use bcs_value::Value;
-use bcs_value::slot::{keep, wrap_named, wrap_variant};
+use bcs_value::slot::{keep, put_items, wrap_named, wrap_variant};
 use std::alloc::Global;
 
 /// The container of this name.

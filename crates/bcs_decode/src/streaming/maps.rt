@@ -7,13 +7,14 @@ ghost use Rattle.bcs_decode.specs.Sees.{Sees, FailedIfRead, Goes, GoesInMap, Sta
 use crate::decode_fault::DecodeFault;
 use crate::source::ByteSource;
 use crate::streaming::at::At;
+use crate::streaming::entries::{Entries, put_entries};
 use crate::streaming::keys::{MapKeys, follow, let_go};
 use crate::streaming::number::row_count;
-use crate::streaming::room::make_room;
-use crate::streaming::slots::{Entries, discard, keep_entry, put_pairs};
+use crate::streaming::slots::discard;
 use crate::streaming::values::value;
 use bcs_registry::{Format, Registry};
 use bcs_value::Value;
+use bcs_value::slot::keep_entry;
 use std::alloc::Global;
 
 /// A map.
@@ -38,11 +39,7 @@ pub(crate) fn pairs<S: ByteSource>(
     ensures goes { Goes result (S.content source.old) at.old (S.content source.new) at.new }
 {
     let count = row_count(source, at, None)?;
-    let mut entries = Entries {
-        found: Vec::new(alloc),
-        key: Value::Unit,
-    };
-    make_room(alloc, &mut entries.found, at, count)?;
+    let mut entries = Entries::with_room(alloc, at, count)?;
     match each_entry(
         alloc,
         registry,
@@ -56,7 +53,7 @@ pub(crate) fn pairs<S: ByteSource>(
         &mut entries,
     ) {
         Ok(()) => {
-            put_pairs(slot, entries);
+            put_entries(slot, entries);
             Ok(())
         }
         Err(fault) => {
@@ -104,7 +101,7 @@ fn each_entry<S: ByteSource>(
             &mut entries.key,
         )?;
         value(alloc, registry, part, depth, source, at, slot)?;
-        keep_entry(entries, slot)?;
+        keep_entry(&mut entries.found, &mut entries.key, slot)?;
     }
     let_go(at, &keys);
     Ok(())

@@ -10,11 +10,11 @@ use crate::streaming::at::At;
 use crate::streaming::bytes::begin;
 use crate::streaming::number::row_count;
 use crate::streaming::room::make_room;
-use crate::streaming::slots::{discard, put_items};
+use crate::streaming::slots::discard;
 use crate::streaming::values::value;
 use bcs_registry::{Format, Registry};
 use bcs_value::Value;
-use bcs_value::slot::keep;
+use bcs_value::slot::{keep, put_items};
 use std::alloc::Global;
 
 /// A list or an array.

@@ -245,7 +245,7 @@ maps::each_entry-loop-preserved g t c =
       goes = AlongMap-then n n (g.S.ByteSource.content c.args.source.now) (g.S.ByteSource.content c.next_key.new.source) (g.S.ByteSource.content c.value.new.source) c.args.at.now c.next_key.new.at c.value.new.at
           (AlongMap-then n c.loop.keys.begun (g.S.ByteSource.content c.args.source.now) (g.S.ByteSource.content c.loop.source) (g.S.ByteSource.content c.next_key.new.source) c.args.at.now c.loop.at c.next_key.new.at c.loop.invariant.goes (sym c.loop.invariant.begun) key.goes) refl
           (AlongMap-value n (g.S.ByteSource.content c.next_key.new.source) (g.S.ByteSource.content c.value.new.source) c.next_key.new.at c.value.new.at low goes);
-      sees = rw (c.in_ok-keep_entry.ensures, last) pairs;
+      sees = rw (c.in_ok-keep_entry.ensures.kept, last) pairs;
     }
 
 pub maps::each_entry-returns-clause-sees : goal.maps::each_entry-returns-clause-sees

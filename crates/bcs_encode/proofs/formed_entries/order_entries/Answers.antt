@@ -20,7 +20,7 @@ returns-clause-tells c =
 
 pub returns-clause-formed : goal.returns-clause-formed
 returns-clause-formed c =
-    c.put_pairs.ensures.put
-    ∙ ap (λ (ps : List (Tree × Tree)). tree.pairs (pairs_of ps)) (c.in_ok-pairs.ensures
+    c.put_pairs.ensures
+    ∙ ap (λ (ps : List (Tree × Tree)). tree.pairs (pairs_of ps)) (c.in_ok-values_of.ensures
     ∙ sym (formed_sorted c.args.entries.items c.sort_by_keys.new.entries.items
     c.sort_by_keys.ensures.permutation c.in_ok-sort_by_keys.ensures.sorted (search rules)))
