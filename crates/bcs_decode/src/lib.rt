@@ -28,12 +28,3 @@ pub use slice_decoding::decode_slice;
 pub use slice_source::SliceSource;
 pub use source::{ByteSource, SourceFailed};
 pub use stop::Stop;
-
-#[cfg(test)]
-mod every_change_tests;
-#[cfg(test)]
-mod test_calls;
-#[cfg(test)]
-mod tests;
-#[cfg(test)]
-mod verdict_tests;

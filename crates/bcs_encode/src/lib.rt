@@ -4,23 +4,15 @@
 mod arranging;
 mod by_entries;
 mod encoding;
-#[cfg(test)]
-mod encoding_tests;
 mod entry_bytes;
 mod fault;
-#[cfg(test)]
-mod form_tests;
 mod formed_entries;
 mod formed_entry;
 mod forming;
-#[cfg(test)]
-mod large_value_tests;
 pub mod laws;
 mod lengths;
 mod number_format;
 mod number_rows;
-#[cfg(test)]
-mod number_rows_tests;
 pub mod pieces;
 mod putting;
 mod sink;
@@ -38,6 +30,3 @@ pub use forming::canonicalise;
 pub use sink::{ByteSink, SinkFailed};
 pub use write_sink::WriteSink;
 pub use writing::write;
-
-#[cfg(test)]
-mod tests;

@@ -4,15 +4,11 @@
 mod copying;
 mod counting;
 mod fitting;
-#[cfg(test)]
-mod fitting_tests;
 pub mod laws;
 mod limits;
 mod nesting;
 mod sameness;
 pub mod slot;
-#[cfg(test)]
-mod tests;
 mod value;
 
 pub use counting::nodes;

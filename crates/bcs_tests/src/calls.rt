@@ -1,6 +1,6 @@
 //! One verdict on bytes, asked of each call.
-use crate::pieces::PieceSource;
-use crate::{DecodeFault, Reason, Stop, decode_all, decode_from, decode_slice, scan};
+use bcs_decode::pieces::PieceSource;
+use bcs_decode::{DecodeFault, Reason, Stop, decode_all, decode_from, decode_slice, scan};
 use bcs_encode::encode;
 use bcs_registry::{Format, Registry};
 use bcs_value::Limits;

@@ -1,5 +1,6 @@
-use crate::pieces::{PieceSource, RepeatSource};
-use crate::{ByteSource, DecodeFault, ReadSource, Reason, SliceSource, SourceFailed, Stop};
+//! Where bytes come from.
+use bcs_decode::pieces::{PieceSource, RepeatSource};
+use bcs_decode::{ByteSource, DecodeFault, ReadSource, Reason, SliceSource, SourceFailed, Stop};
 use std::io;
 use std::io::{ErrorKind, Read};
 use std::test::Fail;

@@ -1,5 +1,6 @@
 //! Which values are the same, how deep and how large they are, copies, limits, and what the stack holds.
-use crate::{Limits, Value, depth, nodes, same};
+use crate::building::{named, present, variant};
+use bcs_value::{Limits, Value, depth, nodes, same};
 use std::alloc::{AllocError, Global};
 use std::test::Fail;
 
@@ -10,18 +11,6 @@ fn numbers(alloc: Global, entries: &[(u128, u128)]) -> Result<Value, AllocError>
         pairs.push((Value::Unsigned(*key), Value::Unsigned(*value)))?;
     }
     Ok(Value::Pairs(pairs))
-}
-
-fn named(alloc: Global, value: Value) -> Result<Value, AllocError> {
-    Ok(Value::Named(Box::new(alloc, value)?))
-}
-
-fn present(alloc: Global, value: Value) -> Result<Value, AllocError> {
-    Ok(Value::Present(Box::new(alloc, value)?))
-}
-
-fn variant(alloc: Global, number: u32, value: Value) -> Result<Value, AllocError> {
-    Ok(Value::Variant(number, Box::new(alloc, value)?))
 }
 
 /// A struct of one field, its next, so many times.

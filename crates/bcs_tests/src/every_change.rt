@@ -1,5 +1,5 @@
 //! Each front of some inputs and each change of one of their bytes: the calls give one verdict.
-use crate::test_calls::{Question, agree};
+use crate::calls::{Question, agree};
 use bcs_registry::Registry;
 use bcs_value::Limits;
 use std::alloc::AllocGlobal;

@@ -1,6 +1,8 @@
-use crate::encoding_tests::{MAPS_AS_KEYS, map, two};
-use crate::pieces::PieceSink;
-use crate::{ByteSink, WriteFault, canonicalise, write};
+//! Canonical forms, and bytes that are written.
+use crate::building::map;
+use crate::encoding::{MAPS_AS_KEYS, two};
+use bcs_encode::pieces::PieceSink;
+use bcs_encode::{ByteSink, WriteFault, canonicalise, write};
 use bcs_registry::Registry;
 use bcs_value::{Limits, Value, same};
 use std::test::Fail;

@@ -1,5 +1,6 @@
 //! Lists and arrays of plain numbers, of each width.
-use crate::encoding_tests::{gives, items};
+use crate::building::items;
+use crate::encoding::gives;
 use bcs_value::Value;
 use std::test::Fail;
 

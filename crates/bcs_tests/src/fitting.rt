@@ -1,5 +1,7 @@
-use crate::{Value, depth, fits_loosely, has_format, nodes};
+//! Which values have which formats.
+use crate::building::{named, variant};
 use bcs_registry::{Format, Registry};
+use bcs_value::{Value, depth, fits_loosely, has_format, nodes};
 use std::alloc::{AllocError, Global};
 use std::process::Abort;
 use std::test::Fail;
@@ -15,14 +17,6 @@ const REGISTRY: &[u8] = br#"{
     "T": {"TUPLESTRUCT": ["U8", "BOOL"]},
     "U": "UNITSTRUCT"
 }"#;
-
-fn named(alloc: Global, value: Value) -> Result<Value, AllocError> {
-    Ok(Value::Named(Box::new(alloc, value)?))
-}
-
-fn variant(alloc: Global, number: u32, value: Value) -> Result<Value, AllocError> {
-    Ok(Value::Variant(number, Box::new(alloc, value)?))
-}
 
 fn bytes_of(alloc: Global, numbers: &[u128]) -> Result<Value, AllocError> {
     let mut items = Vec::with_capacity(alloc, numbers.len())?;

@@ -1,5 +1,9 @@
-use crate::pieces::PieceSink;
-use crate::{ByteSink, EncodeFault, WriteFault, canonicalise, encode, encode_by_entries, write};
+//! The bytes of values, and the faults of those that have none.
+use crate::building::{chain, items, map, named, present, text, variant};
+use bcs_encode::pieces::PieceSink;
+use bcs_encode::{
+    ByteSink, EncodeFault, WriteFault, canonicalise, encode, encode_by_entries, write,
+};
 use bcs_registry::Registry;
 use bcs_value::{Limits, Value};
 use std::alloc::{AllocError, Global};
@@ -15,63 +19,6 @@ pub(crate) const CONTAINERS: &str = r#"{
     "V": {"ENUM": {"1": {"C": {"TUPLE": ["U8", "BOOL"]}}, "2": {"D": {"STRUCT": [{"x": "STR"}]}}}}
 }"#;
 
-pub(crate) fn items<const N: usize>(
-    alloc: Global,
-    values: [Value; N],
-) -> Result<Value, AllocError> {
-    Ok(Value::Items(Vec::from_array(alloc, values)?))
-}
-
-pub(crate) fn map<const N: usize>(
-    alloc: Global,
-    entries: [(Value, Value); N],
-) -> Result<Value, AllocError> {
-    Ok(Value::Pairs(Vec::from_array(alloc, entries)?))
-}
-
-fn text(alloc: Global, text: &str) -> Result<Value, AllocError> {
-    Ok(Value::Text(String::from_str(alloc, text)?))
-}
-
-pub(crate) fn named(alloc: Global, value: Value) -> Result<Value, AllocError> {
-    Ok(Value::Named(Box::new(alloc, value)?))
-}
-
-pub(crate) fn present(alloc: Global, value: Value) -> Result<Value, AllocError> {
-    Ok(Value::Present(Box::new(alloc, value)?))
-}
-
-fn variant(alloc: Global, number: u32, value: Value) -> Result<Value, AllocError> {
-    named(alloc, Value::Variant(number, Box::new(alloc, value)?))
-}
-
-/// A value of `L` with so many containers in one another.
-pub(crate) fn chain(alloc: Global, containers: u32) -> Result<Value, AllocError> {
-    let mut value = Value::Absent;
-    for i in 0..containers {
-        let fields = items(alloc, [value])?;
-        value = named(alloc, fields)?;
-        if i + 1 < containers {
-            value = present(alloc, value)?;
-        }
-    }
-    Ok(value)
-}
-
-fn hex(alloc: Global, bytes: &[u8]) -> Result<String, AllocError> {
-    let mut digits = String::new(alloc);
-    for byte in bytes {
-        for digit in [*byte / 16, *byte % 16] {
-            digits.push(char::from(if digit < 10 {
-                b'0' + digit
-            } else {
-                b'a' + (digit - 10)
-            }))?;
-        }
-    }
-    Ok(digits)
-}
-
 /// Both encoders give these bytes.
 pub(crate) fn gives(
     rt: &(impl Abort + AllocGlobal),
@@ -84,10 +31,10 @@ pub(crate) fn gives(
     let format_read = registry.read_format(alloc, format.as_bytes())?;
     let limits = Limits::standard();
     let encoded = encode(alloc, &registry, &format_read, &limits, value)?;
-    assert_eq!(rt; hex(alloc, &encoded)?.as_str(), bytes, "{format}");
+    assert_eq!(rt; hex::encode(alloc, &encoded)?.as_str(), bytes, "{format}");
     let by_entries = encode_by_entries(alloc, &registry, &format_read, &limits, value)?;
     assert_eq!(rt;
-        hex(alloc, &by_entries)?.as_str(),
+        hex::encode(alloc, &by_entries)?.as_str(),
         bytes,
         "{format}, by entries"
     );
@@ -190,13 +137,13 @@ fn encode_writes_containers(rt: HostRuntime) -> Result<(), Fail> {
     gives(
         &rt,
         r#"{"TYPENAME":"E"}"#,
-        &variant(alloc, 0, Value::Unit)?,
+        &named(alloc, variant(alloc, 0, Value::Unit)?)?,
         "00",
     )?;
     gives(
         &rt,
         r#"{"TYPENAME":"E"}"#,
-        &variant(alloc, 300, Value::Unsigned(7))?,
+        &named(alloc, variant(alloc, 300, Value::Unsigned(7))?)?,
         "ac0207",
     )?;
     let bytes = Value::Bytes(Vec::from_slice(alloc, b"\xc0\xde")?);
@@ -214,14 +161,14 @@ fn encode_writes_containers(rt: HostRuntime) -> Result<(), Fail> {
     gives(
         &rt,
         r#"{"TYPENAME":"V"}"#,
-        &variant(alloc, 1, tuple)?,
+        &named(alloc, variant(alloc, 1, tuple)?)?,
         "010900",
     )?;
     let fields = items(alloc, [text(alloc, "b")?])?;
     gives(
         &rt,
         r#"{"TYPENAME":"V"}"#,
-        &variant(alloc, 2, fields)?,
+        &named(alloc, variant(alloc, 2, fields)?)?,
         "020162",
     )
 }

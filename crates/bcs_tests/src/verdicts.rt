@@ -1,6 +1,8 @@
-use crate::pieces::{PieceSource, RepeatSource};
-use crate::test_calls::Question;
-use crate::{ByteSource, DecodeFault, Reason, Stop, decode_all, decode_from, test_calls};
+//! Rows of bytes, with the value's length or the stop that each call gives.
+use crate::calls;
+use crate::calls::Question;
+use bcs_decode::pieces::{PieceSource, RepeatSource};
+use bcs_decode::{ByteSource, DecodeFault, Reason, Stop, decode_all, decode_from};
 use bcs_registry::Registry;
 use bcs_value::{Limits, Value};
 use std::alloc::AllocGlobal;
@@ -63,7 +65,7 @@ fn accepts(
         format: &format,
         limits,
     };
-    test_calls::accepts(rt, &question, bytes, length)
+    calls::accepts(rt, &question, bytes, length)
 }
 
 // The front stops being a value at this place for this reason.
@@ -82,7 +84,7 @@ fn stops(
         format: &format,
         limits,
     };
-    test_calls::stops(rt, &question, bytes, Stop { reason, place })
+    calls::stops(rt, &question, bytes, Stop { reason, place })
 }
 
 #[test]

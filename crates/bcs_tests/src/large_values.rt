@@ -1,5 +1,7 @@
-use crate::encoding_tests::{CONTAINERS, chain, items, map, named, present};
-use crate::{canonicalise, encode, encode_by_entries};
+//! Large values, and values of many levels.
+use crate::building::{chain, items, map, named, present};
+use crate::encoding::CONTAINERS;
+use bcs_encode::{encode, encode_by_entries};
 use bcs_registry::{Registry, RegistryFault};
 use bcs_value::{Limits, Value};
 use std::alloc::{AllocError, Global};
@@ -53,79 +55,6 @@ fn encode_takes_a_large_map_in_falling_order(rt: HostRuntime) -> Result<(), Fail
     Ok(())
 }
 
-// What stands in each other at each level of a deep value.
-#[derive(Clone, Copy)]
-enum Level {
-    Option,
-    List,
-    MapValue,
-    MapKey,
-}
-
-// The text of the level's format, before the format inside it and after that.
-fn format_round(level: Level) -> (&'static str, &'static str) {
-    match level {
-        Level::Option => (r#"{"OPTION":"#, "}"),
-        Level::List => (r#"{"SEQ":"#, "}"),
-        Level::MapValue => (r#"{"MAP":{"KEY":"UNIT","VALUE":"#, "}}"),
-        Level::MapKey => (r#"{"MAP":{"KEY":"#, r#","VALUE":"UNIT"}}"#),
-    }
-}
-
-fn value_round(alloc: Global, level: Level, inside: Value) -> Result<Value, AllocError> {
-    match level {
-        Level::Option => present(alloc, inside),
-        Level::List => items(alloc, [inside]),
-        Level::MapValue => map(alloc, [(Value::Unit, inside)]),
-        Level::MapKey => map(alloc, [(inside, Value::Unit)]),
-    }
-}
-
-// A container of 31 such levels, and an option with itself inside.
-fn deep_registry(alloc: Global, level: Level) -> Result<Registry, RegistryFault> {
-    let (before, after) = format_round(level);
-    let mut text = String::from_str(alloc, r#"{"D":{"NEWTYPESTRUCT":"#)?;
-    for _ in 0..31 {
-        text.push_str(before)?;
-    }
-    text.push_str(r#"{"OPTION":{"TYPENAME":"D"}}"#)?;
-    for _ in 0..31 {
-        text.push_str(after)?;
-    }
-    text.push_str("}}")?;
-    Registry::read(alloc, text.as_bytes())
-}
-
-// 500 containers, each of 32 levels, the innermost of which is an absent option.
-fn deepest_value(alloc: Global, level: Level) -> Result<Value, AllocError> {
-    let mut value = Value::Absent;
-    for container in 0..500 {
-        if container > 0 {
-            value = present(alloc, value)?;
-        }
-        for _ in 0..31 {
-            value = value_round(alloc, level, value)?;
-        }
-        value = named(alloc, value)?;
-    }
-    Ok(value)
-}
-
-#[test]
-fn encode_takes_the_deepest_value(rt: HostRuntime) -> Result<(), Fail> {
-    let alloc = rt.alloc();
-    let registry = deep_registry(alloc, Level::Option)?;
-    let format = registry.read_format(alloc, br#"{"TYPENAME":"D"}"#)?;
-    let value = deepest_value(alloc, Level::Option)?;
-    let bytes = encode(alloc, &registry, &format, &Limits::standard(), &value)?;
-    let by_entries = encode_by_entries(alloc, &registry, &format, &Limits::standard(), &value)?;
-    assert!(rt; by_entries == bytes);
-    assert_eq!(rt; bytes.len(), 16000);
-    assert_eq!(rt; bytes.iter().filter(|byte| **byte == 1).count(), 15999);
-    assert_eq!(rt; bytes.last().copied(), Some(0));
-    Ok(())
-}
-
 // A container that is 30 maps nested as keys, the innermost key of which is itself, if it is there, and bytes.
 fn maps_as_keys_registry(alloc: Global) -> Result<Registry, RegistryFault> {
     let mut text = String::from_str(alloc, r#"{"K":{"NEWTYPESTRUCT":"#)?;
@@ -169,22 +98,5 @@ fn encode_takes_maps_nested_as_keys(rt: HostRuntime) -> Result<(), Fail> {
     let bytes = encode(alloc, &registry, &format, &Limits::standard(), &value)?;
     // a length for each map, a byte for each option and each empty byte string, and the megabyte behind its length
     assert_eq!(rt; bytes.len(), 15_000 + 500 + 499 + 1_000_003);
-    Ok(())
-}
-
-// The form is compared by its bytes, which needs less of the stack than a walk over both values.
-#[test]
-fn canonicalise_takes_the_deepest_value(rt: HostRuntime) -> Result<(), Fail> {
-    let alloc = rt.alloc();
-    for level in [Level::Option, Level::List, Level::MapValue, Level::MapKey] {
-        let registry = deep_registry(alloc, level)?;
-        let format = registry.read_format(alloc, br#"{"TYPENAME":"D"}"#)?;
-        let value = deepest_value(alloc, level)?;
-        let form = canonicalise(alloc, &registry, &format, &Limits::standard(), &value)?;
-        let bytes = encode(alloc, &registry, &format, &Limits::standard(), &value)?;
-        let of_form = encode(alloc, &registry, &format, &Limits::standard(), &form)?;
-        assert_eq!(rt; bytes.len(), 16000);
-        assert!(rt; of_form == bytes);
-    }
     Ok(())
 }

@@ -1,5 +1,6 @@
-use crate::pieces::PieceSink;
-use crate::{ByteSink, SinkFailed, WriteSink};
+//! Where bytes go to.
+use bcs_encode::pieces::PieceSink;
+use bcs_encode::{ByteSink, SinkFailed, WriteSink};
 use std::io;
 use std::io::{ErrorKind, Write};
 use std::test::Fail;
