@@ -1,9 +1,9 @@
-//! The deepest values that there are: 500 containers, each of 32 levels.
-use crate::building::{items, map, named, present};
+//! The deepest values that there are: 500 containers, in each a variant, a row of fields and 32 levels of a format.
+use crate::building::{items, map, named, present, variant};
 use crate::calls::{Question, accepts};
 use bcs_encode::{canonicalise, encode, encode_by_entries};
 use bcs_registry::{Registry, RegistryFault};
-use bcs_value::{Limits, Value};
+use bcs_value::{Limits, Value, depth, has_format, nodes};
 use std::alloc::{AllocError, Global};
 use std::test::Fail;
 
@@ -35,10 +35,10 @@ fn value_round(alloc: Global, level: Level, inside: Value) -> Result<Value, Allo
     }
 }
 
-// A container of 31 such levels, and an option with itself inside.
+// An enum whose variant is a struct of one field: 31 such levels, and an option with the enum itself inside.
 fn deep_registry(alloc: Global, level: Level) -> Result<Registry, RegistryFault> {
     let (before, after) = format_round(level);
-    let mut text = String::from_str(alloc, r#"{"D":{"NEWTYPESTRUCT":"#)?;
+    let mut text = String::from_str(alloc, r#"{"D":{"ENUM":{"0":{"V":{"STRUCT":[{"x":"#)?;
     for _ in 0..31 {
         text.push_str(before)?;
     }
@@ -46,11 +46,11 @@ fn deep_registry(alloc: Global, level: Level) -> Result<Registry, RegistryFault>
     for _ in 0..31 {
         text.push_str(after)?;
     }
-    text.push_str("}}")?;
+    text.push_str("}]}}}}}")?;
     Registry::read(alloc, text.as_bytes())
 }
 
-// 500 containers, each of 32 levels, the innermost of which is an absent option.
+// 500 containers of that enum. The innermost option is absent.
 fn deepest_value(alloc: Global, level: Level) -> Result<Value, AllocError> {
     let mut value = Value::Absent;
     for container in 0..500 {
@@ -60,23 +60,36 @@ fn deepest_value(alloc: Global, level: Level) -> Result<Value, AllocError> {
         for _ in 0..31 {
             value = value_round(alloc, level, value)?;
         }
+        value = items(alloc, [value])?;
+        value = variant(alloc, 0, value)?;
         value = named(alloc, value)?;
     }
     Ok(value)
 }
 
+// A container has 33 bytes: its variant's number, and a byte for each level, the tag of an option or the length of a list
+// or a map.
+fn deepest_bytes(alloc: Global) -> Result<Vec<u8>, AllocError> {
+    let mut bytes = Vec::new(alloc);
+    for place in 0..16_500u32 {
+        bytes.push(u8::from(place % 33 != 0 && place != 16_499))?;
+    }
+    Ok(bytes)
+}
+
 #[test]
-fn encode_takes_the_deepest_value(rt: HostRuntime) -> Result<(), Fail> {
+fn encoding_takes_the_deepest_value(rt: HostRuntime) -> Result<(), Fail> {
     let alloc = rt.alloc();
     let registry = deep_registry(alloc, Level::Option)?;
     let format = registry.read_format(alloc, br#"{"TYPENAME":"D"}"#)?;
     let value = deepest_value(alloc, Level::Option)?;
+    assert!(rt; has_format(&registry, &format, &value));
+    assert_eq!(rt; depth(&value), 500);
+    assert_eq!(rt; nodes(&value), 17_500);
     let bytes = encode(alloc, &registry, &format, &Limits::standard(), &value)?;
+    assert!(rt; bytes == deepest_bytes(alloc)?);
     let by_entries = encode_by_entries(alloc, &registry, &format, &Limits::standard(), &value)?;
     assert!(rt; by_entries == bytes);
-    assert_eq!(rt; bytes.len(), 16000);
-    assert_eq!(rt; bytes.iter().filter(|byte| **byte == 1).count(), 15999);
-    assert_eq!(rt; bytes.last().copied(), Some(0));
     Ok(())
 }
 
@@ -89,20 +102,16 @@ fn canonicalise_takes_the_deepest_value(rt: HostRuntime) -> Result<(), Fail> {
         let format = registry.read_format(alloc, br#"{"TYPENAME":"D"}"#)?;
         let value = deepest_value(alloc, level)?;
         let form = canonicalise(alloc, &registry, &format, &Limits::standard(), &value)?;
-        let bytes = encode(alloc, &registry, &format, &Limits::standard(), &value)?;
-        let of_form = encode(alloc, &registry, &format, &Limits::standard(), &form)?;
-        assert_eq!(rt; bytes.len(), 16000);
-        assert!(rt; of_form == bytes);
+        let bytes = encode(alloc, &registry, &format, &Limits::standard(), &form)?;
+        assert!(rt; bytes == deepest_bytes(alloc)?);
     }
     Ok(())
 }
 
-// Each level has one byte: the tag of an option, or the length of a list or a map.
 #[test]
 fn decoding_takes_the_deepest_value(rt: HostRuntime) -> Result<(), Fail> {
     let alloc = rt.alloc();
-    let mut bytes = [1u8; 16000];
-    bytes[15999] = 0;
+    let bytes = deepest_bytes(alloc)?;
     for level in [Level::Option, Level::List, Level::MapValue, Level::MapKey] {
         let registry = deep_registry(alloc, level)?;
         let question = Question {
@@ -110,7 +119,7 @@ fn decoding_takes_the_deepest_value(rt: HostRuntime) -> Result<(), Fail> {
             format: &registry.read_format(alloc, br#"{"TYPENAME":"D"}"#)?,
             limits: &Limits::standard(),
         };
-        accepts(&rt, &question, &bytes, bytes.len())?;
+        accepts(&rt, &question, bytes.as_slice(), bytes.len())?;
     }
     Ok(())
 }

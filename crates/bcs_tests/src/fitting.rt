@@ -1,7 +1,7 @@
 //! Which values have which formats.
 use crate::building::{named, variant};
-use bcs_registry::{Format, Registry};
-use bcs_value::{Value, depth, fits_loosely, has_format, nodes};
+use bcs_registry::Registry;
+use bcs_value::{Value, fits_loosely, has_format};
 use std::alloc::{AllocError, Global};
 use std::process::Abort;
 use std::test::Fail;
@@ -218,36 +218,5 @@ fn containers(rt: HostRuntime) -> Result<(), Fail> {
             assert_eq!(rt; *fits, takes.contains(&place), "{name} at {place}");
         }
     }
-    Ok(())
-}
-
-#[test]
-fn the_stack_holds_500_containers_of_32_levels(rt: HostRuntime) -> Result<(), Fail> {
-    let alloc = rt.alloc();
-    let mut text = "".to_string(alloc)?;
-    text.push_str(r#"{"D": {"ENUM": {"7": {"V": {"STRUCT": [{"x": "#)?;
-    for _ in 0..32 {
-        text.push_str(r#"{"OPTION": "#)?;
-    }
-    text.push_str(r#"{"TYPENAME": "D"}"#)?;
-    for _ in 0..32 {
-        text.push_str("}")?;
-    }
-    text.push_str("}]}}}}}")?;
-    let registry = Registry::read(alloc, text.as_bytes())?;
-    let format = Format::TypeName("D".to_string(alloc)?);
-
-    let mut value = Value::Absent;
-    for container in 0..500 {
-        // The innermost option is absent.
-        for _ in 0..if container == 0 { 31 } else { 32 } {
-            value = Value::Present(Box::new(alloc, value)?);
-        }
-        value = variant(alloc, 7, Value::Items(vec![in alloc; value]?))?;
-        value = named(alloc, value)?;
-    }
-    assert!(rt; has_format(&registry, &format, &value));
-    assert_eq!(rt; depth(&value), 500);
-    assert_eq!(rt; nodes(&value), 500 * 35);
     Ok(())
 }
