@@ -16,6 +16,8 @@ mod fitting;
 #[cfg(test)]
 mod forms;
 #[cfg(test)]
+mod hostile_sources;
+#[cfg(test)]
 mod large_values;
 #[cfg(test)]
 mod number_lists;
