@@ -1,5 +1,5 @@
 //! Which values have which formats.
-use crate::building::{named, variant};
+use crate::building::{map, named, present, text, variant};
 use bcs_registry::Registry;
 use bcs_value::{Value, fits_loosely, has_format};
 use std::alloc::{AllocError, Global};
@@ -33,20 +33,19 @@ fn row(alloc: Global) -> Result<Value, AllocError> {
 
 /// One of each shape.
 fn shapes(alloc: Global) -> Result<Vec<Value>, AllocError> {
-    let shapes = vec![in alloc;
-        Value::Unit,
-        Value::Bool(true),
-        Value::Unsigned(7),
-        Value::Signed(-7),
-        Value::Text("a".to_string(alloc)?),
-        Value::Bytes(vec![in alloc; 97]?),
-        Value::Absent,
-        Value::Present(Box::new(alloc, Value::Unsigned(7))?),
-        bytes_of(alloc, &[1, 2])?,
-        variant(alloc, 0, Value::Unit)?,
-        Value::Pairs(vec![in alloc; (Value::Unsigned(1), Value::Bool(true))]?),
-        named(alloc, Value::Unit)?,
-    ]?;
+    let mut shapes = Vec::with_capacity(alloc, 12)?;
+    shapes.push(Value::Unit)?;
+    shapes.push(Value::Bool(true))?;
+    shapes.push(Value::Unsigned(7))?;
+    shapes.push(Value::Signed(-7))?;
+    shapes.push(text(alloc, "a")?)?;
+    shapes.push(Value::Bytes(Vec::from_slice(alloc, b"a")?))?;
+    shapes.push(Value::Absent)?;
+    shapes.push(present(alloc, Value::Unsigned(7))?)?;
+    shapes.push(bytes_of(alloc, &[1, 2])?)?;
+    shapes.push(variant(alloc, 0, Value::Unit)?)?;
+    shapes.push(map(alloc, [(Value::Unsigned(1), Value::Bool(true))])?)?;
+    shapes.push(named(alloc, Value::Unit)?)?;
     Ok(shapes)
 }
 

@@ -29,7 +29,7 @@ fn encode_writes_lists_of_unsigned_numbers(rt: HostRuntime) -> Result<(), Fail> 
         ];
         let list = items(rt.alloc(), numbers)?;
         let format = format!(in rt.alloc(); "{{\"SEQ\":\"{width}\"}}")?;
-        gives(&rt, format.as_str(), &list, bytes)?;
+        gives(&rt, format.as_str(), list, bytes)?;
     }
     Ok(())
 }
@@ -54,7 +54,7 @@ fn encode_writes_lists_of_signed_numbers(rt: HostRuntime) -> Result<(), Fail> {
     for (width, least, bytes) in rows {
         let list = items(rt.alloc(), [Value::Signed(-1), Value::Signed(least)])?;
         let format = format!(in rt.alloc(); "{{\"SEQ\":\"{width}\"}}")?;
-        gives(&rt, format.as_str(), &list, bytes)?;
+        gives(&rt, format.as_str(), list, bytes)?;
     }
     Ok(())
 }
@@ -66,13 +66,8 @@ fn encode_writes_arrays_of_numbers_with_no_length(rt: HostRuntime) -> Result<(),
     gives(
         &rt,
         r#"{"TUPLEARRAY":{"CONTENT":"U8","SIZE":2}}"#,
-        &bytes,
+        bytes,
         "0708",
     )?;
-    gives(
-        &rt,
-        r#"{"SEQ":"I32"}"#,
-        &Value::Items(Vec::new(alloc)),
-        "00",
-    )
+    gives(&rt, r#"{"SEQ":"I32"}"#, Value::Items(Vec::new(alloc)), "00")
 }

@@ -1,5 +1,5 @@
 //! Which values are the same, how deep and how large they are, copies, limits, and what the stack holds.
-use crate::building::{named, present, variant};
+use crate::building::{named, present, text, variant};
 use bcs_value::{Limits, Value, depth, nodes, same};
 use std::alloc::{AllocError, Global};
 use std::test::Fail;
@@ -39,36 +39,35 @@ fn deep(alloc: Global) -> Result<Value, AllocError> {
 
 /// Values of each shape, no two of them the same.
 fn shapes(alloc: Global) -> Result<Vec<Value>, AllocError> {
-    let shapes = vec![in alloc;
-        Value::Unit,
-        Value::Bool(false),
-        Value::Bool(true),
-        Value::Unsigned(7),
-        Value::Unsigned(8),
-        Value::Signed(7),
-        Value::Signed(-7),
-        Value::Text("a".to_string(alloc)?),
-        Value::Text("b".to_string(alloc)?),
-        Value::Bytes(vec![in alloc; 97]?),
-        Value::Bytes(vec![in alloc; 98]?),
-        Value::Absent,
-        present(alloc, Value::Absent)?,
-        present(alloc, Value::Unit)?,
-        Value::Items(Vec::new(alloc)),
-        Value::Items(vec![in alloc; Value::Unsigned(1)]?),
-        Value::Items(vec![in alloc; Value::Unsigned(1), Value::Unsigned(2)]?),
-        Value::Items(vec![in alloc; Value::Unsigned(2), Value::Unsigned(1)]?),
-        variant(alloc, 0, Value::Unit)?,
-        variant(alloc, 1, Value::Unit)?,
-        variant(alloc, 1, Value::Absent)?,
-        numbers(alloc, &[])?,
-        numbers(alloc, &[(1, 2)])?,
-        numbers(alloc, &[(1, 3)])?,
-        numbers(alloc, &[(2, 2)])?,
-        numbers(alloc, &[(1, 2), (3, 4)])?,
-        named(alloc, Value::Unit)?,
-        named(alloc, Value::Absent)?,
-    ]?;
+    let mut shapes = Vec::with_capacity(alloc, 28)?;
+    shapes.push(Value::Unit)?;
+    shapes.push(Value::Bool(false))?;
+    shapes.push(Value::Bool(true))?;
+    shapes.push(Value::Unsigned(7))?;
+    shapes.push(Value::Unsigned(8))?;
+    shapes.push(Value::Signed(7))?;
+    shapes.push(Value::Signed(-7))?;
+    shapes.push(text(alloc, "a")?)?;
+    shapes.push(text(alloc, "b")?)?;
+    shapes.push(Value::Bytes(vec![in alloc; 97]?))?;
+    shapes.push(Value::Bytes(vec![in alloc; 98]?))?;
+    shapes.push(Value::Absent)?;
+    shapes.push(present(alloc, Value::Absent)?)?;
+    shapes.push(present(alloc, Value::Unit)?)?;
+    shapes.push(Value::Items(Vec::new(alloc)))?;
+    shapes.push(Value::Items(vec![in alloc; Value::Unsigned(1)]?))?;
+    shapes.push(Value::Items(vec![in alloc; Value::Unsigned(1), Value::Unsigned(2)]?))?;
+    shapes.push(Value::Items(vec![in alloc; Value::Unsigned(2), Value::Unsigned(1)]?))?;
+    shapes.push(variant(alloc, 0, Value::Unit)?)?;
+    shapes.push(variant(alloc, 1, Value::Unit)?)?;
+    shapes.push(variant(alloc, 1, Value::Absent)?)?;
+    shapes.push(numbers(alloc, &[])?)?;
+    shapes.push(numbers(alloc, &[(1, 2)])?)?;
+    shapes.push(numbers(alloc, &[(1, 3)])?)?;
+    shapes.push(numbers(alloc, &[(2, 2)])?)?;
+    shapes.push(numbers(alloc, &[(1, 2), (3, 4)])?)?;
+    shapes.push(named(alloc, Value::Unit)?)?;
+    shapes.push(named(alloc, Value::Absent)?)?;
     Ok(shapes)
 }
 
