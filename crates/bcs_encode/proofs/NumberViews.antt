@@ -1,5 +1,5 @@
 -- What the writing of plain numbers needs of the views.
-use Rattle.std.proofs.Common.{◌≡◌, ℕ, ◌<◌, ◌^◌, List, [], ◌∷◌, ◌++◌, refl, ap, ◌∙◌, Ok, Err, if◌then◌else◌}
+use Rattle.std.proofs.Common.{◌≡◌, ℕ, ◌<◌, List, [], ◌∷◌, refl, ap, ◌∙◌, Ok, Err}
 use Rattle.std.specs.Int.{Width, w8}
 use Rattle.bcs_num.proofs.LeLaws.{le-w8}
 use Rattle.bcs_num.specs.Le.{le}

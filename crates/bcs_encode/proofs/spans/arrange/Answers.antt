@@ -1,4 +1,4 @@
-use Rattle.std.proofs.Common.{◌≡◌, ℕ, ◌-◌, ◌∙◌, ap, ap₂, sym, arith, List, take, drop, length, length-drop, map, rules, Ok}
+use Rattle.std.proofs.Common.{◌≡◌, ℕ, ◌-◌, ◌∙◌, ap, ap₂, sym, arith, List, take, drop, length, length-drop, map, rules}
 use Rattle.std.proofs.lemmas.List.{take_all}
 use Rattle.bcs_encode.specs.Laying.{span_entry}
 use Rattle.bcs_encode.specs.Writing.{keys_rise}
