@@ -1,5 +1,5 @@
 //! Which values have which formats.
-use crate::building::{map, named, present, text, variant};
+use crate::building::{items, map, named, present, text, variant};
 use bcs_registry::Registry;
 use bcs_value::{Value, fits_loosely, has_format};
 use std::alloc::{AllocError, Global};
@@ -184,26 +184,33 @@ fn numbers_in_range(rt: HostRuntime) -> Result<(), Fail> {
     Ok(())
 }
 
+/// What is tried in containers: what `U`, `N`, `T` and `L` hold, and variants, four of which `E` has.
+fn insides(alloc: Global) -> Result<Vec<Value>, AllocError> {
+    let mut insides = Vec::with_capacity(alloc, 13)?;
+    insides.push(Value::Unit)?;
+    insides.push(text(alloc, "a")?)?;
+    insides.push(row(alloc)?)?;
+    insides.push(items(alloc, [Value::Absent])?)?;
+    insides.push(bytes_of(alloc, &[7])?)?;
+    insides.push(variant(alloc, 0, Value::Unit)?)?;
+    insides.push(variant(alloc, 0, Value::Unsigned(7))?)?;
+    insides.push(variant(alloc, 1, Value::Unit)?)?;
+    insides.push(variant(alloc, 300, Value::Unsigned(7))?)?;
+    insides.push(variant(alloc, 300, Value::Unit)?)?;
+    insides.push(variant(alloc, 301, row(alloc)?)?)?;
+    insides.push(variant(alloc, 302, bytes_of(alloc, &[7])?)?)?;
+    insides.push(variant(alloc, 302, bytes_of(alloc, &[7, 7])?)?)?;
+    Ok(insides)
+}
+
 #[test]
 fn containers(rt: HostRuntime) -> Result<(), Fail> {
     let alloc = rt.alloc();
-    let text = Value::Text("a".to_string(alloc)?);
-    let values = vec![in alloc;
-        named(alloc, Value::Unit)?,
-        named(alloc, text)?,
-        named(alloc, row(alloc)?)?,
-        named(alloc, Value::Items(vec![in alloc; Value::Absent]?))?,
-        named(alloc, bytes_of(alloc, &[7])?)?,
-        named(alloc, variant(alloc, 0, Value::Unit)?)?,
-        named(alloc, variant(alloc, 0, Value::Unsigned(7))?)?,
-        named(alloc, variant(alloc, 1, Value::Unit)?)?,
-        named(alloc, variant(alloc, 300, Value::Unsigned(7))?)?,
-        named(alloc, variant(alloc, 300, Value::Unit)?)?,
-        named(alloc, variant(alloc, 301, row(alloc)?)?)?,
-        named(alloc, variant(alloc, 302, bytes_of(alloc, &[7])?)?)?,
-        named(alloc, variant(alloc, 302, bytes_of(alloc, &[7, 7])?)?)?,
-        row(alloc)?,
-    ]?;
+    let mut values = Vec::with_capacity(alloc, 14)?;
+    for inside in insides(alloc)? {
+        values.push(named(alloc, inside)?)?;
+    }
+    values.push(row(alloc)?)?;
     for (name, takes) in [
         ("U", [0].as_slice()),
         ("N", [1].as_slice()),

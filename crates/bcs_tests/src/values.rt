@@ -39,36 +39,59 @@ fn deep(alloc: Global) -> Result<Value, AllocError> {
 
 /// Values of each shape, no two of them the same.
 fn shapes(alloc: Global) -> Result<Vec<Value>, AllocError> {
-    let mut shapes = Vec::with_capacity(alloc, 28)?;
-    shapes.push(Value::Unit)?;
-    shapes.push(Value::Bool(false))?;
-    shapes.push(Value::Bool(true))?;
-    shapes.push(Value::Unsigned(7))?;
-    shapes.push(Value::Unsigned(8))?;
-    shapes.push(Value::Signed(7))?;
-    shapes.push(Value::Signed(-7))?;
-    shapes.push(text(alloc, "a")?)?;
-    shapes.push(text(alloc, "b")?)?;
-    shapes.push(Value::Bytes(vec![in alloc; 97]?))?;
-    shapes.push(Value::Bytes(vec![in alloc; 98]?))?;
-    shapes.push(Value::Absent)?;
-    shapes.push(present(alloc, Value::Absent)?)?;
-    shapes.push(present(alloc, Value::Unit)?)?;
-    shapes.push(Value::Items(Vec::new(alloc)))?;
-    shapes.push(Value::Items(vec![in alloc; Value::Unsigned(1)]?))?;
-    shapes.push(Value::Items(vec![in alloc; Value::Unsigned(1), Value::Unsigned(2)]?))?;
-    shapes.push(Value::Items(vec![in alloc; Value::Unsigned(2), Value::Unsigned(1)]?))?;
+    let mut shapes = leaves(alloc)?;
+    for inside in [
+        [].as_slice(),
+        [1].as_slice(),
+        [1, 2].as_slice(),
+        [2, 1].as_slice(),
+    ] {
+        shapes.push(row(alloc, inside)?)?;
+    }
+    for entries in [
+        [].as_slice(),
+        [(1, 2)].as_slice(),
+        [(1, 3)].as_slice(),
+        [(2, 2)].as_slice(),
+        [(1, 2), (3, 4)].as_slice(),
+    ] {
+        shapes.push(numbers(alloc, entries)?)?;
+    }
+    for inside in [Value::Absent, Value::Unit] {
+        shapes.push(variant(alloc, 1, inside.copy(alloc)?)?)?;
+        shapes.push(present(alloc, inside.copy(alloc)?)?)?;
+        shapes.push(named(alloc, inside)?)?;
+    }
     shapes.push(variant(alloc, 0, Value::Unit)?)?;
-    shapes.push(variant(alloc, 1, Value::Unit)?)?;
-    shapes.push(variant(alloc, 1, Value::Absent)?)?;
-    shapes.push(numbers(alloc, &[])?)?;
-    shapes.push(numbers(alloc, &[(1, 2)])?)?;
-    shapes.push(numbers(alloc, &[(1, 3)])?)?;
-    shapes.push(numbers(alloc, &[(2, 2)])?)?;
-    shapes.push(numbers(alloc, &[(1, 2), (3, 4)])?)?;
-    shapes.push(named(alloc, Value::Unit)?)?;
-    shapes.push(named(alloc, Value::Absent)?)?;
     Ok(shapes)
+}
+
+/// Values without others inside.
+fn leaves(alloc: Global) -> Result<Vec<Value>, AllocError> {
+    let mut leaves = vec![in alloc;
+        Value::Unit,
+        Value::Bool(false),
+        Value::Bool(true),
+        Value::Unsigned(7),
+        Value::Unsigned(8),
+        Value::Signed(7),
+        Value::Signed(-7),
+        Value::Absent,
+    ]?;
+    for letter in ["a", "b"] {
+        leaves.push(text(alloc, letter)?)?;
+        leaves.push(Value::Bytes(Vec::from_slice(alloc, letter.as_bytes())?))?;
+    }
+    Ok(leaves)
+}
+
+/// The list of the numbers.
+fn row(alloc: Global, numbers: &[u128]) -> Result<Value, AllocError> {
+    let mut items = Vec::with_capacity(alloc, numbers.len())?;
+    for number in numbers {
+        items.push(Value::Unsigned(*number))?;
+    }
+    Ok(Value::Items(items))
 }
 
 #[test]
@@ -150,6 +173,12 @@ fn depth_counts_containers(rt: HostRuntime) -> Result<(), Fail> {
         depth(&variant(alloc, 3, present(alloc, Value::Absent)?)?),
         0
     );
+    Ok(())
+}
+
+#[test]
+fn depth_is_that_of_the_deepest_part(rt: HostRuntime) -> Result<(), Fail> {
+    let alloc = rt.alloc();
     let entry = (linked(alloc, 2)?, linked(alloc, 3)?);
     assert_eq!(rt; depth(&Value::Pairs(vec![in alloc; entry]?)), 3);
     let entry = (linked(alloc, 5)?, linked(alloc, 3)?);
