@@ -1,13 +1,13 @@
 -- A refusal of bytes at whose front a value stands.
 use Rattle.std.proofs.Common.{◌≡◌, ℕ, List, Option, Some, Err, refl}
-use Rattle.bcs_registry.specs.Shape.{Shape}
-use Rattle.bcs_registry.specs.Container.{Entries}
-use Rattle.bcs_value.specs.Limits.{Bounds}
-use Rattle.bcs_value.specs.Tree.{Tree}
-use Rattle.bcs_decode.specs.declared.decode_fault.DecodeFault.{DecodeFault}
-use Rattle.bcs_decode.specs.declared.decode_fault.DecodeFault.TheVariants.{Stop, Read, OutOfMemory}
-use Rattle.bcs_decode.specs.Accepting.{Accepts}
-use Rattle.bcs_decode.specs.Exact.{AreBytes}
+use Rattle.bcs_registry_formats.specs.Shape.{Shape}
+use Rattle.bcs_registry_formats.specs.Container.{Entries}
+use Rattle.bcs_value_laws.specs.Limits.{Bounds}
+use Rattle.bcs_value_tree.specs.Tree.{Tree}
+use Rattle.bcs_decode_stops.specs.declared.decode_fault.DecodeFault.{DecodeFault}
+use Rattle.bcs_decode_stops.specs.declared.decode_fault.DecodeFault.TheVariants.{Stop, Read, OutOfMemory}
+use Rattle.bcs_decode_laws.specs.Accepting.{Accepts}
+use Rattle.bcs_decode_laws.specs.Exact.{AreBytes}
 use Rattle.bcs_decode.specs.Sliced.{DecodesSlice}
 use Rattle.bcs_decode.specs.Whole.{DecodesFrom}
 

@@ -1,18 +1,18 @@
 -- What decoding answers of a source.
 use Rattle.std.specs.Prelude.{◌≡◌, ◌<◌, ◌≤◌, ◌⊎◌, ℕ, suc, List, [], length, drop, Option, Some, None, Result, Ok, Err}
-use Rattle.bcs_registry.specs.Shape.{Shape}
-use Rattle.bcs_registry.specs.Container.{Entries}
-use Rattle.bcs_value.specs.Limits.{Bounds}
-use Rattle.bcs_value.specs.View.{tree_of}
-use Rattle.bcs_value.specs.declared.value.Value.{Value}
-use Rattle.bcs_decode.specs.declared.decode_fault.DecodeFault.{DecodeFault}
-use Rattle.bcs_decode.specs.declared.decode_fault.DecodeFault.TheVariants.{Stop, Read, OutOfMemory}
-use Rattle.bcs_decode.specs.Accepting.{Accepts}
-use Rattle.bcs_decode.specs.Stopping.{Stops, StopsAll}
-use Rattle.bcs_decode.specs.declared.stop.Stop as stop
-use Rattle.bcs_decode.specs.declared.reason.Reason.TheVariants.{TrailingBytes}
-use Rattle.bcs_value.specs.Tree.{Tree}
-use Rattle.bcs_decode.specs.Exact.{AreBytes}
+use Rattle.bcs_registry_formats.specs.Shape.{Shape}
+use Rattle.bcs_registry_formats.specs.Container.{Entries}
+use Rattle.bcs_value_laws.specs.Limits.{Bounds}
+use Rattle.bcs_value_tree.specs.View.{tree_of}
+use Rattle.bcs_value_tree.specs.declared.value.Value.{Value}
+use Rattle.bcs_decode_stops.specs.declared.decode_fault.DecodeFault.{DecodeFault}
+use Rattle.bcs_decode_stops.specs.declared.decode_fault.DecodeFault.TheVariants.{Stop, Read, OutOfMemory}
+use Rattle.bcs_decode_laws.specs.Accepting.{Accepts}
+use Rattle.bcs_decode_laws.specs.Stopping.{Stops, StopsAll}
+use Rattle.bcs_decode_stops.specs.declared.stop.Stop as stop
+use Rattle.bcs_decode_stops.specs.declared.reason.Reason.TheVariants.{TrailingBytes}
+use Rattle.bcs_value_tree.specs.Tree.{Tree}
+use Rattle.bcs_decode_laws.specs.Exact.{AreBytes}
 
 -- of told bytes a front is gone that isn't shorter than the place
 abbrev pub GoneTo : List ℕ → Option (List ℕ) → ℕ → Type 0

@@ -1,15 +1,14 @@
 //! Values from sources.
 ghost use Rattle.std.specs.Prelude.{◌≡◌, ◌≢◌, true, Err, IsErrOf};
-ghost use Rattle.bcs_registry.specs.View.{shape_of};
-ghost use Rattle.bcs_registry.specs.WellFormed.{Admits};
-ghost use Rattle.bcs_decode.specs.Sees.{takes_no_memory};
+ghost use Rattle.bcs_registry_formats.specs.View.{shape_of};
+ghost use Rattle.bcs_registry_formats.specs.WellFormed.{Admits};
+ghost use Rattle.bcs_decode_reader.specs.Sees.{takes_no_memory};
 ghost use Rattle.bcs_decode.specs.Whole.{DecodesAll, DecodesFrom, DecodesFront};
 
-use crate::decode_fault::DecodeFault;
-use crate::reason::Reason;
-use crate::source::ByteSource;
-use crate::stop::Stop;
-use crate::streaming::{At, value};
+use bcs_decode_keys::at::At;
+use bcs_decode_sources::ByteSource;
+use bcs_decode_stops::{DecodeFault, Reason, Stop};
+use bcs_decode_stream::values::value;
 use bcs_registry::{Format, Registry};
 use bcs_value::{Limits, Value};
 use std::alloc::Global;

@@ -1,15 +1,15 @@
 //! The value at the front of a slice.
 ghost use Rattle.std.specs.Prelude.{◌≡◌, ℕ, Ok, Err, IfOk, IfErr};
-ghost use Rattle.bcs_registry.specs.View.{shape_of};
-ghost use Rattle.bcs_registry.specs.WellFormed.{Admits};
-ghost use Rattle.bcs_value.specs.Tree.{Tree};
-ghost use Rattle.bcs_decode.specs.declared.reason.Reason.{Reason};
-ghost use Rattle.bcs_decode.specs.Accepting.{Accepts};
-ghost use Rattle.bcs_decode.specs.Stopping.{Stops};
+ghost use Rattle.bcs_registry_formats.specs.View.{shape_of};
+ghost use Rattle.bcs_registry_formats.specs.WellFormed.{Admits};
+ghost use Rattle.bcs_value_tree.specs.Tree.{Tree};
+ghost use Rattle.bcs_decode_stops.specs.declared.reason.Reason.{Reason};
+ghost use Rattle.bcs_decode_laws.specs.Accepting.{Accepts};
+ghost use Rattle.bcs_decode_laws.specs.Stopping.{Stops};
 
-use crate::cursor::Cursor;
-use crate::scanning::value;
-use crate::stop::Stop;
+use bcs_decode_cursor::cursor::Cursor;
+use bcs_decode_scan::scanning::value;
+use bcs_decode_stops::Stop;
 use bcs_registry::{Format, Registry};
 use bcs_value::Limits;
 

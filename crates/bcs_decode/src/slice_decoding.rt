@@ -1,16 +1,16 @@
 //! Values from slices.
 ghost use Rattle.std.specs.Prelude.{◌≡◌, ◌≢◌, ℕ, true, Err};
-ghost use Rattle.bcs_registry.specs.View.{shape_of};
-ghost use Rattle.bcs_registry.specs.WellFormed.{Admits};
-ghost use Rattle.bcs_decode.specs.Sees.{takes_no_memory};
+ghost use Rattle.bcs_registry_formats.specs.View.{shape_of};
+ghost use Rattle.bcs_registry_formats.specs.WellFormed.{Admits};
+ghost use Rattle.bcs_decode_reader.specs.Sees.{takes_no_memory};
 ghost use Rattle.bcs_decode.specs.Sliced.{DecodesSlice};
-ghost use Rattle.bcs_decode.specs.Stopping.{Stops};
-ghost use Rattle.bcs_decode.specs.declared.reason.Reason.{Reason};
+ghost use Rattle.bcs_decode_laws.specs.Stopping.{Stops};
+ghost use Rattle.bcs_decode_stops.specs.declared.reason.Reason.{Reason};
 
-use crate::decode_fault::DecodeFault;
 use crate::decoding::decode_known;
 use crate::from_slice::scan;
-use crate::slice_source::SliceSource;
+use bcs_decode_sources::SliceSource;
+use bcs_decode_stops::DecodeFault;
 use bcs_registry::{Format, Registry};
 use bcs_value::{Limits, Value};
 use std::alloc::Global;

@@ -1,22 +1,22 @@
 -- What the verdict on a value that is sound besides its keys says of the value.
 use Rattle.std.proofs.Common.{◌≡◌, ℕ, true, List, [], sym, subst, ◌∙◌, Ok, Err}
 use Rattle.std.proofs.lemmas.Bool.{false≢true}
-use Rattle.bcs_registry.specs.Shape.{Shape}
-use Rattle.bcs_registry.specs.Container.{Entries, of}
-use Rattle.bcs_value.specs.Tree.{Tree}
-use Rattle.bcs_value.specs.Limits.{Bounds}
-use Rattle.bcs_value.specs.Same.{distinct}
-use Rattle.bcs_encode.specs.Encodes.{Encodes, IsForm}
-use Rattle.bcs_encode.specs.Plain.{plain}
-use Rattle.bcs_encode.specs.Refused.{IsSoundBesidesKeys, Refuses}
-use Rattle.bcs_encode.specs.Writing.{Verdict, written}
-use Rattle.bcs_encode.specs.declared.fault.EncodeFault.{EncodeFault}
-use Rattle.bcs_encode.specs.declared.fault.EncodeFault.TheVariants.{NotOfFormat, Unsupported, TooDeep, TooManyNodes, TooLong, RepeatedKey, OutOfMemory}
-use Rattle.bcs_encode.specs.Forming.{formed}
-use Rattle.bcs_encode.specs.FormOf.{form_of}
-use Rattle.bcs_encode.proofs.FormingLaws.{formed_is_form}
-use Rattle.bcs_encode.proofs.FormLaws.{form_of_is_form}
-use Rattle.bcs_encode.proofs.WritingLaws.{Told, written_told}
+use Rattle.bcs_registry_formats.specs.Shape.{Shape}
+use Rattle.bcs_registry_formats.specs.Container.{Entries, of}
+use Rattle.bcs_value_tree.specs.Tree.{Tree}
+use Rattle.bcs_value_laws.specs.Limits.{Bounds}
+use Rattle.bcs_value_laws.specs.Same.{distinct}
+use Rattle.bcs_encode_laws.specs.Encodes.{Encodes, IsForm}
+use Rattle.bcs_encode_laws.specs.Plain.{plain}
+use Rattle.bcs_encode_laws.specs.Refused.{IsSoundBesidesKeys, Refuses}
+use Rattle.bcs_encode_parts.specs.Writing.{Verdict, written}
+use Rattle.bcs_encode_laws.specs.declared.fault.EncodeFault.{EncodeFault}
+use Rattle.bcs_encode_laws.specs.declared.fault.EncodeFault.TheVariants.{NotOfFormat, Unsupported, TooDeep, TooManyNodes, TooLong, RepeatedKey, OutOfMemory}
+use Rattle.bcs_encode_parts.specs.Forming.{formed}
+use Rattle.bcs_encode_laws.specs.FormOf.{form_of}
+use Rattle.bcs_encode_parts.proofs.FormingLaws.{formed_is_form}
+use Rattle.bcs_encode_laws.proofs.FormLaws.{form_of_is_form}
+use Rattle.bcs_encode_parts.proofs.WritingLaws.{Told, written_told}
 
 told_at : (registry : Entries) (limits : Bounds) (s : Shape) (t : Tree) (v : Verdict) → IsSoundBesidesKeys registry limits s t → written registry t (of s) [] ≡ v
     → Told (distinct t) (plain registry (form_of registry t (of s)) (of s)) v

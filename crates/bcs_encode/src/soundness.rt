@@ -1,11 +1,11 @@
 //! Whether a value has an encoding, but for the keys of its maps.
 ghost use Rattle.std.specs.Prelude.{◌≡◌, IfErr, OnOk};
-ghost use Rattle.bcs_registry.specs.View.{shape_of};
-ghost use Rattle.bcs_value.specs.View.{tree_of};
-ghost use Rattle.bcs_encode.specs.Refused.{IsSoundBesidesKeys, Refuses};
+ghost use Rattle.bcs_registry_formats.specs.View.{shape_of};
+ghost use Rattle.bcs_value_tree.specs.View.{tree_of};
+ghost use Rattle.bcs_encode_laws.specs.Refused.{IsSoundBesidesKeys, Refuses};
 
-use crate::fault::EncodeFault;
-use crate::lengths::lengths_hold;
+use bcs_encode_laws::EncodeFault;
+use bcs_encode_walks::lengths::lengths_hold;
 use bcs_registry::{Format, Registry};
 use bcs_value::{Limits, Value, depth, fits_loosely, has_format, nodes};
 

@@ -1,14 +1,14 @@
 //! Writing a value's bytes to a sink.
 ghost use Rattle.std.specs.Prelude.{◌<◌, IfErr, OnOk, length, take};
-ghost use Rattle.bcs_registry.specs.View.{shape_of};
-ghost use Rattle.bcs_registry.specs.WellFormed.{Admits};
-ghost use Rattle.bcs_value.specs.View.{tree_of};
-ghost use Rattle.bcs_encode.specs.Taking.{Lost, Took};
+ghost use Rattle.bcs_registry_formats.specs.View.{shape_of};
+ghost use Rattle.bcs_registry_formats.specs.WellFormed.{Admits};
+ghost use Rattle.bcs_value_tree.specs.View.{tree_of};
+ghost use Rattle.bcs_encode_sinks.specs.Taking.{Lost, Took};
 ghost use Rattle.bcs_encode.specs.Wrote.{Wrote};
 
 use crate::encoding::encode;
-use crate::fault::WriteFault;
-use crate::sink::{ByteSink, SinkFailed};
+use bcs_encode_laws::WriteFault;
+use bcs_encode_sinks::{ByteSink, SinkFailed};
 use bcs_registry::{Format, Registry};
 use bcs_value::{Limits, Value};
 use std::alloc::Global;

@@ -5,8 +5,6 @@
 mod decimal;
 mod fault;
 mod little_endian;
-#[cfg(test)]
-mod tests;
 mod uleb;
 mod width;
 

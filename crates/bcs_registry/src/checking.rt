@@ -1,14 +1,13 @@
 //! Whether containers make a registry.
 ghost use Rattle.std.specs.Prelude.{◌≡◌, ◌≢◌, IfOk, IfErr};
-ghost use Rattle.bcs_registry.specs.Breaks.{Breaks};
-ghost use Rattle.bcs_registry.specs.View.{entries_of};
-ghost use Rattle.bcs_registry.specs.WellFormed.{IsWellFormed};
+ghost use Rattle.bcs_registry_formats.specs.Breaks.{Breaks};
+ghost use Rattle.bcs_registry_formats.specs.View.{entries_of};
+ghost use Rattle.bcs_registry_formats.specs.WellFormed.{IsWellFormed};
 
-use crate::container::Container;
-use crate::distinct::have_distinct_names;
-use crate::fault::RegistryFault;
 use crate::registry::Registry;
-use crate::rule::{Rule, all_keep};
+use bcs_registry_formats::distinct::have_distinct_names;
+use bcs_registry_formats::rule::{Rule, all_keep};
+use bcs_registry_formats::{Container, RegistryFault};
 use std::alloc::Global;
 use std::collections::BTreeMap;
 

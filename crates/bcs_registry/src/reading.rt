@@ -1,22 +1,20 @@
 //! Registries and formats from JSON texts.
 ghost use Rattle.std.specs.Prelude.{◌≡◌, ◌≢◌, IfErr, IfOk};
 ghost use Rattle.serde_json.specs.View.{view};
-ghost use Rattle.bcs_registry.specs.Faults.{IsLeastFault, IsLeastFormatFault};
-ghost use Rattle.bcs_registry.specs.Parts.{IsLeastFaultBy};
-ghost use Rattle.bcs_registry.specs.Shaped.{is_format, is_registry};
-ghost use Rattle.bcs_registry.specs.Text.{IsFormatText, IsRegistryText, WritesFormat, WritesRegistry};
-ghost use Rattle.bcs_registry.specs.View.{entries_of, shape_of};
-ghost use Rattle.bcs_registry.specs.WellFormed.{Admits, IsWellFormed};
+ghost use Rattle.bcs_registry_laws.specs.Faults.{IsLeastFault, IsLeastFormatFault};
+ghost use Rattle.bcs_registry_text.specs.Parts.{IsLeastFaultBy};
+ghost use Rattle.bcs_registry_text.specs.Shaped.{is_format, is_registry};
+ghost use Rattle.bcs_registry_text.specs.Text.{IsFormatText, IsRegistryText, WritesFormat, WritesRegistry};
+ghost use Rattle.bcs_registry_formats.specs.View.{entries_of, shape_of};
+ghost use Rattle.bcs_registry_formats.specs.WellFormed.{Admits, IsWellFormed};
 
 use crate::checking::checked;
-use crate::container::Container;
-use crate::container_text::containers_from;
-use crate::fault::RegistryFault;
-use crate::format::Format;
-use crate::format_text::format_from;
-use crate::json_text::read_json;
 use crate::registry::Registry;
-use crate::shaped::{is_format_shaped, is_registry_shaped};
+use bcs_registry_formats::{Container, Format, RegistryFault};
+use bcs_registry_text::container_text::containers_from;
+use bcs_registry_text::format_text::format_from;
+use bcs_registry_text::json_text::read_json;
+use bcs_registry_text::shaped::{is_format_shaped, is_registry_shaped};
 use serde_json::Value;
 use std::alloc::Global;
 use std::collections::BTreeMap;

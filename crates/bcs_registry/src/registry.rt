@@ -1,14 +1,14 @@
 //! Registries: containers by name.
 ghost use Rattle.std.specs.Prelude.{◌≡◌, option_map, length, string_bytes, IfOk};
-ghost use Rattle.bcs_registry.specs.Container.{Entries, container_at};
-ghost use Rattle.bcs_registry.specs.Shown.{shown};
-ghost use Rattle.bcs_registry.specs.Text.{WritesRegistry};
-ghost use Rattle.bcs_registry.specs.View.{container_of, entries_of};
-ghost use Rattle.bcs_registry.specs.WellFormed.{IsWellFormed};
+ghost use Rattle.bcs_registry_formats.specs.Container.{Entries, container_at};
+ghost use Rattle.bcs_registry_text.specs.Shown.{shown};
+ghost use Rattle.bcs_registry_text.specs.Text.{WritesRegistry};
+ghost use Rattle.bcs_registry_formats.specs.View.{container_of, entries_of};
+ghost use Rattle.bcs_registry_formats.specs.WellFormed.{IsWellFormed};
 ghost use Rattle.serde_json.specs.Written.{compact_text};
 
-use crate::container::Container;
-use crate::printing::registry_value;
+use bcs_registry_formats::Container;
+use bcs_registry_text::printing::registry_value;
 use std::alloc::{AllocError, Global};
 use std::collections::BTreeMap;
 use std::marker::Model;
@@ -21,9 +21,9 @@ pub struct Registry {
 }
 
 impl Model for Registry {
-    ghost use Rattle.bcs_registry.specs.Container.{Entries};
-    ghost use Rattle.bcs_registry.specs.View.{entries_of};
-    ghost use Rattle.bcs_registry.specs.WellFormed.{IsWellFormed};
+    ghost use Rattle.bcs_registry_formats.specs.Container.{Entries};
+    ghost use Rattle.bcs_registry_formats.specs.View.{entries_of};
+    ghost use Rattle.bcs_registry_formats.specs.WellFormed.{IsWellFormed};
     ghost use Rattle.std.specs.Coded.{codes};
     ghost use Rattle.bcs_registry.specs.Codes.{shape_coded, shapes_coded};
 

@@ -1,6 +1,2 @@
-mod AnswerLemmas
-mod FrontLemmas
-mod CommandLines
-mod CommandNames
-mod LineFaultLemmas
-mod Subcommands
+pub mod AnswerLemmas
+pub mod FrontLemmas

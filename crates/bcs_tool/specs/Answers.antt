@@ -2,23 +2,20 @@
 use Rattle.std.specs.Prelude.{◌≡◌, ◌⊎◌, ◌≤◌, ◌++◌, ◌∷◌, [], ℕ, List, Bool, Option, Some, None, codes, length, if◌then◌else◌}
 use Rattle.std.specs.Fmt.{decimal}
 use Rattle.hex.specs.Hex.{encode_lower}
-use Rattle.bcs_registry.specs.Container.{Entries}
-use Rattle.bcs_registry.specs.Grows.{Grows}
-use Rattle.bcs_registry.specs.Shape.{Shape}
-use Rattle.bcs_value.specs.Limits.{Bounds}
-use Rattle.bcs_value.specs.Tree.{Tree}
-use Rattle.bcs_encode.specs.Encodes.{Encodes}
+use Rattle.bcs_registry_formats.specs.Container.{Entries}
+use Rattle.bcs_registry_formats.specs.Grows.{Grows}
+use Rattle.bcs_registry_formats.specs.Shape.{Shape}
+use Rattle.bcs_value_laws.specs.Limits.{Bounds}
+use Rattle.bcs_value_tree.specs.Tree.{Tree}
+use Rattle.bcs_encode_laws.specs.Encodes.{Encodes}
+use Rattle.bcs_tool_files.specs.Files.{size_limit}
 use Rattle.bcs_tool.specs.Front.{Asks, IsRegistry, RefusesEarly, front_name}
 use Rattle.bcs_tool.specs.Spelling.{Denotes, RefusesText, input_name}
-use Rattle.bcs_tool.specs.declared.command.Command.TheVariants as command
-use Rattle.bcs_tool.specs.declared.command.Command.TheVariants.{Check}
+use Rattle.bcs_tool_line.specs.declared.command.Command.TheVariants as command
+use Rattle.bcs_tool_line.specs.declared.command.Command.TheVariants.{Check}
 use Rattle.bcs_tool.specs.declared.front_fault.FrontFault.{FrontFault}
 use Rattle.bcs_tool.specs.declared.input_fault.InputFault.{InputFault}
-use Rattle.bcs_tool.specs.declared.work.Work.{Work}
-
--- the most bytes of an input, and of a registry's text
-abbrev pub size_limit : ℕ
-size_limit = 268435456
+use Rattle.bcs_tool_files.specs.declared.work.Work.{Work}
 
 -- the limits of a value
 abbrev pub standard_bounds : Bounds

@@ -1,21 +1,21 @@
 -- What is judged of a job before its input is read: its registries, and then the format.
 use Rattle.std.specs.Prelude.{◌≡◌, ◌⊎◌, ◌==◌, ◌||◌, ℕ, List, [], ◌∷◌, None, Bool, true, false, codes, is_some, string_bytes}
-use Rattle.bcs_registry.specs.Container.{Entries, container_at}
-use Rattle.bcs_registry.specs.Faults.{IsLeastFault, IsLeastFormatFault}
-use Rattle.bcs_registry.specs.Grows.{IsFirstGrowthFault}
-use Rattle.bcs_registry.specs.Shape.{Shape, name}
-use Rattle.bcs_registry.specs.Text.{WritesRegistry, WritesFormat}
-use Rattle.bcs_registry.specs.WellFormed.{IsWellFormed, Admits}
-use Rattle.bcs_registry.specs.declared.fault.RegistryFault.{RegistryFault}
-use Rattle.bcs_registry.specs.declared.fault.RegistryFault.TheVariants.{NotJson, BadShape, BadNumber, TooNested, RepeatedName, UnknownName, OutOfMemory}
-use Rattle.bcs_registry.specs.declared.growth_fault.GrowthFault.{GrowthFault}
-use Rattle.bcs_registry.specs.declared.growth_fault.GrowthFault.TheVariants.{Missing, Changed, VariantMissing, VariantChanged}
+use Rattle.bcs_registry_formats.specs.Container.{Entries, container_at}
+use Rattle.bcs_registry_laws.specs.Faults.{IsLeastFault, IsLeastFormatFault}
+use Rattle.bcs_registry_formats.specs.Grows.{IsFirstGrowthFault}
+use Rattle.bcs_registry_formats.specs.Shape.{Shape, name}
+use Rattle.bcs_registry_text.specs.Text.{WritesRegistry, WritesFormat}
+use Rattle.bcs_registry_formats.specs.WellFormed.{IsWellFormed, Admits}
+use Rattle.bcs_registry_formats.specs.declared.fault.RegistryFault.{RegistryFault}
+use Rattle.bcs_registry_formats.specs.declared.fault.RegistryFault.TheVariants.{NotJson, BadShape, BadNumber, TooNested, RepeatedName, UnknownName, OutOfMemory}
+use Rattle.bcs_registry_formats.specs.declared.growth_fault.GrowthFault.{GrowthFault}
+use Rattle.bcs_registry_formats.specs.declared.growth_fault.GrowthFault.TheVariants.{Missing, Changed, VariantMissing, VariantChanged}
 use Rattle.bcs_tool.specs.Spelling.{is_served}
-use Rattle.bcs_tool.specs.declared.command.Command.{Command}
-use Rattle.bcs_tool.specs.declared.command.Command.TheVariants as command
+use Rattle.bcs_tool_line.specs.declared.command.Command.{Command}
+use Rattle.bcs_tool_line.specs.declared.command.Command.TheVariants as command
 use Rattle.bcs_tool.specs.declared.front_fault.FrontFault.{FrontFault}
 use Rattle.bcs_tool.specs.declared.front_fault.FrontFault.TheVariants as front
-use Rattle.bcs_tool.specs.declared.work.Work.{Work}
+use Rattle.bcs_tool_files.specs.declared.work.Work.{Work}
 
 -- ---- the names that are printed
 

@@ -4,11 +4,11 @@ use Rattle.std.specs.Fmt.{signed_decimal}
 use Rattle.serde_json.specs.Data.{Data, null, boolean, number, string, depth}
 use Rattle.serde_json.specs.Find.{as_integer}
 use Rattle.bcs_num.specs.Le.{IsUnsigned, IsSigned}
-use Rattle.bcs_registry.specs.Shape as shape
-use Rattle.bcs_registry.specs.Shape.{Shape}
-use Rattle.bcs_value.specs.Tree as tree
-use Rattle.bcs_value.specs.Tree.{Tree}
-use Rattle.bcs_registry.specs.Json.{IsJson, IsNotJson}
+use Rattle.bcs_registry_formats.specs.Shape as shape
+use Rattle.bcs_registry_formats.specs.Shape.{Shape}
+use Rattle.bcs_value_tree.specs.Tree as tree
+use Rattle.bcs_value_tree.specs.Tree.{Tree}
+use Rattle.bcs_registry_text.specs.Json.{IsJson, IsNotJson}
 use Rattle.bcs_tool.specs.declared.input_fault.InputFault.{InputFault}
 use Rattle.bcs_tool.specs.declared.input_fault.InputFault.TheVariants.{NotJson, TooNested, Unsupported, BadShape, BadNumber, OutOfMemory}
 use Rattle.bcs_tool.specs.declared.json_text.TextFault.{TextFault}

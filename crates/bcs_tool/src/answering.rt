@@ -1,22 +1,22 @@
 //! The answer to a job and its input.
 ghost use Rattle.std.specs.Prelude.{◌≡◌, ◌≢◌, ◌≤◌, ◌+◌, ℕ, List, length, true, Err, IfOk};
-ghost use Rattle.bcs_decode.specs.Taking.{Took};
-ghost use Rattle.bcs_registry.specs.View.{shape_of};
-ghost use Rattle.bcs_value.specs.View.{tree_of};
-ghost use Rattle.bcs_encode.specs.Encodes.{Encodes};
-ghost use Rattle.bcs_tool.specs.Answers.{Answers, IsContent, size_limit, printed, standard_bounds};
+ghost use Rattle.bcs_decode_sources.specs.Taking.{Took};
+ghost use Rattle.bcs_registry_formats.specs.View.{shape_of};
+ghost use Rattle.bcs_value_tree.specs.View.{tree_of};
+ghost use Rattle.bcs_encode_laws.specs.Encodes.{Encodes};
+ghost use Rattle.bcs_tool.specs.Answers.{Answers, IsContent, printed, standard_bounds};
+ghost use Rattle.bcs_tool_files.specs.Files.{size_limit};
 ghost use Rattle.bcs_tool.specs.Front.{Asks, ReadsInput};
 
 use crate::answer::{Answer, counted, encoded, grown};
-use crate::command::Command;
 use crate::front::{Asked, judge_check, judge_encoding, judge_growth};
-use crate::limits::SIZE_LIMIT;
 use crate::reading::read_text;
 use crate::run_fault::RunFault;
-use crate::taking::take_all;
-use crate::work::Work;
 use bcs_decode::ByteSource;
 use bcs_encode::encode;
+use bcs_tool_files::limits::SIZE_LIMIT;
+use bcs_tool_files::{Work, take_all};
+use bcs_tool_line::Command;
 use bcs_value::{Limits, Value};
 use std::alloc::{AllocError, Global};
 

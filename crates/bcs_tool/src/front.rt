@@ -1,17 +1,17 @@
 //! What is judged of a job before its input is read: its registries, and then the format.
 ghost use Rattle.std.specs.Prelude.{◌≡◌, ◌≢◌, ℕ, length, IfOk, IfErr, OnOk};
-ghost use Rattle.bcs_registry.specs.Container.{Entries};
-ghost use Rattle.bcs_registry.specs.Grows.{Grows};
-ghost use Rattle.bcs_registry.specs.Shape as shape;
-ghost use Rattle.bcs_registry.specs.View.{shape_of};
-ghost use Rattle.bcs_registry.specs.declared.fault.RegistryFault.TheVariants.{OutOfMemory};
+ghost use Rattle.bcs_registry_formats.specs.Container.{Entries};
+ghost use Rattle.bcs_registry_formats.specs.Grows.{Grows};
+ghost use Rattle.bcs_registry_formats.specs.Shape as shape;
+ghost use Rattle.bcs_registry_formats.specs.View.{shape_of};
+ghost use Rattle.bcs_registry_formats.specs.declared.fault.RegistryFault.TheVariants.{OutOfMemory};
 ghost use Rattle.bcs_tool.specs.Front.{Asks, IsFormat, IsRegistry, RefusesCheck, RefusesEncoding, RefusesFormat, RefusesGrowth, is_json_word};
 
-use crate::command::Command;
 use crate::front_fault::FrontFault;
 use crate::reading::is_served;
-use crate::work::Work;
 use bcs_registry::{Format, Registry, RegistryFault};
+use bcs_tool_files::Work;
+use bcs_tool_line::Command;
 use std::alloc::Global;
 
 /// How many containers the registry has.

@@ -1,6 +1,6 @@
 //! Why a job is refused by its words alone.
 ghost use Rattle.std.specs.Prelude.{◌≡◌, ◌≢◌, IfOk};
-ghost use Rattle.bcs_registry.specs.declared.fault.RegistryFault.TheVariants.{OutOfMemory};
+ghost use Rattle.bcs_registry_formats.specs.declared.fault.RegistryFault.TheVariants.{OutOfMemory};
 ghost use Rattle.bcs_tool.specs.Answers.{refusal_line};
 ghost use Rattle.bcs_tool.specs.Front.{front_name, growth_fault_name, registry_fault_name};
 

@@ -1,7 +1,7 @@
 //! Reading a JSON text.
 ghost use Rattle.std.specs.Prelude.{◌≡◌, ◌≢◌, ◌≤◌, IfOk, Err};
 ghost use Rattle.serde_json.specs.View.{view};
-ghost use Rattle.bcs_registry.specs.Json.{IsJson, IsNotJson};
+ghost use Rattle.bcs_registry_text.specs.Json.{IsJson, IsNotJson};
 
 use serde_json::{Category, Value};
 use std::alloc::Global;

@@ -1,15 +1,14 @@
 //! Reading a value's JSON text.
 ghost use Rattle.std.specs.Prelude.{◌≡◌, ◌≢◌, IfOk, IfErr};
 ghost use Rattle.serde_json.specs.View.{view};
-ghost use Rattle.bcs_registry.specs.View.{shape_of};
-ghost use Rattle.bcs_value.specs.Tree.{Tree};
-ghost use Rattle.bcs_value.specs.View.{tree_of};
+ghost use Rattle.bcs_registry_formats.specs.View.{shape_of};
+ghost use Rattle.bcs_value_tree.specs.Tree.{Tree};
+ghost use Rattle.bcs_value_tree.specs.View.{tree_of};
 ghost use Rattle.bcs_tool.specs.Spelling.{Denotes, RefusesText, Spells, is_served, refusal};
 
 use crate::input_fault::InputFault;
 use crate::json_text::read_json;
-use crate::limits::NESTING_LIMIT;
-use crate::nesting::nests_within;
+use crate::nesting::{NESTING_LIMIT, nests_within};
 use crate::whole_number::{read_signed, read_unsigned};
 use bcs_num::Width;
 use bcs_registry::Format;

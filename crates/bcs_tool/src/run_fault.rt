@@ -1,7 +1,7 @@
 //! Why a run has no answer.
 ghost use Rattle.std.specs.Prelude.{◌≡◌};
 
-use crate::taking::TakeFault;
+use bcs_tool_files::TakeFault;
 use std::alloc::AllocError;
 use thiserror::Error;
 

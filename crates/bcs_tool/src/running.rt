@@ -1,16 +1,16 @@
 //! A job, its input and its output.
 ghost use Rattle.std.specs.Prelude.{◌≡◌, ◌⊎◌, ◌<◌, ◌+◌, ℕ, List, length, take, true, Err, IfOk, codes};
-ghost use Rattle.bcs_encode.specs.Taking as sink;
-ghost use Rattle.bcs_decode.specs.Taking as source;
-ghost use Rattle.bcs_tool.specs.Answers.{Answers, IsContent, IsFaultNote, size_limit};
+ghost use Rattle.bcs_encode_sinks.specs.Taking as sink;
+ghost use Rattle.bcs_decode_sources.specs.Taking as source;
+ghost use Rattle.bcs_tool.specs.Answers.{Answers, IsContent, IsFaultNote};
+ghost use Rattle.bcs_tool_files.specs.Files.{size_limit};
 ghost use Rattle.bcs_tool.specs.Front.{ReadsInput};
 
 use crate::answering::answer;
-use crate::putting::put_all;
 use crate::run_fault::RunFault;
-use crate::work::{Outcome, Work};
 use bcs_decode::ByteSource;
 use bcs_encode::ByteSink;
+use bcs_tool_files::{Outcome, Work, put_all};
 use std::alloc::Global;
 
 /// Puts the answer to a job and its input. The whole answer is made before its first byte is put.

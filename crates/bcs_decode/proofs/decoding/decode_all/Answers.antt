@@ -1,6 +1,7 @@
+use Rattle.std.proofs.lemmas.Grind.{common_steps}
 use Rattle.std.proofs.Common.{take, arith}
 use Rattle.std.proofs.lemmas.List.{length-take}
-use Rattle.bcs_registry.specs.View.{shape_of}
+use Rattle.bcs_registry_formats.specs.View.{shape_of}
 use Rattle.bcs_decode.proofs.Wholes.{trails_by}
 use Rattle.bcs_decode.proofs.decoding.decode_all.Goals as goal
 
@@ -10,3 +11,6 @@ returns-in-Ok-next-clause-told g c =
     let given = take c.in-Ok-next.field-0 c.next.new.buf in
     trails_by c.args.registry.now c.args.limits.now (shape_of c.args.format.now) (content c.args.source.now) (content c.front.new.source) (content c.next.new.self)
     (c.in-Ok.value, c.in-Ok.length) given (omega (arith, length-take c.in-Ok-next.field-0 c.next.new.buf, c.next.auto.buf, c.in-Ok-next.ensures.0, c.in-Ok-next.field-0-test.1)) c.in-Ok.ensures.told c.in-Ok-next.ensures.2.front
+
+pub returns-in-Ok-eq0-clause-told : goal.returns-in-Ok-eq0-clause-told
+returns-in-Ok-eq0-clause-told g c = grind (arith, common_steps)

@@ -1,6 +1,6 @@
 use Rattle.std.proofs.Common.{refl, false}
 use Rattle.std.proofs.lemmas.Result.{err_from_is_err_and}
-use Rattle.bcs_registry.specs.View.{shape_of}
+use Rattle.bcs_registry_formats.specs.View.{shape_of}
 use Rattle.bcs_decode.proofs.Wholes.{decoded, stopped}
 use Rattle.bcs_decode.proofs.decoding.front.Goals as goal
 

@@ -1,7 +1,7 @@
 use Rattle.std.proofs.Common.{rules}
 use Rattle.std.proofs.lemmas.Result.{err_from_is_err_and}
-use Rattle.bcs_registry.specs.View.{shape_of}
-use Rattle.bcs_value.specs.View.{tree_of}
+use Rattle.bcs_registry_formats.specs.View.{shape_of}
+use Rattle.bcs_value_tree.specs.View.{tree_of}
 use Rattle.bcs_encode.proofs.Outcomes.{written_encodes, unwritten_refuses}
 use Rattle.bcs_encode.proofs.by_entries.encode_by_entries.Goals as goal
 

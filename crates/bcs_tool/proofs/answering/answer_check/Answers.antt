@@ -2,7 +2,7 @@ use Rattle.std.proofs.Common.{sym, subst, ◌∙◌, ap}
 use Rattle.std.proofs.lemmas.Result.{IfOk-weaker}
 use Rattle.bcs_tool.specs.Answers.{checked, count_line, refused_early, refusal_line}
 use Rattle.bcs_tool.specs.Front.{RefusesAt, front_name}
-use Rattle.bcs_tool.specs.declared.command.Command.{Command}
+use Rattle.bcs_tool_line.specs.declared.command.Command.{Command}
 use Rattle.bcs_tool.proofs.AnswerLemmas.{same_answer}
 use Rattle.bcs_tool.proofs.answering.answer_check.Goals as goal
 

@@ -1,7 +1,7 @@
 use Rattle.bcs_tool.specs.Answers.{refused_early, refusal_line}
 use Rattle.std.proofs.Common.{sym, subst}
 use Rattle.bcs_tool.specs.Front.{RefusesAt, front_name}
-use Rattle.bcs_tool.specs.declared.command.Command.{Command}
+use Rattle.bcs_tool_line.specs.declared.command.Command.{Command}
 use Rattle.bcs_tool.proofs.AnswerLemmas.{same_answer, some_content}
 use Rattle.bcs_tool.proofs.answering.answer_encoding.Goals as goal
 

@@ -2,7 +2,7 @@ use Rattle.std.proofs.Common.{sym, subst}
 use Rattle.std.proofs.lemmas.Result.{IfOk-weaker}
 use Rattle.bcs_tool.specs.Answers.{grown, refused_early, refusal_line}
 use Rattle.bcs_tool.specs.Front.{RefusesAt, front_name}
-use Rattle.bcs_tool.specs.declared.command.Command.{Command}
+use Rattle.bcs_tool_line.specs.declared.command.Command.{Command}
 use Rattle.bcs_tool.proofs.AnswerLemmas.{same_answer}
 use Rattle.bcs_tool.proofs.answering.answer_growth.Goals as goal
 

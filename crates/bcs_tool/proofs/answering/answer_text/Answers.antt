@@ -1,6 +1,6 @@
 use Rattle.std.proofs.lemmas.Result.{IfOk-weaker}
-use Rattle.bcs_registry.specs.View.{shape_of}
-use Rattle.bcs_value.specs.View.{tree_of}
+use Rattle.bcs_registry_formats.specs.View.{shape_of}
+use Rattle.bcs_value_tree.specs.View.{tree_of}
 use Rattle.bcs_tool.specs.Answers.{encoded, refused, printed, refusal_line}
 use Rattle.bcs_tool.specs.Spelling.{input_name}
 use Rattle.bcs_tool.proofs.AnswerLemmas.{same_answer}

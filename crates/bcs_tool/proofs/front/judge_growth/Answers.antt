@@ -1,5 +1,5 @@
 use Rattle.std.proofs.Common.{inr, refl, subst}
-use Rattle.bcs_registry.specs.Faults.{IsLeastFault}
+use Rattle.bcs_registry_laws.specs.Faults.{IsLeastFault}
 use Rattle.bcs_tool.specs.Front.{IsRegistry, RefusesGrowth}
 use Rattle.bcs_tool.proofs.FrontLemmas.{refused_by_registry, refused_by_growth}
 use Rattle.bcs_tool.proofs.front.judge_growth.Goals as goal

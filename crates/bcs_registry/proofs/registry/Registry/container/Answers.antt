@@ -1,7 +1,7 @@
 use Rattle.std.proofs.Common.{sym, ap, ◌∙◌, option_map}
-use Rattle.bcs_registry.specs.Container.{container_at}
-use Rattle.bcs_registry.specs.View.{container_of}
-use Rattle.bcs_registry.proofs.Lookup.{map-copied, find-container}
+use Rattle.bcs_registry_formats.specs.Container.{container_at}
+use Rattle.bcs_registry_formats.specs.View.{container_of}
+use Rattle.bcs_registry_formats.proofs.Lookup.{map-copied, find-container}
 use Rattle.bcs_registry.proofs.registry.Registry.container.Goals as goal
 
 pub returns-clause-found : goal.returns-clause-found

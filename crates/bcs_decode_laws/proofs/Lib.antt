@@ -1,0 +1,17 @@
+pub mod Combine
+pub mod Decodable
+pub mod Encoded
+pub mod Growing
+pub mod Items
+pub mod Keys
+pub mod Makings
+pub mod Numbers
+pub mod OneValue
+pub mod Pairs
+pub mod Scanned
+pub mod Skipped
+pub mod Steady
+pub mod Values
+pub mod Verdicts
+pub mod WorkedRows
+pub mod LookedUp

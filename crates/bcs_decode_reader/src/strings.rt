@@ -1,0 +1,66 @@
+//! Byte strings and texts from a source.
+ghost use Rattle.std.specs.Prelude.{◌≡◌, ℕ, ◌+◌, ◌<◌, ◌^◌, false, length, string_bytes, IfOk};
+ghost use Rattle.bcs_decode_laws.specs.Reading.{bytes_here, text_here};
+ghost use Rattle.bcs_decode_reader.specs.Sees.{Sees, FailedIfRead, Goes};
+
+use crate::bytes::read_exact;
+use crate::room::make_room;
+use bcs_decode_keys::at::At;
+use bcs_decode_sources::ByteSource;
+use bcs_decode_stops::{DecodeFault, Reason, Stop};
+use std::alloc::Global;
+
+/// How many bytes are taken at a time.
+const BLOCK: usize = 512;
+
+/// So many bytes. They are taken by blocks, so that memory follows what was read.
+pub fn bytes<S: ByteSource>(
+    alloc: Global,
+    source: &mut S,
+    at: &mut At,
+    count: u32,
+) -> Result<Vec<u8>, DecodeFault>
+    requires good { S.is_failed source.old ≡ false }
+    requires room { at.old.place + S.allowance source.old < 2 ^ 64 }
+    ensures sees { Sees (λ v. v.items) result (S.content source.old) at.old (bytes_here count) at.new (S.content source.new) }
+    ensures failed { FailedIfRead result (S.is_failed source.new) }
+    ensures room { at.new.place + S.allowance source.new < 2 ^ 64 }
+    ensures goes { Goes result (S.content source.old) at.old (S.content source.new) at.new }
+    ensures far { IfOk result (λ v. at.new.place ≡ at.old.place + length v.items) }
+{
+    let mut found = Vec::new(alloc);
+    make_room(alloc, &mut found, at, u64::from(count))?;
+    let mut block = [0u8; BLOCK];
+    while found.len() < count as usize {
+        let size = (count as usize - found.len()).min(BLOCK);
+        read_exact(source, at, &mut block[..size])?;
+        found.extend_from_slice(&block[..size])?;
+    }
+    Ok(found)
+}
+
+/// A text of so many bytes.
+#[tactic(auto, unfolding(bcs_decode_laws::specs::Reading::chain, bcs_decode_laws::specs::Reading::give, bcs_decode_laws::specs::Reading::fail, bcs_decode_laws::specs::Reading::text_here))]
+pub fn text<S: ByteSource>(
+    alloc: Global,
+    source: &mut S,
+    at: &mut At,
+    count: u32,
+) -> Result<String, DecodeFault>
+    requires good { S.is_failed source.old ≡ false }
+    requires room { at.old.place + S.allowance source.old < 2 ^ 64 }
+    ensures sees { Sees string_bytes result (S.content source.old) at.old (text_here count) at.new (S.content source.new) }
+    ensures failed { FailedIfRead result (S.is_failed source.new) }
+    ensures room { at.new.place + S.allowance source.new < 2 ^ 64 }
+    ensures goes { Goes result (S.content source.old) at.old (S.content source.new) at.new }
+{
+    let start = at.place;
+    let found = bytes(alloc, source, at, count)?;
+    match simdutf8::compat::from_utf8(found.as_slice()) {
+        Ok(_) => Ok(unsafe { String::from_utf8_unchecked(found) }),
+        Err(error) => Err(DecodeFault::Stop(Stop {
+            reason: Reason::BadUtf8,
+            place: start + error.valid_up_to() as u64,
+        })),
+    }
+}

@@ -1,0 +1,3 @@
+pub mod PassingParts
+pub mod PassingNames
+pub mod WholeRows

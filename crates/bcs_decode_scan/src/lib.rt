@@ -1,0 +1,5 @@
+//! Going past values in a slice of bytes.
+#![tactic(auto)]
+
+pub mod scanning;
+mod whole_row;

@@ -1,7 +1,0 @@
-use Rattle.std.proofs.Common.{rules}
-use Rattle.bcs_encode.specs.Laying.{part}
-use Rattle.bcs_encode.proofs.Sorting.{sorted_by_bytes}
-use Rattle.bcs_encode.proofs.spans.sort_spans.Goals as goal
-
-pub returns-clause-sorted : goal.returns-clause-sorted
-returns-clause-sorted c = sorted_by_bytes (λ s. part c.args.bytes.now s.key s.value) _ c.sort_unstable_by.ensures.sorted (λ a r q k. search rules)

@@ -1,0 +1,9 @@
+pub mod BelowLaws
+pub mod EntryOrder
+pub mod FormLaws
+pub mod FormOf
+pub mod Growth
+pub mod PrefixLaws
+pub mod Sorting
+pub mod SoundForms
+pub mod UniqueForms

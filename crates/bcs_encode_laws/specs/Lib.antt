@@ -1,0 +1,9 @@
+pub mod Plain
+pub mod Canonical
+pub mod Lengths
+pub mod Sound
+pub mod Encodes
+pub mod Entries
+pub mod Laws
+pub mod FormOf
+pub mod Refused

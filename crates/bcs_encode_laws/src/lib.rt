@@ -1,0 +1,7 @@
+//! Which bytes a value has: definitions and laws.
+#![tactic(auto)]
+
+mod fault;
+pub mod laws;
+
+pub use fault::{EncodeFault, WriteFault};

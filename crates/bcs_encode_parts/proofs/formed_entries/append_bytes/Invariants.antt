@@ -1,0 +1,10 @@
+use Rattle.std.proofs.Common.{◌≡◌, ◌++◌, map, drop}
+use Rattle.std.specs.List.{flat_map}
+use Rattle.bcs_encode_laws.specs.Entries.{entry_bytes}
+use Rattle.bcs_encode_parts.specs.FormedView.{bytes_entry}
+use Rattle.bcs_encode_parts.proofs.formed_entries.append_bytes.Given as goal
+
+abbrev pub invariant-loop-entry : goal.invariant-loop-entry
+invariant-loop-entry l =
+    l.initial.out.items ++ flat_map entry_bytes (map bytes_entry l.entries)
+    ≡ l.out.items ++ flat_map entry_bytes (map bytes_entry (drop l.entry-index l.entries))

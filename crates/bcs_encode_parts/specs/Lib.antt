@@ -1,0 +1,5 @@
+pub mod Writing
+pub mod EntryView
+pub mod Forming
+pub mod FormedView
+pub mod NumberShape

@@ -1,0 +1,10 @@
+//! Parts of the encoders: numbers, lengths and strings in bytes, and the entries of a map in order.
+#![tactic(auto)]
+
+pub mod arranging;
+pub mod entry_bytes;
+pub mod formed_entries;
+pub mod formed_entry;
+pub mod number_format;
+pub mod number_rows;
+pub mod putting;

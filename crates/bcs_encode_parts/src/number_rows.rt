@@ -1,0 +1,40 @@
+//! Lists of plain numbers. The room for the bytes of a list is asked for once, by the list's length.
+ghost use Rattle.std.specs.Prelude.{[]};
+ghost use Rattle.bcs_registry_formats.specs.Container.{of};
+ghost use Rattle.bcs_value_tree.specs.View.{items_trees, tree_of};
+ghost use Rattle.bcs_encode_parts.specs.NumberShape.{number_shape};
+ghost use Rattle.bcs_encode_parts.specs.Writing.{Tells, items_written, written};
+
+use crate::number_format::NumberFormat;
+use crate::putting::{put_signed, put_unsigned};
+use bcs_encode_laws::EncodeFault;
+use bcs_value_tree::Value;
+
+/// Appends the bytes of a list's numbers. A number looks up no container, so the clause names a registry without any.
+#[inline(never)]
+pub fn put_numbers(
+    format: NumberFormat,
+    items: &[Value],
+    out: &mut Vec<u8>,
+) -> Result<(), EncodeFault>
+    ensures { Tells result (items_written [] (items_trees items.now) (number_shape format) out.old.items) out.new.items }
+{
+    out.reserve(items.len().saturating_mul(format.byte_count()))?;
+    for item in items {
+        put_plain(format, item, out)?;
+    }
+    Ok(())
+}
+
+#[inline(always)]
+fn put_plain(format: NumberFormat, value: &Value, out: &mut Vec<u8>) -> Result<(), EncodeFault>
+    ensures { Tells result (written [] (tree_of value.now) (of (number_shape format)) out.old.items) out.new.items }
+{
+    match (value, format) {
+        (Value::Unsigned(number), NumberFormat::Unsigned(width)) => put_unsigned(
+            width, *number, out,
+        ),
+        (Value::Signed(number), NumberFormat::Signed(width)) => put_signed(width, *number, out),
+        _ => Err(EncodeFault::NotOfFormat),
+    }
+}

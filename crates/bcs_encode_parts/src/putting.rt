@@ -1,0 +1,118 @@
+//! The bytes of values that have no parts.
+ghost use Rattle.std.specs.Prelude.{◌≡◌, ◌++◌, ◌∷◌, ◌^◌, [], Ok, nat_lt};
+ghost use mir.Val.{bits, hbits};
+ghost use Rattle.bcs_num.specs.Le.{width_of};
+ghost use Rattle.bcs_num.specs.Uleb.{uleb};
+ghost use Rattle.bcs_value_laws.specs.Fits as fits;
+ghost use Rattle.bcs_encode_parts.specs.Writing.{Tells, length_written, bytes_written, signed_written, unsigned_written};
+
+use bcs_encode_laws::EncodeFault;
+use bcs_num::{Width, put_le, put_le_signed, put_uleb};
+
+/// The greatest length of a list, a map, a text or a byte string.
+pub const LENGTH_LIMIT: usize = 2147483647;
+
+/// Appends one byte.
+pub fn put_byte(byte: u8, out: &mut Vec<u8>) -> Result<(), EncodeFault>
+    ensures { Tells result (Ok (out.old.items ++ byte ∷ [])) out.new.items }
+{
+    out.push(byte)?;
+    Ok(())
+}
+
+/// Appends a number by ULEB128.
+pub fn put_number(number: u32, out: &mut Vec<u8>) -> Result<(), EncodeFault>
+    ensures { Tells result (Ok (out.old.items ++ uleb number)) out.new.items }
+{
+    let mut bytes = [0; 5];
+    let len = put_uleb(number, &mut bytes);
+    out.extend_from_slice(&bytes[..len])?;
+    Ok(())
+}
+
+/// Appends a length by ULEB128, or refuses one above the limit.
+pub fn put_length(length: usize, out: &mut Vec<u8>) -> Result<(), EncodeFault>
+    ensures { Tells result (length_written length out.old.items) out.new.items }
+{
+    if length > LENGTH_LIMIT {
+        return Err(EncodeFault::TooLong);
+    }
+    put_number(length as u32, out)
+}
+
+/// Appends bytes, their length first.
+pub fn put_bytes(bytes: &[u8], out: &mut Vec<u8>) -> Result<(), EncodeFault>
+    ensures { Tells result (bytes_written bytes.now out.old.items) out.new.items }
+{
+    put_length(bytes.len(), out)?;
+    out.extend_from_slice(bytes)?;
+    Ok(())
+}
+
+/// Appends an unsigned number in its width, or refuses one that the width can't hold.
+#[tactic(auto, using(crate::proofs::NumberViews::one_byte))]
+pub fn put_unsigned(width: Width, number: u128, out: &mut Vec<u8>) -> Result<(), EncodeFault>
+    ensures { Tells result (unsigned_written (width_of width) number out.old.items) out.new.items }
+{
+    if !is_unsigned(width, number) {
+        return Err(EncodeFault::NotOfFormat);
+    }
+    if let Width::W1 = width {
+        out.push(number as u8)?;
+        return Ok(());
+    }
+    let mut bytes = [0; 16];
+    let len = put_le(width, number, &mut bytes);
+    out.extend_from_slice(&bytes[..len])?;
+    Ok(())
+}
+
+/// Appends a signed number in its width, or refuses one that the width can't hold.
+pub fn put_signed(width: Width, number: i128, out: &mut Vec<u8>) -> Result<(), EncodeFault>
+    ensures { Tells result (signed_written (width_of width) number out.old.items) out.new.items }
+{
+    if !is_signed(width, number) {
+        return Err(EncodeFault::NotOfFormat);
+    }
+    let mut bytes = [0; 16];
+    let len = put_le_signed(width, number, &mut bytes);
+    out.extend_from_slice(&bytes[..len])?;
+    Ok(())
+}
+
+/// Whether the number is a value of the width's unsigned type.
+fn is_unsigned(width: Width, number: u128) -> bool
+    ensures { result ≡ nat_lt number (2 ^ bits (width_of width)) }
+{
+    match width {
+        Width::W1 => number < 0x100,
+        Width::W2 => number < 0x1_0000,
+        Width::W4 => number < 0x1_0000_0000,
+        Width::W8 => number < 0x1_0000_0000_0000_0000,
+        Width::W16 => true,
+    }
+}
+
+/// Whether the number is a value of the width's signed type.
+fn is_signed(width: Width, number: i128) -> bool
+    ensures { result ≡ fits.is_signed_below (2 ^ hbits (width_of width)) number }
+{
+    match width {
+        Width::W1 => is_signed_below(0x80, number),
+        Width::W2 => is_signed_below(0x8000, number),
+        Width::W4 => is_signed_below(0x8000_0000, number),
+        Width::W8 => is_signed_below(0x8000_0000_0000_0000, number),
+        Width::W16 => is_signed_below(0x8000_0000_0000_0000_0000_0000_0000_0000, number),
+    }
+}
+
+/// Whether the number is from -half to half - 1.
+fn is_signed_below(half: u128, number: i128) -> bool
+    ensures { result ≡ fits.is_signed_below half number }
+{
+    if number < 0 {
+        number.unsigned_abs() <= half
+    } else {
+        number.unsigned_abs() < half
+    }
+}

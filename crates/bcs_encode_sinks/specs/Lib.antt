@@ -1,0 +1,4 @@
+pub mod Taking
+pub mod WriteSink
+pub mod PieceSink
+pub mod Calls

@@ -1,0 +1,7 @@
+use Rattle.std.proofs.Common.{rules}
+use Rattle.bcs_encode_spans.specs.Laying.{part}
+use Rattle.bcs_encode_laws.proofs.Sorting.{sorted_by_bytes}
+use Rattle.bcs_encode_spans.proofs.spans.sort_spans.Goals as goal
+
+pub returns-clause-sorted : goal.returns-clause-sorted
+returns-clause-sorted c = sorted_by_bytes (λ s. part c.args.bytes.now s.key s.value) _ c.sort_unstable_by.ensures.sorted (λ a r q k. search rules)

@@ -1,0 +1,6 @@
+//! The entries of a map among the bytes of an encoding: where each stands, and how they come into order.
+#![tactic(auto)]
+
+pub mod span;
+pub mod spans;
+pub mod workspace;

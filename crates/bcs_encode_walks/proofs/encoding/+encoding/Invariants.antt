@@ -1,0 +1,33 @@
+use Rattle.std.proofs.Common.{◌≡◌, map, drop}
+use Rattle.bcs_registry_formats.specs.Container.{field_shapes}
+use Rattle.bcs_registry_formats.specs.View.{field_of, formats_shapes, shape_of}
+use Rattle.bcs_value_tree.specs.View.{entries_pairs, items_trees}
+use Rattle.bcs_encode_spans.specs.Laying.{entries_laid}
+use Rattle.bcs_encode_parts.specs.Writing.{items_written, each_written}
+use Rattle.bcs_encode_walks.proofs.encoding.+encoding.Given as goal
+
+abbrev pub invariant-put_all-loop-item : goal.invariant-put_all-loop-item
+invariant-put_all-loop-item l = record {
+  tells : items_written l.registry (items_trees l.items) (shape_of l.element) l.initial.work.out.items
+      ≡ items_written l.registry (items_trees (drop l.item-index l.items)) (shape_of l.element) l.work.out.items;
+  kept : l.work.spans.items ≡ l.initial.work.spans.items;
+}
+
+abbrev pub invariant-put_each-loop-i : goal.invariant-put_each-loop-i
+invariant-put_each-loop-i l = record {
+  tells : each_written l.registry (items_trees l.items) (formats_shapes l.formats) l.initial.work.out.items
+      ≡ each_written l.registry (items_trees (drop l.i l.items)) (formats_shapes (drop l.i l.formats)) l.work.out.items;
+  kept : l.work.spans.items ≡ l.initial.work.spans.items;
+}
+
+abbrev pub invariant-put_fields-loop-i : goal.invariant-put_fields-loop-i
+invariant-put_fields-loop-i l = record {
+  tells : each_written l.registry (items_trees l.items) (field_shapes (map field_of l.fields)) l.initial.work.out.items
+      ≡ each_written l.registry (items_trees (drop l.i l.items)) (field_shapes (map field_of (drop l.i l.fields))) l.work.out.items;
+  kept : l.work.spans.items ≡ l.initial.work.spans.items;
+}
+
+abbrev pub invariant-lay_entries-loop-k : goal.invariant-lay_entries-loop-k
+invariant-lay_entries-loop-k l =
+    entries_laid l.registry (entries_pairs l.pairs) (shape_of l.key) (shape_of l.value) l.initial.work.out.items l.initial.work.spans.items
+    ≡ entries_laid l.registry (entries_pairs (drop l.k-index l.pairs)) (shape_of l.key) (shape_of l.value) l.work.out.items l.work.spans.items

@@ -1,0 +1,244 @@
+//! The encoder: one buffer for the output, in which the entries of maps are brought into order.
+ghost use Rattle.std.specs.Prelude.{◌≡◌, OnOk, map};
+ghost use Rattle.bcs_registry_formats.specs.Container.{of, content, field_shapes, payload_shape};
+ghost use Rattle.bcs_registry_formats.specs.Shape.{map as map_shape, tuple};
+ghost use Rattle.bcs_registry_formats.specs.View.{container_of, field_of, formats_shapes, payload_of, shape_of};
+ghost use Rattle.bcs_value_tree.specs.Tree.{items as items_tree, pairs as pairs_tree};
+ghost use Rattle.bcs_value_tree.specs.View.{entries_pairs, items_trees, tree_of};
+ghost use Rattle.bcs_encode_spans.specs.Laying.{entries_laid};
+ghost use Rattle.bcs_encode_parts.specs.Writing as spec;
+ghost use Rattle.bcs_encode_parts.specs.Writing.{Tells};
+
+use bcs_encode_laws::EncodeFault;
+use bcs_encode_parts::number_format::NumberFormat;
+use bcs_encode_parts::number_rows::put_numbers;
+use bcs_encode_parts::putting::{
+    put_byte, put_bytes, put_length, put_number, put_signed, put_unsigned,
+};
+use bcs_encode_spans::span::Span;
+use bcs_encode_spans::spans::arrange;
+use bcs_encode_spans::workspace::Workspace;
+use bcs_num::Width;
+use bcs_registry::{Container, Format, Named, Registry, VariantFormat};
+use bcs_value::Value;
+
+/// Appends the bytes of a value.
+#[cycle(encoding)]
+pub fn put(
+    value: &Value,
+    format: &Format,
+    registry: &Registry,
+    work: &mut Workspace,
+) -> Result<(), EncodeFault>
+    ensures tells { Tells result (spec.written registry.now (tree_of value.now) (of (shape_of format.now)) work.old.out.items) work.new.out.items }
+    ensures kept { OnOk result (work.new.spans.items ≡ work.old.spans.items) }
+{
+    match (value, format) {
+        (_, Format::F32 | Format::F64 | Format::Char) => Err(EncodeFault::NotOfFormat),
+        (Value::Unit, Format::Unit) => Ok(()),
+        (Value::Bool(truth), Format::Bool) => put_byte(u8::from(*truth), &mut work.out),
+        (Value::Unsigned(number), Format::U8) => put_unsigned(Width::W1, *number, &mut work.out),
+        (Value::Unsigned(number), Format::U16) => put_unsigned(Width::W2, *number, &mut work.out),
+        (Value::Unsigned(number), Format::U32) => put_unsigned(Width::W4, *number, &mut work.out),
+        (Value::Unsigned(number), Format::U64) => put_unsigned(Width::W8, *number, &mut work.out),
+        (Value::Unsigned(number), Format::U128) => put_unsigned(Width::W16, *number, &mut work.out),
+        (Value::Signed(number), Format::I8) => put_signed(Width::W1, *number, &mut work.out),
+        (Value::Signed(number), Format::I16) => put_signed(Width::W2, *number, &mut work.out),
+        (Value::Signed(number), Format::I32) => put_signed(Width::W4, *number, &mut work.out),
+        (Value::Signed(number), Format::I64) => put_signed(Width::W8, *number, &mut work.out),
+        (Value::Signed(number), Format::I128) => put_signed(Width::W16, *number, &mut work.out),
+        (Value::Text(text), Format::Str) => put_bytes(text.as_bytes(), &mut work.out),
+        (Value::Bytes(bytes), Format::Bytes) => put_bytes(bytes, &mut work.out),
+        (Value::Absent, Format::Opt(_)) => put_byte(0, &mut work.out),
+        (Value::Present(inner), Format::Opt(content)) => {
+            put_byte(1, &mut work.out)?;
+            put(inner, content, registry, work)
+        }
+        (Value::Items(items), Format::Seq(element)) => {
+            put_length(items.len(), &mut work.out)?;
+            put_all(items, element, registry, work)
+        }
+        (Value::Items(items), Format::Tuple(formats)) => {
+            put_each(items, formats, registry, work)
+        }
+        (Value::Items(items), Format::TupleArray(element, size)) => {
+            if items.len() as u64 != *size {
+                return Err(EncodeFault::NotOfFormat);
+            }
+            put_all(items, element, registry, work)
+        }
+        (Value::Pairs(pairs), Format::Map(key, value)) => {
+            put_map(pairs, key, value, registry, work)
+        }
+        (Value::Named(inner), Format::TypeName(name)) => match registry.container(name.as_str()) {
+            Some(container) => put_content(inner, container, registry, work),
+            None => Err(EncodeFault::NotOfFormat),
+        },
+        _ => Err(EncodeFault::NotOfFormat),
+    }
+}
+
+/// Appends the bytes of what stands in a container.
+#[cycle(encoding)]
+fn put_content(
+    value: &Value,
+    container: &Container,
+    registry: &Registry,
+    work: &mut Workspace,
+) -> Result<(), EncodeFault>
+    ensures tells { Tells result (spec.written registry.now (tree_of value.now) (content (container_of container.now)) work.old.out.items) work.new.out.items }
+    ensures kept { OnOk result (work.new.spans.items ≡ work.old.spans.items) }
+{
+    match (container, value) {
+        (Container::UnitStruct, Value::Unit) => Ok(()),
+        (Container::NewTypeStruct(format), _) => put(value, format, registry, work),
+        (Container::TupleStruct(formats), Value::Items(items)) => {
+            put_each(items, formats, registry, work)
+        }
+        (Container::Struct(fields), Value::Items(items)) => {
+            put_fields(items, fields, registry, work)
+        }
+        (Container::Enum(variants), Value::Variant(number, inner)) => {
+            put_number(*number, &mut work.out)?;
+            match variants.get(number) {
+                Some(variant) => put_payload(inner, &variant.value, registry, work),
+                None => Err(EncodeFault::NotOfFormat),
+            }
+        }
+        _ => Err(EncodeFault::NotOfFormat),
+    }
+}
+
+/// Appends the bytes of what a variant carries.
+#[cycle(encoding)]
+fn put_payload(
+    value: &Value,
+    payload: &VariantFormat,
+    registry: &Registry,
+    work: &mut Workspace,
+) -> Result<(), EncodeFault>
+    ensures tells { Tells result (spec.written registry.now (tree_of value.now) (of (payload_shape (payload_of payload.now))) work.old.out.items) work.new.out.items }
+    ensures kept { OnOk result (work.new.spans.items ≡ work.old.spans.items) }
+{
+    match (payload, value) {
+        (VariantFormat::Unit, Value::Unit) => Ok(()),
+        (VariantFormat::NewType(format), _) => put(value, format, registry, work),
+        (VariantFormat::Tuple(formats), Value::Items(items)) => {
+            put_each(items, formats, registry, work)
+        }
+        (VariantFormat::Struct(fields), Value::Items(items)) => {
+            put_fields(items, fields, registry, work)
+        }
+        _ => Err(EncodeFault::NotOfFormat),
+    }
+}
+
+/// Appends the bytes of elements of one format.
+#[cycle(encoding)]
+fn put_all(
+    items: &[Value],
+    element: &Format,
+    registry: &Registry,
+    work: &mut Workspace,
+) -> Result<(), EncodeFault>
+    ensures tells { Tells result (spec.items_written registry.now (items_trees items.now) (shape_of element.now) work.old.out.items) work.new.out.items }
+    ensures kept { OnOk result (work.new.spans.items ≡ work.old.spans.items) }
+{
+    if let Some(format) = NumberFormat::of(element) {
+        return put_numbers(format, items, &mut work.out);
+    }
+    for item in items {
+        put(item, element, registry, work)?;
+    }
+    Ok(())
+}
+
+/// Appends the bytes of the elements of a tuple.
+#[cycle(encoding)]
+#[tactic(auto, using(bcs_encode_parts::proofs::WalkViews::count_items, bcs_encode_parts::proofs::WritingViews::count_formats))]
+fn put_each(
+    items: &[Value],
+    formats: &[Format],
+    registry: &Registry,
+    work: &mut Workspace,
+) -> Result<(), EncodeFault>
+    ensures tells { Tells result (spec.written registry.now (items_tree (items_trees items.now)) (of (tuple (formats_shapes formats.now))) work.old.out.items) work.new.out.items }
+    ensures kept { OnOk result (work.new.spans.items ≡ work.old.spans.items) }
+{
+    if items.len() != formats.len() {
+        return Err(EncodeFault::NotOfFormat);
+    }
+    for (i, item) in items.iter().enumerate() {
+        put(item, &formats[i], registry, work)?;
+    }
+    Ok(())
+}
+
+/// Appends the bytes of the fields of a struct.
+#[cycle(encoding)]
+#[tactic(auto, using(bcs_encode_parts::proofs::WalkViews::count_items, bcs_encode_parts::proofs::WritingViews::count_fields))]
+fn put_fields(
+    items: &[Value],
+    fields: &[Named<Format>],
+    registry: &Registry,
+    work: &mut Workspace,
+) -> Result<(), EncodeFault>
+    ensures tells { Tells result (spec.written registry.now (items_tree (items_trees items.now)) (of (tuple (field_shapes (map field_of fields.now)))) work.old.out.items) work.new.out.items }
+    ensures kept { OnOk result (work.new.spans.items ≡ work.old.spans.items) }
+{
+    if items.len() != fields.len() {
+        return Err(EncodeFault::NotOfFormat);
+    }
+    for (i, item) in items.iter().enumerate() {
+        put(item, &fields[i].value, registry, work)?;
+    }
+    Ok(())
+}
+
+/// Appends the bytes of a map.
+#[cycle(encoding)]
+fn put_map(
+    pairs: &[(Value, Value)],
+    key: &Format,
+    value: &Format,
+    registry: &Registry,
+    work: &mut Workspace,
+) -> Result<(), EncodeFault>
+    ensures tells { Tells result
+        (spec.written registry.now (pairs_tree (entries_pairs pairs.now)) (of (map_shape (shape_of key.now) (shape_of value.now))) work.old.out.items)
+        work.new.out.items }
+    ensures kept { OnOk result (work.new.spans.items ≡ work.old.spans.items) }
+{
+    put_length(pairs.len(), &mut work.out)?;
+    let first = work.spans.len();
+    let start = work.out.len();
+    lay_entries(pairs, key, value, registry, work)?;
+    arrange(work, first, start)
+}
+
+/// Appends a map's entries in the order of the pairs, and their spans.
+#[cycle(encoding)]
+fn lay_entries(
+    pairs: &[(Value, Value)],
+    key: &Format,
+    value: &Format,
+    registry: &Registry,
+    work: &mut Workspace,
+) -> Result<(), EncodeFault>
+    ensures { Tells result
+        (entries_laid registry.now (entries_pairs pairs.now) (shape_of key.now) (shape_of value.now) work.old.out.items work.old.spans.items)
+        (work.new.out.items, work.new.spans.items) }
+{
+    for (k, v) in pairs {
+        let start = work.out.len();
+        put(k, key, registry, work)?;
+        let middle = work.out.len();
+        put(v, value, registry, work)?;
+        work.spans.push(Span {
+            key: start,
+            value: middle,
+            end: work.out.len(),
+        })?;
+    }
+    Ok(())
+}

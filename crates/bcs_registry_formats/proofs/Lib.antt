@@ -1,0 +1,10 @@
+pub mod Lookup
+pub mod KnownNames
+pub mod Inside
+pub mod DistinctNames
+pub mod Sameness
+pub mod FirstFaults
+pub mod GrowthSteps
+pub mod Rising
+pub mod Admitted
+pub mod GrowthLaws

@@ -1,0 +1,11 @@
+pub mod Shape
+pub mod Container
+pub mod View
+pub mod WellFormed
+pub mod Breaks
+pub mod Rules
+pub mod Equality
+pub mod Growing
+pub mod Grows
+pub mod Order
+pub mod Laws

@@ -1,0 +1,23 @@
+//! Formats and containers (serde-reflection), what is well-formed, and what growth is.
+#![tactic(auto)]
+
+mod container;
+pub mod distinct;
+mod equality;
+mod fault;
+mod format;
+pub mod growth;
+mod growth_fault;
+pub mod known;
+pub mod levels;
+mod named;
+mod out_of_memory;
+pub mod rule;
+mod variant_format;
+
+pub use container::Container;
+pub use fault::RegistryFault;
+pub use format::Format;
+pub use growth_fault::GrowthFault;
+pub use named::Named;
+pub use variant_format::VariantFormat;

@@ -1,0 +1,6 @@
+pub mod Back
+pub mod ShownShape
+pub mod OneText
+pub mod OneFault
+pub mod SomeText
+pub mod OrFault

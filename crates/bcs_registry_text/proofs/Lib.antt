@@ -1,0 +1,12 @@
+pub mod TwoTests
+pub mod Puts
+pub mod RisingMembers
+pub mod Choices
+pub mod ShownParts
+pub mod Rows
+pub mod FormatText
+pub mod VariantNumbers
+pub mod Entries
+pub mod Variants
+pub mod ContainerText
+pub mod Containers

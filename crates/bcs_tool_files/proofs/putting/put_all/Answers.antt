@@ -1,0 +1,22 @@
+use Rattle.std.proofs.Common.{◌≡◌, ◌∙◌, ◌+◌, ◌-◌, ◌++◌, arith, take, drop, length, length-drop, ℕ, List, ap, sym, subst}
+use Rattle.std.proofs.Math.Seq.{take-add}
+use Rattle.std.proofs.lemmas.List.{take_all}
+use Rattle.bcs_encode_sinks.specs.Taking.{Took}
+use Rattle.bcs_encode_sinks.proofs.TakingLemmas.{Took-then}
+use Rattle.bcs_tool_files.proofs.putting.put_all.Goals as goal
+
+-- what was taken before, and the front of the rest of the piece that was taken now
+pub loop-at-preserved : goal.loop-at-preserved
+loop-at-preserved g c =
+    let l = c.loop-at in
+    let p = c.args.piece.now in
+    let n = c.in_ok-at.field-0 in
+    let now = c.in_ok-at.ensures in
+    let rest : take (length p - l.at) (drop l.at p) ≡ drop l.at p = take_all _ _ (omega (arith, length-drop l.at p)) in
+    let pieces : take (l.at + n) p ≡ take l.at p ++ take n (take (length p - l.at) (drop l.at p)) =
+    take-add l.at n p ∙ ap (λ ys. take l.at p ++ take n ys) (sym rest) in
+    record {
+      within = omega (arith, now.0, length-drop {A = ℕ});
+      front = subst (λ (bs : List ℕ). Took g.K.ByteSink.taken g.K.ByteSink.is_failed c.args.out.now c.put.new.self bs) (sym pieces)
+          (Took-then g.K.ByteSink.taken g.K.ByteSink.is_failed c.args.out.now l.out c.put.new.self (take l.at p) _ l.invariant.front now.3);
+    }

@@ -1,0 +1,57 @@
+-- The files that a job names.
+use Rattle.std.specs.Prelude.{◌≡◌, ◌==◌, ℕ, List, [], ◌∷◌, Bool, true, false, codes, Option, String, string_bytes}
+use Rattle.std.specs.declared.alloc.Global.{Global}
+use Rattle.bcs_tool_line.specs.declared.command.Command.{Command}
+use Rattle.bcs_tool_line.specs.declared.command.Command.TheVariants.{Check, Encode, Grows}
+use Rattle.bcs_tool_files.specs.declared.file_fault.FileFault.{FileFault}
+use Rattle.bcs_tool_files.specs.declared.file_fault.FileFault.TheVariants.{Open, Read, TooLarge, OutOfMemory}
+use Rattle.bcs_tool_line.specs.declared.job.Job.{Job}
+use Rattle.bcs_tool_files.specs.declared.taking.TakeFault.{TakeFault}
+use Rattle.bcs_tool_files.specs.declared.taking.TakeFault.TheVariants as taking
+use Rattle.bcs_tool_files.specs.declared.work.Work.{Work}
+
+-- the most bytes of an input, and of a registry's text
+abbrev pub size_limit : ℕ
+size_limit = 268435456
+
+-- what the standard error is told
+abbrev pub file_note : FileFault → List ℕ
+file_note Open = codes "fault: open"
+file_note Read = codes "fault: read"
+file_note TooLarge = codes "fault: too large"
+file_note OutOfMemory = codes "fault: memory"
+
+-- a word for a registry that begins with a brace is its text, and any other names a file
+abbrev pub is_registry_text : List ℕ → Bool
+is_registry_text [] = false
+is_registry_text (c ∷ cs) = c == 123
+
+-- bytes that were read for a word: the word itself where it is the text
+abbrev pub IsTextOf : List ℕ → List ℕ → Type 0
+IsTextOf word text = is_registry_text word ≡ true → text ≡ word
+
+-- bytes that were read for the second word of a command: none where the command has none
+abbrev pub IsSecondOf : Command → List ℕ → List ℕ → Type 0
+IsSecondOf Check word text = text ≡ []
+IsSecondOf Encode word text = text ≡ []
+IsSecondOf Grows word text = IsTextOf word text
+
+-- the job's registries are texts themselves, so that no file is read for its work
+abbrev pub NamesNoRegistryFile : Job → Type 0
+NamesNoRegistryFile job = (is_registry_text (string_bytes job.registry) ≡ true)
+    × (job.command ≡ Grows → is_registry_text (string_bytes job.second) ≡ true)
+
+abbrev pub file_fault_of : TakeFault → FileFault
+file_fault_of taking.Read = Read
+file_fault_of taking.TooLarge = TooLarge
+file_fault_of taking.OutOfMemory = OutOfMemory
+
+-- the job's work, and the name of the input's file
+pub record IsWorkOf (job : Job) (work : Work) (file : Option (String Global)) : Type 0 where
+  pub command : work.command ≡ job.command
+  pub registry : IsTextOf (string_bytes job.registry) work.registry.items
+  pub second : IsSecondOf job.command (string_bytes job.second) work.second.items
+  pub format : work.format ≡ job.format
+  pub path : work.path ≡ job.path
+  pub raw : work.raw ≡ job.raw
+  pub input : file ≡ job.file

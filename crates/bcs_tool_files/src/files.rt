@@ -1,0 +1,77 @@
+//! The files that a job names.
+ghost use Rattle.std.specs.Prelude.{◌≡◌, ◌≤◌, true, vec_len, IfOk, IsOkUnless};
+ghost use Rattle.bcs_tool_files.specs.Files.{size_limit};
+ghost use Rattle.bcs_tool_files.specs.Files.{IsWorkOf, NamesNoRegistryFile, is_registry_text};
+
+use crate::file_fault::FileFault;
+use crate::limits::SIZE_LIMIT;
+use crate::taking::take_all;
+use crate::work::Work;
+use bcs_decode_sources::ReadSource;
+use bcs_tool_line::{Command, Job};
+use std::alloc::Global;
+use std::fs::File;
+use std::rt::Files;
+
+/// The content of the file of this name.
+pub fn read_named<R: Files + AllocGlobal>(rt: &R, name: &str) -> Result<Vec<u8>, FileFault>
+    ensures { IfOk result (λ v. vec_len v ≤ size_limit) }
+{
+    let Ok(file) = File::open(rt, name) else {
+        return Err(FileFault::Open);
+    };
+    Ok(take_all(rt.alloc(), &mut ReadSource::new(file), SIZE_LIMIT)?)
+}
+
+/// The work of a job, and the name of the input's file. The files that the job names are read, that
+/// of REG or OLD before that of NEW.
+pub fn read_work<R: Files + AllocGlobal>(
+    rt: &R,
+    job: Job,
+) -> Result<(Work, Option<String>), FileFault>
+    ensures work { IfOk result (λ r. IsWorkOf job r.0 r.1) }
+    ensures good { NamesNoRegistryFile job → IsOkUnless result FileFault.OutOfMemory }
+{
+    let registry = read_registry(rt, job.registry.as_str())?;
+    let second = match job.command {
+        Command::Grows => read_registry(rt, job.second.as_str())?,
+        Command::Check | Command::Encode => Vec::new(rt.alloc()),
+    };
+    let work = Work {
+        command: job.command,
+        registry,
+        second,
+        format: job.format,
+        path: job.path,
+        raw: job.raw,
+    };
+    Ok((work, job.file))
+}
+
+// The text of a registry: the word itself, or the content of the file that it names.
+fn read_registry<R: Files + AllocGlobal>(rt: &R, word: &str) -> Result<Vec<u8>, FileFault>
+    ensures text { is_registry_text word.now ≡ true → IfOk result (λ v. v.items ≡ word.now) }
+    ensures good { is_registry_text word.now ≡ true → IsOkUnless result FileFault.OutOfMemory }
+{
+    if is_registry_text(word) {
+        copy(rt.alloc(), word)
+    } else {
+        read_named(rt, word)
+    }
+}
+
+fn is_registry_text(word: &str) -> bool
+    ensures { result ≡ is_registry_text word.now }
+{
+    word.as_bytes().first() == Some(&b'{')
+}
+
+fn copy(alloc: Global, text: &str) -> Result<Vec<u8>, FileFault>
+    ensures text { IfOk result (λ v. v.items ≡ text.now) }
+    ensures good { IsOkUnless result FileFault.OutOfMemory }
+{
+    match Vec::from_slice(alloc, text.as_bytes()) {
+        Ok(bytes) => Ok(bytes),
+        Err(_) => Err(FileFault::OutOfMemory),
+    }
+}

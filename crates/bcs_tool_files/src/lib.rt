@@ -1,0 +1,15 @@
+//! The files that a job names, and the whole content of sources.
+#![tactic(auto)]
+
+mod file_fault;
+mod files;
+pub mod limits;
+mod putting;
+mod taking;
+mod work;
+
+pub use file_fault::FileFault;
+pub use files::{read_named, read_work};
+pub use putting::put_all;
+pub use taking::{TakeFault, take_all};
+pub use work::{Outcome, Work};

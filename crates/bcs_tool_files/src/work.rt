@@ -1,0 +1,29 @@
+//! What a run is given, and how it ends.
+
+use bcs_tool_line::Command;
+
+/// A job whose named files were read.
+#[derive(Debug, Drop)]
+pub struct Work {
+    pub command: Command,
+    /// The text of REG, or of OLD.
+    pub registry: Vec<u8>,
+    /// The text of NEW; empty where the command has none.
+    pub second: Vec<u8>,
+    /// FORMAT as it stands; empty where the command has none.
+    pub format: String,
+    /// PATH as it stands; empty where the command has none.
+    pub path: String,
+    /// Whether bytes are written as they are, and not as hexadecimal digits.
+    pub raw: bool,
+}
+
+/// How a run ended.
+#[derive(Clone, Copy, Debug, Drop)]
+pub struct Outcome {
+    /// 0 where it is done, 1 where the answer is a no, 2 where it is refused, and 4 where a read, a
+    /// write or memory failed or the input is too large.
+    pub status: u8,
+    /// The line for the standard error: empty except with status 4.
+    pub note: &'static str,
+}

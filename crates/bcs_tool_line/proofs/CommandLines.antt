@@ -1,0 +1,186 @@
+-- What the definition of the command line says of words that are written out.
+use Rattle.std.proofs.Common.{◌≡◌, ◌∷◌, [], List, Option, Some, None, Bool, codes, false, refl, true, ℕ}
+use Rattle.std.specs.Prelude.{option_map}
+use Rattle.clap.specs.Words.{Text, fault_of, first_of, subcommand_of}
+use Rattle.clap.specs.declared.error.kind.ErrorKind.TheVariants as kind
+use Rattle.clap.proofs.OnLiterals.{clap_on_literals}
+use Rattle.bcs_tool_words.specs.CommandLine.{bcs_app}
+use Rattle.bcs_tool_line.specs.Jobs.{command_named, is_raw}
+use Rattle.bcs_tool_line.specs.declared.command.Command.{Command}
+use Rattle.bcs_tool_line.specs.declared.command.Command.TheVariants.{Check, Encode, Grows}
+
+-- the command of the words, and what it was given
+abbrev command_in : List Text → Option (Option Command)
+command_in words = option_map (λ p. command_named p.0) (subcommand_of bcs_app words)
+
+abbrev given_in : Text → List Text → Option (Option Text)
+given_in argument words = option_map (λ p. first_of argument p.1) (subcommand_of bcs_app words)
+
+abbrev raw_in : List Text → Option Bool
+raw_in words = option_map (λ p. is_raw p.1) (subcommand_of bcs_app words)
+
+-- ---- `bcs encode {} "I16"`, where the quotes belong to the word
+
+abbrev encode_words : List Text
+encode_words = codes "bcs" ∷ codes "encode" ∷ codes "{}" ∷ codes "\"I16\"" ∷ []
+
+encode_is_taken : fault_of bcs_app encode_words ≡ []
+unfolding clap_on_literals
+encode_is_taken = refl
+
+encode_command : command_in encode_words ≡ Some (Some Encode)
+unfolding clap_on_literals
+encode_command = refl
+
+encode_registry : given_in (codes "REG") encode_words ≡ Some (Some (codes "{}"))
+unfolding clap_on_literals
+encode_registry = refl
+
+encode_format : given_in (codes "FORMAT") encode_words ≡ Some (Some (codes "\"I16\""))
+unfolding clap_on_literals
+encode_format = refl
+
+encode_file : given_in (codes "FILE") encode_words ≡ Some None
+unfolding clap_on_literals
+encode_file = refl
+
+encode_raw : raw_in encode_words ≡ Some false
+unfolding clap_on_literals
+encode_raw = refl
+
+-- ---- FILE and `--raw`, which may stand anywhere
+
+abbrev raw_words : List Text
+raw_words = codes "bcs" ∷ codes "encode" ∷ codes "--raw" ∷ codes "r" ∷ codes "S" ∷ codes "f" ∷ []
+
+raw_is_taken : fault_of bcs_app raw_words ≡ []
+unfolding clap_on_literals
+raw_is_taken = refl
+
+raw_file : given_in (codes "FILE") raw_words ≡ Some (Some (codes "f"))
+unfolding clap_on_literals
+raw_file = refl
+
+raw_is_given : raw_in raw_words ≡ Some true
+unfolding clap_on_literals
+raw_is_given = refl
+
+raw_twice : fault_of bcs_app (codes "bcs" ∷ codes "encode" ∷ codes "r" ∷ codes "S" ∷ codes "--raw" ∷ codes "--raw" ∷ []) ≡ kind.ArgumentConflict ∷ []
+unfolding clap_on_literals
+raw_twice = refl
+
+-- after `--` each word stands for itself, and `-` does so anywhere
+abbrev dashed_words : List Text
+dashed_words = codes "bcs" ∷ codes "encode" ∷ codes "-" ∷ codes "--" ∷ codes "--raw" ∷ codes "-f" ∷ []
+
+dashed_is_taken : fault_of bcs_app dashed_words ≡ []
+unfolding clap_on_literals
+dashed_is_taken = refl
+
+dashed_registry : given_in (codes "REG") dashed_words ≡ Some (Some (codes "-"))
+unfolding clap_on_literals
+dashed_registry = refl
+
+dashed_format : given_in (codes "FORMAT") dashed_words ≡ Some (Some (codes "--raw"))
+unfolding clap_on_literals
+dashed_format = refl
+
+dashed_file : given_in (codes "FILE") dashed_words ≡ Some (Some (codes "-f"))
+unfolding clap_on_literals
+dashed_file = refl
+
+dashed_raw : raw_in dashed_words ≡ Some false
+unfolding clap_on_literals
+dashed_raw = refl
+
+-- ---- the other commands
+
+abbrev check_words : List Text
+check_words = codes "bcs" ∷ codes "check" ∷ codes "{}" ∷ []
+
+check_is_taken : fault_of bcs_app check_words ≡ []
+unfolding clap_on_literals
+check_is_taken = refl
+
+check_command : command_in check_words ≡ Some (Some Check)
+unfolding clap_on_literals
+check_command = refl
+
+check_registry : given_in (codes "REG") check_words ≡ Some (Some (codes "{}"))
+unfolding clap_on_literals
+check_registry = refl
+
+abbrev grows_words : List Text
+grows_words = codes "bcs" ∷ codes "grows" ∷ codes "a" ∷ codes "b" ∷ []
+
+grows_is_taken : fault_of bcs_app grows_words ≡ []
+unfolding clap_on_literals
+grows_is_taken = refl
+
+grows_command : command_in grows_words ≡ Some (Some Grows)
+unfolding clap_on_literals
+grows_command = refl
+
+grows_old : given_in (codes "OLD") grows_words ≡ Some (Some (codes "a"))
+unfolding clap_on_literals
+grows_old = refl
+
+grows_new : given_in (codes "NEW") grows_words ≡ Some (Some (codes "b"))
+unfolding clap_on_literals
+grows_new = refl
+
+-- ---- words that are refused
+
+wants_command : fault_of bcs_app (codes "bcs" ∷ []) ≡ kind.MissingSubcommand ∷ []
+unfolding clap_on_literals
+wants_command = refl
+
+wants_format : fault_of bcs_app (codes "bcs" ∷ codes "encode" ∷ codes "{}" ∷ []) ≡ kind.MissingRequiredArgument ∷ []
+unfolding clap_on_literals
+wants_format = refl
+
+wants_newer : fault_of bcs_app (codes "bcs" ∷ codes "grows" ∷ codes "a" ∷ []) ≡ kind.MissingRequiredArgument ∷ []
+unfolding clap_on_literals
+wants_newer = refl
+
+-- a word that begins with `-` isn't taken for a value
+negative_number : fault_of bcs_app (codes "bcs" ∷ codes "encode" ∷ codes "{}" ∷ codes "-4660" ∷ []) ≡ kind.UnknownArgument ∷ []
+unfolding clap_on_literals
+negative_number = refl
+
+extra_word : fault_of bcs_app (codes "bcs" ∷ codes "check" ∷ codes "{}" ∷ codes "{}" ∷ []) ≡ kind.UnknownArgument ∷ []
+unfolding clap_on_literals
+extra_word = refl
+
+-- `check` prints no bytes
+check_raw : fault_of bcs_app (codes "bcs" ∷ codes "check" ∷ codes "{}" ∷ codes "--raw" ∷ []) ≡ kind.UnknownArgument ∷ []
+unfolding clap_on_literals
+check_raw = refl
+
+unknown_command : fault_of bcs_app (codes "bcs" ∷ codes "frobnicate" ∷ []) ≡ kind.UnknownArgument ∷ kind.InvalidSubcommand ∷ []
+unfolding clap_on_literals
+unknown_command = refl
+
+-- ---- words that ask for help
+
+asks_help : fault_of bcs_app (codes "bcs" ∷ codes "--help" ∷ []) ≡ kind.DisplayHelp ∷ []
+unfolding clap_on_literals
+asks_help = refl
+
+asks_help_of_encode : fault_of bcs_app (codes "bcs" ∷ codes "encode" ∷ codes "--help" ∷ []) ≡ kind.DisplayHelp ∷ []
+unfolding clap_on_literals
+asks_help_of_encode = refl
+
+help_word : fault_of bcs_app (codes "bcs" ∷ codes "help" ∷ codes "encode" ∷ []) ≡ kind.DisplayHelp ∷ kind.InvalidSubcommand ∷ []
+unfolding clap_on_literals
+help_word = refl
+
+-- ---- any registry and any format that are texts themselves
+
+any_is_taken : (program registry format : List ℕ) → fault_of bcs_app (program ∷ codes "encode" ∷ (123 ∷ registry) ∷ (34 ∷ format) ∷ []) ≡ []
+unfolding clap_on_literals
+any_is_taken program registry format = refl
+
+any_format : (program registry format : List ℕ) → given_in (codes "FORMAT") (program ∷ codes "encode" ∷ (123 ∷ registry) ∷ (34 ∷ format) ∷ []) ≡ Some (Some (34 ∷ format))
+unfolding clap_on_literals
+any_format program registry format = refl

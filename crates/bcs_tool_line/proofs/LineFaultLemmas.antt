@@ -1,0 +1,51 @@
+-- What a parse by the definition of `bcs` says of the words.
+use Rattle.std.proofs.Common.{◌≡◌, ◌∙◌, ◌⊎◌, [], ◌∷◌, List, inl, inr, refl, true, ap, subst}
+use Rattle.clap.specs.Words.{App, HasKind, IsAmong, Kinds, Text, fault_of, is_simple_and_free, kind_of}
+use Rattle.clap.specs.declared.error.Error.{Error}
+use Rattle.clap.specs.declared.error.kind.ErrorKind.{ErrorKind}
+use Rattle.clap.specs.declared.error.kind.ErrorKind.TheVariants as kind
+use Rattle.clap.proofs.OnLiterals.{clap_on_literals}
+use Rattle.bcs_tool_words.specs.CommandLine.{bcs_app}
+use Rattle.bcs_tool_line.specs.LineFaults.{IsFaultAmong, IsFaultOf, IsFaultOfKind}
+use Rattle.bcs_tool_line.specs.declared.line_fault.LineFault.{LineFault}
+use Rattle.bcs_tool_line.specs.declared.line_fault.LineFault.TheVariants.{Usage, Help, OutOfMemory}
+
+-- clap's contracts are exact for the definition
+pub is_exact : is_simple_and_free bcs_app ≡ true
+unfolding clap_on_literals
+is_exact = refl
+
+-- The definition is not computed where a parse is of a command that equals it.
+pub taken_as : (a : App) (words : List Text) → a ≡ bcs_app
+    → (is_simple_and_free a ≡ true → fault_of a words ≡ []) → fault_of bcs_app words ≡ []
+taken_as a words same h =
+    subst (λ (b : App). fault_of b words ≡ []) same (h (ap is_simple_and_free same ∙ is_exact))
+
+refused_as : (a : App) (words : List Text) (e : Error) → a ≡ bcs_app
+    → (is_simple_and_free a ≡ true → HasKind (fault_of a words) e) → HasKind (fault_of bcs_app words) e
+refused_as a words e same h =
+    subst (λ (b : App). HasKind (fault_of b words) e) same (h (ap is_simple_and_free same ∙ is_exact))
+
+fault_among : (kinds : Kinds) (k : ErrorKind) (f : LineFault)
+    → (k ≡ kind.OutOfMemory) ⊎ IsAmong k kinds → IsFaultOfKind k f → IsFaultAmong kinds f
+fault_among kinds k (Usage text) (inl e) h = absurd (h.1 e)
+fault_among kinds k (Usage text) (inr among) h = (k, among, h.0)
+fault_among kinds k (Help text) (inl e) h = cc
+fault_among kinds k (Help text) (inr among) h =
+    let P : ErrorKind → Type 0 = λ q. IsAmong q kinds in rw (h) at among
+fault_among kinds k OutOfMemory a h = tt
+
+-- the fault for an error of a parse is one that clap finds in the words
+pub fault_of_error : (a : App) (words : List Text) (e : Error) (f : LineFault) → a ≡ bcs_app
+    → (is_simple_and_free a ≡ true → HasKind (fault_of a words) e) → IsFaultOfKind (kind_of e) f → IsFaultOf words f
+fault_of_error a words e f same h is = fault_among (fault_of bcs_app words) (kind_of e) f (refused_as a words e same h) is
+
+-- where clap finds no fault, only memory can be wanting
+none_is_memory : (kinds : Kinds) (f : LineFault) → IsFaultAmong kinds f → kinds ≡ [] → f ≡ OutOfMemory
+none_is_memory (k ∷ ks) f h e = cc
+none_is_memory [] (Usage text) h e = absurd h.1
+none_is_memory [] (Help text) h e = absurd h
+none_is_memory [] OutOfMemory h e = refl
+
+pub memory_alone : (words : List Text) (f : LineFault) → IsFaultOf words f → fault_of bcs_app words ≡ [] → f ≡ OutOfMemory
+memory_alone words f h none = none_is_memory (fault_of bcs_app words) f h none

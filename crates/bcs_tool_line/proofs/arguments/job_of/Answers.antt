@@ -1,0 +1,35 @@
+use Rattle.std.proofs.Common.{◌≡◌, ◌∙◌, ap, ap₂, refl, codes, Option, Some, None, option_map, unwrap_or, Bor, List, ℕ}
+use Rattle.std.specs.Option.{option_or}
+use Rattle.std.specs.Str.{bytes_eq}
+use Rattle.clap.specs.Words.{found_of}
+use Rattle.clap.proofs.WalkLemmas.{first_value-rows}
+use Rattle.bcs_tool_line.specs.Jobs.{text_or_empty}
+use Rattle.bcs_tool_line.proofs.arguments.job_of.Goals as goal
+
+option_map-option_or : {X Y : Type 0} (f : X → Y) (o p : Option X)
+    → option_map f (option_or o p) ≡ option_or (option_map f o) (option_map f p)
+option_map-option_or f None p = refl
+option_map-option_or f (Some x) p = refl
+
+unwrap_or-option_map : {X Y : Type 0} (f : X → Y) (o : Option X) (d : X)
+    → f (unwrap_or o d) ≡ unwrap_or (option_map f o) (f d)
+unwrap_or-option_map f None d = refl
+unwrap_or-option_map f (Some x) d = refl
+
+pub returns : goal.returns
+returns c =
+    let f = found_of c.args.given.now in
+    record {
+      same_command = refl;
+      registry = c.in_ok-text_of.ensures ∙ ap text_or_empty (ap (option_map (λ t. t.now)) c.or.ensures
+          ∙ (option_map-option_or _ _ _ ∙ ap₂ option_or (c.get_str.ensures ∙ first_value-rows f (codes "REG"))
+          (c.get_str-2.ensures ∙ first_value-rows f (codes "OLD"))));
+      second = c.in_ok-text_of-2.ensures ∙ ap text_or_empty (c.get_str-3.ensures ∙ first_value-rows f (codes "NEW"));
+      format = c.in_ok-text_of-3.ensures ∙ ap text_or_empty (c.get_str-4.ensures ∙ first_value-rows f (codes "FORMAT"));
+      path = c.in_ok-text_of-4.ensures ∙ ap text_or_empty (c.get_str-5.ensures ∙ first_value-rows f (codes "PATH"));
+      file = c.in_ok-file_name.ensures ∙ (c.get_str-6.ensures ∙ first_value-rows f (codes "FILE"));
+      raw = c.eq.ensures ∙ ap (λ t. bytes_eq t (codes "true"))
+          (ap (λ (t : Bor (List ℕ)). t.now) c.unwrap_or.ensures
+          ∙ (unwrap_or-option_map (λ t. t.now) c.get_str-7.result _
+          ∙ ap text_or_empty (c.get_str-7.ensures ∙ first_value-rows f (codes "raw"))));
+    }

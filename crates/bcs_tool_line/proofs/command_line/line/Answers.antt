@@ -1,0 +1,30 @@
+use Rattle.std.proofs.Common.{◌∙◌, sym}
+use Rattle.clap.specs.Words.{app_of}
+use Rattle.bcs_tool_words.specs.CommandLine.{texts_of}
+use Rattle.bcs_tool_line.specs.LineFaults.{IsFaultOf}
+use Rattle.bcs_tool_line.proofs.LineFaultLemmas.{fault_of_error, memory_alone, taken_as}
+use Rattle.bcs_tool_line.proofs.CommandNames.{met_is_named}
+use Rattle.bcs_tool_line.proofs.command_line.line.Goals as goal
+use Rattle.bcs_tool_line.proofs.command_line.line.Goals.{Joined-error}
+
+refused : (c : Joined-error) → IsFaultOf (texts_of c.args.words.now) c.refusal.result
+refused c = fault_of_error (app_of c.in_ok-definition.definition) (texts_of c.args.words.now) c.in-Err.error c.refusal.result
+    c.in_ok-definition.ensures c.in-Err.ensures.kinds c.refusal.ensures
+
+pub returns-in-Err-clause-fault : goal.returns-in-Err-clause-fault
+returns-in-Err-clause-fault c = refused c
+
+pub returns-in-Err-clause-good : goal.returns-in-Err-clause-good
+returns-in-Err-clause-good c = memory_alone (texts_of c.args.words.now) c.refusal.result (refused c)
+
+pub unreachable-requires-in_default-named : goal.unreachable-requires-in_default-named
+unreachable-requires-in_default-named c =
+    let words = texts_of c.args.words.now in
+    let definition = app_of c.in_ok-definition.definition in
+    met_is_named definition words c.in-Ok.matches c.in-Some.name.now c.in_ok-definition.ensures c.in-Ok.ensures.matches
+    (taken_as definition words c.in_ok-definition.ensures c.in-Ok.ensures.kinds)
+    c.in-Some.ensures.name (sym c.named.ensures ∙ c.in_default-named.is)
+
+pub returns-clause-taken : goal.returns-clause-taken
+returns-clause-taken c =
+    taken_as (app_of c.in_ok-definition.definition) (texts_of c.args.words.now) c.in_ok-definition.ensures c.in-Ok.ensures.kinds

@@ -1,0 +1,24 @@
+-- Why a command line asks for no job.
+use Rattle.std.specs.Prelude.{◌≡◌, ◌≢◌, List}
+use Rattle.clap.specs.Words.{IsAmong, Kinds, Text, fault_of}
+use Rattle.clap.specs.declared.error.kind.ErrorKind.{ErrorKind}
+use Rattle.clap.specs.declared.error.kind.ErrorKind.TheVariants as kind
+use Rattle.bcs_tool_words.specs.CommandLine.{bcs_app}
+use Rattle.bcs_tool_line.specs.declared.line_fault.LineFault.{LineFault}
+use Rattle.bcs_tool_line.specs.declared.line_fault.LineFault.TheVariants.{Usage, Help, OutOfMemory}
+
+-- the fault for clap's error of this kind; the text itself may be refused its memory
+abbrev pub IsFaultOfKind : ErrorKind → LineFault → Type 0
+IsFaultOfKind k (Usage text) = (k ≢ kind.DisplayHelp) × (k ≢ kind.OutOfMemory)
+IsFaultOfKind k (Help text) = k ≡ kind.DisplayHelp
+IsFaultOfKind k OutOfMemory = Unit {0}
+
+-- the fault is for one of these kinds, or memory ran out
+abbrev pub IsFaultAmong : Kinds → LineFault → Type 0
+IsFaultAmong kinds (Usage text) = (k : ErrorKind) × IsAmong k kinds × (k ≢ kind.DisplayHelp)
+IsFaultAmong kinds (Help text) = IsAmong kind.DisplayHelp kinds
+IsFaultAmong kinds OutOfMemory = Unit {0}
+
+-- the fault is one that clap finds in the words, the program's own name first
+abbrev pub IsFaultOf : List Text → LineFault → Type 0
+IsFaultOf words = IsFaultAmong (fault_of bcs_app words)

@@ -1,0 +1,28 @@
+//! What `bcs` can be asked to do.
+ghost use Rattle.std.specs.Prelude.{◌≡◌};
+ghost use Rattle.bcs_tool_line.specs.Jobs.{command_named};
+
+/// A command of `bcs`, which the first word after the program's name says.
+#[derive(Clone, Copy, Debug, PartialEq, Eq)]
+pub enum Command {
+    /// `check`: reads a registry and counts its containers.
+    Check,
+    /// `encode`: turns a value's JSON text into its bytes.
+    Encode,
+    /// `grows`: finds whether a registry only adds to an older one.
+    Grows,
+}
+
+impl Command {
+    // The command of this name.
+    pub fn named(name: &str) -> Option<Command>
+        ensures { result ≡ command_named name.now }
+    {
+        match name {
+            "check" => Some(Command::Check),
+            "encode" => Some(Command::Encode),
+            "grows" => Some(Command::Grows),
+            _ => None,
+        }
+    }
+}

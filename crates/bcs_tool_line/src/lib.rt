@@ -1,0 +1,13 @@
+//! From the words of a command line to a job.
+#![tactic(auto)]
+
+mod arguments;
+mod command;
+mod command_line;
+mod job;
+mod line_fault;
+
+pub use command::Command;
+pub use command_line::line;
+pub use job::Job;
+pub use line_fault::LineFault;

@@ -1,0 +1,28 @@
+use Rattle.std.proofs.Common.{◌≡◌, ◌∙◌, ap, ap₂, codes, false}
+use Rattle.std.proofs.lemmas.Result.{IfOk-weaker}
+use Rattle.clap.specs.Words.{AddsSubcommand, App, app_of, new_app, with_subcommand}
+use Rattle.clap.specs.Simple.{app_of_fields}
+use Rattle.clap.specs.declared.builder.command.Command.{Command}
+use Rattle.clap.specs.declared.builder.command.Command.TheViews.{out-Command}
+use Rattle.bcs_tool_words.specs.CommandLine.{wants_command}
+use Rattle.bcs_tool_words.proofs.definition.bcs_command.Goals as goal
+
+-- a command with one more subcommand
+added : {a b : App} (old sub new : Command) → AddsSubcommand old sub new
+    → (out-Command sub).has_globals ≡ false → app_of old ≡ a → app_of sub ≡ b
+    → app_of new ≡ with_subcommand a b.top
+added old sub new h local above below =
+    h.shape local ∙ ap₂ with_subcommand above (ap (λ (x : App). x.top) below)
+
+pub returns : goal.returns
+returns c =
+    let top : app_of c.subcommand_required.result ≡ wants_command (new_app (codes "bcs")) =
+    ap app_of_fields c.subcommand_required.ensures
+    ∙ ap wants_command (ap app_of_fields c.about.ensures ∙ c.new.ensures.app) in
+    let check = added _ _ _ c.in_ok-subcommand.ensures
+    c.in_ok-check_command.ensures.global top c.in_ok-check_command.ensures.app in
+    let encode = added _ _ _ c.in_ok-subcommand-2.ensures
+    c.in_ok-encode_command.ensures.global check c.in_ok-encode_command.ensures.app in
+    IfOk-weaker c.subcommand-3.result _ _
+    (λ r h. added _ _ r h c.in_ok-grows_command.ensures.global encode c.in_ok-grows_command.ensures.app)
+    c.subcommand-3.ensures

@@ -1,0 +1,4 @@
+//! The command line of `bcs`, as `clap` is told it.
+#![tactic(auto)]
+
+pub mod definition;

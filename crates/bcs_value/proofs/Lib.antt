@@ -1,9 +1,0 @@
-pub mod Views
-pub mod FitsByViews
-pub mod SameByViews
-pub mod Equivalence
-pub mod MapsInWords
-pub mod Loosening
-pub mod SameFormats
-pub mod Growth
-pub mod Classes

@@ -1,0 +1,6 @@
+pub mod FitsByViews
+pub mod Equivalence
+pub mod MapsInWords
+pub mod Loosening
+pub mod SameFormats
+pub mod Growth

@@ -1,0 +1,5 @@
+pub mod Fits
+pub mod Same
+pub mod Limits
+pub mod Words
+pub mod Laws

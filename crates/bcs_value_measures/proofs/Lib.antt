@@ -1,0 +1,2 @@
+pub mod SameByViews
+pub mod Classes

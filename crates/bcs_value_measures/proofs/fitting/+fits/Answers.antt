@@ -1,0 +1,26 @@
+use Rattle.std.proofs.Common.{sym}
+use Rattle.bcs_value_laws.proofs.FitsByViews.{each_fits-unlike, fields_fit-unlike, fits-found, fits-missing, fits-map}
+use Rattle.bcs_value_measures.proofs.fitting.+fits.Goals as goal
+
+pub each_fits-returns-then-items-formats : goal.each_fits-returns-then-items-formats
+each_fits-returns-then-items-formats t c =
+    sym (each_fits-unlike c.args.loose c.args.registry.now c.args.items.now c.args.formats.now c.if-items-formats.true)
+
+pub fields_fit-returns-then-items-fields : goal.fields_fit-returns-then-items-fields
+fields_fit-returns-then-items-fields t c =
+    sym (fields_fit-unlike c.args.loose c.args.registry.now c.args.items.now c.args.fields.now c.if-items-fields.true)
+
+pub fills-returns-in-Some : goal.fills-returns-in-Some
+fills-returns-in-Some t c =
+    let m = c.in-Enum-Variant in
+    fits-found _ _ _ _ _ m.variants m.number m.inner c.in-Some.variant c.get.result _ m.is-0 m.is-1 c.deref-in-Some.ensures c.get.ensures.value c.in-Some.is c.pays.ensures
+
+pub fills-returns-in-None : goal.fills-returns-in-None
+fills-returns-in-None t c =
+    let m = c.in-Enum-Variant in
+    fits-missing _ _ _ _ m.variants m.number m.inner c.get.result m.is-0 m.is-1 c.get.ensures.value c.in-None.is
+
+pub fits-returns-in-Pairs-Map : goal.fits-returns-in-Pairs-Map
+fits-returns-in-Pairs-Map t c =
+    let m = c.in-Pairs-Map in
+    fits-map _ _ _ _ m.pairs m.key m.value _ _ _ _ m.is-0 m.is-1 c.deref-in-Pairs-Map.ensures.value c.deref-in-Pairs-Map-2.ensures c.deref-in-Pairs-Map-3.ensures c.pairs_fit.ensures

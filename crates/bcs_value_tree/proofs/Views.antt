@@ -1,0 +1,18 @@
+-- What a value is seen as, shape by shape.
+use Rattle.std.proofs.Common.{◌≡◌, ℕ, Vec, Box, Global, Bool, true, false, ◌&&◌, refl, rules}
+use Rattle.bcs_value_tree.specs.Tree.{variant, pairs, bytes}
+use Rattle.bcs_value_tree.specs.View.{tree_of, entries_pairs}
+use Rattle.bcs_value_tree.specs.declared.value.Value.{Value, Bytes, Pairs, Variant, the_lemmas}
+
+pub tree_of_bytes : (b : Vec ℕ Global) → tree_of (Bytes b) ≡ bytes b.items
+tree_of_bytes b = search (rules, the_lemmas)
+
+pub tree_of_variant : (n : ℕ) (inner : Box Value Global) → tree_of (Variant n inner) ≡ variant n (tree_of inner.value)
+tree_of_variant n inner = search (rules, the_lemmas)
+
+pub tree_of_pairs : (ps : Vec (Value × Value) Global) → tree_of (Pairs ps) ≡ pairs (entries_pairs ps.items)
+tree_of_pairs ps = search (rules, the_lemmas)
+
+pub and_false : (b : Bool) → (b && false) ≡ false
+and_false true = refl
+and_false false = refl
