@@ -1,4 +1,4 @@
-//! Tests of the values, the encoder and the decoder, over registries that are read. There is nothing to call.
+//! Tests of the numbers, the registries, the values, the encoder and the decoder. There is nothing to call.
 #![tactic(auto)]
 
 #[cfg(test)]
@@ -14,13 +14,27 @@ mod every_change;
 #[cfg(test)]
 mod fitting;
 #[cfg(test)]
+mod format_levels;
+#[cfg(test)]
+mod format_texts;
+#[cfg(test)]
 mod forms;
+#[cfg(test)]
+mod growth;
 #[cfg(test)]
 mod hostile_sources;
 #[cfg(test)]
 mod large_values;
 #[cfg(test)]
 mod number_lists;
+#[cfg(test)]
+mod numbers;
+#[cfg(test)]
+mod registries;
+#[cfg(test)]
+mod registry_printing;
+#[cfg(test)]
+mod registry_texts;
 #[cfg(test)]
 mod sinks;
 #[cfg(test)]

@@ -1,4 +1,4 @@
-use Rattle.std.proofs.Common.{length, sym, subst, ◌∙◌, ◌-◌, ◌≤◌, ◌≡◌, arith, length-drop}
+use Rattle.std.proofs.Common.{length, sym, subst, ◌∙◌, ◌-◌, ◌≤◌, ◌≡◌, arith, length-drop, rules}
 use borrow.Rule.Slice.PartMut.{put_mid, same_len_mid}
 use Rattle.bcs_decode_sources.specs.Taking.{Took}
 use Rattle.bcs_decode_sources.proofs.Filled.{filled_more}
@@ -20,3 +20,9 @@ loop-filled-preserved g c =
       took = subst (λ l. Took g.S.ByteSource.content g.S.ByteSource.is_failed g.S.ByteSource.allowance c.args.source.now c.next.new.self l) (sym more)
           (Took-then g.S.ByteSource.content g.S.ByteSource.is_failed g.S.ByteSource.allowance _ _ _ _ _ c.loop-filled.invariant.took gives.2);
     }
+
+pub returns-clause-fills : goal.returns-clause-fills
+returns-clause-fills g c = search rules
+
+pub returns-clause-len : goal.returns-clause-len
+returns-clause-len g c = search rules

@@ -1,0 +1,227 @@
+//! What no clause of `line` says: that it gives jobs at all, and the texts of help and usage.
+use bcs_tool::{Command, Job, LineFault, line};
+use std::alloc::{AllocError, Global};
+
+// The words of a command line after the program's name, and what the job is to hold.
+#[derive(Clone, Copy)]
+struct Asked {
+    words: &'static [&'static str],
+    command: Command,
+    registry: &'static str,
+    second: &'static str,
+    format: &'static str,
+    file: Option<&'static str>,
+    raw: bool,
+}
+
+const JOBS: [Asked; 5] = [
+    Asked {
+        words: &["encode", "{}", "\"I16\""],
+        command: Command::Encode,
+        registry: "{}",
+        second: "",
+        format: "\"I16\"",
+        file: None,
+        raw: false,
+    },
+    Asked {
+        words: &["encode", "--raw", "r.json", "S", "in.json"],
+        command: Command::Encode,
+        registry: "r.json",
+        second: "",
+        format: "S",
+        file: Some("in.json"),
+        raw: true,
+    },
+    Asked {
+        words: &["encode", "r.json", "S", "in.json", "--raw"],
+        command: Command::Encode,
+        registry: "r.json",
+        second: "",
+        format: "S",
+        file: Some("in.json"),
+        raw: true,
+    },
+    Asked {
+        words: &["check", "{}"],
+        command: Command::Check,
+        registry: "{}",
+        second: "",
+        format: "",
+        file: None,
+        raw: false,
+    },
+    Asked {
+        words: &["grows", "old.json", "new.json"],
+        command: Command::Grows,
+        registry: "old.json",
+        second: "new.json",
+        format: "",
+        file: None,
+        raw: false,
+    },
+];
+
+fn words_of(alloc: Global, arguments: &[&str]) -> Result<Vec<String>, AllocError> {
+    let mut words = Vec::new(alloc);
+    words.push(String::from_str(alloc, "bcs")?)?;
+    for argument in arguments {
+        words.push(String::from_str(alloc, argument)?)?;
+    }
+    Ok(words)
+}
+
+fn line_of(alloc: Global, arguments: &[&str]) -> Result<Job, LineFault> {
+    let words = words_of(alloc, arguments)?;
+    line(alloc, &words)
+}
+
+fn is_as_asked(job: &Job, asked: &Asked) -> bool {
+    job.command == asked.command
+        && job.registry.as_str() == asked.registry
+        && job.second.as_str() == asked.second
+        && job.format.as_str() == asked.format
+        && job.path.is_empty()
+        && job.file.as_deref() == asked.file
+        && job.raw == asked.raw
+}
+
+#[test]
+fn words_give_their_job(rt: HostRuntime) {
+    for asked in JOBS {
+        let words = asked.words;
+        match line_of(rt.alloc(), words) {
+            Ok(job) => assert!(rt; is_as_asked(&job, &asked), "at {words:?}"),
+            Err(fault) => assert!(rt; false, "{fault} at {words:?}"),
+        }
+    }
+}
+
+// A refusal may come anywhere, also in the words of the test itself.
+#[test]
+fn refused_memory_changes_no_job(rt: HostRuntime) {
+    for asked in JOBS {
+        match line_of(rt.alloc(), asked.words) {
+            Ok(job) => assert!(rt; is_as_asked(&job, &asked), "at {}", asked.words[0]),
+            Err(fault) => assert!(rt;
+                matches!(fault, LineFault::OutOfMemory),
+                "{fault} at {}",
+                asked.words[0]
+            ),
+        }
+    }
+}
+
+fn is_usage(answer: &Result<Job, LineFault>, part: &str) -> bool {
+    match answer {
+        Err(LineFault::Usage(text)) => text.as_str().contains(part),
+        _ => false,
+    }
+}
+
+fn is_help(answer: &Result<Job, LineFault>, part: &str) -> bool {
+    match answer {
+        Err(LineFault::Help(text)) => text.as_str().contains(part),
+        _ => false,
+    }
+}
+
+// Words that give no job, and a part of the text.
+#[derive(Clone, Copy)]
+struct Told {
+    words: &'static [&'static str],
+    part: &'static str,
+}
+
+const NO_COMMANDS: [Told; 5] = [
+    Told {
+        words: &[],
+        part: "requires a subcommand",
+    },
+    Told {
+        words: &["frobnicate"],
+        part: "'frobnicate'",
+    },
+    Told {
+        words: &["encode", "{}"],
+        part: "<FORMAT>",
+    },
+    Told {
+        words: &["check", "{}", "extra"],
+        part: "'extra'",
+    },
+    Told {
+        words: &["check", "{}", "--raw"],
+        part: "'--raw'",
+    },
+];
+
+const HELPS: [Told; 3] = [
+    Told {
+        words: &["--help"],
+        part: "Commands:",
+    },
+    Told {
+        words: &["help", "encode"],
+        part: "<FORMAT>",
+    },
+    Told {
+        words: &["encode", "--help"],
+        part: "<FORMAT>",
+    },
+];
+
+#[test]
+fn other_words_are_told_why(rt: HostRuntime) {
+    for told in NO_COMMANDS {
+        let words = told.words;
+        let answer = line_of(rt.alloc(), words);
+        assert!(rt; is_usage(&answer, told.part), "at {words:?}");
+    }
+}
+
+#[test]
+fn help_is_given(rt: HostRuntime) {
+    for told in HELPS {
+        let words = told.words;
+        let answer = line_of(rt.alloc(), words);
+        assert!(rt; is_help(&answer, told.part), "at {words:?}");
+    }
+}
+
+fn is_same_text(one: &Result<Job, LineFault>, other: &Result<Job, LineFault>) -> bool {
+    match (one, other) {
+        (Err(LineFault::Usage(one)), Err(LineFault::Usage(other))) => one == other,
+        (Err(LineFault::Help(one)), Err(LineFault::Help(other))) => one == other,
+        (Err(LineFault::OutOfMemory), _) => true,
+        (_, Err(LineFault::OutOfMemory)) => true,
+        _ => false,
+    }
+}
+
+// With one request for memory refused, one of two calls has its text whole, and the other too if
+// it has one.
+#[test]
+fn refused_memory_cuts_no_text(rt: HostRuntime) {
+    for told in NO_COMMANDS.iter().chain(HELPS.iter()) {
+        let one = line_of(rt.alloc(), told.words);
+        let other = line_of(rt.alloc(), told.words);
+        assert!(rt; is_same_text(&one, &other), "at {:?}", told.words);
+    }
+}
+
+#[test]
+fn messages_are_the_variants_names(rt: HostRuntime) -> Result<(), AllocError> {
+    let alloc = rt.alloc();
+    let usage = LineFault::Usage(String::from_str(alloc, "text")?);
+    let help = LineFault::Help(String::from_str(alloc, "text")?);
+    for (fault, name) in [
+        (usage, "Usage"),
+        (help, "Help"),
+        (LineFault::OutOfMemory, "OutOfMemory"),
+    ] {
+        let message = fault.to_string(alloc)?;
+        assert_eq!(rt; message.as_str(), name);
+    }
+    Ok(())
+}
