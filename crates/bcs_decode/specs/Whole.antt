@@ -14,6 +14,11 @@ use Rattle.bcs_decode_stops.specs.declared.reason.Reason.TheVariants.{TrailingBy
 use Rattle.bcs_value_tree.specs.Tree.{Tree}
 use Rattle.bcs_decode_laws.specs.Exact.{AreBytes}
 
+-- so many bytes are known to come: of bytes that are told no more than there are, and else none
+abbrev pub AreKnown : ℕ → Option (List ℕ) → Type 0
+AreKnown n None = n ≡ 0
+AreKnown n (Some b) = n ≤ length b
+
 -- of told bytes a front is gone that isn't shorter than the place
 abbrev pub GoneTo : List ℕ → Option (List ℕ) → ℕ → Type 0
 GoneTo b rest place = (n : ℕ) × (place ≤ n) × (n ≤ length b) × (rest ≡ Some (drop n b))

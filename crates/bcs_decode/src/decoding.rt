@@ -1,9 +1,9 @@
 //! Values from sources.
-ghost use Rattle.std.specs.Prelude.{◌≡◌, ◌≢◌, true, Err, IsErrOf};
+ghost use Rattle.std.specs.Prelude.{◌≡◌, ◌≢◌, ◌↔◌, true, Err, IsErrOf};
 ghost use Rattle.bcs_registry_formats.specs.View.{shape_of};
 ghost use Rattle.bcs_registry_formats.specs.WellFormed.{Admits};
 ghost use Rattle.bcs_decode_reader.specs.Sees.{takes_no_memory};
-ghost use Rattle.bcs_decode.specs.Whole.{DecodesAll, DecodesFrom, DecodesFront};
+ghost use Rattle.bcs_decode.specs.Whole.{AreKnown, DecodesAll, DecodesFrom, DecodesFront};
 
 use bcs_decode_keys::at::At;
 use bcs_decode_sources::ByteSource;
@@ -27,7 +27,7 @@ pub fn decode_from<S: ByteSource>(
 ) -> Result<Value, DecodeFault>
     requires { Admits registry.now (shape_of format.now) }
     ensures told { DecodesFrom registry.now limits.now (shape_of format.now) (S.content source.old) (S.content source.new) result }
-    ensures read { IsErrOf result DecodeFault.Read → S.is_failed source.new ≡ true }
+    ensures read { IsErrOf result DecodeFault.Read ↔ S.is_failed source.new ≡ true }
     ensures memory { takes_no_memory (shape_of format.now) ≡ true → result ≢ Err DecodeFault.OutOfMemory }
 {
     decode_known(alloc, registry, format, limits, 0, source)
@@ -42,9 +42,10 @@ pub(crate) fn decode_known<S: ByteSource>(
     known: u64,
     source: &mut S,
 ) -> Result<Value, DecodeFault>
-    requires { Admits registry.now (shape_of format.now) }
+    requires admitted { Admits registry.now (shape_of format.now) }
+    requires known { AreKnown known (S.content source.old) }
     ensures told { DecodesFrom registry.now limits.now (shape_of format.now) (S.content source.old) (S.content source.new) result }
-    ensures read { IsErrOf result DecodeFault.Read → S.is_failed source.new ≡ true }
+    ensures read { IsErrOf result DecodeFault.Read ↔ S.is_failed source.new ≡ true }
     ensures memory { takes_no_memory (shape_of format.now) ≡ true → result ≢ Err DecodeFault.OutOfMemory }
 {
     match front(alloc, registry, format, limits, known, source) {
@@ -64,7 +65,7 @@ pub fn decode_all<S: ByteSource>(
 ) -> Result<Value, DecodeFault>
     requires { Admits registry.now (shape_of format.now) }
     ensures told { DecodesAll registry.now limits.now (shape_of format.now) (S.content source.old) (S.content source.new) result }
-    ensures read { IsErrOf result DecodeFault.Read → S.is_failed source.new ≡ true }
+    ensures read { IsErrOf result DecodeFault.Read ↔ S.is_failed source.new ≡ true }
     ensures memory { takes_no_memory (shape_of format.now) ≡ true → result ≢ Err DecodeFault.OutOfMemory }
 {
     match front(alloc, registry, format, limits, 0, source) {
@@ -89,9 +90,10 @@ fn front<S: ByteSource>(
     known: u64,
     source: &mut S,
 ) -> Result<(Value, u64), DecodeFault>
-    requires { Admits registry.now (shape_of format.now) }
+    requires admitted { Admits registry.now (shape_of format.now) }
+    requires known { AreKnown known (S.content source.old) }
     ensures told { DecodesFront registry.now limits.now (shape_of format.now) (S.content source.old) (S.content source.new) result }
-    ensures read { IsErrOf result DecodeFault.Read → S.is_failed source.new ≡ true }
+    ensures read { IsErrOf result DecodeFault.Read ↔ S.is_failed source.new ≡ true }
     ensures memory { takes_no_memory (shape_of format.now) ≡ true → result ≢ Err DecodeFault.OutOfMemory }
 {
     if source.failed() {

@@ -43,7 +43,6 @@ module _ (older newer : Entries) (grows : Grows older newer) where
   decodable_newer d f t h = record {
     sound = keeps_soundness older newer _ f t grows h.sound;
     canonical = keeps_order older newer f t grows h.sound.fit h.canonical;
-    range = h.range;
   }
 
   -- ---- parts in a row
@@ -226,7 +225,6 @@ pub keeps_accepting : GrowthKeepsAccepting
 keeps_accepting = λ older newer limits s b n c grows h. record {
   sound = keeps_soundness older newer limits (of s) c grows h.sound;
   canonical = keeps_order older newer (of s) c grows h.sound.fit h.canonical;
-  range = h.range;
   within = h.within;
   is = h.is ∙ sym (keeps_bytes older newer (of s) c grows h.sound.fit);
 }

@@ -1,6 +1,6 @@
 -- Numbers, lengths, byte strings, texts and flags.
 use Rattle.std.proofs.Common.{◌≡◌, ℕ, suc, ◌+◌, ◌-◌, ◌<◌, ◌≤◌, ◌^◌, ◌==◌, nat_lt, Bool, true, false, if◌then◌else◌, ℤ, List, [], ◌∷◌, ◌++◌, length, take, drop, Result, Ok, Err, refl, sym, ap, ap₂, subst, ◌∙◌, arith, inl, inr}
-use Rattle.std.proofs.lemmas.Bool.{cases_lt, cases_Bool, cases_eq, le-ltb, lt-ltb}
+use Rattle.std.proofs.lemmas.Bool.{and_parts, and_from, cases_lt, cases_Bool, cases_eq, le-ltb, lt-ltb, ltb-true}
 use Rattle.std.proofs.lemmas.List.{length-append, take-append-drop, length-take, take_at, take_all, drop_at, append-nil}
 use Rattle.std.proofs.lemmas.List.Elements.{All-nil, All-cons, All-head, All-tail}
 use Rattle.std.specs.Int.{Width, byte_len, from_le_bytes, cast_signed, cast_unsigned}
@@ -14,6 +14,7 @@ use Rattle.bcs_num.proofs.LeLaws.{All-le, length-le, le_injective, le_signed_inj
 use Rattle.bcs_num.proofs.LeReading.{number_read as le_number_read, signed_taken}
 use Rattle.bcs_num.proofs.UlebReading as reading
 use Rattle.bcs_num.proofs.UlebReading.{number_from, number_at, number_at_number, number_at_fault, number_at_is_number, number_at_is_fault}
+use Rattle.bcs_value_laws.specs.Fits.{are_bytes}
 use Rattle.bcs_encode_laws.specs.Lengths.{length_limit}
 use Rattle.bcs_encode_laws.specs.Plain.{truth_byte}
 use Rattle.bcs_decode_stops.specs.declared.reason.Reason.{Reason}
@@ -263,11 +264,23 @@ front_bytes : (s c : List ℕ) → AreBytes (s ++ c) → AreBytes s
 front_bytes [] c h = All-nil (λ y. y < 256)
 front_bytes (x ∷ s) c h = All-cons (λ y. y < 256) x s (All-head (λ y. y < 256) x (s ++ c) h) (front_bytes s c (All-tail (λ y. y < 256) x (s ++ c) h))
 
-abbrev ByteReads : {A : Type 0} → Reads A → Reads A
+-- they pass the test of `fits`
+pub bytes_pass : (s : List ℕ) → AreBytes s → are_bytes s ≡ true
+bytes_pass [] h = refl
+bytes_pass (x ∷ s) h =
+    and_from _ _ (lt-ltb x 256 (All-head (λ y. y < 256) x s h)) (bytes_pass s (All-tail (λ y. y < 256) x s h))
+
+pub pass_bytes : (s : List ℕ) → are_bytes s ≡ true → AreBytes s
+pass_bytes [] h = All-nil (λ y. y < 256)
+pass_bytes (x ∷ s) h =
+    let p = and_parts (nat_lt x 256) (are_bytes s) h in
+    All-cons (λ y. y < 256) x s (ltb-true x 256 p.0) (pass_bytes s p.1)
+
+abbrev pub ByteReads : {A : Type 0} → Reads A → Reads A
 ByteReads R x w s = AreBytes s × R x w s
 
 -- what is read of bytes is of bytes
-exact_of_bytes : {A : Type 0} {R : Reads A} {S : Stopping} {f : Parser A} → Exact R S f → Exact (ByteReads R) S f
+pub exact_of_bytes : {A : Type 0} {R : Reads A} {S : Stopping} {f : Parser A} → Exact R S f → Exact (ByteReads R) S f
 exact_of_bytes ex = record {
   ok = λ p m b x q l c h e. (let t = ex.ok p m b x q l c h e in (t.0, t.1, (front_bytes t.1 c (subst AreBytes t.3 h), t.2), t.3, t.4, t.5));
   again = λ p m x w s c g. ex.again p m x w s c g.1;

@@ -19,9 +19,9 @@ use Rattle.bcs_decode_stops.specs.declared.reason.Reason.TheVariants.{BadBool, U
 use Rattle.bcs_decode_laws.specs.Accepting.{IsDecodable}
 use Rattle.bcs_decode_laws.specs.Reading.{Parser, chain, give, fail_here, node, length_here, bytes_here, text_here, flag_here, unsigned_here, signed_here, items_here, pairs_here, option_here, building}
 use Rattle.bcs_decode_laws.specs.Stopping.{Stopping, AfterLength, BytesStop, TextStop, FlagStop, FailStop, OptionStop, NodeStop, ItemsStop, PairsStop}
-use Rattle.bcs_decode_laws.specs.Exact.{Reads, Exact}
+use Rattle.bcs_decode_laws.specs.Exact.{AreBytes, Reads, Exact}
 use Rattle.bcs_decode_laws.proofs.Combine.{exact_give, exact_fail_here, exact_same, exact_node, GiveReads, NoReads, NoStop}
-use Rattle.bcs_decode_laws.proofs.Numbers.{BytesReads, exact_bytes, TextReads, exact_text, FlagReads, exact_flag, UnsignedReads, exact_unsigned, SignedReads, exact_signed}
+use Rattle.bcs_decode_laws.proofs.Numbers.{BytesReads, exact_bytes, ByteReads, exact_of_bytes, bytes_pass, pass_bytes, TextReads, exact_text, FlagReads, exact_flag, UnsignedReads, exact_unsigned, SignedReads, exact_signed}
 use Rattle.bcs_decode_laws.proofs.Items.{Says, ItemsReads, exact_items}
 use Rattle.bcs_decode_laws.proofs.Pairs.{PairsReads, exact_pairs}
 use Rattle.bcs_decode_laws.proofs.Makings.{Made, exact_made, Counted, exact_counted, OptionReads, exact_option}
@@ -56,7 +56,7 @@ module _ (registry : Entries) (d : ℕ) where
     where
       to : (t : Tree) (v : ℕ) (s : List ℕ) → GiveReads tree.unit t v s → Here registry d (of shape.unit) t (suc v) s
       to t v s h =
-          subst (λ (x : Tree). Here registry d (of shape.unit) x (suc v) s) (sym h.0) (decodable registry d (of shape.unit) tree.unit refl tt (omega arith) refl refl, omega (arith, h.1), h.2)
+          subst (λ (x : Tree). Here registry d (of shape.unit) x (suc v) s) (sym h.0) (decodable registry d (of shape.unit) tree.unit refl tt (omega arith) refl, omega (arith, h.1), h.2)
 
       from : (t : Tree) (v w : ℕ) (s : List ℕ) → IsDecodable registry d (of shape.unit) t → w ≡ nodes t → s ≡ plain registry t (of shape.unit)
           → (v : ℕ) × (w ≡ suc v) × GiveReads tree.unit t v s
@@ -68,7 +68,7 @@ module _ (registry : Entries) (d : ℕ) where
     where
       to : (t : Tree) (v : ℕ) (s : List ℕ) → Made tree.truth FlagReads t v s → Here registry d (of shape.truth) t (suc v) s
       to t v s (x, h, e) =
-          subst (λ (y : Tree). Here registry d (of shape.truth) y (suc v) s) (sym e) (decodable registry d (of shape.truth) (tree.truth x) refl tt (omega arith) refl refl, omega (arith, h.0), h.1)
+          subst (λ (y : Tree). Here registry d (of shape.truth) y (suc v) s) (sym e) (decodable registry d (of shape.truth) (tree.truth x) refl tt (omega arith) refl, omega (arith, h.0), h.1)
 
       from : (t : Tree) (v w : ℕ) (s : List ℕ) → IsDecodable registry d (of shape.truth) t → w ≡ nodes t → s ≡ plain registry t (of shape.truth)
           → (v : ℕ) × (w ≡ suc v) × Made tree.truth FlagReads t v s
@@ -82,7 +82,7 @@ module _ (registry : Entries) (d : ℕ) where
     where
       to : (t : Tree) (v : ℕ) (s : List ℕ) → Made tree.unsigned (UnsignedReads w) t v s → Here registry d (of (shape.unsigned w)) t (suc v) s
       to t v s (x, h, e) =
-          subst (λ (y : Tree). Here registry d (of (shape.unsigned w)) y (suc v) s) (sym e) (decodable registry d (of (shape.unsigned w)) (tree.unsigned x) (lt-ltb x (2 ^ bits w) h.0) tt (omega arith) refl refl, omega (arith, h.1), h.2)
+          subst (λ (y : Tree). Here registry d (of (shape.unsigned w)) y (suc v) s) (sym e) (decodable registry d (of (shape.unsigned w)) (tree.unsigned x) (lt-ltb x (2 ^ bits w) h.0) tt (omega arith) refl, omega (arith, h.1), h.2)
 
       from : (t : Tree) (v m : ℕ) (s : List ℕ) → IsDecodable registry d (of (shape.unsigned w)) t → m ≡ nodes t
           → s ≡ plain registry t (of (shape.unsigned w)) → (v : ℕ) × (m ≡ suc v) × Made tree.unsigned (UnsignedReads w) t v s
@@ -96,7 +96,7 @@ module _ (registry : Entries) (d : ℕ) where
     where
       to : (t : Tree) (v : ℕ) (s : List ℕ) → Made tree.signed (SignedReads w) t v s → Here registry d (of (shape.signed w)) t (suc v) s
       to t v s (x, h, e) =
-          subst (λ (y : Tree). Here registry d (of (shape.signed w)) y (suc v) s) (sym e) (decodable registry d (of (shape.signed w)) (tree.signed x) (half_below w x h.0) tt (omega arith) refl refl, omega (arith, h.1), h.2)
+          subst (λ (y : Tree). Here registry d (of (shape.signed w)) y (suc v) s) (sym e) (decodable registry d (of (shape.signed w)) (tree.signed x) (half_below w x h.0) tt (omega arith) refl, omega (arith, h.1), h.2)
 
       from : (t : Tree) (v m : ℕ) (s : List ℕ) → IsDecodable registry d (of (shape.signed w)) t → m ≡ nodes t
           → s ≡ plain registry t (of (shape.signed w)) → (v : ℕ) × (m ≡ suc v) × Made tree.signed (SignedReads w) t v s
@@ -115,26 +115,30 @@ module _ (registry : Entries) (d : ℕ) where
       to t v s (n, x, u, le, h, e, i) =
           let long : length x ≡ n = h.1.0 in
           subst (λ (y : Tree). Here registry d (of shape.text) y (suc v) s) (sym e)
-          (decodable registry d (of shape.text) (tree.text x) refl tt (omega arith) (le-leb (length x) length_limit (omega (arith, le, long))) h.0, omega (arith, h.1.1), i ∙ ap₂ (λ (y : ℕ) (z : List ℕ). uleb y ++ z) (sym long) h.1.2)
+          (decodable registry d (of shape.text) (tree.text x) h.0 tt (omega arith) (le-leb (length x) length_limit (omega (arith, le, long))), omega (arith, h.1.1), i ∙ ap₂ (λ (y : ℕ) (z : List ℕ). uleb y ++ z) (sym long) h.1.2)
 
       from : (t : Tree) (v w : ℕ) (s : List ℕ) → IsDecodable registry d (of shape.text) t → w ≡ nodes t → s ≡ plain registry t (of shape.text)
           → (v : ℕ) × (w ≡ suc v) × Counted tree.text TextReads t v s
       from (tree.text x) v w s h i j =
-          (0, i, (length x, x, x, leb-true (length x) length_limit h.sound.lengths, (h.range, (refl, refl, refl)), refl, j))
+          (0, i, (length x, x, x, leb-true (length x) length_limit h.sound.lengths, (h.sound.fit, (refl, refl, refl)), refl, j))
       from _ v w s h i j = absurd (let e = h.sound.fit in cc)
 
+  abbrev StringReads : ℕ → Reads (List ℕ)
+  StringReads n = ByteReads (BytesReads n)
+
   pub exact_bytes_value : Exact (Here registry d (of shape.bytes)) (NodeStop (AfterLength BytesStop)) (node (chain length_here (λ n. chain (bytes_here n) (λ s. give (tree.bytes s)))))
-  exact_bytes_value = exact_here (of shape.bytes) (Counted tree.bytes BytesReads) (AfterLength BytesStop) (chain length_here (λ n. chain (bytes_here n) (λ s. give (tree.bytes s)))) (exact_counted tree.bytes BytesReads BytesStop bytes_here exact_bytes) to from
+  exact_bytes_value = exact_here (of shape.bytes) (Counted tree.bytes StringReads) (AfterLength BytesStop) (chain length_here (λ n. chain (bytes_here n) (λ s. give (tree.bytes s)))) (exact_counted tree.bytes StringReads BytesStop bytes_here (λ n. exact_of_bytes (exact_bytes n))) to from
     where
-      to : (t : Tree) (v : ℕ) (s : List ℕ) → Counted tree.bytes BytesReads t v s → Here registry d (of shape.bytes) t (suc v) s
+      to : (t : Tree) (v : ℕ) (s : List ℕ) → Counted tree.bytes StringReads t v s → Here registry d (of shape.bytes) t (suc v) s
       to t v s (n, x, u, le, h, e, i) =
-          let long : length x ≡ n = h.0 in
+          let long : length x ≡ n = h.1.0 in
           subst (λ (y : Tree). Here registry d (of shape.bytes) y (suc v) s) (sym e)
-          (decodable registry d (of shape.bytes) (tree.bytes x) refl tt (omega arith) (le-leb (length x) length_limit (omega (arith, le, long))) refl, omega (arith, h.1), i ∙ ap₂ (λ (y : ℕ) (z : List ℕ). uleb y ++ z) (sym long) h.2)
+          (decodable registry d (of shape.bytes) (tree.bytes x) (bytes_pass x (subst AreBytes h.1.2 h.0)) tt (omega arith) (le-leb (length x) length_limit (omega (arith, le, long))), omega (arith, h.1.1), i ∙ ap₂ (λ (y : ℕ) (z : List ℕ). uleb y ++ z) (sym long) h.1.2)
 
       from : (t : Tree) (v w : ℕ) (s : List ℕ) → IsDecodable registry d (of shape.bytes) t → w ≡ nodes t → s ≡ plain registry t (of shape.bytes)
-          → (v : ℕ) × (w ≡ suc v) × Counted tree.bytes BytesReads t v s
-      from (tree.bytes x) v w s h i j = (0, i, (length x, x, x, leb-true (length x) length_limit h.sound.lengths, (refl, refl, refl), refl, j))
+          → (v : ℕ) × (w ≡ suc v) × Counted tree.bytes StringReads t v s
+      from (tree.bytes x) v w s h i j =
+          (0, i, (length x, x, x, leb-true (length x) length_limit h.sound.lengths, (pass_bytes x h.sound.fit, (refl, refl, refl)), refl, j))
       from _ v w s h i j = absurd (let e = h.sound.fit in cc)
 
   -- ---- values with parts
@@ -145,17 +149,17 @@ module _ (registry : Entries) (d : ℕ) where
       where
         to : (t : Tree) (v : ℕ) (b : List ℕ) → OptionReads (Here registry d (of s)) t v b → Here registry d (of (shape.option s)) t (suc v) b
         to t v b (inl h) =
-            subst (λ (y : Tree). Here registry d (of (shape.option s)) y (suc v) b) (sym h.0) (decodable registry d (of (shape.option s)) tree.absent refl tt (omega arith) refl refl, omega (arith, h.1), h.2)
+            subst (λ (y : Tree). Here registry d (of (shape.option s)) y (suc v) b) (sym h.0) (decodable registry d (of (shape.option s)) tree.absent refl tt (omega arith) refl, omega (arith, h.1), h.2)
         to t v b (inr (x, u, h, e, i)) =
             let g = h.0 in
             subst (λ (y : Tree). Here registry d (of (shape.option s)) y (suc v) b) (sym e)
-            (decodable registry d (of (shape.option s)) (tree.present x) g.sound.fit g.canonical g.sound.depth_holds g.sound.lengths g.range, omega (arith, h.1), i ∙ ap (λ (y : List ℕ). 1 ∷ y) h.2)
+            (decodable registry d (of (shape.option s)) (tree.present x) g.sound.fit g.canonical g.sound.depth_holds g.sound.lengths, omega (arith, h.1), i ∙ ap (λ (y : List ℕ). 1 ∷ y) h.2)
 
         from : (t : Tree) (v w : ℕ) (b : List ℕ) → IsDecodable registry d (of (shape.option s)) t → w ≡ nodes t
             → b ≡ plain registry t (of (shape.option s)) → (v : ℕ) × (w ≡ suc v) × OptionReads (Here registry d (of s)) t v b
         from tree.absent v w b h i j = (0, i, inl (refl, refl, j))
         from (tree.present x) v w b h i j =
-            (nodes x, i, inr (x, plain registry x (of s), (decodable registry d (of s) x h.sound.fit h.canonical h.sound.depth_holds h.sound.lengths h.range, refl, refl), refl, j))
+            (nodes x, i, inr (x, plain registry x (of s), (decodable registry d (of s) x h.sound.fit h.canonical h.sound.depth_holds h.sound.lengths, refl, refl), refl, j))
         from _ v w b h i j = absurd (let e = h.sound.fit in cc)
 
     abbrev RowOf : ℕ → Reads Trees
@@ -175,13 +179,13 @@ module _ (registry : Entries) (d : ℕ) where
             let long : count ts ≡ n = h.0 in
             let k = items_are registry d s ts h.1 in
             subst (λ (y : Tree). Here registry d (of (shape.seq s)) y (suc v) b) (sym e)
-            (decodable registry d (of (shape.seq s)) (tree.items ts) k.fit_is k.canonical_is k.deep_is (and_from _ _ (le-leb (count ts) length_limit (omega (arith, le, long))) k.long_is) k.range_is, omega (arith, h.2), i ∙ ap₂ (λ (y : ℕ) (z : List ℕ). uleb y ++ z) (sym long) h.3)
+            (decodable registry d (of (shape.seq s)) (tree.items ts) k.fit_is k.canonical_is k.deep_is (and_from _ _ (le-leb (count ts) length_limit (omega (arith, le, long))) k.long_is), omega (arith, h.2), i ∙ ap₂ (λ (y : ℕ) (z : List ℕ). uleb y ++ z) (sym long) h.3)
 
         from : (t : Tree) (v w : ℕ) (b : List ℕ) → IsDecodable registry d (of (shape.seq s)) t → w ≡ nodes t → b ≡ plain registry t (of (shape.seq s))
             → (v : ℕ) × (w ≡ suc v) × Counted tree.items RowOf t v b
         from (tree.items ts) v w b h i j =
             let p = and_parts (nat_le (count ts) length_limit) (all_hold length_limit registry ts s) h.sound.lengths in
-            let all = are_items registry d s ts (record { fit_is = h.sound.fit; canonical_is = h.canonical; deep_is = h.sound.depth_holds; long_is = p.1; range_is = h.range }) in
+            let all = are_items registry d s ts (record { fit_is = h.sound.fit; canonical_is = h.canonical; deep_is = h.sound.depth_holds; long_is = p.1 }) in
             (trees_nodes ts, i, (count ts, ts, plain_items registry ts s, leb-true (count ts) length_limit p.0, (refl, all, refl, refl), refl, j))
         from _ v w b h i j = absurd (let e = h.sound.fit in cc)
 
@@ -194,13 +198,13 @@ module _ (registry : Entries) (d : ℕ) where
         to t v b (ts, h, e) =
             let k = items_are registry d s ts h.1 in
             subst (λ (y : Tree). Here registry d (of (shape.array s n)) y (suc v) b) (sym e)
-            (decodable registry d (of (shape.array s n)) (tree.items ts) (and_from _ _ (eq-eqb (count ts) n h.0) k.fit_is) k.canonical_is k.deep_is k.long_is k.range_is, omega (arith, h.2), h.3)
+            (decodable registry d (of (shape.array s n)) (tree.items ts) (and_from _ _ (eq-eqb (count ts) n h.0) k.fit_is) k.canonical_is k.deep_is k.long_is, omega (arith, h.2), h.3)
 
         from : (t : Tree) (v w : ℕ) (b : List ℕ) → IsDecodable registry d (of (shape.array s n)) t → w ≡ nodes t
             → b ≡ plain registry t (of (shape.array s n)) → (v : ℕ) × (w ≡ suc v) × Made tree.items (RowOf n) t v b
         from (tree.items ts) v w b h i j =
             let p = and_parts (count ts == n) (all_fit false registry ts s) h.sound.fit in
-            let all = are_items registry d s ts (record { fit_is = p.1; canonical_is = h.canonical; deep_is = h.sound.depth_holds; long_is = h.sound.lengths; range_is = h.range }) in
+            let all = are_items registry d s ts (record { fit_is = p.1; canonical_is = h.canonical; deep_is = h.sound.depth_holds; long_is = h.sound.lengths }) in
             (trees_nodes ts, i, (ts, (nat-same (count ts) n p.0, all, refl, j), refl))
         from _ v w b h i j = absurd (let e = h.sound.fit in cc)
 
@@ -222,12 +226,12 @@ module _ (registry : Entries) (d : ℕ) where
             let long : pair_count ps ≡ n = h.0 in
             let g = pairs_are registry d None k v ps h.1 in
             subst (λ (y : Tree). Here registry d (of (shape.map k v)) y (suc m) b) (sym e)
-            (decodable registry d (of (shape.map k v)) (tree.pairs ps) g.fit_is g.canonical_is g.deep_is (and_from _ _ (le-leb (pair_count ps) length_limit (omega (arith, le, long))) g.long_is) g.range_is, omega (arith, h.2), i ∙ ap₂ (λ (y : ℕ) (z : List ℕ). uleb y ++ z) (sym long) h.3)
+            (decodable registry d (of (shape.map k v)) (tree.pairs ps) g.fit_is g.canonical_is g.deep_is (and_from _ _ (le-leb (pair_count ps) length_limit (omega (arith, le, long))) g.long_is), omega (arith, h.2), i ∙ ap₂ (λ (y : ℕ) (z : List ℕ). uleb y ++ z) (sym long) h.3)
 
         from : (t : Tree) (m w : ℕ) (b : List ℕ) → IsDecodable registry d (of (shape.map k v)) t → w ≡ nodes t
             → b ≡ plain registry t (of (shape.map k v)) → (m : ℕ) × (w ≡ suc m) × Counted tree.pairs EntriesOf t m b
         from (tree.pairs ps) m w b h i j =
             let p = and_parts (nat_le (pair_count ps) length_limit) (pairs_hold length_limit registry ps k v) h.sound.lengths in
-            let all = are_pairs registry d None k v ps (record { fit_is = h.sound.fit; canonical_is = h.canonical; deep_is = h.sound.depth_holds; long_is = p.1; range_is = h.range }) in
+            let all = are_pairs registry d None k v ps (record { fit_is = h.sound.fit; canonical_is = h.canonical; deep_is = h.sound.depth_holds; long_is = p.1 }) in
             (pairs_nodes ps, i, (pair_count ps, ps, plain_pairs registry ps k v, leb-true (pair_count ps) length_limit p.0, (refl, all, refl, refl), refl, j))
         from _ m w b h i j = absurd (let e = h.sound.fit in cc)

@@ -249,7 +249,6 @@ module _ (registry : Entries) (limits : Bounds) (s : Shape) (b t : List ℕ) whe
   accepted_here n c h = record {
     sound = h.sound;
     canonical = h.canonical;
-    range = h.range;
     within = (let k = h.within in omega (arith, k, length-append b t));
     is = taken b t n h.within ∙ h.is;
   }

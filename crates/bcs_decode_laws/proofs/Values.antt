@@ -1,6 +1,6 @@
 -- A value of a format is read exactly where bytes begin with one, and stops exactly where they stop.
-use Rattle.std.proofs.Common.{◌≡◌, ℕ, zero, suc, ◌+◌, ◌^◌, nat_lt, List, ◌++◌, length, Option, Some, None, refl, sym, ap, ap₂, subst, ◌∙◌, arith, inl, inr}
-use Rattle.std.proofs.lemmas.Bool.{false≢true, and_parts, and_from, ltb-true, lt-ltb}
+use Rattle.std.proofs.Common.{◌≡◌, ℕ, zero, suc, ◌+◌, ◌^◌, false, List, ◌++◌, length, Option, Some, None, refl, sym, ap, ap₂, subst, ◌∙◌, arith, inl, inr}
+use Rattle.std.proofs.lemmas.Bool.{false≢true, and_from, lt-ltb}
 use Rattle.bcs_num.specs.Uleb.{uleb}
 use Rattle.bcs_registry_formats.specs.Shape as shape
 use Rattle.bcs_registry_formats.specs.Shape.{Shape, Shapes, no_shapes, shape}
@@ -8,10 +8,11 @@ use Rattle.bcs_registry_formats.specs.Container.{Entries, Content, of, one_of, n
 use Rattle.std.specs.Option.{option_map_or}
 use Rattle.bcs_value_tree.specs.Tree as tree
 use Rattle.bcs_value_tree.specs.Tree.{Tree, Trees, no_trees, tree, Pairs, no_pairs, pair, count, pair_count, depth, nodes, trees_nodes, pairs_nodes}
+use Rattle.bcs_value_laws.proofs.VariantFits.{number_fits, payload_fits}
 use Rattle.bcs_encode_laws.specs.Plain.{plain, plain_each}
 use Rattle.bcs_decode_stops.specs.declared.reason.Reason.{Reason}
 use Rattle.bcs_decode_stops.specs.declared.reason.Reason.TheVariants.{TooDeep, UnknownVariant, Unsupported}
-use Rattle.bcs_decode_laws.specs.Accepting.{IsDecodable, in_range}
+use Rattle.bcs_decode_laws.specs.Accepting.{IsDecodable}
 use Rattle.bcs_decode_laws.specs.Reading.{Parser, chain, give, node, shape_here, each_here, choice_here, variant_here, content_here, named_here, value_here, building}
 use Rattle.bcs_decode_laws.specs.Stopping.{Stopping, NumberStop, NodeStop, ShapeStop, EachStop, ChoiceStop, VariantStop, ContentStop, NamedStop}
 use Rattle.bcs_decode_laws.specs.Exact.{Reads, Exact}
@@ -60,7 +61,7 @@ module _ (registry : Entries) (d : ℕ) (N : List ℕ → Stopping) (r : List �
 
   none_to : (ts : Trees) (w : ℕ) (b : List ℕ) → GiveReads no_trees ts w b → EachReads no_shapes ts w b
   none_to ts w b h =
-      subst (λ (z : Trees). EachReads no_shapes z w b) (sym h.0) (record { fit_is = refl; canonical_is = tt; deep_is = omega arith; long_is = refl; range_is = refl }, h.1, h.2)
+      subst (λ (z : Trees). EachReads no_shapes z w b) (sym h.0) (record { fit_is = refl; canonical_is = tt; deep_is = omega arith; long_is = refl }, h.1, h.2)
 
   none_from : (ts : Trees) (w : ℕ) (b : List ℕ) → EachReads no_shapes ts w b → GiveReads no_trees ts w b
   none_from no_trees w b h = (refl, h.1, h.2)
@@ -74,12 +75,12 @@ module _ (registry : Entries) (d : ℕ) (N : List ℕ → Stopping) (r : List �
         to t v b (ts, h, e) =
             let k = h.0 in
             subst (λ (y : Tree). Here registry d (of (shape.tuple ss)) y (suc v) b) (sym e)
-            (decodable registry d (of (shape.tuple ss)) (tree.items ts) k.fit_is k.canonical_is k.deep_is k.long_is k.range_is, omega (arith, h.1), h.2)
+            (decodable registry d (of (shape.tuple ss)) (tree.items ts) k.fit_is k.canonical_is k.deep_is k.long_is, omega (arith, h.1), h.2)
 
         from : (t : Tree) (v w : ℕ) (b : List ℕ) → IsDecodable registry d (of (shape.tuple ss)) t → w ≡ nodes t
             → b ≡ plain registry t (of (shape.tuple ss)) → (v : ℕ) × (w ≡ suc v) × Made tree.items (EachReads ss) t v b
         from (tree.items ts) v w b h i j =
-            (trees_nodes ts, i, (ts, (record { fit_is = h.sound.fit; canonical_is = h.canonical; deep_is = h.sound.depth_holds; long_is = h.sound.lengths; range_is = h.range }, refl, j), refl))
+            (trees_nodes ts, i, (ts, (record { fit_is = h.sound.fit; canonical_is = h.canonical; deep_is = h.sound.depth_holds; long_is = h.sound.lengths }, refl, j), refl))
         from _ v w b h i j = absurd (let e = h.sound.fit in cc)
 
   mutual
@@ -154,13 +155,12 @@ module _ (registry : Entries) (d : ℕ) (N : List ℕ → Stopping) (r : List �
         to y v b (n, u, x, z, c, h, (t, g, i), e, j) =
             let k = g.0 in
             subst (λ (a : Tree). Here registry d (one_of cs) a (suc v) b) (sym i)
-            (decodable registry d (one_of cs) (tree.variant n t) k.sound.fit k.canonical k.sound.depth_holds k.sound.lengths (and_from _ _ (lt-ltb n (2 ^ 32) h.0) k.range), omega (arith, e, h.1, g.1), j ∙ ap₂ (λ (x y : List ℕ). x ++ y) h.2 g.2)
+            (decodable registry d (one_of cs) (tree.variant n t) (and_from _ _ (lt-ltb n (2 ^ 32) h.0) k.sound.fit) k.canonical k.sound.depth_holds k.sound.lengths, omega (arith, e, h.1, g.1), j ∙ ap₂ (λ (x y : List ℕ). x ++ y) h.2 g.2)
 
         from : (t : Tree) (v w : ℕ) (b : List ℕ) → IsDecodable registry d (one_of cs) t → w ≡ nodes t → b ≡ plain registry t (one_of cs)
             → (v : ℕ) × (w ≡ suc v) × VariantReads t v b
         from (tree.variant n t) v w b h i j =
-            let k = and_parts (nat_lt n (2 ^ 32)) (in_range t) h.range in
-            (nodes t, i, (n, 0, nodes t, uleb n, plain registry t (choice_at n cs), (ltb-true n (2 ^ 32) k.0, refl, refl), (t, (decodable registry d (choice_at n cs) t h.sound.fit h.canonical h.sound.depth_holds h.sound.lengths k.1, refl, refl), refl), omega arith, j))
+            (nodes t, i, (n, 0, nodes t, uleb n, plain registry t (choice_at n cs), (number_fits false registry n t cs h.sound.fit, refl, refl), (t, (decodable registry d (choice_at n cs) t (payload_fits false registry n t cs h.sound.fit) h.canonical h.sound.depth_holds h.sound.lengths, refl, refl), refl), omega arith, j))
         from _ v w b h i j = absurd (let e = h.sound.fit in cc)
 
   pub exact_content : (f : Content) → Exact (Here registry d f) (ContentStop registry d N f) (content_here building r f)
@@ -182,12 +182,12 @@ module _ (registry : Entries) where
     named_to y v b (t, h, e) =
         let k = h.0 in
         subst (λ (x : Tree). Here registry (suc d) (of (shape.name name)) x (suc v) b) (sym e)
-        (decodable registry (suc d) (of (shape.name name)) (tree.named t) k.sound.fit k.canonical (let z = k.sound.depth_holds in omega (arith, z)) k.sound.lengths k.range, omega (arith, h.1), h.2)
+        (decodable registry (suc d) (of (shape.name name)) (tree.named t) k.sound.fit k.canonical (let z = k.sound.depth_holds in omega (arith, z)) k.sound.lengths, omega (arith, h.1), h.2)
 
     named_from : (t : Tree) (v w : ℕ) (b : List ℕ) → IsDecodable registry (suc d) (of (shape.name name)) t → w ≡ nodes t
         → b ≡ plain registry t (of (shape.name name)) → (v : ℕ) × (w ≡ suc v) × Made tree.named (Here registry d Inside) t v b
     named_from (tree.named t) v w b h i j =
-        (nodes t, i, (t, (decodable registry d Inside t h.sound.fit h.canonical (let z = h.sound.depth_holds in omega (arith, z)) h.sound.lengths h.range, refl, j), refl))
+        (nodes t, i, (t, (decodable registry d Inside t h.sound.fit h.canonical (let z = h.sound.depth_holds in omega (arith, z)) h.sound.lengths, refl, j), refl))
     named_from _ v w b h i j = absurd (let e = h.sound.fit in cc)
 
   not_deep : (name : List ℕ) (t : Tree) → IsDecodable registry 0 (of (shape.name name)) t → ⊥

@@ -27,7 +27,7 @@ module _ (registry : Entries) (limits : Bounds) (s : Shape) where
       let whole : plain registry c (of s) ++ drop n b ≡ b = ap (λ (x : List ℕ). x ++ drop n b) (sym h.is) ∙ take-append-drop n b in
       let long : 0 + length (plain registry c (of s)) ≡ n = omega (arith, ap length h.is, length-take n b, h.within) in
       let left : nodes c + (limits.nodes - nodes c) ≡ limits.nodes = (let k = h.sound.nodes_hold in omega (arith, k)) in
-      let good = decodable registry limits.depth (of s) c h.sound.fit h.canonical h.sound.depth_holds h.sound.lengths h.range in
+      let good = decodable registry limits.depth (of s) c h.sound.fit h.canonical h.sound.depth_holds h.sound.lengths in
       let e = (exact_value registry limits.depth s).again 0 (limits.nodes - nodes c) c (nodes c) (plain registry c (of s)) (drop n b) (good, refl, refl) in
       rw (whole, long, left) at e
 
@@ -47,7 +47,6 @@ module _ (registry : Entries) (limits : Bounds) (s : Shape) where
           lengths = good.sound.lengths;
         };
         canonical = good.canonical;
-        range = good.range;
         within = omega (arith, ap length r.3, length-append r.1 t, r.4);
         is = ap (take n) r.3 ∙ take_at r.1 t n long ∙ r.2.2;
       }

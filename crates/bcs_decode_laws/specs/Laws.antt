@@ -10,7 +10,7 @@ use Rattle.bcs_value_laws.specs.Limits.{Bounds}
 use Rattle.bcs_encode_laws.specs.Encodes.{Encodes}
 use Rattle.bcs_decode_stops.specs.declared.reason.Reason.{Reason}
 use Rattle.bcs_decode_stops.specs.declared.reason.Reason.TheVariants.{EndOfInput, UnknownVariant}
-use Rattle.bcs_decode_laws.specs.Accepting.{IsInRange, Accepts}
+use Rattle.bcs_decode_laws.specs.Accepting.{Accepts}
 use Rattle.bcs_decode_laws.specs.Stopping.{Stops, StopsAll}
 use Rattle.bcs_decode_laws.specs.Exact.{AreBytes}
 
@@ -75,7 +75,7 @@ AcceptedIsEncoded = (registry : Entries) (limits : Bounds) (s : Shape) (b : List
 -- the bytes of a value are accepted, as its canonical form
 abbrev pub EncodedIsAccepted : Type 0
 EncodedIsAccepted = (registry : Entries) (limits : Bounds) (s : Shape) (v : Tree) (b : List ℕ)
-    → IsInRange v → Encodes registry limits s v b → (c : Tree) × Same v c × Accepts registry limits s b (length b) c
+    → Encodes registry limits s v b → (c : Tree) × Same v c × Accepts registry limits s b (length b) c
 
 -- ---- growth
 

@@ -2,7 +2,6 @@
 ghost use Rattle.std.specs.Prelude.{◌≡◌, ◌≢◌, IfErr, IfOk};
 ghost use Rattle.bcs_registry_formats.specs.Container.{of};
 ghost use Rattle.bcs_registry_formats.specs.View.{shape_of};
-ghost use Rattle.bcs_registry_formats.specs.WellFormed.{Admits};
 ghost use Rattle.bcs_value_tree.specs.View.{tree_of};
 ghost use Rattle.bcs_encode_laws.specs.Encodes.{Encodes};
 ghost use Rattle.bcs_encode_laws.specs.Refused.{IsSoundBesidesKeys, Refuses};
@@ -23,7 +22,6 @@ pub fn encode_by_entries(
     limits: &Limits,
     value: &Value,
 ) -> Result<Vec<u8>, EncodeFault>
-    requires { Admits registry.now (shape_of format.now) }
     ensures encoding { IfOk result (λ b. Encodes registry.now limits.now (shape_of format.now) (tree_of value.now) b.items) }
     ensures fault { IfErr result (λ e. e ≢ OutOfMemory → Refuses registry.now limits.now (shape_of format.now) (tree_of value.now) e) }
     ensures memory { IfErr result (λ e. e ≡ OutOfMemory → IsSoundBesidesKeys registry.now limits.now (shape_of format.now) (tree_of value.now)) }

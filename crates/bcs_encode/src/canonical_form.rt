@@ -2,7 +2,6 @@
 ghost use Rattle.std.specs.Prelude.{◌≡◌, ◌≢◌, IfErr, IfOk, OnOk};
 ghost use Rattle.bcs_registry_formats.specs.Container.{of};
 ghost use Rattle.bcs_registry_formats.specs.View.{shape_of};
-ghost use Rattle.bcs_registry_formats.specs.WellFormed.{Admits};
 ghost use Rattle.bcs_value_tree.specs.View.{tree_of};
 ghost use Rattle.bcs_encode_laws.specs.Encodes.{IsForm};
 ghost use Rattle.bcs_encode_laws.specs.Refused.{IsSoundBesidesKeys, Refuses};
@@ -24,7 +23,6 @@ pub fn canonicalise(
     limits: &Limits,
     value: &Value,
 ) -> Result<Value, EncodeFault>
-    requires { Admits registry.now (shape_of format.now) }
     ensures sound { OnOk result (IsSound registry.now limits.now (shape_of format.now) (tree_of value.now)) }
     ensures form { IfOk result (λ v. IsForm registry.now (of (shape_of format.now)) (tree_of value.now) (tree_of v)) }
     ensures fault { IfErr result (λ e. e ≢ OutOfMemory → Refuses registry.now limits.now (shape_of format.now) (tree_of value.now) e) }

@@ -1,7 +1,6 @@
 //! Writing a value's bytes to a sink.
 ghost use Rattle.std.specs.Prelude.{◌<◌, IfErr, OnOk, length, take};
 ghost use Rattle.bcs_registry_formats.specs.View.{shape_of};
-ghost use Rattle.bcs_registry_formats.specs.WellFormed.{Admits};
 ghost use Rattle.bcs_value_tree.specs.View.{tree_of};
 ghost use Rattle.bcs_encode_sinks.specs.Taking.{Lost, Took};
 ghost use Rattle.bcs_encode.specs.Wrote.{Wrote};
@@ -25,7 +24,6 @@ pub fn write<K: ByteSink>(
     value: &Value,
     sink: &mut K,
 ) -> Result<u64, WriteFault>
-    requires { Admits registry.now (shape_of format.now) }
     ensures { Wrote K.taken K.is_failed registry.now limits.now (shape_of format.now) (tree_of value.now) sink.old sink.new result }
 {
     let bytes = encode(alloc, registry, format, limits, value)?;

@@ -1,5 +1,5 @@
 -- The canonical form that is made by inserting pair after pair.
-use Rattle.std.proofs.Common.{◌≡◌, ℕ, suc, ◌+◌, max, Bool, true, false, not, ◌&&◌, ◌||◌, ◌==◌, List, [], ◌++◌, refl, sym, ap, ap₂, subst, ◌∙◌, arith, inl, inr}
+use Rattle.std.proofs.Common.{◌≡◌, ℕ, suc, ◌+◌, max, Bool, true, false, not, ◌&&◌, ◌||◌, ◌==◌, ◌^◌, nat_lt, List, [], ◌++◌, refl, sym, ap, ap₂, subst, ◌∙◌, arith, inl, inr}
 use Rattle.std.proofs.lemmas.Bool.{and_parts, and_from, or_left, or_right, cases_Bool, eq-eqb}
 use Rattle.bcs_value_tree.specs.Tree as tree
 use Rattle.bcs_value_tree.specs.Tree.{Tree, Trees, no_trees, tree, Pairs, no_pairs, pair, count, pair_count, depth, trees_depth, pairs_depth, nodes, trees_nodes, pairs_nodes}
@@ -7,6 +7,7 @@ use Rattle.bcs_registry_formats.specs.Shape as shape
 use Rattle.bcs_registry_formats.specs.Shape.{Shape, Shapes, no_shapes, shape}
 use Rattle.bcs_registry_formats.specs.Container.{Entries, Content, of, one_of, content_at, choice_at}
 use Rattle.bcs_value_laws.specs.Fits.{fits, all_fit, each_fits, pairs_fit}
+use Rattle.bcs_value_laws.proofs.VariantFits.{payload_fits}
 use Rattle.bcs_encode_laws.specs.Plain.{plain}
 use Rattle.bcs_value_laws.specs.Same.{same, all_same, is_within, has_pair, any_pair, all_pairs, distinct, all_distinct, pairs_distinct}
 use Rattle.bcs_encode_laws.specs.Canonical.{Below, Rises, RisesFrom, IsCanonical, AllCanonical, EachCanonical, PairsCanonical}
@@ -101,7 +102,7 @@ module _ (registry : Entries) where
     fits-form_of (tree.items ts) (of (shape.array f n)) = rw (count-items_form ts f, all_fit-items_form ts f) refl
     fits-form_of (tree.pairs ps) (of (shape.map k v)) = pairs_fit-pairs_form ps k v
     fits-form_of (tree.named t) (of (shape.name n)) = fits-form_of t (content_at n registry)
-    fits-form_of (tree.variant n t) (one_of cs) = fits-form_of t (choice_at n cs)
+    fits-form_of (tree.variant n t) (one_of cs) = ap (λ b. nat_lt n (2 ^ 32) && b) (fits-form_of t (choice_at n cs))
     fits-form_of t f = refl
 
     all_fit-items_form : (ts : Trees) (f : Shape) → all_fit false registry (items_form registry ts f) f ≡ all_fit false registry ts f
@@ -274,7 +275,7 @@ module _ (registry : Entries) where
     form_is_canonical (tree.items ts) (of (shape.array f n)) h d = items_form_are_canonical ts f (and_parts (count ts == n) (all_fit false registry ts f) h).1 d
     form_is_canonical (tree.pairs ps) (of (shape.map k v)) h d = pairs_form_is_canonical ps k v h d
     form_is_canonical (tree.named t) (of (shape.name n)) h d = form_is_canonical t (content_at n registry) h d
-    form_is_canonical (tree.variant n t) (one_of cs) h d = form_is_canonical t (choice_at n cs) h d
+    form_is_canonical (tree.variant n t) (one_of cs) h d = form_is_canonical t (choice_at n cs) (payload_fits false registry n t cs h) d
     form_is_canonical t f h d = tt
 
     items_form_are_canonical : (ts : Trees) (f : Shape) → all_fit false registry ts f ≡ true → all_distinct ts ≡ true → AllCanonical registry (items_form registry ts f) f

@@ -11,6 +11,7 @@ use Rattle.bcs_registry_formats.proofs.GrowthLaws.{HasChoices, StaysIn, content_
 use Rattle.bcs_value_tree.specs.Tree as tree
 use Rattle.bcs_value_tree.specs.Tree.{Tree, Trees, no_trees, tree, Pairs, no_pairs, pair, count, pair_count}
 use Rattle.bcs_value_laws.specs.Fits.{fits, all_fit, each_fits, pairs_fit}
+use Rattle.bcs_value_laws.proofs.VariantFits.{payload_fits}
 use Rattle.bcs_value_laws.proofs.Growth.{fits-grows}
 use Rattle.bcs_encode_laws.specs.Plain.{plain, plain_items, plain_each, plain_pairs}
 use Rattle.bcs_encode_laws.specs.Lengths.{lengths_hold, all_hold, each_holds, pairs_hold}
@@ -42,7 +43,7 @@ pub fitting_stays : (P : Tree → Content → Type 0)
 fitting_stays P between registry t (of s) (of u) e h p = subst (λ (x : Shape). P t (of x)) e p
 fitting_stays P between registry t (of s) (one_of ds) e h p = absurd e
 fitting_stays P between registry t (of s) nothing e h p = absurd e
-fitting_stays P between registry (tree.variant n u) (one_of cs) (one_of ds) e h p = between n u cs ds (variant_stays registry u n cs ds e h) p
+fitting_stays P between registry (tree.variant n u) (one_of cs) (one_of ds) e h p = between n u cs ds (variant_stays registry u n cs ds e (payload_fits false registry n u cs h)) p
 fitting_stays P between registry t (one_of cs) (of s) e h p = absurd e
 fitting_stays P between registry t (one_of cs) nothing e h p = absurd e
 fitting_stays P between registry _ _ _ e h p = absurd (search (false≢true))
@@ -65,7 +66,7 @@ module _ (older newer : Entries) (grows : Grows older newer) where
     plain_newer (tree.named t) (of (shape.name n)) h =
         fitting_stays (λ u g. plain newer u g ≡ plain older t (content_at n older)) (λ m u cs ds is p. ap (λ (g : Content). uleb m ++ plain newer u g) is ∙ p)
         older t (content_at n older) (content_at n newer) (content_at-grows older newer grows n) h (plain_newer t (content_at n older) h)
-    plain_newer (tree.variant n t) (one_of cs) h = ap (λ (b : List ℕ). uleb n ++ b) (plain_newer t (choice_at n cs) h)
+    plain_newer (tree.variant n t) (one_of cs) h = ap (λ (b : List ℕ). uleb n ++ b) (plain_newer t (choice_at n cs) (payload_fits false older n t cs h))
     plain_newer _ _ h = refl
 
     plain_items_newer : (ts : Trees) (s : Shape) → all_fit false older ts s ≡ true → plain_items newer ts s ≡ plain_items older ts s
@@ -113,7 +114,7 @@ module _ (older newer : Entries) (grows : Grows older newer) where
     canonical_newer (tree.named t) (of (shape.name n)) h c =
         fitting_stays (λ u g. IsCanonical newer u g) (λ m u cs ds is p. subst (λ (g : Content). IsCanonical newer u g) (sym is) p)
         older t (content_at n older) (content_at n newer) (content_at-grows older newer grows n) h (canonical_newer t (content_at n older) h c)
-    canonical_newer (tree.variant n t) (one_of cs) h c = canonical_newer t (choice_at n cs) h c
+    canonical_newer (tree.variant n t) (one_of cs) h c = canonical_newer t (choice_at n cs) (payload_fits false older n t cs h) c
     canonical_newer _ _ h c = tt
 
     all_canonical_newer : (ts : Trees) (s : Shape) → all_fit false older ts s ≡ true → AllCanonical older ts s → AllCanonical newer ts s
@@ -147,7 +148,7 @@ module _ (older newer : Entries) (grows : Grows older newer) where
       lengths_newer (tree.named t) (of (shape.name n)) h =
           fitting_stays (λ u g. lengths_hold limit newer u g ≡ lengths_hold limit older t (content_at n older)) (λ m u cs ds is p. ap (λ (g : Content). lengths_hold limit newer u g) is ∙ p)
           older t (content_at n older) (content_at n newer) (content_at-grows older newer grows n) h (lengths_newer t (content_at n older) h)
-      lengths_newer (tree.variant n t) (one_of cs) h = lengths_newer t (choice_at n cs) h
+      lengths_newer (tree.variant n t) (one_of cs) h = lengths_newer t (choice_at n cs) (payload_fits false older n t cs h)
       lengths_newer _ _ h = refl
 
       all_hold_newer : (ts : Trees) (s : Shape) → all_fit false older ts s ≡ true → all_hold limit newer ts s ≡ all_hold limit older ts s

@@ -4,6 +4,7 @@ pub mod FormLaws
 pub mod FormOf
 pub mod Growth
 pub mod PrefixLaws
+mod Refusals
 pub mod Sorting
 pub mod SoundForms
 pub mod UniqueForms

@@ -13,6 +13,7 @@ use Rattle.bcs_registry_formats.specs.Shape as shape
 use Rattle.bcs_registry_formats.specs.Shape.{Shape, Shapes, no_shapes, shape}
 use Rattle.bcs_registry_formats.specs.Container.{Entries, Content, of, one_of, content_at, choice_at}
 use Rattle.bcs_value_laws.specs.Fits.{fits, all_fit, each_fits, pairs_fit, is_signed_below}
+use Rattle.bcs_value_laws.proofs.VariantFits.{payload_fits}
 use Rattle.bcs_encode_laws.specs.Plain.{plain, plain_items, plain_each, plain_pairs, truth_byte}
 
 -- a number before the rest, on either side
@@ -83,7 +84,7 @@ module _ (registry : Entries) where
     plain_free (tree.variant m t) (one_of cs) (tree.variant n u) r s h g e =
         let p = number_free m n (plain registry t (choice_at m cs)) (plain registry u (choice_at n cs)) r s e in
         let is : n ≡ m = sym p.0 in
-        let q = plain_free t (choice_at m cs) u r s h (subst (λ (x : ℕ). fits false registry u (choice_at x cs) ≡ true) is g)
+        let q = plain_free t (choice_at m cs) u r s (payload_fits false registry m t cs h) (subst (λ (x : ℕ). fits false registry u (choice_at x cs) ≡ true) is (payload_fits false registry n u cs g))
         (p.1 ∙ ap (λ (x : ℕ). plain registry u (choice_at x cs) ++ s) is) in
         let c : t ≡ u = q.0 in
         let whole : tree.variant m t ≡ tree.variant n u = cc in

@@ -7,6 +7,7 @@ use Rattle.bcs_registry_formats.specs.Shape as shape
 use Rattle.bcs_registry_formats.specs.Shape.{Shape, Shapes, no_shapes, shape}
 use Rattle.bcs_registry_formats.specs.Container.{Entries, Content, of, one_of, content_at, choice_at}
 use Rattle.bcs_value_laws.specs.Fits.{fits, all_fit, each_fits, pairs_fit}
+use Rattle.bcs_value_laws.proofs.VariantFits.{payload_fits}
 use Rattle.bcs_encode_laws.specs.Plain.{plain}
 use Rattle.bcs_encode_laws.specs.Lengths.{lengths_hold, all_hold, each_holds, pairs_hold}
 use Rattle.bcs_value_laws.specs.Same.{same, all_pairs, distinct, all_distinct, pairs_distinct}
@@ -74,7 +75,7 @@ module _ (registry : Entries) where
     canonical_distinct (tree.items ts) (of (shape.tuple fs)) h c = canonical_each_distinct ts fs h c
     canonical_distinct (tree.items ts) (of (shape.array f n)) h c = canonical_all_distinct ts f (and_parts (count ts == n) (all_fit false registry ts f) h).1 c
     canonical_distinct (tree.pairs ps) (of (shape.map k v)) h c = canonical_pairs_distinct ps k v h c.0 c.1
-    canonical_distinct (tree.variant n t) (one_of cs) h c = canonical_distinct t (choice_at n cs) h c
+    canonical_distinct (tree.variant n t) (one_of cs) h c = canonical_distinct t (choice_at n cs) (payload_fits false registry n t cs h) c
     canonical_distinct (tree.variant n t) (of shape.unit) h c = absurd cc
     canonical_distinct (tree.named t) (of (shape.name n)) h c = canonical_distinct t (content_at n registry) h c
     canonical_distinct _ _ h c = cc

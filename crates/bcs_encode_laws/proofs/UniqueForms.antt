@@ -7,6 +7,7 @@ use Rattle.bcs_registry_formats.specs.Shape as shape
 use Rattle.bcs_registry_formats.specs.Shape.{Shape, Shapes, no_shapes, shape}
 use Rattle.bcs_registry_formats.specs.Container.{Entries, Content, of, one_of, content_at, choice_at}
 use Rattle.bcs_value_laws.specs.Fits.{fits, all_fit, each_fits, pairs_fit}
+use Rattle.bcs_value_laws.proofs.VariantFits.{payload_fits}
 use Rattle.bcs_encode_laws.specs.Plain.{plain}
 use Rattle.bcs_value_laws.specs.Same.{same, all_same, is_within, has_pair, any_pair, all_pairs}
 use Rattle.bcs_encode_laws.specs.Canonical.{Below, Rises, RisesFrom, IsCanonical, AllCanonical, EachCanonical, PairsCanonical}
@@ -94,7 +95,7 @@ module _ (registry : Entries) where
     canonical_same (tree.variant m a) (one_of cs) (tree.variant n b) h g c d e =
         let p = and_parts (m == n) (same a b) e in
         let q : n ≡ m = sym (nat-same m n p.0) in
-        let i = canonical_same a (choice_at m cs) b h (subst (λ (x : ℕ). fits false registry b (choice_at x cs) ≡ true) q g) c (subst (λ (x : ℕ). IsCanonical registry b (choice_at x cs)) q d) p.1 in
+        let i = canonical_same a (choice_at m cs) b (payload_fits false registry m a cs h) (subst (λ (x : ℕ). fits false registry b (choice_at x cs) ≡ true) q (payload_fits false registry n b cs g)) c (subst (λ (x : ℕ). IsCanonical registry b (choice_at x cs)) q d) p.1 in
         cc
     canonical_same (tree.pairs ps) (of (shape.map k v)) (tree.pairs qs) h g c d e =
         let p = and_parts (is_within ps qs) (all_pairs (has_pair ps) qs) e in

@@ -1,5 +1,5 @@
 -- What holds of the bytes of values and of their canonical forms.
-use Rattle.std.specs.Prelude.{◌≡◌, ◌↔◌, IsTrue, false, ℕ, List, ◌++◌}
+use Rattle.std.specs.Prelude.{◌≡◌, ◌↔◌, ◌⊎◌, IsTrue, false, ℕ, List, ◌++◌}
 use Rattle.bcs_registry_formats.specs.Shape.{Shape}
 use Rattle.bcs_registry_formats.specs.Container.{Entries, Content}
 use Rattle.bcs_registry_formats.specs.Grows.{Grows}
@@ -10,8 +10,10 @@ use Rattle.bcs_value_laws.specs.Limits.{Bounds}
 use Rattle.bcs_encode_laws.specs.Plain.{plain}
 use Rattle.bcs_encode_laws.specs.Canonical.{IsCanonical}
 use Rattle.bcs_encode_laws.specs.Lengths.{lengths_hold}
-use Rattle.bcs_encode_laws.specs.Sound.{IsSoundAt}
+use Rattle.bcs_encode_laws.specs.Sound.{IsSoundAt, IsSound}
+use Rattle.bcs_encode_laws.specs.Refused.{Refuses}
 use Rattle.bcs_encode_laws.specs.Encodes.{IsForm, Encodes}
+use Rattle.bcs_encode_laws.specs.declared.fault.EncodeFault.{EncodeFault}
 
 -- no value's bytes begin another's
 abbrev pub PrefixFree : Type 0
@@ -39,6 +41,17 @@ OneCanonicalForm = (registry : Entries) (f : Content) (t : Tree)
 abbrev pub BytesDecide : Type 0
 BytesDecide = (registry : Entries) (limits : Bounds) (s : Shape) (v w : Tree) (b c : List ℕ)
     → Encodes registry limits s v b → Encodes registry limits s w c → Same v w ↔ (b ≡ c)
+
+-- no tree is refused for two reasons
+abbrev pub OneRefusal : Type 0
+OneRefusal = (registry : Entries) (limits : Bounds) (s : Shape) (t : Tree) (a b : EncodeFault)
+    → Refuses registry limits s t a → Refuses registry limits s t b → a ≡ b
+
+-- each tree is either sound, or refused for some reason
+abbrev pub RefusedOrSound : Type 0
+RefusedOrSound = (registry : Entries) (limits : Bounds) (s : Shape) (t : Tree)
+    → (IsSound registry limits s t ⊎ ((reason : EncodeFault) × Refuses registry limits s t reason))
+    × ((reason : EncodeFault) → IsSound registry limits s t → Refuses registry limits s t reason → ⊥)
 
 -- what is sound at a registry is sound at one that it grows to
 abbrev pub GrowthKeepsSoundness : Type 0

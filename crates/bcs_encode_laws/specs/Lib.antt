@@ -4,6 +4,6 @@ pub mod Lengths
 pub mod Sound
 pub mod Encodes
 pub mod Entries
+pub mod Refused
 pub mod Laws
 pub mod FormOf
-pub mod Refused

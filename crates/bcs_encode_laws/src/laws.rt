@@ -1,6 +1,6 @@
 //! What holds of the bytes of values. Each law is the contract of a call that does nothing.
 ghost use Rattle.bcs_encode_laws.specs.Entries.{SortedEntries, TwinsRepeat};
-ghost use Rattle.bcs_encode_laws.specs.Laws.{BytesDecide, GrowthKeepsBytes, GrowthKeepsEncodings, GrowthKeepsOrder, GrowthKeepsSoundness, OneCanonicalForm, PrefixFree};
+ghost use Rattle.bcs_encode_laws.specs.Laws.{BytesDecide, GrowthKeepsBytes, GrowthKeepsEncodings, GrowthKeepsOrder, GrowthKeepsSoundness, OneCanonicalForm, OneRefusal, PrefixFree, RefusedOrSound};
 
 /// No value's bytes begin another's.
 pub fn prefix_free()
@@ -26,6 +26,16 @@ pub fn sorted_entries()
 /// Where two neighbours then have one key, a key stands twice in the map.
 pub fn twins_repeat()
     ensures { TwinsRepeat }
+{}
+
+/// No value is refused for two reasons.
+pub fn one_refusal()
+    ensures { OneRefusal }
+{}
+
+/// Each value is either sound or refused for some reason, and never both.
+pub fn refused_or_sound()
+    ensures { RefusedOrSound }
 {}
 
 /// What is sound at a registry is sound at one that it grows to.

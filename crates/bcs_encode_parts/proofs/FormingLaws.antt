@@ -12,6 +12,7 @@ use Rattle.bcs_registry_formats.specs.Container.{Entries, Content, of, one_of, c
 use Rattle.bcs_value_tree.specs.Tree as tree
 use Rattle.bcs_value_tree.specs.Tree.{Tree, Trees, no_trees, tree, Pairs, no_pairs, pair, count, pair_count}
 use Rattle.bcs_value_laws.specs.Fits.{fits, all_fit, each_fits, pairs_fit}
+use Rattle.bcs_value_laws.proofs.VariantFits.{payload_fits}
 use Rattle.bcs_value_laws.specs.Same.{all_pairs, distinct, all_distinct}
 use Rattle.bcs_value_tree.specs.View.{trees_of, pairs_of}
 use Rattle.bcs_encode_laws.specs.Canonical.{Below}
@@ -121,7 +122,7 @@ module _ (registry : Entries) where
         let p = and_parts (nat_le (pair_count ps) length_limit) (pairs_hold length_limit registry ps k v) l in
         ap tree.pairs (ap (λ (es : List Keyed). pairs_of (pairs_in_order es)) (keyed_are_forms ps k v [] h p.1 (parts_of_distinct ps d)) ∙ pairs_in_order_forms registry k v ps)
     formed_is_form (tree.named t) (of (shape.name n)) h l d = ap tree.named (formed_is_form t (content_at n registry) h l d)
-    formed_is_form (tree.variant n t) (one_of cs) h l d = ap (tree.variant n) (formed_is_form t (choice_at n cs) h l d)
+    formed_is_form (tree.variant n t) (one_of cs) h l d = ap (tree.variant n) (formed_is_form t (choice_at n cs) (payload_fits false registry n t cs h) l d)
     formed_is_form t f h l d = refl
 
     items_are_forms : (ts : Trees) (s : Shape) (us : List Tree) → all_fit false registry ts s ≡ true → all_hold length_limit registry ts s ≡ true → all_distinct ts ≡ true

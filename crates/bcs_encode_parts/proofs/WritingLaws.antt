@@ -10,6 +10,7 @@ use Rattle.bcs_registry_formats.specs.Container.{Entries, Content, of, one_of, c
 use Rattle.bcs_value_tree.specs.Tree as tree
 use Rattle.bcs_value_tree.specs.Tree.{Tree, Trees, no_trees, tree, Pairs, no_pairs, pair, count, pair_count}
 use Rattle.bcs_value_laws.specs.Fits.{fits, all_fit, each_fits, pairs_fit}
+use Rattle.bcs_value_laws.proofs.VariantFits.{payload_fits}
 use Rattle.bcs_value_laws.specs.Same.{same, all_pairs, distinct, all_distinct, pairs_distinct}
 use Rattle.bcs_encode_laws.specs.Lengths.{length_limit, lengths_hold, all_hold, each_holds, pairs_hold}
 use Rattle.bcs_encode_laws.specs.Plain.{plain, plain_items, plain_each}
@@ -155,7 +156,7 @@ module _ (registry : Entries) where
         (map_told ps k v b (entries_written registry ps k v []) h (entries_told ps k v [] h p.1))
     written_told (tree.named t) (of (shape.name n)) b h g = written_told t (content_at n registry) b h g
     written_told (tree.variant n t) (one_of cs) b h g =
-        told_good (distinct t) _ _ (written registry t (choice_at n cs) (b ++ uleb n)) (append_assoc b (uleb n) (plain registry (form_of registry t (choice_at n cs)) (choice_at n cs))) (written_told t (choice_at n cs) (b ++ uleb n) h g)
+        told_good (distinct t) _ _ (written registry t (choice_at n cs) (b ++ uleb n)) (append_assoc b (uleb n) (plain registry (form_of registry t (choice_at n cs)) (choice_at n cs))) (written_told t (choice_at n cs) (b ++ uleb n) (payload_fits false registry n t cs h) g)
     written_told (tree.variant n t) (of shape.unit) b h g = absurd (false≢true h)
     written_told t f b h g = absurd (search (false≢true))
 

@@ -1,7 +1,7 @@
 //! Formats of plain numbers.
 ghost use Rattle.std.specs.Prelude.{◌≡◌, IfSome};
 ghost use Rattle.bcs_registry_formats.specs.View.{shape_of};
-ghost use Rattle.bcs_encode_parts.specs.NumberShape.{number_shape};
+ghost use Rattle.bcs_encode_parts.specs.NumberShape.{number_len, number_shape};
 
 use bcs_num::Width;
 use bcs_registry_formats::Format;
@@ -34,7 +34,9 @@ impl NumberFormat {
     }
 
     /// How many bytes each number has.
-    pub fn byte_count(self) -> usize {
+    pub fn byte_count(self) -> usize
+        ensures { result ≡ number_len self }
+    {
         let (NumberFormat::Unsigned(width) | NumberFormat::Signed(width)) = self;
         match width {
             Width::W1 => 1,

@@ -1,5 +1,6 @@
 //! The bytes of values that have no parts.
-ghost use Rattle.std.specs.Prelude.{◌≡◌, ◌++◌, ◌∷◌, ◌^◌, [], Ok, nat_lt};
+ghost use Rattle.std.specs.Prelude.{◌≡◌, ◌+◌, ◌<◌, ◌≤◌, ◌++◌, ◌∷◌, ◌^◌, [], Ok, nat_lt, vec_capacity, vec_len, IsErrOf, OnOk};
+ghost use Rattle.std.specs.Int.{byte_len};
 ghost use mir.Val.{bits, hbits};
 ghost use Rattle.bcs_num.specs.Le.{width_of};
 ghost use Rattle.bcs_num.specs.Uleb.{uleb};
@@ -49,10 +50,15 @@ pub fn put_bytes(bytes: &[u8], out: &mut Vec<u8>) -> Result<(), EncodeFault>
     Ok(())
 }
 
-/// Appends an unsigned number in its width, or refuses one that the width can't hold.
+/// Appends an unsigned number in its width, or refuses one that the width can't hold. No memory is asked for where the
+/// vector has room for as many bytes.
 #[tactic(auto, using(crate::proofs::NumberViews::one_byte))]
 pub fn put_unsigned(width: Width, number: u128, out: &mut Vec<u8>) -> Result<(), EncodeFault>
-    ensures { Tells result (unsigned_written (width_of width) number out.old.items) out.new.items }
+    ensures tells { Tells result (unsigned_written (width_of width) number out.old.items) out.new.items }
+    ensures len { OnOk result (vec_len out.new ≡ vec_len out.old + byte_len (width_of width)) }
+    ensures capacity { vec_capacity out.old ≤ vec_capacity out.new }
+    ensures full { IsErrOf result EncodeFault.OutOfMemory
+        → vec_capacity out.old < vec_len out.old + byte_len (width_of width) }
 {
     if !is_unsigned(width, number) {
         return Err(EncodeFault::NotOfFormat);
@@ -67,9 +73,14 @@ pub fn put_unsigned(width: Width, number: u128, out: &mut Vec<u8>) -> Result<(),
     Ok(())
 }
 
-/// Appends a signed number in its width, or refuses one that the width can't hold.
+/// Appends a signed number in its width, or refuses one that the width can't hold. No memory is asked for where the
+/// vector has room for as many bytes.
 pub fn put_signed(width: Width, number: i128, out: &mut Vec<u8>) -> Result<(), EncodeFault>
-    ensures { Tells result (signed_written (width_of width) number out.old.items) out.new.items }
+    ensures tells { Tells result (signed_written (width_of width) number out.old.items) out.new.items }
+    ensures len { OnOk result (vec_len out.new ≡ vec_len out.old + byte_len (width_of width)) }
+    ensures capacity { vec_capacity out.old ≤ vec_capacity out.new }
+    ensures full { IsErrOf result EncodeFault.OutOfMemory
+        → vec_capacity out.old < vec_len out.old + byte_len (width_of width) }
 {
     if !is_signed(width, number) {
         return Err(EncodeFault::NotOfFormat);

@@ -10,7 +10,7 @@ groups zero n = n ∷ []
 groups (suc k) n = if nat_lt n 128 then n ∷ [] else (128 + n % 128) ∷ groups k (n / 128)
 
 -- n alone below 128, else a byte of the high bit and the lowest seven bits of n, and then the bytes
--- of n / 128. The bound never cuts: `uleb-low` and `uleb-more` of `UlebLaws` say so, without it.
+-- of n / 128. The bound never cuts: the law `UlebByBytes` says so, without it.
 unfoldable pub uleb : ℕ → List ℕ
 uleb n = groups n n
 

@@ -4,6 +4,7 @@
 
 mod decimal;
 mod fault;
+pub mod laws;
 mod little_endian;
 mod uleb;
 mod width;

@@ -6,6 +6,7 @@ pub use Rattle.bcs_registry_formats.specs.WellFormed
 pub use Rattle.bcs_registry_formats.specs.Breaks
 pub use Rattle.bcs_registry_formats.specs.Grows
 pub use Rattle.bcs_registry_formats.specs.Order
+pub use Rattle.bcs_registry_formats.specs.Ranges
 pub use Rattle.bcs_registry_formats.specs.Laws
 pub use Rattle.bcs_registry_text.specs.Json
 pub use Rattle.bcs_registry_text.specs.Shown

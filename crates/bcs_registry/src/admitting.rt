@@ -1,6 +1,7 @@
 //! Which formats may be used with a registry.
 ghost use Rattle.std.specs.Prelude.{◌≡◌, OnOk, IfErr};
 ghost use Rattle.bcs_registry_formats.specs.Breaks.{FormatBreaks};
+ghost use Rattle.bcs_registry_formats.specs.Ranges.{IsOrderly};
 ghost use Rattle.bcs_registry_formats.specs.View.{shape_of};
 ghost use Rattle.bcs_registry_formats.specs.WellFormed.{admits, Admits};
 
@@ -13,9 +14,11 @@ impl Registry {
     /// Whether the format may be used with this registry: it has at most 32 levels, and each
     /// `TypeName` in it is a name of the registry.
     pub fn admits(&self, format: &Format) -> bool
-        ensures { result ≡ admits self.now (shape_of format.now) }
+        ensures answer { result ≡ admits self.now (shape_of format.now) }
+        ensures orderly { IsOrderly self.now }
     {
-        has_few_levels(format) && is_known(format, self.containers())
+        let containers = self.containers();
+        has_few_levels(format) && is_known(format, containers)
     }
 
     /// Refuses a format that isn't admitted, by the first rule that it breaks: `TooNested`, then

@@ -1,6 +1,7 @@
 //! Whether containers make a registry.
-ghost use Rattle.std.specs.Prelude.{◌≡◌, ◌≢◌, IfOk, IfErr};
+ghost use Rattle.std.specs.Prelude.{◌≡◌, ◌≢◌, ◌↔◌, IfOk, IfErr, IsErrOf};
 ghost use Rattle.bcs_registry_formats.specs.Breaks.{Breaks};
+ghost use Rattle.bcs_registry_formats.specs.Ranges.{IsOrderly};
 ghost use Rattle.bcs_registry_formats.specs.View.{entries_of};
 ghost use Rattle.bcs_registry_formats.specs.WellFormed.{IsWellFormed};
 
@@ -12,14 +13,18 @@ use std::alloc::Global;
 use std::collections::BTreeMap;
 
 /// The registry of these containers, where it is well-formed. Else the first rule that is broken
-/// somewhere decides: `TooNested`, then `RepeatedName`, then `UnknownName`.
+/// somewhere decides: `TooNested`, then `RepeatedName`, then `UnknownName`. No memory is asked for before the levels
+/// are judged, so `TooNested` comes exactly where they don't hold.
 pub(crate) fn checked(
     alloc: Global,
     containers: BTreeMap<String, Container>,
 ) -> Result<Registry, RegistryFault>
+    requires { IsOrderly (entries_of containers.entries) }
     ensures ok { IfOk result (λ r. (r ≡ entries_of containers.entries) × IsWellFormed r) }
     ensures fault { IfErr result (λ e. e ≢ RegistryFault.OutOfMemory
         → Breaks (entries_of containers.entries) e) }
+    ensures too_nested { IsErrOf result RegistryFault.TooNested
+        ↔ Breaks (entries_of containers.entries) RegistryFault.TooNested }
 {
     if !all_keep(&containers, Rule::FewLevels) {
         return Err(RegistryFault::TooNested);

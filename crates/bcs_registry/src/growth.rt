@@ -1,7 +1,8 @@
 //! Whether a registry grew to another.
-ghost use Rattle.std.specs.Prelude.{◌↔◌, IsOk, IsErrOf};
+ghost use Rattle.std.specs.Prelude.{◌↔◌, All, IsOk, IsErrOf};
 ghost use Rattle.bcs_registry_formats.specs.Grows.{Grows, IsFirstGrowthFault};
 ghost use Rattle.bcs_registry_formats.specs.Order.{NamesRise};
+ghost use Rattle.bcs_registry_formats.specs.Ranges.{IsOrderly, NumbersRise};
 
 use crate::registry::Registry;
 use bcs_registry_formats::GrowthFault;
@@ -14,6 +15,9 @@ impl Registry {
     pub fn grows(&self, newer: &Registry) -> Result<(), GrowthFault>
         // The containers stand by rising name, so the first of them has the least.
         ensures rising { NamesRise self.now }
+        // The variants of each enum stand by rising number, so the first of them has the least.
+        ensures upwards { All (λ e. NumbersRise e.1) self.now }
+        ensures orderly { IsOrderly self.now × IsOrderly newer.now }
         ensures ok { IsOk result ↔ Grows self.now newer.now }
         ensures fault { (e : GrowthFault)
             → IsErrOf result e ↔ IsFirstGrowthFault self.now newer.now e }

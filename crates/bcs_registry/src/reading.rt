@@ -2,6 +2,7 @@
 ghost use Rattle.std.specs.Prelude.{◌≡◌, ◌≢◌, IfErr, IfOk};
 ghost use Rattle.serde_json.specs.View.{view};
 ghost use Rattle.bcs_registry_laws.specs.Faults.{IsLeastFault, IsLeastFormatFault};
+ghost use Rattle.bcs_registry_formats.specs.Ranges.{IsOrderly};
 ghost use Rattle.bcs_registry_text.specs.Parts.{IsLeastFaultBy};
 ghost use Rattle.bcs_registry_text.specs.Shaped.{is_format, is_registry};
 ghost use Rattle.bcs_registry_text.specs.Text.{IsFormatText, IsRegistryText, WritesFormat, WritesRegistry};
@@ -25,6 +26,7 @@ impl Registry {
     /// `OutOfMemory` comes where memory ran out, before any fault that would be found later.
     pub fn read(alloc: Global, text: &[u8]) -> Result<Registry, RegistryFault>
         ensures ok { IfOk result (λ r. WritesRegistry text.now r × IsWellFormed r) }
+        ensures orderly { IfOk result IsOrderly }
         ensures fault { IfErr result (λ e. e ≢ RegistryFault.OutOfMemory → IsLeastFault text.now e) }
     {
         let value = read_json(alloc, text)?;

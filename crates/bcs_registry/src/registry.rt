@@ -1,6 +1,7 @@
 //! Registries: containers by name.
 ghost use Rattle.std.specs.Prelude.{◌≡◌, option_map, length, string_bytes, IfOk};
 ghost use Rattle.bcs_registry_formats.specs.Container.{Entries, container_at};
+ghost use Rattle.bcs_registry_formats.specs.Ranges.{IsOrderly};
 ghost use Rattle.bcs_registry_text.specs.Shown.{shown};
 ghost use Rattle.bcs_registry_text.specs.Text.{WritesRegistry};
 ghost use Rattle.bcs_registry_formats.specs.View.{container_of, entries_of};
@@ -14,7 +15,8 @@ use std::collections::BTreeMap;
 use std::marker::Model;
 
 /// A finite map from names to containers, which is well-formed for good: every `TypeName` is a name of the map, every
-/// format has at most 32 levels, and names are distinct within a struct, a struct payload and an enum.
+/// format has at most 32 levels, and names are distinct within a struct, a struct payload and an enum. It is orderly
+/// too: names rise by their bytes, an enum's numbers rise and are below 2^32, and each `SIZE` is below 2^64.
 #[derive(Drop)]
 pub struct Registry {
     containers: BTreeMap<String, Container>,
@@ -22,6 +24,7 @@ pub struct Registry {
 
 impl Model for Registry {
     ghost use Rattle.bcs_registry_formats.specs.Container.{Entries};
+    ghost use Rattle.bcs_registry_formats.specs.Ranges.{IsOrderly};
     ghost use Rattle.bcs_registry_formats.specs.View.{entries_of};
     ghost use Rattle.bcs_registry_formats.specs.WellFormed.{IsWellFormed};
     ghost use Rattle.std.specs.Coded.{codes};
@@ -33,7 +36,8 @@ impl Model for Registry {
 
     ghost view = { λ r. entries_of r.containers.entries };
 
-    ghost invariant = { λ r. IsWellFormed (entries_of r.containers.entries) };
+    ghost invariant = { λ r.
+        IsWellFormed (entries_of r.containers.entries) × IsOrderly (entries_of r.containers.entries) };
 }
 
 impl Registry {
@@ -41,27 +45,31 @@ impl Registry {
     pub fn container(&self, name: &str) -> Option<&Container>
         ensures found { option_map (λ c. container_of c.now) result ≡ container_at name.now self.now }
         ensures well_formed { IsWellFormed self.now }
+        ensures orderly { IsOrderly self.now }
     {
         self.containers.get(name)
     }
 
     /// How many containers there are.
     pub fn len(&self) -> usize
-        ensures { result ≡ length self.now }
+        ensures length { result ≡ length self.now }
+        ensures orderly { IsOrderly self.now }
     {
         self.containers.len()
     }
 
     /// The containers by name.
     pub(crate) fn containers(&self) -> &BTreeMap<String, Container>
-        ensures { entries_of result.now.entries ≡ self.now }
+        ensures is { entries_of result.now.entries ≡ self.now }
+        ensures orderly { IsOrderly self.now }
     {
         &self.containers
     }
 
     /// The registry of these containers.
     pub(crate) fn of(containers: BTreeMap<String, Container>) -> Registry
-        requires { IsWellFormed (entries_of containers.entries) }
+        requires well_formed { IsWellFormed (entries_of containers.entries) }
+        requires orderly { IsOrderly (entries_of containers.entries) }
         ensures { result ≡ entries_of containers.entries }
     {
         Registry { containers }

@@ -6,5 +6,6 @@ pub mod Sameness
 pub mod FirstFaults
 pub mod GrowthSteps
 pub mod Rising
+pub mod Ranges
 pub mod Admitted
 pub mod GrowthLaws

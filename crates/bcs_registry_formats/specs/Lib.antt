@@ -8,4 +8,5 @@ pub mod Equality
 pub mod Growing
 pub mod Grows
 pub mod Order
+pub mod Ranges
 pub mod Laws

@@ -66,7 +66,7 @@ verdict_of _ = written
 -- ---- registries
 
 shaped_registry : (loose : Bool) (d : Data) (r : Entries) → IsRegistryText d r → is_registry loose d ≡ true
-shaped_registry loose d r is = ap (is_registry loose) is.is ∙ registry_shaped loose r is.containers
+shaped_registry loose d r is = ap (is_registry loose) is.is ∙ registry_shaped loose r is.orderly.containers
 
 abbrev RegistryIs : List ℕ → Verdict → Type 0
 RegistryIs = Is Entries IsRegistryText (λ loose. is_registry loose) shaped_registry

@@ -16,7 +16,7 @@ use Rattle.serde_json.specs.Find.{get_member}
 use Rattle.bcs_registry_formats.specs.Container as container
 use Rattle.bcs_registry_formats.specs.Container.{Choice, Container, Entries, Payload}
 use Rattle.bcs_registry_text.specs.Shown.{shown_choices, shown_container, shown_containers}
-use Rattle.bcs_registry_text.specs.Text.{IsInRange}
+use Rattle.bcs_registry_formats.specs.Ranges.{IsInRange}
 use Rattle.bcs_registry_text.specs.Json.{IsJson}
 use Rattle.bcs_registry_formats.specs.Shape.{Shape}
 use Rattle.bcs_registry_text.specs.Text.{IsFormatText, IsRegistryText, WritesFormat, WritesRegistry}
@@ -122,7 +122,7 @@ one_map (e ∷ es) (f ∷ fs) h i same =
 pub one_registry : OneRegistry
 one_registry d r q is other =
     let same : object (shown_containers r) ≡ object (shown_containers q) = sym is.is ∙ other.is in
-    one_map r q is.containers other.containers cc
+    one_map r q is.orderly.containers other.orderly.containers cc
 
 -- ---- texts
 

@@ -10,7 +10,7 @@ use Rattle.bcs_registry_formats.specs.Container.{Choice, Container, Entries, Fie
 use Rattle.bcs_registry_formats.specs.Shape.{Shape, unit, truth, unsigned, signed, unsupported, float32, float64, character, text, bytes, name, option, seq, map, tuple, array, Shapes, no_shapes, shape}
 use Rattle.bcs_registry_text.specs.Shaped.{all_fields, all_variants, are_formats, is_container, is_format, is_payload, is_registry, is_variant, is_variant_number}
 use Rattle.bcs_registry_text.specs.Shown.{shown, shown_choices, shown_container, shown_fields, shown_format, shown_formats, shown_payload, single}
-use Rattle.bcs_registry_text.specs.Text.{IsInRange, all_sizes_fit, payload_sizes_fit, sizes_fit}
+use Rattle.bcs_registry_formats.specs.Ranges.{IsInRange, all_sizes_fit, payload_sizes_fit, sizes_fit}
 use Rattle.bcs_registry_text.proofs.TwoTests.{and-true_parts, or-true_right}
 use Rattle.bcs_registry_text.proofs.VariantNumbers.{a_number}
 use Rattle.bcs_registry_text.proofs.Choices.{has_number, has_sizes, numbered_below}

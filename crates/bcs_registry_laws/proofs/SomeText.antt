@@ -15,7 +15,8 @@ use Rattle.bcs_registry_text.specs.Parts.{IsContainerText, IsFieldText, IsFields
 use Rattle.bcs_registry_formats.specs.Shape.{Shape, unit, name, option, seq, map, tuple, array}
 use Rattle.bcs_registry_text.specs.Shaped.{all_containers, all_fields, all_variants, are_fields, are_formats, are_variants, format_named, is_container, is_field, is_format, is_map, is_payload, is_registry, is_size, is_text, is_tuple, is_tuple_array, is_variant, is_variant_number}
 use Rattle.bcs_registry_text.specs.Shown.{shown_choices, shown_container, shown_containers, shown_fields, shown_format, shown_formats, single}
-use Rattle.bcs_registry_text.specs.Text.{IsFormatText, IsInRange, IsRegistryText, NumbersRise, all_sizes_fit, container_sizes_fit, numbers_fit, sizes_fit}
+use Rattle.bcs_registry_formats.specs.Ranges.{IsInRange, NumbersRise, all_sizes_fit, container_sizes_fit, numbers_fit, sizes_fit}
+use Rattle.bcs_registry_text.specs.Text.{IsFormatText, IsRegistryText}
 use Rattle.bcs_registry_laws.specs.TextLaws.{SomeFormat, SomeRegistry}
 use Rattle.bcs_registry_laws.proofs.Back.{array_in, each_field, each_format, field_in, fields_in, format_in, formats_in, map_in, payload_in, size_in, text_in, variant_in}
 use Rattle.bcs_registry_text.proofs.Choices.{has_number, has_sizes, insert_all, insert_rises, insert_shown, numbered_below}
@@ -266,8 +267,10 @@ some_registry (object ms) rising h =
       entries_in ms,
       record {
         is = ap object w.0;
-        names = subst (λ (ns : List (List ℕ)). IsStrictlySortedBy (slice_cmp nat_cmp) ns) (sym (names_same ms)) rising.0;
-        containers = w.1;
+        orderly = record {
+          names = subst (λ (ns : List (List ℕ)). IsStrictlySortedBy (slice_cmp nat_cmp) ns) (sym (names_same ms)) rising.0;
+          containers = w.1;
+        };
       },
     )
 some_registry _ rising h = absurd (false≢true h)

@@ -12,7 +12,7 @@ use Rattle.std.specs.Ordering.{match_ordering}
 use Rattle.serde_json.specs.Data.{Data, put}
 use Rattle.bcs_registry_formats.specs.Container.{Choice, Payload}
 use Rattle.bcs_registry_text.specs.Shown.{shown_choices, shown_payload, single}
-use Rattle.bcs_registry_text.specs.Text.{payload_sizes_fit}
+use Rattle.bcs_registry_formats.specs.Ranges.{payload_sizes_fit}
 use Rattle.bcs_registry_text.proofs.Puts.{put_again, put_either}
 use Rattle.bcs_registry_text.proofs.RisingMembers.{sorted_inserted}
 use Rattle.bcs_registry_text.proofs.TwoTests.{and-true_parts}

@@ -7,7 +7,7 @@ use Rattle.serde_json.specs.View.{items_of, items_view, view}
 use Rattle.serde_json.specs.declared.value.Value as json
 use Rattle.bcs_registry_formats.specs.Container.{Field}
 use Rattle.bcs_registry_text.specs.Parts.{IsFieldsText}
-use Rattle.bcs_registry_text.specs.Text.{sizes_fit}
+use Rattle.bcs_registry_formats.specs.Ranges.{sizes_fit}
 use Rattle.bcs_registry_formats.specs.View.{field_of, shape_of}
 use Rattle.bcs_registry_formats.specs.declared.format.Format.{Format}
 use Rattle.bcs_registry_formats.specs.declared.named.Named.{Named}

@@ -12,7 +12,8 @@ use Rattle.bcs_registry_formats.specs.Container as container
 use Rattle.bcs_registry_text.specs.Parts.{IsContainerText, IsFaultBy}
 use Rattle.bcs_registry_text.specs.Shaped.{all_containers, is_container, is_registry}
 use Rattle.bcs_registry_text.specs.Shown.{shown_container, shown_containers}
-use Rattle.bcs_registry_text.specs.Text.{IsInRange, IsRegistryText}
+use Rattle.bcs_registry_formats.specs.Ranges.{IsInRange}
+use Rattle.bcs_registry_text.specs.Text.{IsRegistryText}
 use Rattle.bcs_registry_formats.specs.View.{container_of, entries_of}
 use Rattle.bcs_registry_formats.specs.declared.container.Container.{Container}
 use Rattle.bcs_registry_formats.specs.declared.fault.RegistryFault.{RegistryFault}
@@ -56,8 +57,7 @@ pub record ContainersRead (d : Data) (rest : List Entry) (es : List Stored) : Ty
 pub registry_written : (d : Data) (rest : List Entry) (es : List Stored) → ContainersRead d rest es → rest ≡ [] → IsRegistryText d (entries_of es)
 registry_written d rest es is none = record {
   is = all_read d rest (shown_containers (entries_of es)) is.read none;
-  names = names_rise es is.names;
-  containers = is.ranges;
+  orderly = record { names = names_rise es is.names; containers = is.ranges };
 }
 
 pub one_container : (d : Data) (rest left : List Entry) (e : Entry) (es more : List Stored) (k : String Global) (v : Container) → ContainersRead d rest es → rest ≡ e ∷ left

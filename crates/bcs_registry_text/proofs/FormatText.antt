@@ -11,7 +11,8 @@ use Rattle.bcs_registry_text.specs.Parts.{IsTupleText}
 use Rattle.bcs_registry_formats.specs.Shape.{Shape}
 use Rattle.bcs_registry_text.specs.Shaped.{format_named, format_words, word_among}
 use Rattle.bcs_registry_text.specs.Shown.{shown_format}
-use Rattle.bcs_registry_text.specs.Text.{IsFormatText, all_sizes_fit, sizes_fit}
+use Rattle.bcs_registry_formats.specs.Ranges.{all_sizes_fit, sizes_fit}
+use Rattle.bcs_registry_text.specs.Text.{IsFormatText}
 use Rattle.bcs_registry_formats.specs.View.{formats_shapes, shape_of}
 use Rattle.bcs_registry_formats.specs.declared.fault.RegistryFault.{RegistryFault}
 use Rattle.bcs_registry_formats.specs.declared.format.Format.{Format}

@@ -5,7 +5,7 @@ use Rattle.serde_json.specs.Data.{Data, array, object}
 use Rattle.bcs_registry_formats.specs.Container.{Choice, Container, Field, Payload, enumeration}
 use Rattle.bcs_registry_formats.specs.Shape.{Shapes}
 use Rattle.bcs_registry_text.specs.Shown.{shown_choices, shown_container, shown_fields, shown_format, shown_formats, shown_payload, single}
-use Rattle.bcs_registry_text.specs.Text.{IsInRange, all_sizes_fit, payload_sizes_fit, sizes_fit}
+use Rattle.bcs_registry_formats.specs.Ranges.{IsInRange, all_sizes_fit, payload_sizes_fit, sizes_fit}
 use Rattle.bcs_registry_formats.specs.declared.fault.RegistryFault.{RegistryFault}
 use Rattle.bcs_registry_formats.specs.declared.fault.RegistryFault.TheVariants.{BadNumber, BadShape, OutOfMemory}
 

@@ -1,5 +1,5 @@
 -- What fits at a registry fits at one that it grew to.
-use Rattle.std.proofs.Common.{◌≡◌, ℕ, Bool, true, ◌&&◌, ◌==◌, List, refl, sym, subst, ◌∙◌}
+use Rattle.std.proofs.Common.{◌≡◌, ℕ, Bool, true, ◌&&◌, ◌==◌, ◌^◌, nat_lt, List, refl, sym, subst, ◌∙◌}
 use Rattle.std.proofs.lemmas.Bool.{false≢true, and_parts, and_from}
 use Rattle.bcs_registry_formats.specs.Shape as shape
 use Rattle.bcs_registry_formats.specs.Shape.{Shape, Shapes, no_shapes, shape}
@@ -20,7 +20,7 @@ module _ (loose : Bool) (r : Entries) where
   stays t s nothing e h = absurd e
 
   -- and so it is with the variants
-  choices_stay : (n : ℕ) (t : Tree) (cs : List Choice) (d : Content) → StaysIn (one_of cs) d → ((ds : List Choice) → HasChoices cs ds → fits loose r t (choice_at n ds) ≡ true) → fits loose r (tree.variant n t) d ≡ true
+  choices_stay : (n : ℕ) (t : Tree) (cs : List Choice) (d : Content) → StaysIn (one_of cs) d → ((ds : List Choice) → HasChoices cs ds → fits loose r (tree.variant n t) (one_of ds) ≡ true) → fits loose r (tree.variant n t) d ≡ true
   choices_stay n t cs (one_of ds) e h = h ds e
   choices_stay n t cs (of u) e h = absurd e
   choices_stay n t cs nothing e h = absurd e
@@ -35,8 +35,8 @@ module _ (loose : Bool) (older newer : Entries) (grows : Grows older newer) wher
     fits-grows (tree.truth b) (of shape.truth) h d e = stays loose newer (tree.truth b) shape.truth d e refl
     fits-grows (tree.unsigned n) (of (shape.unsigned w)) h d e = stays loose newer (tree.unsigned n) (shape.unsigned w) d e h
     fits-grows (tree.signed z) (of (shape.signed w)) h d e = stays loose newer (tree.signed z) (shape.signed w) d e h
-    fits-grows (tree.text s) (of shape.text) h d e = stays loose newer (tree.text s) shape.text d e refl
-    fits-grows (tree.bytes s) (of shape.bytes) h d e = stays loose newer (tree.bytes s) shape.bytes d e refl
+    fits-grows (tree.text s) (of shape.text) h d e = stays loose newer (tree.text s) shape.text d e h
+    fits-grows (tree.bytes s) (of shape.bytes) h d e = stays loose newer (tree.bytes s) shape.bytes d e h
     fits-grows tree.absent (of (shape.option s)) h d e = stays loose newer tree.absent (shape.option s) d e refl
     fits-grows (tree.present t) (of (shape.option s)) h d e = stays loose newer (tree.present t) (shape.option s) d e (fits-grows t (of s) h (of s) refl)
     fits-grows (tree.items ts) (of (shape.seq s)) h d e = stays loose newer (tree.items ts) (shape.seq s) d e (all_fit-grows ts s h)
@@ -48,7 +48,8 @@ module _ (loose : Bool) (older newer : Entries) (grows : Grows older newer) wher
     fits-grows (tree.named t) (of (shape.name n)) h d e =
         stays loose newer (tree.named t) (shape.name n) d e (fits-grows t (content_at n older) h (content_at n newer) (content_at-grows older newer grows n))
     fits-grows (tree.variant n t) (one_of cs) h d e =
-        choices_stay loose newer n t cs d e (λ ds has. fits-grows t (choice_at n cs) h (choice_at n ds) (choice_at-grows cs ds has n))
+        let p = and_parts (nat_lt n (2 ^ 32)) (fits loose older t (choice_at n cs)) h in
+        choices_stay loose newer n t cs d e (λ ds has. and_from _ _ p.0 (fits-grows t (choice_at n cs) p.1 (choice_at n ds) (choice_at-grows cs ds has n)))
     fits-grows _ _ h d e = absurd (search (false≢true))
 
     all_fit-grows : (ts : Trees) (s : Shape) → all_fit loose older ts s ≡ true → all_fit loose newer ts s ≡ true

@@ -4,3 +4,4 @@ pub mod MapsInWords
 pub mod Loosening
 pub mod SameFormats
 pub mod Growth
+pub mod VariantFits

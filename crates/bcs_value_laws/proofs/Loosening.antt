@@ -1,5 +1,5 @@
 -- What fits strictly fits loosely.
-use Rattle.std.proofs.Common.{◌≡◌, true, false, ◌&&◌, ◌==◌}
+use Rattle.std.proofs.Common.{◌≡◌, true, false, ◌&&◌, ◌==◌, ◌^◌, nat_lt}
 use Rattle.std.proofs.lemmas.Bool.{false≢true, and_parts, and_from}
 use Rattle.bcs_registry_formats.specs.Shape as shape
 use Rattle.bcs_registry_formats.specs.Shape.{Shape, Shapes, no_shapes, shape}
@@ -27,7 +27,9 @@ module _ (r : Entries) where
         and_from _ _ p.0 (loosen_all ts s p.1)
     loosen (tree.pairs ps) (of (shape.map k v)) h = loosen_pairs ps k v h
     loosen (tree.named t) (of (shape.name n)) h = loosen t (content_at n r) h
-    loosen (tree.variant n t) (one_of cs) h = loosen t (choice_at n cs) h
+    loosen (tree.variant n t) (one_of cs) h =
+        let p = and_parts (nat_lt n (2 ^ 32)) (fits false r t (choice_at n cs)) h in
+        and_from _ _ p.0 (loosen t (choice_at n cs) p.1)
     loosen (tree.variant n t) (of (shape.unsupported u)) h = absurd (search (false≢true))
     loosen _ _ h = absurd (search (false≢true))
 

@@ -1,5 +1,5 @@
 -- Trees that are the same have the same formats.
-use Rattle.std.proofs.Common.{◌≡◌, suc, Bool, true, ◌&&◌, ◌==◌, refl, sym, ap, ◌∙◌, inl, inr}
+use Rattle.std.proofs.Common.{◌≡◌, suc, Bool, true, ◌&&◌, ◌==◌, ◌^◌, nat_lt, refl, sym, ap, ◌∙◌, inl, inr}
 use Rattle.std.proofs.lemmas.Bool.{false≢true, and_parts, and_from, or_cases}
 use Rattle.bcs_registry_formats.specs.Shape as shape
 use Rattle.bcs_registry_formats.specs.Shape.{Shape, Shapes, no_shapes, shape}
@@ -9,7 +9,7 @@ use Rattle.bcs_value_tree.specs.Tree.{Tree, Trees, no_trees, tree, Pairs, no_pai
 use Rattle.bcs_value_laws.specs.Same.{same, all_same, is_within, has_pair, any_pair, all_pairs}
 use Rattle.bcs_value_laws.specs.Fits.{fits, all_fit, each_fits, pairs_fit}
 use Rattle.bcs_value_laws.specs.Laws.{SameHaveSameFormats}
-use Rattle.bcs_value_laws.proofs.Equivalence.{nat-same, int-same, and₂, both_ways}
+use Rattle.bcs_value_laws.proofs.Equivalence.{nat-same, int-same, bytes-same, and₂, both_ways}
 
 same_count : (ts us : Trees) → all_same ts us ≡ true → count ts ≡ count us
 same_count no_trees no_trees h = refl
@@ -44,10 +44,8 @@ module _ (loose : Bool) (r : Entries) where
     same_fits (tree.truth a) (tree.truth b) c h = refl
     same_fits (tree.unsigned m) (tree.unsigned n) c h = ap (λ x. fits loose r (tree.unsigned x) c) (nat-same m n h)
     same_fits (tree.signed m) (tree.signed n) c h = ap (λ x. fits loose r (tree.signed x) c) (int-same m n h)
-    same_fits (tree.text s) (tree.text t) (of shape.text) h = refl
-    same_fits (tree.text s) (tree.text t) c h = refl
-    same_fits (tree.bytes s) (tree.bytes t) (of shape.bytes) h = refl
-    same_fits (tree.bytes s) (tree.bytes t) c h = refl
+    same_fits (tree.text s) (tree.text t) c h = ap (λ x. fits loose r (tree.text x) c) (bytes-same s t h)
+    same_fits (tree.bytes s) (tree.bytes t) c h = ap (λ x. fits loose r (tree.bytes x) c) (bytes-same s t h)
     same_fits tree.absent tree.absent c h = refl
     same_fits (tree.present a) (tree.present b) (of (shape.option s)) h = same_fits a b (of s) h
     same_fits (tree.present a) (tree.present b) c h = refl
@@ -57,7 +55,7 @@ module _ (loose : Bool) (r : Entries) where
     same_fits (tree.items ts) (tree.items us) c h = refl
     same_fits (tree.variant m a) (tree.variant n b) (one_of cs) h =
         let p = and_parts (m == n) (same a b) h in
-        same_fits a b (choice_at m cs) p.1 ∙ ap (λ i. fits loose r b (choice_at i cs)) (nat-same m n p.0)
+        ap (λ x. nat_lt m (2 ^ 32) && x) (same_fits a b (choice_at m cs) p.1) ∙ ap (λ i. nat_lt i (2 ^ 32) && fits loose r b (choice_at i cs)) (nat-same m n p.0)
     same_fits (tree.variant m a) (tree.variant n b) c h = refl
     same_fits (tree.pairs ps) (tree.pairs qs) (of (shape.map k v)) h =
         let p = and_parts (is_within ps qs) (all_pairs (has_pair ps) qs) h in

@@ -1,5 +1,7 @@
 -- Which trees are values of a format.
-use Rattle.std.specs.Prelude.{ℕ, ℤ, pos, negsuc, ◌^◌, Bool, true, false, ◌&&◌, ◌==◌, nat_lt, IsTrue}
+use Rattle.std.specs.Prelude.{ℕ, ℤ, pos, negsuc, ◌^◌, Bool, true, false, ◌&&◌, ◌==◌, nat_lt, List, IsTrue}
+use Rattle.std.specs.List.{list_all}
+use Rattle.std.specs.Str.{is_utf8}
 use mir.Val.{bits, hbits}
 use Rattle.bcs_registry_formats.specs.Shape as shape
 use Rattle.bcs_registry_formats.specs.Shape.{Shape, Shapes, no_shapes, shape}
@@ -12,6 +14,10 @@ abbrev pub is_signed_below : ℕ → ℤ → Bool
 is_signed_below half (pos n) = nat_lt n half
 is_signed_below half (negsuc n) = nat_lt n half
 
+-- each number is a byte's
+abbrev pub are_bytes : List ℕ → Bool
+are_bytes = list_all (λ b. nat_lt b 256)
+
 -- `loose` lets every value stand at `F32`, `F64` and `CHAR`, at which else none stands
 module _ (loose : Bool) (registry : Entries) where
   abbrev mutual
@@ -21,8 +27,8 @@ module _ (loose : Bool) (registry : Entries) where
     fits (tree.truth b) (of shape.truth) = true
     fits (tree.unsigned n) (of (shape.unsigned w)) = nat_lt n (2 ^ bits w)
     fits (tree.signed z) (of (shape.signed w)) = is_signed_below (2 ^ hbits w) z
-    fits (tree.text s) (of shape.text) = true
-    fits (tree.bytes s) (of shape.bytes) = true
+    fits (tree.text s) (of shape.text) = is_utf8 s
+    fits (tree.bytes s) (of shape.bytes) = are_bytes s
     fits tree.absent (of (shape.option s)) = true
     fits (tree.present t) (of (shape.option s)) = fits t (of s)
     fits (tree.items ts) (of (shape.seq s)) = all_fit ts s
@@ -30,7 +36,7 @@ module _ (loose : Bool) (registry : Entries) where
     fits (tree.items ts) (of (shape.array s n)) = count ts == n && all_fit ts s
     fits (tree.pairs ps) (of (shape.map k v)) = pairs_fit ps k v
     fits (tree.named t) (of (shape.name n)) = fits t (content_at n registry)
-    fits (tree.variant n t) (one_of cs) = fits t (choice_at n cs)
+    fits (tree.variant n t) (one_of cs) = nat_lt n (2 ^ 32) && fits t (choice_at n cs)
     fits _ _ = false
 
     -- each tree has the one format

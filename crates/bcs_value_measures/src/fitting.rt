@@ -30,7 +30,7 @@ pub fn fits(value: &Value, format: &Format, registry: &Registry, loose: bool) ->
         (Value::Unsigned(number), Format::U64) => *number <= u64::MAX as u128,
         (Value::Unsigned(number), Format::U128) => *number <= u128::MAX,
         (Value::Text(_), Format::Str) => true,
-        (Value::Bytes(_), Format::Bytes) => true,
+        (Value::Bytes(bytes), Format::Bytes) => are_bytes(bytes),
         (Value::Absent, Format::Opt(_)) => true,
         (Value::Present(inner), Format::Opt(content)) => fits(inner, content, registry, loose),
         (Value::Items(items), Format::Seq(element)) => all_fit(items, element, registry, loose),
@@ -60,6 +60,13 @@ fn is_signed_below(half: u128, number: i128) -> bool
     }
 }
 
+/// Whether these are bytes, as each `u8` is one.
+fn are_bytes(bytes: &[u8]) -> bool
+    ensures { result ≡ spec.are_bytes bytes.now }
+{
+    true
+}
+
 #[cycle(fits)]
 fn fills(value: &Value, container: &Container, registry: &Registry, loose: bool) -> bool
     ensures { result ≡ spec.fits loose registry.now (tree_of value.now) (content (container_of container.now)) }
@@ -73,10 +80,13 @@ fn fills(value: &Value, container: &Container, registry: &Registry, loose: bool)
         (Container::Struct(fields), Value::Items(items)) => fields_fit(
             items, fields, registry, loose,
         ),
-        (Container::Enum(variants), Value::Variant(number, inner)) => match variants.get(number) {
-            Some(variant) => pays(inner, &variant.value, registry, loose),
-            None => false,
-        },
+        (Container::Enum(variants), Value::Variant(number, inner)) => {
+            let number = *number;
+            match variants.get(&number) {
+                Some(variant) => pays(inner, &variant.value, registry, loose),
+                None => false,
+            }
+        }
         _ => false,
     }
 }

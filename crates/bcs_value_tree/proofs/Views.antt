@@ -1,8 +1,11 @@
 -- What a value is seen as, shape by shape.
-use Rattle.std.proofs.Common.{◌≡◌, ℕ, Vec, Box, Global, Bool, true, false, ◌&&◌, refl, rules}
-use Rattle.bcs_value_tree.specs.Tree.{variant, pairs, bytes}
+use Rattle.std.proofs.Common.{◌≡◌, ℕ, String, string_bytes, Vec, Box, Global, Bool, true, false, ◌&&◌, refl, rules}
+use Rattle.bcs_value_tree.specs.Tree.{variant, pairs, text, bytes}
 use Rattle.bcs_value_tree.specs.View.{tree_of, entries_pairs}
-use Rattle.bcs_value_tree.specs.declared.value.Value.{Value, Bytes, Pairs, Variant, the_lemmas}
+use Rattle.bcs_value_tree.specs.declared.value.Value.{Value, Text, Bytes, Pairs, Variant, the_lemmas}
+
+pub tree_of_text : (s : String Global) → tree_of (Text s) ≡ text (string_bytes s)
+tree_of_text s = search (rules, the_lemmas)
 
 pub tree_of_bytes : (b : Vec ℕ Global) → tree_of (Bytes b) ≡ bytes b.items
 tree_of_bytes b = search (rules, the_lemmas)

@@ -1,7 +1,7 @@
 //! Slots. A slot is the caller's place in which a value is built, part by part, where it would else be returned through
 //! each call of a walk: so a level of a deep value needs little of the stack. These calls stand outside the cycles that
 //! walk, and are compiled alone, so that the frames of a walk stay small.
-ghost use Rattle.std.specs.Prelude.{◌≡◌, ◌∷◌, ◌++◌, [], OnOk};
+ghost use Rattle.std.specs.Prelude.{◌≡◌, ◌∷◌, ◌++◌, [], OnErr, OnOk};
 ghost use Rattle.bcs_value_tree.specs.Tree.{items, named, pairs, present, unit, variant};
 ghost use Rattle.bcs_value_tree.specs.View.{entries_pairs, items_trees, tree_of};
 
@@ -12,7 +12,8 @@ use std::mem;
 /// Puts an option round the value in the slot. An error comes only for want of memory; the slot then holds `Unit`.
 #[inline(never)]
 pub fn wrap_present(alloc: Global, slot: &mut Value) -> Result<(), AllocError>
-    ensures { OnOk result (tree_of slot.new ≡ present (tree_of slot.old)) }
+    ensures wrapped { OnOk result (tree_of slot.new ≡ present (tree_of slot.old)) }
+    ensures emptied { OnErr result (tree_of slot.new ≡ unit) }
 {
     let part = mem::replace(slot, Value::Unit);
     *slot = Value::Present(Box::new(alloc, part)?);
@@ -22,7 +23,8 @@ pub fn wrap_present(alloc: Global, slot: &mut Value) -> Result<(), AllocError>
 /// Puts a container round the value in the slot. An error comes only for want of memory; the slot then holds `Unit`.
 #[inline(never)]
 pub fn wrap_named(alloc: Global, slot: &mut Value) -> Result<(), AllocError>
-    ensures { OnOk result (tree_of slot.new ≡ named (tree_of slot.old)) }
+    ensures wrapped { OnOk result (tree_of slot.new ≡ named (tree_of slot.old)) }
+    ensures emptied { OnErr result (tree_of slot.new ≡ unit) }
 {
     let part = mem::replace(slot, Value::Unit);
     *slot = Value::Named(Box::new(alloc, part)?);
@@ -32,7 +34,8 @@ pub fn wrap_named(alloc: Global, slot: &mut Value) -> Result<(), AllocError>
 /// Puts a variant round the value in the slot. An error comes only for want of memory; the slot then holds `Unit`.
 #[inline(never)]
 pub fn wrap_variant(alloc: Global, number: u32, slot: &mut Value) -> Result<(), AllocError>
-    ensures { OnOk result (tree_of slot.new ≡ variant number (tree_of slot.old)) }
+    ensures wrapped { OnOk result (tree_of slot.new ≡ variant number (tree_of slot.old)) }
+    ensures emptied { OnErr result (tree_of slot.new ≡ unit) }
 {
     let part = mem::replace(slot, Value::Unit);
     *slot = Value::Variant(number, Box::new(alloc, part)?);
@@ -55,10 +58,12 @@ pub fn put_pairs(slot: &mut Value, found: Vec<(Value, Value)>)
     *slot = Value::Pairs(found);
 }
 
-/// Moves the value from the slot to the end of the row, and leaves `Unit`. An error comes only for want of memory.
+/// Moves the value from the slot to the end of the row, and leaves `Unit`. An error comes only for want of memory; the
+/// row is then unchanged.
 #[inline(never)]
 pub fn keep(found: &mut Vec<Value>, slot: &mut Value) -> Result<(), AllocError>
     ensures kept { OnOk result (found.new.items ≡ found.old.items ++ slot.old ∷ []) }
+    ensures unchanged { OnErr result (found.new.items ≡ found.old.items) }
     ensures emptied { tree_of slot.new ≡ unit }
 {
     let taken = mem::replace(slot, Value::Unit);
@@ -67,7 +72,7 @@ pub fn keep(found: &mut Vec<Value>, slot: &mut Value) -> Result<(), AllocError>
 }
 
 /// Moves an entry from two slots to the end of the entries, and leaves `Unit` in both. An error comes only for want of
-/// memory.
+/// memory; the entries are then unchanged.
 #[inline(never)]
 pub fn keep_entry(
     found: &mut Vec<(Value, Value)>,
@@ -75,6 +80,7 @@ pub fn keep_entry(
     slot: &mut Value,
 ) -> Result<(), AllocError>
     ensures kept { OnOk result (found.new.items ≡ found.old.items ++ (key.old, slot.old) ∷ []) }
+    ensures unchanged { OnErr result (found.new.items ≡ found.old.items) }
     ensures key_emptied { tree_of key.new ≡ unit }
     ensures emptied { tree_of slot.new ≡ unit }
 {

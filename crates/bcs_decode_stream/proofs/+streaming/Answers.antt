@@ -286,7 +286,7 @@ pub containers::content-returns-in_ok-wrap_variant-in-Enum-clause-sees : goal.co
 containers::content-returns-in_ok-wrap_variant-in-Enum-clause-sees g t c =
     let is = content_found c.args.registry.now c.args.name.now c.container.result c.in-Some.container c.container.ensures.found c.in-Some.is ∙ ap (λ k. content (container_of k)) c.in-Enum.is in
     let chosen : choice_at c.in_ok-number-in-Enum.number (map choice_of c.in-Enum.variants.entries) ≡ of (payload_shape (payload_of c.in-Some-get.variant.now.value)) = choice_found c.in_ok-number-in-Enum.number c.in-Enum.variants.entries c.in-Some-get.variant c.get.result c.get.ensures.value c.in-Some-get.is in
-    λ told. (let number = c.in_ok-number-in-Enum.ensures.sees told in let part = c.in_ok-payload-in-Enum.ensures.sees number.1 in (ap (λ k. content_value c.args.registry.now c.args.depth k c.args.at.now.place c.args.at.now.nodes (rest_of (g.S.ByteSource.content c.args.source.now))) is ∙ enum_on c.args.registry.now c.args.depth c.args.at.now.place c.args.at.now.nodes (rest_of (g.S.ByteSource.content c.args.source.now)) (map choice_of c.in-Enum.variants.entries) c.in_ok-number-in-Enum.number _ _ _ (payload_shape (payload_of c.in-Some-get.variant.now.value)) _ _ _ _ number.0 chosen part.0 ∙ rw (sym c.in_ok-wrap_variant-in-Enum.ensures) refl, part.1))
+    λ told. (let number = c.in_ok-number-in-Enum.ensures.sees told in let part = c.in_ok-payload-in-Enum.ensures.sees number.1 in (ap (λ k. content_value c.args.registry.now c.args.depth k c.args.at.now.place c.args.at.now.nodes (rest_of (g.S.ByteSource.content c.args.source.now))) is ∙ enum_on c.args.registry.now c.args.depth c.args.at.now.place c.args.at.now.nodes (rest_of (g.S.ByteSource.content c.args.source.now)) (map choice_of c.in-Enum.variants.entries) c.in_ok-number-in-Enum.number _ _ _ (payload_shape (payload_of c.in-Some-get.variant.now.value)) _ _ _ _ number.0 chosen part.0 ∙ rw (sym c.in_ok-wrap_variant-in-Enum.ensures.wrapped) refl, part.1))
 
 pub containers::payload-returns-in-Unit-clause-sees : goal.containers::payload-returns-in-Unit-clause-sees
 containers::payload-returns-in-Unit-clause-sees g t c =

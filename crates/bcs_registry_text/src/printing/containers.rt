@@ -1,7 +1,6 @@
 //! Containers as JSON values.
-ghost use Rattle.std.specs.Prelude.{◌≡◌, IfOk, OnOk};
+ghost use Rattle.std.specs.Prelude.{◌≡◌, IfOk};
 ghost use Rattle.bcs_registry_text.specs.Shown.{shown_container};
-ghost use Rattle.bcs_registry_text.specs.Text.{IsInRange};
 ghost use Rattle.bcs_registry_formats.specs.View.{container_of};
 ghost use Rattle.serde_json.specs.View.{view};
 
@@ -14,8 +13,7 @@ use std::alloc::{AllocError, Global};
 
 /// A container: a word, or an object with one member.
 pub fn container_value(alloc: Global, container: &Container) -> Result<Value, AllocError>
-    ensures shown { IfOk result (λ v. view v ≡ shown_container (container_of container.now)) }
-    ensures in_range { OnOk result (IsInRange (container_of container.now)) }
+    ensures { IfOk result (λ v. view v ≡ shown_container (container_of container.now)) }
 {
     match container {
         Container::UnitStruct => word(alloc, "UNITSTRUCT"),

@@ -1,8 +1,6 @@
 //! Formats and fields as JSON values.
-ghost use Rattle.std.specs.Prelude.{◌≡◌, IfOk, OnOk, IsTrue, codes, map};
-ghost use Rattle.std.specs.List.{list_all};
+ghost use Rattle.std.specs.Prelude.{◌≡◌, IfOk, codes, map};
 ghost use Rattle.bcs_registry_text.specs.Shown.{single, shown_format, shown_formats, shown_fields};
-ghost use Rattle.bcs_registry_text.specs.Text.{sizes_fit, all_sizes_fit};
 ghost use Rattle.bcs_registry_formats.specs.View.{shape_of, formats_shapes, field_of};
 ghost use Rattle.serde_json.specs.Data.{object, member, no_members, number, unsigned};
 ghost use Rattle.serde_json.specs.View.{view, items_view};
@@ -31,8 +29,7 @@ fn array_value(alloc: Global, content: Value, size: u64) -> Result<Value, AllocE
 /// A format: a word, or an object with one member.
 #[cycle(format_value)]
 pub fn format_value(alloc: Global, format: &Format) -> Result<Value, AllocError>
-    ensures shown { IfOk result (λ v. view v ≡ shown_format (shape_of format.now)) }
-    ensures sizes { OnOk result (IsTrue (sizes_fit (shape_of format.now))) }
+    ensures { IfOk result (λ v. view v ≡ shown_format (shape_of format.now)) }
 {
     match format {
         Format::Unit => word(alloc, "UNIT"),
@@ -74,9 +71,8 @@ pub fn format_value(alloc: Global, format: &Format) -> Result<Value, AllocError>
 /// The formats in their order.
 #[cycle(format_value)]
 pub fn format_values(alloc: Global, formats: &Vec<Format>) -> Result<Vec<Value>, AllocError>
-    ensures shown { IfOk result (λ v.
+    ensures { IfOk result (λ v.
         items_view v.items ≡ shown_formats (formats_shapes formats.now.items)) }
-    ensures sizes { OnOk result (IsTrue (all_sizes_fit (formats_shapes formats.now.items))) }
 {
     let mut values = Vec::with_capacity(alloc, formats.len())?;
     for format in formats {
@@ -87,10 +83,7 @@ pub fn format_values(alloc: Global, formats: &Vec<Format>) -> Result<Vec<Value>,
 
 /// The fields, each an object of its own, in their order.
 pub fn field_values(alloc: Global, fields: &Vec<Named<Format>>) -> Result<Vec<Value>, AllocError>
-    ensures shown { IfOk result (λ v.
-        items_view v.items ≡ shown_fields (map field_of fields.now.items)) }
-    ensures sizes { OnOk result
-        (IsTrue (list_all (λ f. sizes_fit f.1) (map field_of fields.now.items))) }
+    ensures { IfOk result (λ v. items_view v.items ≡ shown_fields (map field_of fields.now.items)) }
 {
     let mut values = Vec::with_capacity(alloc, fields.len())?;
     for field in fields {

@@ -1,8 +1,6 @@
 //! Variants and their payloads as JSON values.
-ghost use Rattle.std.specs.Prelude.{◌≡◌, IfOk, OnOk, IsTrue, map};
-ghost use Rattle.bcs_registry_formats.specs.Container.{enumeration};
+ghost use Rattle.std.specs.Prelude.{◌≡◌, IfOk, map};
 ghost use Rattle.bcs_registry_text.specs.Shown.{shown_payload, shown_choices};
-ghost use Rattle.bcs_registry_text.specs.Text.{IsInRange, payload_sizes_fit};
 ghost use Rattle.bcs_registry_formats.specs.View.{payload_of, choice_of};
 ghost use Rattle.serde_json.specs.View.{view, members_view};
 
@@ -16,8 +14,7 @@ use std::collections::BTreeMap;
 
 /// What a variant carries: a word, or an object with one member.
 pub fn payload_value(alloc: Global, payload: &VariantFormat) -> Result<Value, AllocError>
-    ensures shown { IfOk result (λ v. view v ≡ shown_payload (payload_of payload.now)) }
-    ensures sizes { OnOk result (IsTrue (payload_sizes_fit (payload_of payload.now))) }
+    ensures { IfOk result (λ v. view v ≡ shown_payload (payload_of payload.now)) }
 {
     match payload {
         VariantFormat::Unit => word(alloc, "UNIT"),
@@ -38,9 +35,8 @@ pub fn variant_members(
     alloc: Global,
     variants: &BTreeMap<u32, Named<VariantFormat>>,
 ) -> Result<Map<String, Value>, AllocError>
-    ensures shown { IfOk result (λ m.
+    ensures { IfOk result (λ m.
         members_view m.entries ≡ shown_choices (map choice_of variants.now.entries)) }
-    ensures in_range { OnOk result (IsInRange (enumeration (map choice_of variants.now.entries))) }
 {
     let mut members = Map::new(alloc);
     for (number, variant) in variants {

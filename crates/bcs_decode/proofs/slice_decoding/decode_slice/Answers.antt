@@ -17,7 +17,7 @@ returns-in-Err-decode_known-clause-decodes c =
     let b = c.args.bytes.now in
     let bytes : AreBytes b = λ k d lt. (let same = get_or_default b k d 0 lt in omega (arith, same, c.type_inv.bytes k)) in
     let told = subst (λ (x : List ℕ). DecodesFrom r l s (Some x) (Some c.decode_known.new.source) (Err c.in-Err-decode_known.fault)) c.new-source.ensures c.in-Err-decode_known.ensures.told in
-    refused_slice r l s b (Some c.decode_known.new.source) c.in-Err-decode_known.fault bytes told (λ read. (let h = c.in-Err-decode_known.ensures.read (ap Err read) in cc)) (c.in-Ok.length, c.in-Ok.ensures.found.0, c.in-Ok.ensures.found.1)
+    refused_slice r l s b (Some c.decode_known.new.source) c.in-Err-decode_known.fault bytes told (λ read. (let h = c.in-Err-decode_known.ensures.read.0 (ap Err read) in cc)) (c.in-Ok.length, c.in-Ok.ensures.found.0, c.in-Ok.ensures.found.1)
 
 pub returns-in-Err-decode_known-clause-stopped : goal.returns-in-Err-decode_known-clause-stopped
 returns-in-Err-decode_known-clause-stopped c = λ e o bad. absurd (let h = c.in-Ok.ensures.stopped e o bad in cc)

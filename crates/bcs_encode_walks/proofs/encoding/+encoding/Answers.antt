@@ -106,4 +106,4 @@ put_map-returns-clause-kept t c =
 
 pub put_all-returns-in-Some-clause-tells : goal.put_all-returns-in-Some-clause-tells
 put_all-returns-in-Some-clause-tells t c =
-    tells_along c.put_numbers.result _ _ _ (numbers_anywhere c.args.registry.now [] c.in-Some.format (shape_of c.args.element.now) (items_trees c.args.items.now) c.args.work.now.out.items (search rules)) c.put_numbers.ensures
+    tells_along c.put_numbers.result _ _ _ (numbers_anywhere c.args.registry.now [] c.in-Some.format (shape_of c.args.element.now) (items_trees c.args.items.now) c.args.work.now.out.items (search rules)) c.put_numbers.ensures.tells

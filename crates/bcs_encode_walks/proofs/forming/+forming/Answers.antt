@@ -57,7 +57,7 @@ pub form_content-returns-in_ok-wrap_variant-in-Some-clause-formed : goal.form_co
 form_content-returns-in_ok-wrap_variant-in-Some-clause-formed t c =
     let m = c.in-Enum-Variant in
     let inside : tree_of c.form_payload.new.slot ≡ formed c.args.registry.now (tree_of m.inner.value) (of (payload_shape (payload_of c.in-Some.variant.now.value))) = search rules in
-    c.in_ok-wrap_variant-in-Some.ensures
+    c.in_ok-wrap_variant-in-Some.ensures.wrapped
     ∙ ap (tree.variant m.number) (inside ∙ ap (formed c.args.registry.now (tree_of m.inner.value)) (sym (choice-found m.number m.variants.entries c.in-Some.variant c.get.result c.get.ensures.value c.in-Some.is)))
     ∙ sym (at_enum (formed c.args.registry.now) c.args.value.now c.args.container.now m.variants m.number m.inner m.is-0 m.is-1)
 

@@ -1,3 +1,4 @@
+use Rattle.std.proofs.lemmas.Grind.{common_steps}
 use Rattle.std.proofs.Common.{◌≡◌, ap, arith, rules, suc, Some, None, ℤ}
 use Rattle.std.proofs.lemmas.Int.{ints}
 use Rattle.bcs_num.specs.Le.{width_of}
@@ -36,3 +37,33 @@ returns-else-below-greatest-clause-only c z fits is =
     let same : c.in_ok-plain_number-in-45.field-0 ≡ suc m.0 = cc in
     let below : c.in_ok-below-in-45.below ≡ m.0 = omega (arith, same, c.in_ok-below-in-45.ensures.1) in
     absurd (omega (arith, below, m.3, c.if-below-greatest.false, c.greatest-greatest.ensures))
+
+pub returns-in_err-plain_number-in-45-clause-found : goal.returns-in_err-plain_number-in-45-clause-found
+returns-in_err-plain_number-in-45-clause-found c = search rules
+
+pub returns-in_err-below-in-45-clause-found : goal.returns-in_err-below-in-45-clause-found
+returns-in_err-below-in-45-clause-found c = search rules
+
+pub returns-in_err-n-in_default-clause-found : goal.returns-in_err-n-in_default-clause-found
+returns-in_err-n-in_default-clause-found c = search rules
+
+pub returns-in_err-n-in_default-clause-only : goal.returns-in_err-n-in_default-clause-only
+returns-in_err-n-in_default-clause-only c = search rules
+
+pub returns-else-below-greatest-clause-found : goal.returns-else-below-greatest-clause-found
+returns-else-below-greatest-clause-found c = search rules
+
+pub returns-then-n-greatest-clause-found : goal.returns-then-n-greatest-clause-found
+returns-then-n-greatest-clause-found c = search rules
+
+pub returns-then-n-greatest-clause-only : goal.returns-then-n-greatest-clause-only
+returns-then-n-greatest-clause-only c = search rules
+
+pub returns-else-n-greatest-clause-found : goal.returns-else-n-greatest-clause-found
+returns-else-n-greatest-clause-found c = search rules
+
+pub returns-else-n-greatest-clause-only : goal.returns-else-n-greatest-clause-only
+returns-else-n-greatest-clause-only c = search rules
+
+pub returns-then-below-greatest-clause-found : goal.returns-then-below-greatest-clause-found
+returns-then-below-greatest-clause-found c = grind (arith, common_steps)

@@ -1,4 +1,4 @@
-use Rattle.std.proofs.Common.{arith, subst, sym}
+use Rattle.std.proofs.Common.{arith, subst, sym, rules}
 use Rattle.std.proofs.lemmas.Bool.Decides.{nat_tests}
 use Rattle.bcs_num.proofs.Decimals.{IsPlain, decimal_is_plain, plain_found, plain_only}
 use Rattle.bcs_num.proofs.decimal.plain_number.Goals as goal
@@ -27,3 +27,9 @@ returns-clause-found c =
 
 pub returns-clause-only : goal.returns-clause-only
 returns-clause-only c = plain_only c.args.digits.now c.number.result c.number.ensures
+
+pub returns-then-is_empty-clause-found : goal.returns-then-is_empty-clause-found
+returns-then-is_empty-clause-found c = search rules
+
+pub returns-then-digits-gt1-clause-found : goal.returns-then-digits-gt1-clause-found
+returns-then-digits-gt1-clause-found c = search rules

@@ -1,4 +1,4 @@
-use Rattle.std.proofs.Common.{◌∙◌}
+use Rattle.std.proofs.Common.{◌∙◌, rules}
 use Rattle.std.specs.Int.{w8, w16, w32, w64, w128}
 use Rattle.bcs_num.proofs.LeReading.{front_is, byte_low_first}
 use Rattle.bcs_num.proofs.little_endian.put_le.Goals as goal
@@ -22,3 +22,48 @@ returns-in-W8-clause-bytes c =
 pub returns-in-W16-clause-bytes : goal.returns-in-W16-clause-bytes
 returns-in-W16-clause-bytes c =
     rw c.in-W16.is (front_is w128 c.args.n _ _ _ _ c.put_front-in-W16.ensures.len c.to_le_bytes-in-W16.ensures c.put_front-in-W16.ensures.after)
+
+pub returns-in-W1-clause-len : goal.returns-in-W1-clause-len
+returns-in-W1-clause-len c = search rules
+
+pub returns-in-W1-clause-room : goal.returns-in-W1-clause-room
+returns-in-W1-clause-room c = search rules
+
+pub returns-in-W1-clause-rest : goal.returns-in-W1-clause-rest
+returns-in-W1-clause-rest c = search rules
+
+pub returns-in-W2-clause-len : goal.returns-in-W2-clause-len
+returns-in-W2-clause-len c = search rules
+
+pub returns-in-W2-clause-room : goal.returns-in-W2-clause-room
+returns-in-W2-clause-room c = search rules
+
+pub returns-in-W2-clause-rest : goal.returns-in-W2-clause-rest
+returns-in-W2-clause-rest c = search rules
+
+pub returns-in-W4-clause-len : goal.returns-in-W4-clause-len
+returns-in-W4-clause-len c = search rules
+
+pub returns-in-W4-clause-room : goal.returns-in-W4-clause-room
+returns-in-W4-clause-room c = search rules
+
+pub returns-in-W4-clause-rest : goal.returns-in-W4-clause-rest
+returns-in-W4-clause-rest c = search rules
+
+pub returns-in-W8-clause-len : goal.returns-in-W8-clause-len
+returns-in-W8-clause-len c = search rules
+
+pub returns-in-W8-clause-room : goal.returns-in-W8-clause-room
+returns-in-W8-clause-room c = search rules
+
+pub returns-in-W8-clause-rest : goal.returns-in-W8-clause-rest
+returns-in-W8-clause-rest c = search rules
+
+pub returns-in-W16-clause-len : goal.returns-in-W16-clause-len
+returns-in-W16-clause-len c = search rules
+
+pub returns-in-W16-clause-room : goal.returns-in-W16-clause-room
+returns-in-W16-clause-room c = search rules
+
+pub returns-in-W16-clause-rest : goal.returns-in-W16-clause-rest
+returns-in-W16-clause-rest c = search rules

@@ -1,4 +1,4 @@
-use Rattle.std.proofs.Common.{◌≡◌, ap, length, take, length-take, length-append, add-one, arith}
+use Rattle.std.proofs.Common.{◌≡◌, ap, length, take, length-take, length-append, add-one, arith, rules}
 use Rattle.std.proofs.lemmas.List.{drop-set-lt}
 use Rattle.std.proofs.lemmas.Grind.{common_steps}
 use Rattle.bcs_num.specs.Uleb.{uleb}
@@ -28,3 +28,9 @@ returns-clause-len c =
     let front = length-take c.loop-left.i c.loop-left.out in
     let both = length-append (take c.loop-left.i c.loop-left.out) (uleb c.loop-left.left) in
     omega (arith, ap length c.loop-left.invariant.written)
+
+pub returns-clause-room : goal.returns-clause-room
+returns-clause-room c = search rules
+
+pub returns-clause-rest : goal.returns-clause-rest
+returns-clause-rest c = search rules

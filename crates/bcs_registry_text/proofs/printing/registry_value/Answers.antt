@@ -1,5 +1,4 @@
 use Rattle.std.proofs.Common.{◌≡◌, ◌∙◌, List, [], ◌∷◌, ◌++◌, string_bytes, sym, ap, ap₂, subst, append_assoc, append-nil}
-use Rattle.std.specs.List.{AllByRecursion}
 use Rattle.std.specs.List.Sorted.{IsStrictlySortedBy}
 use Rattle.std.specs.Map.{keys_of}
 use Rattle.std.specs.String.{string_cmp}
@@ -7,9 +6,8 @@ use Rattle.serde_json.specs.Data.{object, put}
 use Rattle.serde_json.specs.View.{members_view}
 use Rattle.serde_json.proofs.Views.{view-Object}
 use Rattle.bcs_registry_text.specs.Shown.{shown, shown_container}
-use Rattle.bcs_registry_text.specs.Text.{IsInRange}
-use Rattle.bcs_registry_formats.specs.View.{entry_of, container_of, entries_of}
-use Rattle.bcs_registry_formats.proofs.Rising.{Stored, all_push, names_rise}
+use Rattle.bcs_registry_formats.specs.View.{container_of, entries_of}
+use Rattle.bcs_registry_formats.proofs.Rising.{Stored}
 use Rattle.bcs_registry_text.proofs.ShownParts.{shown_containers-push}
 use Rattle.bcs_registry_text.proofs.printing.registry_value.Goals as goal
 
@@ -23,17 +21,13 @@ loop-name-preserved c =
     let ordered = subst (λ (es : List Stored). IsStrictlySortedBy string_cmp (keys_of es)) all c.into_iter-name-iterator.ensures.into_iter_gives.5 in (
       done ++ e ∷ [],
       all ∙ sym (append_assoc done (e ∷ []) left),
-      all_push (λ e. IsInRange e.1) entry_of done e l.invariant.2 c.in_ok-value.ensures.in_range,
-      c.in_ok-put.ensures.ok ∙ ap₂ (λ k d. put k d (members_view l.members.entries)) c.as_str.ensures.value c.in_ok-value.ensures.shown
-          ∙ ap (put (string_bytes e.0) (shown_container (container_of e.1))) l.invariant.3 ∙ shown_containers-push done e left ordered,
+      c.in_ok-put.ensures.ok ∙ ap₂ (λ k d. put k d (members_view l.members.entries)) c.as_str.ensures.value c.in_ok-value.ensures
+          ∙ ap (put (string_bytes e.0) (shown_container (container_of e.1))) l.invariant.2 ∙ shown_containers-push done e left ordered,
     )
 
 pub returns : goal.returns
 returns c =
     let l = c.loop-name in
     let done = l.invariant.0 in
-    let all : done ≡ c.args.containers.now.entries = sym (l.invariant.1 ∙ ap (λ es. done ++ es) c.in-None.ensures.steps.0 ∙ append-nil done) in record {
-      is = view-Object l.members ∙ ap object l.invariant.3 ∙ ap (λ es. shown (entries_of es)) all;
-      names = names_rise c.args.containers.now.entries c.into_iter-name-iterator.ensures.into_iter_gives.5;
-      containers = subst (λ (es : List Stored). AllByRecursion (λ e. IsInRange e.1) (entries_of es)) all l.invariant.2;
-    }
+    let all : done ≡ c.args.containers.now.entries = sym (l.invariant.1 ∙ ap (λ es. done ++ es) c.in-None.ensures.steps.0 ∙ append-nil done) in
+    view-Object l.members ∙ ap object l.invariant.2 ∙ ap (λ es. shown (entries_of es)) all

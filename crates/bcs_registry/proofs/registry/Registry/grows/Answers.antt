@@ -1,19 +1,22 @@
-use Rattle.std.proofs.Common.{ap, subst, ◌∙◌}
+use Rattle.std.proofs.Common.{ap, ◌∙◌}
 use Rattle.bcs_registry_formats.specs.Growing.{growth_fault}
-use Rattle.bcs_registry_formats.specs.Order.{NamesRise}
 use Rattle.bcs_registry_formats.specs.View.{entries_of}
 use Rattle.bcs_registry_formats.proofs.FirstFaults.{ok_exactly, fault_exactly}
+use Rattle.bcs_registry_formats.proofs.Ranges.{enums_rise}
 use Rattle.bcs_registry.proofs.registry.Registry.grows.Goals as goal
 
 pub returns-clause-ok : goal.returns-clause-ok
 returns-clause-ok c =
     ok_exactly c.args.self.now c.args.newer.now c.containers_grow.result
-    (c.containers_grow.ensures.fault ∙ ap (λ r. growth_fault r (entries_of c.containers-2.result.now.entries)) c.containers.ensures ∙ ap (growth_fault c.args.self.now) c.containers-2.ensures)
+    (c.containers_grow.ensures.fault ∙ ap (λ r. growth_fault r (entries_of c.containers-2.result.now.entries)) c.containers.ensures.is ∙ ap (growth_fault c.args.self.now) c.containers-2.ensures.is)
 
 pub returns-clause-fault : goal.returns-clause-fault
 returns-clause-fault c =
     fault_exactly c.args.self.now c.args.newer.now c.containers_grow.result
-    (c.containers_grow.ensures.fault ∙ ap (λ r. growth_fault r (entries_of c.containers-2.result.now.entries)) c.containers.ensures ∙ ap (growth_fault c.args.self.now) c.containers-2.ensures)
+    (c.containers_grow.ensures.fault ∙ ap (λ r. growth_fault r (entries_of c.containers-2.result.now.entries)) c.containers.ensures.is ∙ ap (growth_fault c.args.self.now) c.containers-2.ensures.is)
 
 pub returns-clause-rising : goal.returns-clause-rising
-returns-clause-rising c = subst NamesRise c.containers.ensures c.containers_grow.ensures.rising
+returns-clause-rising c = c.containers.ensures.orderly.names
+
+pub returns-clause-upwards : goal.returns-clause-upwards
+returns-clause-upwards c = enums_rise c.args.self.now c.containers.ensures.orderly.containers

@@ -1,16 +1,13 @@
 use Rattle.std.proofs.Common.{◌≡◌, ◌<◌, ◌^◌, List, ◌++◌, map}
-use Rattle.std.specs.List.{AllByRecursion, list_all}
+use Rattle.std.specs.List.{AllByRecursion}
 use Rattle.std.specs.Map.{keys_of}
 use Rattle.serde_json.specs.View.{members_view}
 use Rattle.bcs_registry_text.specs.Shown.{shown_choices}
-use Rattle.bcs_registry_text.specs.Text.{payload_sizes_fit}
 use Rattle.bcs_registry_formats.specs.View.{choice_of}
 use Rattle.bcs_registry_formats.proofs.Rising.{Variant}
 use Rattle.bcs_registry_text.proofs.printing.variants.variant_members.Given as goal
 
 abbrev pub invariant-loop-number : goal.invariant-loop-number
-invariant-loop-number l = record {
-  shown : (done : List Variant) × (l.variants.entries ≡ done ++ l.number-iterator) × AllByRecursion (λ n. n < 2 ^ 32) (keys_of done)
-      × (members_view l.members.entries ≡ shown_choices (map choice_of done));
-  sizes : list_all (λ c. payload_sizes_fit c.1.1) (map choice_of l.variants.entries) ≡ list_all (λ c. payload_sizes_fit c.1.1) (map choice_of l.number-iterator);
-}
+invariant-loop-number l =
+    (done : List Variant) × (l.variants.entries ≡ done ++ l.number-iterator) × AllByRecursion (λ n. n < 2 ^ 32) (keys_of done)
+    × (members_view l.members.entries ≡ shown_choices (map choice_of done))
