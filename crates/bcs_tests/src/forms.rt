@@ -1,8 +1,11 @@
 //! Canonical forms, and bytes that are written.
 use crate::building::map;
 use crate::encoding::{MAPS_AS_KEYS, two};
+use bcs_decode::decode_slice;
 use bcs_encode::pieces::PieceSink;
-use bcs_encode::{ByteSink, WriteFault, canonicalise, write};
+use bcs_encode::{
+    ByteSink, EncodeFault, WriteFault, canonicalise, encode, encode_by_entries, write,
+};
 use bcs_registry::Registry;
 use bcs_value::{Limits, Value, same};
 use std::test::Fail;
@@ -44,6 +47,35 @@ fn canonicalise_orders_inner_maps(rt: HostRuntime) -> Result<(), Fail> {
     Ok(())
 }
 
+// The order as given, that of the keys' bytes as given, and that of their numbers alone would each give other bytes.
+#[test]
+fn maps_as_keys_stand_by_their_canonical_bytes(rt: HostRuntime) -> Result<(), Fail> {
+    let alloc = rt.alloc();
+    let registry = Registry::read(alloc, b"{}")?;
+    let format = registry.read_format(alloc, MAPS_AS_KEYS.as_bytes())?;
+    let limits = Limits::standard();
+    let entries = [
+        (two(alloc, 4, 1, 1, 9)?, Value::Unsigned(5)),
+        (two(alloc, 255, 0, 128, 3)?, Value::Unsigned(4)),
+        (two(alloc, 7, 0, 1, 2)?, Value::Unsigned(6)),
+    ];
+    let value = map(alloc, entries)?;
+    // the keys {1: 2, 7: 0}, {1: 9, 4: 1} and {128: 3, 255: 0}, and behind each its value
+    let bytes =
+        b"\x03\x02\x01\x02\x07\x00\x06\x02\x01\x09\x04\x01\x05\x02\x80\x03\xff\x00\x04".as_slice();
+    let encoded = encode(alloc, &registry, &format, &limits, &value)?;
+    assert_eq!(rt; encoded.as_slice(), bytes, "encoded");
+    let by_entries = encode_by_entries(alloc, &registry, &format, &limits, &value)?;
+    assert_eq!(rt; by_entries.as_slice(), bytes, "by entries");
+    let form = canonicalise(alloc, &registry, &format, &limits, &value)?;
+    let formed = encode(alloc, &registry, &format, &limits, &form)?;
+    assert_eq!(rt; formed.as_slice(), bytes, "of the form");
+    let (decoded, length) = decode_slice(alloc, &registry, &format, &limits, bytes)?;
+    assert_eq!(rt; length, bytes.len());
+    assert!(rt; same(&decoded, &value));
+    Ok(())
+}
+
 #[test]
 fn write_puts_the_encoding_in_pieces(rt: HostRuntime) -> Result<(), Fail> {
     let alloc = rt.alloc();
@@ -79,5 +111,42 @@ fn write_puts_the_encoding_in_pieces(rt: HostRuntime) -> Result<(), Fail> {
     assert_eq!(rt; written, Err(WriteFault::Write { written: 4 }));
     assert!(rt; failing.failed());
     assert_eq!(rt; failing.taken(), b"\x02\x00\x01\x00".as_slice());
+    Ok(())
+}
+
+// The sink takes a byte a call, and is not called where the value is refused.
+#[test]
+fn write_fails_at_a_value_before_it_does_at_a_put(rt: HostRuntime) -> Result<(), Fail> {
+    let alloc = rt.alloc();
+    let registry = Registry::read(alloc, b"{}")?;
+    let number = Value::Signed(-4660);
+    let repeated = two(alloc, 1, 2, 1, 3)?;
+    let refused = WriteFault::Encode(EncodeFault::RepeatedKey);
+    for (format, value, fail_at, fault, failed, taken) in [
+        (
+            r#""I16""#,
+            &number,
+            2,
+            WriteFault::Write { written: 1 },
+            true,
+            b"\xcc".as_slice(),
+        ),
+        (
+            r#"{"MAP":{"KEY":"U8","VALUE":"U8"}}"#,
+            &repeated,
+            1,
+            refused,
+            false,
+            b"",
+        ),
+    ] {
+        let format_read = registry.read_format(alloc, format.as_bytes())?;
+        let limits = Limits::standard();
+        let mut sink = PieceSink::<8>::new(1, Some(fail_at));
+        let written = write(alloc, &registry, &format_read, &limits, value, &mut sink);
+        assert_eq!(rt; written, Err(fault), "{format}");
+        assert_eq!(rt; sink.failed(), failed, "{format}");
+        assert_eq!(rt; sink.taken(), taken, "{format}");
+    }
     Ok(())
 }

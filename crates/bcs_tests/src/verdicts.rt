@@ -337,6 +337,7 @@ fn limits_are_met(rt: HostRuntime) -> Result<(), Fail> {
             Err((Reason::TooManyNodes, 3)),
         ),
         (L, b"\x00", 0, 0, Err((Reason::TooDeep, 0))),
+        (N, b"", 0, 0, Err((Reason::TooDeep, 0))),
         (L, b"\x00", 1, 3, Ok(1)),
         (L, b"\x00", 1, 2, Err((Reason::TooManyNodes, 0))),
         (L, b"\x01\x00", 1, 100, Err((Reason::TooDeep, 1))),

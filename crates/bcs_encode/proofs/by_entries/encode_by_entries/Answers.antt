@@ -15,3 +15,24 @@ returns-in_err-put-clause-fault c =
     let p = err_from_is_err_and c.from_residual-in_err-put.result c.from_residual-in_err-put.ensures.1 in
     rw p.1 (λ k. unwritten_refuses c.args.registry.now c.args.limits.now (shape_of c.args.format.now) (tree_of c.args.value.now) _
     c.in_ok-check_soundness.ensures.sound (search rules))
+
+pub returns-in_err-check_soundness-clause-encoding : goal.returns-in_err-check_soundness-clause-encoding
+returns-in_err-check_soundness-clause-encoding c = search rules
+
+pub returns-in_err-check_soundness-clause-fault : goal.returns-in_err-check_soundness-clause-fault
+returns-in_err-check_soundness-clause-fault c = search rules
+
+pub returns-in_err-check_soundness-clause-memory : goal.returns-in_err-check_soundness-clause-memory
+returns-in_err-check_soundness-clause-memory c = search rules
+
+pub returns-in_err-put-clause-encoding : goal.returns-in_err-put-clause-encoding
+returns-in_err-put-clause-encoding c = search rules
+
+pub returns-in_err-put-clause-memory : goal.returns-in_err-put-clause-memory
+returns-in_err-put-clause-memory c = search rules
+
+pub returns-clause-fault : goal.returns-clause-fault
+returns-clause-fault c = search rules
+
+pub returns-clause-memory : goal.returns-clause-memory
+returns-clause-memory c = search rules

@@ -20,3 +20,30 @@ returns-in_err-form-clause-fault c =
     let p = err_from_is_err_and c.from_residual-in_err-form.result c.from_residual-in_err-form.ensures.1 in
     rw p.1 (λ k. unwritten_refuses c.args.registry.now c.args.limits.now (shape_of c.args.format.now) (tree_of c.args.value.now) _
     c.in_ok-check_soundness.ensures.sound (search rules))
+
+pub returns-in_err-check_soundness-clause-sound : goal.returns-in_err-check_soundness-clause-sound
+returns-in_err-check_soundness-clause-sound c = search rules
+
+pub returns-in_err-check_soundness-clause-form : goal.returns-in_err-check_soundness-clause-form
+returns-in_err-check_soundness-clause-form c = search rules
+
+pub returns-in_err-check_soundness-clause-fault : goal.returns-in_err-check_soundness-clause-fault
+returns-in_err-check_soundness-clause-fault c = search rules
+
+pub returns-in_err-check_soundness-clause-memory : goal.returns-in_err-check_soundness-clause-memory
+returns-in_err-check_soundness-clause-memory c = search rules
+
+pub returns-in_err-form-clause-sound : goal.returns-in_err-form-clause-sound
+returns-in_err-form-clause-sound c = search rules
+
+pub returns-in_err-form-clause-form : goal.returns-in_err-form-clause-form
+returns-in_err-form-clause-form c = search rules
+
+pub returns-in_err-form-clause-memory : goal.returns-in_err-form-clause-memory
+returns-in_err-form-clause-memory c = search rules
+
+pub returns-clause-fault : goal.returns-clause-fault
+returns-clause-fault c = search rules
+
+pub returns-clause-memory : goal.returns-clause-memory
+returns-clause-memory c = search rules

@@ -1,4 +1,5 @@
-use Rattle.std.proofs.Common.{◌≡◌, ◌∙◌, ◌+◌, ◌-◌, ◌++◌, arith, take, drop, length, length-drop, ℕ, List, ap, sym, subst}
+use Rattle.std.proofs.lemmas.Grind.{common_steps}
+use Rattle.std.proofs.Common.{◌≡◌, ◌∙◌, ◌+◌, ◌-◌, ◌++◌, arith, take, drop, length, length-drop, ℕ, List, ap, sym, subst, rules}
 use Rattle.std.proofs.Math.Seq.{take-add}
 use Rattle.std.proofs.lemmas.List.{take_all}
 use Rattle.bcs_encode_sinks.specs.Taking.{Took}
@@ -20,3 +21,15 @@ loop-at-preserved g c =
       front = subst (λ (bs : List ℕ). Took g.K.ByteSink.taken g.K.ByteSink.is_failed c.args.sink.now c.put.new.self bs) (sym pieces)
           (Took-then g.K.ByteSink.taken g.K.ByteSink.is_failed c.args.sink.now l.sink c.put.new.self (take l.at p) _ l.invariant.front now.3);
     }
+
+pub returns-in-Err-clause-whole : goal.returns-in-Err-clause-whole
+returns-in-Err-clause-whole g c = search rules
+
+pub returns-in-Err-clause-part : goal.returns-in-Err-clause-part
+returns-in-Err-clause-part g c = search rules
+
+pub returns-clause-part : goal.returns-clause-part
+returns-clause-part g c = search rules
+
+pub returns-clause-whole : goal.returns-clause-whole
+returns-clause-whole g c = grind (arith, common_steps)

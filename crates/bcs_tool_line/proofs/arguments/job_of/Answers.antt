@@ -1,4 +1,4 @@
-use Rattle.std.proofs.Common.{◌≡◌, ◌∙◌, ap, ap₂, refl, codes, Option, Some, None, option_map, unwrap_or, Bor, List, ℕ}
+use Rattle.std.proofs.Common.{◌≡◌, ◌∙◌, ap, ap₂, refl, codes, Option, Some, None, option_map, unwrap_or, Bor, List, ℕ, rules}
 use Rattle.std.specs.Option.{option_or}
 use Rattle.std.specs.Str.{bytes_eq}
 use Rattle.clap.specs.Words.{found_of}
@@ -33,3 +33,18 @@ returns c =
           ∙ (unwrap_or-option_map (λ t. t.now) c.get_str-7.result _
           ∙ ap text_or_empty (c.get_str-7.ensures ∙ first_value-rows f (codes "raw"))));
     }
+
+pub returns-in_err-text_of : goal.returns-in_err-text_of
+returns-in_err-text_of c = search rules
+
+pub returns-in_err-text_of-2 : goal.returns-in_err-text_of-2
+returns-in_err-text_of-2 c = search rules
+
+pub returns-in_err-text_of-3 : goal.returns-in_err-text_of-3
+returns-in_err-text_of-3 c = search rules
+
+pub returns-in_err-text_of-4 : goal.returns-in_err-text_of-4
+returns-in_err-text_of-4 c = search rules
+
+pub returns-in_err-file_name : goal.returns-in_err-file_name
+returns-in_err-file_name c = search rules

@@ -1,4 +1,4 @@
-use Rattle.std.proofs.Common.{◌∙◌, sym}
+use Rattle.std.proofs.Common.{◌∙◌, sym, rules}
 use Rattle.clap.specs.Words.{app_of}
 use Rattle.bcs_tool_words.specs.CommandLine.{texts_of}
 use Rattle.bcs_tool_line.specs.LineFaults.{IsFaultOf}
@@ -28,3 +28,42 @@ unreachable-requires-in_default-named c =
 pub returns-clause-taken : goal.returns-clause-taken
 returns-clause-taken c =
     taken_as (app_of c.in_ok-definition.definition) (texts_of c.args.words.now) c.in_ok-definition.ensures c.in-Ok.ensures.kinds
+
+pub returns-in_err-definition-clause-job : goal.returns-in_err-definition-clause-job
+returns-in_err-definition-clause-job c = search rules
+
+pub returns-in_err-definition-clause-taken : goal.returns-in_err-definition-clause-taken
+returns-in_err-definition-clause-taken c = search rules
+
+pub returns-in_err-definition-clause-fault : goal.returns-in_err-definition-clause-fault
+returns-in_err-definition-clause-fault c = search rules
+
+pub returns-in_err-definition-clause-good : goal.returns-in_err-definition-clause-good
+returns-in_err-definition-clause-good c = search rules
+
+pub returns-in-Err-clause-job : goal.returns-in-Err-clause-job
+returns-in-Err-clause-job c = search rules
+
+pub returns-in-Err-clause-taken : goal.returns-in-Err-clause-taken
+returns-in-Err-clause-taken c = search rules
+
+pub returns-in_err-job_of-clause-job : goal.returns-in_err-job_of-clause-job
+returns-in_err-job_of-clause-job c = search rules
+
+pub returns-in_err-job_of-clause-taken : goal.returns-in_err-job_of-clause-taken
+returns-in_err-job_of-clause-taken c = search rules
+
+pub returns-in_err-job_of-clause-fault : goal.returns-in_err-job_of-clause-fault
+returns-in_err-job_of-clause-fault c = search rules
+
+pub returns-in_err-job_of-clause-good : goal.returns-in_err-job_of-clause-good
+returns-in_err-job_of-clause-good c = search rules
+
+pub returns-clause-job : goal.returns-clause-job
+returns-clause-job c = search rules
+
+pub returns-clause-fault : goal.returns-clause-fault
+returns-clause-fault c = search rules
+
+pub returns-clause-good : goal.returns-clause-good
+returns-clause-good c = search rules

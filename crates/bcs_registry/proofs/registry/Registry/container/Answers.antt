@@ -1,4 +1,4 @@
-use Rattle.std.proofs.Common.{sym, ap, ◌∙◌, option_map}
+use Rattle.std.proofs.Common.{sym, ap, ◌∙◌, option_map, rules}
 use Rattle.bcs_registry_formats.specs.Container.{container_at}
 use Rattle.bcs_registry_formats.specs.View.{container_of}
 use Rattle.bcs_registry_formats.proofs.Lookup.{map-copied, find-container}
@@ -9,3 +9,9 @@ returns-clause-found c =
     map-copied container_of c.get.result ∙ ap (option_map container_of) c.get.ensures.value
     ∙ sym (find-container c.args.name.now c.self.inside.containers.entries)
     ∙ ap (container_at c.args.name.now) c.self.view_is
+
+pub returns-clause-well_formed : goal.returns-clause-well_formed
+returns-clause-well_formed c = search rules
+
+pub returns-clause-orderly : goal.returns-clause-orderly
+returns-clause-orderly c = search rules

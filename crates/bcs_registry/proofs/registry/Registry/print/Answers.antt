@@ -1,4 +1,4 @@
-use Rattle.std.proofs.Common.{string_bytes, ◌≡◌, ◌∙◌, ◌≤◌, false, sym, ap, subst}
+use Rattle.std.proofs.Common.{string_bytes, ◌≡◌, ◌∙◌, ◌≤◌, false, sym, ap, subst, rules}
 use Rattle.std.proofs.lemmas.Result.{IfOk-weaker}
 use Rattle.std.proofs.lemmas.Str.{IsUtf8-string_bytes}
 use Rattle.serde_json.specs.Data.{depth}
@@ -34,3 +34,12 @@ pub returns-clause-no_other : goal.returns-clause-no_other
 returns-clause-no_other c =
     IfOk-weaker c.to_string.result (λ s. WritesRegistry (string_bytes s) c.args.self.now) _
     (λ s writes other h. same_registry (string_bytes s) other c.args.self.now h writes) (returns-clause-reads_back c)
+
+pub returns-in_err-registry_value-clause-text : goal.returns-in_err-registry_value-clause-text
+returns-in_err-registry_value-clause-text c = search rules
+
+pub returns-in_err-registry_value-clause-reads_back : goal.returns-in_err-registry_value-clause-reads_back
+returns-in_err-registry_value-clause-reads_back c = search rules
+
+pub returns-in_err-registry_value-clause-no_other : goal.returns-in_err-registry_value-clause-no_other
+returns-in_err-registry_value-clause-no_other c = search rules

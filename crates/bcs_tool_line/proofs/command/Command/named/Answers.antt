@@ -1,0 +1,14 @@
+use Rattle.std.proofs.Common.{rules}
+use Rattle.bcs_tool_line.proofs.command.Command.named.Goals as goal
+
+pub returns-in-check : goal.returns-in-check
+returns-in-check c = search rules
+
+pub returns-in-encode : goal.returns-in-encode
+returns-in-encode c = search rules
+
+pub returns-in-grows : goal.returns-in-grows
+returns-in-grows c = search rules
+
+pub returns-in_default : goal.returns-in_default
+returns-in_default c = search rules
