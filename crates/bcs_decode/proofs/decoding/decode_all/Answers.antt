@@ -1,5 +1,5 @@
 use Rattle.std.proofs.lemmas.Grind.{common_steps}
-use Rattle.std.proofs.Common.{take, arith}
+use Rattle.std.proofs.Common.{take, arith, rules}
 use Rattle.std.proofs.lemmas.List.{length-take}
 use Rattle.bcs_registry_formats.specs.View.{shape_of}
 use Rattle.bcs_decode.proofs.Wholes.{trails_by}
@@ -14,3 +14,33 @@ returns-in-Ok-next-clause-told g c =
 
 pub returns-in-Ok-eq0-clause-told : goal.returns-in-Ok-eq0-clause-told
 returns-in-Ok-eq0-clause-told g c = grind (arith, common_steps)
+
+pub returns-in-Ok-eq0-clause-read : goal.returns-in-Ok-eq0-clause-read
+returns-in-Ok-eq0-clause-read g c = search rules
+
+pub returns-in-Ok-eq0-clause-memory : goal.returns-in-Ok-eq0-clause-memory
+returns-in-Ok-eq0-clause-memory g c = search rules
+
+pub returns-in-Ok-next-clause-read : goal.returns-in-Ok-next-clause-read
+returns-in-Ok-next-clause-read g c = search rules
+
+pub returns-in-Ok-next-clause-memory : goal.returns-in-Ok-next-clause-memory
+returns-in-Ok-next-clause-memory g c = search rules
+
+pub returns-in-Err-next-clause-told : goal.returns-in-Err-next-clause-told
+returns-in-Err-next-clause-told g c = search rules
+
+pub returns-in-Err-next-clause-read : goal.returns-in-Err-next-clause-read
+returns-in-Err-next-clause-read g c = search rules
+
+pub returns-in-Err-next-clause-memory : goal.returns-in-Err-next-clause-memory
+returns-in-Err-next-clause-memory g c = search rules
+
+pub returns-in-Err-clause-told : goal.returns-in-Err-clause-told
+returns-in-Err-clause-told g c = search rules
+
+pub returns-in-Err-clause-read : goal.returns-in-Err-clause-read
+returns-in-Err-clause-read g c = search rules
+
+pub returns-in-Err-clause-memory : goal.returns-in-Err-clause-memory
+returns-in-Err-clause-memory g c = search rules

@@ -1,4 +1,4 @@
-use Rattle.std.proofs.Common.{refl, false}
+use Rattle.std.proofs.Common.{refl, false, rules}
 use Rattle.std.proofs.lemmas.Result.{err_from_is_err_and}
 use Rattle.bcs_registry_formats.specs.View.{shape_of}
 use Rattle.bcs_decode.proofs.Wholes.{decoded, stopped}
@@ -16,3 +16,24 @@ returns-clause-told g c =
     let depth = c.depth.ensures.is in
     decoded c.args.registry.now c.args.limits.now (shape_of c.args.format.now) (g.S.ByteSource.content c.args.source.now) (g.S.ByteSource.content c.value.new.source) c.value.new.slot
     (record { place = 0; known = c.args.known; nodes = c.nodes.result; is_in_key = false; kept = c.new.result }) c.value.new.at refl c.nodes.ensures.is (rw (← depth) c.in_ok-value.ensures.sees)
+
+pub returns-then-failed-clause-told : goal.returns-then-failed-clause-told
+returns-then-failed-clause-told g c = search rules
+
+pub returns-then-failed-clause-read : goal.returns-then-failed-clause-read
+returns-then-failed-clause-read g c = search rules
+
+pub returns-then-failed-clause-memory : goal.returns-then-failed-clause-memory
+returns-then-failed-clause-memory g c = search rules
+
+pub returns-in_err-value-clause-read : goal.returns-in_err-value-clause-read
+returns-in_err-value-clause-read g c = search rules
+
+pub returns-in_err-value-clause-memory : goal.returns-in_err-value-clause-memory
+returns-in_err-value-clause-memory g c = search rules
+
+pub returns-clause-read : goal.returns-clause-read
+returns-clause-read g c = search rules
+
+pub returns-clause-memory : goal.returns-clause-memory
+returns-clause-memory g c = search rules

@@ -1,4 +1,4 @@
-use Rattle.std.proofs.Common.{◌∙◌, ap, ap₂, sym, arith, ℕ, Ok, Err}
+use Rattle.std.proofs.Common.{◌∙◌, ap, ap₂, sym, arith, ℕ, Ok, Err, rules}
 use Rattle.std.proofs.lemmas.List.{get_or_default}
 use Rattle.std.proofs.lemmas.Result.{err_from_is_err_and}
 use Rattle.bcs_registry_formats.specs.View.{shape_of}
@@ -67,3 +67,9 @@ returns-in_err-value-clause-stopped c = λ d o bad.
     let e = ap (λ d. value_here skipping r d s 0 l.nodes b) (sym c.depth.ensures.is) ∙ ap (λ m. value_here skipping r c.depth.result s 0 m b) (sym c.nodes.ensures.is) ∙ c.in_err-value.ensures.passes in
     let same = stopped_only r l s b _ _ e d o bad in
     rw (p.1, p.2) (ap₂ (λ (x : Reason) (y : ℕ). Err (record { reason = x; place = y })) same.0 same.1))
+
+pub returns-in_err-value-clause-found : goal.returns-in_err-value-clause-found
+returns-in_err-value-clause-found c = search rules
+
+pub returns-clause-stops : goal.returns-clause-stops
+returns-clause-stops c = search rules

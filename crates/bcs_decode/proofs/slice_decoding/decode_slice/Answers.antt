@@ -1,4 +1,4 @@
-use Rattle.std.proofs.Common.{ℕ, List, Some, Err, ap, subst, arith}
+use Rattle.std.proofs.Common.{ℕ, List, Some, Err, ap, subst, arith, rules}
 use Rattle.std.proofs.lemmas.List.{get_or_default}
 use Rattle.bcs_registry_formats.specs.View.{shape_of}
 use Rattle.bcs_decode_laws.specs.Exact.{AreBytes}
@@ -21,3 +21,18 @@ returns-in-Err-decode_known-clause-decodes c =
 
 pub returns-in-Err-decode_known-clause-stopped : goal.returns-in-Err-decode_known-clause-stopped
 returns-in-Err-decode_known-clause-stopped c = λ e o bad. absurd (let h = c.in-Ok.ensures.stopped e o bad in cc)
+
+pub returns-in-Ok-decode_known-clause-memory : goal.returns-in-Ok-decode_known-clause-memory
+returns-in-Ok-decode_known-clause-memory c = search rules
+
+pub returns-in-Err-decode_known-clause-memory : goal.returns-in-Err-decode_known-clause-memory
+returns-in-Err-decode_known-clause-memory c = search rules
+
+pub returns-in-Err-clause-decodes : goal.returns-in-Err-clause-decodes
+returns-in-Err-clause-decodes c = search rules
+
+pub returns-in-Err-clause-stopped : goal.returns-in-Err-clause-stopped
+returns-in-Err-clause-stopped c = search rules
+
+pub returns-in-Err-clause-memory : goal.returns-in-Err-clause-memory
+returns-in-Err-clause-memory c = search rules
