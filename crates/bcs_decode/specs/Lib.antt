@@ -9,3 +9,4 @@ pub use Rattle.bcs_decode_laws.specs.Accepting
 pub use Rattle.bcs_decode_laws.specs.Stopping
 pub use Rattle.bcs_decode_laws.specs.Exact
 pub use Rattle.bcs_decode_laws.specs.Laws
+pub use Rattle.bcs_decode_reader.specs.Sees

@@ -2,3 +2,7 @@ pub mod Front
 pub mod Spelling
 pub mod RunFault
 pub mod Answers
+pub use Rattle.bcs_tool_files.specs.Files
+pub use Rattle.bcs_tool_line.specs.Jobs
+pub use Rattle.bcs_tool_line.specs.LineFaults
+pub use Rattle.bcs_tool_words.specs.CommandLine
