@@ -1,17 +1,18 @@
 -- A value of each kind, over exact parsers of its parts.
-use Rattle.std.proofs.Common.{◌≡◌, ℕ, suc, ◌^◌, ◌==◌, nat_le, true, false, ℤ, pos, negsuc, List, ◌∷◌, ◌++◌, length, None, refl, sym, ap, ap₂, subst, ◌∙◌, arith, inl, inr}
+use Rattle.std.proofs.Common.{◌≡◌, ℕ, suc, ◌^◌, ◌==◌, nat_le, false, List, ◌∷◌, ◌++◌, length, None, refl, sym, ap, ap₂, subst, ◌∙◌, arith, inl, inr}
 use Rattle.std.proofs.lemmas.Bool.{false≢true, and_parts, and_from, ltb-true, lt-ltb, leb-true, le-leb, eq-eqb}
 use Rattle.bcs_value_laws.proofs.Equivalence.{nat-same}
 use Rattle.std.specs.Int.{Width, byte_len}
-use mir.Val.{bits, hbits}
+use mir.Val.{bits}
 use Rattle.bcs_num.specs.Uleb.{uleb}
-use Rattle.bcs_num.specs.Le.{IsSigned, le}
+use Rattle.bcs_num.specs.Le.{le}
+use Rattle.bcs_num.proofs.Ranges.{holds_signed-is, is-holds_signed}
 use Rattle.bcs_registry_formats.specs.Shape as shape
 use Rattle.bcs_registry_formats.specs.Shape.{Shape, Shapes, no_shapes, shape}
 use Rattle.bcs_registry_formats.specs.Container.{Entries, Content, of}
 use Rattle.bcs_value_tree.specs.Tree as tree
 use Rattle.bcs_value_tree.specs.Tree.{Tree, Trees, no_trees, tree, Pairs, no_pairs, pair, count, pair_count, depth, nodes, trees_nodes, pairs_nodes}
-use Rattle.bcs_value_laws.specs.Fits.{all_fit, is_signed_below}
+use Rattle.bcs_value_laws.specs.Fits.{all_fit}
 use Rattle.bcs_encode_laws.specs.Plain.{plain, plain_items, plain_pairs}
 use Rattle.bcs_encode_laws.specs.Lengths.{length_limit, all_hold, pairs_hold}
 use Rattle.bcs_decode_stops.specs.declared.reason.Reason.{Reason}
@@ -32,14 +33,6 @@ Here registry d f = Says registry f (IsDecodable registry d f)
 
 same_stop : (S : Stopping) (p m : ℕ) (b : List ℕ) (e : Reason) (o : ℕ) → S p m b e o → S p m b e o
 same_stop S p m b e o s = s
-
-below_half : (w : Width) (z : ℤ) → is_signed_below (2 ^ hbits w) z ≡ true → IsSigned w z
-below_half w (pos n) h = record { sfits = ltb-true n (2 ^ hbits w) h }
-below_half w (negsuc n) h = record { sfits = ltb-true n (2 ^ hbits w) h }
-
-half_below : (w : Width) (z : ℤ) → IsSigned w z → is_signed_below (2 ^ hbits w) z ≡ true
-half_below w (pos n) h = lt-ltb n (2 ^ hbits w) h.sfits
-half_below w (negsuc n) h = lt-ltb n (2 ^ hbits w) h.sfits
 
 module _ (registry : Entries) (d : ℕ) where
   -- ---- values without parts
@@ -96,11 +89,11 @@ module _ (registry : Entries) (d : ℕ) where
     where
       to : (t : Tree) (v : ℕ) (s : List ℕ) → Made tree.signed (SignedReads w) t v s → Here registry d (of (shape.signed w)) t (suc v) s
       to t v s (x, h, e) =
-          subst (λ (y : Tree). Here registry d (of (shape.signed w)) y (suc v) s) (sym e) (decodable registry d (of (shape.signed w)) (tree.signed x) (half_below w x h.0) tt (omega arith) refl, omega (arith, h.1), h.2)
+          subst (λ (y : Tree). Here registry d (of (shape.signed w)) y (suc v) s) (sym e) (decodable registry d (of (shape.signed w)) (tree.signed x) (is-holds_signed w x h.0) tt (omega arith) refl, omega (arith, h.1), h.2)
 
       from : (t : Tree) (v m : ℕ) (s : List ℕ) → IsDecodable registry d (of (shape.signed w)) t → m ≡ nodes t
           → s ≡ plain registry t (of (shape.signed w)) → (v : ℕ) × (m ≡ suc v) × Made tree.signed (SignedReads w) t v s
-      from (tree.signed x) v m s h i j = (0, i, (x, (below_half w x h.sound.fit, refl, j), refl))
+      from (tree.signed x) v m s h i j = (0, i, (x, (holds_signed-is w x h.sound.fit, refl, j), refl))
       from _ v m s h i j = absurd (let e = h.sound.fit in cc)
 
   pub exact_unsupported : (u : shape.Unsupported)

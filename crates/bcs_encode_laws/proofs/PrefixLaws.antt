@@ -1,10 +1,10 @@
 -- No value's bytes begin another's.
-use Rattle.std.proofs.Common.{◌≡◌, ℕ, ◌^◌, ℤ, pos, negsuc, Bool, true, false, ◌&&◌, ◌==◌, List, [], ◌∷◌, ◌++◌, length, refl, sym, ap, ap₂, subst, ◌∙◌, append_assoc}
+use Rattle.std.proofs.Common.{◌≡◌, ℕ, ◌^◌, Bool, true, false, ◌&&◌, ◌==◌, List, [], ◌∷◌, ◌++◌, length, refl, sym, ap, ap₂, subst, ◌∙◌, append_assoc}
 use Rattle.std.proofs.lemmas.Bool.{false≢true, and_parts, eqb-true, ltb-true}
 use Rattle.std.specs.Int.{Width}
-use mir.Val.{bits, hbits}
+use mir.Val.{bits}
 use Rattle.bcs_num.specs.Uleb.{uleb}
-use Rattle.bcs_num.specs.Le.{IsSigned}
+use Rattle.bcs_num.proofs.Ranges.{holds_signed-is}
 use Rattle.bcs_num.proofs.UlebLaws.{uleb_prefix_free}
 use Rattle.bcs_num.proofs.LeLaws.{le_prefix_free, le_signed_prefix_free}
 use Rattle.bcs_value_tree.specs.Tree as tree
@@ -12,7 +12,7 @@ use Rattle.bcs_value_tree.specs.Tree.{Tree, Trees, no_trees, tree, Pairs, no_pai
 use Rattle.bcs_registry_formats.specs.Shape as shape
 use Rattle.bcs_registry_formats.specs.Shape.{Shape, Shapes, no_shapes, shape}
 use Rattle.bcs_registry_formats.specs.Container.{Entries, Content, of, one_of, content_at, choice_at}
-use Rattle.bcs_value_laws.specs.Fits.{fits, all_fit, each_fits, pairs_fit, is_signed_below}
+use Rattle.bcs_value_laws.specs.Fits.{fits, all_fit, each_fits, pairs_fit}
 use Rattle.bcs_value_laws.proofs.VariantFits.{payload_fits}
 use Rattle.bcs_encode_laws.specs.Plain.{plain, plain_items, plain_each, plain_pairs, truth_byte}
 
@@ -34,10 +34,6 @@ same_front (x ∷ b) (y ∷ c) r s l e =
 pair_same : {k l v w : Tree} {ps qs : Pairs} → k ≡ l → v ≡ w → ps ≡ qs → pair k v ps ≡ pair l w qs
 pair_same e d h = cc
 
-below_half : (w : Width) (z : ℤ) → is_signed_below (2 ^ hbits w) z ≡ true → IsSigned w z
-below_half w (pos n) h = record { sfits = ltb-true n (2 ^ hbits w) h }
-below_half w (negsuc n) h = record { sfits = ltb-true n (2 ^ hbits w) h }
-
 truth_free : (a b : Bool) (r s : List ℕ) → truth_byte a ∷ r ≡ truth_byte b ∷ s → (a ≡ b) × (r ≡ s)
 truth_free true true r s e = (refl, cc)
 truth_free true false r s e = absurd cc
@@ -53,7 +49,7 @@ module _ (registry : Entries) where
     plain_free (tree.unsigned m) (of (shape.unsigned w)) (tree.unsigned n) r s h g e =
         let q = le_prefix_free w m n r s (ltb-true m (2 ^ bits w) h) (ltb-true n (2 ^ bits w) g) e in
         (ap tree.unsigned q.0, q.1)
-    plain_free (tree.signed y) (of (shape.signed w)) (tree.signed z) r s h g e = let q = le_signed_prefix_free w y z r s (below_half w y h) (below_half w z g) e in (ap tree.signed q.0, q.1)
+    plain_free (tree.signed y) (of (shape.signed w)) (tree.signed z) r s h g e = let q = le_signed_prefix_free w y z r s (holds_signed-is w y h) (holds_signed-is w z g) e in (ap tree.signed q.0, q.1)
     plain_free (tree.text x) (of shape.text) (tree.text y) r s h g e =
         let p = number_free (length x) (length y) x y r s e in
         let q = same_front x y r s p.0 p.1 in

@@ -6,12 +6,12 @@ use Rattle.bcs_num.specs.Le.{le}
 use Rattle.bcs_registry_formats.specs.Container.{Entries, of}
 use Rattle.bcs_registry_formats.specs.Shape as shape
 use Rattle.bcs_registry_formats.specs.Shape.{Shape}
+use Rattle.bcs_registry_formats.specs.Whole.{whole_shape}
+use Rattle.bcs_registry_formats.specs.declared.whole_number.WholeNumber.{WholeNumber}
+use Rattle.bcs_registry_formats.specs.declared.whole_number.WholeNumber.TheVariants.{Unsigned, Signed}
 use Rattle.bcs_value_tree.specs.Tree as tree
 use Rattle.bcs_value_tree.specs.Tree.{Tree, Trees, no_trees, tree}
-use Rattle.bcs_encode_parts.specs.NumberShape.{number_shape}
 use Rattle.bcs_encode_parts.specs.Writing.{Verdict, chain, written, items_written}
-use Rattle.bcs_encode_parts.specs.declared.number_format.NumberFormat.{NumberFormat}
-use Rattle.bcs_encode_parts.specs.declared.number_format.NumberFormat.TheVariants.{Unsigned, Signed}
 
 -- a number of one byte is its byte
 pub one_byte : (n : ℕ) → n < 256 → le w8 n ≡ n ∷ []
@@ -46,7 +46,7 @@ signed_anywhere r q w (tree.variant n t) b = refl
 signed_anywhere r q w (tree.pairs ps) b = refl
 signed_anywhere r q w (tree.named t) b = refl
 
-number_anywhere : (r q : Entries) (n : NumberFormat) (t : Tree) (b : List ℕ) → written r t (of (number_shape n)) b ≡ written q t (of (number_shape n)) b
+number_anywhere : (r q : Entries) (n : WholeNumber) (t : Tree) (b : List ℕ) → written r t (of (whole_shape n)) b ≡ written q t (of (whole_shape n)) b
 number_anywhere r q (Unsigned w) t b = unsigned_anywhere r q _ t b
 number_anywhere r q (Signed w) t b = signed_anywhere r q _ t b
 
@@ -54,10 +54,10 @@ chain_alike : (v w : Verdict) (f g : List ℕ → Verdict) → v ≡ w → ((b :
 chain_alike (Ok b) w f g e same = same b ∙ ap (λ (x : Verdict). chain x g) e
 chain_alike (Err k) w f g e same = ap (λ (x : Verdict). chain x g) e
 
-pub numbers_anywhere : (r q : Entries) (n : NumberFormat) (s : Shape) (ts : Trees) (b : List ℕ) → s ≡ number_shape n
-    → items_written r ts s b ≡ items_written q ts (number_shape n) b
+pub numbers_anywhere : (r q : Entries) (n : WholeNumber) (s : Shape) (ts : Trees) (b : List ℕ) → s ≡ whole_shape n
+    → items_written r ts s b ≡ items_written q ts (whole_shape n) b
 numbers_anywhere r q n s no_trees b e = refl
 numbers_anywhere r q n s (tree t ts) b e =
-    chain_alike (written r t (of s) b) (written q t (of (number_shape n)) b) (items_written r ts s) (items_written q ts (number_shape n))
+    chain_alike (written r t (of s) b) (written q t (of (whole_shape n)) b) (items_written r ts s) (items_written q ts (whole_shape n))
     (ap (λ (x : Shape). written r t (of x) b) e ∙ number_anywhere r q n t b)
     (λ c. numbers_anywhere r q n s ts c e)

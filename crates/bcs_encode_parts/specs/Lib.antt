@@ -2,4 +2,3 @@ pub mod Writing
 pub mod EntryView
 pub mod Forming
 pub mod FormedView
-pub mod NumberShape

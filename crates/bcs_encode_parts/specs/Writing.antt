@@ -1,20 +1,18 @@
 -- What the writing of a value makes of the bytes before it: those bytes with the value's after them, or a fault. These
 -- functions carry the proofs of the encoder; the public contracts name `Encodes` and `Refuses` alone.
-use Rattle.std.specs.Prelude.{◌≡◌, ℕ, ℤ, suc, ◌^◌, Bool, true, false, ◌||◌, ◌&&◌, ◌==◌, nat_lt, nat_le, if◌then◌else◌, List, [], ◌∷◌, ◌++◌, length, Result, Ok, Err}
+use Rattle.std.specs.Prelude.{◌≡◌, ℕ, ℤ, suc, Bool, true, false, ◌||◌, ◌&&◌, ◌==◌, nat_le, if◌then◌else◌, List, [], ◌∷◌, ◌++◌, length, Result, Ok, Err}
 use Rattle.std.specs.List.{flat_map}
 use Rattle.std.specs.Str.{bytes_eq}
 use Rattle.std.specs.Int.{Width}
 use Rattle.std.specs.Ordering.{nat_cmp, is_lt}
 use Rattle.std.specs.Cmp.Lexicographic.{slice_cmp}
-use mir.Val.{bits, hbits}
 use Rattle.bcs_num.specs.Uleb.{uleb}
-use Rattle.bcs_num.specs.Le.{le, le_signed}
+use Rattle.bcs_num.specs.Le.{holds_unsigned, holds_signed, le, le_signed}
 use Rattle.bcs_registry_formats.specs.Shape as shape
 use Rattle.bcs_registry_formats.specs.Shape.{Shape, Shapes, no_shapes, shape}
 use Rattle.bcs_registry_formats.specs.Container.{Entries, Content, of, one_of, content_at, choice_at}
 use Rattle.bcs_value_tree.specs.Tree as tree
 use Rattle.bcs_value_tree.specs.Tree.{Tree, Trees, no_trees, tree, Pairs, no_pairs, pair, count, pair_count}
-use Rattle.bcs_value_laws.specs.Fits.{is_signed_below}
 use Rattle.bcs_encode_laws.specs.Lengths.{length_limit}
 use Rattle.bcs_encode_laws.specs.Plain.{truth_byte}
 use Rattle.bcs_encode_laws.specs.Entries.{Entry, entry_bytes}
@@ -43,10 +41,10 @@ abbrev pub bytes_written : List ℕ → List ℕ → Verdict
 bytes_written s b = chain (length_written (length s) b) (λ c. Ok (c ++ s))
 
 abbrev pub unsigned_written : Width → ℕ → List ℕ → Verdict
-unsigned_written w n b = if nat_lt n (2 ^ bits w) then Ok (b ++ le w n) else Err NotOfFormat
+unsigned_written w n b = if holds_unsigned w n then Ok (b ++ le w n) else Err NotOfFormat
 
 abbrev pub signed_written : Width → ℤ → List ℕ → Verdict
-signed_written w z b = if is_signed_below (2 ^ hbits w) z then Ok (b ++ le_signed w z) else Err NotOfFormat
+signed_written w z b = if holds_signed w z then Ok (b ++ le_signed w z) else Err NotOfFormat
 
 -- ---- the entries of a map in order
 

@@ -5,6 +5,5 @@ pub mod arranging;
 pub mod entry_bytes;
 pub mod formed_entries;
 pub mod formed_entry;
-pub mod number_format;
 pub mod number_rows;
 pub mod putting;

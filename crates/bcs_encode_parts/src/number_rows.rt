@@ -1,28 +1,28 @@
 //! Lists of plain numbers. The room for the bytes of a list is asked for once, by the list's length.
 ghost use Rattle.std.specs.Prelude.{◌≡◌, ◌+◌, ◌*◌, ◌<◌, ◌≤◌, [], length, vec_capacity, vec_len, IsErrOf, OnOk};
 ghost use Rattle.bcs_registry_formats.specs.Container.{of};
+ghost use Rattle.bcs_registry_formats.specs.Whole.{whole_len, whole_shape};
 ghost use Rattle.bcs_value_tree.specs.View.{items_trees, tree_of};
-ghost use Rattle.bcs_encode_parts.specs.NumberShape.{number_len, number_shape};
 ghost use Rattle.bcs_encode_parts.specs.Writing.{Tells, items_written, written};
 
-use crate::number_format::NumberFormat;
 use crate::putting::{put_signed, put_unsigned};
 use bcs_encode_laws::EncodeFault;
+use bcs_registry_formats::WholeNumber;
 use bcs_value_tree::Value;
 
 /// Appends the bytes of a list's numbers. A number looks up no container, so the clause names a registry without any.
 /// No memory is asked for where the vector has room for the bytes.
 #[inline(never)]
 pub fn put_numbers(
-    format: NumberFormat,
+    format: WholeNumber,
     items: &[Value],
     out: &mut Vec<u8>,
 ) -> Result<(), EncodeFault>
-    ensures tells { Tells result (items_written [] (items_trees items.now) (number_shape format) out.old.items) out.new.items }
-    ensures in_place { vec_len out.old + length items.now * number_len format ≤ vec_capacity out.old
+    ensures tells { Tells result (items_written [] (items_trees items.now) (whole_shape format) out.old.items) out.new.items }
+    ensures in_place { vec_len out.old + length items.now * whole_len format ≤ vec_capacity out.old
         → IsErrOf result EncodeFault.OutOfMemory → ⊥ }
 {
-    out.reserve(items.len().saturating_mul(format.byte_count()))?;
+    out.reserve(items.len().saturating_mul(format.byte_len()))?;
     for item in items {
         put_plain(format, item, out)?;
     }
@@ -30,18 +30,18 @@ pub fn put_numbers(
 }
 
 #[inline(always)]
-fn put_plain(format: NumberFormat, value: &Value, out: &mut Vec<u8>) -> Result<(), EncodeFault>
-    ensures tells { Tells result (written [] (tree_of value.now) (of (number_shape format)) out.old.items) out.new.items }
-    ensures len { OnOk result (vec_len out.new ≡ vec_len out.old + number_len format) }
+fn put_plain(format: WholeNumber, value: &Value, out: &mut Vec<u8>) -> Result<(), EncodeFault>
+    ensures tells { Tells result (written [] (tree_of value.now) (of (whole_shape format)) out.old.items) out.new.items }
+    ensures len { OnOk result (vec_len out.new ≡ vec_len out.old + whole_len format) }
     ensures capacity { vec_capacity out.old ≤ vec_capacity out.new }
     ensures full { IsErrOf result EncodeFault.OutOfMemory
-        → vec_capacity out.old < vec_len out.old + number_len format }
+        → vec_capacity out.old < vec_len out.old + whole_len format }
 {
     match (value, format) {
-        (Value::Unsigned(number), NumberFormat::Unsigned(width)) => put_unsigned(
+        (Value::Unsigned(number), WholeNumber::Unsigned(width)) => put_unsigned(
             width, *number, out,
         ),
-        (Value::Signed(number), NumberFormat::Signed(width)) => put_signed(width, *number, out),
+        (Value::Signed(number), WholeNumber::Signed(width)) => put_signed(width, *number, out),
         _ => Err(EncodeFault::NotOfFormat),
     }
 }

@@ -1,10 +1,8 @@
 //! The bytes of values that have no parts.
-ghost use Rattle.std.specs.Prelude.{◌≡◌, ◌+◌, ◌<◌, ◌≤◌, ◌++◌, ◌∷◌, ◌^◌, [], Ok, nat_lt, vec_capacity, vec_len, IsErrOf, OnOk};
+ghost use Rattle.std.specs.Prelude.{◌≡◌, ◌+◌, ◌<◌, ◌≤◌, ◌++◌, ◌∷◌, [], Ok, vec_capacity, vec_len, IsErrOf, OnOk};
 ghost use Rattle.std.specs.Int.{byte_len};
-ghost use mir.Val.{bits, hbits};
 ghost use Rattle.bcs_num.specs.Le.{width_of};
 ghost use Rattle.bcs_num.specs.Uleb.{uleb};
-ghost use Rattle.bcs_value_laws.specs.Fits as fits;
 ghost use Rattle.bcs_encode_parts.specs.Writing.{Tells, length_written, bytes_written, signed_written, unsigned_written};
 
 use bcs_encode_laws::EncodeFault;
@@ -60,7 +58,7 @@ pub fn put_unsigned(width: Width, number: u128, out: &mut Vec<u8>) -> Result<(),
     ensures full { IsErrOf result EncodeFault.OutOfMemory
         → vec_capacity out.old < vec_len out.old + byte_len (width_of width) }
 {
-    if !is_unsigned(width, number) {
+    if !width.holds_unsigned(number) {
         return Err(EncodeFault::NotOfFormat);
     }
     if let Width::W1 = width {
@@ -82,48 +80,11 @@ pub fn put_signed(width: Width, number: i128, out: &mut Vec<u8>) -> Result<(), E
     ensures full { IsErrOf result EncodeFault.OutOfMemory
         → vec_capacity out.old < vec_len out.old + byte_len (width_of width) }
 {
-    if !is_signed(width, number) {
+    if !width.holds_signed(number) {
         return Err(EncodeFault::NotOfFormat);
     }
     let mut bytes = [0; 16];
     let len = put_le_signed(width, number, &mut bytes);
     out.extend_from_slice(&bytes[..len])?;
     Ok(())
-}
-
-/// Whether the number is a value of the width's unsigned type.
-fn is_unsigned(width: Width, number: u128) -> bool
-    ensures { result ≡ nat_lt number (2 ^ bits (width_of width)) }
-{
-    match width {
-        Width::W1 => number < 0x100,
-        Width::W2 => number < 0x1_0000,
-        Width::W4 => number < 0x1_0000_0000,
-        Width::W8 => number < 0x1_0000_0000_0000_0000,
-        Width::W16 => true,
-    }
-}
-
-/// Whether the number is a value of the width's signed type.
-fn is_signed(width: Width, number: i128) -> bool
-    ensures { result ≡ fits.is_signed_below (2 ^ hbits (width_of width)) number }
-{
-    match width {
-        Width::W1 => is_signed_below(0x80, number),
-        Width::W2 => is_signed_below(0x8000, number),
-        Width::W4 => is_signed_below(0x8000_0000, number),
-        Width::W8 => is_signed_below(0x8000_0000_0000_0000, number),
-        Width::W16 => is_signed_below(0x8000_0000_0000_0000_0000_0000_0000_0000, number),
-    }
-}
-
-/// Whether the number is from -half to half - 1.
-fn is_signed_below(half: u128, number: i128) -> bool
-    ensures { result ≡ fits.is_signed_below half number }
-{
-    if number < 0 {
-        number.unsigned_abs() <= half
-    } else {
-        number.unsigned_abs() < half
-    }
 }

@@ -4,14 +4,14 @@ use Rattle.std.specs.Prelude.{nat_le, nat_lt, ◌^◌}
 use Rattle.std.specs.List.{flat_map}
 use Rattle.std.proofs.lemmas.Bool.{cases_Bool, le-leb}
 use Rattle.std.proofs.Math.Seq.{drop-append_seam, take-append_seam}
-use mir.Val.{bits, hbits}
+use mir.Val.{bits}
 use Rattle.bcs_num.specs.Uleb.{uleb}
 use Rattle.bcs_registry_formats.specs.Shape as shape
 use Rattle.bcs_registry_formats.specs.Shape.{Shape, Shapes, no_shapes, shape}
 use Rattle.bcs_registry_formats.specs.Container.{Entries, Content, of, one_of, content_at, choice_at}
 use Rattle.bcs_value_tree.specs.Tree as tree
 use Rattle.bcs_value_tree.specs.Tree.{Tree, Trees, no_trees, tree, Pairs, no_pairs, pair, count, pair_count}
-use Rattle.bcs_value_laws.specs.Fits.{is_signed_below}
+use Rattle.bcs_num.specs.Le.{holds_signed}
 use Rattle.bcs_encode_laws.specs.Lengths.{length_limit}
 use Rattle.bcs_encode_laws.specs.Entries.{Entry, entry_bytes}
 use Rattle.bcs_encode_parts.specs.Writing.{Verdict, chain, length_written, in_order, has_twins, entries_put, shape_count, written, items_written, each_written, entries_written}
@@ -68,7 +68,7 @@ module _ (registry : Entries) where
     written_after tree.unit (of shape.unit) b x = refl
     written_after (tree.truth t) (of shape.truth) b x = appended b x _
     written_after (tree.unsigned n) (of (shape.unsigned w)) b x = chosen_after b (nat_lt n (2 ^ bits w)) _ _ NotOfFormat (appended b x _)
-    written_after (tree.signed z) (of (shape.signed w)) b x = chosen_after b (is_signed_below (2 ^ hbits w) z) _ _ NotOfFormat (appended b x _)
+    written_after (tree.signed z) (of (shape.signed w)) b x = chosen_after b (holds_signed w z) _ _ NotOfFormat (appended b x _)
     written_after (tree.text s) (of shape.text) b x = length_after (length s) b x (λ c. Ok (c ++ s)) (λ c. Ok (c ++ s)) (λ c. appended b c s)
     written_after (tree.bytes s) (of shape.bytes) b x = length_after (length s) b x (λ c. Ok (c ++ s)) (λ c. Ok (c ++ s)) (λ c. appended b c s)
     written_after tree.absent (of (shape.option s)) b x = appended b x _

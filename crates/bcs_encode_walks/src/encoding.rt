@@ -10,7 +10,6 @@ ghost use Rattle.bcs_encode_parts.specs.Writing as spec;
 ghost use Rattle.bcs_encode_parts.specs.Writing.{Tells};
 
 use bcs_encode_laws::EncodeFault;
-use bcs_encode_parts::number_format::NumberFormat;
 use bcs_encode_parts::number_rows::put_numbers;
 use bcs_encode_parts::putting::{
     put_byte, put_bytes, put_length, put_number, put_signed, put_unsigned,
@@ -20,6 +19,7 @@ use bcs_encode_spans::spans::arrange;
 use bcs_encode_spans::workspace::Workspace;
 use bcs_num::Width;
 use bcs_registry::{Container, Format, Named, Registry, VariantFormat};
+use bcs_registry_formats::WholeNumber;
 use bcs_value::Value;
 
 /// Appends the bytes of a value.
@@ -144,7 +144,7 @@ fn put_all(
     ensures tells { Tells result (spec.items_written registry.now (items_trees items.now) (shape_of element.now) work.old.out.items) work.new.out.items }
     ensures kept { OnOk result (work.new.spans.items ≡ work.old.spans.items) }
 {
-    if let Some(format) = NumberFormat::of(element) {
+    if let Some(format) = WholeNumber::of(element) {
         return put_numbers(format, items, &mut work.out);
     }
     for item in items {

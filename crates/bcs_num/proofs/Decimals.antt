@@ -14,7 +14,7 @@ use Rattle.std.proofs.lemmas.Int.Digits.{digits_value-lt, digits_more, digits_va
 use Rattle.std.proofs.lemmas.List.{append-nil, take_all}
 use Rattle.std.proofs.lemmas.Str.{digit_value_digit}
 use Rattle.std.proofs.lemmas.Str.Parse.{digit_at, digit_from_value, digits_value-take-le}
-use mir.Val.{bits, hbits}
+use mir.Val.{hbits}
 use Rattle.bcs_num.specs.Le.{IsSigned}
 
 -- ---- digits
@@ -134,13 +134,6 @@ plain_only ds r h n small is =
 
 -- ---- with a sign
 
-twice_half : (w : int.Width) → 2 ^ bits w ≡ 2 * 2 ^ hbits w
-twice_half w8 = refl
-twice_half w16 = refl
-twice_half w32 = refl
-twice_half w64 = refl
-twice_half w128 = refl
-
 half_le : (w : int.Width) → 2 ^ hbits w ≤ 2 ^ 127
 half_le w8 = omega arith
 half_le w16 = omega arith
@@ -165,9 +158,9 @@ signed_decimal_injective w (negsuc m) (negsuc n) h g e =
 
 -- a text that begins with `-` is that of a number below 0, -(k + 1), and the bytes after it are digits
 pub minus_text : (w : int.Width) (z : ℤ) (text bytes : List ℕ) → IsSigned w z → get_or text 0 0 ≡ 45 → text ≡ signed_decimal z → bytes ≡ text
-    → (k : ℕ) × (z ≡ negsuc k) × (k < 2 ^ 127) × (k ≤ (2 ^ bits w - 1) / 2) × (take (length bytes - 1) (drop 1 bytes) ≡ decimal (suc k))
+    → (k : ℕ) × (z ≡ negsuc k) × (k < 2 ^ 127) × (k < 2 ^ hbits w) × (take (length bytes - 1) (drop 1 bytes) ≡ decimal (suc k))
 minus_text w (pos n) text bytes fits minus is same =
     absurd (no_minus n (omega (arith, fits.sfits, half_le w)) (sym (ap (λ (x : List ℕ). get_or x 0 0) is) ∙ minus))
 minus_text w (negsuc k) text bytes fits minus is same =
     let whole : take (length bytes - 1) (drop 1 bytes) ≡ drop 1 bytes = take_all (length bytes - 1) (drop 1 bytes) (omega (arith, length-drop 1 bytes)) in
-    (k, refl, omega (arith, fits.sfits, half_le w), omega (arith, fits.sfits, twice_half w), whole ∙ ap (drop 1) (same ∙ is))
+    (k, refl, omega (arith, fits.sfits, half_le w), fits.sfits, whole ∙ ap (drop 1) (same ∙ is))

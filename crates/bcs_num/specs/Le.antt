@@ -1,10 +1,10 @@
 -- Whole numbers of a fixed width, as BCS writes them (BCS specification): two's complement, the
 -- lowest byte first.
-use Rattle.std.specs.Prelude.{ℕ, zero, suc, ℤ, ◌/◌, ◌%◌, ◌^◌, ◌<◌, List, [], ◌∷◌}
+use Rattle.std.specs.Prelude.{ℕ, zero, suc, ℤ, pos, negsuc, ◌/◌, ◌%◌, ◌^◌, ◌<◌, Bool, nat_lt, List, [], ◌∷◌}
 use Rattle.std.specs.Int.{w8, w16, w32, w64, w128, byte_len, cast_unsigned}
 use Rattle.std.specs.Int as int
 use Rattle.std.specs.Int.RustNames.{FitsSigned}
-use mir.Val.{bits}
+use mir.Val.{bits, hbits}
 use Rattle.bcs_num.specs.declared.width.Width.{Width}
 use Rattle.bcs_num.specs.declared.width.Width.TheVariants.{W1, W2, W4, W8, W16}
 
@@ -23,6 +23,14 @@ IsUnsigned w n = n < 2 ^ bits w
 -- z is a value of the signed type of the width
 abbrev pub IsSigned : int.Width → ℤ → Type 0
 IsSigned w z = FitsSigned w z
+
+-- the same as tests: from 0 to 2 ^ bits - 1, and from -2 ^ (bits - 1) to 2 ^ (bits - 1) - 1
+abbrev pub holds_unsigned : int.Width → ℕ → Bool
+holds_unsigned w n = nat_lt n (2 ^ bits w)
+
+abbrev pub holds_signed : int.Width → ℤ → Bool
+holds_signed w (pos n) = nat_lt n (2 ^ hbits w)
+holds_signed w (negsuc n) = nat_lt n (2 ^ hbits w)
 
 -- the lowest k bytes of n, the lowest first
 abbrev pub low_bytes : ℕ → ℕ → List ℕ

@@ -5,7 +5,6 @@ ghost use Rattle.std.specs.Char.{digit_value};
 ghost use Rattle.std.specs.Fmt.{signed_decimal};
 ghost use Rattle.std.specs.Str.Parse.{AllDigits, digits_value};
 ghost use Rattle.bcs_num.specs.Le.{width_of, IsUnsigned, IsSigned};
-ghost use mir.Val.{bits};
 
 use crate::width::Width;
 
@@ -17,7 +16,11 @@ pub fn parse_unsigned(width: Width, text: &str) -> Option<u128>
         → result ≡ Some n }
 {
     let n = plain_number(text.as_bytes())?;
-    if n <= greatest(width) { Some(n) } else { None }
+    if width.holds_unsigned(n) {
+        Some(n)
+    } else {
+        None
+    }
 }
 
 /// The signed number of the width whose plain decimal text this is. `None`: there is none, as of
@@ -27,7 +30,7 @@ pub fn parse_signed(width: Width, text: &str) -> Option<i128>
     ensures only { (z : ℤ) → IsSigned (width_of width) z → text.now ≡ signed_decimal z
         → result ≡ Some z }
 {
-    let greatest = greatest(width) / 2;
+    let greatest = width.greatest_signed();
     match text.as_bytes() {
         [b'-', digits @ ..] => {
             // How far the number lies below -1; `-0` has no such distance.
@@ -42,18 +45,6 @@ pub fn parse_signed(width: Width, text: &str) -> Option<i128>
             let n = plain_number(digits)?;
             if n <= greatest { Some(n as i128) } else { None }
         }
-    }
-}
-
-fn greatest(width: Width) -> u128
-    ensures { result + 1 ≡ 2 ^ bits (width_of width) }
-{
-    match width {
-        Width::W1 => u128::from(u8::MAX),
-        Width::W2 => u128::from(u16::MAX),
-        Width::W4 => u128::from(u32::MAX),
-        Width::W8 => u128::from(u64::MAX),
-        Width::W16 => u128::MAX,
     }
 }
 

@@ -1,4 +1,9 @@
-//! Widths of whole numbers.
+//! Widths of whole numbers, and which numbers each holds.
+ghost use Rattle.std.specs.Prelude.{◌≡◌, ◌+◌, ◌↔◌, ◌^◌, ◌/◌, IsTrue};
+ghost use Rattle.std.specs.Int as int;
+ghost use Rattle.bcs_num.specs.Le as spec;
+ghost use Rattle.bcs_num.specs.Le.{width_of, IsUnsigned, IsSigned};
+ghost use mir.Val.{bits, hbits};
 
 /// How many bytes a whole number has. The same width serves an unsigned number and a signed one.
 #[derive(Clone, Copy, Debug, PartialEq, Eq)]
@@ -13,4 +18,58 @@ pub enum Width {
     W8,
     /// Sixteen bytes, as of `U128` and `I128`.
     W16,
+}
+
+impl Width {
+    /// How many bytes a number of the width has.
+    pub fn byte_len(self) -> usize
+        ensures { result ≡ int.byte_len (width_of self) }
+    {
+        match self {
+            Width::W1 => 1,
+            Width::W2 => 2,
+            Width::W4 => 4,
+            Width::W8 => 8,
+            Width::W16 => 16,
+        }
+    }
+
+    /// Whether the number is a value of the width's unsigned type.
+    pub fn holds_unsigned(self, number: u128) -> bool
+        ensures test { result ≡ spec.holds_unsigned (width_of self) number }
+        ensures exact { IsTrue result ↔ IsUnsigned (width_of self) number }
+    {
+        number <= self.greatest_unsigned()
+    }
+
+    /// Whether the number is a value of the width's signed type.
+    pub fn holds_signed(self, number: i128) -> bool
+        ensures test { result ≡ spec.holds_signed (width_of self) number }
+        ensures exact { IsTrue result ↔ IsSigned (width_of self) number }
+    {
+        if number < 0 {
+            number.unsigned_abs() - 1 <= self.greatest_signed()
+        } else {
+            number.unsigned_abs() <= self.greatest_signed()
+        }
+    }
+
+    /// The greatest value of the width's signed type; the least is one further below 0.
+    pub(crate) fn greatest_signed(self) -> u128
+        ensures { result + 1 ≡ 2 ^ hbits (width_of self) }
+    {
+        self.greatest_unsigned() / 2
+    }
+
+    fn greatest_unsigned(self) -> u128
+        ensures { result + 1 ≡ 2 ^ bits (width_of self) }
+    {
+        match self {
+            Width::W1 => u128::from(u8::MAX),
+            Width::W2 => u128::from(u16::MAX),
+            Width::W4 => u128::from(u32::MAX),
+            Width::W8 => u128::from(u64::MAX),
+            Width::W16 => u128::MAX,
+        }
+    }
 }

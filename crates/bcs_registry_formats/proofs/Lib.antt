@@ -1,3 +1,4 @@
+pub mod FormatViews
 pub mod Lookup
 pub mod KnownNames
 pub mod Inside

@@ -1,4 +1,5 @@
 pub mod Shape
+pub mod Whole
 pub mod Container
 pub mod View
 pub mod WellFormed

@@ -14,6 +14,7 @@ mod named;
 mod out_of_memory;
 pub mod rule;
 mod variant_format;
+mod whole_number;
 
 pub use container::Container;
 pub use fault::RegistryFault;
@@ -21,3 +22,4 @@ pub use format::Format;
 pub use growth_fault::GrowthFault;
 pub use named::Named;
 pub use variant_format::VariantFormat;
+pub use whole_number::WholeNumber;

@@ -1,18 +1,13 @@
 -- Which trees are values of a format.
-use Rattle.std.specs.Prelude.{ℕ, ℤ, pos, negsuc, ◌^◌, Bool, true, false, ◌&&◌, ◌==◌, nat_lt, List, IsTrue}
+use Rattle.std.specs.Prelude.{ℕ, ◌^◌, Bool, true, false, ◌&&◌, ◌==◌, nat_lt, List, IsTrue}
 use Rattle.std.specs.List.{list_all}
 use Rattle.std.specs.Str.{is_utf8}
-use mir.Val.{bits, hbits}
+use Rattle.bcs_num.specs.Le.{holds_unsigned, holds_signed}
 use Rattle.bcs_registry_formats.specs.Shape as shape
 use Rattle.bcs_registry_formats.specs.Shape.{Shape, Shapes, no_shapes, shape}
 use Rattle.bcs_registry_formats.specs.Container.{Entries, Content, of, one_of, content_at, choice_at}
 use Rattle.bcs_value_tree.specs.Tree as tree
 use Rattle.bcs_value_tree.specs.Tree.{Tree, Trees, no_trees, tree, Pairs, no_pairs, pair, count}
-
--- from -half to half - 1
-abbrev pub is_signed_below : ℕ → ℤ → Bool
-is_signed_below half (pos n) = nat_lt n half
-is_signed_below half (negsuc n) = nat_lt n half
 
 -- each number is a byte's
 abbrev pub are_bytes : List ℕ → Bool
@@ -25,8 +20,8 @@ module _ (loose : Bool) (registry : Entries) where
     fits t (of (shape.unsupported u)) = loose
     fits tree.unit (of shape.unit) = true
     fits (tree.truth b) (of shape.truth) = true
-    fits (tree.unsigned n) (of (shape.unsigned w)) = nat_lt n (2 ^ bits w)
-    fits (tree.signed z) (of (shape.signed w)) = is_signed_below (2 ^ hbits w) z
+    fits (tree.unsigned n) (of (shape.unsigned w)) = holds_unsigned w n
+    fits (tree.signed z) (of (shape.signed w)) = holds_signed w z
     fits (tree.text s) (of shape.text) = is_utf8 s
     fits (tree.bytes s) (of shape.bytes) = are_bytes s
     fits tree.absent (of (shape.option s)) = true

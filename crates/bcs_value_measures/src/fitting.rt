@@ -7,6 +7,7 @@ ghost use Rattle.bcs_value_laws.specs.Fits as spec;
 ghost use Rattle.bcs_value_tree.specs.Tree.{items as items_tree};
 ghost use Rattle.bcs_value_tree.specs.View.{entries_pairs, items_trees, tree_of};
 
+use bcs_num::Width;
 use bcs_registry::{Container, Format, Named, Registry, VariantFormat};
 use bcs_value_tree::Value;
 
@@ -19,16 +20,16 @@ pub fn fits(value: &Value, format: &Format, registry: &Registry, loose: bool) ->
         (_, Format::F32 | Format::F64 | Format::Char) => loose,
         (Value::Unit, Format::Unit) => true,
         (Value::Bool(_), Format::Bool) => true,
-        (Value::Signed(number), Format::I8) => is_signed_below(1 << 7, *number),
-        (Value::Signed(number), Format::I16) => is_signed_below(1 << 15, *number),
-        (Value::Signed(number), Format::I32) => is_signed_below(1 << 31, *number),
-        (Value::Signed(number), Format::I64) => is_signed_below(1 << 63, *number),
-        (Value::Signed(number), Format::I128) => is_signed_below(1 << 127, *number),
-        (Value::Unsigned(number), Format::U8) => *number <= u8::MAX as u128,
-        (Value::Unsigned(number), Format::U16) => *number <= u16::MAX as u128,
-        (Value::Unsigned(number), Format::U32) => *number <= u32::MAX as u128,
-        (Value::Unsigned(number), Format::U64) => *number <= u64::MAX as u128,
-        (Value::Unsigned(number), Format::U128) => *number <= u128::MAX,
+        (Value::Signed(number), Format::I8) => Width::W1.holds_signed(*number),
+        (Value::Signed(number), Format::I16) => Width::W2.holds_signed(*number),
+        (Value::Signed(number), Format::I32) => Width::W4.holds_signed(*number),
+        (Value::Signed(number), Format::I64) => Width::W8.holds_signed(*number),
+        (Value::Signed(number), Format::I128) => Width::W16.holds_signed(*number),
+        (Value::Unsigned(number), Format::U8) => Width::W1.holds_unsigned(*number),
+        (Value::Unsigned(number), Format::U16) => Width::W2.holds_unsigned(*number),
+        (Value::Unsigned(number), Format::U32) => Width::W4.holds_unsigned(*number),
+        (Value::Unsigned(number), Format::U64) => Width::W8.holds_unsigned(*number),
+        (Value::Unsigned(number), Format::U128) => Width::W16.holds_unsigned(*number),
         (Value::Text(_), Format::Str) => true,
         (Value::Bytes(bytes), Format::Bytes) => are_bytes(bytes),
         (Value::Absent, Format::Opt(_)) => true,
@@ -46,17 +47,6 @@ pub fn fits(value: &Value, format: &Format, registry: &Registry, loose: bool) ->
             None => false,
         },
         _ => false,
-    }
-}
-
-/// Whether the number is from -half to half - 1.
-fn is_signed_below(half: u128, number: i128) -> bool
-    ensures { result ≡ spec.is_signed_below half number }
-{
-    if number < 0 {
-        number.unsigned_abs() <= half
-    } else {
-        number.unsigned_abs() < half
     }
 }
 

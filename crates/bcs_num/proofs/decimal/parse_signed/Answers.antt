@@ -36,7 +36,7 @@ returns-else-below-greatest-clause-only c z fits is =
     let some : c.plain_number.result ≡ Some c.in_ok-plain_number-in-45.field-0 = c.in_ok-plain_number-in-45.was in
     let same : c.in_ok-plain_number-in-45.field-0 ≡ suc m.0 = cc in
     let below : c.in_ok-below-in-45.below ≡ m.0 = omega (arith, same, c.in_ok-below-in-45.ensures.1) in
-    absurd (omega (arith, below, m.3, c.if-below-greatest.false, c.greatest-greatest.ensures))
+    absurd (omega (arith, below, m.3, c.if-below-greatest.false, c.greatest_signed-greatest.ensures))
 
 pub returns-in_err-plain_number-in-45-clause-found : goal.returns-in_err-plain_number-in-45-clause-found
 returns-in_err-plain_number-in-45-clause-found c = search rules

@@ -7,14 +7,14 @@ returns-in_err-n-clause-found c = search rules
 pub returns-in_err-n-clause-only : goal.returns-in_err-n-clause-only
 returns-in_err-n-clause-only c = search rules
 
-pub returns-then-n-greatest-clause-found : goal.returns-then-n-greatest-clause-found
-returns-then-n-greatest-clause-found c = search rules
+pub returns-then-holds_unsigned-clause-found : goal.returns-then-holds_unsigned-clause-found
+returns-then-holds_unsigned-clause-found c = search rules
 
-pub returns-then-n-greatest-clause-only : goal.returns-then-n-greatest-clause-only
-returns-then-n-greatest-clause-only c = search rules
+pub returns-then-holds_unsigned-clause-only : goal.returns-then-holds_unsigned-clause-only
+returns-then-holds_unsigned-clause-only c = search rules
 
-pub returns-else-n-greatest-clause-found : goal.returns-else-n-greatest-clause-found
-returns-else-n-greatest-clause-found c = search rules
+pub returns-else-holds_unsigned-clause-found : goal.returns-else-holds_unsigned-clause-found
+returns-else-holds_unsigned-clause-found c = search rules
 
-pub returns-else-n-greatest-clause-only : goal.returns-else-n-greatest-clause-only
-returns-else-n-greatest-clause-only c = search rules
+pub returns-else-holds_unsigned-clause-only : goal.returns-else-holds_unsigned-clause-only
+returns-else-holds_unsigned-clause-only c = search rules
