@@ -1,10 +1,11 @@
 -- The parsers of values, as they are read from a source.
-use Rattle.std.proofs.Common.{◌≡◌, ℕ, zero, suc, true, ◌-◌, ◌<◌, List, Option, Some, None, take, Ok, Err, Box, Vec, Global, String, string_bytes, refl, ap, ◌∙◌, arith, rules}
+use Rattle.std.proofs.Common.{◌≡◌, ℕ, zero, suc, true, ◌-◌, ◌<◌, List, Option, Some, None, take, Ok, Err, Box, Vec, Global, String, string_bytes, refl, ◌∙◌, arith}
 use Rattle.bcs_registry_formats.specs.Shape as shape
 use Rattle.bcs_registry_formats.specs.Shape.{Shape, Shapes}
 use Rattle.bcs_registry_formats.specs.Container.{Entries, Choice, of, one_of, nothing, choice_at}
 use Rattle.bcs_registry_formats.specs.View.{shape_of, formats_shapes}
 use Rattle.bcs_registry_formats.specs.declared.format.Format as format
+use Rattle.bcs_registry_formats.proofs.FormatViews.{shape-Opt, shape-Seq, shape-TupleArray, shape-Map, shape-Tuple, shape-TypeName}
 use Rattle.bcs_value_tree.specs.Tree as tree
 use Rattle.bcs_value_tree.specs.Tree.{Tree}
 use Rattle.bcs_decode_stops.specs.declared.reason.Reason.TheVariants.{TooDeep, Unsupported, UnknownVariant}
@@ -126,24 +127,24 @@ module _ (registry : Entries) (d : ℕ) (f : format.Format) where
 
   pub read_Opt : (o : Box format.Format Global) → f ≡ format.Opt o → (p m : ℕ) (b : List ℕ) → read registry d (shape_of f) p m b ≡ option_value (read registry d (shape_of o.value)) p m b
   unfolding value_here shape_here option_value option_here
-  read_Opt o h p m b = let e : shape_of f ≡ shape.option (shape_of o.value) = ap shape_of h ∙ search (rules, format.the_lemmas) in rw e (option_is (read registry d (shape_of o.value)) p m b)
+  read_Opt o h p m b = rw (shape-Opt f o h) (option_is (read registry d (shape_of o.value)) p m b)
 
   pub read_Seq : (o : Box format.Format Global) → f ≡ format.Seq o → (p m : ℕ) (b : List ℕ) → read registry d (shape_of f) p m b ≡ items_value (read registry d (shape_of o.value)) None p m b
   unfolding value_here shape_here
-  read_Seq o h p m b = let e : shape_of f ≡ shape.seq (shape_of o.value) = ap shape_of h ∙ search (rules, format.the_lemmas) in rw e (seq_is (read registry d (shape_of o.value)) p m b)
+  read_Seq o h p m b = rw (shape-Seq f o h) (seq_is (read registry d (shape_of o.value)) p m b)
 
   pub read_TupleArray : (o : Box format.Format Global) (n : ℕ) → f ≡ format.TupleArray o n → (p m : ℕ) (b : List ℕ) → read registry d (shape_of f) p m b ≡ items_value (read registry d (shape_of o.value)) (Some n) p m b
   unfolding value_here shape_here
-  read_TupleArray o n h p m b = let e : shape_of f ≡ shape.array (shape_of o.value) n = ap shape_of h ∙ search (rules, format.the_lemmas) in rw e (array_is (read registry d (shape_of o.value)) n p m b)
+  read_TupleArray o n h p m b = rw (shape-TupleArray f o n h) (array_is (read registry d (shape_of o.value)) n p m b)
 
   pub read_Map : (k v : Box format.Format Global) → f ≡ format.Map k v → (p m : ℕ) (b : List ℕ) → read registry d (shape_of f) p m b ≡ pairs_value (read registry d (shape_of k.value)) (read registry d (shape_of v.value)) p m b
   unfolding value_here shape_here
-  read_Map k v h p m b = let e : shape_of f ≡ shape.map (shape_of k.value) (shape_of v.value) = ap shape_of h ∙ search (rules, format.the_lemmas) in rw e (map_is (read registry d (shape_of k.value)) (read registry d (shape_of v.value)) p m b)
+  read_Map k v h p m b = rw (shape-Map f k v h) (map_is (read registry d (shape_of k.value)) (read registry d (shape_of v.value)) p m b)
 
   pub read_Tuple : (v : Vec format.Format Global) → f ≡ format.Tuple v → (p m : ℕ) (b : List ℕ) → read registry d (shape_of f) p m b ≡ tuple_value registry d (formats_shapes v.items) p m b
   unfolding value_here shape_here
-  read_Tuple v h p m b = let e : shape_of f ≡ shape.tuple (formats_shapes v.items) = ap shape_of h ∙ search (rules, format.the_lemmas) in rw e (tuple_is registry d (formats_shapes v.items) p m b)
+  read_Tuple v h p m b = rw (shape-Tuple f v h) (tuple_is registry d (formats_shapes v.items) p m b)
 
   pub read_TypeName : (n : String Global) → f ≡ format.TypeName n → (p m : ℕ) (b : List ℕ) → read registry d (shape_of f) p m b ≡ named_value registry d (string_bytes n) p m b
   unfolding value_here shape_here
-  read_TypeName n h p m b = let e : shape_of f ≡ shape.name (string_bytes n) = ap shape_of h ∙ search (rules, format.the_lemmas) in rw e (named_is registry d (string_bytes n) p m b)
+  read_TypeName n h p m b = rw (shape-TypeName f n h) (named_is registry d (string_bytes n) p m b)

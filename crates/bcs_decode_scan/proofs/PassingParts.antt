@@ -1,10 +1,11 @@
 -- Going past a value with values inside, part by part.
-use Rattle.std.proofs.Common.{◌≡◌, ℕ, zero, suc, ◌+◌, ◌-◌, ◌<◌, ◌≤◌, List, Option, Some, None, Bool, true, false, if◌then◌else◌, Box, Vec, Global, String, string_bytes, Ok, Err, refl, ap, ◌∙◌, arith, rules}
+use Rattle.std.proofs.Common.{◌≡◌, ℕ, zero, suc, ◌+◌, ◌-◌, ◌<◌, ◌≤◌, List, Option, Some, None, Bool, true, false, if◌then◌else◌, Box, Global, Ok, Err, refl, ap, ◌∙◌, arith}
 use Rattle.bcs_registry_formats.specs.Shape as shape
 use Rattle.bcs_registry_formats.specs.Shape.{Shape, Shapes}
 use Rattle.bcs_registry_formats.specs.Container.{Entries, Choice, Content, of, one_of, nothing, content_at, choice_at}
-use Rattle.bcs_registry_formats.specs.View.{shape_of, formats_shapes}
+use Rattle.bcs_registry_formats.specs.View.{shape_of}
 use Rattle.bcs_registry_formats.specs.declared.format.Format as format
+use Rattle.bcs_registry_formats.proofs.FormatViews.{shape-Opt, shape-Seq, shape-Map, shape-TupleArray}
 use Rattle.bcs_decode_stops.specs.declared.reason.Reason.{Reason}
 use Rattle.bcs_decode_stops.specs.declared.reason.Reason.TheVariants.{Unsupported, UnknownVariant}
 use Rattle.bcs_decode_laws.specs.Reading.{Read, Parser, follow, chain, give, fail, fail_here, node, number_here, length_here, key_here, items_here, pairs_here, option_here, shape_here, each_here, choice_here, variant_here, content_here, named_here, value_here, skipping}
@@ -43,12 +44,9 @@ node_stop : {A : Type 0} (g : Parser A) (p m : ℕ) (b : List ℕ) (e : Reason �
 node_stop g p m b e h = node_is g p m b ∙ ap (λ (r : Read (Unit {0})). follow r (λ _. g)) h
 
 module _ (registry : Entries) (d : ℕ) (f : format.Format) (p m : ℕ) (b : List ℕ) where
-  is_option : (o : Box format.Format Global) → f ≡ format.Opt o → shape_of f ≡ shape.option (shape_of o.value)
-  is_option o h = ap shape_of h ∙ search (rules, format.the_lemmas)
-
   option_is : (o : Box format.Format Global) → f ≡ format.Opt o → skip registry d (shape_of f) p m b ≡ follow (option_past p m b) (λ some. if some then chain (skip registry d (shape_of o.value)) (λ _. give tt) else give tt)
   unfolding value_here shape_here
-  option_is o h = rw (is_option o h) (node_option (skip registry d (shape_of o.value)) p m b)
+  option_is o h = rw (shape-Opt f o h) (node_option (skip registry d (shape_of o.value)) p m b)
 
   pub option_stop : (o : Box format.Format Global) (e : Reason × ℕ) → f ≡ format.Opt o → option_past p m b ≡ Err e → skip registry d (shape_of f) p m b ≡ Err e
   option_stop o e h g = option_is o h ∙ rw g refl
@@ -60,44 +58,29 @@ module _ (registry : Entries) (d : ℕ) (f : format.Format) (p m : ℕ) (b : Lis
   unfolding give
   option_none o some q l c h g is = option_is o h ∙ rw (g, is) refl
 
-  is_seq : (o : Box format.Format Global) → f ≡ format.Seq o → shape_of f ≡ shape.seq (shape_of o.value)
-  is_seq o h = ap shape_of h ∙ search (rules, format.the_lemmas)
-
   pub seq_stop : (o : Box format.Format Global) (e : Reason × ℕ) → f ≡ format.Seq o → counted_here p m b ≡ Err e → skip registry d (shape_of f) p m b ≡ Err e
   unfolding value_here shape_here
-  seq_stop o e h g = rw (is_seq o h) (node_uncounted (λ n. chain (items_here skipping (skip registry d (shape_of o.value)) n) (λ ts. give tt)) p m b e g)
+  seq_stop o e h g = rw (shape-Seq f o h) (node_uncounted (λ n. chain (items_here skipping (skip registry d (shape_of o.value)) n) (λ ts. give tt)) p m b e g)
 
   pub seq_on : (o : Box format.Format Global) (n q l : ℕ) (c : List ℕ) → f ≡ format.Seq o → counted_here p m b ≡ Ok (n, q, l, c) → skip registry d (shape_of f) p m b ≡ items_here skipping (skip registry d (shape_of o.value)) n q l c
   unfolding value_here shape_here
-  seq_on o n q l c h g = rw (is_seq o h) (node_counted (items_here skipping (skip registry d (shape_of o.value))) p m b n q l c g)
-
-  is_map : (k v : Box format.Format Global) → f ≡ format.Map k v → shape_of f ≡ shape.map (shape_of k.value) (shape_of v.value)
-  is_map k v h = ap shape_of h ∙ search (rules, format.the_lemmas)
+  seq_on o n q l c h g = rw (shape-Seq f o h) (node_counted (items_here skipping (skip registry d (shape_of o.value))) p m b n q l c g)
 
   pub map_stop : (k v : Box format.Format Global) (e : Reason × ℕ) → f ≡ format.Map k v → counted_here p m b ≡ Err e → skip registry d (shape_of f) p m b ≡ Err e
   unfolding value_here shape_here
-  map_stop k v e h g = rw (is_map k v h) (node_uncounted (λ n. chain (pairs_here skipping (skip registry d (shape_of k.value)) (skip registry d (shape_of v.value)) None n) (λ ts. give tt)) p m b e g)
+  map_stop k v e h g = rw (shape-Map f k v h) (node_uncounted (λ n. chain (pairs_here skipping (skip registry d (shape_of k.value)) (skip registry d (shape_of v.value)) None n) (λ ts. give tt)) p m b e g)
 
   pub map_on : (k v : Box format.Format Global) (n q l : ℕ) (c : List ℕ) → f ≡ format.Map k v → counted_here p m b ≡ Ok (n, q, l, c) → skip registry d (shape_of f) p m b ≡ pairs_here skipping (skip registry d (shape_of k.value)) (skip registry d (shape_of v.value)) None n q l c
   unfolding value_here shape_here
-  map_on k v n q l c h g = rw (is_map k v h) (node_counted (pairs_here skipping (skip registry d (shape_of k.value)) (skip registry d (shape_of v.value)) None) p m b n q l c g)
-
-  is_array : (o : Box format.Format Global) (n : ℕ) → f ≡ format.TupleArray o n → shape_of f ≡ shape.array (shape_of o.value) n
-  is_array o n h = ap shape_of h ∙ search (rules, format.the_lemmas)
+  map_on k v n q l c h g = rw (shape-Map f k v h) (node_counted (pairs_here skipping (skip registry d (shape_of k.value)) (skip registry d (shape_of v.value)) None) p m b n q l c g)
 
   pub array_stop : (o : Box format.Format Global) (n : ℕ) (e : Reason × ℕ) → f ≡ format.TupleArray o n → node_here p m b ≡ Err e → skip registry d (shape_of f) p m b ≡ Err e
   unfolding value_here shape_here
-  array_stop o n e h g = rw (is_array o n h) (node_stop (chain (items_here skipping (skip registry d (shape_of o.value)) n) (λ ts. give tt)) p m b e g)
+  array_stop o n e h g = rw (shape-TupleArray f o n h) (node_stop (chain (items_here skipping (skip registry d (shape_of o.value)) n) (λ ts. give tt)) p m b e g)
 
   pub array_on : (o : Box format.Format Global) (n q l : ℕ) (c : List ℕ) → f ≡ format.TupleArray o n → node_here p m b ≡ Ok (tt, q, l, c) → skip registry d (shape_of f) p m b ≡ items_here skipping (skip registry d (shape_of o.value)) n q l c
   unfolding value_here shape_here
-  array_on o n q l c h g = rw (is_array o n h) (node_then (items_here skipping (skip registry d (shape_of o.value)) n) p m b q l c g)
-
-  pub is_tuple : (fs : Vec format.Format Global) → f ≡ format.Tuple fs → shape_of f ≡ shape.tuple (formats_shapes fs.items)
-  is_tuple fs h = ap shape_of h ∙ search (rules, format.the_lemmas)
-
-  pub is_name : (n : String Global) → f ≡ format.TypeName n → shape_of f ≡ shape.name (string_bytes n)
-  is_name n h = ap shape_of h ∙ search (rules, format.the_lemmas)
+  array_on o n q l c h g = rw (shape-TupleArray f o n h) (node_then (items_here skipping (skip registry d (shape_of o.value)) n) p m b q l c g)
 
 -- ---- values in a row
 
