@@ -1,6 +1,5 @@
 pub mod Front
 pub mod Spelling
-pub mod RunFault
 pub mod Answers
 pub use Rattle.bcs_tool_files.specs.Files
 pub use Rattle.bcs_tool_line.specs.Jobs

@@ -15,7 +15,7 @@ use crate::run_fault::RunFault;
 use bcs_decode::ByteSource;
 use bcs_encode::encode;
 use bcs_tool_files::limits::SIZE_LIMIT;
-use bcs_tool_files::{Work, take_all};
+use bcs_tool_files::{TakeFault, Work, take_all};
 use bcs_tool_line::Command;
 use bcs_value::{Limits, Value};
 use std::alloc::{AllocError, Global};
@@ -25,8 +25,8 @@ pub fn answer<S: ByteSource>(alloc: Global, work: &Work, input: &mut S) -> Resul
     ensures ok { IfOk result (λ a. (bytes : List ℕ) × IsContent (S.content input.old) bytes
         × Answers work.now bytes a.status a.output.items) }
     ensures untouched { ¬ ReadsInput work.now → input.new ≡ input.old }
-    ensures read { result ≡ Err RunFault.Read → ReadsInput work.now × (S.is_failed input.new ≡ true) }
-    ensures too_large { result ≡ Err RunFault.TooLarge → ReadsInput work.now
+    ensures read { result ≡ Err (RunFault.Take TakeFault.Read) → ReadsInput work.now × (S.is_failed input.new ≡ true) }
+    ensures too_large { result ≡ Err (RunFault.Take TakeFault.TooLarge) → ReadsInput work.now
         × ((bytes : List ℕ) × (length bytes ≡ size_limit + 1)
         × Took S.content S.is_failed S.allowance input.old input.new bytes) }
     ensures write { result ≢ Err RunFault.Write }
@@ -70,8 +70,8 @@ fn answer_encoding<S: ByteSource>(
     ensures ok { IfOk result (λ a. (bytes : List ℕ) × IsContent (S.content input.old) bytes
         × Answers work.now bytes a.status a.output.items) }
     ensures untouched { ¬ ReadsInput work.now → input.new ≡ input.old }
-    ensures read { result ≡ Err RunFault.Read → ReadsInput work.now × (S.is_failed input.new ≡ true) }
-    ensures too_large { result ≡ Err RunFault.TooLarge → ReadsInput work.now
+    ensures read { result ≡ Err (RunFault.Take TakeFault.Read) → ReadsInput work.now × (S.is_failed input.new ≡ true) }
+    ensures too_large { result ≡ Err (RunFault.Take TakeFault.TooLarge) → ReadsInput work.now
         × ((bytes : List ℕ) × (length bytes ≡ size_limit + 1)
         × Took S.content S.is_failed S.allowance input.old input.new bytes) }
     ensures write { result ≢ Err RunFault.Write }

@@ -5,43 +5,34 @@ use bcs_tool_files::TakeFault;
 use std::alloc::AllocError;
 use thiserror::Error;
 
-/// Why a run has not put its answer. The message is the variant's name alone.
+/// Why a run has not put its answer. The message is the fault's name alone.
 #[derive(Clone, Copy, Debug, Drop, Error)]
 pub enum RunFault {
-    /// The input failed.
-    #[error("Read")]
-    Read,
+    /// The input was not taken, or memory ran out.
+    #[error(transparent)]
+    Take(TakeFault),
     /// The output failed.
     #[error("Write")]
     Write,
-    /// The input is too large.
-    #[error("TooLarge")]
-    TooLarge,
-    /// Memory ran out.
-    #[error("OutOfMemory")]
-    OutOfMemory,
 }
 
 impl From<TakeFault> for RunFault {
-    ghost use Rattle.bcs_tool.specs.RunFault.{run_fault_of};
+    ghost use Rattle.bcs_tool.specs.declared.run_fault.RunFault.TheVariants.{Take};
 
-    ghost from_gives = { λ fault result. result ≡ run_fault_of fault };
+    ghost from_gives = { λ fault result. result ≡ Take fault };
 
     fn from(fault: TakeFault) -> RunFault {
-        match fault {
-            TakeFault::Read => RunFault::Read,
-            TakeFault::TooLarge => RunFault::TooLarge,
-            TakeFault::OutOfMemory => RunFault::OutOfMemory,
-        }
+        RunFault::Take(fault)
     }
 }
 
 impl From<AllocError> for RunFault {
-    ghost use Rattle.bcs_tool.specs.declared.run_fault.RunFault.TheVariants.{OutOfMemory};
+    ghost use Rattle.bcs_tool.specs.declared.run_fault.RunFault.TheVariants.{Take};
+    ghost use Rattle.bcs_tool_files.specs.declared.taking.TakeFault.TheVariants.{OutOfMemory};
 
-    ghost from_gives = { λ _ result. result ≡ OutOfMemory };
+    ghost from_gives = { λ _ result. result ≡ Take OutOfMemory };
 
     fn from(_: AllocError) -> RunFault {
-        RunFault::OutOfMemory
+        RunFault::Take(TakeFault::OutOfMemory)
     }
 }

@@ -10,7 +10,7 @@ use crate::answering::answer;
 use crate::run_fault::RunFault;
 use bcs_decode::ByteSource;
 use bcs_encode::ByteSink;
-use bcs_tool_files::{Outcome, Work, put_all};
+use bcs_tool_files::{Outcome, TakeFault, Work, put_all};
 use std::alloc::Global;
 
 /// Puts the answer to a job and its input. The whole answer is made before its first byte is put.
@@ -45,10 +45,8 @@ pub fn run<S: ByteSource, K: ByteSink>(
 {
     match perform(alloc, work, input, out) {
         Ok(status) => Outcome { status, note: "" },
-        Err(RunFault::Read) => failed("fault: read"),
+        Err(RunFault::Take(fault)) => failed(fault.note()),
         Err(RunFault::Write) => failed("fault: write"),
-        Err(RunFault::TooLarge) => failed("fault: too large"),
-        Err(RunFault::OutOfMemory) => failed("fault: memory"),
     }
 }
 
@@ -70,13 +68,13 @@ fn perform<S: ByteSource, K: ByteSink>(
         × IsContent (S.content input.old) bytes × Answers work.now bytes status output
         × sink.Took K.taken K.is_failed out.old out.new output)) }
     ensures untouched { ¬ ReadsInput work.now → input.new ≡ input.old }
-    ensures read { result ≡ Err RunFault.Read → ReadsInput work.now
+    ensures read { result ≡ Err (RunFault.Take TakeFault.Read) → ReadsInput work.now
         × (S.is_failed input.new ≡ true) × (out.new ≡ out.old) }
-    ensures too_large { result ≡ Err RunFault.TooLarge → ReadsInput work.now
+    ensures too_large { result ≡ Err (RunFault.Take TakeFault.TooLarge) → ReadsInput work.now
         × ((bytes : List ℕ) × (length bytes ≡ size_limit + 1)
         × source.Took S.content S.is_failed S.allowance input.old input.new bytes)
         × (out.new ≡ out.old) }
-    ensures memory { result ≡ Err RunFault.OutOfMemory → out.new ≡ out.old }
+    ensures memory { result ≡ Err (RunFault.Take TakeFault.OutOfMemory) → out.new ≡ out.old }
     ensures write { result ≡ Err RunFault.Write → (bytes : List ℕ) × (status : ℕ)
         × (output : List ℕ) × (n : ℕ) × IsContent (S.content input.old) bytes
         × Answers work.now bytes status output × (n < length output)

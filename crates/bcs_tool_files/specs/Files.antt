@@ -4,10 +4,10 @@ use Rattle.std.specs.declared.alloc.Global.{Global}
 use Rattle.bcs_tool_line.specs.declared.command.Command.{Command}
 use Rattle.bcs_tool_line.specs.declared.command.Command.TheVariants.{Check, Encode, Grows}
 use Rattle.bcs_tool_files.specs.declared.file_fault.FileFault.{FileFault}
-use Rattle.bcs_tool_files.specs.declared.file_fault.FileFault.TheVariants.{Open, Read, TooLarge, OutOfMemory}
+use Rattle.bcs_tool_files.specs.declared.file_fault.FileFault.TheVariants.{Open, Take}
 use Rattle.bcs_tool_line.specs.declared.job.Job.{Job}
 use Rattle.bcs_tool_files.specs.declared.taking.TakeFault.{TakeFault}
-use Rattle.bcs_tool_files.specs.declared.taking.TakeFault.TheVariants as taking
+use Rattle.bcs_tool_files.specs.declared.taking.TakeFault.TheVariants.{Read, TooLarge, OutOfMemory}
 use Rattle.bcs_tool_files.specs.declared.work.Work.{Work}
 
 -- the most bytes of an input, and of a registry's text
@@ -15,11 +15,14 @@ abbrev pub size_limit : ℕ
 size_limit = 268435456
 
 -- what the standard error is told
+abbrev pub take_note : TakeFault → List ℕ
+take_note Read = codes "fault: read"
+take_note TooLarge = codes "fault: too large"
+take_note OutOfMemory = codes "fault: memory"
+
 abbrev pub file_note : FileFault → List ℕ
 file_note Open = codes "fault: open"
-file_note Read = codes "fault: read"
-file_note TooLarge = codes "fault: too large"
-file_note OutOfMemory = codes "fault: memory"
+file_note (Take fault) = take_note fault
 
 -- a word for a registry that begins with a brace is its text, and any other names a file
 abbrev pub is_registry_text : List ℕ → Bool
@@ -40,11 +43,6 @@ IsSecondOf Grows word text = IsTextOf word text
 abbrev pub NamesNoRegistryFile : Job → Type 0
 NamesNoRegistryFile job = (is_registry_text (string_bytes job.registry) ≡ true)
     × (job.command ≡ Grows → is_registry_text (string_bytes job.second) ≡ true)
-
-abbrev pub file_fault_of : TakeFault → FileFault
-file_fault_of taking.Read = Read
-file_fault_of taking.TooLarge = TooLarge
-file_fault_of taking.OutOfMemory = OutOfMemory
 
 -- the job's work, and the name of the input's file
 pub record IsWorkOf (job : Job) (work : Work) (file : Option (String Global)) : Type 0 where

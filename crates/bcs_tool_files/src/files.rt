@@ -5,7 +5,7 @@ ghost use Rattle.bcs_tool_files.specs.Files.{IsWorkOf, NamesNoRegistryFile, is_r
 
 use crate::file_fault::FileFault;
 use crate::limits::SIZE_LIMIT;
-use crate::taking::take_all;
+use crate::taking::{TakeFault, take_all};
 use crate::work::Work;
 use bcs_decode_sources::ReadSource;
 use bcs_tool_line::{Command, Job};
@@ -30,7 +30,7 @@ pub fn read_work<R: Files + AllocGlobal>(
     job: Job,
 ) -> Result<(Work, Option<String>), FileFault>
     ensures work { IfOk result (λ r. IsWorkOf job r.0 r.1) }
-    ensures good { NamesNoRegistryFile job → IsOkUnless result FileFault.OutOfMemory }
+    ensures good { NamesNoRegistryFile job → IsOkUnless result (FileFault.Take TakeFault.OutOfMemory) }
 {
     let registry = read_registry(rt, job.registry.as_str())?;
     let second = match job.command {
@@ -51,7 +51,7 @@ pub fn read_work<R: Files + AllocGlobal>(
 // The text of a registry: the word itself, or the content of the file that it names.
 fn read_registry<R: Files + AllocGlobal>(rt: &R, word: &str) -> Result<Vec<u8>, FileFault>
     ensures text { is_registry_text word.now ≡ true → IfOk result (λ v. v.items ≡ word.now) }
-    ensures good { is_registry_text word.now ≡ true → IsOkUnless result FileFault.OutOfMemory }
+    ensures good { is_registry_text word.now ≡ true → IsOkUnless result (FileFault.Take TakeFault.OutOfMemory) }
 {
     if is_registry_text(word) {
         copy(rt.alloc(), word)
@@ -68,10 +68,10 @@ fn is_registry_text(word: &str) -> bool
 
 fn copy(alloc: Global, text: &str) -> Result<Vec<u8>, FileFault>
     ensures text { IfOk result (λ v. v.items ≡ text.now) }
-    ensures good { IsOkUnless result FileFault.OutOfMemory }
+    ensures good { IsOkUnless result (FileFault.Take TakeFault.OutOfMemory) }
 {
     match Vec::from_slice(alloc, text.as_bytes()) {
         Ok(bytes) => Ok(bytes),
-        Err(_) => Err(FileFault::OutOfMemory),
+        Err(_) => Err(FileFault::Take(TakeFault::OutOfMemory)),
     }
 }

@@ -2,13 +2,14 @@
 ghost use Rattle.std.specs.Prelude.{◌≡◌, ◌+◌, ◌≤◌, ℕ, List, length, vec_len, IfOk, Err};
 ghost use Rattle.std.specs.Io.KnownBytes.{IsAtEnd};
 ghost use Rattle.bcs_decode_sources.specs.Taking.{Took, Lost};
+ghost use Rattle.bcs_tool_files.specs.Files.{take_note};
 
 use bcs_decode_sources::ByteSource;
 use std::alloc::Global;
 use thiserror::Error;
 
 /// Why the content of a source was not taken. The message is the variant's name alone.
-#[derive(Debug, Drop, Error)]
+#[derive(Clone, Copy, Debug, Drop, PartialEq, Eq, Error)]
 pub enum TakeFault {
     /// The source failed.
     #[error("Read")]
@@ -19,6 +20,19 @@ pub enum TakeFault {
     /// Memory ran out.
     #[error("OutOfMemory")]
     OutOfMemory,
+}
+
+impl TakeFault {
+    /// The line for the standard error.
+    pub fn note(self) -> &'static str
+        ensures { result.now ≡ take_note self }
+    {
+        match self {
+            TakeFault::Read => "fault: read",
+            TakeFault::TooLarge => "fault: too large",
+            TakeFault::OutOfMemory => "fault: memory",
+        }
+    }
 }
 
 // How many bytes are asked of the source at a time.

@@ -1,5 +1,5 @@
 //! Files that are named, and the work of jobs.
-use bcs_tool::{Command, FileFault, Job, read_named, read_work};
+use bcs_tool::{Command, FileFault, Job, TakeFault, read_named, read_work};
 use std::fs;
 use std::test::Fail;
 
@@ -46,9 +46,17 @@ fn works_of_jobs(rt: HostRuntime) -> Result<(), Fail> {
 fn messages_and_notes(rt: HostRuntime) -> Result<(), Fail> {
     for (fault, name, note) in [
         (FileFault::Open, "Open", "fault: open"),
-        (FileFault::Read, "Read", "fault: read"),
-        (FileFault::TooLarge, "TooLarge", "fault: too large"),
-        (FileFault::OutOfMemory, "OutOfMemory", "fault: memory"),
+        (FileFault::Take(TakeFault::Read), "Read", "fault: read"),
+        (
+            FileFault::Take(TakeFault::TooLarge),
+            "TooLarge",
+            "fault: too large",
+        ),
+        (
+            FileFault::Take(TakeFault::OutOfMemory),
+            "OutOfMemory",
+            "fault: memory",
+        ),
     ] {
         assert_eq!(rt; format!(in rt.alloc(); "{fault}")?.as_str(), name);
         assert_eq!(rt; fault.note(), note);
