@@ -10,14 +10,14 @@ use Rattle.hex.proofs.HexLemmas.{decode_of-ok}
 use Rattle.serde_json.specs.Data.{Data, string, array, object, Items, no_items, item, Members, no_members, member}
 use Rattle.serde_json.specs.Find.{get_member}
 use Rattle.bcs_registry_formats.specs.Container as container
-use Rattle.bcs_registry_formats.specs.Container.{Container, unit_struct, newtype_struct, tuple_struct, field_struct, enumeration, Field, Payload, newtype, tuple, Choice, Entries, container_at, choice_numbered, content, content_at, choice_at, payload_shape, field_shapes}
+use Rattle.bcs_registry_formats.specs.Container.{Container, unit_struct, newtype_struct, tuple_struct, field_struct, enumeration, Field, Payload, newtype, tuple, Choice, Entries, container_at, choice_called, choice_numbered, content, content_at, choice_at, payload_shape, field_shapes}
 use Rattle.bcs_registry_formats.specs.Shape as shape
 use Rattle.bcs_registry_formats.specs.Shape.{Shape, Shapes, no_shapes, shape}
 use Rattle.bcs_value_laws.specs.Fits.{fits, all_fit, each_fits, pairs_fit, are_bytes}
 use Rattle.bcs_value_tree.specs.Tree as tree
 use Rattle.bcs_value_tree.specs.Tree.{Tree, Trees, no_trees, tree, Pairs, no_pairs, pair, count}
 use Rattle.bcs_json_laws.specs.Bytes.{IsHexOf, ByteTextSpells, is_byte, byte_trees}
-use Rattle.bcs_json_laws.specs.JsonContent.{JsonContent, of, fields, one_of, nothing, json_content, json_content_at, payload_content, choice_called, unnamed}
+use Rattle.bcs_json_laws.specs.JsonContent.{JsonContent, of, fields, one_of, nothing, json_content, json_content_at, payload_content, unnamed}
 use Rattle.bcs_json_laws.specs.Laws.{SpelledFits}
 use Rattle.bcs_json_laws.specs.Look.{IfString, IfArray, IfStringOrArray, IfObject, IfTwo, IfOne, IfWordOrOne, IfThere, without}
 use Rattle.bcs_json_laws.proofs.Numbering.{numbers_differ, numbers_fit, has_numbering, orderly_numbering}

@@ -4,12 +4,12 @@ use Rattle.std.proofs.Math.Nat.{max-le, le-max_left, le-max_right}
 use Rattle.serde_json.specs.Data.{Data, string, object, Items, no_items, item, Members, no_members, member}
 use Rattle.serde_json.specs.Find.{get_member}
 use Rattle.bcs_registry_formats.specs.Container as container
-use Rattle.bcs_registry_formats.specs.Container.{Field, Choice, Payload, newtype, tuple, Entries}
+use Rattle.bcs_registry_formats.specs.Container.{Field, Choice, Payload, newtype, tuple, Entries, choice_called}
 use Rattle.bcs_registry_formats.specs.Shape as shape
 use Rattle.bcs_registry_formats.specs.Shape.{Shape, Shapes, no_shapes, shape}
 use Rattle.bcs_value_tree.specs.Tree as tree
 use Rattle.bcs_value_tree.specs.Tree.{Tree, Trees, no_trees, tree, depth, trees_depth}
-use Rattle.bcs_json_laws.specs.JsonContent.{JsonContent, of, fields, one_of, nothing, json_content_at, payload_content, choice_called}
+use Rattle.bcs_json_laws.specs.JsonContent.{JsonContent, of, fields, one_of, nothing, json_content_at, payload_content}
 use Rattle.bcs_json_laws.specs.Laws.{OneTree, OneVerdict}
 use Rattle.bcs_json_laws.specs.Look.{IfThere, item_count, shape_count, without}
 use Rattle.bcs_json_laws.specs.Reading.{Read, read_shape, read_each, read_member, read_fields, read_struct, read_part, unit_variant, read_word, read_choice, read_enum, read_content, read_named, read_data}

@@ -1,7 +1,6 @@
 -- What stands at a place in JSON: as `Content`, but fields have their names, and variants are found by theirs.
-use Rattle.std.specs.Prelude.{ℕ, List, [], ◌∷◌, Option, Some, None, cond}
+use Rattle.std.specs.Prelude.{ℕ, List}
 use Rattle.std.specs.Option.{option_map_or}
-use Rattle.std.specs.Str.{bytes_eq}
 use Rattle.bcs_registry_formats.specs.Shape.{Shape, unit as unit_shape, tuple as tuple_shape}
 use Rattle.bcs_registry_formats.specs.Container as container
 use Rattle.bcs_registry_formats.specs.Container.{Field, Payload, newtype, tuple, Choice, Container, unit_struct, newtype_struct, tuple_struct, field_struct, enumeration, Entries, container_at, Content, field_shapes}
@@ -31,11 +30,6 @@ payload_content (container.fields fs) = fields fs
 -- what stands in the container of this name
 abbrev pub json_content_at : List ℕ → Entries → JsonContent
 json_content_at name registry = option_map_or json_content (container_at name registry) nothing
-
--- the variant of this name
-abbrev pub choice_called : List ℕ → List Choice → Option Choice
-choice_called word [] = None
-choice_called word (c ∷ cs) = cond (bytes_eq c.1.0 word) (Some c) (choice_called word cs)
 
 -- without the names of fields
 abbrev pub unnamed : JsonContent → Content

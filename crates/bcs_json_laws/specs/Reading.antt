@@ -10,11 +10,11 @@ use Rattle.serde_json.specs.Find.{get_member}
 use Rattle.bcs_registry_formats.specs.Shape as shape
 use Rattle.bcs_registry_formats.specs.Shape.{Shape, Shapes, no_shapes, shape}
 use Rattle.bcs_registry_formats.specs.Container as container
-use Rattle.bcs_registry_formats.specs.Container.{Field, Choice, Entries}
+use Rattle.bcs_registry_formats.specs.Container.{Field, Choice, Entries, choice_called}
 use Rattle.bcs_value_tree.specs.Tree as tree
 use Rattle.bcs_value_tree.specs.Tree.{Tree, Trees, no_trees, tree, Pairs, no_pairs, pair, count}
 use Rattle.bcs_json_laws.specs.Bytes.{is_byte, byte_trees}
-use Rattle.bcs_json_laws.specs.JsonContent.{JsonContent, of, fields, one_of, nothing, json_content_at, payload_content, choice_called}
+use Rattle.bcs_json_laws.specs.JsonContent.{JsonContent, of, fields, one_of, nothing, json_content_at, payload_content}
 use Rattle.bcs_json_laws.specs.Look.{item_count, shape_count, without}
 use Rattle.bcs_json_laws.specs.Numbers.{whole_of, is_unsigned_of, is_signed_of}
 use Rattle.bcs_json_faults.specs.declared.json_fault.JsonFault.{JsonFault}

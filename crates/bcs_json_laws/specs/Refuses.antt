@@ -7,10 +7,10 @@ use Rattle.serde_json.specs.Find.{get_member}
 use Rattle.bcs_registry_formats.specs.Shape as shape
 use Rattle.bcs_registry_formats.specs.Shape.{Shape, Shapes, shape}
 use Rattle.bcs_registry_formats.specs.Container as container
-use Rattle.bcs_registry_formats.specs.Container.{Field, Choice, Entries}
+use Rattle.bcs_registry_formats.specs.Container.{Field, Choice, Entries, choice_called}
 use Rattle.bcs_value_tree.specs.Tree.{Tree, Trees, count}
 use Rattle.bcs_json_laws.specs.Bytes.{IsHexOf, ByteTextSpells, is_byte}
-use Rattle.bcs_json_laws.specs.JsonContent.{JsonContent, of, fields, one_of, nothing, json_content_at, payload_content, choice_called}
+use Rattle.bcs_json_laws.specs.JsonContent.{JsonContent, of, fields, one_of, nothing, json_content_at, payload_content}
 use Rattle.bcs_json_laws.specs.Look.{IfTwo, IfThere, item_count, shape_count, without}
 use Rattle.bcs_json_laws.specs.Numbers.{SpellsWhole, is_unsigned_of, is_signed_of}
 use Rattle.bcs_json_laws.specs.Spells.{SpellsWithin}

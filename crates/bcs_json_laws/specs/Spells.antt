@@ -6,11 +6,11 @@ use Rattle.serde_json.specs.Find.{get_member}
 use Rattle.bcs_registry_formats.specs.Shape as shape
 use Rattle.bcs_registry_formats.specs.Shape.{Shape, Shapes, no_shapes, shape}
 use Rattle.bcs_registry_formats.specs.Container as container
-use Rattle.bcs_registry_formats.specs.Container.{Field, Choice, Entries}
+use Rattle.bcs_registry_formats.specs.Container.{Field, Choice, Entries, choice_called}
 use Rattle.bcs_value_tree.specs.Tree as tree
 use Rattle.bcs_value_tree.specs.Tree.{Tree, Trees, no_trees, tree, Pairs, no_pairs, pair, count, depth}
 use Rattle.bcs_json_laws.specs.Bytes.{IsHexOf, ByteTextSpells, is_byte}
-use Rattle.bcs_json_laws.specs.JsonContent.{JsonContent, of, fields, one_of, json_content_at, payload_content, choice_called}
+use Rattle.bcs_json_laws.specs.JsonContent.{JsonContent, of, fields, one_of, json_content_at, payload_content}
 use Rattle.bcs_json_laws.specs.Look.{IsNull, IfString, IfArray, IfStringOrArray, IfObject, IfTwo, IfOne, IfWordOrOne, IfThere, without}
 use Rattle.bcs_json_laws.specs.Numbers.{SpellsWhole, is_unsigned_of, is_signed_of}
 
