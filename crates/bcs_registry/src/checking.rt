@@ -9,6 +9,7 @@ use crate::registry::Registry;
 use bcs_registry_formats::distinct::have_distinct_names;
 use bcs_registry_formats::rule::{Rule, all_keep};
 use bcs_registry_formats::{Container, RegistryFault};
+use bcs_registry_names::naming::numbers_by_name;
 use std::alloc::Global;
 use std::collections::BTreeMap;
 
@@ -37,5 +38,7 @@ pub(crate) fn checked(
     if !all_keep(&containers, Rule::KnownNames) {
         return Err(RegistryFault::UnknownName);
     }
-    Ok(Registry::of(containers))
+    // The last step, so that want of memory here hides no rule that is broken.
+    let numbers = numbers_by_name(alloc, &containers)?;
+    Ok(Registry::of(containers, numbers))
 }

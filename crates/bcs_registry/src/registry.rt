@@ -1,14 +1,16 @@
 //! Registries: containers by name.
 ghost use Rattle.std.specs.Prelude.{◌≡◌, option_map, length, string_bytes, IfOk};
-ghost use Rattle.bcs_registry_formats.specs.Container.{Entries, container_at};
+ghost use Rattle.bcs_registry_formats.specs.Container.{Entries, container_at, variant_number};
 ghost use Rattle.bcs_registry_formats.specs.Ranges.{IsOrderly};
 ghost use Rattle.bcs_registry_text.specs.Shown.{shown};
 ghost use Rattle.bcs_registry_text.specs.Text.{WritesRegistry};
 ghost use Rattle.bcs_registry_formats.specs.View.{container_of, entries_of};
 ghost use Rattle.bcs_registry_formats.specs.WellFormed.{IsWellFormed};
+ghost use Rattle.bcs_registry_names.specs.Names.{FindsNumbers};
 ghost use Rattle.serde_json.specs.Written.{compact_text};
 
 use bcs_registry_formats::Container;
+use bcs_registry_names::VariantNumbers;
 use bcs_registry_text::printing::registry_value;
 use std::alloc::{AllocError, Global};
 use std::collections::BTreeMap;
@@ -20,6 +22,8 @@ use std::marker::Model;
 #[derive(Drop)]
 pub struct Registry {
     containers: BTreeMap<String, Container>,
+    /// The numbers of the enums' variants by name, for calls that look them up.
+    numbers: VariantNumbers,
 }
 
 impl Model for Registry {
@@ -27,6 +31,7 @@ impl Model for Registry {
     ghost use Rattle.bcs_registry_formats.specs.Ranges.{IsOrderly};
     ghost use Rattle.bcs_registry_formats.specs.View.{entries_of};
     ghost use Rattle.bcs_registry_formats.specs.WellFormed.{IsWellFormed};
+    ghost use Rattle.bcs_registry_names.specs.Names.{FindsNumbers};
     ghost use Rattle.std.specs.Coded.{codes};
     ghost use Rattle.bcs_registry.specs.Codes.{shape_coded, shapes_coded};
 
@@ -37,7 +42,8 @@ impl Model for Registry {
     ghost view = { λ r. entries_of r.containers.entries };
 
     ghost invariant = { λ r.
-        IsWellFormed (entries_of r.containers.entries) × IsOrderly (entries_of r.containers.entries) };
+        IsWellFormed (entries_of r.containers.entries) × IsOrderly (entries_of r.containers.entries)
+        × FindsNumbers r.numbers (entries_of r.containers.entries) };
 }
 
 impl Registry {
@@ -48,6 +54,14 @@ impl Registry {
         ensures orderly { IsOrderly self.now }
     {
         self.containers.get(name)
+    }
+
+    /// The number of an enum's variant, by the name of the enum and that of the variant, in time logarithmic in their
+    /// numbers.
+    pub fn variant_number(&self, container: &str, variant: &str) -> Option<u32>
+        ensures { result ≡ variant_number container.now variant.now self.now }
+    {
+        self.numbers.number(container, variant)
     }
 
     /// How many containers there are.
@@ -66,13 +80,17 @@ impl Registry {
         &self.containers
     }
 
-    /// The registry of these containers.
-    pub(crate) fn of(containers: BTreeMap<String, Container>) -> Registry
+    /// The registry of these containers, whose variants have these numbers.
+    pub(crate) fn of(containers: BTreeMap<String, Container>, numbers: VariantNumbers) -> Registry
         requires well_formed { IsWellFormed (entries_of containers.entries) }
         requires orderly { IsOrderly (entries_of containers.entries) }
+        requires found { FindsNumbers numbers (entries_of containers.entries) }
         ensures { result ≡ entries_of containers.entries }
     {
-        Registry { containers }
+        Registry {
+            containers,
+            numbers,
+        }
     }
 
     /// The compact JSON text of the registry. The members of an object rise by the bytes of their names. Fails only

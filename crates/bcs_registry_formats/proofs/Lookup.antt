@@ -16,7 +16,7 @@ use Rattle.bcs_registry_formats.specs.declared.container.Container as declared
 is_eq-nat_cmp : (m n : ℕ) → is_eq (nat_cmp m n) ≡ (n == m)
 is_eq-nat_cmp m n = search (comparing, rules)
 
-map-cond : {A B : Type 0} (f : A → B) (b : Bool) (x : A) (o : Option A) → option_map f (cond b (Some x) o) ≡ cond b (Some (f x)) (option_map f o)
+pub map-cond : {A B : Type 0} (f : A → B) (b : Bool) (x : A) (o : Option A) → option_map f (cond b (Some x) o) ≡ cond b (Some (f x)) (option_map f o)
 map-cond f true x o = refl
 map-cond f false x o = refl
 

@@ -1,5 +1,5 @@
 -- Containers, registries, and what the value of a container looks like.
-use Rattle.std.specs.Prelude.{ℕ, List, [], ◌∷◌, Option, ◌==◌}
+use Rattle.std.specs.Prelude.{ℕ, List, [], ◌∷◌, Option, Some, None, option_map, cond, ◌==◌}
 use Rattle.std.specs.Str.{bytes_eq}
 use Rattle.std.specs.Map.{lookup}
 use Rattle.std.specs.Option.{option_map_or}
@@ -36,6 +36,23 @@ container_at name registry = lookup (bytes_eq name) registry
 
 abbrev pub choice_numbered : ℕ → List Choice → Option (List ℕ × Payload)
 choice_numbered number choices = lookup (λ m. m == number) choices
+
+-- the variant of this name
+abbrev pub choice_called : List ℕ → List Choice → Option Choice
+choice_called word [] = None
+choice_called word (c ∷ cs) = cond (bytes_eq c.1.0 word) (Some c) (choice_called word cs)
+
+-- the number of the variant of this name, where the container is an enum
+abbrev pub number_called : List ℕ → Container → Option ℕ
+number_called word unit_struct = None
+number_called word (newtype_struct s) = None
+number_called word (tuple_struct ss) = None
+number_called word (field_struct fs) = None
+number_called word (enumeration cs) = option_map (λ c. c.0) (choice_called word cs)
+
+-- the number of the variant of this name (word) in the enum of that name
+abbrev pub variant_number : List ℕ → List ℕ → Entries → Option ℕ
+variant_number name word registry = option_map_or (number_called word) (container_at name registry) None
 
 -- what stands at a place: a value of a format, one of the variants, or nothing
 pub data Content : Type 0 where

@@ -45,3 +45,12 @@ returns-clause-fault c = search rules
 
 pub returns-clause-too_nested : goal.returns-clause-too_nested
 returns-clause-too_nested c = search rules
+
+pub returns-in_err-numbers-clause-ok : goal.returns-in_err-numbers-clause-ok
+returns-in_err-numbers-clause-ok c = search rules
+
+pub returns-in_err-numbers-clause-fault : goal.returns-in_err-numbers-clause-fault
+returns-in_err-numbers-clause-fault c = search rules
+
+pub returns-in_err-numbers-clause-too_nested : goal.returns-in_err-numbers-clause-too_nested
+returns-in_err-numbers-clause-too_nested c = search rules

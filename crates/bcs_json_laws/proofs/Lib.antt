@@ -1,0 +1,11 @@
+pub mod Exact
+pub mod Numbers
+pub mod LeafVerdicts
+pub mod RowVerdicts
+pub mod PartVerdicts
+pub mod Verdict
+pub mod WorkedRows
+pub mod Numbering
+pub mod Fitting
+pub mod Lowest
+pub mod TextLaws

@@ -1,0 +1,39 @@
+-- What stands at a place in JSON: as `Content`, but fields have their names, and variants are found by theirs.
+use Rattle.std.specs.Prelude.{ℕ, List}
+use Rattle.std.specs.Option.{option_map_or}
+use Rattle.bcs_registry_formats.specs.Shape.{Shape, unit as unit_shape, tuple as tuple_shape}
+use Rattle.bcs_registry_formats.specs.Container as container
+use Rattle.bcs_registry_formats.specs.Container.{Field, Payload, newtype, tuple, Choice, Container, unit_struct, newtype_struct, tuple_struct, field_struct, enumeration, Entries, container_at, Content, field_shapes}
+
+-- a value of a format, fields, one of the variants, or nothing
+pub data JsonContent : Type 0 where
+  of : Shape → JsonContent
+  fields : List Field → JsonContent
+  one_of : List Choice → JsonContent
+  nothing : JsonContent
+
+-- what stands in a container
+abbrev pub json_content : Container → JsonContent
+json_content unit_struct = of unit_shape
+json_content (newtype_struct s) = of s
+json_content (tuple_struct ss) = of (tuple_shape ss)
+json_content (field_struct fs) = fields fs
+json_content (enumeration cs) = one_of cs
+
+-- what stands in a variant
+abbrev pub payload_content : Payload → JsonContent
+payload_content container.unit = of unit_shape
+payload_content (newtype s) = of s
+payload_content (tuple ss) = of (tuple_shape ss)
+payload_content (container.fields fs) = fields fs
+
+-- what stands in the container of this name
+abbrev pub json_content_at : List ℕ → Entries → JsonContent
+json_content_at name registry = option_map_or json_content (container_at name registry) nothing
+
+-- without the names of fields
+abbrev pub unnamed : JsonContent → Content
+unnamed (of s) = container.of s
+unnamed (fields fs) = container.of (tuple_shape (field_shapes fs))
+unnamed (one_of cs) = container.one_of cs
+unnamed nothing = container.nothing

@@ -1,0 +1,53 @@
+-- What holds of spellings, refusals and printing.
+use Rattle.std.specs.Prelude.{◌≡◌, ◌≤◌, ◌⊎◌, ℕ, List}
+use Rattle.serde_json.specs.Data.{Data}
+use Rattle.serde_json.specs.Data as json
+use Rattle.bcs_registry_formats.specs.Container.{Entries}
+use Rattle.bcs_registry_formats.specs.Shape.{Shape}
+use Rattle.bcs_registry_formats.specs.Ranges.{IsOrderly}
+use Rattle.bcs_value_laws.specs.Fits.{Fits}
+use Rattle.bcs_value_laws.specs.Limits.{Bounds}
+use Rattle.bcs_value_tree.specs.Tree.{Tree}
+use Rattle.bcs_json_laws.specs.JsonContent.{JsonContent, of}
+use Rattle.bcs_json_laws.specs.Refuses.{Refuses}
+use Rattle.bcs_json_laws.specs.Shown.{shown}
+use Rattle.bcs_json_laws.specs.Spells.{Spells, SpellsWithin}
+use Rattle.bcs_json_laws.specs.Texts.{Denotes, RefusesText}
+use Rattle.bcs_json_faults.specs.declared.json_fault.JsonFault.{JsonFault}
+
+-- ---- of JSON
+
+-- JSON spells at most one tree
+abbrev pub OneTree : Type 0
+OneTree = (registry : Entries) (f : JsonContent) (j : Data) (t u : Tree) → Spells registry t f j → Spells registry u f j → t ≡ u
+
+-- within so many containers JSON spells a tree or is refused, never both, and for one reason
+pub record HasOneVerdict (registry : Entries) (d : ℕ) (f : JsonContent) (j : Data) : Type 0 where
+  pub some : ((t : Tree) × SpellsWithin registry d f j t) ⊎ ((e : JsonFault) × Refuses registry d f j e)
+  pub not_both : (t : Tree) (e : JsonFault) → SpellsWithin registry d f j t → Refuses registry d f j e → ⊥
+  pub once : (e g : JsonFault) → Refuses registry d f j e → Refuses registry d f j g → e ≡ g
+
+abbrev pub OneVerdict : Type 0
+OneVerdict = (registry : Entries) (d : ℕ) (f : JsonContent) (j : Data) → HasOneVerdict registry d f j
+
+-- what is spelled is a value of the format
+abbrev pub SpelledFits : Type 0
+SpelledFits = (registry : Entries) (s : Shape) (j : Data) (t : Tree) → IsOrderly registry → Spells registry t (of s) j → Fits registry s t
+
+-- ---- of what is printed
+
+-- what is printed of a tree nests no deeper than any spelling of it
+abbrev pub ShownIsLowest : Type 0
+ShownIsLowest = (registry : Entries) (s : Shape) (j : Data) (t : Tree) → IsOrderly registry → Spells registry t (of s) j → json.depth (shown registry t (of s)) ≤ json.depth j
+
+-- ---- of texts
+
+-- a text denotes at most one value
+abbrev pub DenotesOnce : Type 0
+DenotesOnce = (registry : Entries) (limits : Bounds) (s : Shape) (text : List ℕ) (t u : Tree)
+    → Denotes registry limits s text t → Denotes registry limits s text u → t ≡ u
+
+-- what denotes a value is not refused
+abbrev pub DenotedIsNotRefused : Type 0
+DenotedIsNotRefused = (registry : Entries) (limits : Bounds) (s : Shape) (text : List ℕ) (t : Tree) (e : JsonFault)
+    → Denotes registry limits s text t → RefusesText registry limits s text e → ⊥

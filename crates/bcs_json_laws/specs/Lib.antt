@@ -1,0 +1,10 @@
+pub mod JsonContent
+pub mod Look
+pub mod Numbers
+pub mod Bytes
+pub mod Spells
+pub mod Refuses
+pub mod Reading
+pub mod Shown
+pub mod Texts
+pub mod Laws

@@ -1,0 +1,32 @@
+//! What holds of spellings and texts, whatever the code: each law is the contract of a function that does nothing.
+ghost use Rattle.bcs_json_laws.specs.Laws.{DenotedIsNotRefused, DenotesOnce, OneTree, OneVerdict, ShownIsLowest, SpelledFits};
+
+/// JSON spells at most one tree.
+pub fn one_tree()
+    ensures { OneTree }
+{}
+
+/// Within so many containers JSON spells a tree or is refused, never both, and for one reason.
+pub fn one_verdict()
+    ensures { OneVerdict }
+{}
+
+/// What is spelled is a value of the format.
+pub fn spelled_fits()
+    ensures { SpelledFits }
+{}
+
+/// What is printed of a tree nests no deeper than any spelling of it.
+pub fn shown_is_lowest()
+    ensures { ShownIsLowest }
+{}
+
+/// A text denotes at most one value.
+pub fn denotes_once()
+    ensures { DenotesOnce }
+{}
+
+/// What denotes a value is not refused.
+pub fn denoted_is_not_refused()
+    ensures { DenotedIsNotRefused }
+{}
