@@ -9,3 +9,4 @@ pub mod Numbering
 pub mod Fitting
 pub mod Lowest
 pub mod TextLaws
+pub mod TextOutcomes

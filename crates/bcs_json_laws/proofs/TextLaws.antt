@@ -2,7 +2,7 @@
 use Rattle.std.proofs.Common.{◌≡◌, ◌∙◌, ℕ, ◌≤◌, List, Some, sym, subst, arith}
 use Rattle.serde_json.specs.Data.{Data, depth}
 use Rattle.bcs_registry_formats.specs.Container.{Entries}
-use Rattle.bcs_registry_text.specs.Json.{IsJson}
+use Rattle.bcs_json_text.specs.Json.{IsJson}
 use Rattle.bcs_registry_formats.specs.Shape.{Shape}
 use Rattle.bcs_value_laws.specs.Limits.{Bounds}
 use Rattle.bcs_value_tree.specs.Tree as tree

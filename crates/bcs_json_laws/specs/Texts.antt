@@ -5,7 +5,7 @@ use Rattle.serde_json.specs.Data as json
 use Rattle.serde_json.specs.Written.{compact_text}
 use Rattle.bcs_registry_formats.specs.Container.{Entries}
 use Rattle.bcs_registry_formats.specs.Container as container
-use Rattle.bcs_registry_text.specs.Json.{IsJson, IsNotJson}
+use Rattle.bcs_json_text.specs.Json.{IsJson, IsNotJson}
 use Rattle.bcs_registry_formats.specs.Shape.{Shape}
 use Rattle.bcs_value_tree.specs.Tree.{Tree}
 use Rattle.bcs_value_laws.specs.Limits.{Bounds}
