@@ -8,5 +8,10 @@ pub mod WorkedRows
 pub mod Numbering
 pub mod Fitting
 pub mod Lowest
+pub mod Members
+pub mod DistinctNames
+pub mod ReadBack
+pub mod SameDepth
+pub mod GrowthOfShowing
 pub mod TextLaws
 pub mod TextOutcomes

@@ -5,8 +5,11 @@ use Rattle.serde_json.specs.Data as json
 use Rattle.bcs_registry_formats.specs.Container.{Entries}
 use Rattle.bcs_registry_formats.specs.Shape.{Shape}
 use Rattle.bcs_registry_formats.specs.Ranges.{IsOrderly}
+use Rattle.bcs_registry_formats.specs.Grows.{Grows}
+use Rattle.bcs_registry_formats.specs.WellFormed.{IsWellFormed}
 use Rattle.bcs_value_laws.specs.Fits.{Fits}
 use Rattle.bcs_value_laws.specs.Limits.{Bounds}
+use Rattle.bcs_value_laws.specs.Same.{Same}
 use Rattle.bcs_value_tree.specs.Tree.{Tree}
 use Rattle.bcs_json_laws.specs.JsonContent.{JsonContent, of}
 use Rattle.bcs_json_laws.specs.Refuses.{Refuses}
@@ -39,6 +42,18 @@ SpelledFits = (registry : Entries) (s : Shape) (j : Data) (t : Tree) → IsOrder
 -- what is printed of a tree nests no deeper than any spelling of it
 abbrev pub ShownIsLowest : Type 0
 ShownIsLowest = (registry : Entries) (s : Shape) (j : Data) (t : Tree) → IsOrderly registry → Spells registry t (of s) j → json.depth (shown registry t (of s)) ≤ json.depth j
+
+-- what is shown of a value spells it, and nests no deeper than any spelling of the same value
+pub record IsReadBack (registry : Entries) (s : Shape) (c : Tree) : Type 0 where
+  pub spells : Spells registry c (of s) (shown registry c (of s))
+  pub lowest : (v : Tree) (j : Data) → Same v c → Spells registry v (of s) j → json.depth (shown registry c (of s)) ≤ json.depth j
+
+abbrev pub ShownIsReadBack : Type 0
+ShownIsReadBack = (registry : Entries) (s : Shape) (c : Tree) → IsWellFormed registry → IsOrderly registry → Fits registry s c → IsReadBack registry s c
+
+-- what fits is shown the same at a registry that it grows to
+abbrev pub GrowthKeepsShowing : Type 0
+GrowthKeepsShowing = (older newer : Entries) (s : Shape) (t : Tree) → Grows older newer → Fits older s t → shown newer t (of s) ≡ shown older t (of s)
 
 -- ---- of texts
 

@@ -1,5 +1,5 @@
 //! What holds of spellings and texts, whatever the code: each law is the contract of a function that does nothing.
-ghost use Rattle.bcs_json_laws.specs.Laws.{DenotedIsNotRefused, DenotesOnce, OneTree, OneVerdict, ShownIsLowest, SpelledFits};
+ghost use Rattle.bcs_json_laws.specs.Laws.{DenotedIsNotRefused, DenotesOnce, GrowthKeepsShowing, OneTree, OneVerdict, ShownIsLowest, ShownIsReadBack, SpelledFits};
 
 /// JSON spells at most one tree.
 pub fn one_tree()
@@ -19,6 +19,16 @@ pub fn spelled_fits()
 /// What is printed of a tree nests no deeper than any spelling of it.
 pub fn shown_is_lowest()
     ensures { ShownIsLowest }
+{}
+
+/// What is printed of a value is read back, and nests no deeper than any spelling of the same value.
+pub fn shown_is_read_back()
+    ensures { ShownIsReadBack }
+{}
+
+/// What fits is printed the same at a registry that grew.
+pub fn growth_keeps_showing()
+    ensures { GrowthKeepsShowing }
 {}
 
 /// A text denotes at most one value.
