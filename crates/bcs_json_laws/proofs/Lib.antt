@@ -15,3 +15,5 @@ pub mod SameDepth
 pub mod GrowthOfShowing
 pub mod TextLaws
 pub mod TextOutcomes
+pub mod Printed
+pub mod Headline

@@ -1,5 +1,5 @@
 -- What holds of spellings, refusals and printing.
-use Rattle.std.specs.Prelude.{◌≡◌, ◌≤◌, ◌⊎◌, ℕ, List}
+use Rattle.std.specs.Prelude.{◌≡◌, ◌≤◌, ◌↔◌, ◌⊎◌, ℕ, List}
 use Rattle.serde_json.specs.Data.{Data}
 use Rattle.serde_json.specs.Data as json
 use Rattle.bcs_registry_formats.specs.Container.{Entries}
@@ -16,6 +16,7 @@ use Rattle.bcs_json_laws.specs.Refuses.{Refuses}
 use Rattle.bcs_json_laws.specs.Shown.{shown}
 use Rattle.bcs_json_laws.specs.Spells.{Spells, SpellsWithin}
 use Rattle.bcs_json_laws.specs.Texts.{Denotes, RefusesText}
+use Rattle.bcs_json_laws.specs.Headline.{HasBytes, Normalises, ShowsBytes}
 use Rattle.bcs_json_faults.specs.declared.json_fault.JsonFault.{JsonFault}
 
 -- ---- of JSON
@@ -66,3 +67,21 @@ DenotesOnce = (registry : Entries) (limits : Bounds) (s : Shape) (text : List �
 abbrev pub DenotedIsNotRefused : Type 0
 DenotedIsNotRefused = (registry : Entries) (limits : Bounds) (s : Shape) (text : List ℕ) (t : Tree) (e : JsonFault)
     → Denotes registry limits s text t → RefusesText registry limits s text e → ⊥
+
+-- ---- the headline
+
+-- texts denote equal values, maps being finite maps, exactly if their bytes are equal
+abbrev pub EqualValuesEqualBytes : Type 0
+EqualValuesEqualBytes = (registry : Entries) (limits : Bounds) (s : Shape) (first second : List ℕ) (v w : Tree) (b c : List ℕ)
+    → Denotes registry limits s first v → Denotes registry limits s second w
+    → HasBytes registry limits s first b → HasBytes registry limits s second c → Same v w ↔ (b ≡ c)
+
+-- normalising a normal text gives it again
+abbrev pub NormalTextIsStable : Type 0
+NormalTextIsStable = (registry : Entries) (limits : Bounds) (s : Shape) (text out again : List ℕ)
+    → Normalises registry limits s text out → Normalises registry limits s out again → again ≡ out
+
+-- the bytes of the text of bytes are these bytes
+abbrev pub ShownBytesComeBack : Type 0
+ShownBytesComeBack = (registry : Entries) (limits : Bounds) (s : Shape) (bytes text again : List ℕ)
+    → ShowsBytes registry limits s bytes text → HasBytes registry limits s text bytes × (HasBytes registry limits s text again → again ≡ bytes)

@@ -7,4 +7,5 @@ pub mod Refuses
 pub mod Reading
 pub mod Shown
 pub mod Texts
+pub mod Headline
 pub mod Laws

@@ -1,5 +1,5 @@
 //! What holds of spellings and texts, whatever the code: each law is the contract of a function that does nothing.
-ghost use Rattle.bcs_json_laws.specs.Laws.{DenotedIsNotRefused, DenotesOnce, GrowthKeepsShowing, OneTree, OneVerdict, ShownIsLowest, ShownIsReadBack, SpelledFits};
+ghost use Rattle.bcs_json_laws.specs.Laws.{DenotedIsNotRefused, DenotesOnce, EqualValuesEqualBytes, GrowthKeepsShowing, NormalTextIsStable, OneTree, OneVerdict, ShownBytesComeBack, ShownIsLowest, ShownIsReadBack, SpelledFits};
 
 /// JSON spells at most one tree.
 pub fn one_tree()
@@ -39,4 +39,19 @@ pub fn denotes_once()
 /// What denotes a value is not refused.
 pub fn denoted_is_not_refused()
     ensures { DenotedIsNotRefused }
+{}
+
+/// Two texts denote equal values, maps being finite maps, exactly if their bytes are equal.
+pub fn equal_values_equal_bytes()
+    ensures { EqualValuesEqualBytes }
+{}
+
+/// Normalising a normal text gives the same text.
+pub fn normal_text_is_stable()
+    ensures { NormalTextIsStable }
+{}
+
+/// The bytes of the text of bytes are these bytes.
+pub fn shown_bytes_come_back()
+    ensures { ShownBytesComeBack }
 {}
