@@ -9,3 +9,5 @@ pub mod Numbering
 pub mod Fitting
 pub mod Lowest
 pub mod TextLaws
+pub mod Looking
+pub mod ArraySpelling

@@ -8,6 +8,7 @@ use Rattle.bcs_registry_formats.specs.Ranges.{IsOrderly}
 use Rattle.bcs_value_laws.specs.Fits.{Fits}
 use Rattle.bcs_value_laws.specs.Limits.{Bounds}
 use Rattle.bcs_value_tree.specs.Tree.{Tree}
+use Rattle.bcs_json_laws.specs.ArraySpells.{ArraySpells}
 use Rattle.bcs_json_laws.specs.JsonContent.{JsonContent, of}
 use Rattle.bcs_json_laws.specs.Refuses.{Refuses}
 use Rattle.bcs_json_laws.specs.Shown.{shown}
@@ -51,3 +52,9 @@ DenotesOnce = (registry : Entries) (limits : Bounds) (s : Shape) (text : List �
 abbrev pub DenotedIsNotRefused : Type 0
 DenotedIsNotRefused = (registry : Entries) (limits : Bounds) (s : Shape) (text : List ℕ) (t : Tree) (e : JsonFault)
     → Denotes registry limits s text t → RefusesText registry limits s text e → ⊥
+
+-- ---- of the older reading
+
+-- what is spelled with arrays alone is spelled
+abbrev pub ArraySpellingStillSpells : Type 0
+ArraySpellingStillSpells = (registry : Entries) (f : JsonContent) (j : Data) (t : Tree) → ArraySpells registry t f j → Spells registry t f j

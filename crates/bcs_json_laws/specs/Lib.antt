@@ -8,3 +8,4 @@ pub mod Reading
 pub mod Shown
 pub mod Texts
 pub mod Laws
+pub mod ArraySpells

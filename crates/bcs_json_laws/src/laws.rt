@@ -1,5 +1,5 @@
 //! What holds of spellings and texts, whatever the code: each law is the contract of a function that does nothing.
-ghost use Rattle.bcs_json_laws.specs.Laws.{DenotedIsNotRefused, DenotesOnce, OneTree, OneVerdict, ShownIsLowest, SpelledFits};
+ghost use Rattle.bcs_json_laws.specs.Laws.{ArraySpellingStillSpells, DenotedIsNotRefused, DenotesOnce, OneTree, OneVerdict, ShownIsLowest, SpelledFits};
 
 /// JSON spells at most one tree.
 pub fn one_tree()
@@ -29,4 +29,9 @@ pub fn denotes_once()
 /// What denotes a value is not refused.
 pub fn denoted_is_not_refused()
     ensures { DenotedIsNotRefused }
+{}
+
+/// What is spelled in the older reading, lists and arrays of `U8` by arrays alone, is spelled.
+pub fn array_spelling_still_spells()
+    ensures { ArraySpellingStillSpells }
 {}
