@@ -11,3 +11,6 @@ pub mod Lowest
 pub mod TextLaws
 pub mod Looking
 pub mod ArraySpelling
+pub mod DistinctVariants
+pub mod GrownContents
+pub mod GrownSpelling

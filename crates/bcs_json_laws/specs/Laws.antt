@@ -4,7 +4,9 @@ use Rattle.serde_json.specs.Data.{Data}
 use Rattle.serde_json.specs.Data as json
 use Rattle.bcs_registry_formats.specs.Container.{Entries}
 use Rattle.bcs_registry_formats.specs.Shape.{Shape}
+use Rattle.bcs_registry_formats.specs.Grows.{Grows}
 use Rattle.bcs_registry_formats.specs.Ranges.{IsOrderly}
+use Rattle.bcs_registry_formats.specs.WellFormed.{IsWellFormed}
 use Rattle.bcs_value_laws.specs.Fits.{Fits}
 use Rattle.bcs_value_laws.specs.Limits.{Bounds}
 use Rattle.bcs_value_tree.specs.Tree.{Tree}
@@ -58,3 +60,15 @@ DenotedIsNotRefused = (registry : Entries) (limits : Bounds) (s : Shape) (text :
 -- what is spelled with arrays alone is spelled
 abbrev pub ArraySpellingStillSpells : Type 0
 ArraySpellingStillSpells = (registry : Entries) (f : JsonContent) (j : Data) (t : Tree) → ArraySpells registry t f j → Spells registry t f j
+
+-- ---- of growth
+
+-- what is spelled at a registry is spelled at one that it grows to, in which no new variant takes an old one's name
+abbrev pub GrowthKeepsSpelling : Type 0
+GrowthKeepsSpelling = (older newer : Entries) (f : JsonContent) (j : Data) (t : Tree)
+    → IsWellFormed newer → Grows older newer → Spells older t f j → Spells newer t f j
+
+-- and so what a text denotes
+abbrev pub GrowthKeepsDenoting : Type 0
+GrowthKeepsDenoting = (older newer : Entries) (limits : Bounds) (s : Shape) (text : List ℕ) (t : Tree)
+    → IsWellFormed newer → Grows older newer → Denotes older limits s text t → Denotes newer limits s text t

@@ -1,5 +1,5 @@
 //! What holds of spellings and texts, whatever the code: each law is the contract of a function that does nothing.
-ghost use Rattle.bcs_json_laws.specs.Laws.{ArraySpellingStillSpells, DenotedIsNotRefused, DenotesOnce, OneTree, OneVerdict, ShownIsLowest, SpelledFits};
+ghost use Rattle.bcs_json_laws.specs.Laws.{ArraySpellingStillSpells, DenotedIsNotRefused, DenotesOnce, GrowthKeepsDenoting, GrowthKeepsSpelling, OneTree, OneVerdict, ShownIsLowest, SpelledFits};
 
 /// JSON spells at most one tree.
 pub fn one_tree()
@@ -34,4 +34,14 @@ pub fn denoted_is_not_refused()
 /// What is spelled in the older reading, lists and arrays of `U8` by arrays alone, is spelled.
 pub fn array_spelling_still_spells()
     ensures { ArraySpellingStillSpells }
+{}
+
+/// What is spelled at a registry is spelled at one that it grows to.
+pub fn growth_keeps_spelling()
+    ensures { GrowthKeepsSpelling }
+{}
+
+/// What a text denotes at a registry, it denotes at one that it grows to.
+pub fn growth_keeps_denoting()
+    ensures { GrowthKeepsDenoting }
 {}
