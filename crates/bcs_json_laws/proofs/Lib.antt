@@ -14,3 +14,5 @@ pub mod ArraySpelling
 pub mod DistinctVariants
 pub mod GrownContents
 pub mod GrownSpelling
+pub mod WalkFaults
+pub mod OneAnswer

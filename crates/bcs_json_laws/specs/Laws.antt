@@ -72,3 +72,14 @@ GrowthKeepsSpelling = (older newer : Entries) (f : JsonContent) (j : Data) (t : 
 abbrev pub GrowthKeepsDenoting : Type 0
 GrowthKeepsDenoting = (older newer : Entries) (limits : Bounds) (s : Shape) (text : List ℕ) (t : Tree)
     → IsWellFormed newer → Grows older newer → Denotes older limits s text t → Denotes newer limits s text t
+
+-- ---- of the verdict on texts
+
+-- a text denotes a value or is refused, and for one reason
+pub record HasOneAnswer (registry : Entries) (limits : Bounds) (s : Shape) (text : List ℕ) : Type 0 where
+  pub some : ((t : Tree) × Denotes registry limits s text t) ⊎ ((e : JsonFault) × RefusesText registry limits s text e)
+  pub once : (e g : JsonFault) → RefusesText registry limits s text e → RefusesText registry limits s text g → e ≡ g
+
+-- so each does at an orderly registry
+abbrev pub TextDenotesOrIsRefused : Type 0
+TextDenotesOrIsRefused = (registry : Entries) (limits : Bounds) (s : Shape) (text : List ℕ) → IsOrderly registry → HasOneAnswer registry limits s text

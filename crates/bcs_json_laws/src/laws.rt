@@ -1,5 +1,5 @@
 //! What holds of spellings and texts, whatever the code: each law is the contract of a function that does nothing.
-ghost use Rattle.bcs_json_laws.specs.Laws.{ArraySpellingStillSpells, DenotedIsNotRefused, DenotesOnce, GrowthKeepsDenoting, GrowthKeepsSpelling, OneTree, OneVerdict, ShownIsLowest, SpelledFits};
+ghost use Rattle.bcs_json_laws.specs.Laws.{ArraySpellingStillSpells, DenotedIsNotRefused, DenotesOnce, GrowthKeepsDenoting, GrowthKeepsSpelling, OneTree, OneVerdict, ShownIsLowest, SpelledFits, TextDenotesOrIsRefused};
 
 /// JSON spells at most one tree.
 pub fn one_tree()
@@ -44,4 +44,9 @@ pub fn growth_keeps_spelling()
 /// What a text denotes at a registry, it denotes at one that it grows to.
 pub fn growth_keeps_denoting()
     ensures { GrowthKeepsDenoting }
+{}
+
+/// At an orderly registry each text denotes a value or is refused, and for one reason.
+pub fn text_denotes_or_is_refused()
+    ensures { TextDenotesOrIsRefused }
 {}
