@@ -17,3 +17,10 @@ pub mod TextLaws
 pub mod TextOutcomes
 pub mod Printed
 pub mod Headline
+pub mod Looking
+pub mod ArraySpelling
+pub mod DistinctVariants
+pub mod GrownContents
+pub mod GrownSpelling
+pub mod WalkFaults
+pub mod OneAnswer

@@ -4,13 +4,14 @@ use Rattle.serde_json.specs.Data.{Data}
 use Rattle.serde_json.specs.Data as json
 use Rattle.bcs_registry_formats.specs.Container.{Entries}
 use Rattle.bcs_registry_formats.specs.Shape.{Shape}
-use Rattle.bcs_registry_formats.specs.Ranges.{IsOrderly}
 use Rattle.bcs_registry_formats.specs.Grows.{Grows}
+use Rattle.bcs_registry_formats.specs.Ranges.{IsOrderly}
 use Rattle.bcs_registry_formats.specs.WellFormed.{IsWellFormed}
 use Rattle.bcs_value_laws.specs.Fits.{Fits}
 use Rattle.bcs_value_laws.specs.Limits.{Bounds}
 use Rattle.bcs_value_laws.specs.Same.{Same}
 use Rattle.bcs_value_tree.specs.Tree.{Tree}
+use Rattle.bcs_json_laws.specs.ArraySpells.{ArraySpells}
 use Rattle.bcs_json_laws.specs.JsonContent.{JsonContent, of}
 use Rattle.bcs_json_laws.specs.Refuses.{Refuses}
 use Rattle.bcs_json_laws.specs.Shown.{shown}
@@ -67,6 +68,35 @@ DenotesOnce = (registry : Entries) (limits : Bounds) (s : Shape) (text : List �
 abbrev pub DenotedIsNotRefused : Type 0
 DenotedIsNotRefused = (registry : Entries) (limits : Bounds) (s : Shape) (text : List ℕ) (t : Tree) (e : JsonFault)
     → Denotes registry limits s text t → RefusesText registry limits s text e → ⊥
+
+-- ---- of the older reading
+
+-- what is spelled with arrays alone is spelled
+abbrev pub ArraySpellingStillSpells : Type 0
+ArraySpellingStillSpells = (registry : Entries) (f : JsonContent) (j : Data) (t : Tree) → ArraySpells registry t f j → Spells registry t f j
+
+-- ---- of growth
+
+-- what is spelled at a registry is spelled at one that it grows to, in which no new variant takes an old one's name
+abbrev pub GrowthKeepsSpelling : Type 0
+GrowthKeepsSpelling = (older newer : Entries) (f : JsonContent) (j : Data) (t : Tree)
+    → IsWellFormed newer → Grows older newer → Spells older t f j → Spells newer t f j
+
+-- and so what a text denotes
+abbrev pub GrowthKeepsDenoting : Type 0
+GrowthKeepsDenoting = (older newer : Entries) (limits : Bounds) (s : Shape) (text : List ℕ) (t : Tree)
+    → IsWellFormed newer → Grows older newer → Denotes older limits s text t → Denotes newer limits s text t
+
+-- ---- of the verdict on texts
+
+-- a text denotes a value or is refused, and for one reason
+pub record HasOneAnswer (registry : Entries) (limits : Bounds) (s : Shape) (text : List ℕ) : Type 0 where
+  pub some : ((t : Tree) × Denotes registry limits s text t) ⊎ ((e : JsonFault) × RefusesText registry limits s text e)
+  pub once : (e g : JsonFault) → RefusesText registry limits s text e → RefusesText registry limits s text g → e ≡ g
+
+-- so each does at an orderly registry
+abbrev pub TextDenotesOrIsRefused : Type 0
+TextDenotesOrIsRefused = (registry : Entries) (limits : Bounds) (s : Shape) (text : List ℕ) → IsOrderly registry → HasOneAnswer registry limits s text
 
 -- ---- the headline
 

@@ -9,3 +9,4 @@ pub mod Shown
 pub mod Texts
 pub mod Headline
 pub mod Laws
+pub mod ArraySpells

@@ -1,5 +1,5 @@
 //! What holds of spellings and texts, whatever the code: each law is the contract of a function that does nothing.
-ghost use Rattle.bcs_json_laws.specs.Laws.{DenotedIsNotRefused, DenotesOnce, EqualValuesEqualBytes, GrowthKeepsShowing, NormalTextIsStable, OneTree, OneVerdict, ShownBytesComeBack, ShownIsLowest, ShownIsReadBack, SpelledFits};
+ghost use Rattle.bcs_json_laws.specs.Laws.{ArraySpellingStillSpells, DenotedIsNotRefused, DenotesOnce, EqualValuesEqualBytes, GrowthKeepsDenoting, GrowthKeepsShowing, GrowthKeepsSpelling, NormalTextIsStable, OneTree, OneVerdict, ShownBytesComeBack, ShownIsLowest, ShownIsReadBack, SpelledFits, TextDenotesOrIsRefused};
 
 /// JSON spells at most one tree.
 pub fn one_tree()
@@ -54,4 +54,24 @@ pub fn normal_text_is_stable()
 /// The bytes of the text of bytes are these bytes.
 pub fn shown_bytes_come_back()
     ensures { ShownBytesComeBack }
+{}
+
+/// What is spelled in the older reading, lists and arrays of `U8` by arrays alone, is spelled.
+pub fn array_spelling_still_spells()
+    ensures { ArraySpellingStillSpells }
+{}
+
+/// What is spelled at a registry is spelled at one that it grows to.
+pub fn growth_keeps_spelling()
+    ensures { GrowthKeepsSpelling }
+{}
+
+/// What a text denotes at a registry, it denotes at one that it grows to.
+pub fn growth_keeps_denoting()
+    ensures { GrowthKeepsDenoting }
+{}
+
+/// At an orderly registry each text denotes a value or is refused, and for one reason.
+pub fn text_denotes_or_is_refused()
+    ensures { TextDenotesOrIsRefused }
 {}
