@@ -2,7 +2,7 @@
 use Rattle.std.proofs.Common.{◌≡◌, ◌∙◌, ℕ, ◌≤◌, List, Some, sym, subst, arith}
 use Rattle.serde_json.specs.Data.{Data, depth}
 use Rattle.bcs_registry_formats.specs.Container.{Entries}
-use Rattle.bcs_registry_text.specs.Json.{IsJson}
+use Rattle.bcs_json_text.specs.Json.{IsJson}
 use Rattle.bcs_registry_formats.specs.Shape.{Shape}
 use Rattle.bcs_value_laws.specs.Limits.{Bounds}
 use Rattle.bcs_value_tree.specs.Tree as tree
@@ -21,7 +21,7 @@ use Rattle.bcs_json_laws.proofs.Verdict.{one_tree, one_verdict}
 same_some : {A : Type 0} (a b : A) → Some a ≡ Some b → a ≡ b
 same_some a b h = cc
 
-same_read : (text : List ℕ) (d e : Data) → IsJson text d → IsJson text e → d ≡ e
+pub same_read : (text : List ℕ) (d e : Data) → IsJson text d → IsJson text e → d ≡ e
 same_read text d e g h = same_some d e (sym g.1 ∙ h.1)
 
 pub denotes_once : DenotesOnce

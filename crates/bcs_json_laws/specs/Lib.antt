@@ -7,4 +7,6 @@ pub mod Refuses
 pub mod Reading
 pub mod Shown
 pub mod Texts
+pub mod Headline
 pub mod Laws
+pub mod ArraySpells

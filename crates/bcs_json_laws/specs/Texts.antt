@@ -4,12 +4,10 @@ use Rattle.serde_json.specs.Data.{Data}
 use Rattle.serde_json.specs.Data as json
 use Rattle.serde_json.specs.Written.{compact_text}
 use Rattle.bcs_registry_formats.specs.Container.{Entries}
-use Rattle.bcs_registry_formats.specs.Container as container
-use Rattle.bcs_registry_text.specs.Json.{IsJson, IsNotJson}
+use Rattle.bcs_json_text.specs.Json.{IsJson, IsNotJson}
 use Rattle.bcs_registry_formats.specs.Shape.{Shape}
 use Rattle.bcs_value_tree.specs.Tree.{Tree}
 use Rattle.bcs_value_laws.specs.Limits.{Bounds}
-use Rattle.bcs_encode_laws.specs.Encodes.{IsForm, Encodes}
 use Rattle.bcs_encode_laws.specs.Refused as encode
 use Rattle.bcs_encode_laws.specs.Sound.{IsSound}
 use Rattle.bcs_encode_laws.specs.declared.fault.EncodeFault.TheVariants as encode_fault
@@ -60,19 +58,3 @@ RefusesText registry limits s text e = Misspells registry limits s text e
 -- the text is the canonical tree c's
 abbrev pub IsTextOf : Entries → Shape → Tree → List ℕ → Type 0
 IsTextOf registry s c text = text ≡ compact_text (shown registry c (of s))
-
--- out is the canonical text of what the text denotes, and denotes its canonical form
-pub record Normalises (registry : Entries) (limits : Bounds) (s : Shape) (text out : List ℕ) : Type 0 where
-  pub value : Tree
-  pub denoted : Denotes registry limits s text value
-  pub form : Tree
-  pub is_form : IsForm registry (container.of s) value form
-  pub is : IsTextOf registry s form out
-  pub again : Denotes registry limits s out form
-
--- the texts denote values, and these are the same exactly where their bytes are
-pub record Compares (registry : Entries) (limits : Bounds) (s : Shape) (first second : List ℕ) (v w : Tree) (b c : List ℕ) : Type 0 where
-  pub first_denotes : Denotes registry limits s first v
-  pub second_denotes : Denotes registry limits s second w
-  pub first_encodes : Encodes registry limits s v b
-  pub second_encodes : Encodes registry limits s w c

@@ -1,0 +1,81 @@
+-- The variants of an enum of a well-formed registry differ in their names: so the one that is found by its number is the one
+-- that is called so.
+use Rattle.std.proofs.Common.{◌≡◌, ◌∙◌, ℕ, List, [], ◌∷◌, map, Option, Some, Bool, true, false, not, ◌&&◌, ◌||◌, ◌==◌, cond, bytes_eq, refl, ap, ap₂, sym}
+use Rattle.std.specs.List.{flat_map, list_all, list_any}
+use Rattle.std.proofs.lemmas.Bool.{false≢true, and_parts}
+use Rattle.std.proofs.lemmas.Bool.Decides.{Decides-eqb}
+use Rattle.std.proofs.lemmas.List.Folds.{list_all-append}
+use Rattle.std.proofs.lemmas.Option.{none-some, same_Some}
+use Rattle.std.proofs.lemmas.Slice.Eq.{bytes_eq-Decides}
+use Rattle.bcs_registry_formats.specs.Container.{Payload, Choice, Container, enumeration, Entries, container_at, choice_numbered}
+use Rattle.bcs_registry_formats.specs.WellFormed.{container_names, name_lists, payload_names, are_distinct, levels_hold, names_differ, names_known, IsWellFormed}
+use Rattle.bcs_json_laws.specs.JsonContent.{choice_called}
+
+abbrev pub choice_names : List Choice → List (List ℕ)
+choice_names = map (λ c. c.1.0)
+
+-- ---- in a well-formed registry
+
+found_names : (b : Bool) (c d : Container) (o : Option Container) → cond b (Some c) o ≡ Some d → list_all are_distinct (container_names c) ≡ true
+    → (o ≡ Some d → list_all are_distinct (container_names d) ≡ true) → list_all are_distinct (container_names d) ≡ true
+found_names true c d o found here later = ap (λ x. list_all are_distinct (container_names x)) (sym (same_Some c d found)) ∙ here
+found_names false c d o found here later = later found
+
+container_distinct : (n : List ℕ) (registry : Entries) (c : Container) → list_all are_distinct (name_lists registry) ≡ true → container_at n registry ≡ Some c
+    → list_all are_distinct (container_names c) ≡ true
+container_distinct n [] c differ found = absurd (none-some c found)
+container_distinct n (e ∷ es) c differ found =
+    let parts = and_parts _ _ (sym (list_all-append are_distinct (container_names e.1) (name_lists es)) ∙ differ) in
+    found_names (bytes_eq n e.0) e.1 c (container_at n es) found parts.0 (container_distinct n es c parts.1)
+
+pub variants_differ : (registry : Entries) (n : List ℕ) (cs : List Choice) → IsWellFormed registry → container_at n registry ≡ Some (enumeration cs) → are_distinct (choice_names cs) ≡ true
+variants_differ registry n cs good found =
+    let first = (and_parts (levels_hold registry && names_differ registry) (names_known registry) good).0 in
+    let differ = (and_parts (levels_hold registry) (names_differ registry) first).1 in
+    (and_parts (are_distinct (choice_names cs)) (list_all are_distinct (flat_map (λ c. payload_names c.1.1) cs)) (container_distinct n registry (enumeration cs) differ found)).0
+
+-- ---- in an enum
+
+among_names_at : (name : List ℕ) (d : Choice) (ds : List Choice) (n : ℕ) (v : List ℕ × Payload) (b : Bool) → cond b (Some d.1) (choice_numbered n ds) ≡ Some v → bytes_eq name v.0 ≡ true
+    → (choice_numbered n ds ≡ Some v → list_any (bytes_eq name) (choice_names ds) ≡ true) → list_any (bytes_eq name) (choice_names (d ∷ ds)) ≡ true
+among_names_at name d ds n v true found is later = rw (ap (λ (w : List ℕ × Payload). bytes_eq name w.0) (same_Some d.1 v found) ∙ is) refl
+among_names_at name d ds n v false found is later = search_later (bytes_eq name d.1.0) (later found)
+  where
+    search_later : (b : Bool) → list_any (bytes_eq name) (choice_names ds) ≡ true → (b || list_any (bytes_eq name) (choice_names ds)) ≡ true
+    search_later true h = refl
+    search_later false h = h
+
+-- the name of a variant that is found by its number is among the names
+among_names : (name : List ℕ) (ds : List Choice) (n : ℕ) (v : List ℕ × Payload) → choice_numbered n ds ≡ Some v → bytes_eq name v.0 ≡ true → list_any (bytes_eq name) (choice_names ds) ≡ true
+among_names name [] n v found is = absurd (none-some v found)
+among_names name (d ∷ ds) n v found is = among_names_at name d ds n v (d.0 == n) found is (λ rest. among_names name ds n v rest is)
+
+module _ (word : List ℕ) (d : Choice) (ds : List Choice) (c : Choice) (is : bytes_eq c.1.0 word ≡ true) where
+  -- it stands here
+  called_here : (d.0 == c.0) ≡ true → d.1 ≡ c.1 → choice_called word (d ∷ ds) ≡ Some c
+  called_here number rest =
+      let same : d ≡ c = ap₂ (λ (n : ℕ) (v : List ℕ × Payload). (n, v)) ((Decides-eqb d.0 c.0).0 number) rest in
+      rw (ap (λ (x : Choice). bytes_eq x.1.0 word) same ∙ is) (ap Some same)
+
+  -- it stands further on, so that its name is none of this one
+  called_later : (b : Bool) → bytes_eq d.1.0 word ≡ b → not (list_any (bytes_eq d.1.0) (choice_names ds)) ≡ true → choice_numbered c.0 ds ≡ Some c.1
+      → choice_called word ds ≡ Some c → cond b (Some d) (choice_called word ds) ≡ Some c
+  called_later true here differ found later =
+      let same : d.1.0 ≡ c.1.0 = (bytes_eq-Decides d.1.0 word).0 here ∙ sym ((bytes_eq-Decides c.1.0 word).0 is) in
+      let twice = among_names d.1.0 ds c.0 c.1 found ((bytes_eq-Decides d.1.0 c.1.0).1 same) in
+      absurd (false≢true (sym (ap not twice) ∙ differ))
+  called_later false here differ found later = later
+
+  called_at : (b : Bool) → (d.0 == c.0) ≡ b → cond b (Some d.1) (choice_numbered c.0 ds) ≡ Some c.1 → are_distinct (choice_names (d ∷ ds)) ≡ true
+      → (choice_numbered c.0 ds ≡ Some c.1 → choice_called word ds ≡ Some c) → choice_called word (d ∷ ds) ≡ Some c
+  called_at true number found differ later = called_here number (same_Some d.1 c.1 found)
+  called_at false number found differ later =
+      called_later (bytes_eq d.1.0 word) refl (and_parts (not (list_any (bytes_eq d.1.0) (choice_names ds))) (are_distinct (choice_names ds)) differ).0 found (later found)
+
+-- the variant that is found by its number is called by its name
+pub numbered_called : (word : List ℕ) (ds : List Choice) (c : Choice) → are_distinct (choice_names ds) ≡ true → choice_numbered c.0 ds ≡ Some c.1 → bytes_eq c.1.0 word ≡ true
+    → choice_called word ds ≡ Some c
+numbered_called word [] c differ found is = absurd (none-some c.1 found)
+numbered_called word (d ∷ ds) c differ found is =
+    called_at word d ds c is (d.0 == c.0) refl found differ
+    (λ rest. numbered_called word ds c (and_parts (not (list_any (bytes_eq d.1.0) (choice_names ds))) (are_distinct (choice_names ds)) differ).1 rest is)
