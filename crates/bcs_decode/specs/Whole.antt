@@ -19,27 +19,31 @@ abbrev pub AreKnown : ℕ → Option (List ℕ) → Type 0
 AreKnown n None = n ≡ 0
 AreKnown n (Some b) = n ≤ length b
 
+-- of told bytes a front is gone, however long
+abbrev pub FrontGone : List ℕ → Option (List ℕ) → Type 0
+FrontGone b rest = (n : ℕ) × (n ≤ length b) × (rest ≡ Some (drop n b))
+
 -- of told bytes a front is gone that isn't shorter than the place
 abbrev pub GoneTo : List ℕ → Option (List ℕ) → ℕ → Type 0
 GoneTo b rest place = (n : ℕ) × (place ≤ n) × (n ≤ length b) × (rest ≡ Some (drop n b))
 
 -- of bytes that are told: the value that is accepted and its length, whose bytes alone are gone; or the one stop; or
--- another cause
+-- another cause. In each case a front is gone
 abbrev pub DecodesFront : Entries → Bounds → Shape → Option (List ℕ) → Option (List ℕ) → Result (Value × ℕ) DecodeFault → Type 0
 DecodesFront registry limits s None rest r = Unit {0}
-DecodesFront registry limits s (Some b) rest (Ok r) = AreBytes b → Accepts registry limits s b r.1 (tree_of r.0) × (rest ≡ Some (drop r.1 b))
+DecodesFront registry limits s (Some b) rest (Ok r) = FrontGone b rest × (AreBytes b → Accepts registry limits s b r.1 (tree_of r.0) × (rest ≡ Some (drop r.1 b)))
 DecodesFront registry limits s (Some b) rest (Err (Stop stop)) = AreBytes b → Stops registry limits s b stop.reason stop.place × GoneTo b rest stop.place
-DecodesFront registry limits s (Some b) rest (Err Read) = Unit {0}
-DecodesFront registry limits s (Some b) rest (Err OutOfMemory) = Unit {0}
+DecodesFront registry limits s (Some b) rest (Err Read) = FrontGone b rest
+DecodesFront registry limits s (Some b) rest (Err OutOfMemory) = FrontGone b rest
 
 -- of bytes that are told: the value that is accepted, whose bytes alone are gone; or the one stop, and of the bytes a
--- front is gone that isn't shorter than its place; or another cause
+-- front is gone that isn't shorter than its place; or another cause, and a front is gone, however long
 abbrev pub DecodesFrom : Entries → Bounds → Shape → Option (List ℕ) → Option (List ℕ) → Result Value DecodeFault → Type 0
 DecodesFrom registry limits s None rest r = Unit {0}
 DecodesFrom registry limits s (Some b) rest (Ok v) = AreBytes b → (n : ℕ) × Accepts registry limits s b n (tree_of v) × (rest ≡ Some (drop n b))
 DecodesFrom registry limits s (Some b) rest (Err (Stop stop)) = AreBytes b → Stops registry limits s b stop.reason stop.place × GoneTo b rest stop.place
-DecodesFrom registry limits s (Some b) rest (Err Read) = Unit {0}
-DecodesFrom registry limits s (Some b) rest (Err OutOfMemory) = Unit {0}
+DecodesFrom registry limits s (Some b) rest (Err Read) = FrontGone b rest
+DecodesFrom registry limits s (Some b) rest (Err OutOfMemory) = FrontGone b rest
 
 -- bytes come after a value that ends here; it is gone, and one byte more
 pub record Trails (registry : Entries) (limits : Bounds) (s : Shape) (b : List ℕ) (rest : Option (List ℕ)) (stop : stop.Stop) : Type 0 where
@@ -50,11 +54,11 @@ pub record Trails (registry : Entries) (limits : Bounds) (s : Shape) (b : List �
   pub gone : rest ≡ Some (drop (suc stop.place) b)
 
 -- of bytes that are told: the value that all of them are; or the stop of the whole input, where a stop within the value
--- is that of its front; or another cause
+-- is that of its front; or another cause, and a front is gone, however long
 abbrev pub DecodesAll : Entries → Bounds → Shape → Option (List ℕ) → Option (List ℕ) → Result Value DecodeFault → Type 0
 DecodesAll registry limits s None rest r = Unit {0}
 DecodesAll registry limits s (Some b) rest (Ok v) = AreBytes b → Accepts registry limits s b (length b) (tree_of v) × (rest ≡ Some [])
 DecodesAll registry limits s (Some b) rest (Err (Stop stop)) = AreBytes b → StopsAll registry limits s b stop.reason stop.place
     × ((Stops registry limits s b stop.reason stop.place × GoneTo b rest stop.place) ⊎ Trails registry limits s b rest stop)
-DecodesAll registry limits s (Some b) rest (Err Read) = Unit {0}
-DecodesAll registry limits s (Some b) rest (Err OutOfMemory) = Unit {0}
+DecodesAll registry limits s (Some b) rest (Err Read) = FrontGone b rest
+DecodesAll registry limits s (Some b) rest (Err OutOfMemory) = FrontGone b rest

@@ -17,7 +17,7 @@ use std::alloc::Global;
 /// bytes stop being a value, or `Read` where the source failed, or `OutOfMemory` where a growth was refused.
 /// Memory follows the bytes and elements that were read, and none is asked for by a length that the bytes announce.
 /// Elements that have no bytes take memory one by one too, as many as the limit of nodes lets begin. After a refusal the
-/// source isn't to be read on.
+/// source isn't to be read on: it gave a front of its content, which after `Read` and `OutOfMemory` may end anywhere.
 pub fn decode_from<S: ByteSource>(
     alloc: Global,
     registry: &Registry,

@@ -16,7 +16,7 @@ use Rattle.bcs_value_tree.specs.View.{tree_of}
 use Rattle.bcs_value_tree.specs.declared.value.Value.{Value}
 use Rattle.bcs_decode_laws.specs.Reading.{Parser, bytes_here, chain, give}
 use Rattle.bcs_decode_keys.specs.Kept.{Judges}
-use Rattle.bcs_decode_reader.specs.Sees.{is_told, rest_of, Refuses, Sees, Left, Records, Along, AlongMap, Goes, Halts}
+use Rattle.bcs_decode_reader.specs.Sees.{is_told, rest_of, Refuses, Sees, Left, Records, Along, AlongMap, Goes, GaveFront, Halts}
 
 -- ---- one after another
 
@@ -48,13 +48,17 @@ Along-none c p = record {
   recorded = λ yes b base from l s. s;
 }
 
-pub Halts-after : (x : DecodeFault) (c d e : Option (List ℕ)) (p q r : At) → ((b : List ℕ) → Left b p.place c → Left b q.place d) → Halts x d q e r → Halts x c p e r
-Halts-after (Stop s) c d e p q r gone k = (λ b l. k.0 b (gone b l), k.1)
-Halts-after ReadFault c d e p q r gone k = tt
-Halts-after OutOfMemory c d e p q r gone k = tt
+pub Halts-after : (x : DecodeFault) (c d e : Option (List ℕ)) (p q r : At) → ((b : List ℕ) → Left b p.place c → Left b q.place d) → p.place ≤ q.place → Halts x d q e r → Halts x c p e r
+Halts-after (Stop s) c d e p q r gone later k = (λ b l. k.0 b (gone b l), k.1)
+Halts-after ReadFault c d e p q r gone later k = λ b l. (let m = k b (gone b l) in (m.0, (let far = m.1 in omega arith), m.2))
+Halts-after OutOfMemory c d e p q r gone later k = λ b l. (let m = k b (gone b l) in (m.0, (let far = m.1 in omega arith), m.2))
 
 pub Halts-then : (x : DecodeFault) (c d e : Option (List ℕ)) (p q r : At) → Along c p d q → Halts x d q e r → Halts x c p e r
-Halts-then x c d e p q r h k = Halts-after x c d e p q r h.gone k
+Halts-then x c d e p q r h k = Halts-after x c d e p q r h.gone h.later k
+
+-- what was gone past is a front
+pub Along-gave : {c d : Option (List ℕ)} {p q : At} → Along c p d q → GaveFront c p d
+Along-gave {c} {d} {p} {q} h b l = (q.place, h.later, h.gone b l)
 
 pub Goes-then : {X : Type 0} (r : Result X DecodeFault) (c d e : Option (List ℕ)) (p q s : At) → Along c p d q → Goes r d q e s → Goes r c p e s
 Goes-then (Ok x) c d e p q s h k = Along-then h k
@@ -189,6 +193,10 @@ Left-after b p n (Some s) None x h l k = absurd h
 Left-after b p n (Some s) (Some t) x h l k =
     let m = drop_more p n b x t k.within (sym k.is ∙ h) l in
     (record { told = refl; within = m.0; is = m.1 }, m.2)
+
+-- a front was given
+pub gave_taken : (c d : Option (List ℕ)) (p : At) (x : List ℕ) → Consumes c d x → GaveFront c p d
+gave_taken c d p x h b l = (p.place + length x, omega arith, (Left-after b p.place (length x) c d x h refl l).0)
 
 -- the bytes that were recorded, and then the next ones
 Records-after : (b base : List ℕ) (from n : ℕ) (x : List ℕ) (p q : At) → x ≡ take n (drop p.place b) → q.place ≡ p.place + n → q.kept.items ≡ p.kept.items ++ x → Records b base from p → Records b base from q

@@ -62,11 +62,16 @@ pub record Along (c : Option (List ℕ)) (p : At) (d : Option (List ℕ)) (q : A
   pub unrecorded : p.is_in_key ≡ false → q.kept.items ≡ p.kept.items
   pub recorded : p.is_in_key ≡ true → (b base : List ℕ) (from : ℕ) → Left b p.place c → Records b base from p → Records b base from q
 
--- at a stop too only bytes were gone past, and no fewer than come before its place
+-- from p on the source gave a front of the bytes that were to come, and the others are still to come
+abbrev pub GaveFront : Option (List ℕ) → At → Option (List ℕ) → Type 0
+GaveFront c p d = (b : List ℕ) → Left b p.place c → (n : ℕ) × (p.place ≤ n) × Left b n d
+
+-- at a stop too only bytes were gone past, and no fewer than come before its place; at another fault a front was given,
+-- however long
 abbrev pub Halts : DecodeFault → Option (List ℕ) → At → Option (List ℕ) → At → Type 0
 Halts (Stop s) c p d q = ((b : List ℕ) → Left b p.place c → Left b q.place d) × (s.place ≤ q.place)
-Halts Read c p d q = Unit {0}
-Halts OutOfMemory c p d q = Unit {0}
+Halts Read c p d q = GaveFront c p d
+Halts OutOfMemory c p d q = GaveFront c p d
 
 abbrev pub Goes : {X : Type 0} → Result X DecodeFault → Option (List ℕ) → At → Option (List ℕ) → At → Type 0
 Goes (Ok x) c p d q = Along c p d q

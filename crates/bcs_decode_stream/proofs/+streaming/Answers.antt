@@ -13,7 +13,7 @@ use Rattle.bcs_value_tree.specs.View.{tree_of, items_trees}
 use Rattle.bcs_decode_keys.specs.Kept.{last_bytes, key_of}
 use Rattle.bcs_decode_reader.specs.Sees.{rest_of, row_here, node_here, each, unit_leaf, number_node, read, option_value, items_value, pairs_value, tuple_value, named_value, content_value}
 use Rattle.bcs_decode_laws.specs.Reading.{items_here, building, key_here, chain, give}
-use Rattle.bcs_decode_reader.proofs.Going.{Sees-as, Sees-row, Goes-then, Along-none, Along-then, Along-map, AlongMap-then, AlongMap-value, AlongMap-key, front_length, Halts-then, Halts-after, Refuses-whole, Refuses-judged, blame}
+use Rattle.bcs_decode_reader.proofs.Going.{Sees-as, Sees-row, Goes-then, Along-none, Along-then, Along-map, AlongMap-then, AlongMap-value, AlongMap-key, front_length, Halts-then, Halts-after, Along-gave, Refuses-whole, Refuses-judged, blame}
 use Rattle.bcs_decode_keys.proofs.KeptKeys.{Stands-begun, Stands-more, last_kept, same_key}
 use Rattle.bcs_decode_reader.proofs.StreamedKeys.{kept_wrong, kept_right}
 use Rattle.bcs_decode_laws.proofs.LookedUp.{content_found, content_missing, choice_found, choice_missing, levels_in, field_levels_in, formats_next, fields_next}
@@ -73,6 +73,11 @@ rows::row-returns-in_err-value-clause-goes g t c =
     let p = err_from_is_err_and c.from_residual.result c.from_residual.ensures.1 in
     rw (p.1, p.2) (Halts-then c.in_err-value.field-0.0 _ _ _ _ _ _ c.loop.invariant.goes c.in_err-value.ensures.goes)
 
+pub rows::row-returns-in_err-keep-clause-goes : goal.rows::row-returns-in_err-keep-clause-goes
+rows::row-returns-in_err-keep-clause-goes g t c =
+    let p = err_from_is_err_and c.from_residual-in_err-keep.result c.from_residual-in_err-keep.ensures.1 in
+    rw (p.1, p.2) (Along-gave (Along-then c.loop.invariant.goes c.in_ok-value.ensures.goes))
+
 pub rows::row-loop-preserved : goal.rows::row-loop-preserved
 rows::row-loop-preserved g t c =
     record { good = c.in_ok-value.ensures.failed; room = c.in_ok-value.ensures.room; goes = Along-then c.loop.invariant.goes c.in_ok-value.ensures.goes; sees = rw c.in_ok-keep.ensures.kept (items_more (read c.args.registry.now c.args.depth (shape_of c.args.element.now)) c.args.count c.loop.counter c.loop.found.items c.value.new.slot (g.S.ByteSource.content c.args.source.now) (g.S.ByteSource.content c.loop.source) (g.S.ByteSource.content c.value.new.source) c.args.at.now c.loop.at c.value.new.at c.loop-test.true c.loop.invariant.sees c.in_ok-value.ensures.sees) }
@@ -100,6 +105,11 @@ pub rows::parts-returns-in_err-value-clause-goes : goal.rows::parts-returns-in_e
 rows::parts-returns-in_err-value-clause-goes g t c =
     let p = err_from_is_err_and c.from_residual.result c.from_residual.ensures.1 in
     rw (p.1, p.2) (Halts-then c.in_err-value.field-0.0 _ _ _ _ _ _ c.loop-format.invariant.goes c.in_err-value.ensures.goes)
+
+pub rows::parts-returns-in_err-keep-clause-goes : goal.rows::parts-returns-in_err-keep-clause-goes
+rows::parts-returns-in_err-keep-clause-goes g t c =
+    let p = err_from_is_err_and c.from_residual-in_err-keep.result c.from_residual-in_err-keep.ensures.1 in
+    rw (p.1, p.2) (Along-gave (Along-then c.loop-format.invariant.goes c.in_ok-value.ensures.goes))
 
 pub rows::parts-loop-format-preserved : goal.rows::parts-loop-format-preserved
 rows::parts-loop-format-preserved g t c =
@@ -131,6 +141,11 @@ containers::each_field-returns-in_err-value-clause-goes g t c =
     let p = err_from_is_err_and c.from_residual.result c.from_residual.ensures.1 in
     rw (p.1, p.2) (Halts-then c.in_err-value.field-0.0 _ _ _ _ _ _ c.loop-field.invariant.goes c.in_err-value.ensures.goes)
 
+pub containers::each_field-returns-in_err-keep-clause-goes : goal.containers::each_field-returns-in_err-keep-clause-goes
+containers::each_field-returns-in_err-keep-clause-goes g t c =
+    let p = err_from_is_err_and c.from_residual-in_err-keep.result c.from_residual-in_err-keep.ensures.1 in
+    rw (p.1, p.2) (Along-gave (Along-then c.loop-field.invariant.goes c.in_ok-value.ensures.goes))
+
 pub containers::each_field-loop-field-preserved : goal.containers::each_field-loop-field-preserved
 containers::each_field-loop-field-preserved g t c =
     let next = fields_next c.args.fields.now c.loop-field.field-index c.field-item.result (omega arith) c.field-item.is in
@@ -161,7 +176,7 @@ maps::each_entry-returns-in_err-next_key-clause-sees g t c =
 pub maps::each_entry-returns-in_err-next_key-clause-goes : goal.maps::each_entry-returns-in_err-next_key-clause-goes
 maps::each_entry-returns-in_err-next_key-clause-goes g t c =
     let p = err_from_is_err_and c.from_residual.result c.from_residual.ensures.1 in
-    rw (p.1, p.2) (Halts-after c.in_err-next_key.field-0.0 _ _ _ _ _ _ c.loop.invariant.goes.gone c.in_err-next_key.ensures.goes)
+    rw (p.1, p.2) (Halts-after c.in_err-next_key.field-0.0 _ _ _ _ _ _ c.loop.invariant.goes.gone c.loop.invariant.goes.later c.in_err-next_key.ensures.goes)
 
 pub maps::each_entry-returns-in_err-value-clause-sees : goal.maps::each_entry-returns-in_err-value-clause-sees
 maps::each_entry-returns-in_err-value-clause-sees g t c =
@@ -171,7 +186,7 @@ maps::each_entry-returns-in_err-value-clause-sees g t c =
 pub maps::each_entry-returns-in_err-value-clause-goes : goal.maps::each_entry-returns-in_err-value-clause-goes
 maps::each_entry-returns-in_err-value-clause-goes g t c =
     let p = err_from_is_err_and c.from_residual-in_err-value.result c.from_residual-in_err-value.ensures.1 in
-    rw (p.1, p.2) (Halts-after c.in_err-value.field-0.0 _ _ _ _ _ _ (λ b l. c.in_ok-next_key.ensures.goes.gone b (c.loop.invariant.goes.gone b l)) c.in_err-value.ensures.goes)
+    rw (p.1, p.2) (Halts-after c.in_err-value.field-0.0 _ _ _ _ _ _ (λ b l. c.in_ok-next_key.ensures.goes.gone b (c.loop.invariant.goes.gone b l)) (let first = c.loop.invariant.goes.later in let then_key = c.in_ok-next_key.ensures.goes.later in omega arith) c.in_err-value.ensures.goes)
 
 pub maps::each_entry-loop-preserved : goal.maps::each_entry-loop-preserved
 maps::each_entry-loop-preserved g t c =

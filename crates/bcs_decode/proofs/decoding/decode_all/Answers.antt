@@ -2,7 +2,7 @@ use Rattle.std.proofs.lemmas.Grind.{common_steps}
 use Rattle.std.proofs.Common.{take, arith, rules}
 use Rattle.std.proofs.lemmas.List.{length-take}
 use Rattle.bcs_registry_formats.specs.View.{shape_of}
-use Rattle.bcs_decode.proofs.Wholes.{trails_by}
+use Rattle.bcs_decode.proofs.Wholes.{trails_by, all_lost}
 use Rattle.bcs_decode.proofs.decoding.decode_all.Goals as goal
 
 pub returns-in-Ok-next-clause-told : goal.returns-in-Ok-next-clause-told
@@ -28,7 +28,10 @@ pub returns-in-Ok-next-clause-memory : goal.returns-in-Ok-next-clause-memory
 returns-in-Ok-next-clause-memory g c = search rules
 
 pub returns-in-Err-next-clause-told : goal.returns-in-Err-next-clause-told
-returns-in-Err-next-clause-told g c = search rules
+returns-in-Err-next-clause-told g c =
+    let content = g.S.ByteSource.content in
+    all_lost c.args.registry.now c.args.limits.now (shape_of c.args.format.now) (content c.args.source.now) (content c.front.new.source) (content c.next.new.self)
+    (c.in-Ok.value, c.in-Ok.length) c.in-Ok.ensures.told c.in-Err-next.ensures.front
 
 pub returns-in-Err-next-clause-read : goal.returns-in-Err-next-clause-read
 returns-in-Err-next-clause-read g c = search rules

@@ -1,7 +1,7 @@
 use Rattle.std.proofs.Common.{refl, false, rules}
 use Rattle.std.proofs.lemmas.Result.{err_from_is_err_and}
 use Rattle.bcs_registry_formats.specs.View.{shape_of}
-use Rattle.bcs_decode.proofs.Wholes.{decoded, stopped}
+use Rattle.bcs_decode.proofs.Wholes.{decoded, stopped, lost_at_once}
 use Rattle.bcs_decode.proofs.decoding.front.Goals as goal
 
 pub returns-in_err-value-clause-told : goal.returns-in_err-value-clause-told
@@ -15,10 +15,11 @@ pub returns-clause-told : goal.returns-clause-told
 returns-clause-told g c =
     let depth = c.depth.ensures.is in
     decoded c.args.registry.now c.args.limits.now (shape_of c.args.format.now) (g.S.ByteSource.content c.args.source.now) (g.S.ByteSource.content c.value.new.source) c.value.new.slot
-    (record { place = 0; known = c.args.known; nodes = c.nodes.result; is_in_key = false; kept = c.new.result }) c.value.new.at refl c.nodes.ensures.is (rw (← depth) c.in_ok-value.ensures.sees)
+    (record { place = 0; known = c.args.known; nodes = c.nodes.result; is_in_key = false; kept = c.new.result }) c.value.new.at refl c.nodes.ensures.is (rw (← depth) c.in_ok-value.ensures.sees) c.in_ok-value.ensures.goes
 
 pub returns-then-failed-clause-told : goal.returns-then-failed-clause-told
-returns-then-failed-clause-told g c = search rules
+returns-then-failed-clause-told g c =
+    lost_at_once c.args.registry.now c.args.limits.now (shape_of c.args.format.now) (g.S.ByteSource.content c.args.source.now)
 
 pub returns-then-failed-clause-read : goal.returns-then-failed-clause-read
 returns-then-failed-clause-read g c = search rules

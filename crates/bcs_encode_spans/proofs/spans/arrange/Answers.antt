@@ -16,3 +16,6 @@ returns-then-rise-clause-tells c =
     (ap₂ (λ (x : List ℕ) (ys : List Span). keys_rise (map (span_entry x) ys)) (sym c.deref-2.ensures.value) (sym spans)
     ∙ sym c.rise.ensures ∙ c.if-rise.true)
     ∙ search (rules, c.requires.laid)
+
+pub returns-then-rise-clause-kept : goal.returns-then-rise-clause-kept
+returns-then-rise-clause-kept c = search rules
