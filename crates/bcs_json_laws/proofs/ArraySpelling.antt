@@ -6,12 +6,12 @@ use Rattle.serde_json.specs.Data.{Data, number, unsigned, string, array, Items, 
 use Rattle.serde_json.specs.Find.{get_member}
 use Rattle.bcs_registry_formats.specs.Shape as shape
 use Rattle.bcs_registry_formats.specs.Shape.{Shape, Shapes, no_shapes, shape}
-use Rattle.bcs_registry_formats.specs.Container.{Field, Choice, Entries}
+use Rattle.bcs_registry_formats.specs.Container.{Field, Choice, Entries, choice_called}
 use Rattle.bcs_value_tree.specs.Tree as tree
 use Rattle.bcs_value_tree.specs.Tree.{Tree, Trees, no_trees, tree, Pairs, no_pairs, pair}
 use Rattle.bcs_json_laws.specs.ArraySpells.{ArraySpells, AllArraySpell, EachArraySpells, PairsArraySpell, FieldsArraySpell}
 use Rattle.bcs_json_laws.specs.Bytes.{ByteTextSpells, is_byte}
-use Rattle.bcs_json_laws.specs.JsonContent.{JsonContent, of, fields, one_of, json_content_at, payload_content, choice_called}
+use Rattle.bcs_json_laws.specs.JsonContent.{JsonContent, of, fields, one_of, json_content_at, payload_content}
 use Rattle.bcs_json_laws.specs.Laws.{ArraySpellingStillSpells}
 use Rattle.bcs_json_laws.specs.Look.{IfThere, without}
 use Rattle.bcs_json_laws.specs.Spells.{Spells, AllSpell, EachSpells, PairsSpell, FieldsSpell, IsWordOf}

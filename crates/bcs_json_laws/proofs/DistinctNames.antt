@@ -6,10 +6,10 @@ use Rattle.std.proofs.lemmas.List.Folds.{list_all-append}
 use Rattle.std.specs.List.{flat_map, list_all, list_any}
 use Rattle.std.specs.Option.{option_map_or}
 use Rattle.bcs_registry_formats.specs.Container as container
-use Rattle.bcs_registry_formats.specs.Container.{Container, unit_struct, newtype_struct, tuple_struct, field_struct, enumeration, Field, Payload, newtype, tuple, Choice, Entries, container_at, choice_numbered}
+use Rattle.bcs_registry_formats.specs.Container.{Container, unit_struct, newtype_struct, tuple_struct, field_struct, enumeration, Field, Payload, newtype, tuple, Choice, Entries, container_at, choice_numbered, choice_called}
 use Rattle.bcs_registry_formats.specs.WellFormed.{payload_names, container_names, are_distinct, levels_hold, names_differ, IsWellFormed}
 use Rattle.bcs_value_laws.proofs.Equivalence.{bytes-refl}
-use Rattle.bcs_json_laws.specs.JsonContent.{JsonContent, fields, one_of, nothing, json_content, json_content_at, payload_content, choice_called}
+use Rattle.bcs_json_laws.specs.JsonContent.{JsonContent, fields, one_of, nothing, json_content, json_content_at, payload_content}
 use Rattle.bcs_json_laws.proofs.Fitting.{and_left, and_right}
 
 -- the lists of names that must differ where this stands

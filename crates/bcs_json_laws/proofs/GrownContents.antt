@@ -3,11 +3,11 @@ use Rattle.std.proofs.Common.{◌≡◌, ◌⊎◌, inl, inr, ℕ, List, [], ◌
 use Rattle.std.specs.Option.{option_map_or}
 use Rattle.std.proofs.lemmas.List.Elements.{All-head, All-tail}
 use Rattle.std.proofs.lemmas.Option.{none-some, same_Some}
-use Rattle.bcs_registry_formats.specs.Container.{Choice, Container, unit_struct, newtype_struct, tuple_struct, field_struct, enumeration, Entries, container_at}
+use Rattle.bcs_registry_formats.specs.Container.{Choice, Container, unit_struct, newtype_struct, tuple_struct, field_struct, enumeration, Entries, container_at, choice_called}
 use Rattle.bcs_registry_formats.specs.Grows.{Grows, GrowsTo, HasChoice}
 use Rattle.bcs_registry_formats.specs.WellFormed.{IsWellFormed, are_distinct}
 use Rattle.bcs_registry_formats.proofs.GrowthLaws.{container_at-grows}
-use Rattle.bcs_json_laws.specs.JsonContent.{JsonContent, one_of, nothing, json_content, json_content_at, choice_called}
+use Rattle.bcs_json_laws.specs.JsonContent.{JsonContent, one_of, nothing, json_content, json_content_at}
 use Rattle.bcs_json_laws.proofs.DistinctVariants.{choice_names, variants_differ, numbered_called}
 
 -- the newer variants have each of the older ones, by its name

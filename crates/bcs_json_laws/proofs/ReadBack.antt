@@ -11,7 +11,7 @@ use Rattle.serde_json.specs.Data.{Data, number, string, array, Members}
 use Rattle.serde_json.specs.Find.{of_integer}
 use Rattle.serde_json.proofs.Views.{get_member-put}
 use Rattle.bcs_registry_formats.specs.Container as container
-use Rattle.bcs_registry_formats.specs.Container.{Field, Payload, newtype, tuple, Choice, Entries, Content, choice_numbered, content_at, choice_at, payload_shape, field_shapes}
+use Rattle.bcs_registry_formats.specs.Container.{Field, Payload, newtype, tuple, Choice, Entries, Content, choice_numbered, content_at, choice_at, payload_shape, field_shapes, choice_called}
 use Rattle.bcs_registry_formats.specs.Shape as shape
 use Rattle.bcs_registry_formats.specs.Shape.{Shape, Shapes, no_shapes, shape}
 use Rattle.bcs_registry_formats.specs.WellFormed.{IsWellFormed}
@@ -19,7 +19,7 @@ use Rattle.bcs_value_laws.specs.Fits.{fits, all_fit, each_fits, pairs_fit, are_b
 use Rattle.bcs_value_tree.specs.Tree as tree
 use Rattle.bcs_value_tree.specs.Tree.{Tree, Trees, no_trees, tree, Pairs, no_pairs, pair, count}
 use Rattle.bcs_json_laws.specs.Bytes.{ByteTextSpells, is_byte, byte_trees, trees_bytes}
-use Rattle.bcs_json_laws.specs.JsonContent.{JsonContent, of, fields, one_of, json_content_at, payload_content, choice_called, unnamed}
+use Rattle.bcs_json_laws.specs.JsonContent.{JsonContent, of, fields, one_of, json_content_at, payload_content, unnamed}
 use Rattle.bcs_json_laws.specs.Look.{IfStringOrArray, IfThere}
 use Rattle.bcs_json_laws.specs.Numbers.{SpellsWhole}
 use Rattle.bcs_json_laws.specs.Shown.{shown, shown_all, shown_each, shown_pairs, shown_fields, shown_choice, is_wide}

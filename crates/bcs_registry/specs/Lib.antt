@@ -8,7 +8,7 @@ pub use Rattle.bcs_registry_formats.specs.Grows
 pub use Rattle.bcs_registry_formats.specs.Order
 pub use Rattle.bcs_registry_formats.specs.Ranges
 pub use Rattle.bcs_registry_formats.specs.Laws
-pub use Rattle.bcs_registry_text.specs.Json
+pub use Rattle.bcs_json_text.specs.Json
 pub use Rattle.bcs_registry_text.specs.Shown
 pub use Rattle.bcs_registry_text.specs.Text
 pub use Rattle.bcs_registry_text.specs.Shaped

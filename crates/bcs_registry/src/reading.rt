@@ -14,7 +14,7 @@ use crate::registry::Registry;
 use bcs_registry_formats::{Container, Format, RegistryFault};
 use bcs_registry_text::container_text::containers_from;
 use bcs_registry_text::format_text::format_from;
-use bcs_registry_text::json_text::read_json;
+use bcs_registry_text::json_text::registry_json;
 use bcs_registry_text::shaped::{is_format_shaped, is_registry_shaped};
 use serde_json::Value;
 use std::alloc::Global;
@@ -29,7 +29,7 @@ impl Registry {
         ensures orderly { IfOk result IsOrderly }
         ensures fault { IfErr result (λ e. e ≢ RegistryFault.OutOfMemory → IsLeastFault text.now e) }
     {
-        let value = read_json(alloc, text)?;
+        let value = registry_json(alloc, text)?;
         let containers = written_containers(alloc, &value)?;
         drop(value);
         checked(alloc, containers)
@@ -43,7 +43,7 @@ impl Registry {
         ensures fault { IfErr result (λ e. e ≢ RegistryFault.OutOfMemory
             → IsLeastFormatFault self.now text.now e) }
     {
-        let value = read_json(alloc, text)?;
+        let value = registry_json(alloc, text)?;
         let format = written_format(alloc, &value)?;
         self.judge_format(&format)?;
         Ok(format)

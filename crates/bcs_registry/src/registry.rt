@@ -64,6 +64,14 @@ impl Registry {
         self.numbers.number(container, variant)
     }
 
+    /// Recalls what always holds of a registry, for proofs above. It does nothing.
+    pub fn recall(&self)
+        ensures well_formed { IsWellFormed self.now }
+        ensures orderly { IsOrderly self.now }
+    {
+        let _ = &self.containers;
+    }
+
     /// How many containers there are.
     pub fn len(&self) -> usize
         ensures length { result ≡ length self.now }

@@ -17,7 +17,7 @@ use Rattle.bcs_registry_formats.specs.Container as container
 use Rattle.bcs_registry_formats.specs.Container.{Choice, Container, Entries, Payload}
 use Rattle.bcs_registry_text.specs.Shown.{shown_choices, shown_container, shown_containers}
 use Rattle.bcs_registry_formats.specs.Ranges.{IsInRange}
-use Rattle.bcs_registry_text.specs.Json.{IsJson}
+use Rattle.bcs_json_text.specs.Json.{IsJson}
 use Rattle.bcs_registry_formats.specs.Shape.{Shape}
 use Rattle.bcs_registry_text.specs.Text.{IsFormatText, IsRegistryText, WritesFormat, WritesRegistry}
 use Rattle.bcs_registry_laws.specs.TextLaws.{OneFormat, OneRegistry}

@@ -3,7 +3,7 @@ use Rattle.std.specs.Prelude.{◌≡◌, ℕ, List, true, false}
 use Rattle.serde_json.specs.Data.{Data}
 use Rattle.bcs_registry_formats.specs.Breaks.{Breaks, FormatBreaks}
 use Rattle.bcs_registry_formats.specs.Container.{Entries}
-use Rattle.bcs_registry_text.specs.Json.{IsJson, IsNotJson}
+use Rattle.bcs_json_text.specs.Json.{IsJson, IsNotJson}
 use Rattle.bcs_registry_formats.specs.Shape.{Shape}
 use Rattle.bcs_registry_text.specs.Shaped.{is_format, is_registry}
 use Rattle.bcs_registry_text.specs.Text.{WritesFormat, WritesRegistry}

@@ -1,4 +1,3 @@
-pub mod Json
 pub mod Shown
 pub mod Text
 pub mod Shaped

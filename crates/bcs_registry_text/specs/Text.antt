@@ -4,7 +4,7 @@ use Rattle.serde_json.specs.Data.{Data}
 use Rattle.bcs_registry_formats.specs.Container.{Entries}
 use Rattle.bcs_registry_formats.specs.Ranges.{IsOrderly, sizes_fit}
 use Rattle.bcs_registry_formats.specs.Shape.{Shape}
-use Rattle.bcs_registry_text.specs.Json.{IsJson}
+use Rattle.bcs_json_text.specs.Json.{IsJson}
 use Rattle.bcs_registry_text.specs.Shown.{shown, shown_format}
 
 -- the JSON writes down this format

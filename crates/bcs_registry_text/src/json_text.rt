@@ -1,24 +1,22 @@
-//! Reading a JSON text.
+//! A registry's JSON text.
 ghost use Rattle.std.specs.Prelude.{◌≡◌, ◌≢◌, IfErr, IfOk};
 ghost use Rattle.serde_json.specs.View.{view};
-ghost use Rattle.bcs_registry_text.specs.Json.{IsJson, IsNotJson};
+ghost use Rattle.bcs_json_text.specs.Json.{IsJson, IsNotJson};
 
+use bcs_json_text::{TextFault, read_json};
 use bcs_registry_formats::RegistryFault;
-use serde_json::{Category, Value};
+use serde_json::Value;
 use std::alloc::Global;
 
-/// What `serde_json` reads in a text. Bytes that are no UTF-8 are no JSON.
-pub fn read_json(alloc: Global, text: &[u8]) -> Result<Value, RegistryFault>
+/// What `serde_json` reads in a registry's or a format's text.
+pub fn registry_json(alloc: Global, text: &[u8]) -> Result<Value, RegistryFault>
     ensures ok { IfOk result (λ v. IsJson text.now (view v)) }
     ensures fault { IfErr result (λ e. e ≢ RegistryFault.OutOfMemory
         → (e ≡ RegistryFault.NotJson) × IsNotJson text.now) }
 {
-    match Value::from_slice(alloc, text) {
+    match read_json(alloc, text) {
         Ok(value) => Ok(value),
-        Err(error) => if error.classify() == Category::Memory {
-            Err(RegistryFault::OutOfMemory)
-        } else {
-            Err(RegistryFault::NotJson)
-        },
+        Err(TextFault::NotJson) => Err(RegistryFault::NotJson),
+        Err(TextFault::OutOfMemory) => Err(RegistryFault::OutOfMemory),
     }
 }

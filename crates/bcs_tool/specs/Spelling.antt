@@ -8,11 +8,11 @@ use Rattle.bcs_registry_formats.specs.Shape as shape
 use Rattle.bcs_registry_formats.specs.Shape.{Shape}
 use Rattle.bcs_value_tree.specs.Tree as tree
 use Rattle.bcs_value_tree.specs.Tree.{Tree}
-use Rattle.bcs_registry_text.specs.Json.{IsJson, IsNotJson}
+use Rattle.bcs_json_text.specs.Json.{IsJson, IsNotJson}
 use Rattle.bcs_tool.specs.declared.input_fault.InputFault.{InputFault}
 use Rattle.bcs_tool.specs.declared.input_fault.InputFault.TheVariants.{NotJson, TooNested, Unsupported, BadShape, BadNumber, OutOfMemory}
-use Rattle.bcs_tool.specs.declared.json_text.TextFault.{TextFault}
-use Rattle.bcs_tool.specs.declared.json_text.TextFault.TheVariants as text
+use Rattle.bcs_json_text.specs.declared.json_text.TextFault.{TextFault}
+use Rattle.bcs_json_text.specs.declared.json_text.TextFault.TheVariants as text
 
 -- the name that is printed
 abbrev pub input_name : InputFault → List ℕ

@@ -4,7 +4,7 @@ ghost use Rattle.bcs_tool.specs.Answers.{refusal_line};
 ghost use Rattle.bcs_tool.specs.Spelling.{input_name};
 
 use crate::answer::{Answer, refused};
-use crate::json_text::TextFault;
+use bcs_json_text::TextFault;
 use std::alloc::{AllocError, Global};
 use thiserror::Error;
 

@@ -6,8 +6,6 @@ mod answering;
 mod front;
 mod front_fault;
 mod input_fault;
-mod json_text;
-mod nesting;
 mod reading;
 mod run_fault;
 mod running;
