@@ -1,13 +1,12 @@
 -- Which JSON spells a whole number.
-use Rattle.std.specs.Prelude.{◌≡◌, ℕ, zero, suc, ℤ, pos, negsuc, List, [], ◌∷◌, ◌==◌, ◌^◌, nat_lt, if◌then◌else◌, Option, Some, None, Bool, false}
+use Rattle.std.specs.Prelude.{◌≡◌, ℕ, zero, suc, ℤ, pos, negsuc, List, [], ◌∷◌, ◌==◌, if◌then◌else◌, Option, Some, None, Bool, false}
 use Rattle.std.specs.Fmt.{signed_decimal}
 use Rattle.std.specs.Int.{Width}
 use Rattle.std.specs.Str.{bytes_eq}
 use Rattle.std.specs.Str.Parse.{digits_value}
-use mir.Val.{bits, hbits}
 use Rattle.serde_json.specs.Data.{Data, number, string}
 use Rattle.serde_json.specs.Find.{as_integer}
-use Rattle.bcs_value_laws.specs.Fits.{is_signed_below}
+use Rattle.bcs_num.specs.Le.{holds_unsigned, holds_signed}
 use Rattle.bcs_json_faults.specs.declared.json_fault.JsonFault.{JsonFault}
 use Rattle.bcs_json_faults.specs.declared.json_fault.JsonFault.TheVariants.{BadNumber, BadShape}
 
@@ -20,12 +19,12 @@ SpellsWhole _ z = ⊥
 
 -- z is a number of an unsigned width
 abbrev pub is_unsigned_of : Width → ℤ → Bool
-is_unsigned_of w (pos n) = nat_lt n (2 ^ bits w)
+is_unsigned_of w (pos n) = holds_unsigned w n
 is_unsigned_of w (negsuc n) = false
 
 -- z is a number of a signed width
 abbrev pub is_signed_of : Width → ℤ → Bool
-is_signed_of w z = is_signed_below (2 ^ hbits w) z
+is_signed_of w z = holds_signed w z
 
 -- ---- the same as a function
 
