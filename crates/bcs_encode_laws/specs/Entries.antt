@@ -20,9 +20,13 @@ pub record HasBytes (registry : Entries) (f : Content) (t : Tree) (b : List ℕ)
   pub is_form : IsForm registry f t form
   pub bytes : plain registry form f ≡ b
 
+-- a key's bytes, and what stands at the key
+abbrev pub Keyed : Type 0 → Type 0
+Keyed V = List ℕ × V
+
 -- a key's bytes, and its value's
 abbrev pub Entry : Type 0
-Entry = List ℕ × List ℕ
+Entry = Keyed (List ℕ)
 
 abbrev pub entry_bytes : Entry → List ℕ
 entry_bytes e = e.0 ++ e.1
@@ -38,19 +42,19 @@ EntriesOf registry f g (pair k v ps) (e ∷ es) = HasBytes registry (of f) k e.0
 EntriesOf registry f g no_pairs (e ∷ es) = ⊥
 EntriesOf registry f g (pair k v ps) [] = ⊥
 
--- ---- their order
+-- ---- their order, whatever stands at the keys
 
-abbrev pub EntriesRiseFrom : List ℕ → List Entry → Type 0
+abbrev pub EntriesRiseFrom : {V : Type 0} → List ℕ → List (Keyed V) → Type 0
 EntriesRiseFrom b [] = Unit {0}
 EntriesRiseFrom b (e ∷ es) = Below b e.0 × EntriesRiseFrom e.0 es
 
 -- from each entry to the next, the keys' bytes rise
-abbrev pub EntriesRise : List Entry → Type 0
+abbrev pub EntriesRise : {V : Type 0} → List (Keyed V) → Type 0
 EntriesRise [] = Unit {0}
 EntriesRise (e ∷ es) = EntriesRiseFrom e.0 es
 
 -- two neighbours have one key
-abbrev pub HasTwins : List Entry → Type 0
+abbrev pub HasTwins : {V : Type 0} → List (Keyed V) → Type 0
 HasTwins [] = ⊥
 HasTwins (e ∷ []) = ⊥
 HasTwins (e ∷ d ∷ es) = (e.0 ≡ d.0) ⊎ HasTwins (d ∷ es)

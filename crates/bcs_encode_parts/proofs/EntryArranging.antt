@@ -1,5 +1,5 @@
 -- Entries that were sorted by their keys' bytes are those that were put in order one by one.
-use Rattle.std.proofs.Common.{◌≡◌, ℕ, ◌≤◌, true, false, List, [], ◌∷◌, ◌++◌, length, map, refl, sym, ap, subst, ◌∙◌, arith, inl, inr, ◌⊎◌, Ok, Err}
+use Rattle.std.proofs.Common.{◌≡◌, ℕ, ◌≤◌, true, false, List, [], ◌∷◌, ◌++◌, length, map, refl, sym, subst, ◌∙◌, arith, inl, inr, ◌⊎◌, Ok, Err}
 use Rattle.std.specs.List.{flat_map}
 use Rattle.std.specs.List.Sorted.{IsPermutation, IsSortedByKey}
 use Rattle.std.specs.Str.{bytes_eq}
@@ -9,85 +9,97 @@ use Rattle.std.proofs.lemmas.Bool.{cases_Bool, and_parts, or_left, or_right, tru
 use Rattle.std.proofs.lemmas.List.Sorted.{IsPermutation-refl, IsPermutation-sym, IsPermutation-trans, IsPermutation-cons, IsPermutation-swap, IsPermutation-map}
 use Rattle.bcs_value_laws.proofs.Equivalence.{bytes-same, bytes-refl}
 use Rattle.bcs_encode_laws.specs.Canonical.{Below}
-use Rattle.bcs_encode_laws.specs.Entries.{Entry, entry_bytes, EntriesRiseFrom, EntriesRise, HasTwins}
+use Rattle.bcs_encode_laws.specs.Entries.{Keyed, Entry, entry_bytes, EntriesRiseFrom, EntriesRise, HasTwins}
 use Rattle.bcs_encode_parts.specs.Writing.{is_below, put_in_order, in_order, has_twins, keys_rise, entries_put}
 use Rattle.bcs_encode_laws.specs.declared.fault.EncodeFault.TheVariants.{RepeatedKey}
 use Rattle.bcs_encode_laws.proofs.BelowLaws.{order, not_below, Below-is_lt}
 use Rattle.bcs_encode_laws.proofs.Sorting.{rise_or_twins}
 use Rattle.bcs_encode_laws.proofs.EntryOrder.{rising_once, twins_twice, once_moved, moved, rising_alike}
 
--- ---- they are the same entries
-
-move_front : (e d : Entry) (ds es : List Entry) → IsPermutation (e ∷ ds) es → IsPermutation (e ∷ (d ∷ ds)) (d ∷ es)
-move_front e d ds es h =
-    IsPermutation-trans (e ∷ (d ∷ ds)) (d ∷ (e ∷ ds)) (d ∷ es)
-    (IsPermutation-swap (e ∷ (d ∷ ds)) (d ∷ (e ∷ ds)) 0 1 (omega arith) (omega arith) refl)
-    (IsPermutation-cons d (e ∷ ds) es h)
-
-put_moves : (e : Entry) (ds : List Entry) → IsPermutation (e ∷ ds) (put_in_order e ds)
-put_moves e [] = IsPermutation-refl (e ∷ [])
-put_moves e (d ∷ ds) = elim (cases_Bool (is_below d.0 e.0)) [
-  | inl is ↦ rw is (move_front e d ds (put_in_order e ds) (put_moves e ds))
-  | inr isnt ↦ rw isnt (IsPermutation-refl (e ∷ (d ∷ ds)))
-]
-
-pub in_order_moves : (es : List Entry) → IsPermutation es (in_order es)
-in_order_moves [] = IsPermutation-refl []
-in_order_moves (e ∷ es) =
-    IsPermutation-trans (e ∷ es) (e ∷ in_order es) (put_in_order e (in_order es))
-    (IsPermutation-cons e es (in_order es) (in_order_moves es)) (put_moves e (in_order es))
-
--- ---- they rise, or two neighbours have one key
-
 abbrev AtMost : List ℕ → List ℕ → Type 0
 AtMost a b = (a ≡ b) ⊎ Below a b
 
-abbrev AscendsFrom : List ℕ → List Entry → Type 0
-AscendsFrom b [] = Unit {0}
-AscendsFrom b (e ∷ es) = AtMost b e.0 × AscendsFrom e.0 es
+module _ {V : Type 0} where
+  -- ---- they are the same entries
 
-abbrev Ascends : List Entry → Type 0
-Ascends [] = Unit {0}
-Ascends (e ∷ es) = AscendsFrom e.0 es
+  move_front : (e d : Keyed V) (ds es : List (Keyed V)) → IsPermutation (e ∷ ds) es → IsPermutation (e ∷ (d ∷ ds)) (d ∷ es)
+  move_front e d ds es h =
+      IsPermutation-trans (e ∷ (d ∷ ds)) (d ∷ (e ∷ ds)) (d ∷ es)
+      (IsPermutation-swap (e ∷ (d ∷ ds)) (d ∷ (e ∷ ds)) 0 1 (omega arith) (omega arith) refl)
+      (IsPermutation-cons d (e ∷ ds) es h)
 
-at_most : (e d : Entry) → is_below d.0 e.0 ≡ false → AtMost e.0 d.0
-at_most e d isnt = elim (order e.0 d.0) [
-  | inl same ↦ inl same
-  | inr (inl lt) ↦ inr lt
-  | inr (inr gt) ↦ absurd (not_below d.0 e.0 isnt gt)
-]
+  put_moves : (e : Keyed V) (ds : List (Keyed V)) → IsPermutation (e ∷ ds) (put_in_order e ds)
+  put_moves e [] = IsPermutation-refl (e ∷ [])
+  put_moves e (d ∷ ds) = elim (cases_Bool (is_below d.0 e.0)) [
+    | inl is ↦ rw is (move_front e d ds (put_in_order e ds) (put_moves e ds))
+    | inr isnt ↦ rw isnt (IsPermutation-refl (e ∷ (d ∷ ds)))
+  ]
 
-put_ascends_from : (b : List ℕ) (e : Entry) (ds : List Entry) → AtMost b e.0 → AscendsFrom b ds → AscendsFrom b (put_in_order e ds)
-put_ascends_from b e [] low h = (low, tt)
-put_ascends_from b e (d ∷ ds) low h = elim (cases_Bool (is_below d.0 e.0)) [
-  | inl is ↦ rw is (h.0, put_ascends_from d.0 e ds (inr ((Below-is_lt d.0 e.0).0 is)) h.1)
-  | inr isnt ↦ rw isnt (low, (at_most e d isnt, h.1))
-]
+  pub in_order_moves : (es : List (Keyed V)) → IsPermutation es (in_order es)
+  in_order_moves [] = IsPermutation-refl []
+  in_order_moves (e ∷ es) =
+      IsPermutation-trans (e ∷ es) (e ∷ in_order es) (put_in_order e (in_order es))
+      (IsPermutation-cons e es (in_order es) (in_order_moves es)) (put_moves e (in_order es))
 
-put_ascends : (e : Entry) (ds : List Entry) → Ascends ds → Ascends (put_in_order e ds)
-put_ascends e [] h = tt
-put_ascends e (d ∷ ds) h = elim (cases_Bool (is_below d.0 e.0)) [
-  | inl is ↦ rw is (put_ascends_from d.0 e ds (inr ((Below-is_lt d.0 e.0).0 is)) h)
-  | inr isnt ↦ rw isnt (at_most e d isnt, h)
-]
+  -- ---- they rise, or two neighbours have one key
 
-in_order_ascends : (es : List Entry) → Ascends (in_order es)
-in_order_ascends [] = tt
-in_order_ascends (e ∷ es) = put_ascends e (in_order es) (in_order_ascends es)
+  abbrev AscendsFrom : List ℕ → List (Keyed V) → Type 0
+  AscendsFrom b [] = Unit {0}
+  AscendsFrom b (e ∷ es) = AtMost b e.0 × AscendsFrom e.0 es
 
-rises_or_twins_from : (e : Entry) (es : List Entry) → AscendsFrom e.0 es → EntriesRiseFrom e.0 es ⊎ HasTwins (e ∷ es)
-rises_or_twins_from e [] h = inl tt
-rises_or_twins_from e (d ∷ es) h = elim (rises_or_twins_from d es h.1) [
-  | inr twins ↦ inr (inr twins)
-  | inl up ↦ elim h.0 [ inl same ↦ inr (inl same) | inr lt ↦ inl (lt, up) ]
-]
+  abbrev Ascends : List (Keyed V) → Type 0
+  Ascends [] = Unit {0}
+  Ascends (e ∷ es) = AscendsFrom e.0 es
 
-rises_or_twins : (es : List Entry) → Ascends es → EntriesRise es ⊎ HasTwins es
-rises_or_twins [] h = inl tt
-rises_or_twins (e ∷ es) h = rises_or_twins_from e es h
+  at_most : (e d : Keyed V) → is_below d.0 e.0 ≡ false → AtMost e.0 d.0
+  at_most e d isnt = elim (order e.0 d.0) [
+    | inl same ↦ inl same
+    | inr (inl lt) ↦ inr lt
+    | inr (inr gt) ↦ absurd (not_below d.0 e.0 isnt gt)
+  ]
 
-pub in_order_rises_or_twins : (es : List Entry) → EntriesRise (in_order es) ⊎ HasTwins (in_order es)
-in_order_rises_or_twins es = rises_or_twins (in_order es) (in_order_ascends es)
+  put_ascends_from : (b : List ℕ) (e : Keyed V) (ds : List (Keyed V)) → AtMost b e.0 → AscendsFrom b ds → AscendsFrom b (put_in_order e ds)
+  put_ascends_from b e [] low h = (low, tt)
+  put_ascends_from b e (d ∷ ds) low h = elim (cases_Bool (is_below d.0 e.0)) [
+    | inl is ↦ rw is (h.0, put_ascends_from d.0 e ds (inr ((Below-is_lt d.0 e.0).0 is)) h.1)
+    | inr isnt ↦ rw isnt (low, (at_most e d isnt, h.1))
+  ]
+
+  put_ascends : (e : Keyed V) (ds : List (Keyed V)) → Ascends ds → Ascends (put_in_order e ds)
+  put_ascends e [] h = tt
+  put_ascends e (d ∷ ds) h = elim (cases_Bool (is_below d.0 e.0)) [
+    | inl is ↦ rw is (put_ascends_from d.0 e ds (inr ((Below-is_lt d.0 e.0).0 is)) h)
+    | inr isnt ↦ rw isnt (at_most e d isnt, h)
+  ]
+
+  in_order_ascends : (es : List (Keyed V)) → Ascends (in_order es)
+  in_order_ascends [] = tt
+  in_order_ascends (e ∷ es) = put_ascends e (in_order es) (in_order_ascends es)
+
+  rises_or_twins_from : (e : Keyed V) (es : List (Keyed V)) → AscendsFrom e.0 es → EntriesRiseFrom e.0 es ⊎ HasTwins (e ∷ es)
+  rises_or_twins_from e [] h = inl tt
+  rises_or_twins_from e (d ∷ es) h = elim (rises_or_twins_from d es h.1) [
+    | inr twins ↦ inr (inr twins)
+    | inl up ↦ elim h.0 [ inl same ↦ inr (inl same) | inr lt ↦ inl (lt, up) ]
+  ]
+
+  rises_or_twins : (es : List (Keyed V)) → Ascends es → EntriesRise es ⊎ HasTwins es
+  rises_or_twins [] h = inl tt
+  rises_or_twins (e ∷ es) h = rises_or_twins_from e es h
+
+  pub in_order_rises_or_twins : (es : List (Keyed V)) → EntriesRise (in_order es) ⊎ HasTwins (in_order es)
+  in_order_rises_or_twins es = rises_or_twins (in_order es) (in_order_ascends es)
+
+  -- ---- any other way to sort them by their keys' bytes gives the same
+
+  pub sorted_in_order : (es rs : List (Keyed V)) → IsPermutation es rs → EntriesRise rs → in_order es ≡ rs
+  sorted_in_order es rs p up = elim (in_order_rises_or_twins es) [
+    | inl rises ↦ rising_alike (in_order es) rs rises up
+        (λ e m. moved rs es (IsPermutation-sym es rs p) e (moved es (in_order es) (in_order_moves es) e m))
+        (λ e m. moved (in_order es) es (IsPermutation-sym es (in_order es) (in_order_moves es)) e (moved es rs p e m))
+    | inr twins ↦ absurd (twins_twice (in_order es) twins
+        (once_moved (in_order es) es (IsPermutation-sym es (in_order es) (in_order_moves es)) (once_moved es rs p (rising_once rs up))))
+  ]
 
 -- ---- the test for neighbours with one key
 
@@ -111,18 +123,11 @@ rising_no_twins es up = elim (cases_Bool (has_twins es)) [
   | inr isnt ↦ isnt
 ]
 
--- ---- any other way to sort them by their keys' bytes gives the same
+-- ---- what is put of them
 
 pub sorted_put : (es rs : List Entry) (b : List ℕ) → IsPermutation es rs → EntriesRise rs → entries_put es b ≡ Ok (b ++ flat_map entry_bytes rs)
 unfolding entries_put
-sorted_put es rs b p up = elim (in_order_rises_or_twins es) [
-  | inl rises ↦ rw (rising_no_twins (in_order es) rises) (ap (λ (x : List Entry). Ok (b ++ flat_map entry_bytes x))
-      (rising_alike (in_order es) rs rises up
-      (λ e m. moved rs es (IsPermutation-sym es rs p) e (moved es (in_order es) (in_order_moves es) e m))
-      (λ e m. moved (in_order es) es (IsPermutation-sym es (in_order es) (in_order_moves es)) e (moved es rs p e m))))
-  | inr twins ↦ absurd (twins_twice (in_order es) twins
-      (once_moved (in_order es) es (IsPermutation-sym es (in_order es) (in_order_moves es)) (once_moved es rs p (rising_once rs up))))
-]
+sorted_put es rs b p up = rw (sorted_in_order es rs p up, rising_no_twins rs up) refl
 
 pub twins_put : (es rs : List Entry) (b : List ℕ) → IsPermutation es rs → HasTwins rs → entries_put es b ≡ Err RepeatedKey
 unfolding entries_put

@@ -18,8 +18,8 @@ use Rattle.bcs_value_tree.specs.View.{trees_of, pairs_of}
 use Rattle.bcs_encode_laws.specs.Canonical.{Below}
 use Rattle.bcs_encode_laws.specs.Lengths.{length_limit, lengths_hold, all_hold, each_holds, pairs_hold}
 use Rattle.bcs_encode_laws.specs.Plain.{plain}
-use Rattle.bcs_encode_parts.specs.Writing.{Verdict, is_below, written}
-use Rattle.bcs_encode_parts.specs.Forming.{Keyed, bytes_of, put_keyed, keyed_in_order, pairs_in_order, formed, items_formed, each_formed, keyed_formed}
+use Rattle.bcs_encode_parts.specs.Writing.{Verdict, is_below, put_in_order, in_order, written}
+use Rattle.bcs_encode_parts.specs.Forming.{KeyedTrees, bytes_of, pairs_in_order, formed, items_formed, each_formed, keyed_formed}
 use Rattle.bcs_encode_laws.specs.declared.fault.EncodeFault.TheVariants.{NotOfFormat, Unsupported, TooDeep, TooManyNodes, TooLong, RepeatedKey, OutOfMemory}
 use Rattle.bcs_encode_laws.proofs.BelowLaws.{order, Below-is_lt, Below-irrefl, Below-trans, below_less, below_greater}
 use Rattle.bcs_encode_laws.specs.FormOf.{place, insert, form_of, items_form, each_form, pairs_form}
@@ -63,11 +63,11 @@ ranked_same a b same = ap (slice_cmp nat_cmp a) (sym same) ∙ ranked_itself a
 
 module _ (registry : Entries) (f g : Shape) where
   -- the pairs, each with its key's bytes
-  abbrev keyed : Pairs → List Keyed
+  abbrev keyed : Pairs → List KeyedTrees
   keyed no_pairs = []
   keyed (pair k v ps) = (plain registry k (of f), (k, v)) ∷ keyed ps
 
-  keyed_pairs : (ps : Pairs) → pairs_of (map (λ (e : Keyed). e.1) (keyed ps)) ≡ ps
+  keyed_pairs : (ps : Pairs) → pairs_of (map (λ (e : KeyedTrees). e.1) (keyed ps)) ≡ ps
   keyed_pairs no_pairs = refl
   keyed_pairs (pair k v ps) = ap (pair k v) (keyed_pairs ps)
 
@@ -86,10 +86,10 @@ module _ (registry : Entries) (f g : Shape) where
       ) refl
   placed k v l w ps rest (inr (inr gt)) = rw ((Below-is_lt (plain registry l (of f)) (plain registry k (of f))).1 gt, below_greater (plain registry k (of f)) (plain registry l (of f)) gt) refl
 
-  put_inserts : (k v : Tree) (ps : Pairs) → put_keyed (plain registry k (of f), (k, v)) (keyed ps) ≡ keyed (insert registry f k v ps)
+  put_inserts : (k v : Tree) (ps : Pairs) → put_in_order (plain registry k (of f), (k, v)) (keyed ps) ≡ keyed (insert registry f k v ps)
   put_inserts k v no_pairs = refl
   put_inserts k v (pair l w ps) =
-      ap (λ (x : List Keyed). if is_below (plain registry l (of f)) (plain registry k (of f)) then (plain registry l (of f), (l, w)) ∷ x else (plain registry k (of f), (k, v)) ∷ ((plain registry l (of f), (l, w)) ∷ keyed ps)) (put_inserts k v ps)
+      ap (λ (x : List KeyedTrees). if is_below (plain registry l (of f)) (plain registry k (of f)) then (plain registry l (of f), (l, w)) ∷ x else (plain registry k (of f), (k, v)) ∷ ((plain registry l (of f), (l, w)) ∷ keyed ps)) (put_inserts k v ps)
       ∙ placed k v l w ps (insert registry f k v ps) (order (plain registry k (of f)) (plain registry l (of f)))
 
   -- the forms of the pairs, as they stand
@@ -97,15 +97,15 @@ module _ (registry : Entries) (f g : Shape) where
   forms no_pairs = no_pairs
   forms (pair k v ps) = pair (form_of registry k (of f)) (form_of registry v (of g)) (forms ps)
 
-  in_order_forms : (ps : Pairs) → keyed_in_order (keyed (forms ps)) ≡ keyed (pairs_form registry ps f g)
+  in_order_forms : (ps : Pairs) → in_order (keyed (forms ps)) ≡ keyed (pairs_form registry ps f g)
   in_order_forms no_pairs = refl
   in_order_forms (pair k v ps) =
-      ap (put_keyed (plain registry (form_of registry k (of f)) (of f), (form_of registry k (of f), form_of registry v (of g)))) (in_order_forms ps)
+      ap (put_in_order (plain registry (form_of registry k (of f)) (of f), (form_of registry k (of f), form_of registry v (of g)))) (in_order_forms ps)
       ∙ put_inserts (form_of registry k (of f)) (form_of registry v (of g)) (pairs_form registry ps f g)
 
   pairs_in_order_forms : (ps : Pairs) → pairs_of (pairs_in_order (keyed (forms ps))) ≡ pairs_form registry ps f g
   unfolding pairs_in_order
-  pairs_in_order_forms ps = ap (λ (es : List Keyed). pairs_of (map (λ (e : Keyed). e.1) es)) (in_order_forms ps) ∙ keyed_pairs (pairs_form registry ps f g)
+  pairs_in_order_forms ps = ap (λ (es : List KeyedTrees). pairs_of (map (λ (e : KeyedTrees). e.1) es)) (in_order_forms ps) ∙ keyed_pairs (pairs_form registry ps f g)
 
 module _ (registry : Entries) where
   mutual
@@ -120,7 +120,7 @@ module _ (registry : Entries) where
         ap tree.items (trees_prepended (items_formed registry ts s []) ∙ items_are_forms ts s [] p.1 l d)
     formed_is_form (tree.pairs ps) (of (shape.map k v)) h l d =
         let p = and_parts (nat_le (pair_count ps) length_limit) (pairs_hold length_limit registry ps k v) l in
-        ap tree.pairs (ap (λ (es : List Keyed). pairs_of (pairs_in_order es)) (keyed_are_forms ps k v [] h p.1 (parts_of_distinct ps d)) ∙ pairs_in_order_forms registry k v ps)
+        ap tree.pairs (ap (λ (es : List KeyedTrees). pairs_of (pairs_in_order es)) (keyed_are_forms ps k v [] h p.1 (parts_of_distinct ps d)) ∙ pairs_in_order_forms registry k v ps)
     formed_is_form (tree.named t) (of (shape.name n)) h l d = ap tree.named (formed_is_form t (content_at n registry) h l d)
     formed_is_form (tree.variant n t) (one_of cs) h l d = ap (tree.variant n) (formed_is_form t (choice_at n cs) (payload_fits false registry n t cs h) l d)
     formed_is_form t f h l d = refl
@@ -149,7 +149,7 @@ module _ (registry : Entries) where
     each_are_forms no_trees (shape s ss) us h l d = absurd (true≢false (sym h))
     each_are_forms (tree t ts) no_shapes us h l d = absurd (true≢false (sym h))
 
-    keyed_are_forms : (ps : Pairs) (f g : Shape) (es : List Keyed) → pairs_fit false registry ps f g ≡ true → pairs_hold length_limit registry ps f g ≡ true → all_pairs (λ l w. distinct l && distinct w) ps ≡ true
+    keyed_are_forms : (ps : Pairs) (f g : Shape) (es : List KeyedTrees) → pairs_fit false registry ps f g ≡ true → pairs_hold length_limit registry ps f g ≡ true → all_pairs (λ l w. distinct l && distinct w) ps ≡ true
         → keyed_formed registry ps f g es ≡ es ++ keyed registry f g (forms registry f g ps)
     keyed_are_forms no_pairs f g es h l d = sym (append-nil es)
     keyed_are_forms (pair k v ps) f g es h l d =
@@ -166,4 +166,4 @@ module _ (registry : Entries) where
         ap₂ (λ (x : List ℕ) (y : Tree × Tree). (x, y)) key (ap₂ (λ (x y : Tree). (x, y)) (formed_is_form k (of f) p2.0 q2.0 r2.0) (formed_is_form v (of g) p2.1 q2.1 r2.1)) in
         keyed_are_forms ps f g (es ++ ((bytes_of (written registry k (of f) []), (formed registry k (of f), formed registry v (of g))) ∷ [])) p.1 q.1 r.1
         ∙ append_assoc es ((bytes_of (written registry k (of f) []), (formed registry k (of f), formed registry v (of g))) ∷ []) (keyed registry f g (forms registry f g ps))
-        ∙ ap (λ (x : Keyed). es ++ (x ∷ keyed registry f g (forms registry f g ps))) entry
+        ∙ ap (λ (x : KeyedTrees). es ++ (x ∷ keyed registry f g (forms registry f g ps))) entry

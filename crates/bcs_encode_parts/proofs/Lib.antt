@@ -1,6 +1,5 @@
 pub mod EntryArranging
 pub mod FormedSorting
-pub mod KeyedOrder
 pub mod NumberViews
 pub mod WritingViews
 pub mod WalkViews

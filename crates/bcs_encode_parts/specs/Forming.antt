@@ -1,34 +1,26 @@
 -- The canonical form of a tree, the entries of each map put in order one by one. An auxiliary function: it carries the
 -- proofs of `canonicalise`, whose contract names `IsForm` alone.
-use Rattle.std.specs.Prelude.{ℕ, if◌then◌else◌, List, [], ◌∷◌, ◌++◌, map, Ok, Err}
+use Rattle.std.specs.Prelude.{ℕ, List, [], ◌∷◌, ◌++◌, map, Ok, Err}
 use Rattle.bcs_registry_formats.specs.Shape as shape
 use Rattle.bcs_registry_formats.specs.Shape.{Shape, Shapes, no_shapes, shape}
 use Rattle.bcs_registry_formats.specs.Container.{Entries, Content, of, one_of, content_at, choice_at}
 use Rattle.bcs_value_tree.specs.Tree as tree
 use Rattle.bcs_value_tree.specs.Tree.{Tree, Trees, no_trees, tree, Pairs, no_pairs, pair}
 use Rattle.bcs_value_tree.specs.View.{trees_of, pairs_of}
-use Rattle.bcs_encode_parts.specs.Writing.{Verdict, is_below, written}
+use Rattle.bcs_encode_laws.specs.Entries.{Keyed}
+use Rattle.bcs_encode_parts.specs.Writing.{Verdict, in_order, written}
 
 -- the bytes of a key, and the entry's trees
-abbrev pub Keyed : Type 0
-Keyed = List ℕ × (Tree × Tree)
+abbrev pub KeyedTrees : Type 0
+KeyedTrees = Keyed (Tree × Tree)
 
 abbrev pub bytes_of : Verdict → List ℕ
 bytes_of (Ok b) = b
 bytes_of (Err e) = []
 
--- before the first whose key isn't below
-abbrev pub put_keyed : Keyed → List Keyed → List Keyed
-put_keyed e [] = e ∷ []
-put_keyed e (d ∷ ds) = if is_below d.0 e.0 then d ∷ put_keyed e ds else e ∷ (d ∷ ds)
-
-abbrev pub keyed_in_order : List Keyed → List Keyed
-keyed_in_order [] = []
-keyed_in_order (e ∷ es) = put_keyed e (keyed_in_order es)
-
 -- the entries' trees by rising keys
-unfoldable pub pairs_in_order : List Keyed → List (Tree × Tree)
-pairs_in_order es = map (λ e. e.1) (keyed_in_order es)
+unfoldable pub pairs_in_order : List KeyedTrees → List (Tree × Tree)
+pairs_in_order es = map (λ e. e.1) (in_order es)
 
 module _ (registry : Entries) where
   abbrev mutual
@@ -51,7 +43,7 @@ module _ (registry : Entries) where
     each_formed (tree t ts) (shape s ss) us = each_formed ts ss (us ++ (formed t (of s) ∷ []))
     each_formed ts ss us = us
 
-    pub keyed_formed : Pairs → Shape → Shape → List Keyed → List Keyed
+    pub keyed_formed : Pairs → Shape → Shape → List KeyedTrees → List KeyedTrees
     keyed_formed no_pairs k v es = es
     keyed_formed (pair l w ps) k v es =
         keyed_formed ps k v (es ++ ((bytes_of (written registry l (of k) []), (formed l (of k), formed w (of v))) ∷ []))

@@ -15,7 +15,7 @@ use Rattle.bcs_value_tree.specs.Tree as tree
 use Rattle.bcs_value_tree.specs.Tree.{Tree, Trees, no_trees, tree, Pairs, no_pairs, pair, count, pair_count}
 use Rattle.bcs_encode_laws.specs.Lengths.{length_limit}
 use Rattle.bcs_encode_laws.specs.Plain.{truth_byte}
-use Rattle.bcs_encode_laws.specs.Entries.{Entry, entry_bytes}
+use Rattle.bcs_encode_laws.specs.Entries.{Keyed, Entry, entry_bytes}
 use Rattle.bcs_encode_laws.specs.declared.fault.EncodeFault.{EncodeFault}
 use Rattle.bcs_encode_laws.specs.declared.fault.EncodeFault.TheVariants.{NotOfFormat, TooLong, RepeatedKey, OutOfMemory}
 
@@ -52,11 +52,11 @@ abbrev pub is_below : List ℕ → List ℕ → Bool
 is_below a b = is_lt (slice_cmp nat_cmp a b)
 
 -- before the first entry whose key isn't below
-abbrev pub put_in_order : Entry → List Entry → List Entry
+abbrev pub put_in_order : {V : Type 0} → Keyed V → List (Keyed V) → List (Keyed V)
 put_in_order e [] = e ∷ []
 put_in_order e (d ∷ ds) = if is_below d.0 e.0 then d ∷ put_in_order e ds else e ∷ (d ∷ ds)
 
-abbrev pub in_order : List Entry → List Entry
+abbrev pub in_order : {V : Type 0} → List (Keyed V) → List (Keyed V)
 in_order [] = []
 in_order (e ∷ es) = put_in_order e (in_order es)
 
