@@ -37,7 +37,7 @@ module _ (registry : Entries) (limits : Bounds) (s : Shape) (text : List ℕ) wh
 
   -- ---- some answer
 
-  misspelled : (e : JsonFault) → is_walk_fault e ≡ true → Misspells registry limits s text e → RefusesText registry limits s text e
+  pub misspelled : (e : JsonFault) → is_walk_fault e ≡ true → Misspells registry limits s text e → RefusesText registry limits s text e
   misspelled NotJson is h = absurd (false≢true is)
   misspelled TooNested is h = absurd (false≢true is)
   misspelled Unsupported is h = h

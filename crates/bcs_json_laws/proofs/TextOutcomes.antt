@@ -1,5 +1,6 @@
 -- What a text that spells a value is answered by: the value that it denotes, or the encoder's reason.
-use Rattle.std.proofs.Common.{◌≡◌, ◌≢◌, ℕ, List, refl, arith}
+use Rattle.std.proofs.Common.{◌≡◌, ◌≢◌, ℕ, List, Ok, Err, refl, arith}
+use Rattle.serde_json.specs.Data.{Data}
 use Rattle.bcs_registry_formats.specs.Container.{Entries}
 use Rattle.bcs_registry_formats.specs.Ranges.{IsOrderly}
 use Rattle.bcs_registry_formats.specs.Shape.{Shape}
@@ -15,11 +16,26 @@ use Rattle.bcs_encode_laws.specs.declared.fault.EncodeFault.TheVariants as fault
 use Rattle.bcs_json_faults.specs.Causes.{fault_of_value}
 use Rattle.bcs_json_faults.specs.declared.json_fault.JsonFault.{JsonFault}
 use Rattle.bcs_json_faults.specs.declared.json_fault.JsonFault.TheVariants.{NotJson, TooNested, Unsupported, BadShape, BadNumber, BadHex, UnknownField, MissingField, UnknownVariant, TooDeep, TooManyNodes, TooLong, RepeatedKey, OutOfMemory}
-use Rattle.bcs_json_laws.specs.Texts.{Denotes, SpelledBy, RefusesText}
+use Rattle.bcs_json_laws.specs.JsonContent.{of}
+use Rattle.bcs_json_laws.specs.Reading.{read_data}
+use Rattle.bcs_json_laws.specs.Texts.{IsReadAs, Denotes, SpelledBy, RefusesText}
 use Rattle.bcs_json_laws.proofs.Fitting.{spelled_fits}
+use Rattle.bcs_json_laws.proofs.OneAnswer.{misspelled}
 use Rattle.bcs_json_laws.proofs.TextLaws.{denoted_is_not_refused}
+use Rattle.bcs_json_laws.proofs.Verdict.{exact_data}
+use Rattle.bcs_json_laws.proofs.WalkFaults.{walk_fault}
 
 module _ (registry : Entries) (limits : Bounds) (s : Shape) (text : List ℕ) where
+  -- what was read of a text's JSON, it spells
+  pub read_is_spelled : (d : Data) → IsReadAs text d → (t : Tree) → read_data registry limits.depth (of s) d ≡ Ok t → SpelledBy registry limits s text t
+  read_is_spelled d is t told = record { read = d; is = is; spells = (exact_data registry limits.depth (of s)).ok d t told }
+
+  -- and where the reader stopped, the text is refused
+  pub stop_is_refusal : (d : Data) → IsReadAs text d → (e : JsonFault) → read_data registry limits.depth (of s) d ≡ Err e → RefusesText registry limits s text e
+  stop_is_refusal d is e told =
+      let refused = (exact_data registry limits.depth (of s)).err d e told in
+      misspelled registry limits s text e (walk_fault registry limits.depth (of s) d e refused) (d, is, refused)
+
   -- what is spelled and sound is denoted
   pub sound_is_denoted : (t : Tree) → SpelledBy registry limits s text t → IsSound registry limits s t → Denotes registry limits s text t
   sound_is_denoted t spelled sound = record { read = spelled.read; is = spelled.is; spells = spelled.spells.0; sound = sound }
