@@ -3,10 +3,10 @@
 
 mod answer;
 mod answering;
-mod front;
-mod front_fault;
 mod input_fault;
+mod job_fault;
 mod json_text;
+mod judging;
 mod nesting;
 mod reading;
 mod run_fault;
