@@ -22,7 +22,7 @@ fn main(rt: HostRuntime) -> ExitCode {
         Err(_) => return tell(&rt, "fault: memory", 4),
     };
     match line(rt.alloc(), words.as_slice()) {
-        Ok(job) => perform(&rt, job),
+        Ok(job) => run_job(&rt, job),
         // clap's text ends its own line.
         Err(LineFault::Usage(text)) => {
             let _ = eprint!(&rt; "{text}");
@@ -37,22 +37,22 @@ fn main(rt: HostRuntime) -> ExitCode {
 }
 
 // Reads the files that the job names, opens its input, and puts the answer.
-fn perform(rt: &HostRuntime, job: Job) -> ExitCode {
+fn run_job(rt: &HostRuntime, job: Job) -> ExitCode {
     let (work, file) = match read_work(rt, job) {
         Ok(read) => read,
         Err(fault) => return tell(rt, fault.note(), 4),
     };
     let Some(name) = file else {
-        return answer(rt, &work, &mut ReadSource::new(rt.reader()));
+        return run_work(rt, &work, &mut ReadSource::new(rt.reader()));
     };
     match File::open(rt, name.as_str()) {
-        Ok(file) => answer(rt, &work, &mut ReadSource::new(file)),
+        Ok(file) => run_work(rt, &work, &mut ReadSource::new(file)),
         Err(_) => tell(rt, FileFault::Open.note(), 4),
     }
 }
 
 // Puts the answer to the standard output.
-fn answer<S: ByteSource>(rt: &HostRuntime, work: &Work, input: &mut S) -> ExitCode {
+fn run_work<S: ByteSource>(rt: &HostRuntime, work: &Work, input: &mut S) -> ExitCode {
     let mut out = WriteSink::new(io::writer(rt));
     let outcome = run(rt.alloc(), work, input, &mut out);
     if outcome.note.is_empty() {

@@ -9,7 +9,7 @@ ghost use Rattle.bcs_encode_laws.specs.declared.fault.EncodeFault.TheVariants.{O
 
 use crate::soundness::check_soundness;
 use bcs_encode_laws::EncodeFault;
-use bcs_encode_walks::by_entries::put;
+use bcs_encode_walks::by_entries::push_value;
 use bcs_registry::{Format, Registry};
 use bcs_value::{Limits, Value};
 use std::alloc::Global;
@@ -28,6 +28,6 @@ pub fn encode_by_entries(
 {
     check_soundness(registry, format, limits, value)?;
     let mut out = Vec::new(alloc);
-    put(value, format, registry, alloc, &mut out)?;
+    push_value(value, format, registry, alloc, &mut out)?;
     Ok(out)
 }

@@ -10,7 +10,7 @@ ghost use Rattle.bcs_encode_laws.specs.declared.fault.EncodeFault.TheVariants.{O
 use crate::soundness::check_soundness;
 use bcs_encode_laws::EncodeFault;
 use bcs_encode_spans::workspace::Workspace;
-use bcs_encode_walks::encoding::put;
+use bcs_encode_walks::encoding::push_value;
 use bcs_registry::{Format, Registry};
 use bcs_value::{Limits, Value};
 use std::alloc::Global;
@@ -38,6 +38,6 @@ pub fn encode(
         spans: Vec::new(alloc),
         scratch: Vec::new(alloc),
     };
-    put(value, format, registry, &mut work)?;
+    push_value(value, format, registry, &mut work)?;
     Ok(work.out)
 }

@@ -10,7 +10,7 @@ use Rattle.std.proofs.lemmas.List.Sorted.{IsPermutation-refl, IsPermutation-sym,
 use Rattle.bcs_value_laws.proofs.Equivalence.{bytes-same, bytes-refl}
 use Rattle.bcs_encode_laws.specs.Canonical.{Below}
 use Rattle.bcs_encode_laws.specs.Entries.{Keyed, Entry, entry_bytes, EntriesRiseFrom, EntriesRise, HasTwins}
-use Rattle.bcs_encode_parts.specs.Writing.{is_below, put_in_order, in_order, has_twins, keys_rise, entries_put}
+use Rattle.bcs_encode_parts.specs.Writing.{is_below, insert_in_order, in_order, has_twins, keys_rise, sorted_entries_written}
 use Rattle.bcs_encode_laws.specs.declared.fault.EncodeFault.TheVariants.{RepeatedKey}
 use Rattle.bcs_encode_laws.proofs.BelowLaws.{order, not_below, Below-is_lt}
 use Rattle.bcs_encode_laws.proofs.Sorting.{rise_or_twins}
@@ -28,18 +28,18 @@ module _ {V : Type 0} where
       (IsPermutation-swap (e ∷ (d ∷ ds)) (d ∷ (e ∷ ds)) 0 1 (omega arith) (omega arith) refl)
       (IsPermutation-cons d (e ∷ ds) es h)
 
-  put_moves : (e : Keyed V) (ds : List (Keyed V)) → IsPermutation (e ∷ ds) (put_in_order e ds)
-  put_moves e [] = IsPermutation-refl (e ∷ [])
-  put_moves e (d ∷ ds) = elim (cases_Bool (is_below d.0 e.0)) [
-    | inl is ↦ rw is (move_front e d ds (put_in_order e ds) (put_moves e ds))
+  insert_moves : (e : Keyed V) (ds : List (Keyed V)) → IsPermutation (e ∷ ds) (insert_in_order e ds)
+  insert_moves e [] = IsPermutation-refl (e ∷ [])
+  insert_moves e (d ∷ ds) = elim (cases_Bool (is_below d.0 e.0)) [
+    | inl is ↦ rw is (move_front e d ds (insert_in_order e ds) (insert_moves e ds))
     | inr isnt ↦ rw isnt (IsPermutation-refl (e ∷ (d ∷ ds)))
   ]
 
   pub in_order_moves : (es : List (Keyed V)) → IsPermutation es (in_order es)
   in_order_moves [] = IsPermutation-refl []
   in_order_moves (e ∷ es) =
-      IsPermutation-trans (e ∷ es) (e ∷ in_order es) (put_in_order e (in_order es))
-      (IsPermutation-cons e es (in_order es) (in_order_moves es)) (put_moves e (in_order es))
+      IsPermutation-trans (e ∷ es) (e ∷ in_order es) (insert_in_order e (in_order es))
+      (IsPermutation-cons e es (in_order es) (in_order_moves es)) (insert_moves e (in_order es))
 
   -- ---- they rise, or two neighbours have one key
 
@@ -58,23 +58,23 @@ module _ {V : Type 0} where
     | inr (inr gt) ↦ absurd (not_below d.0 e.0 isnt gt)
   ]
 
-  put_ascends_from : (b : List ℕ) (e : Keyed V) (ds : List (Keyed V)) → AtMost b e.0 → AscendsFrom b ds → AscendsFrom b (put_in_order e ds)
-  put_ascends_from b e [] low h = (low, tt)
-  put_ascends_from b e (d ∷ ds) low h = elim (cases_Bool (is_below d.0 e.0)) [
-    | inl is ↦ rw is (h.0, put_ascends_from d.0 e ds (inr ((Below-is_lt d.0 e.0).0 is)) h.1)
+  insert_ascends_from : (b : List ℕ) (e : Keyed V) (ds : List (Keyed V)) → AtMost b e.0 → AscendsFrom b ds → AscendsFrom b (insert_in_order e ds)
+  insert_ascends_from b e [] low h = (low, tt)
+  insert_ascends_from b e (d ∷ ds) low h = elim (cases_Bool (is_below d.0 e.0)) [
+    | inl is ↦ rw is (h.0, insert_ascends_from d.0 e ds (inr ((Below-is_lt d.0 e.0).0 is)) h.1)
     | inr isnt ↦ rw isnt (low, (at_most e d isnt, h.1))
   ]
 
-  put_ascends : (e : Keyed V) (ds : List (Keyed V)) → Ascends ds → Ascends (put_in_order e ds)
-  put_ascends e [] h = tt
-  put_ascends e (d ∷ ds) h = elim (cases_Bool (is_below d.0 e.0)) [
-    | inl is ↦ rw is (put_ascends_from d.0 e ds (inr ((Below-is_lt d.0 e.0).0 is)) h)
+  insert_ascends : (e : Keyed V) (ds : List (Keyed V)) → Ascends ds → Ascends (insert_in_order e ds)
+  insert_ascends e [] h = tt
+  insert_ascends e (d ∷ ds) h = elim (cases_Bool (is_below d.0 e.0)) [
+    | inl is ↦ rw is (insert_ascends_from d.0 e ds (inr ((Below-is_lt d.0 e.0).0 is)) h)
     | inr isnt ↦ rw isnt (at_most e d isnt, h)
   ]
 
   in_order_ascends : (es : List (Keyed V)) → Ascends (in_order es)
   in_order_ascends [] = tt
-  in_order_ascends (e ∷ es) = put_ascends e (in_order es) (in_order_ascends es)
+  in_order_ascends (e ∷ es) = insert_ascends e (in_order es) (in_order_ascends es)
 
   rises_or_twins_from : (e : Keyed V) (es : List (Keyed V)) → AscendsFrom e.0 es → EntriesRiseFrom e.0 es ⊎ HasTwins (e ∷ es)
   rises_or_twins_from e [] h = inl tt
@@ -125,13 +125,13 @@ rising_no_twins es up = elim (cases_Bool (has_twins es)) [
 
 -- ---- what is put of them
 
-pub sorted_put : (es rs : List Entry) (b : List ℕ) → IsPermutation es rs → EntriesRise rs → entries_put es b ≡ Ok (b ++ flat_map entry_bytes rs)
-unfolding entries_put
-sorted_put es rs b p up = rw (sorted_in_order es rs p up, rising_no_twins rs up) refl
+pub sorted_written : (es rs : List Entry) (b : List ℕ) → IsPermutation es rs → EntriesRise rs → sorted_entries_written es b ≡ Ok (b ++ flat_map entry_bytes rs)
+unfolding sorted_entries_written
+sorted_written es rs b p up = rw (sorted_in_order es rs p up, rising_no_twins rs up) refl
 
-pub twins_put : (es rs : List Entry) (b : List ℕ) → IsPermutation es rs → HasTwins rs → entries_put es b ≡ Err RepeatedKey
-unfolding entries_put
-twins_put es rs b p twins = elim (in_order_rises_or_twins es) [
+pub twins_written : (es rs : List Entry) (b : List ℕ) → IsPermutation es rs → HasTwins rs → sorted_entries_written es b ≡ Err RepeatedKey
+unfolding sorted_entries_written
+twins_written es rs b p twins = elim (in_order_rises_or_twins es) [
   | inr again ↦ rw (twins_found (in_order es) again) refl
   | inl rises ↦ absurd (twins_twice rs twins
       (once_moved rs es (IsPermutation-sym es rs p) (once_moved es (in_order es) (in_order_moves es) (rising_once (in_order es) rises))))
@@ -147,8 +147,8 @@ keys_rise_up : (es : List Entry) → keys_rise es ≡ true → EntriesRise es
 keys_rise_up [] h = tt
 keys_rise_up (e ∷ es) h = rise_from e es h
 
-pub rising_put : (es : List Entry) (b : List ℕ) → keys_rise es ≡ true → entries_put es b ≡ Ok (b ++ flat_map entry_bytes es)
-rising_put es b h = sorted_put es es b (IsPermutation-refl es) (keys_rise_up es h)
+pub rising_written : (es : List Entry) (b : List ℕ) → keys_rise es ≡ true → sorted_entries_written es b ≡ Ok (b ++ flat_map entry_bytes es)
+rising_written es b h = sorted_written es es b (IsPermutation-refl es) (keys_rise_up es h)
 
 pub few_rise : (es : List Entry) → length es ≤ 1 → keys_rise es ≡ true
 few_rise [] h = refl
@@ -166,15 +166,15 @@ module _ {X : Type 0} (entry : X → Entry) (xs ys : List X) (b : List ℕ) (p :
   entries_move = IsPermutation-map entry xs ys p
 
   -- what was sorted has two neighbours with one key
-  pub repeated_put : has_twins (map entry ys) ≡ true → entries_put (map entry xs) b ≡ Err RepeatedKey
-  repeated_put h = elim (rise_or_twins entry ys up) [
+  pub repeated_written : has_twins (map entry ys) ≡ true → sorted_entries_written (map entry xs) b ≡ Err RepeatedKey
+  repeated_written h = elim (rise_or_twins entry ys up) [
     | inl rises ↦ absurd (true≢false (sym h ∙ rising_no_twins (map entry ys) rises))
-    | inr twins ↦ twins_put (map entry xs) (map entry ys) b entries_move twins
+    | inr twins ↦ twins_written (map entry xs) (map entry ys) b entries_move twins
   ]
 
   -- and it hasn't
-  pub distinct_put : has_twins (map entry ys) ≡ false → entries_put (map entry xs) b ≡ Ok (b ++ flat_map entry_bytes (map entry ys))
-  distinct_put h = elim (rise_or_twins entry ys up) [
-    | inl rises ↦ sorted_put (map entry xs) (map entry ys) b entries_move rises
+  pub distinct_written : has_twins (map entry ys) ≡ false → sorted_entries_written (map entry xs) b ≡ Ok (b ++ flat_map entry_bytes (map entry ys))
+  distinct_written h = elim (rise_or_twins entry ys up) [
+    | inl rises ↦ sorted_written (map entry xs) (map entry ys) b entries_move rises
     | inr twins ↦ absurd (true≢false (sym (twins_found (map entry ys) twins) ∙ h))
   ]

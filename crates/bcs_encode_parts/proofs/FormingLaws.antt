@@ -18,7 +18,7 @@ use Rattle.bcs_value_tree.specs.View.{trees_of, pairs_of}
 use Rattle.bcs_encode_laws.specs.Canonical.{Below}
 use Rattle.bcs_encode_laws.specs.Lengths.{length_limit, lengths_hold, all_hold, each_holds, pairs_hold}
 use Rattle.bcs_encode_laws.specs.Plain.{plain}
-use Rattle.bcs_encode_parts.specs.Writing.{Verdict, is_below, put_in_order, in_order, written}
+use Rattle.bcs_encode_parts.specs.Writing.{Verdict, is_below, insert_in_order, in_order, written}
 use Rattle.bcs_encode_parts.specs.Forming.{KeyedTrees, bytes_of, pairs_in_order, formed, items_formed, each_formed, keyed_formed}
 use Rattle.bcs_encode_laws.specs.declared.fault.EncodeFault.TheVariants.{NotOfFormat, Unsupported, TooDeep, TooManyNodes, TooLong, RepeatedKey, OutOfMemory}
 use Rattle.bcs_encode_laws.proofs.BelowLaws.{order, Below-is_lt, Below-irrefl, Below-trans, below_less, below_greater}
@@ -86,10 +86,10 @@ module _ (registry : Entries) (f g : Shape) where
       ) refl
   placed k v l w ps rest (inr (inr gt)) = rw ((Below-is_lt (plain registry l (of f)) (plain registry k (of f))).1 gt, below_greater (plain registry k (of f)) (plain registry l (of f)) gt) refl
 
-  put_inserts : (k v : Tree) (ps : Pairs) → put_in_order (plain registry k (of f), (k, v)) (keyed ps) ≡ keyed (insert registry f k v ps)
-  put_inserts k v no_pairs = refl
-  put_inserts k v (pair l w ps) =
-      ap (λ (x : List KeyedTrees). if is_below (plain registry l (of f)) (plain registry k (of f)) then (plain registry l (of f), (l, w)) ∷ x else (plain registry k (of f), (k, v)) ∷ ((plain registry l (of f), (l, w)) ∷ keyed ps)) (put_inserts k v ps)
+  inserts_alike : (k v : Tree) (ps : Pairs) → insert_in_order (plain registry k (of f), (k, v)) (keyed ps) ≡ keyed (insert registry f k v ps)
+  inserts_alike k v no_pairs = refl
+  inserts_alike k v (pair l w ps) =
+      ap (λ (x : List KeyedTrees). if is_below (plain registry l (of f)) (plain registry k (of f)) then (plain registry l (of f), (l, w)) ∷ x else (plain registry k (of f), (k, v)) ∷ ((plain registry l (of f), (l, w)) ∷ keyed ps)) (inserts_alike k v ps)
       ∙ placed k v l w ps (insert registry f k v ps) (order (plain registry k (of f)) (plain registry l (of f)))
 
   -- the forms of the pairs, as they stand
@@ -100,8 +100,8 @@ module _ (registry : Entries) (f g : Shape) where
   in_order_forms : (ps : Pairs) → in_order (keyed (forms ps)) ≡ keyed (pairs_form registry ps f g)
   in_order_forms no_pairs = refl
   in_order_forms (pair k v ps) =
-      ap (put_in_order (plain registry (form_of registry k (of f)) (of f), (form_of registry k (of f), form_of registry v (of g)))) (in_order_forms ps)
-      ∙ put_inserts (form_of registry k (of f)) (form_of registry v (of g)) (pairs_form registry ps f g)
+      ap (insert_in_order (plain registry (form_of registry k (of f)) (of f), (form_of registry k (of f), form_of registry v (of g)))) (in_order_forms ps)
+      ∙ inserts_alike (form_of registry k (of f)) (form_of registry v (of g)) (pairs_form registry ps f g)
 
   pairs_in_order_forms : (ps : Pairs) → pairs_of (pairs_in_order (keyed (forms ps))) ≡ pairs_form registry ps f g
   unfolding pairs_in_order

@@ -15,13 +15,13 @@ use Rattle.bcs_value_laws.specs.Same.{same, all_pairs, distinct, all_distinct, p
 use Rattle.bcs_encode_laws.specs.Lengths.{length_limit, lengths_hold, all_hold, each_holds, pairs_hold}
 use Rattle.bcs_encode_laws.specs.Plain.{plain, plain_items, plain_each}
 use Rattle.bcs_encode_laws.specs.Entries.{Entry, EntriesOf, entry_bytes, map_bytes}
-use Rattle.bcs_encode_parts.specs.Writing.{Verdict, chain, length_written, in_order, entries_put, shape_count, written, items_written, each_written, entries_written}
+use Rattle.bcs_encode_parts.specs.Writing.{Verdict, chain, length_written, in_order, sorted_entries_written, shape_count, written, items_written, each_written, entries_written}
 use Rattle.bcs_encode_laws.specs.declared.fault.EncodeFault.{EncodeFault}
 use Rattle.bcs_encode_laws.specs.declared.fault.EncodeFault.TheVariants.{NotOfFormat, Unsupported, TooDeep, TooManyNodes, TooLong, RepeatedKey, OutOfMemory}
 use Rattle.bcs_encode_laws.specs.FormOf.{form_of, items_form, each_form}
 use Rattle.bcs_encode_laws.proofs.FormOf.{count-items_form}
 use Rattle.bcs_encode_laws.proofs.Sorting.{form_entries, form_has_bytes, has_bytes_of_form, sorted_entries, twins_repeat}
-use Rattle.bcs_encode_parts.proofs.EntryArranging.{in_order_moves, in_order_rises_or_twins, sorted_put, twins_put}
+use Rattle.bcs_encode_parts.proofs.EntryArranging.{in_order_moves, in_order_rises_or_twins, sorted_written, twins_written}
 
 -- the verdict is this good result, and no key stands twice; or some key does
 abbrev pub Told : {A : Type 0} → Bool → A → Result A EncodeFault → Type 0
@@ -86,7 +86,7 @@ module _ (registry : Entries) where
 
   -- the entries of a map, put after its length
   forms_told : (ps : Pairs) (f g : Shape) (b : List ℕ) → pairs_fit false registry ps f g ≡ true → parts_distinct ps ≡ true
-      → Told (pairs_distinct ps) (b ++ plain registry (form_of registry (tree.pairs ps) (of (shape.map f g))) (of (shape.map f g))) (entries_put (form_entries registry ps f g) (b ++ uleb (pair_count ps)))
+      → Told (pairs_distinct ps) (b ++ plain registry (form_of registry (tree.pairs ps) (of (shape.map f g))) (of (shape.map f g))) (sorted_entries_written (form_entries registry ps f g) (b ++ uleb (pair_count ps)))
   forms_told ps f g b h d =
       let es : List Entry = form_entries registry ps f g in
       let are = forms_are_entries ps f g h d in
@@ -94,22 +94,22 @@ module _ (registry : Entries) where
         | inl rises ↦
             (let has = sorted_entries registry f g ps es (in_order es) are (in_order_moves es) rises in
             subst (Told (pairs_distinct ps) (b ++ plain registry (form_of registry (tree.pairs ps) (of (shape.map f g))) (of (shape.map f g))))
-            (sym (sorted_put es (in_order es) (b ++ uleb (pair_count ps)) (in_order_moves es) rises)) (
+            (sym (sorted_written es (in_order es) (b ++ uleb (pair_count ps)) (in_order_moves es) rises)) (
               has.distinct,
               append_assoc b (uleb (pair_count ps)) (flat_map entry_bytes (in_order es))
                   ∙ ap (λ (x : List ℕ). b ++ x) (has_bytes_of_form registry (of (shape.map f g)) (tree.pairs ps) (map_bytes (pair_count ps) (in_order es)) has),
             ))
         | inr twins ↦
             subst (Told (pairs_distinct ps) (b ++ plain registry (form_of registry (tree.pairs ps) (of (shape.map f g))) (of (shape.map f g))))
-            (sym (twins_put es (in_order es) (b ++ uleb (pair_count ps)) (in_order_moves es) twins))
+            (sym (twins_written es (in_order es) (b ++ uleb (pair_count ps)) (in_order_moves es) twins))
             (twins_repeat registry f g ps es (in_order es) are (in_order_moves es) twins)
       ]
 
   map_told : (ps : Pairs) (f g : Shape) (b : List ℕ) (v : Result (List Entry) EncodeFault) → pairs_fit false registry ps f g ≡ true
       → Told (parts_distinct ps) (form_entries registry ps f g) v
-      → Told (pairs_distinct ps) (b ++ plain registry (form_of registry (tree.pairs ps) (of (shape.map f g))) (of (shape.map f g))) (chain v (λ es. entries_put es (b ++ uleb (pair_count ps))))
+      → Told (pairs_distinct ps) (b ++ plain registry (form_of registry (tree.pairs ps) (of (shape.map f g))) (of (shape.map f g))) (chain v (λ es. sorted_entries_written es (b ++ uleb (pair_count ps))))
   map_told ps f g b (Ok es) h t =
-      subst (λ (x : List Entry). Told (pairs_distinct ps) (b ++ plain registry (form_of registry (tree.pairs ps) (of (shape.map f g))) (of (shape.map f g))) (entries_put x (b ++ uleb (pair_count ps))))
+      subst (λ (x : List Entry). Told (pairs_distinct ps) (b ++ plain registry (form_of registry (tree.pairs ps) (of (shape.map f g))) (of (shape.map f g))) (sorted_entries_written x (b ++ uleb (pair_count ps))))
       (sym t.1) (forms_told ps f g b h t.0)
   map_told ps f g b (Err RepeatedKey) h t = parts_repeat ps t
   map_told ps f g b (Err NotOfFormat) h t = t
@@ -151,7 +151,7 @@ module _ (registry : Entries) where
         rw p.0 (items_told ts s b p.1 g)
     written_told (tree.pairs ps) (of (shape.map k v)) b h g =
         let p = and_parts (nat_le (pair_count ps) length_limit) (pairs_hold length_limit registry ps k v) g in
-        subst (λ (x : Verdict). Told (pairs_distinct ps) (b ++ plain registry (form_of registry (tree.pairs ps) (of (shape.map k v))) (of (shape.map k v))) (chain x (λ c. chain (entries_written registry ps k v []) (λ es. entries_put es c))))
+        subst (λ (x : Verdict). Told (pairs_distinct ps) (b ++ plain registry (form_of registry (tree.pairs ps) (of (shape.map k v))) (of (shape.map k v))) (chain x (λ c. chain (entries_written registry ps k v []) (λ es. sorted_entries_written es c))))
         (sym (length_told (pair_count ps) b p.0))
         (map_told ps k v b (entries_written registry ps k v []) h (entries_told ps k v [] h p.1))
     written_told (tree.named t) (of (shape.name n)) b h g = written_told t (content_at n registry) b h g

@@ -18,7 +18,7 @@ use Rattle.bcs_value_tree.specs.Tree as tree
 use Rattle.bcs_value_tree.specs.Tree.{Tree}
 use Rattle.bcs_value_tree.specs.View.{tree_of, items_trees, entries_pairs}
 use Rattle.bcs_value_tree.specs.declared.value.Value.{Value, Items, Pairs, Variant}
-use Rattle.bcs_encode_parts.specs.Writing.{Tells, chain, length_written, entries_put, shape_count, written, items_written, each_written, entries_written}
+use Rattle.bcs_encode_parts.specs.Writing.{Tells, chain, length_written, sorted_entries_written, shape_count, written, items_written, each_written, entries_written}
 use Rattle.bcs_encode_laws.specs.declared.fault.EncodeFault.{EncodeFault}
 use Rattle.bcs_encode_laws.specs.declared.fault.EncodeFault.TheVariants.{NotOfFormat}
 use Rattle.bcs_encode_parts.proofs.WalkViews.{count_items, count_pairs, at_enum, at_map, at_list, at_array, choice-found, choice-missing}
@@ -91,10 +91,10 @@ fields_written r vs fs b e =
 pub map_written : (r : Entries) (v : Value) (f : Format) (ps : Vec (Value × Value) Global) (key value : Box Format Global) (n : ℕ) (b : List ℕ)
     → v ≡ Pairs ps → f ≡ Map key value → n ≡ length ps.items
     → written r (tree_of v) (of (shape_of f)) b
-    ≡ chain (length_written n b) (λ c. chain (entries_written r (entries_pairs ps.items) (shape_of key.value) (shape_of value.value) []) (λ es. entries_put es c))
+    ≡ chain (length_written n b) (λ c. chain (entries_written r (entries_pairs ps.items) (shape_of key.value) (shape_of value.value) []) (λ es. sorted_entries_written es c))
 map_written r v f ps key value n b e g i =
     at_map (λ t c. written r t c b) v f ps key value e g
-    ∙ ap (λ (k : ℕ). chain (length_written k b) (λ c. chain (entries_written r (entries_pairs ps.items) (shape_of key.value) (shape_of value.value) []) (λ es. entries_put es c))) (count_pairs ps.items ∙ sym i)
+    ∙ ap (λ (k : ℕ). chain (length_written k b) (λ c. chain (entries_written r (entries_pairs ps.items) (shape_of key.value) (shape_of value.value) []) (λ es. sorted_entries_written es c))) (count_pairs ps.items ∙ sym i)
 
 -- a variant that the enum has, and one that it hasn't
 pub variant_written : (r : Entries) (v : Value) (k : declared.Container) (vs : BTreeMap ℕ (Named VariantFormat)) (n : ℕ) (inner : Box Value Global)
@@ -117,6 +117,6 @@ no_variant_written r v k vs n inner o b e f found none =
 -- the pairs of a map, as a slice
 pub pairs_written : (r : Entries) (ps : List (Value × Value)) (k v : Shape) (b : List ℕ)
     → written r (tree.pairs (entries_pairs ps)) (of (map_shape k v)) b
-    ≡ chain (length_written (length ps) b) (λ c. chain (entries_written r (entries_pairs ps) k v []) (λ es. entries_put es c))
+    ≡ chain (length_written (length ps) b) (λ c. chain (entries_written r (entries_pairs ps) k v []) (λ es. sorted_entries_written es c))
 pairs_written r ps k v b =
-    ap (λ (n : ℕ). chain (length_written n b) (λ c. chain (entries_written r (entries_pairs ps) k v []) (λ es. entries_put es c))) (count_pairs ps)
+    ap (λ (n : ℕ). chain (length_written n b) (λ c. chain (entries_written r (entries_pairs ps) k v []) (λ es. sorted_entries_written es c))) (count_pairs ps)

@@ -52,13 +52,13 @@ abbrev pub is_below : List ℕ → List ℕ → Bool
 is_below a b = is_lt (slice_cmp nat_cmp a b)
 
 -- before the first entry whose key isn't below
-abbrev pub put_in_order : {V : Type 0} → Keyed V → List (Keyed V) → List (Keyed V)
-put_in_order e [] = e ∷ []
-put_in_order e (d ∷ ds) = if is_below d.0 e.0 then d ∷ put_in_order e ds else e ∷ (d ∷ ds)
+abbrev pub insert_in_order : {V : Type 0} → Keyed V → List (Keyed V) → List (Keyed V)
+insert_in_order e [] = e ∷ []
+insert_in_order e (d ∷ ds) = if is_below d.0 e.0 then d ∷ insert_in_order e ds else e ∷ (d ∷ ds)
 
 abbrev pub in_order : {V : Type 0} → List (Keyed V) → List (Keyed V)
 in_order [] = []
-in_order (e ∷ es) = put_in_order e (in_order es)
+in_order (e ∷ es) = insert_in_order e (in_order es)
 
 -- two neighbours have one key
 abbrev pub has_twins : List Entry → Bool
@@ -72,8 +72,8 @@ keys_rise [] = true
 keys_rise (e ∷ []) = true
 keys_rise (e ∷ d ∷ es) = is_below e.0 d.0 && keys_rise (d ∷ es)
 
-unfoldable pub entries_put : List Entry → List ℕ → Verdict
-entries_put es b = if has_twins (in_order es) then Err RepeatedKey else Ok (b ++ flat_map entry_bytes (in_order es))
+unfoldable pub sorted_entries_written : List Entry → List ℕ → Verdict
+sorted_entries_written es b = if has_twins (in_order es) then Err RepeatedKey else Ok (b ++ flat_map entry_bytes (in_order es))
 
 -- ---- values
 
@@ -95,7 +95,7 @@ module _ (registry : Entries) where
     written (tree.items ts) (of (shape.seq s)) b = chain (length_written (count ts) b) (items_written ts s)
     written (tree.items ts) (of (shape.tuple ss)) b = if count ts == shape_count ss then each_written ts ss b else Err NotOfFormat
     written (tree.items ts) (of (shape.array s n)) b = if count ts == n then items_written ts s b else Err NotOfFormat
-    written (tree.pairs ps) (of (shape.map k v)) b = chain (length_written (pair_count ps) b) (λ c. chain (entries_written ps k v []) (λ es. entries_put es c))
+    written (tree.pairs ps) (of (shape.map k v)) b = chain (length_written (pair_count ps) b) (λ c. chain (entries_written ps k v []) (λ es. sorted_entries_written es c))
     written (tree.named t) (of (shape.name n)) b = written t (content_at n registry) b
     written (tree.variant n t) (one_of cs) b = written t (choice_at n cs) (b ++ uleb n)
     written _ _ b = Err NotOfFormat

@@ -6,21 +6,21 @@ ghost use Rattle.std.specs.Ordering.{nat_cmp};
 ghost use Rattle.std.specs.Cmp.Lexicographic.{slice_cmp};
 ghost use Rattle.bcs_encode_laws.specs.Entries as spec;
 ghost use Rattle.bcs_encode_parts.specs.EntryView.{entry_of};
-ghost use Rattle.bcs_encode_parts.specs.Writing.{Tells, entries_put, has_twins};
+ghost use Rattle.bcs_encode_parts.specs.Writing.{Tells, sorted_entries_written, has_twins};
 
 use crate::entry_bytes::EntryBytes;
 use bcs_encode_laws::EncodeFault;
 use std::alloc::AllocError;
 
 /// Appends the entries by rising keys, or refuses two with one key.
-pub fn put_entries(mut entries: Vec<EntryBytes>, out: &mut Vec<u8>) -> Result<(), EncodeFault>
-    ensures { Tells result (entries_put (map entry_of entries.items) out.old.items) out.new.items }
+pub fn push_in_order(mut entries: Vec<EntryBytes>, out: &mut Vec<u8>) -> Result<(), EncodeFault>
+    ensures { Tells result (sorted_entries_written (map entry_of entries.items) out.old.items) out.new.items }
 {
     sort_by_keys(&mut entries)?;
     if have_equal_neighbours(&entries) {
         return Err(EncodeFault::RepeatedKey);
     }
-    append_entries(&entries, out)
+    push_entries(&entries, out)
 }
 
 fn sort_by_keys(entries: &mut Vec<EntryBytes>) -> Result<(), AllocError>
@@ -42,7 +42,7 @@ fn have_equal_neighbours(entries: &[EntryBytes]) -> bool
     false
 }
 
-fn append_entries(entries: &[EntryBytes], out: &mut Vec<u8>) -> Result<(), EncodeFault>
+fn push_entries(entries: &[EntryBytes], out: &mut Vec<u8>) -> Result<(), EncodeFault>
     ensures { Tells result (Ok (out.old.items ++ flat_map spec.entry_bytes (map entry_of entries.now))) out.new.items }
 {
     for entry in entries {

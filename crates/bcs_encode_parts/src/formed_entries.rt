@@ -9,7 +9,7 @@ ghost use Rattle.bcs_value_tree.specs.View.{pairs_of, tree_of};
 ghost use Rattle.bcs_encode_laws.specs.Entries.{entry_bytes};
 ghost use Rattle.bcs_encode_parts.specs.FormedView.{bytes_entry, keyed_of};
 ghost use Rattle.bcs_encode_parts.specs.Forming.{pairs_in_order};
-ghost use Rattle.bcs_encode_parts.specs.Writing.{Tells, entries_put, has_twins};
+ghost use Rattle.bcs_encode_parts.specs.Writing.{Tells, sorted_entries_written, has_twins};
 
 use crate::formed_entry::FormedEntry;
 use bcs_encode_laws::EncodeFault;
@@ -26,14 +26,14 @@ pub fn order_entries(
     out: &mut Vec<u8>,
     slot: &mut Value,
 ) -> Result<(), EncodeFault>
-    ensures tells { Tells result (entries_put (map bytes_entry entries.items) out.old.items) out.new.items }
+    ensures tells { Tells result (sorted_entries_written (map bytes_entry entries.items) out.old.items) out.new.items }
     ensures formed { OnOk result (tree_of slot.new ≡ pairs_tree (pairs_of (pairs_in_order (map keyed_of entries.items)))) }
 {
     sort_by_keys(&mut entries)?;
     if have_equal_neighbours(&entries) {
         return Err(EncodeFault::RepeatedKey);
     }
-    append_bytes(&entries, out)?;
+    push_entries(&entries, out)?;
     put_pairs(slot, values_of(entries, alloc)?);
     Ok(())
 }
@@ -57,7 +57,7 @@ fn have_equal_neighbours(entries: &[FormedEntry]) -> bool
     false
 }
 
-fn append_bytes(entries: &[FormedEntry], out: &mut Vec<u8>) -> Result<(), EncodeFault>
+fn push_entries(entries: &[FormedEntry], out: &mut Vec<u8>) -> Result<(), EncodeFault>
     ensures { Tells result (Ok (out.old.items ++ flat_map entry_bytes (map bytes_entry entries.now))) out.new.items }
 {
     for entry in entries {

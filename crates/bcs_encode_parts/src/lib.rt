@@ -6,4 +6,4 @@ pub mod entry_bytes;
 pub mod formed_entries;
 pub mod formed_entry;
 pub mod number_rows;
-pub mod putting;
+pub mod pushing;

@@ -5,7 +5,7 @@ ghost use Rattle.bcs_registry_formats.specs.Whole.{whole_len, whole_shape};
 ghost use Rattle.bcs_value_tree.specs.View.{items_trees, tree_of};
 ghost use Rattle.bcs_encode_parts.specs.Writing.{Tells, items_written, written};
 
-use crate::putting::{put_signed, put_unsigned};
+use crate::pushing::{push_signed, push_unsigned};
 use bcs_encode_laws::EncodeFault;
 use bcs_registry_formats::WholeNumber;
 use bcs_value_tree::Value;
@@ -13,7 +13,7 @@ use bcs_value_tree::Value;
 /// Appends the bytes of a list's numbers. A number looks up no container, so the clause names a registry without any.
 /// No memory is asked for where the vector has room for the bytes.
 #[inline(never)]
-pub fn put_numbers(
+pub fn push_numbers(
     format: WholeNumber,
     items: &[Value],
     out: &mut Vec<u8>,
@@ -24,13 +24,13 @@ pub fn put_numbers(
 {
     out.reserve(items.len().saturating_mul(format.byte_len()))?;
     for item in items {
-        put_plain(format, item, out)?;
+        push_plain(format, item, out)?;
     }
     Ok(())
 }
 
 #[inline(always)]
-fn put_plain(format: WholeNumber, value: &Value, out: &mut Vec<u8>) -> Result<(), EncodeFault>
+fn push_plain(format: WholeNumber, value: &Value, out: &mut Vec<u8>) -> Result<(), EncodeFault>
     ensures tells { Tells result (written [] (tree_of value.now) (of (whole_shape format)) out.old.items) out.new.items }
     ensures len { OnOk result (vec_len out.new ≡ vec_len out.old + whole_len format) }
     ensures capacity { vec_capacity out.old ≤ vec_capacity out.new }
@@ -38,10 +38,10 @@ fn put_plain(format: WholeNumber, value: &Value, out: &mut Vec<u8>) -> Result<()
         → vec_capacity out.old < vec_len out.old + whole_len format }
 {
     match (value, format) {
-        (Value::Unsigned(number), WholeNumber::Unsigned(width)) => put_unsigned(
+        (Value::Unsigned(number), WholeNumber::Unsigned(width)) => push_unsigned(
             width, *number, out,
         ),
-        (Value::Signed(number), WholeNumber::Signed(width)) => put_signed(width, *number, out),
+        (Value::Signed(number), WholeNumber::Signed(width)) => push_signed(width, *number, out),
         _ => Err(EncodeFault::NotOfFormat),
     }
 }

@@ -14,7 +14,7 @@ use Rattle.bcs_value_tree.specs.Tree.{Tree, Trees, no_trees, tree, Pairs, no_pai
 use Rattle.bcs_num.specs.Le.{holds_signed}
 use Rattle.bcs_encode_laws.specs.Lengths.{length_limit}
 use Rattle.bcs_encode_laws.specs.Entries.{Entry, entry_bytes}
-use Rattle.bcs_encode_parts.specs.Writing.{Verdict, chain, length_written, in_order, has_twins, entries_put, shape_count, written, items_written, each_written, entries_written}
+use Rattle.bcs_encode_parts.specs.Writing.{Verdict, chain, length_written, in_order, has_twins, sorted_entries_written, shape_count, written, items_written, each_written, entries_written}
 use Rattle.bcs_encode_spans.specs.Laying.{part, span_entry, span, entries_laid}
 use Rattle.bcs_encode_spans.specs.declared.span.Span.{Span}
 use Rattle.bcs_encode_laws.specs.declared.fault.EncodeFault.{EncodeFault}
@@ -43,22 +43,22 @@ length_after n b x f g h = elim (cases_Bool (nat_le n length_limit)) [
   | inr isnt ↦ rw isnt refl
 ]
 
-entries_after : (es : List Entry) (b x : List ℕ) → entries_put es (b ++ x) ≡ after b (entries_put es x)
-unfolding entries_put
+entries_after : (es : List Entry) (b x : List ℕ) → sorted_entries_written es (b ++ x) ≡ after b (sorted_entries_written es x)
+unfolding sorted_entries_written
 entries_after es b x = elim (cases_Bool (has_twins (in_order es))) [
   | inl is ↦ rw is refl
   | inr isnt ↦ rw isnt (appended b x (flat_map entry_bytes (in_order es)))
 ]
 
 -- what comes of the spans, behind other bytes
-pub arranged : (b bytes c : List ℕ) (xs ys : List Span) (v : Verdict) → c ≡ bytes → ys ≡ xs → entries_put (map (span_entry c) ys) [] ≡ v
-    → entries_put (map (span_entry bytes) xs) b ≡ chain v (λ d. Ok (b ++ d))
+pub arranged : (b bytes c : List ℕ) (xs ys : List Span) (v : Verdict) → c ≡ bytes → ys ≡ xs → sorted_entries_written (map (span_entry c) ys) [] ≡ v
+    → sorted_entries_written (map (span_entry bytes) xs) b ≡ chain v (λ d. Ok (b ++ d))
 arranged b bytes c xs ys v same is h =
-    ap (entries_put (map (span_entry bytes) xs)) (sym (append-nil b))
+    ap (sorted_entries_written (map (span_entry bytes) xs)) (sym (append-nil b))
     ∙ entries_after (map (span_entry bytes) xs) b []
-    ∙ ap (after b) (sym (ap₂ (λ (x : List ℕ) (zs : List Span). entries_put (map (span_entry x) zs) []) same is) ∙ h)
+    ∙ ap (after b) (sym (ap₂ (λ (x : List ℕ) (zs : List Span). sorted_entries_written (map (span_entry x) zs) []) same is) ∙ h)
 
-map_after : (v : Result (List Entry) EncodeFault) (b c : List ℕ) → chain v (λ es. entries_put es (b ++ c)) ≡ after b (chain v (λ es. entries_put es c))
+map_after : (v : Result (List Entry) EncodeFault) (b c : List ℕ) → chain v (λ es. sorted_entries_written es (b ++ c)) ≡ after b (chain v (λ es. sorted_entries_written es c))
 map_after (Ok es) b c = entries_after es b c
 map_after (Err e) b c = refl
 
@@ -78,7 +78,7 @@ module _ (registry : Entries) where
     written_after (tree.items ts) (of (shape.array s n)) b x = chosen_after b (count ts == n) _ _ NotOfFormat (items_after ts s b x)
     written_after (tree.pairs ps) (of (shape.map k v)) b x =
         length_after (pair_count ps) b x
-        (λ c. chain (entries_written registry ps k v []) (λ es. entries_put es c)) (λ c. chain (entries_written registry ps k v []) (λ es. entries_put es c))
+        (λ c. chain (entries_written registry ps k v []) (λ es. sorted_entries_written es c)) (λ c. chain (entries_written registry ps k v []) (λ es. sorted_entries_written es c))
         (λ c. map_after (entries_written registry ps k v []) b c)
     written_after (tree.named t) (of (shape.name n)) b x = written_after t (content_at n registry) b x
     written_after (tree.variant n t) (one_of cs) b x = ap (written registry t (choice_at n cs)) (append_assoc b x (uleb n)) ∙ written_after t (choice_at n cs) b (x ++ uleb n)
@@ -253,24 +253,24 @@ laid_whole registry k v ps b d ss us h =
 
 -- a map whose entries were laid and then put in order
 pub laid_map : (registry : Entries) (k v : Shape) (ps : Pairs) (n : ℕ) (b c d : List ℕ) (ss us : List Span) → pair_count ps ≡ n → length_written n b ≡ Ok c → entries_laid registry ps k v c ss ≡ Ok (d, us)
-    → written registry (tree.pairs ps) (of (shape.map k v)) b ≡ entries_put (map (span_entry d) (drop (length ss) us)) (take (length c) d)
+    → written registry (tree.pairs ps) (of (shape.map k v)) b ≡ sorted_entries_written (map (span_entry d) (drop (length ss) us)) (take (length c) d)
 laid_map registry k v ps n b c d ss us count lengthed h =
     let l = laid_entries registry k v ps c d ss us h in
     let length_is : length_written (pair_count ps) b ≡ Ok c = ap (λ (m : ℕ). length_written m b) count ∙ lengthed in
     let parts = laid registry k v ps c d ss us l in
-    ap (λ (u : Verdict). chain u (λ x. chain (entries_written registry ps k v []) (λ es. entries_put es x))) length_is
-    ∙ ap (λ (u : Result (List Entry) EncodeFault). chain u (λ es. entries_put es c)) l.own
-    ∙ sym (ap₂ (λ (es : List Entry) (x : List ℕ). entries_put es x) parts.entries parts.before)
+    ap (λ (u : Verdict). chain u (λ x. chain (entries_written registry ps k v []) (λ es. sorted_entries_written es x))) length_is
+    ∙ ap (λ (u : Result (List Entry) EncodeFault). chain u (λ es. sorted_entries_written es c)) l.own
+    ∙ sym (ap₂ (λ (es : List Entry) (x : List ℕ). sorted_entries_written es x) parts.entries parts.before)
 
 -- a map with a part that has no bytes, or of which there are too many
 pub unlaid_map : (registry : Entries) (k v : Shape) (ps : Pairs) (n : ℕ) (b c : List ℕ) (ss : List Span) (e : EncodeFault) → pair_count ps ≡ n → length_written n b ≡ Ok c → entries_laid registry ps k v c ss ≡ Err e
     → written registry (tree.pairs ps) (of (shape.map k v)) b ≡ Err e
 unlaid_map registry k v ps n b c ss e count lengthed h =
     let length_is : length_written (pair_count ps) b ≡ Ok c = ap (λ (m : ℕ). length_written m b) count ∙ lengthed in
-    ap (λ (u : Verdict). chain u (λ x. chain (entries_written registry ps k v []) (λ es. entries_put es x))) length_is
-    ∙ ap (λ (u : Result (List Entry) EncodeFault). chain u (λ es. entries_put es c)) (unlaid_entries registry k v ps c ss e h)
+    ap (λ (u : Verdict). chain u (λ x. chain (entries_written registry ps k v []) (λ es. sorted_entries_written es x))) length_is
+    ∙ ap (λ (u : Result (List Entry) EncodeFault). chain u (λ es. sorted_entries_written es c)) (unlaid_entries registry k v ps c ss e h)
 
 pub unlengthed_map : (registry : Entries) (k v : Shape) (ps : Pairs) (n : ℕ) (b : List ℕ) (e : EncodeFault) → pair_count ps ≡ n → length_written n b ≡ Err e
     → written registry (tree.pairs ps) (of (shape.map k v)) b ≡ Err e
 unlengthed_map registry k v ps n b e count lengthed =
-    ap (λ (u : Verdict). chain u (λ x. chain (entries_written registry ps k v []) (λ es. entries_put es x))) (ap (λ (m : ℕ). length_written m b) count ∙ lengthed)
+    ap (λ (u : Verdict). chain u (λ x. chain (entries_written registry ps k v []) (λ es. sorted_entries_written es x))) (ap (λ (m : ℕ). length_written m b) count ∙ lengthed)

@@ -7,7 +7,7 @@ ghost use Rattle.std.specs.Cmp.Lexicographic.{slice_cmp};
 ghost use Rattle.bcs_encode_laws.specs.Entries.{entry_bytes};
 ghost use Rattle.bcs_encode_spans.specs.Laying as spec;
 ghost use Rattle.bcs_encode_spans.specs.Laying.{span_entry};
-ghost use Rattle.bcs_encode_parts.specs.Writing.{Tells, entries_put, has_twins, keys_rise};
+ghost use Rattle.bcs_encode_parts.specs.Writing.{Tells, sorted_entries_written, has_twins, keys_rise};
 
 use crate::span::Span;
 use crate::workspace::Workspace;
@@ -19,7 +19,7 @@ pub fn arrange(work: &mut Workspace, first: usize, start: usize) -> Result<(), E
     requires first { first ≤ length work.old.spans.items }
     requires laid { take start work.old.out.items ++ flat_map entry_bytes (map (span_entry work.old.out.items) (drop first work.old.spans.items)) ≡ work.old.out.items }
     ensures tells { Tells result
-        (entries_put (map (span_entry work.old.out.items) (drop first work.old.spans.items)) (take start work.old.out.items))
+        (sorted_entries_written (map (span_entry work.old.out.items) (drop first work.old.spans.items)) (take start work.old.out.items))
         work.new.out.items }
     ensures kept { OnOk result (work.new.spans.items ≡ take first work.old.spans.items) }
 {
@@ -34,7 +34,7 @@ pub fn arrange(work: &mut Workspace, first: usize, start: usize) -> Result<(), E
 fn rearrange(work: &mut Workspace, first: usize, start: usize) -> Result<(), EncodeFault>
     requires { first ≤ length work.old.spans.items }
     ensures tells { Tells result
-        (entries_put (map (span_entry work.old.out.items) (drop first work.old.spans.items)) (take start work.old.out.items))
+        (sorted_entries_written (map (span_entry work.old.out.items) (drop first work.old.spans.items)) (take start work.old.out.items))
         work.new.out.items }
     ensures kept { OnOk result (work.new.spans.items ≡ take first work.old.spans.items) }
 {
@@ -67,7 +67,7 @@ fn gather_in_order(
     bytes: &[u8],
     scratch: &mut Vec<u8>,
 ) -> Result<(), EncodeFault>
-    ensures { Tells result (entries_put (map (span_entry bytes.now) spans.old) []) scratch.new.items }
+    ensures { Tells result (sorted_entries_written (map (span_entry bytes.now) spans.old) []) scratch.new.items }
 {
     sort_spans(spans, bytes);
     if have_equal_neighbours(spans, bytes) {

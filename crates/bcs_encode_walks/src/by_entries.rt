@@ -10,10 +10,10 @@ ghost use Rattle.bcs_encode_parts.specs.Writing as spec;
 ghost use Rattle.bcs_encode_parts.specs.Writing.{Tells};
 
 use bcs_encode_laws::EncodeFault;
-use bcs_encode_parts::arranging::put_entries;
+use bcs_encode_parts::arranging::push_in_order;
 use bcs_encode_parts::entry_bytes::EntryBytes;
-use bcs_encode_parts::putting::{
-    put_byte, put_bytes, put_length, put_number, put_signed, put_unsigned,
+use bcs_encode_parts::pushing::{
+    push_byte, push_bytes, push_length, push_number, push_signed, push_unsigned,
 };
 use bcs_num::Width;
 use bcs_registry::{Container, Format, Named, Registry, VariantFormat};
@@ -22,7 +22,7 @@ use std::alloc::Global;
 
 /// Appends the bytes of a value.
 #[cycle(by_entries)]
-pub fn put(
+pub fn push_value(
     value: &Value,
     format: &Format,
     registry: &Registry,
@@ -34,45 +34,45 @@ pub fn put(
     match (value, format) {
         (_, Format::F32 | Format::F64 | Format::Char) => Err(EncodeFault::NotOfFormat),
         (Value::Unit, Format::Unit) => Ok(()),
-        (Value::Bool(truth), Format::Bool) => put_byte(u8::from(*truth), out),
-        (Value::Unsigned(number), Format::U8) => put_unsigned(Width::W1, *number, out),
-        (Value::Unsigned(number), Format::U16) => put_unsigned(Width::W2, *number, out),
-        (Value::Unsigned(number), Format::U32) => put_unsigned(Width::W4, *number, out),
-        (Value::Unsigned(number), Format::U64) => put_unsigned(Width::W8, *number, out),
-        (Value::Unsigned(number), Format::U128) => put_unsigned(Width::W16, *number, out),
-        (Value::Signed(number), Format::I8) => put_signed(Width::W1, *number, out),
-        (Value::Signed(number), Format::I16) => put_signed(Width::W2, *number, out),
-        (Value::Signed(number), Format::I32) => put_signed(Width::W4, *number, out),
-        (Value::Signed(number), Format::I64) => put_signed(Width::W8, *number, out),
-        (Value::Signed(number), Format::I128) => put_signed(Width::W16, *number, out),
-        (Value::Text(text), Format::Str) => put_bytes(text.as_bytes(), out),
-        (Value::Bytes(bytes), Format::Bytes) => put_bytes(bytes, out),
-        (Value::Absent, Format::Opt(_)) => put_byte(0, out),
+        (Value::Bool(truth), Format::Bool) => push_byte(u8::from(*truth), out),
+        (Value::Unsigned(number), Format::U8) => push_unsigned(Width::W1, *number, out),
+        (Value::Unsigned(number), Format::U16) => push_unsigned(Width::W2, *number, out),
+        (Value::Unsigned(number), Format::U32) => push_unsigned(Width::W4, *number, out),
+        (Value::Unsigned(number), Format::U64) => push_unsigned(Width::W8, *number, out),
+        (Value::Unsigned(number), Format::U128) => push_unsigned(Width::W16, *number, out),
+        (Value::Signed(number), Format::I8) => push_signed(Width::W1, *number, out),
+        (Value::Signed(number), Format::I16) => push_signed(Width::W2, *number, out),
+        (Value::Signed(number), Format::I32) => push_signed(Width::W4, *number, out),
+        (Value::Signed(number), Format::I64) => push_signed(Width::W8, *number, out),
+        (Value::Signed(number), Format::I128) => push_signed(Width::W16, *number, out),
+        (Value::Text(text), Format::Str) => push_bytes(text.as_bytes(), out),
+        (Value::Bytes(bytes), Format::Bytes) => push_bytes(bytes, out),
+        (Value::Absent, Format::Opt(_)) => push_byte(0, out),
         (Value::Present(inner), Format::Opt(content)) => {
-            put_byte(1, out)?;
-            put(inner, content, registry, alloc, out)
+            push_byte(1, out)?;
+            push_value(inner, content, registry, alloc, out)
         }
         (Value::Items(items), Format::Seq(element)) => {
-            put_length(items.len(), out)?;
-            put_all(items, element, registry, alloc, out)
+            push_length(items.len(), out)?;
+            push_all(items, element, registry, alloc, out)
         }
         (Value::Items(items), Format::Tuple(formats)) => {
-            put_each(items, formats, registry, alloc, out)
+            push_each(items, formats, registry, alloc, out)
         }
         (Value::Items(items), Format::TupleArray(element, size)) => {
             if items.len() as u64 != *size {
                 return Err(EncodeFault::NotOfFormat);
             }
-            put_all(items, element, registry, alloc, out)
+            push_all(items, element, registry, alloc, out)
         }
         (Value::Pairs(pairs), Format::Map(key, value)) => {
-            put_length(pairs.len(), out)?;
+            push_length(pairs.len(), out)?;
             let mut entries = Vec::new(alloc);
             collect_entries(pairs, key, value, registry, alloc, &mut entries)?;
-            put_entries(entries, out)
+            push_in_order(entries, out)
         }
         (Value::Named(inner), Format::TypeName(name)) => match registry.container(name.as_str()) {
-            Some(container) => put_content(inner, container, registry, alloc, out),
+            Some(container) => push_content(inner, container, registry, alloc, out),
             None => Err(EncodeFault::NotOfFormat),
         },
         _ => Err(EncodeFault::NotOfFormat),
@@ -81,7 +81,7 @@ pub fn put(
 
 /// Appends the bytes of what stands in a container.
 #[cycle(by_entries)]
-fn put_content(
+fn push_content(
     value: &Value,
     container: &Container,
     registry: &Registry,
@@ -92,17 +92,17 @@ fn put_content(
 {
     match (container, value) {
         (Container::UnitStruct, Value::Unit) => Ok(()),
-        (Container::NewTypeStruct(format), _) => put(value, format, registry, alloc, out),
+        (Container::NewTypeStruct(format), _) => push_value(value, format, registry, alloc, out),
         (Container::TupleStruct(formats), Value::Items(items)) => {
-            put_each(items, formats, registry, alloc, out)
+            push_each(items, formats, registry, alloc, out)
         }
         (Container::Struct(fields), Value::Items(items)) => {
-            put_fields(items, fields, registry, alloc, out)
+            push_fields(items, fields, registry, alloc, out)
         }
         (Container::Enum(variants), Value::Variant(number, inner)) => {
-            put_number(*number, out)?;
+            push_number(*number, out)?;
             match variants.get(number) {
-                Some(variant) => put_payload(inner, &variant.value, registry, alloc, out),
+                Some(variant) => push_payload(inner, &variant.value, registry, alloc, out),
                 None => Err(EncodeFault::NotOfFormat),
             }
         }
@@ -112,7 +112,7 @@ fn put_content(
 
 /// Appends the bytes of what a variant carries.
 #[cycle(by_entries)]
-fn put_payload(
+fn push_payload(
     value: &Value,
     payload: &VariantFormat,
     registry: &Registry,
@@ -123,12 +123,12 @@ fn put_payload(
 {
     match (payload, value) {
         (VariantFormat::Unit, Value::Unit) => Ok(()),
-        (VariantFormat::NewType(format), _) => put(value, format, registry, alloc, out),
+        (VariantFormat::NewType(format), _) => push_value(value, format, registry, alloc, out),
         (VariantFormat::Tuple(formats), Value::Items(items)) => {
-            put_each(items, formats, registry, alloc, out)
+            push_each(items, formats, registry, alloc, out)
         }
         (VariantFormat::Struct(fields), Value::Items(items)) => {
-            put_fields(items, fields, registry, alloc, out)
+            push_fields(items, fields, registry, alloc, out)
         }
         _ => Err(EncodeFault::NotOfFormat),
     }
@@ -136,7 +136,7 @@ fn put_payload(
 
 /// Appends the bytes of elements of one format.
 #[cycle(by_entries)]
-fn put_all(
+fn push_all(
     items: &[Value],
     element: &Format,
     registry: &Registry,
@@ -146,7 +146,7 @@ fn put_all(
     ensures { Tells result (spec.items_written registry.now (items_trees items.now) (shape_of element.now) out.old.items) out.new.items }
 {
     for item in items {
-        put(item, element, registry, alloc, out)?;
+        push_value(item, element, registry, alloc, out)?;
     }
     Ok(())
 }
@@ -154,7 +154,7 @@ fn put_all(
 /// Appends the bytes of the elements of a tuple.
 #[cycle(by_entries)]
 #[tactic(auto, using(bcs_encode_parts::proofs::WalkViews::count_items, bcs_encode_parts::proofs::WritingViews::count_formats))]
-fn put_each(
+fn push_each(
     items: &[Value],
     formats: &[Format],
     registry: &Registry,
@@ -167,7 +167,7 @@ fn put_each(
         return Err(EncodeFault::NotOfFormat);
     }
     for (i, item) in items.iter().enumerate() {
-        put(item, &formats[i], registry, alloc, out)?;
+        push_value(item, &formats[i], registry, alloc, out)?;
     }
     Ok(())
 }
@@ -175,7 +175,7 @@ fn put_each(
 /// Appends the bytes of the fields of a struct.
 #[cycle(by_entries)]
 #[tactic(auto, using(bcs_encode_parts::proofs::WalkViews::count_items, bcs_encode_parts::proofs::WritingViews::count_fields))]
-fn put_fields(
+fn push_fields(
     items: &[Value],
     fields: &[Named<Format>],
     registry: &Registry,
@@ -188,7 +188,7 @@ fn put_fields(
         return Err(EncodeFault::NotOfFormat);
     }
     for (i, item) in items.iter().enumerate() {
-        put(item, &fields[i].value, registry, alloc, out)?;
+        push_value(item, &fields[i].value, registry, alloc, out)?;
     }
     Ok(())
 }
@@ -209,9 +209,9 @@ fn collect_entries(
 {
     for (k, v) in pairs {
         let mut key_bytes = Vec::new(alloc);
-        put(k, key, registry, alloc, &mut key_bytes)?;
+        push_value(k, key, registry, alloc, &mut key_bytes)?;
         let mut value_bytes = Vec::new(alloc);
-        put(v, value, registry, alloc, &mut value_bytes)?;
+        push_value(v, value, registry, alloc, &mut value_bytes)?;
         entries.push(EntryBytes {
             key: key_bytes,
             value: value_bytes,

@@ -10,9 +10,9 @@ ghost use Rattle.bcs_encode_parts.specs.Writing as spec;
 ghost use Rattle.bcs_encode_parts.specs.Writing.{Tells};
 
 use bcs_encode_laws::EncodeFault;
-use bcs_encode_parts::number_rows::put_numbers;
-use bcs_encode_parts::putting::{
-    put_byte, put_bytes, put_length, put_number, put_signed, put_unsigned,
+use bcs_encode_parts::number_rows::push_numbers;
+use bcs_encode_parts::pushing::{
+    push_byte, push_bytes, push_length, push_number, push_signed, push_unsigned,
 };
 use bcs_encode_spans::span::Span;
 use bcs_encode_spans::spans::arrange;
@@ -24,7 +24,7 @@ use bcs_value::Value;
 
 /// Appends the bytes of a value.
 #[cycle(encoding)]
-pub fn put(
+pub fn push_value(
     value: &Value,
     format: &Format,
     registry: &Registry,
@@ -36,42 +36,46 @@ pub fn put(
     match (value, format) {
         (_, Format::F32 | Format::F64 | Format::Char) => Err(EncodeFault::NotOfFormat),
         (Value::Unit, Format::Unit) => Ok(()),
-        (Value::Bool(truth), Format::Bool) => put_byte(u8::from(*truth), &mut work.out),
-        (Value::Unsigned(number), Format::U8) => put_unsigned(Width::W1, *number, &mut work.out),
-        (Value::Unsigned(number), Format::U16) => put_unsigned(Width::W2, *number, &mut work.out),
-        (Value::Unsigned(number), Format::U32) => put_unsigned(Width::W4, *number, &mut work.out),
-        (Value::Unsigned(number), Format::U64) => put_unsigned(Width::W8, *number, &mut work.out),
-        (Value::Unsigned(number), Format::U128) => put_unsigned(Width::W16, *number, &mut work.out),
-        (Value::Signed(number), Format::I8) => put_signed(Width::W1, *number, &mut work.out),
-        (Value::Signed(number), Format::I16) => put_signed(Width::W2, *number, &mut work.out),
-        (Value::Signed(number), Format::I32) => put_signed(Width::W4, *number, &mut work.out),
-        (Value::Signed(number), Format::I64) => put_signed(Width::W8, *number, &mut work.out),
-        (Value::Signed(number), Format::I128) => put_signed(Width::W16, *number, &mut work.out),
-        (Value::Text(text), Format::Str) => put_bytes(text.as_bytes(), &mut work.out),
-        (Value::Bytes(bytes), Format::Bytes) => put_bytes(bytes, &mut work.out),
-        (Value::Absent, Format::Opt(_)) => put_byte(0, &mut work.out),
+        (Value::Bool(truth), Format::Bool) => push_byte(u8::from(*truth), &mut work.out),
+        (Value::Unsigned(number), Format::U8) => push_unsigned(Width::W1, *number, &mut work.out),
+        (Value::Unsigned(number), Format::U16) => push_unsigned(Width::W2, *number, &mut work.out),
+        (Value::Unsigned(number), Format::U32) => push_unsigned(Width::W4, *number, &mut work.out),
+        (Value::Unsigned(number), Format::U64) => push_unsigned(Width::W8, *number, &mut work.out),
+        (Value::Unsigned(number), Format::U128) => push_unsigned(
+            Width::W16,
+            *number,
+            &mut work.out,
+        ),
+        (Value::Signed(number), Format::I8) => push_signed(Width::W1, *number, &mut work.out),
+        (Value::Signed(number), Format::I16) => push_signed(Width::W2, *number, &mut work.out),
+        (Value::Signed(number), Format::I32) => push_signed(Width::W4, *number, &mut work.out),
+        (Value::Signed(number), Format::I64) => push_signed(Width::W8, *number, &mut work.out),
+        (Value::Signed(number), Format::I128) => push_signed(Width::W16, *number, &mut work.out),
+        (Value::Text(text), Format::Str) => push_bytes(text.as_bytes(), &mut work.out),
+        (Value::Bytes(bytes), Format::Bytes) => push_bytes(bytes, &mut work.out),
+        (Value::Absent, Format::Opt(_)) => push_byte(0, &mut work.out),
         (Value::Present(inner), Format::Opt(content)) => {
-            put_byte(1, &mut work.out)?;
-            put(inner, content, registry, work)
+            push_byte(1, &mut work.out)?;
+            push_value(inner, content, registry, work)
         }
         (Value::Items(items), Format::Seq(element)) => {
-            put_length(items.len(), &mut work.out)?;
-            put_all(items, element, registry, work)
+            push_length(items.len(), &mut work.out)?;
+            push_all(items, element, registry, work)
         }
         (Value::Items(items), Format::Tuple(formats)) => {
-            put_each(items, formats, registry, work)
+            push_each(items, formats, registry, work)
         }
         (Value::Items(items), Format::TupleArray(element, size)) => {
             if items.len() as u64 != *size {
                 return Err(EncodeFault::NotOfFormat);
             }
-            put_all(items, element, registry, work)
+            push_all(items, element, registry, work)
         }
         (Value::Pairs(pairs), Format::Map(key, value)) => {
-            put_map(pairs, key, value, registry, work)
+            push_map(pairs, key, value, registry, work)
         }
         (Value::Named(inner), Format::TypeName(name)) => match registry.container(name.as_str()) {
-            Some(container) => put_content(inner, container, registry, work),
+            Some(container) => push_content(inner, container, registry, work),
             None => Err(EncodeFault::NotOfFormat),
         },
         _ => Err(EncodeFault::NotOfFormat),
@@ -80,7 +84,7 @@ pub fn put(
 
 /// Appends the bytes of what stands in a container.
 #[cycle(encoding)]
-fn put_content(
+fn push_content(
     value: &Value,
     container: &Container,
     registry: &Registry,
@@ -91,17 +95,17 @@ fn put_content(
 {
     match (container, value) {
         (Container::UnitStruct, Value::Unit) => Ok(()),
-        (Container::NewTypeStruct(format), _) => put(value, format, registry, work),
+        (Container::NewTypeStruct(format), _) => push_value(value, format, registry, work),
         (Container::TupleStruct(formats), Value::Items(items)) => {
-            put_each(items, formats, registry, work)
+            push_each(items, formats, registry, work)
         }
         (Container::Struct(fields), Value::Items(items)) => {
-            put_fields(items, fields, registry, work)
+            push_fields(items, fields, registry, work)
         }
         (Container::Enum(variants), Value::Variant(number, inner)) => {
-            put_number(*number, &mut work.out)?;
+            push_number(*number, &mut work.out)?;
             match variants.get(number) {
-                Some(variant) => put_payload(inner, &variant.value, registry, work),
+                Some(variant) => push_payload(inner, &variant.value, registry, work),
                 None => Err(EncodeFault::NotOfFormat),
             }
         }
@@ -111,7 +115,7 @@ fn put_content(
 
 /// Appends the bytes of what a variant carries.
 #[cycle(encoding)]
-fn put_payload(
+fn push_payload(
     value: &Value,
     payload: &VariantFormat,
     registry: &Registry,
@@ -122,12 +126,12 @@ fn put_payload(
 {
     match (payload, value) {
         (VariantFormat::Unit, Value::Unit) => Ok(()),
-        (VariantFormat::NewType(format), _) => put(value, format, registry, work),
+        (VariantFormat::NewType(format), _) => push_value(value, format, registry, work),
         (VariantFormat::Tuple(formats), Value::Items(items)) => {
-            put_each(items, formats, registry, work)
+            push_each(items, formats, registry, work)
         }
         (VariantFormat::Struct(fields), Value::Items(items)) => {
-            put_fields(items, fields, registry, work)
+            push_fields(items, fields, registry, work)
         }
         _ => Err(EncodeFault::NotOfFormat),
     }
@@ -135,7 +139,7 @@ fn put_payload(
 
 /// Appends the bytes of elements of one format.
 #[cycle(encoding)]
-fn put_all(
+fn push_all(
     items: &[Value],
     element: &Format,
     registry: &Registry,
@@ -145,10 +149,10 @@ fn put_all(
     ensures kept { OnOk result (work.new.spans.items ≡ work.old.spans.items) }
 {
     if let Some(format) = WholeNumber::of(element) {
-        return put_numbers(format, items, &mut work.out);
+        return push_numbers(format, items, &mut work.out);
     }
     for item in items {
-        put(item, element, registry, work)?;
+        push_value(item, element, registry, work)?;
     }
     Ok(())
 }
@@ -156,7 +160,7 @@ fn put_all(
 /// Appends the bytes of the elements of a tuple.
 #[cycle(encoding)]
 #[tactic(auto, using(bcs_encode_parts::proofs::WalkViews::count_items, bcs_encode_parts::proofs::WritingViews::count_formats))]
-fn put_each(
+fn push_each(
     items: &[Value],
     formats: &[Format],
     registry: &Registry,
@@ -169,7 +173,7 @@ fn put_each(
         return Err(EncodeFault::NotOfFormat);
     }
     for (i, item) in items.iter().enumerate() {
-        put(item, &formats[i], registry, work)?;
+        push_value(item, &formats[i], registry, work)?;
     }
     Ok(())
 }
@@ -177,7 +181,7 @@ fn put_each(
 /// Appends the bytes of the fields of a struct.
 #[cycle(encoding)]
 #[tactic(auto, using(bcs_encode_parts::proofs::WalkViews::count_items, bcs_encode_parts::proofs::WritingViews::count_fields))]
-fn put_fields(
+fn push_fields(
     items: &[Value],
     fields: &[Named<Format>],
     registry: &Registry,
@@ -190,14 +194,14 @@ fn put_fields(
         return Err(EncodeFault::NotOfFormat);
     }
     for (i, item) in items.iter().enumerate() {
-        put(item, &fields[i].value, registry, work)?;
+        push_value(item, &fields[i].value, registry, work)?;
     }
     Ok(())
 }
 
 /// Appends the bytes of a map.
 #[cycle(encoding)]
-fn put_map(
+fn push_map(
     pairs: &[(Value, Value)],
     key: &Format,
     value: &Format,
@@ -209,7 +213,7 @@ fn put_map(
         work.new.out.items }
     ensures kept { OnOk result (work.new.spans.items ≡ work.old.spans.items) }
 {
-    put_length(pairs.len(), &mut work.out)?;
+    push_length(pairs.len(), &mut work.out)?;
     let first = work.spans.len();
     let start = work.out.len();
     lay_entries(pairs, key, value, registry, work)?;
@@ -231,9 +235,9 @@ fn lay_entries(
 {
     for (k, v) in pairs {
         let start = work.out.len();
-        put(k, key, registry, work)?;
+        push_value(k, key, registry, work)?;
         let middle = work.out.len();
-        put(v, value, registry, work)?;
+        push_value(v, value, registry, work)?;
         work.spans.push(Span {
             key: start,
             value: middle,

@@ -11,11 +11,11 @@ ghost use Rattle.bcs_encode_parts.specs.Forming.{each_formed, formed, items_form
 ghost use Rattle.bcs_encode_parts.specs.Writing as spec;
 ghost use Rattle.bcs_encode_parts.specs.Writing.{Tells};
 
-use crate::by_entries::put;
+use crate::by_entries::push_value;
 use bcs_encode_laws::EncodeFault;
 use bcs_encode_parts::formed_entries::order_entries;
 use bcs_encode_parts::formed_entry::{FormedEntry, keep_formed};
-use bcs_encode_parts::putting::{put_byte, put_length, put_number};
+use bcs_encode_parts::pushing::{push_byte, push_length, push_number};
 use bcs_registry::{Container, Format, Named, Registry, VariantFormat};
 use bcs_value::Value;
 use bcs_value_tree::slot::{keep, put_items, wrap_named, wrap_present, wrap_variant};
@@ -48,7 +48,7 @@ pub fn form(
             form_present(inner, content, registry, alloc, out, slot)
         }
         (Value::Items(items), Format::Seq(element)) => {
-            put_length(items.len(), out)?;
+            push_length(items.len(), out)?;
             form_all(items, element, registry, alloc, out, slot)
         }
         (Value::Items(items), Format::Tuple(formats)) => {
@@ -83,7 +83,7 @@ fn form_plain(
     ensures tells { Tells result (spec.written registry.now (tree_of value.now) (of (shape_of format.now)) out.old.items) out.new.items }
     ensures same { OnOk result (tree_of slot.new ≡ tree_of value.now) }
 {
-    put(value, format, registry, alloc, out)?;
+    push_value(value, format, registry, alloc, out)?;
     *slot = value.copy(alloc)?;
     Ok(())
 }
@@ -110,7 +110,7 @@ fn form_present(
     ensures tells { Tells result (spec.written registry.now (tree_of inner.now) (of (shape_of content.now)) (out.old.items ++ 1 ∷ [])) out.new.items }
     ensures formed { OnOk result (tree_of slot.new ≡ present (formed registry.now (tree_of inner.now) (of (shape_of content.now)))) }
 {
-    put_byte(1, out)?;
+    push_byte(1, out)?;
     form(inner, content, registry, alloc, out, slot)?;
     wrap_present(alloc, slot)?;
     Ok(())
@@ -167,7 +167,7 @@ fn form_content(
             form_fields(items, fields, registry, alloc, out, slot)
         }
         (Container::Enum(variants), Value::Variant(number, inner)) => {
-            put_number(*number, out)?;
+            push_number(*number, out)?;
             match variants.get(number) {
                 Some(variant) => {
                     form_payload(inner, &variant.value, registry, alloc, out, slot)?;
@@ -309,7 +309,7 @@ fn form_map(
     ensures formed { OnOk result (tree_of slot.new
         ≡ pairs_tree (pairs_of (pairs_in_order (keyed_formed registry.now (entries_pairs pairs.now) (shape_of key.now) (shape_of value.now) [])))) }
 {
-    put_length(pairs.len(), out)?;
+    push_length(pairs.len(), out)?;
     let mut entries = Vec::new(alloc);
     form_entries(pairs, key, value, registry, alloc, &mut entries)?;
     order_entries(entries, alloc, out, slot)

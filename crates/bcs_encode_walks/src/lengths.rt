@@ -6,7 +6,7 @@ ghost use Rattle.bcs_encode_laws.specs.Lengths as spec;
 ghost use Rattle.bcs_encode_laws.specs.Lengths.{length_limit};
 ghost use Rattle.bcs_value_tree.specs.View.{entries_pairs, items_trees, tree_of};
 
-use bcs_encode_parts::putting::LENGTH_LIMIT;
+use bcs_encode_parts::pushing::LENGTH_LIMIT;
 use bcs_registry::{Container, Format, Named, Registry, VariantFormat};
 use bcs_value::Value;
 

@@ -1,2 +1,2 @@
 pub mod AnswerLemmas
-pub mod FrontLemmas
+pub mod JudgingLemmas

@@ -9,11 +9,11 @@ use Rattle.bcs_value_laws.specs.Limits.{Bounds}
 use Rattle.bcs_value_tree.specs.Tree.{Tree}
 use Rattle.bcs_encode_laws.specs.Encodes.{Encodes}
 use Rattle.bcs_tool_files.specs.Files.{size_limit}
-use Rattle.bcs_tool.specs.Front.{Asks, IsRegistry, RefusesEarly, front_name}
+use Rattle.bcs_tool.specs.Judging.{Asks, IsRegistry, RefusesEarly, job_fault_name}
 use Rattle.bcs_tool.specs.Spelling.{Denotes, RefusesText, input_name}
 use Rattle.bcs_tool_line.specs.declared.command.Command.TheVariants as command
 use Rattle.bcs_tool_line.specs.declared.command.Command.TheVariants.{Check}
-use Rattle.bcs_tool.specs.declared.front_fault.FrontFault.{FrontFault}
+use Rattle.bcs_tool.specs.declared.job_fault.JobFault.{JobFault}
 use Rattle.bcs_tool.specs.declared.input_fault.InputFault.{InputFault}
 use Rattle.bcs_tool_files.specs.declared.work.Work.{Work}
 
@@ -40,7 +40,7 @@ count_line n = line_of (codes "ok " ++ decimal n)
 -- a case for each kind of answer
 pub data Answers (work : Work) (input : List ℕ) : ℕ → List ℕ → Type 0 where
   -- the words are refused, whatever the input
-  refused_early : (fault : FrontFault) → RefusesEarly work fault → Answers work input 2 (refusal_line (front_name fault))
+  refused_early : (fault : JobFault) → RefusesEarly work fault → Answers work input 2 (refusal_line (job_fault_name fault))
   -- `check`: how many containers the registry has
   checked : (registry : Entries) → work.command ≡ Check → IsRegistry work.registry.items registry → Answers work input 0 (count_line (length registry))
   -- `grows`: the newer registry keeps all that the older one has

@@ -1,4 +1,4 @@
-pub mod Front
+pub mod Judging
 pub mod Spelling
 pub mod Answers
 pub use Rattle.bcs_tool_files.specs.Files

@@ -19,7 +19,7 @@ pub fn refused(alloc: Global, name: &str) -> Result<Answer, AllocError>
     text.push_str(name)?;
     Ok(Answer {
         status: 2,
-        output: line(text)?,
+        output: with_line_end(text)?,
     })
 }
 
@@ -30,7 +30,7 @@ pub fn counted(alloc: Global, count: usize) -> Result<Answer, AllocError>
     let text = format!(in alloc; "ok {count}")?;
     Ok(Answer {
         status: 0,
-        output: line(text)?,
+        output: with_line_end(text)?,
     })
 }
 
@@ -41,7 +41,7 @@ pub fn grown(alloc: Global) -> Result<Answer, AllocError>
     let text = String::from_str(alloc, "grows")?;
     Ok(Answer {
         status: 0,
-        output: line(text)?,
+        output: with_line_end(text)?,
     })
 }
 
@@ -52,13 +52,13 @@ pub fn encoded(alloc: Global, bytes: &[u8], raw: bool) -> Result<Answer, AllocEr
     let output = if raw {
         Vec::from_slice(alloc, bytes)?
     } else {
-        line(hex::encode(alloc, bytes)?)?
+        with_line_end(hex::encode(alloc, bytes)?)?
     };
     Ok(Answer { status: 0, output })
 }
 
 // The text and a line end.
-fn line(mut text: String) -> Result<Vec<u8>, AllocError>
+fn with_line_end(mut text: String) -> Result<Vec<u8>, AllocError>
     ensures { IfOk result (λ bytes. bytes.items ≡ line_of (string_bytes text)) }
 {
     text.push_str("\n")?;

@@ -6,10 +6,10 @@ ghost use Rattle.bcs_value_tree.specs.View.{tree_of};
 ghost use Rattle.bcs_encode_laws.specs.Encodes.{Encodes};
 ghost use Rattle.bcs_tool.specs.Answers.{Answers, IsContent, printed, standard_bounds};
 ghost use Rattle.bcs_tool_files.specs.Files.{size_limit};
-ghost use Rattle.bcs_tool.specs.Front.{Asks, ReadsInput};
+ghost use Rattle.bcs_tool.specs.Judging.{Asks, ReadsInput};
 
 use crate::answer::{Answer, counted, encoded, grown};
-use crate::front::{Asked, judge_check, judge_encoding, judge_growth};
+use crate::judging::{Asked, judge_check, judge_encoding, judge_growth};
 use crate::reading::read_text;
 use crate::run_fault::RunFault;
 use bcs_decode::ByteSource;

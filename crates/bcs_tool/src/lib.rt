@@ -3,9 +3,9 @@
 
 mod answer;
 mod answering;
-mod front;
-mod front_fault;
 mod input_fault;
+mod job_fault;
+mod judging;
 mod reading;
 mod run_fault;
 mod running;

@@ -4,7 +4,7 @@ ghost use Rattle.bcs_encode_sinks.specs.Taking as sink;
 ghost use Rattle.bcs_decode_sources.specs.Taking as source;
 ghost use Rattle.bcs_tool.specs.Answers.{Answers, IsContent, IsFaultNote};
 ghost use Rattle.bcs_tool_files.specs.Files.{size_limit};
-ghost use Rattle.bcs_tool.specs.Front.{ReadsInput};
+ghost use Rattle.bcs_tool.specs.Judging.{ReadsInput};
 
 use crate::answering::answer;
 use crate::run_fault::RunFault;
@@ -43,7 +43,7 @@ pub fn run<S: ByteSource, K: ByteSink>(
         × Answers work.now bytes status output × (n < length output)
         × sink.Lost K.taken K.is_failed out.old out.new (take n output) }
 {
-    match perform(alloc, work, input, out) {
+    match put_answer(alloc, work, input, out) {
         Ok(status) => Outcome { status, note: "" },
         Err(RunFault::Take(fault)) => failed(fault.note()),
         Err(RunFault::Write) => failed("fault: write"),
@@ -58,7 +58,7 @@ fn failed(note: &'static str) -> Outcome
 }
 
 // Puts the answer, and gives its status.
-fn perform<S: ByteSource, K: ByteSink>(
+fn put_answer<S: ByteSource, K: ByteSink>(
     alloc: Global,
     work: &Work,
     input: &mut S,

@@ -7,12 +7,12 @@ use Rattle.bcs_encode.proofs.encoding.encode.Goals as goal
 
 pub returns-clause-encoding : goal.returns-clause-encoding
 returns-clause-encoding c =
-    written_encodes c.args.registry.now c.args.limits.now (shape_of c.args.format.now) (tree_of c.args.value.now) c.put.new.work.out.items
+    written_encodes c.args.registry.now c.args.limits.now (shape_of c.args.format.now) (tree_of c.args.value.now) c.push_value.new.work.out.items
     c.in_ok-check_soundness.ensures.sound (search rules)
 
-pub returns-in_err-put-clause-fault : goal.returns-in_err-put-clause-fault
-returns-in_err-put-clause-fault c =
-    let p = err_from_is_err_and c.from_residual-in_err-put.result c.from_residual-in_err-put.ensures.1 in
+pub returns-in_err-push_value-clause-fault : goal.returns-in_err-push_value-clause-fault
+returns-in_err-push_value-clause-fault c =
+    let p = err_from_is_err_and c.from_residual-in_err-push_value.result c.from_residual-in_err-push_value.ensures.1 in
     rw p.1 (λ k. unwritten_refuses c.args.registry.now c.args.limits.now (shape_of c.args.format.now) (tree_of c.args.value.now) _
     c.in_ok-check_soundness.ensures.sound (search rules))
 
@@ -25,11 +25,11 @@ returns-in_err-check_soundness-clause-fault c = search rules
 pub returns-in_err-check_soundness-clause-memory : goal.returns-in_err-check_soundness-clause-memory
 returns-in_err-check_soundness-clause-memory c = search rules
 
-pub returns-in_err-put-clause-encoding : goal.returns-in_err-put-clause-encoding
-returns-in_err-put-clause-encoding c = search rules
+pub returns-in_err-push_value-clause-encoding : goal.returns-in_err-push_value-clause-encoding
+returns-in_err-push_value-clause-encoding c = search rules
 
-pub returns-in_err-put-clause-memory : goal.returns-in_err-put-clause-memory
-returns-in_err-put-clause-memory c = search rules
+pub returns-in_err-push_value-clause-memory : goal.returns-in_err-push_value-clause-memory
+returns-in_err-push_value-clause-memory c = search rules
 
 pub returns-clause-fault : goal.returns-clause-fault
 returns-clause-fault c = search rules

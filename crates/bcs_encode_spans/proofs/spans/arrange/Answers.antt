@@ -3,7 +3,7 @@ use Rattle.std.proofs.lemmas.List.{take_all}
 use Rattle.bcs_encode_spans.specs.Laying.{span_entry}
 use Rattle.bcs_encode_parts.specs.Writing.{keys_rise}
 use Rattle.bcs_encode_spans.specs.declared.span.Span.{Span}
-use Rattle.bcs_encode_parts.proofs.EntryArranging.{rising_put}
+use Rattle.bcs_encode_parts.proofs.EntryArranging.{rising_written}
 use Rattle.bcs_encode_spans.proofs.spans.arrange.Goals as goal
 
 pub returns-then-rise-clause-tells : goal.returns-then-rise-clause-tells
@@ -12,7 +12,7 @@ returns-then-rise-clause-tells c =
     let m = c.deref.result.now in
     let spans : take (length m - c.args.first) (drop c.args.first m) ≡ drop c.args.first w.spans.items =
     take_all (length m - c.args.first) (drop c.args.first m) (omega (arith, length-drop c.args.first m)) ∙ ap (drop c.args.first) c.deref.ensures.value in
-    rising_put (map (span_entry w.out.items) (drop c.args.first w.spans.items)) (take c.args.start w.out.items)
+    rising_written (map (span_entry w.out.items) (drop c.args.first w.spans.items)) (take c.args.start w.out.items)
     (ap₂ (λ (x : List ℕ) (ys : List Span). keys_rise (map (span_entry x) ys)) (sym c.deref-2.ensures.value) (sym spans)
     ∙ sym c.rise.ensures ∙ c.if-rise.true)
     ∙ search (rules, c.requires.laid)

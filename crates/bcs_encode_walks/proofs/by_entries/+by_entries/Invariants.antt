@@ -6,18 +6,18 @@ use Rattle.bcs_encode_parts.specs.EntryView.{entry_of}
 use Rattle.bcs_encode_parts.specs.Writing.{items_written, each_written, entries_written}
 use Rattle.bcs_encode_walks.proofs.by_entries.+by_entries.Given as goal
 
-abbrev pub invariant-put_all-loop-item : goal.invariant-put_all-loop-item
-invariant-put_all-loop-item l =
+abbrev pub invariant-push_all-loop-item : goal.invariant-push_all-loop-item
+invariant-push_all-loop-item l =
     items_written l.registry (items_trees l.items) (shape_of l.element) l.initial.out.items
     ≡ items_written l.registry (items_trees (drop l.item-index l.items)) (shape_of l.element) l.out.items
 
-abbrev pub invariant-put_each-loop-i : goal.invariant-put_each-loop-i
-invariant-put_each-loop-i l =
+abbrev pub invariant-push_each-loop-i : goal.invariant-push_each-loop-i
+invariant-push_each-loop-i l =
     each_written l.registry (items_trees l.items) (formats_shapes l.formats) l.initial.out.items
     ≡ each_written l.registry (items_trees (drop l.i l.items)) (formats_shapes (drop l.i l.formats)) l.out.items
 
-abbrev pub invariant-put_fields-loop-i : goal.invariant-put_fields-loop-i
-invariant-put_fields-loop-i l =
+abbrev pub invariant-push_fields-loop-i : goal.invariant-push_fields-loop-i
+invariant-push_fields-loop-i l =
     each_written l.registry (items_trees l.items) (field_shapes (map field_of l.fields)) l.initial.out.items
     ≡ each_written l.registry (items_trees (drop l.i l.items)) (field_shapes (map field_of (drop l.i l.fields))) l.out.items
 

@@ -6,22 +6,22 @@ use Rattle.bcs_encode_spans.specs.Laying.{entries_laid}
 use Rattle.bcs_encode_parts.specs.Writing.{items_written, each_written}
 use Rattle.bcs_encode_walks.proofs.encoding.+encoding.Given as goal
 
-abbrev pub invariant-put_all-loop-item : goal.invariant-put_all-loop-item
-invariant-put_all-loop-item l = record {
+abbrev pub invariant-push_all-loop-item : goal.invariant-push_all-loop-item
+invariant-push_all-loop-item l = record {
   tells : items_written l.registry (items_trees l.items) (shape_of l.element) l.initial.work.out.items
       ≡ items_written l.registry (items_trees (drop l.item-index l.items)) (shape_of l.element) l.work.out.items;
   kept : l.work.spans.items ≡ l.initial.work.spans.items;
 }
 
-abbrev pub invariant-put_each-loop-i : goal.invariant-put_each-loop-i
-invariant-put_each-loop-i l = record {
+abbrev pub invariant-push_each-loop-i : goal.invariant-push_each-loop-i
+invariant-push_each-loop-i l = record {
   tells : each_written l.registry (items_trees l.items) (formats_shapes l.formats) l.initial.work.out.items
       ≡ each_written l.registry (items_trees (drop l.i l.items)) (formats_shapes (drop l.i l.formats)) l.work.out.items;
   kept : l.work.spans.items ≡ l.initial.work.spans.items;
 }
 
-abbrev pub invariant-put_fields-loop-i : goal.invariant-put_fields-loop-i
-invariant-put_fields-loop-i l = record {
+abbrev pub invariant-push_fields-loop-i : goal.invariant-push_fields-loop-i
+invariant-push_fields-loop-i l = record {
   tells : each_written l.registry (items_trees l.items) (field_shapes (map field_of l.fields)) l.initial.work.out.items
       ≡ each_written l.registry (items_trees (drop l.i l.items)) (field_shapes (map field_of (drop l.i l.fields))) l.work.out.items;
   kept : l.work.spans.items ≡ l.initial.work.spans.items;

@@ -11,13 +11,13 @@ use Rattle.bcs_encode_parts.proofs.WalkViews.{at_enum, at_map, choice-found, cou
 use Rattle.bcs_encode_parts.proofs.WritingViews.{tells_along, array_refused, array_written, list_written, pairs_written, tuple_written, fields_written, variant_written, no_variant_written, count_formats, count_fields}
 use Rattle.bcs_encode_walks.proofs.forming.+forming.Goals as goal
 
-pub form-returns-in_err-put_length-in-Items-Seq-clause-tells : goal.form-returns-in_err-put_length-in-Items-Seq-clause-tells
-form-returns-in_err-put_length-in-Items-Seq-clause-tells t c =
+pub form-returns-in_err-push_length-in-Items-Seq-clause-tells : goal.form-returns-in_err-push_length-in-Items-Seq-clause-tells
+form-returns-in_err-push_length-in-Items-Seq-clause-tells t c =
     let m = c.in-Items-Seq in
     tells_along _ _ _ _ (list_written c.args.registry.now c.args.value.now c.args.format.now m.items m.element c.len.result c.args.out.now.items m.is-0 m.is-1 (search rules)) (search rules)
 
-pub form-returns-in_ok-put_length-in-Items-Seq-clause-tells : goal.form-returns-in_ok-put_length-in-Items-Seq-clause-tells
-form-returns-in_ok-put_length-in-Items-Seq-clause-tells t c =
+pub form-returns-in_ok-push_length-in-Items-Seq-clause-tells : goal.form-returns-in_ok-push_length-in-Items-Seq-clause-tells
+form-returns-in_ok-push_length-in-Items-Seq-clause-tells t c =
     let m = c.in-Items-Seq in
     tells_along _ _ _ _ (list_written c.args.registry.now c.args.value.now c.args.format.now m.items m.element c.len.result c.args.out.now.items m.is-0 m.is-1 (search rules)) (search rules)
 
@@ -82,8 +82,8 @@ pub form_fields-returns-clause-tells : goal.form_fields-returns-clause-tells
 form_fields-returns-clause-tells t c =
     fields_written c.args.registry.now c.args.items.now c.args.fields.now c.args.out.now.items (omega arith) ∙ grind (arith, common_steps)
 
-pub form_map-returns-in_err-put_length-clause-tells : goal.form_map-returns-in_err-put_length-clause-tells
-form_map-returns-in_err-put_length-clause-tells t c =
+pub form_map-returns-in_err-push_length-clause-tells : goal.form_map-returns-in_err-push_length-clause-tells
+form_map-returns-in_err-push_length-clause-tells t c =
     tells_along _ _ _ _ (pairs_written c.args.registry.now c.args.pairs.now (shape_of c.args.key.now) (shape_of c.args.value.now) c.args.out.now.items) (search rules)
 
 pub form_map-returns-in_err-form_entries-clause-tells : goal.form_map-returns-in_err-form_entries-clause-tells

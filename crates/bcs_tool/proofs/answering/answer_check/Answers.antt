@@ -1,7 +1,7 @@
 use Rattle.std.proofs.Common.{sym, subst, ◌∙◌, ap}
 use Rattle.std.proofs.lemmas.Result.{IfOk-weaker}
 use Rattle.bcs_tool.specs.Answers.{checked, count_line, refused_early, refusal_line}
-use Rattle.bcs_tool.specs.Front.{RefusesAt, front_name}
+use Rattle.bcs_tool.specs.Judging.{RefusesAt, job_fault_name}
 use Rattle.bcs_tool_line.specs.declared.command.Command.{Command}
 use Rattle.bcs_tool.proofs.AnswerLemmas.{same_answer}
 use Rattle.bcs_tool.proofs.answering.answer_check.Goals as goal
@@ -17,5 +17,5 @@ pub returns-in-Err : goal.returns-in-Err
 returns-in-Err c =
     let work = c.args.work.now in
     let fault = c.in-Err.fault in
-    IfOk-weaker c.answer.result _ _ (λ a made bytes. same_answer work bytes 2 a.status (refusal_line (front_name fault)) a.output.items made.1 made.2
+    IfOk-weaker c.answer.result _ _ (λ a made bytes. same_answer work bytes 2 a.status (refusal_line (job_fault_name fault)) a.output.items made.1 made.2
     (refused_early fault (subst (λ (asked : Command). RefusesAt asked work fault) (sym c.requires) (c.in-Err.ensures.fault made.0)))) c.answer.ensures

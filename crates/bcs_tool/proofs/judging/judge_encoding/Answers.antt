@@ -1,7 +1,7 @@
 use Rattle.std.proofs.Common.{inr, subst}
-use Rattle.bcs_tool.specs.Front.{IsRegistry, RefusesEncoding, RefusesFormat}
-use Rattle.bcs_tool.proofs.FrontLemmas.{refused_by_registry}
-use Rattle.bcs_tool.proofs.front.judge_encoding.Goals as goal
+use Rattle.bcs_tool.specs.Judging.{IsRegistry, RefusesEncoding, RefusesFormat}
+use Rattle.bcs_tool.proofs.JudgingLemmas.{refused_by_registry}
+use Rattle.bcs_tool.proofs.judging.judge_encoding.Goals as goal
 
 pub returns-in_err-format-clause-fault : goal.returns-in_err-format-clause-fault
 returns-in_err-format-clause-fault c =

@@ -1,8 +1,8 @@
 use Rattle.std.proofs.Common.{inr, refl, subst}
 use Rattle.bcs_registry_laws.specs.Faults.{IsLeastFault}
-use Rattle.bcs_tool.specs.Front.{IsRegistry, RefusesGrowth}
-use Rattle.bcs_tool.proofs.FrontLemmas.{refused_by_registry, refused_by_growth}
-use Rattle.bcs_tool.proofs.front.judge_growth.Goals as goal
+use Rattle.bcs_tool.specs.Judging.{IsRegistry, RefusesGrowth}
+use Rattle.bcs_tool.proofs.JudgingLemmas.{refused_by_registry, refused_by_growth}
+use Rattle.bcs_tool.proofs.judging.judge_growth.Goals as goal
 
 pub returns-in_err-newer-clause-fault : goal.returns-in_err-newer-clause-fault
 returns-in_err-newer-clause-fault c =

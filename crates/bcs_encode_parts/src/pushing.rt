@@ -12,7 +12,7 @@ use bcs_num::{Width, put_le, put_le_signed, put_uleb};
 pub const LENGTH_LIMIT: usize = 2147483647;
 
 /// Appends one byte.
-pub fn put_byte(byte: u8, out: &mut Vec<u8>) -> Result<(), EncodeFault>
+pub fn push_byte(byte: u8, out: &mut Vec<u8>) -> Result<(), EncodeFault>
     ensures { Tells result (Ok (out.old.items ++ byte ∷ [])) out.new.items }
 {
     out.push(byte)?;
@@ -20,7 +20,7 @@ pub fn put_byte(byte: u8, out: &mut Vec<u8>) -> Result<(), EncodeFault>
 }
 
 /// Appends a number by ULEB128.
-pub fn put_number(number: u32, out: &mut Vec<u8>) -> Result<(), EncodeFault>
+pub fn push_number(number: u32, out: &mut Vec<u8>) -> Result<(), EncodeFault>
     ensures { Tells result (Ok (out.old.items ++ uleb number)) out.new.items }
 {
     let mut bytes = [0; 5];
@@ -30,20 +30,20 @@ pub fn put_number(number: u32, out: &mut Vec<u8>) -> Result<(), EncodeFault>
 }
 
 /// Appends a length by ULEB128, or refuses one above the limit.
-pub fn put_length(length: usize, out: &mut Vec<u8>) -> Result<(), EncodeFault>
+pub fn push_length(length: usize, out: &mut Vec<u8>) -> Result<(), EncodeFault>
     ensures { Tells result (length_written length out.old.items) out.new.items }
 {
     if length > LENGTH_LIMIT {
         return Err(EncodeFault::TooLong);
     }
-    put_number(length as u32, out)
+    push_number(length as u32, out)
 }
 
 /// Appends bytes, their length first.
-pub fn put_bytes(bytes: &[u8], out: &mut Vec<u8>) -> Result<(), EncodeFault>
+pub fn push_bytes(bytes: &[u8], out: &mut Vec<u8>) -> Result<(), EncodeFault>
     ensures { Tells result (bytes_written bytes.now out.old.items) out.new.items }
 {
-    put_length(bytes.len(), out)?;
+    push_length(bytes.len(), out)?;
     out.extend_from_slice(bytes)?;
     Ok(())
 }
@@ -51,7 +51,7 @@ pub fn put_bytes(bytes: &[u8], out: &mut Vec<u8>) -> Result<(), EncodeFault>
 /// Appends an unsigned number in its width, or refuses one that the width can't hold. No memory is asked for where the
 /// vector has room for as many bytes.
 #[tactic(auto, using(crate::proofs::NumberViews::one_byte))]
-pub fn put_unsigned(width: Width, number: u128, out: &mut Vec<u8>) -> Result<(), EncodeFault>
+pub fn push_unsigned(width: Width, number: u128, out: &mut Vec<u8>) -> Result<(), EncodeFault>
     ensures tells { Tells result (unsigned_written (width_of width) number out.old.items) out.new.items }
     ensures len { OnOk result (vec_len out.new ≡ vec_len out.old + byte_len (width_of width)) }
     ensures capacity { vec_capacity out.old ≤ vec_capacity out.new }
@@ -73,7 +73,7 @@ pub fn put_unsigned(width: Width, number: u128, out: &mut Vec<u8>) -> Result<(),
 
 /// Appends a signed number in its width, or refuses one that the width can't hold. No memory is asked for where the
 /// vector has room for as many bytes.
-pub fn put_signed(width: Width, number: i128, out: &mut Vec<u8>) -> Result<(), EncodeFault>
+pub fn push_signed(width: Width, number: i128, out: &mut Vec<u8>) -> Result<(), EncodeFault>
     ensures tells { Tells result (signed_written (width_of width) number out.old.items) out.new.items }
     ensures len { OnOk result (vec_len out.new ≡ vec_len out.old + byte_len (width_of width)) }
     ensures capacity { vec_capacity out.old ≤ vec_capacity out.new }

@@ -2,7 +2,7 @@ use Rattle.std.proofs.Common.{◌≡◌, ◌++◌, map, drop}
 use Rattle.std.specs.List.{flat_map}
 use Rattle.bcs_encode_laws.specs.Entries.{entry_bytes}
 use Rattle.bcs_encode_parts.specs.EntryView.{entry_of}
-use Rattle.bcs_encode_parts.proofs.arranging.append_entries.Given as goal
+use Rattle.bcs_encode_parts.proofs.arranging.push_entries.Given as goal
 
 abbrev pub invariant-loop-entry : goal.invariant-loop-entry
 invariant-loop-entry l =

@@ -2,7 +2,7 @@
 ghost use Rattle.std.specs.Prelude.{◌≡◌, ◌≢◌, IfOk};
 ghost use Rattle.bcs_registry_formats.specs.declared.fault.RegistryFault.TheVariants.{OutOfMemory};
 ghost use Rattle.bcs_tool.specs.Answers.{refusal_line};
-ghost use Rattle.bcs_tool.specs.Front.{front_name, growth_fault_name, registry_fault_name};
+ghost use Rattle.bcs_tool.specs.Judging.{job_fault_name, growth_fault_name, registry_fault_name};
 
 use crate::answer::{Answer, refused};
 use bcs_registry::{GrowthFault, RegistryFault};
@@ -11,7 +11,7 @@ use thiserror::Error;
 
 /// Why a job is refused before its input is read.
 #[derive(Clone, Copy, Debug, Drop, PartialEq, Eq, Error)]
-pub enum FrontFault {
+pub enum JobFault {
     /// A registry's text or FORMAT is refused.
     #[error("{0}")]
     Registry(RegistryFault),
@@ -23,26 +23,26 @@ pub enum FrontFault {
     NotYet,
 }
 
-impl FrontFault {
+impl JobFault {
     /// The answer to a job that is refused. Want of memory is no refusal.
     pub fn answer(self, alloc: Global) -> Result<Answer, AllocError>
-        ensures { IfOk result (λ a. (self ≢ FrontFault.Registry OutOfMemory) × (a.status ≡ 2)
-            × (a.output.items ≡ refusal_line (front_name self))) }
+        ensures { IfOk result (λ a. (self ≢ JobFault.Registry OutOfMemory) × (a.status ≡ 2)
+            × (a.output.items ≡ refusal_line (job_fault_name self))) }
     {
         match self {
-            FrontFault::Registry(RegistryFault::OutOfMemory) => Err(AllocError),
+            JobFault::Registry(RegistryFault::OutOfMemory) => Err(AllocError),
             _ => refused(alloc, self.name()),
         }
     }
 
     // The name that is printed.
     fn name(self) -> &'static str
-        ensures { result.now ≡ front_name self }
+        ensures { result.now ≡ job_fault_name self }
     {
         match self {
-            FrontFault::Registry(fault) => registry_name(fault),
-            FrontFault::Growth(fault) => growth_name(fault),
-            FrontFault::NotYet => "NotYet",
+            JobFault::Registry(fault) => registry_name(fault),
+            JobFault::Growth(fault) => growth_name(fault),
+            JobFault::NotYet => "NotYet",
         }
     }
 }
@@ -72,24 +72,24 @@ fn growth_name(fault: GrowthFault) -> &'static str
     }
 }
 
-impl From<RegistryFault> for FrontFault {
+impl From<RegistryFault> for JobFault {
     ghost use Rattle.std.specs.Prelude.{◌≡◌};
-    ghost use Rattle.bcs_tool.specs.declared.front_fault.FrontFault.TheVariants.{Registry};
+    ghost use Rattle.bcs_tool.specs.declared.job_fault.JobFault.TheVariants.{Registry};
 
     ghost from_gives = { λ fault result. result ≡ Registry fault };
 
-    fn from(fault: RegistryFault) -> FrontFault {
-        FrontFault::Registry(fault)
+    fn from(fault: RegistryFault) -> JobFault {
+        JobFault::Registry(fault)
     }
 }
 
-impl From<GrowthFault> for FrontFault {
+impl From<GrowthFault> for JobFault {
     ghost use Rattle.std.specs.Prelude.{◌≡◌};
-    ghost use Rattle.bcs_tool.specs.declared.front_fault.FrontFault.TheVariants.{Growth};
+    ghost use Rattle.bcs_tool.specs.declared.job_fault.JobFault.TheVariants.{Growth};
 
     ghost from_gives = { λ fault result. result ≡ Growth fault };
 
-    fn from(fault: GrowthFault) -> FrontFault {
-        FrontFault::Growth(fault)
+    fn from(fault: GrowthFault) -> JobFault {
+        JobFault::Growth(fault)
     }
 }

@@ -5,9 +5,9 @@ ghost use Rattle.bcs_registry_formats.specs.Grows.{Grows};
 ghost use Rattle.bcs_registry_formats.specs.Shape as shape;
 ghost use Rattle.bcs_registry_formats.specs.View.{shape_of};
 ghost use Rattle.bcs_registry_formats.specs.declared.fault.RegistryFault.TheVariants.{OutOfMemory};
-ghost use Rattle.bcs_tool.specs.Front.{Asks, IsFormat, IsRegistry, RefusesCheck, RefusesEncoding, RefusesFormat, RefusesGrowth, is_json_word};
+ghost use Rattle.bcs_tool.specs.Judging.{Asks, IsFormat, IsRegistry, RefusesCheck, RefusesEncoding, RefusesFormat, RefusesGrowth, is_json_word};
 
-use crate::front_fault::FrontFault;
+use crate::job_fault::JobFault;
 use crate::reading::is_served;
 use bcs_registry::{Format, Registry, RegistryFault};
 use bcs_tool_files::Work;
@@ -15,20 +15,20 @@ use bcs_tool_line::Command;
 use std::alloc::Global;
 
 /// How many containers the registry has.
-pub fn judge_check(alloc: Global, work: &Work) -> Result<usize, FrontFault>
+pub fn judge_check(alloc: Global, work: &Work) -> Result<usize, JobFault>
     ensures ok { IfOk result (λ count. (registry : Entries) × IsRegistry work.now.registry.items registry
         × (count ≡ length registry)) }
-    ensures fault { IfErr result (λ e. e ≢ FrontFault.Registry OutOfMemory → RefusesCheck work.now e) }
+    ensures fault { IfErr result (λ e. e ≢ JobFault.Registry OutOfMemory → RefusesCheck work.now e) }
 {
     let registry = Registry::read(alloc, work.registry.as_slice())?;
     Ok(registry.len())
 }
 
 /// Finds whether the older registry has grown into the newer. A fault of the older comes before one of the newer.
-pub fn judge_growth(alloc: Global, work: &Work) -> Result<(), FrontFault>
+pub fn judge_growth(alloc: Global, work: &Work) -> Result<(), JobFault>
     ensures ok { OnOk result ((older : Entries) × (newer : Entries) × IsRegistry work.now.registry.items older
         × IsRegistry work.now.second.items newer × Grows older newer) }
-    ensures fault { IfErr result (λ e. e ≢ FrontFault.Registry OutOfMemory → RefusesGrowth work.now e) }
+    ensures fault { IfErr result (λ e. e ≢ JobFault.Registry OutOfMemory → RefusesGrowth work.now e) }
 {
     let older = Registry::read(alloc, work.registry.as_slice())?;
     let newer = Registry::read(alloc, work.second.as_slice())?;
@@ -44,17 +44,17 @@ pub struct Asked {
 }
 
 /// The registry and the format that the job asks for. The registry's fault comes before the format's.
-pub fn judge_encoding(alloc: Global, work: &Work) -> Result<Asked, FrontFault>
+pub fn judge_encoding(alloc: Global, work: &Work) -> Result<Asked, JobFault>
     requires { work.now.command ≡ Command.Encode }
     ensures ok { IfOk result (λ asked. Asks work.now asked.registry (shape_of asked.format)) }
-    ensures fault { IfErr result (λ e. e ≢ FrontFault.Registry OutOfMemory → RefusesEncoding work.now e) }
+    ensures fault { IfErr result (λ e. e ≢ JobFault.Registry OutOfMemory → RefusesEncoding work.now e) }
 {
     let registry = Registry::read(alloc, work.registry.as_slice())?;
     let format = judge_format(alloc, &registry, work.format.as_str())?;
     if is_served(&format) {
         Ok(Asked { registry, format })
     } else {
-        Err(FrontFault::NotYet)
+        Err(JobFault::NotYet)
     }
 }
 

@@ -13,8 +13,8 @@ use Rattle.bcs_registry_formats.specs.declared.growth_fault.GrowthFault.TheVaria
 use Rattle.bcs_tool.specs.Spelling.{is_served}
 use Rattle.bcs_tool_line.specs.declared.command.Command.{Command}
 use Rattle.bcs_tool_line.specs.declared.command.Command.TheVariants as command
-use Rattle.bcs_tool.specs.declared.front_fault.FrontFault.{FrontFault}
-use Rattle.bcs_tool.specs.declared.front_fault.FrontFault.TheVariants as front
+use Rattle.bcs_tool.specs.declared.job_fault.JobFault.{JobFault}
+use Rattle.bcs_tool.specs.declared.job_fault.JobFault.TheVariants as job
 use Rattle.bcs_tool_files.specs.declared.work.Work.{Work}
 
 -- ---- the names that are printed
@@ -34,10 +34,10 @@ growth_fault_name Changed = codes "Changed"
 growth_fault_name VariantMissing = codes "VariantMissing"
 growth_fault_name VariantChanged = codes "VariantChanged"
 
-abbrev pub front_name : FrontFault → List ℕ
-front_name (front.Registry fault) = registry_fault_name fault
-front_name (front.Growth fault) = growth_fault_name fault
-front_name front.NotYet = codes "NotYet"
+abbrev pub job_fault_name : JobFault → List ℕ
+job_fault_name (job.Registry fault) = registry_fault_name fault
+job_fault_name (job.Growth fault) = growth_fault_name fault
+job_fault_name job.NotYet = codes "NotYet"
 
 -- ---- the registry's text
 
@@ -76,31 +76,31 @@ abbrev pub ReadsInput : Work → Type 0
 ReadsInput work = (registry : Entries) × (s : Shape) × Asks work registry s
 
 -- the registry's fault, or else the format's, or else the format isn't served yet
-abbrev pub RefusesEncoding : Work → FrontFault → Type 0
-RefusesEncoding work (front.Registry fault) = IsLeastFault work.registry.items fault
+abbrev pub RefusesEncoding : Work → JobFault → Type 0
+RefusesEncoding work (job.Registry fault) = IsLeastFault work.registry.items fault
     ⊎ ((registry : Entries) × IsRegistry work.registry.items registry × RefusesFormat registry (string_bytes work.format) fault)
-RefusesEncoding work (front.Growth fault) = ⊥
-RefusesEncoding work front.NotYet = (registry : Entries) × (s : Shape) × IsRegistry work.registry.items registry
+RefusesEncoding work (job.Growth fault) = ⊥
+RefusesEncoding work job.NotYet = (registry : Entries) × (s : Shape) × IsRegistry work.registry.items registry
     × IsFormat registry (string_bytes work.format) s × (is_served s ≡ false)
 
-abbrev pub RefusesCheck : Work → FrontFault → Type 0
-RefusesCheck work (front.Registry fault) = IsLeastFault work.registry.items fault
-RefusesCheck work (front.Growth fault) = ⊥
-RefusesCheck work front.NotYet = ⊥
+abbrev pub RefusesCheck : Work → JobFault → Type 0
+RefusesCheck work (job.Registry fault) = IsLeastFault work.registry.items fault
+RefusesCheck work (job.Growth fault) = ⊥
+RefusesCheck work job.NotYet = ⊥
 
 -- the older registry's fault, or else the newer's, or else why the one has not grown into the other
-abbrev pub RefusesGrowth : Work → FrontFault → Type 0
-RefusesGrowth work (front.Registry fault) = IsLeastFault work.registry.items fault
+abbrev pub RefusesGrowth : Work → JobFault → Type 0
+RefusesGrowth work (job.Registry fault) = IsLeastFault work.registry.items fault
     ⊎ ((older : Entries) × IsRegistry work.registry.items older × IsLeastFault work.second.items fault)
-RefusesGrowth work (front.Growth fault) = (older : Entries) × (newer : Entries) × IsRegistry work.registry.items older
+RefusesGrowth work (job.Growth fault) = (older : Entries) × (newer : Entries) × IsRegistry work.registry.items older
     × IsRegistry work.second.items newer × IsFirstGrowthFault older newer fault
-RefusesGrowth work front.NotYet = ⊥
+RefusesGrowth work job.NotYet = ⊥
 
-abbrev pub RefusesAt : Command → Work → FrontFault → Type 0
+abbrev pub RefusesAt : Command → Work → JobFault → Type 0
 RefusesAt command.Encode = RefusesEncoding
 RefusesAt command.Check = RefusesCheck
 RefusesAt command.Grows = RefusesGrowth
 
 -- the job is refused before an input is read
-abbrev pub RefusesEarly : Work → FrontFault → Type 0
+abbrev pub RefusesEarly : Work → JobFault → Type 0
 RefusesEarly work = RefusesAt work.command work
