@@ -1,0 +1,4 @@
+pub mod Whole
+pub mod Joined
+pub mod Texts
+pub mod Taken

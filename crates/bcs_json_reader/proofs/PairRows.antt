@@ -1,0 +1,64 @@
+-- The entries of a map: those that were read so far, before those that are still to be read.
+use Rattle.std.proofs.Common.{◌≡◌, ◌∙◌, ◌++◌, List, [], ◌∷◌, Ok, Err, refl, ap, sym}
+use Rattle.serde_json.specs.Data.{Data, array, no_items, item}
+use Rattle.serde_json.specs.View.{view, items_view}
+use Rattle.serde_json.specs.declared.value.Value.{Value as Json}
+use Rattle.bcs_value_tree.specs.Tree.{Tree, Pairs, no_pairs, pair}
+use Rattle.bcs_value_tree.specs.View.{tree_of, entries_pairs}
+use Rattle.bcs_value_tree.specs.declared.value.Value.{Value}
+use Rattle.bcs_json_faults.specs.declared.json_fault.JsonFault.{JsonFault}
+use Rattle.bcs_json_laws.specs.Reading.{Read, follow, read_pair, read_pairs}
+
+abbrev pub joined_pairs : List (Value × Value) → Pairs → Pairs
+joined_pairs [] ps = ps
+joined_pairs (e ∷ es) ps = pair (tree_of e.0) (tree_of e.1) (joined_pairs es ps)
+
+joined_pairs-none : (es : List (Value × Value)) → joined_pairs es no_pairs ≡ entries_pairs es
+joined_pairs-none [] = refl
+joined_pairs-none (e ∷ es) = ap (pair (tree_of e.0) (tree_of e.1)) (joined_pairs-none es)
+
+joined_pairs-more : (es : List (Value × Value)) (e : Value × Value) (ps : Pairs) → joined_pairs (es ++ e ∷ []) ps ≡ joined_pairs es (pair (tree_of e.0) (tree_of e.1) ps)
+joined_pairs-more [] e ps = refl
+joined_pairs-more (d ∷ es) e ps = ap (pair (tree_of d.0) (tree_of d.1)) (joined_pairs-more es e ps)
+
+step : (es : List (Value × Value)) (e : Value × Value) (rest : Read Pairs)
+    → follow (follow rest (λ ps. Ok (pair (tree_of e.0) (tree_of e.1) ps))) (λ ps. Ok (joined_pairs es ps)) ≡ follow rest (λ ps. Ok (joined_pairs (es ++ e ∷ []) ps))
+step es e (Ok ps) = ap Ok (sym (joined_pairs-more es e ps))
+step es e (Err f) = refl
+
+module _ (k v : Data → Read Tree) (js : List Json) (es : List (Value × Value)) where
+  abbrev pairs_from : List Json → Read Pairs
+  pairs_from ls = follow (read_pairs k v (items_view ls)) (λ ps. Ok (joined_pairs es ps))
+
+  abbrev after : List Json → Read (Tree × Tree) → Read Pairs
+  after left x = follow (follow x (λ p. follow (read_pairs k v (items_view left)) (λ ps. Ok (pair p.0 p.1 ps)))) (λ ps. Ok (joined_pairs es ps))
+
+  -- the first entry is refused
+  pub pair_fault : (left : List Json) (j : Json) (e : JsonFault) → js ≡ j ∷ left → read_pair k v (view j) ≡ Err e → pairs_from js ≡ Err e
+  pair_fault left j e h f = ap pairs_from h ∙ ap (after left) f
+
+  module _ (left : List Json) (j : Json) (here : js ≡ j ∷ left) (a b : Data) (two : view j ≡ array (item a (item b no_items))) where
+    -- for its key
+    pub key_fault : (e : JsonFault) → k a ≡ Err e → pairs_from js ≡ Err e
+    key_fault e h = pair_fault left j e here (ap (read_pair k v) two ∙ ap (λ (x : Read Tree). follow x (λ s. follow (v b) (λ t. Ok (s, t)))) h)
+
+    -- for its value
+    pub value_fault : (x : Value) (e : JsonFault) → k a ≡ Ok (tree_of x) → v b ≡ Err e → pairs_from js ≡ Err e
+    value_fault x e g h =
+        pair_fault left j e here
+        (ap (read_pair k v) two ∙ ap (λ (x : Read Tree). follow x (λ s. follow (v b) (λ t. Ok (s, t)))) g
+        ∙ ap (λ (y : Read Tree). follow {B = Tree × Tree} y (λ t. Ok (tree_of x, t))) h)
+
+    -- or read
+    pub pair_more : (x y : Value) → k a ≡ Ok (tree_of x) → v b ≡ Ok (tree_of y)
+        → pairs_from js ≡ follow (read_pairs k v (items_view left)) (λ ps. Ok (joined_pairs (es ++ (x, y) ∷ []) ps))
+    pair_more x y g h =
+        ap pairs_from here
+        ∙ ap (after left)
+        (ap (read_pair k v) two ∙ ap (λ (x : Read Tree). follow x (λ s. follow (v b) (λ t. Ok (s, t)))) g
+        ∙ ap (λ (y : Read Tree). follow {B = Tree × Tree} y (λ t. Ok (tree_of x, t))) h)
+        ∙ step es (x, y) (read_pairs k v (items_view left))
+
+  -- or there is none
+  pub pairs_done : js ≡ [] → pairs_from js ≡ Ok (entries_pairs es)
+  pairs_done h = ap pairs_from h ∙ ap Ok (joined_pairs-none es)

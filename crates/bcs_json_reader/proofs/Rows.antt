@@ -1,0 +1,74 @@
+-- A row of values: what was read so far, before what is still to be read.
+use Rattle.std.proofs.Common.{◌≡◌, ◌∙◌, ◌++◌, ℕ, List, [], ◌∷◌, Ok, Err, refl, ap, sym}
+use Rattle.serde_json.specs.Data.{Data}
+use Rattle.serde_json.specs.View.{view, items_view}
+use Rattle.serde_json.specs.declared.value.Value.{Value as Json}
+use Rattle.bcs_registry_formats.specs.View.{shape_of, formats_shapes}
+use Rattle.bcs_registry_formats.specs.declared.format.Format.{Format}
+use Rattle.bcs_value_tree.specs.Tree.{Tree, Trees, tree}
+use Rattle.bcs_value_tree.specs.View.{tree_of, items_trees}
+use Rattle.bcs_value_tree.specs.declared.value.Value.{Value}
+use Rattle.bcs_json_faults.specs.declared.json_fault.JsonFault.{JsonFault}
+use Rattle.bcs_json_faults.specs.declared.json_fault.JsonFault.TheVariants.{BadShape}
+use Rattle.bcs_json_laws.specs.Reading.{Read, follow, read_all, read_shape, read_each}
+use Rattle.bcs_json_leaves.proofs.Joined.{joined, joined-none, joined-more}
+
+step : (vs : List Value) (v : Value) (rest : Read Trees) → follow (follow rest (λ ts. Ok (tree (tree_of v) ts))) (λ ts. Ok (joined vs ts)) ≡ follow rest (λ ts. Ok (joined (vs ++ v ∷ []) ts))
+step vs v (Ok ts) = ap Ok (sym (joined-more vs v ts))
+step vs v (Err e) = refl
+
+-- the row from here on, with its first part read
+pub row_more : (vs : List Value) (v : Value) (x : Read Tree) (rest : Read Trees) → x ≡ Ok (tree_of v)
+    → follow (follow x (λ t. follow rest (λ ts. Ok (tree t ts)))) (λ ts. Ok (joined vs ts)) ≡ follow rest (λ ts. Ok (joined (vs ++ v ∷ []) ts))
+row_more vs v x rest h = ap (λ (y : Read Tree). follow (follow y (λ t. follow rest (λ ts. Ok (tree t ts)))) (λ ts. Ok (joined vs ts))) h ∙ step vs v rest
+
+-- or with its first part refused
+pub row_fault : (vs : List Value) (x : Read Tree) (rest : Read Trees) (e : JsonFault) → x ≡ Err e
+    → follow (follow x (λ t. follow rest (λ ts. Ok (tree t ts)))) (λ ts. Ok (joined vs ts)) ≡ Err e
+row_fault vs x rest e h = ap (λ (y : Read Tree). follow (follow y (λ t. follow rest (λ ts. Ok (tree t ts)))) (λ ts. Ok (joined vs ts))) h
+
+-- ---- items of one format
+
+module _ (r : Data → Read Tree) (js : List Json) (vs : List Value) where
+  abbrev items_from : List Json → Read Trees
+  items_from ks = follow (read_all r (items_view ks)) (λ ts. Ok (joined vs ts))
+
+  -- the first item is read
+  pub item_more : (left : List Json) (j : Json) (v : Value) → js ≡ j ∷ left → r (view j) ≡ Ok (tree_of v)
+      → items_from js ≡ follow (read_all r (items_view left)) (λ ts. Ok (joined (vs ++ v ∷ []) ts))
+  item_more left j v h e = ap items_from h ∙ row_more vs v (r (view j)) (read_all r (items_view left)) e
+
+  -- or refused
+  pub item_fault : (left : List Json) (j : Json) (e : JsonFault) → js ≡ j ∷ left → r (view j) ≡ Err e → items_from js ≡ Err e
+  item_fault left j e h f = ap items_from h ∙ row_fault vs (r (view j)) (read_all r (items_view left)) e f
+
+  -- or there is none
+  pub items_done : js ≡ [] → items_from js ≡ Ok (items_trees vs)
+  items_done h = ap items_from h ∙ ap Ok (joined-none vs)
+
+-- ---- an item of each format
+
+module _ (named : List ℕ → Data → Read Tree) (fs : List Format) (js : List Json) (vs : List Value) where
+  abbrev each_from : List Format → List Json → Read Trees
+  each_from gs ks = follow (read_each named (formats_shapes gs) (items_view ks)) (λ ts. Ok (joined vs ts))
+
+  each_is : (gs : List Format) (ks : List Json) → fs ≡ gs → js ≡ ks → each_from fs js ≡ each_from gs ks
+  each_is gs ks g h = ap (λ gs. each_from gs js) g ∙ ap (λ ks. each_from gs ks) h
+
+  -- the first item is read
+  pub each_more : (f : Format) (gs : List Format) (j : Json) (left : List Json) (v : Value) → fs ≡ f ∷ gs → js ≡ j ∷ left → read_shape named (shape_of f) (view j) ≡ Ok (tree_of v)
+      → each_from fs js ≡ follow (read_each named (formats_shapes gs) (items_view left)) (λ ts. Ok (joined (vs ++ v ∷ []) ts))
+  each_more f gs j left v g h e = each_is (f ∷ gs) (j ∷ left) g h ∙ row_more vs v (read_shape named (shape_of f) (view j)) (read_each named (formats_shapes gs) (items_view left)) e
+
+  -- or refused
+  pub each_fault : (f : Format) (gs : List Format) (j : Json) (left : List Json) (e : JsonFault) → fs ≡ f ∷ gs → js ≡ j ∷ left → read_shape named (shape_of f) (view j) ≡ Err e
+      → each_from fs js ≡ Err e
+  each_fault f gs j left e g h k = each_is (f ∷ gs) (j ∷ left) g h ∙ row_fault vs (read_shape named (shape_of f) (view j)) (read_each named (formats_shapes gs) (items_view left)) e k
+
+  -- or it isn't there
+  pub each_missing : (f : Format) (gs : List Format) → fs ≡ f ∷ gs → js ≡ [] → each_from fs js ≡ Err BadShape
+  each_missing f gs g h = each_is (f ∷ gs) [] g h
+
+  -- or no format is left
+  pub each_done : fs ≡ [] → each_from fs js ≡ Ok (items_trees vs)
+  each_done g = ap (λ gs. each_from gs js) g ∙ ap Ok (joined-none vs)

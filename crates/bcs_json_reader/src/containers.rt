@@ -1,0 +1,134 @@
+//! What stands in containers.
+ghost use Rattle.std.specs.Prelude.{◌≡◌, Some, map};
+ghost use Rattle.serde_json.specs.View.{view};
+ghost use Rattle.bcs_registry_formats.specs.Container.{container_at, enumeration};
+ghost use Rattle.bcs_registry_formats.specs.Ranges.{IsOrderly};
+ghost use Rattle.bcs_registry_formats.specs.View.{field_of, payload_of, choice_of};
+ghost use Rattle.bcs_registry_formats.specs.WellFormed.{IsWellFormed};
+ghost use Rattle.bcs_value_tree.specs.View.{tree_of};
+ghost use Rattle.bcs_json_laws.specs.JsonContent.{json_content_at, payload_content};
+ghost use Rattle.bcs_json_laws.specs.Reading as spec;
+ghost use Rattle.bcs_json_laws.specs.Reading.{Tells, read_data};
+
+use crate::parts::read_fields;
+use crate::reading::{read, read_tuple};
+use crate::variants::{read_word, variant_called};
+use bcs_json_faults::JsonFault;
+use bcs_json_leaves::leaves::read_unit;
+use bcs_json_leaves::parts::only_member;
+use bcs_registry::{Container, Format, Named, Registry, VariantFormat};
+use bcs_value_tree::Value;
+use serde_json::Value as Json;
+use std::alloc::Global;
+use std::collections::BTreeMap;
+
+/// The container of this name.
+#[cycle(reading)]
+pub(crate) fn read_named(
+    json: Json,
+    name: &str,
+    registry: &Registry,
+    left: u32,
+    alloc: Global,
+) -> Result<Value, JsonFault>
+    ensures { Tells tree_of result (spec.read_named registry.now left name.now (view json)) }
+{
+    if left == 0 {
+        return Err(JsonFault::TooDeep);
+    }
+    let value = read_content(json, name, registry, left - 1, alloc)?;
+    Ok(Value::Named(Box::new(alloc, value)?))
+}
+
+/// What stands in the container of this name.
+#[cycle(reading)]
+fn read_content(
+    json: Json,
+    name: &str,
+    registry: &Registry,
+    left: u32,
+    alloc: Global,
+) -> Result<Value, JsonFault>
+    ensures { Tells tree_of result (read_data registry.now left (json_content_at name.now registry.now) (view json)) }
+{
+    let Some(container) = registry.container(name) else {
+        return Err(JsonFault::BadShape);
+    };
+    match container {
+        Container::UnitStruct => read_unit(json),
+        Container::NewTypeStruct(format) => read(json, format, registry, left, alloc),
+        Container::TupleStruct(formats) => read_tuple(json, formats, registry, left, alloc),
+        Container::Struct(fields) => read_struct(json, fields, registry, left, alloc),
+        Container::Enum(variants) => read_enum(json, name, variants, registry, left, alloc),
+    }
+}
+
+/// An object of exactly the fields.
+#[cycle(reading)]
+fn read_struct(
+    json: Json,
+    fields: &[Named<Format>],
+    registry: &Registry,
+    left: u32,
+    alloc: Global,
+) -> Result<Value, JsonFault>
+    ensures { Tells tree_of result (spec.read_struct (spec.read_named registry.now left) (map field_of fields.now) (view json)) }
+{
+    match json {
+        Json::Object(members) => {
+            Ok(Value::Items(read_fields(members, fields, registry, left, alloc)?))
+        }
+        _ => Err(JsonFault::BadShape),
+    }
+}
+
+/// A unit variant's name, or an object with one member, the variant's name with its payload.
+#[cycle(reading)]
+fn read_enum(
+    json: Json,
+    name: &str,
+    variants: &BTreeMap<u32, Named<VariantFormat>>,
+    registry: &Registry,
+    left: u32,
+    alloc: Global,
+) -> Result<Value, JsonFault>
+    requires stands { container_at name.now registry.now ≡ Some (enumeration (map choice_of variants.now.entries)) }
+    requires well_formed { IsWellFormed registry.now }
+    requires orderly { IsOrderly registry.now }
+    ensures { Tells tree_of result (spec.read_enum (spec.read_named registry.now left) (map choice_of variants.now.entries) (view json)) }
+{
+    match json {
+        Json::String(word) => read_word(registry, name, variants, word, alloc),
+        Json::Object(members) => {
+            let Some((word, part)) = only_member(members) else {
+                return Err(JsonFault::BadShape);
+            };
+            let Some((number, variant)) = variant_called(registry, name, variants, word.as_str())
+            else {
+                return Err(JsonFault::UnknownVariant);
+            };
+            let value = read_payload(part, &variant.value, registry, left, alloc)?;
+            Ok(Value::Variant(number, Box::new(alloc, value)?))
+        }
+        _ => Err(JsonFault::BadShape),
+    }
+}
+
+/// What a variant carries.
+#[cycle(reading)]
+fn read_payload(
+    json: Json,
+    payload: &VariantFormat,
+    registry: &Registry,
+    left: u32,
+    alloc: Global,
+) -> Result<Value, JsonFault>
+    ensures { Tells tree_of result (spec.read_part (spec.read_named registry.now left) (payload_content (payload_of payload.now)) (view json)) }
+{
+    match payload {
+        VariantFormat::Unit => read_unit(json),
+        VariantFormat::NewType(format) => read(json, format, registry, left, alloc),
+        VariantFormat::Tuple(formats) => read_tuple(json, formats, registry, left, alloc),
+        VariantFormat::Struct(fields) => read_struct(json, fields, registry, left, alloc),
+    }
+}

@@ -1,0 +1,7 @@
+//! Reading a value's JSON.
+#![tactic(auto)]
+
+mod containers;
+mod parts;
+pub mod reading;
+mod variants;

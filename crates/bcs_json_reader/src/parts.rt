@@ -1,0 +1,108 @@
+//! The parts of a value in their order, until the first fault.
+ghost use Rattle.std.specs.Prelude.{map};
+ghost use Rattle.serde_json.specs.View.{items_view, members_view};
+ghost use Rattle.bcs_registry_formats.specs.View.{shape_of, formats_shapes, field_of};
+ghost use Rattle.bcs_value_tree.specs.View.{items_trees, entries_pairs};
+ghost use Rattle.bcs_json_laws.specs.JsonContent.{of};
+ghost use Rattle.bcs_json_laws.specs.Reading as spec;
+ghost use Rattle.bcs_json_laws.specs.Reading.{Tells, read_data};
+
+use crate::reading::read;
+use bcs_json_faults::JsonFault;
+use bcs_json_leaves::parts::{pair_of, take_member};
+use bcs_registry::{Format, Named, Registry};
+use bcs_value_tree::Value;
+use serde_json::{Map, Value as Json};
+use std::alloc::Global;
+
+/// The items in order, each a value of the one format.
+#[cycle(reading)]
+pub(crate) fn read_all(
+    items: Vec<Json>,
+    element: &Format,
+    registry: &Registry,
+    left: u32,
+    alloc: Global,
+) -> Result<Vec<Value>, JsonFault>
+    ensures { Tells (λ v. items_trees v.items) result
+        (spec.read_all (read_data registry.now left (of (shape_of element.now))) (items_view items.items)) }
+{
+    let mut found = Vec::with_capacity(alloc, items.len())?;
+    for item in items {
+        found.push(read(item, element, registry, left, alloc)?)?;
+    }
+    Ok(found)
+}
+
+/// An item of each format in turn.
+#[cycle(reading)]
+pub(crate) fn read_each(
+    items: Vec<Json>,
+    formats: &[Format],
+    registry: &Registry,
+    left: u32,
+    alloc: Global,
+) -> Result<Vec<Value>, JsonFault>
+    ensures { Tells (λ v. items_trees v.items) result
+        (spec.read_each (spec.read_named registry.now left) (formats_shapes formats.now) (items_view items.items)) }
+{
+    let mut found = Vec::with_capacity(alloc, formats.len())?;
+    let mut rest = items.into_iter();
+    for format in formats {
+        let Some(item) = rest.next() else {
+            return Err(JsonFault::BadShape);
+        };
+        found.push(read(item, format, registry, left, alloc)?)?;
+    }
+    Ok(found)
+}
+
+/// The items in order, each an array of a key and its value.
+#[cycle(reading)]
+pub(crate) fn read_pairs(
+    items: Vec<Json>,
+    key: &Format,
+    content: &Format,
+    registry: &Registry,
+    left: u32,
+    alloc: Global,
+) -> Result<Vec<(Value, Value)>, JsonFault>
+    ensures { Tells (λ v. entries_pairs v.items) result
+        (spec.read_pairs (read_data registry.now left (of (shape_of key.now))) (read_data registry.now left (of (shape_of content.now))) (items_view items.items)) }
+{
+    let mut found = Vec::with_capacity(alloc, items.len())?;
+    for item in items {
+        let (first, second) = pair_of(item)?;
+        let name = read(first, key, registry, left, alloc)?;
+        let value = read(second, content, registry, left, alloc)?;
+        found.push((name, value))?;
+    }
+    Ok(found)
+}
+
+/// A value of each field in turn, whose member is taken away. Then no member may be left.
+#[cycle(reading)]
+pub(crate) fn read_fields(
+    members: Map<String, Json>,
+    fields: &[Named<Format>],
+    registry: &Registry,
+    left: u32,
+    alloc: Global,
+) -> Result<Vec<Value>, JsonFault>
+    ensures { Tells (λ v. items_trees v.items) result
+        (spec.read_fields (spec.read_named registry.now left) (map field_of fields.now) (members_view members.entries)) }
+{
+    let mut members = members;
+    let mut found = Vec::with_capacity(alloc, fields.len())?;
+    for field in fields {
+        let Some(member) = take_member(&mut members, field.name.as_str()) else {
+            return Err(JsonFault::MissingField);
+        };
+        found.push(read(member, &field.value, registry, left, alloc)?)?;
+    }
+    if members.is_empty() {
+        Ok(found)
+    } else {
+        Err(JsonFault::UnknownField)
+    }
+}

@@ -1,0 +1,174 @@
+//! Reading a value's JSON, front to back. Each call takes its JSON and gives the value of the tree that it spells, or the
+//! first fault.
+ghost use Rattle.serde_json.specs.View.{view};
+ghost use Rattle.bcs_registry_formats.specs.View.{shape_of, formats_shapes};
+ghost use Rattle.bcs_registry_formats.specs.Shape.{tuple as tuple_shape};
+ghost use Rattle.bcs_value_tree.specs.View.{tree_of};
+ghost use Rattle.bcs_json_laws.specs.Bytes.{is_byte};
+ghost use Rattle.bcs_json_laws.specs.JsonContent.{of};
+ghost use Rattle.bcs_json_laws.specs.Reading as spec;
+ghost use Rattle.bcs_json_laws.specs.Reading.{Tells, read_data};
+
+use crate::containers::read_named;
+use crate::parts::{read_all, read_each, read_pairs};
+use bcs_json_faults::JsonFault;
+use bcs_json_leaves::hexadecimal::{read_byte_array, read_byte_text, read_bytes};
+use bcs_json_leaves::leaves::{read_signed, read_text, read_truth, read_unit, read_unsigned};
+use bcs_json_leaves::parts::only_member;
+use bcs_num::Width;
+use bcs_registry::{Format, Registry};
+use bcs_value_tree::Value;
+use serde_json::Value as Json;
+use std::alloc::Global;
+
+/// The value that the JSON spells at a format, where so many containers may open.
+#[cycle(reading)]
+pub fn read(
+    json: Json,
+    format: &Format,
+    registry: &Registry,
+    left: u32,
+    alloc: Global,
+) -> Result<Value, JsonFault>
+    ensures { Tells tree_of result (read_data registry.now left (of (shape_of format.now)) (view json)) }
+{
+    match format {
+        Format::Unit => read_unit(json),
+        Format::Bool => read_truth(json),
+        Format::U8 => read_unsigned(Width::W1, json),
+        Format::U16 => read_unsigned(Width::W2, json),
+        Format::U32 => read_unsigned(Width::W4, json),
+        Format::U64 => read_unsigned(Width::W8, json),
+        Format::U128 => read_unsigned(Width::W16, json),
+        Format::I8 => read_signed(Width::W1, json),
+        Format::I16 => read_signed(Width::W2, json),
+        Format::I32 => read_signed(Width::W4, json),
+        Format::I64 => read_signed(Width::W8, json),
+        Format::I128 => read_signed(Width::W16, json),
+        Format::F32 | Format::F64 | Format::Char => Err(JsonFault::Unsupported),
+        Format::Str => read_text(json),
+        Format::Bytes => read_bytes(alloc, json),
+        Format::TypeName(name) => read_named(json, name.as_str(), registry, left, alloc),
+        Format::Opt(content) => read_option(json, content, registry, left, alloc),
+        Format::Seq(element) => read_list(json, element, registry, left, alloc),
+        Format::Map(key, content) => read_map(json, key, content, registry, left, alloc),
+        Format::Tuple(formats) => read_tuple(json, formats, registry, left, alloc),
+        Format::TupleArray(element, size) => {
+            read_array(json, element, *size, registry, left, alloc)
+        }
+    }
+}
+
+/// `null`, or an object with the one member `some`.
+#[cycle(reading)]
+fn read_option(
+    json: Json,
+    content: &Format,
+    registry: &Registry,
+    left: u32,
+    alloc: Global,
+) -> Result<Value, JsonFault>
+    ensures { Tells tree_of result (spec.read_option (read_data registry.now left (of (shape_of content.now))) (view json)) }
+{
+    match json {
+        Json::Null => Ok(Value::Absent),
+        Json::Object(members) => {
+            let Some((name, part)) = only_member(members) else {
+                return Err(JsonFault::BadShape);
+            };
+            if name.as_str() != "some" {
+                return Err(JsonFault::BadShape);
+            }
+            let value = read(part, content, registry, left, alloc)?;
+            Ok(Value::Present(Box::new(alloc, value)?))
+        }
+        _ => Err(JsonFault::BadShape),
+    }
+}
+
+/// An array, or hexadecimal digits where the elements are bytes.
+#[cycle(reading)]
+fn read_list(
+    json: Json,
+    element: &Format,
+    registry: &Registry,
+    left: u32,
+    alloc: Global,
+) -> Result<Value, JsonFault>
+    ensures { Tells tree_of result
+        (spec.read_seq (is_byte (shape_of element.now)) (read_data registry.now left (of (shape_of element.now))) (view json)) }
+{
+    match json {
+        Json::Array(items) => Ok(Value::Items(read_all(items, element, registry, left, alloc)?)),
+        Json::String(text) => Ok(Value::Items(read_byte_text(alloc, element, text)?)),
+        _ => Err(JsonFault::BadShape),
+    }
+}
+
+/// An array of so many elements, or so many bytes by hexadecimal digits.
+#[cycle(reading)]
+fn read_array(
+    json: Json,
+    element: &Format,
+    size: u64,
+    registry: &Registry,
+    left: u32,
+    alloc: Global,
+) -> Result<Value, JsonFault>
+    ensures { Tells tree_of result
+        (spec.read_array (is_byte (shape_of element.now)) size (read_data registry.now left (of (shape_of element.now))) (view json)) }
+{
+    match json {
+        Json::Array(items) => {
+            if items.len() as u64 != size {
+                return Err(JsonFault::BadShape);
+            }
+            Ok(Value::Items(read_all(items, element, registry, left, alloc)?))
+        }
+        Json::String(text) => Ok(Value::Items(read_byte_array(alloc, element, size, text)?)),
+        _ => Err(JsonFault::BadShape),
+    }
+}
+
+/// An array of a value of each format.
+#[cycle(reading)]
+pub(crate) fn read_tuple(
+    json: Json,
+    formats: &[Format],
+    registry: &Registry,
+    left: u32,
+    alloc: Global,
+) -> Result<Value, JsonFault>
+    ensures { Tells tree_of result (read_data registry.now left (of (tuple_shape (formats_shapes formats.now))) (view json)) }
+{
+    match json {
+        Json::Array(items) => {
+            if items.len() != formats.len() {
+                return Err(JsonFault::BadShape);
+            }
+            Ok(Value::Items(read_each(items, formats, registry, left, alloc)?))
+        }
+        _ => Err(JsonFault::BadShape),
+    }
+}
+
+/// An array of keys with their values.
+#[cycle(reading)]
+fn read_map(
+    json: Json,
+    key: &Format,
+    content: &Format,
+    registry: &Registry,
+    left: u32,
+    alloc: Global,
+) -> Result<Value, JsonFault>
+    ensures { Tells tree_of result
+        (spec.read_map (read_data registry.now left (of (shape_of key.now))) (read_data registry.now left (of (shape_of content.now))) (view json)) }
+{
+    match json {
+        Json::Array(items) => {
+            Ok(Value::Pairs(read_pairs(items, key, content, registry, left, alloc)?))
+        }
+        _ => Err(JsonFault::BadShape),
+    }
+}
