@@ -4,13 +4,13 @@ use Rattle.std.specs.Option.{option_map_or}
 use Rattle.std.proofs.lemmas.Bool.{and_parts}
 use Rattle.bcs_registry_formats.specs.Shape.{Shape, Shapes, tuple as tuple_shape}
 use Rattle.bcs_registry_formats.specs.Container as container
-use Rattle.bcs_registry_formats.specs.Container.{Field, Choice, Container, newtype_struct, tuple_struct, field_struct, enumeration, Entries, container_at, content, content_at, choice_at, field_shapes, payload_shape}
+use Rattle.bcs_registry_formats.specs.Container.{Field, Choice, Container, newtype_struct, tuple_struct, field_struct, enumeration, Entries, container_at, content, content_at, choice_at, field_shapes, payload_shape, choice_called}
 use Rattle.bcs_registry_formats.specs.Ranges.{IsOrderly}
 use Rattle.bcs_registry_formats.specs.View.{container_of}
 use Rattle.bcs_registry_formats.specs.WellFormed.{IsWellFormed, levels, shapes_levels}
 use Rattle.bcs_registry_formats.specs.declared.container.Container as declared
 use Rattle.bcs_registry_formats.proofs.Admitted.{content_at-inside, choice_at-inside}
-use Rattle.bcs_json_laws.specs.JsonContent.{nothing, json_content, json_content_at, choice_called}
+use Rattle.bcs_json_laws.specs.JsonContent.{nothing, json_content, json_content_at}
 use Rattle.bcs_json_laws.proofs.Fitting.{numbering_at, called_numbered}
 use Rattle.bcs_json_laws.proofs.Numbering.{numbers_differ, numbers_fit, has_numbering, orderly_numbering}
 

@@ -1,9 +1,8 @@
 //! An enum's variants by their names.
 ghost use Rattle.std.specs.Prelude.{◌≡◌, Some, map, option_map, string_bytes};
-ghost use Rattle.bcs_registry_formats.specs.Container.{container_at, enumeration};
+ghost use Rattle.bcs_registry_formats.specs.Container.{container_at, enumeration, choice_called};
 ghost use Rattle.bcs_registry_formats.specs.View.{choice_of};
 ghost use Rattle.bcs_value_tree.specs.View.{tree_of};
-ghost use Rattle.bcs_json_laws.specs.JsonContent.{choice_called};
 ghost use Rattle.bcs_json_laws.specs.Reading as spec;
 ghost use Rattle.bcs_json_laws.specs.Reading.{Tells};
 

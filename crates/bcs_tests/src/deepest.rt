@@ -1,10 +1,12 @@
 //! The deepest values that there are: 500 containers, in each a variant, a row of fields and 32 levels of a format.
 use crate::building::{items, map, named, present, variant};
-use crate::calls::{Question, accepts};
+use bcs_decode::pieces::PieceSource;
+use bcs_decode::{decode_all, decode_from, decode_slice, scan};
 use bcs_encode::{canonicalise, encode, encode_by_entries};
-use bcs_registry::{Registry, RegistryFault};
+use bcs_registry::{Format, Registry, RegistryFault};
 use bcs_value::{Limits, Value, depth, has_format, nodes};
-use std::alloc::{AllocError, Global};
+use std::alloc::{AllocError, AllocGlobal, Global};
+use std::process::Abort;
 use std::test::Fail;
 
 // What stands in each other at each level of a deep value.
@@ -50,6 +52,10 @@ fn deep_registry(alloc: Global, level: Level) -> Result<Registry, RegistryFault>
     Registry::read(alloc, text.as_bytes())
 }
 
+fn deep_format(alloc: Global, registry: &Registry) -> Result<Format, RegistryFault> {
+    registry.read_format(alloc, br#"{"TYPENAME":"D"}"#)
+}
+
 // 500 containers of that enum. The innermost option is absent.
 fn deepest_value(alloc: Global, level: Level) -> Result<Value, AllocError> {
     let mut value = Value::Absent;
@@ -77,49 +83,137 @@ fn deepest_bytes(alloc: Global) -> Result<Vec<u8>, AllocError> {
     Ok(bytes)
 }
 
-#[test]
-fn encoding_takes_the_deepest_value(rt: HostRuntime) -> Result<(), Fail> {
-    let alloc = rt.alloc();
-    let registry = deep_registry(alloc, Level::Option)?;
-    let format = registry.read_format(alloc, br#"{"TYPENAME":"D"}"#)?;
-    let value = deepest_value(alloc, Level::Option)?;
-    assert!(rt; has_format(&registry, &format, &value));
-    assert_eq!(rt; depth(&value), 500);
-    assert_eq!(rt; nodes(&value), 17_500);
-    let bytes = encode(alloc, &registry, &format, &Limits::standard(), &value)?;
-    assert!(rt; bytes == deepest_bytes(alloc)?);
-    let by_entries = encode_by_entries(alloc, &registry, &format, &Limits::standard(), &value)?;
-    assert!(rt; by_entries == bytes);
+// The encoding is that of the deepest values.
+fn encodes(
+    rt: &(impl Abort + AllocGlobal),
+    registry: &Registry,
+    format: &Format,
+    value: &Value,
+) -> Result<(), Fail> {
+    let bytes = encode(rt.alloc(), registry, format, &Limits::standard(), value)?;
+    assert!(rt; bytes == deepest_bytes(rt.alloc())?);
     Ok(())
 }
 
+fn encodes_by_entries(
+    rt: &(impl Abort + AllocGlobal),
+    registry: &Registry,
+    format: &Format,
+    value: &Value,
+) -> Result<(), Fail> {
+    let bytes = encode_by_entries(rt.alloc(), registry, format, &Limits::standard(), value)?;
+    assert!(rt; bytes == deepest_bytes(rt.alloc())?);
+    Ok(())
+}
+
+#[test]
+fn encoding_takes_the_deepest_value(rt: HostRuntime) -> Result<(), Fail> {
+    let registry = deep_registry(rt.alloc(), Level::Option)?;
+    let format = deep_format(rt.alloc(), &registry)?;
+    let value = deepest_value(rt.alloc(), Level::Option)?;
+    assert!(rt; has_format(&registry, &format, &value));
+    assert!(rt; depth(&value) == 500);
+    assert!(rt; nodes(&value) == 17_500);
+    encodes(&rt, &registry, &format, &value)?;
+    encodes_by_entries(&rt, &registry, &format, &value)
+}
+
 // The form is compared by its bytes, which needs less of the stack than a walk over both values.
+fn forms(rt: &(impl Abort + AllocGlobal), level: Level) -> Result<(), Fail> {
+    let registry = deep_registry(rt.alloc(), level)?;
+    let format = deep_format(rt.alloc(), &registry)?;
+    let value = deepest_value(rt.alloc(), level)?;
+    let form = canonicalise(rt.alloc(), &registry, &format, &Limits::standard(), &value)?;
+    encodes(rt, &registry, &format, &form)
+}
+
 #[test]
 fn canonicalise_takes_the_deepest_value(rt: HostRuntime) -> Result<(), Fail> {
-    let alloc = rt.alloc();
     for level in [Level::Option, Level::List, Level::MapValue, Level::MapKey] {
-        let registry = deep_registry(alloc, level)?;
-        let format = registry.read_format(alloc, br#"{"TYPENAME":"D"}"#)?;
-        let value = deepest_value(alloc, level)?;
-        let form = canonicalise(alloc, &registry, &format, &Limits::standard(), &value)?;
-        let bytes = encode(alloc, &registry, &format, &Limits::standard(), &form)?;
-        assert!(rt; bytes == deepest_bytes(alloc)?);
+        forms(&rt, level)?;
+    }
+    Ok(())
+}
+
+// The whole is a value of the format, by `scan` and from a slice.
+fn decodes(
+    rt: &(impl Abort + AllocGlobal),
+    registry: &Registry,
+    format: &Format,
+    bytes: &[u8],
+) -> Result<(), Fail> {
+    assert!(rt; registry.admits(format));
+    let limits = Limits::standard();
+    assert!(rt; scan(registry, format, &limits, bytes) == Ok(bytes.len()));
+    let (_, taken) = decode_slice(rt.alloc(), registry, format, &limits, bytes)?;
+    assert!(rt; taken == bytes.len());
+    Ok(())
+}
+
+// The front of a source is a value with that encoding, and no byte more is given.
+fn decodes_front(
+    rt: &(impl Abort + AllocGlobal),
+    registry: &Registry,
+    format: &Format,
+    bytes: &[u8],
+    piece: usize,
+) -> Result<(), Fail> {
+    assert!(rt; 1 <= piece && registry.admits(format));
+    let mut source = PieceSource::new(bytes, piece, None);
+    let value = decode_from(
+        rt.alloc(),
+        registry,
+        format,
+        &Limits::standard(),
+        &mut source,
+    )?;
+    assert!(rt; source.given() == bytes.len() as u64, "by {piece}");
+    let again = encode(rt.alloc(), registry, format, &Limits::standard(), &value)?;
+    assert!(rt; again.as_slice() == bytes, "by {piece}");
+    Ok(())
+}
+
+fn decodes_whole(
+    rt: &(impl Abort + AllocGlobal),
+    registry: &Registry,
+    format: &Format,
+    bytes: &[u8],
+    piece: usize,
+) -> Result<(), Fail> {
+    assert!(rt; 1 <= piece && registry.admits(format));
+    let mut source = PieceSource::new(bytes, piece, None);
+    decode_all(
+        rt.alloc(),
+        registry,
+        format,
+        &Limits::standard(),
+        &mut source,
+    )?;
+    assert!(rt; source.given() == bytes.len() as u64, "by {piece}");
+    Ok(())
+}
+
+// Each call decodes the deepest value of the level, in pieces of 1, 2 and 3 bytes and whole.
+fn decodes_however(
+    rt: &(impl Abort + AllocGlobal),
+    level: Level,
+    bytes: &[u8],
+) -> Result<(), Fail> {
+    let registry = deep_registry(rt.alloc(), level)?;
+    let format = deep_format(rt.alloc(), &registry)?;
+    decodes(rt, &registry, &format, bytes)?;
+    for piece in [1, 2, 3, 65536] {
+        decodes_front(rt, &registry, &format, bytes, piece)?;
+        decodes_whole(rt, &registry, &format, bytes, piece)?;
     }
     Ok(())
 }
 
 #[test]
 fn decoding_takes_the_deepest_value(rt: HostRuntime) -> Result<(), Fail> {
-    let alloc = rt.alloc();
-    let bytes = deepest_bytes(alloc)?;
+    let bytes = deepest_bytes(rt.alloc())?;
     for level in [Level::Option, Level::List, Level::MapValue, Level::MapKey] {
-        let registry = deep_registry(alloc, level)?;
-        let question = Question {
-            registry: &registry,
-            format: &registry.read_format(alloc, br#"{"TYPENAME":"D"}"#)?,
-            limits: &Limits::standard(),
-        };
-        accepts(&rt, &question, bytes.as_slice(), bytes.len())?;
+        decodes_however(&rt, level, bytes.as_slice())?;
     }
     Ok(())
 }

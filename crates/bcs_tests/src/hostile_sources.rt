@@ -3,71 +3,117 @@ use bcs_decode::pieces::{PieceSource, RepeatSource};
 use bcs_decode::{ByteSource, DecodeFault, Reason, Stop, decode_all, decode_from};
 use bcs_registry::Registry;
 use bcs_value::{Limits, Value};
+use std::alloc::AllocGlobal;
+use std::process::Abort;
 use std::test::Fail;
 
 const LINKED: &[u8] = br#"{"L": {"STRUCT": [{"next": {"OPTION": {"TYPENAME": "L"}}}]}}"#;
 
-// Endless bytes end the reading.
-#[test]
-fn endless_sources(rt: HostRuntime) -> Result<(), Fail> {
-    let alloc = rt.alloc();
-    let registry = Registry::read(alloc, LINKED)?;
-    let limits = Limits::standard();
-    let number = registry.read_format(alloc, br#""U32""#)?;
-    let mut zeros = RepeatSource::new(0);
-    assert!(rt; decode_from(alloc, &registry, &number, &limits, &mut zeros).is_ok());
-    assert_eq!(rt; zeros.given(), 4);
-    let bytes = registry.read_format(alloc, br#""BYTES""#)?;
-    let large = Stop {
-        reason: Reason::NumberTooLarge,
-        place: 0,
-    };
+// Endless bytes end the reading at this stop.
+fn stops_endless(
+    rt: &(impl Abort + AllocGlobal),
+    format: &str,
+    byte: u8,
+    reason: Reason,
+    place: u64,
+) -> Result<(), Fail> {
+    let registry = Registry::read(rt.alloc(), LINKED)?;
+    let format = registry.read_format(rt.alloc(), format.as_bytes())?;
+    let mut source = RepeatSource::new(byte);
     let answer = decode_from(
-        alloc,
+        rt.alloc(),
         &registry,
-        &bytes,
-        &limits,
-        &mut RepeatSource::new(128),
-    )
-    .err();
-    assert_eq!(rt; answer, Some(DecodeFault::Stop(large)));
-    let list = registry.read_format(alloc, br#"{"TYPENAME":"L"}"#)?;
-    let deep = Stop {
-        reason: Reason::TooDeep,
-        place: 500,
-    };
-    let answer = decode_from(alloc, &registry, &list, &limits, &mut RepeatSource::new(1)).err();
-    assert_eq!(rt; answer, Some(DecodeFault::Stop(deep)));
+        &format,
+        &Limits::standard(),
+        &mut source,
+    );
+    assert!(rt; answer.err() == Some(DecodeFault::Stop(Stop { reason, place })));
     Ok(())
 }
 
-// The source gives a byte a call, and its second call fails.
 #[test]
-fn reads_fail_only_where_a_byte_is_wanted(rt: HostRuntime) -> Result<(), Fail> {
-    let alloc = rt.alloc();
-    let registry = Registry::read(alloc, b"{}")?;
-    let limits = Limits::standard();
-    let number = registry.read_format(alloc, br#""I16""#)?;
-    let mut source = PieceSource::new(b"\xcc\xed", 1, Some(2));
-    let cut = decode_from(alloc, &registry, &number, &limits, &mut source).err();
-    assert_eq!(rt; cut, Some(DecodeFault::Read));
-    assert!(rt; source.failed());
-    let truth = registry.read_format(alloc, br#""BOOL""#)?;
-    let mut source = PieceSource::new(b"\x01", 1, Some(2));
-    let front = decode_from(alloc, &registry, &truth, &limits, &mut source)?;
-    assert!(rt; matches!(front, Value::Bool(true)));
-    assert!(rt; !source.failed());
-    let mut source = PieceSource::new(b"\x01", 1, Some(2));
-    let whole = decode_all(alloc, &registry, &truth, &limits, &mut source).err();
-    assert_eq!(rt; whole, Some(DecodeFault::Read));
-    assert!(rt; source.failed());
-    let mut source = PieceSource::new(b"\x02", 1, Some(2));
+fn endless_sources(rt: HostRuntime) -> Result<(), Fail> {
+    stops_endless(&rt, r#""BYTES""#, 128, Reason::NumberTooLarge, 0)?;
+    stops_endless(&rt, r#"{"TYPENAME":"L"}"#, 1, Reason::TooDeep, 500)
+}
+
+#[test]
+fn a_number_of_an_endless_source(rt: HostRuntime) -> Result<(), Fail> {
+    let registry = Registry::read(rt.alloc(), LINKED)?;
+    let number = registry.read_format(rt.alloc(), br#""U32""#)?;
+    let mut zeros = RepeatSource::new(0);
+    let answer = decode_from(
+        rt.alloc(),
+        &registry,
+        &number,
+        &Limits::standard(),
+        &mut zeros,
+    );
+    assert!(rt; answer.is_ok());
+    assert!(rt; zeros.given() == 4);
+    Ok(())
+}
+
+// What decoding gives of a source that gives a byte a call and whose second call fails, and whether that was made.
+fn front(
+    rt: &(impl Abort + AllocGlobal),
+    format: &str,
+    bytes: &[u8],
+) -> Result<(Result<Value, DecodeFault>, bool), Fail> {
+    let registry = Registry::read(rt.alloc(), b"{}")?;
+    let format = registry.read_format(rt.alloc(), format.as_bytes())?;
+    let mut source = PieceSource::new(bytes, 1, Some(2));
+    let answer = decode_from(
+        rt.alloc(),
+        &registry,
+        &format,
+        &Limits::standard(),
+        &mut source,
+    );
+    Ok((answer, source.failed()))
+}
+
+#[test]
+fn reads_fail_where_a_byte_is_wanted(rt: HostRuntime) -> Result<(), Fail> {
+    let (cut, failed) = front(&rt, r#""I16""#, b"\xcc\xed")?;
+    assert!(rt; cut.err() == Some(DecodeFault::Read));
+    assert!(rt; failed);
+    Ok(())
+}
+
+#[test]
+fn a_front_wants_no_byte_after_it(rt: HostRuntime) -> Result<(), Fail> {
+    let (whole, failed) = front(&rt, r#""BOOL""#, b"\x01")?;
+    assert!(rt; matches!(whole, Ok(Value::Bool(true))));
+    assert!(rt; !failed);
+    Ok(())
+}
+
+#[test]
+fn a_stop_wants_no_byte_after_it(rt: HostRuntime) -> Result<(), Fail> {
+    let (refused, failed) = front(&rt, r#""BOOL""#, b"\x02")?;
     let bad = Stop {
         reason: Reason::BadBool,
         place: 0,
     };
-    let refused = decode_from(alloc, &registry, &truth, &limits, &mut source).err();
-    assert_eq!(rt; refused, Some(DecodeFault::Stop(bad)));
-    assert!(rt; !source.failed());
+    assert!(rt; refused.err() == Some(DecodeFault::Stop(bad)));
+    assert!(rt; !failed);
+    Ok(())
+}
+
+#[test]
+fn a_whole_wants_a_byte_after_it(rt: HostRuntime) -> Result<(), Fail> {
+    let registry = Registry::read(rt.alloc(), b"{}")?;
+    let format = registry.read_format(rt.alloc(), br#""BOOL""#)?;
+    let mut source = PieceSource::new(b"\x01", 1, Some(2));
+    let answer = decode_all(
+        rt.alloc(),
+        &registry,
+        &format,
+        &Limits::standard(),
+        &mut source,
+    );
+    assert!(rt; answer.err() == Some(DecodeFault::Read));
+    assert!(rt; source.failed());
     Ok(())
 }

@@ -1,11 +1,12 @@
 //! Large values, and values of many levels.
 use crate::building::{chain, items, map, named, present};
-use crate::encoding::CONTAINERS;
 use bcs_encode::{encode, encode_by_entries};
 use bcs_registry::{Registry, RegistryFault};
 use bcs_value::{Limits, Value};
 use std::alloc::{AllocError, Global};
 use std::test::Fail;
+
+const LINKED: &[u8] = br#"{"L": {"STRUCT": [{"next": {"OPTION": {"TYPENAME": "L"}}}]}}"#;
 
 /// A map of the numbers below `len`, in falling order.
 fn falling(alloc: Global, len: u32) -> Result<Value, AllocError> {
@@ -19,7 +20,7 @@ fn falling(alloc: Global, len: u32) -> Result<Value, AllocError> {
 #[test]
 fn encode_takes_500_containers(rt: HostRuntime) -> Result<(), Fail> {
     let alloc = rt.alloc();
-    let registry = Registry::read(alloc, CONTAINERS.as_bytes())?;
+    let registry = Registry::read(alloc, LINKED)?;
     let format = registry.read_format(alloc, r#"{"TYPENAME":"L"}"#.as_bytes())?;
     let value = chain(alloc, 500)?;
     let bytes = encode(alloc, &registry, &format, &Limits::standard(), &value)?;

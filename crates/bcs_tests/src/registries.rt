@@ -78,3 +78,16 @@ fn many_containers(rt: HostRuntime) -> Result<(), Fail> {
     assert!(rt; registry.container("C99999").is_some());
     Ok(())
 }
+
+#[test]
+fn admitted_levels(rt: HostRuntime) -> Result<(), Fail> {
+    let registry = Registry::read(rt.alloc(), b"{}")?;
+    let mut lists = Format::U8;
+    for _ in 0..32 {
+        lists = Format::Seq(Box::new(rt.alloc(), lists)?);
+    }
+    assert!(rt; registry.admits(&lists));
+    lists = Format::Seq(Box::new(rt.alloc(), lists)?);
+    assert!(rt; !registry.admits(&lists));
+    Ok(())
+}

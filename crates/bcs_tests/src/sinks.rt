@@ -91,12 +91,12 @@ fn write_sink_writes_no_more_after_a_failure(rt: HostRuntime) -> Result<(), Fail
         let mut sink = WriteSink::new(&mut writer);
         for count in counts {
             let answer = count.filter(|count| *count > 0).ok_or(SinkFailed);
-            assert_eq!(rt; sink.put(b"abc"), answer, "{counts:?}");
-            assert_eq!(rt; sink.failed(), answer.is_err(), "{counts:?}");
+            assert!(rt; sink.put(b"abc") == answer);
+            assert!(rt; sink.failed() == answer.is_err());
         }
-        assert_eq!(rt; sink.put(b"abc"), Err(SinkFailed), "{counts:?}");
-        assert_eq!(rt; sink.put(b""), Err(SinkFailed), "{counts:?}");
-        assert_eq!(rt; writer.calls, counts.len(), "{counts:?}");
+        assert!(rt; sink.put(b"abc") == Err(SinkFailed));
+        assert!(rt; sink.put(b"") == Err(SinkFailed));
+        assert!(rt; writer.calls == counts.len());
     }
     Ok(())
 }

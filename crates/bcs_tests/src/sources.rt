@@ -1,6 +1,6 @@
 //! Where bytes come from.
 use bcs_decode::pieces::{PieceSource, RepeatSource};
-use bcs_decode::{ByteSource, DecodeFault, ReadSource, Reason, SliceSource, SourceFailed, Stop};
+use bcs_decode::{ByteSource, ReadSource, SliceSource, SourceFailed};
 use std::io;
 use std::io::{ErrorKind, Read};
 use std::test::Fail;
@@ -104,47 +104,12 @@ fn read_source_reads_no_more_after_a_failure(rt: HostRuntime) -> Result<(), Fail
         let mut buf = [0u8; 4];
         for count in counts {
             let answer = count.ok_or(SourceFailed);
-            assert_eq!(rt; source.next(&mut buf), answer, "{counts:?}");
-            assert_eq!(rt; source.failed(), answer.is_err(), "{counts:?}");
+            assert!(rt; source.next(&mut buf) == answer);
+            assert!(rt; source.failed() == answer.is_err());
         }
-        assert_eq!(rt; source.next(&mut buf), Err(SourceFailed), "{counts:?}");
-        assert_eq!(rt; source.next(&mut []), Err(SourceFailed), "{counts:?}");
-        assert_eq!(rt; reader.calls, counts.len(), "{counts:?}");
-    }
-    Ok(())
-}
-
-#[test]
-fn messages(rt: HostRuntime) -> Result<(), Fail> {
-    for (reason, name) in [
-        (Reason::EndOfInput, "EndOfInput"),
-        (Reason::BadBool, "BadBool"),
-        (Reason::BadOption, "BadOption"),
-        (Reason::LongForm, "LongForm"),
-        (Reason::NumberTooLarge, "NumberTooLarge"),
-        (Reason::LengthTooLarge, "LengthTooLarge"),
-        (Reason::UnknownVariant, "UnknownVariant"),
-        (Reason::BadUtf8, "BadUtf8"),
-        (Reason::KeyOrder, "KeyOrder"),
-        (Reason::KeyRepeated, "KeyRepeated"),
-        (Reason::TooDeep, "TooDeep"),
-        (Reason::TrailingBytes, "TrailingBytes"),
-        (Reason::TooManyNodes, "TooManyNodes"),
-        (Reason::Unsupported, "Unsupported"),
-    ] {
-        assert_eq!(rt; reason.name(), name);
-        assert_eq!(rt; format!(in rt.alloc(); "{reason}")?.as_str(), name);
-    }
-    let stop = Stop {
-        reason: Reason::BadBool,
-        place: 1,
-    };
-    for (fault, name) in [
-        (DecodeFault::Stop(stop), "Stop"),
-        (DecodeFault::Read, "Read"),
-        (DecodeFault::OutOfMemory, "OutOfMemory"),
-    ] {
-        assert_eq!(rt; format!(in rt.alloc(); "{fault}")?.as_str(), name);
+        assert!(rt; source.next(&mut buf) == Err(SourceFailed));
+        assert!(rt; source.next(&mut []) == Err(SourceFailed));
+        assert!(rt; reader.calls == counts.len());
     }
     Ok(())
 }

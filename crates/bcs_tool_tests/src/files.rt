@@ -1,5 +1,6 @@
 //! Files that are named, and the work of jobs.
-use bcs_tool::{Command, FileFault, Job, TakeFault, read_named, read_work};
+use bcs_tool::{Command, FileFault, Job, TakeFault, Work, read_named, read_work};
+use std::alloc::{AllocError, Global};
 use std::fs;
 use std::test::Fail;
 
@@ -16,11 +17,9 @@ fn named_files(rt: HostRuntime) -> Result<(), Fail> {
     Ok(())
 }
 
-#[test]
-fn works_of_jobs(rt: HostRuntime) -> Result<(), Fail> {
-    fs::write(&rt, "bcs_tool_second.test", b"newer".as_slice())?;
-    let alloc = rt.alloc();
-    let job = Job {
+// A job whose second word names a file.
+fn job(alloc: Global) -> Result<Job, AllocError> {
+    Ok(Job {
         command: Command::Grows,
         registry: String::from_str(alloc, "{}")?,
         second: String::from_str(alloc, "bcs_tool_second.test")?,
@@ -28,16 +27,25 @@ fn works_of_jobs(rt: HostRuntime) -> Result<(), Fail> {
         path: String::from_str(alloc, "P")?,
         file: Some(String::from_str(alloc, "I")?),
         raw: true,
-    };
-    let (work, file) = read_work(&rt, job)?;
-    assert_eq!(rt; work.command, Command::Grows);
-    assert_eq!(rt; work.registry.as_slice(), b"{}".as_slice());
-    assert_eq!(rt; work.second.as_slice(), b"newer".as_slice());
-    assert_eq!(rt;
-        (work.format.as_str(), work.path.as_str(), work.raw),
-        ("F", "P", true)
-    );
-    assert!(rt; matches!(&file, Some(name) if name.as_str() == "I"));
+    })
+}
+
+// The job's work, where the file holds `newer`.
+fn is_work(work: &Work) -> bool {
+    work.command == Command::Grows
+        && work.registry.as_slice() == b"{}".as_slice()
+        && work.second.as_slice() == b"newer".as_slice()
+        && work.format.as_str() == "F"
+        && work.path.as_str() == "P"
+        && work.raw
+}
+
+#[test]
+fn works_of_jobs(rt: HostRuntime) -> Result<(), Fail> {
+    fs::write(&rt, "bcs_tool_second.test", b"newer".as_slice())?;
+    let (work, file) = read_work(&rt, job(rt.alloc())?)?;
+    assert!(rt; is_work(&work));
+    assert!(rt; file.as_deref() == Some("I"));
     fs::remove_file(&rt, "bcs_tool_second.test")?;
     Ok(())
 }

@@ -1,4 +1,4 @@
-//! What no clause of `line` says: that it gives jobs at all, and the texts of help and usage.
+//! Command lines where a request for memory may be refused. Rows have the jobs and the texts themselves.
 use bcs_tool::{Command, Job, LineFault, line};
 use std::alloc::{AllocError, Global};
 
@@ -86,17 +86,6 @@ fn is_as_asked(job: &Job, asked: &Asked) -> bool {
         && job.raw == asked.raw
 }
 
-#[test]
-fn words_give_their_job(rt: HostRuntime) {
-    for asked in JOBS {
-        let words = asked.words;
-        match line_of(rt.alloc(), words) {
-            Ok(job) => assert!(rt; is_as_asked(&job, &asked), "at {words:?}"),
-            Err(fault) => assert!(rt; false, "{fault} at {words:?}"),
-        }
-    }
-}
-
 // A refusal may come anywhere, also in the words of the test itself.
 #[test]
 fn refused_memory_changes_no_job(rt: HostRuntime) {
@@ -112,82 +101,17 @@ fn refused_memory_changes_no_job(rt: HostRuntime) {
     }
 }
 
-fn is_usage(answer: &Result<Job, LineFault>, part: &str) -> bool {
-    match answer {
-        Err(LineFault::Usage(text)) => text.as_str().contains(part),
-        _ => false,
-    }
-}
-
-fn is_help(answer: &Result<Job, LineFault>, part: &str) -> bool {
-    match answer {
-        Err(LineFault::Help(text)) => text.as_str().contains(part),
-        _ => false,
-    }
-}
-
-// Words that give no job, and a part of the text.
-#[derive(Clone, Copy)]
-struct Told {
-    words: &'static [&'static str],
-    part: &'static str,
-}
-
-const NO_COMMANDS: [Told; 5] = [
-    Told {
-        words: &[],
-        part: "requires a subcommand",
-    },
-    Told {
-        words: &["frobnicate"],
-        part: "'frobnicate'",
-    },
-    Told {
-        words: &["encode", "{}"],
-        part: "<FORMAT>",
-    },
-    Told {
-        words: &["check", "{}", "extra"],
-        part: "'extra'",
-    },
-    Told {
-        words: &["check", "{}", "--raw"],
-        part: "'--raw'",
-    },
+// Words that give no job, but the text of usage or of help.
+const NO_JOBS: [&[&str]; 8] = [
+    &[],
+    &["frobnicate"],
+    &["encode", "{}"],
+    &["check", "{}", "extra"],
+    &["check", "{}", "--raw"],
+    &["--help"],
+    &["help", "encode"],
+    &["encode", "--help"],
 ];
-
-const HELPS: [Told; 3] = [
-    Told {
-        words: &["--help"],
-        part: "Commands:",
-    },
-    Told {
-        words: &["help", "encode"],
-        part: "<FORMAT>",
-    },
-    Told {
-        words: &["encode", "--help"],
-        part: "<FORMAT>",
-    },
-];
-
-#[test]
-fn other_words_are_told_why(rt: HostRuntime) {
-    for told in NO_COMMANDS {
-        let words = told.words;
-        let answer = line_of(rt.alloc(), words);
-        assert!(rt; is_usage(&answer, told.part), "at {words:?}");
-    }
-}
-
-#[test]
-fn help_is_given(rt: HostRuntime) {
-    for told in HELPS {
-        let words = told.words;
-        let answer = line_of(rt.alloc(), words);
-        assert!(rt; is_help(&answer, told.part), "at {words:?}");
-    }
-}
 
 fn is_same_text(one: &Result<Job, LineFault>, other: &Result<Job, LineFault>) -> bool {
     match (one, other) {
@@ -203,10 +127,10 @@ fn is_same_text(one: &Result<Job, LineFault>, other: &Result<Job, LineFault>) ->
 // it has one.
 #[test]
 fn refused_memory_cuts_no_text(rt: HostRuntime) {
-    for told in NO_COMMANDS.iter().chain(HELPS.iter()) {
-        let one = line_of(rt.alloc(), told.words);
-        let other = line_of(rt.alloc(), told.words);
-        assert!(rt; is_same_text(&one, &other), "at {:?}", told.words);
+    for words in NO_JOBS {
+        let one = line_of(rt.alloc(), words);
+        let other = line_of(rt.alloc(), words);
+        assert!(rt; is_same_text(&one, &other), "at {words:?}");
     }
 }
 

@@ -4,13 +4,13 @@ use Rattle.std.proofs.lemmas.List.{drop_more, drop_all, nil_from_length}
 use Rattle.std.proofs.lemmas.Result.{err_from_is_err_and}
 use Rattle.serde_json.specs.Find.{get_member}
 use Rattle.serde_json.specs.View.{view, items_view, members_view}
-use Rattle.bcs_registry_formats.specs.Container.{Choice, field_shapes, payload_shape}
+use Rattle.bcs_registry_formats.specs.Container.{Choice, field_shapes, payload_shape, choice_called}
 use Rattle.bcs_registry_formats.specs.View.{shape_of, formats_shapes, field_of, payload_of, choice_of}
 use Rattle.bcs_registry_formats.specs.WellFormed.{levels, shapes_levels}
 use Rattle.bcs_value_tree.specs.View.{tree_of}
 use Rattle.bcs_value_tree.specs.declared.value.Value.{Value}
 use Rattle.bcs_json_laws.specs.Bytes.{is_byte}
-use Rattle.bcs_json_laws.specs.JsonContent.{of, choice_called}
+use Rattle.bcs_json_laws.specs.JsonContent.{of}
 use Rattle.bcs_json_laws.specs.Look.{without}
 use Rattle.bcs_json_laws.specs.Reading.{follow, read_data, read_all, read_each, read_pairs, read_fields, read_named}
 use Rattle.bcs_json_leaves.proofs.Joined.{joined}

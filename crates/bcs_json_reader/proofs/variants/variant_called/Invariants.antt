@@ -1,6 +1,6 @@
 use Rattle.std.proofs.Common.{◌≡◌, map}
 use Rattle.bcs_registry_formats.specs.View.{choice_of}
-use Rattle.bcs_json_laws.specs.JsonContent.{choice_called}
+use Rattle.bcs_registry_formats.specs.Container.{choice_called}
 use Rattle.bcs_json_reader.proofs.variants.variant_called.Given as goal
 
 -- what is left decides

@@ -1,0 +1,46 @@
+//! Bytes, each front of them, and each change of one of them.
+ghost use Rattle.std.specs.Prelude.{◌<◌, length};
+
+use crate::question::Question;
+use crate::row_fault::RowFault;
+use crate::verdicts::verdict;
+use std::alloc::Global;
+
+/// Asks each call at the bytes, at each front of them, and with each other byte at each place. Answers how often it asked.
+pub(crate) fn agreeing_changes(
+    alloc: Global,
+    question: &Question,
+    bytes: &[u8],
+) -> Result<u64, RowFault> {
+    let mut count = 0;
+    ask(alloc, question, bytes, &mut count)?;
+    for place in 0..bytes.len() {
+        ask(alloc, question, &bytes[..place], &mut count)?;
+        ask_changed(alloc, question, bytes, place, &mut count)?;
+    }
+    Ok(count)
+}
+
+fn ask(alloc: Global, question: &Question, bytes: &[u8], count: &mut u64) -> Result<(), RowFault> {
+    let _ = verdict(alloc, question, bytes)?;
+    *count = count.saturating_add(1);
+    Ok(())
+}
+
+// Asks with each other byte at the place.
+fn ask_changed(
+    alloc: Global,
+    question: &Question,
+    bytes: &[u8],
+    place: usize,
+    count: &mut u64,
+) -> Result<(), RowFault>
+    requires { place < length bytes.now }
+{
+    for step in 1..=255 {
+        let mut changed = Vec::from_slice(alloc, bytes)?;
+        changed[place] = changed[place].wrapping_add(step);
+        ask(alloc, question, changed.as_slice(), count)?;
+    }
+    Ok(())
+}

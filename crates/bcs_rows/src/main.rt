@@ -1,0 +1,35 @@
+//! Answers rows of tests: it reads one a line, and prints each with its answer behind it.
+#![tactic(auto)]
+
+mod changes;
+mod encodings;
+mod jobs;
+mod lines;
+mod numbers;
+mod question;
+mod registries;
+mod row_fault;
+mod rows;
+mod setting;
+mod value_words;
+mod values;
+mod verdicts;
+mod words;
+
+use crate::setting::Setting;
+use std::io;
+
+fn main(rt: HostRuntime) -> io::Result<()> {
+    let mut setting = Setting::empty(rt.alloc())?;
+    for line in rt.lines(rt.alloc()) {
+        let line = line?;
+        // Blank lines and lines of notes are printed as they stand.
+        if line.is_empty() || line.starts_with('#') {
+            println!(rt; "{line}")?;
+        } else {
+            let answer = rows::answer(rt.alloc(), &mut setting, line.as_str())?;
+            println!(rt; "{line} -> {answer}")?;
+        }
+    }
+    Ok(())
+}

@@ -1,0 +1,44 @@
+//! A format of a registry, and limits.
+
+use crate::row_fault::RowFault;
+use crate::words::number;
+use bcs_registry::{Format, Registry};
+use bcs_value::Limits;
+use std::alloc::Global;
+
+/// Values of which format of a registry are meant, and within which limits.
+#[derive(Drop)]
+pub(crate) struct Question {
+    pub registry: Registry,
+    pub format: Format,
+    pub limits: Limits,
+}
+
+impl Question {
+    /// The words after the format are none, or the limits' depth and nodes.
+    pub(crate) fn read(
+        alloc: Global,
+        registry: &[u8],
+        format: &str,
+        limits: &[&str],
+    ) -> Result<Question, RowFault> {
+        let registry = Registry::read(alloc, registry)?;
+        let format = registry.read_format(alloc, format.as_bytes())?;
+        match limits_of(limits) {
+            Some(limits) => Ok(Question {
+                registry,
+                format,
+                limits,
+            }),
+            None => Err(RowFault::NotUnderstood),
+        }
+    }
+}
+
+fn limits_of(words: &[&str]) -> Option<Limits> {
+    match words {
+        [] => Some(Limits::standard()),
+        [depth, nodes] => Limits::new(number(depth).ok()?, number(nodes).ok()?),
+        _ => None,
+    }
+}

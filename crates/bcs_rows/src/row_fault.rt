@@ -1,0 +1,50 @@
+//! Why a row has no answer.
+
+use bcs_registry::RegistryFault;
+use hex::FromHexError;
+use std::alloc::{AllocError, AllocFailed};
+use thiserror::Error;
+
+/// Why a row has no answer. Its message is printed in place of one.
+#[derive(Clone, Copy, Debug, Drop, PartialEq, Eq, Error)]
+pub(crate) enum RowFault {
+    /// The row's words ask nothing that there is.
+    #[error("not understood")]
+    NotUnderstood,
+    /// The registry or the format that the row is about is refused.
+    #[error("{0}")]
+    Registry(RegistryFault),
+    /// A call contradicts the others that the row asks.
+    #[error("{0} disagrees")]
+    Disagreement(&'static str),
+    /// Memory ran out.
+    #[error("out of memory")]
+    OutOfMemory,
+}
+
+impl From<AllocError> for RowFault {
+    fn from(_: AllocError) -> RowFault {
+        RowFault::OutOfMemory
+    }
+}
+
+impl<T: Drop> From<AllocFailed<T>> for RowFault {
+    fn from(_: AllocFailed<T>) -> RowFault {
+        RowFault::OutOfMemory
+    }
+}
+
+impl From<RegistryFault> for RowFault {
+    fn from(fault: RegistryFault) -> RowFault {
+        RowFault::Registry(fault)
+    }
+}
+
+impl From<FromHexError> for RowFault {
+    fn from(error: FromHexError) -> RowFault {
+        match error {
+            FromHexError::OutOfMemory => RowFault::OutOfMemory,
+            _ => RowFault::NotUnderstood,
+        }
+    }
+}

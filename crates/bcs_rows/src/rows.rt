@@ -1,0 +1,42 @@
+//! What a row may ask.
+
+use crate::row_fault::RowFault;
+use crate::setting::Setting;
+use crate::words::unrolled;
+use crate::{encodings, jobs, lines, numbers, registries, values, verdicts};
+use std::alloc::{AllocError, Global};
+
+/// The answer to a row, or why there is none.
+pub(crate) fn answer(
+    alloc: Global,
+    setting: &mut Setting,
+    row: &str,
+) -> Result<String, AllocError> {
+    match asked(alloc, setting, row) {
+        Ok(answer) => Ok(answer),
+        Err(fault) => format!(in alloc; "{fault}"),
+    }
+}
+
+// A row is words with a tab between each two. The first says what is asked.
+fn asked(alloc: Global, setting: &mut Setting, row: &str) -> Result<String, RowFault> {
+    let row = unrolled(alloc, row)?;
+    let words: Vec<&str> = row.split('\t').collect(alloc)?;
+    let Some((question, words)) = words.as_slice().split_first() else {
+        return Err(RowFault::NotUnderstood);
+    };
+    match *question {
+        "uleb" | "take_uleb" | "put" | "take" | "number" => {
+            numbers::answer(alloc, question, words)
+        }
+        "registry" | "format" | "print" | "grows" => {
+            registries::answer(alloc, setting, question, words)
+        }
+        "verdict" | "changes" => verdicts::answer(alloc, setting, question, words),
+        "values" | "fits" => values::answer(alloc, setting, question, words),
+        "encode" | "form" => encodings::answer(alloc, setting, question, words),
+        "line" | "usage" | "help" => lines::answer(alloc, question, words),
+        "bcs" => jobs::answer(alloc, words),
+        _ => Err(RowFault::NotUnderstood),
+    }
+}

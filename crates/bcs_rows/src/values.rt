@@ -1,0 +1,57 @@
+//! Rows on which values have which formats.
+
+use crate::question::Question;
+use crate::row_fault::RowFault;
+use crate::setting::Setting;
+use crate::value_words::values_of;
+use bcs_value::{Value, fits_loosely, has_format};
+use std::alloc::Global;
+
+pub(crate) fn answer(
+    alloc: Global,
+    setting: &mut Setting,
+    question: &str,
+    words: &[&str],
+) -> Result<String, RowFault> {
+    match (question, words) {
+        ("values", [text]) => values(alloc, setting, text),
+        ("fits", [format]) => fits(alloc, setting, format),
+        _ => Err(RowFault::NotUnderstood),
+    }
+}
+
+// How many values there are. The rows below are about them.
+fn values(alloc: Global, setting: &mut Setting, text: &str) -> Result<String, RowFault> {
+    setting.values = String::from_str(alloc, text)?;
+    let values = values_of(alloc, text)?;
+    Ok(format!(in alloc; "{}", values.len())?)
+}
+
+// A sign for each value.
+fn fits(alloc: Global, setting: &Setting, format: &str) -> Result<String, RowFault> {
+    let question = Question::read(alloc, &setting.registry, format, &[])?;
+    let mut signs = String::new(alloc);
+    for value in values_of(alloc, setting.values.as_str())? {
+        signs.push_str(sign(&question, &value)?)?;
+    }
+    Ok(signs)
+}
+
+// `+` of a value that has the format, `~` of one that has it loosely alone, and else `-`.
+fn sign(question: &Question, value: &Value) -> Result<&'static str, RowFault> {
+    let Question {
+        registry,
+        format,
+        ..
+    } = question;
+    if !registry.admits(format) {
+        return Err(RowFault::Disagreement("admits"));
+    }
+    let is_strict = has_format(registry, format, value);
+    match (is_strict, fits_loosely(registry, format, value)) {
+        (true, true) => Ok("+"),
+        (false, true) => Ok("~"),
+        (false, false) => Ok("-"),
+        (true, false) => Err(RowFault::Disagreement("fits_loosely")),
+    }
+}

@@ -1,0 +1,163 @@
+//! Rows on bytes: one verdict, asked of each call.
+ghost use Rattle.std.specs.Prelude.{◌≤◌};
+
+use crate::changes::agreeing_changes;
+use crate::question::Question;
+use crate::row_fault::RowFault;
+use crate::setting::Setting;
+use crate::words;
+use bcs_decode::pieces::PieceSource;
+use bcs_decode::{DecodeFault, Reason, Stop, decode_all, decode_from, decode_slice, scan};
+use bcs_encode::encode;
+use std::alloc::Global;
+
+pub(crate) fn answer(
+    alloc: Global,
+    setting: &Setting,
+    question: &str,
+    words: &[&str],
+) -> Result<String, RowFault> {
+    let [format, bytes, limits @ ..] = words else {
+        return Err(RowFault::NotUnderstood);
+    };
+    let asked = Question::read(alloc, &setting.registry, format, limits)?;
+    let bytes = words::bytes(alloc, bytes)?;
+    if question == "changes" {
+        let count = agreeing_changes(alloc, &asked, &bytes)?;
+        return Ok(format!(in alloc; "{count} agree")?);
+    }
+    match verdict(alloc, &asked, &bytes)? {
+        Ok(length) => Ok(format!(in alloc; "ok {length}")?),
+        Err(Stop { reason, place }) => Ok(format!(in alloc; "{reason} at {place}")?),
+    }
+}
+
+/// The length of the value that the bytes begin with, or where and why they stop being one: by `scan`, and all other
+/// calls have to give the same.
+pub(crate) fn verdict(
+    alloc: Global,
+    question: &Question,
+    bytes: &[u8],
+) -> Result<Result<usize, Stop>, RowFault> {
+    if !question.registry.admits(&question.format) {
+        return Err(RowFault::Disagreement("admits"));
+    }
+    let verdict = scan(
+        &question.registry,
+        &question.format,
+        &question.limits,
+        bytes,
+    );
+    if of_slice(alloc, question, bytes)? != verdict {
+        return Err(RowFault::Disagreement("decode_slice"));
+    }
+    agree_in_pieces(alloc, question, bytes, 1, verdict)?;
+    agree_in_pieces(alloc, question, bytes, 2, verdict)?;
+    agree_in_pieces(alloc, question, bytes, 3, verdict)?;
+    agree_in_pieces(alloc, question, bytes, 65536, verdict)?;
+    Ok(verdict)
+}
+
+fn of_slice(
+    alloc: Global,
+    question: &Question,
+    bytes: &[u8],
+) -> Result<Result<usize, Stop>, RowFault> {
+    if !question.registry.admits(&question.format) {
+        return Err(RowFault::Disagreement("admits"));
+    }
+    match decode_slice(
+        alloc,
+        &question.registry,
+        &question.format,
+        &question.limits,
+        bytes,
+    ) {
+        Ok((_, length)) => Ok(Ok(length)),
+        Err(DecodeFault::Stop(stop)) => Ok(Err(stop)),
+        Err(_) => Err(RowFault::OutOfMemory),
+    }
+}
+
+// A source that gives so many bytes a call has the verdict too, whether its front or its whole is asked for.
+fn agree_in_pieces(
+    alloc: Global,
+    question: &Question,
+    bytes: &[u8],
+    piece: usize,
+    verdict: Result<usize, Stop>,
+) -> Result<(), RowFault>
+    requires { 1 ≤ piece }
+{
+    if of_front(alloc, question, bytes, piece)? != verdict {
+        return Err(RowFault::Disagreement("decode_from"));
+    }
+    if !is_of_whole(alloc, question, bytes, piece, verdict) {
+        return Err(RowFault::Disagreement("decode_all"));
+    }
+    Ok(())
+}
+
+// The value's encoding has to be what the source gave, and no byte more.
+fn of_front(
+    alloc: Global,
+    question: &Question,
+    bytes: &[u8],
+    piece: usize,
+) -> Result<Result<usize, Stop>, RowFault>
+    requires { 1 ≤ piece }
+{
+    let Question {
+        registry,
+        format,
+        limits,
+    } = question;
+    if !registry.admits(format) {
+        return Err(RowFault::Disagreement("admits"));
+    }
+    let mut source = PieceSource::new(bytes, piece, None);
+    match decode_from(alloc, registry, format, limits, &mut source) {
+        Ok(value) => match encode(alloc, registry, format, limits, &value) {
+            Ok(again) if is_given(&source, bytes, &again) => Ok(Ok(again.len())),
+            _ => Err(RowFault::Disagreement("encode")),
+        },
+        Err(DecodeFault::Stop(stop)) => Ok(Err(stop)),
+        Err(_) => Err(RowFault::OutOfMemory),
+    }
+}
+
+fn is_given(source: &PieceSource, bytes: &[u8], front: &[u8]) -> bool {
+    bytes.starts_with(front) && source.given() == front.len() as u64
+}
+
+// The whole input is a value exactly if no byte follows, and one that does is taken.
+fn is_of_whole(
+    alloc: Global,
+    question: &Question,
+    bytes: &[u8],
+    piece: usize,
+    verdict: Result<usize, Stop>,
+) -> bool
+    requires { 1 ≤ piece }
+{
+    let Question {
+        registry,
+        format,
+        limits,
+    } = question;
+    if !registry.admits(format) {
+        return false;
+    }
+    let mut source = PieceSource::new(bytes, piece, None);
+    let fault = decode_all(alloc, registry, format, limits, &mut source).err();
+    match verdict {
+        Ok(length) if length == bytes.len() => fault.is_none() && source.given() == length as u64,
+        Ok(length) => {
+            let place = length as u64;
+            let reason = Reason::TrailingBytes;
+            let trailing = DecodeFault::Stop(Stop { reason, place });
+            fault == Some(trailing) && source.given() == place.saturating_add(1)
+        }
+        Err(stop) => fault == Some(DecodeFault::Stop(stop)),
+    }
+}
