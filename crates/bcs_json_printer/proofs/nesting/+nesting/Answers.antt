@@ -1,0 +1,72 @@
+use Rattle.std.proofs.Common.{◌∙◌, nat_le, map, Some, sym, ap, arith, rules, option_map}
+use Rattle.std.proofs.lemmas.Grind.{common_steps}
+use Rattle.std.specs.List.{list_all}
+use Rattle.serde_json.specs.Data.{depth}
+use Rattle.bcs_registry_formats.specs.View.{container_of, choice_of}
+use Rattle.bcs_registry_formats.specs.WellFormed.{are_distinct, container_names}
+use Rattle.bcs_value_tree.specs.View.{tree_of}
+use Rattle.bcs_value_tree.specs.declared.value.Value.{the_lemmas}
+use Rattle.bcs_json_laws.specs.JsonContent.{json_content, of}
+use Rattle.bcs_json_laws.specs.Shown.{shown, shown_choice}
+use Rattle.bcs_json_printer.proofs.ShownViews.{at_map, at_enum, at_struct, choice_named, choice-found, choice-missing}
+use Rattle.bcs_json_printer.proofs.DistinctFields.{container_distinct, payload_distinct}
+use Rattle.bcs_json_printer.proofs.ShownDepths.{le_zero, field_more, distinct_more}
+use Rattle.bcs_json_printer.proofs.nesting.+nesting.Goals as goal
+
+pub content_nests_within-variant_nests_within-requires : goal.content_nests_within-variant_nests_within-requires
+content_nests_within-variant_nests_within-requires t c =
+    let m = c.in-Enum-Variant in (
+      search (rules, the_lemmas),
+      payload_distinct (map choice_of m.variants.entries) (ap (λ k. list_all are_distinct (container_names (container_of k))) (sym m.is-0) ∙ c.requires.distinct)
+          m.number (choice_named c.in-Some.variant.now) (choice-found m.number m.variants.entries c.in-Some.variant c.get.result c.get.ensures.value c.in-Some.is),
+    )
+
+pub content_nests_within-returns-then-limit-gt0-2 : goal.content_nests_within-returns-then-limit-gt0-2
+content_nests_within-returns-then-limit-gt0-2 t c =
+    let m = c.in-Struct-Items in
+    let at = at_struct (λ t k. nat_le (depth (shown c.args.registry.now t (json_content k))) c.args.limit) c.args.value.now c.args.container.now m.fields m.items m.is-0 m.is-1 in
+    grind (arith, common_steps)
+
+pub content_nests_within-returns-in-Some : goal.content_nests_within-returns-in-Some
+content_nests_within-returns-in-Some t c =
+    let m = c.in-Enum-Variant in
+    let at = at_enum (λ t k. nat_le (depth (shown c.args.registry.now t (json_content k))) c.args.limit) c.args.value.now c.args.container.now m.variants m.number m.inner m.is-0 m.is-1 in
+    c.variant_nests_within.ensures
+    ∙ ap (λ v. nat_le (depth (shown_choice (shown c.args.registry.now (tree_of v)) (Some (choice_named c.in-Some.variant.now)))) c.args.limit) c.deref-in-Some.ensures
+    ∙ ap (λ o. nat_le (depth (shown_choice (shown c.args.registry.now (tree_of m.inner.value)) o)) c.args.limit)
+    (sym (choice-found m.number m.variants.entries c.in-Some.variant c.get.result c.get.ensures.value c.in-Some.is))
+    ∙ sym at
+
+pub content_nests_within-returns-in-None : goal.content_nests_within-returns-in-None
+content_nests_within-returns-in-None t c =
+    let m = c.in-Enum-Variant in
+    let at = at_enum (λ t k. nat_le (depth (shown c.args.registry.now t (json_content k))) c.args.limit) c.args.value.now c.args.container.now m.variants m.number m.inner m.is-0 m.is-1 in
+    le_zero c.args.limit ∙ ap (λ o. nat_le (depth (shown_choice (shown c.args.registry.now (tree_of m.inner.value)) o)) c.args.limit)
+    (sym (choice-missing m.number m.variants.entries c.get.result c.get.ensures.value c.in-None.is))
+    ∙ sym at
+
+pub fields_nest_within-returns-then-not-shown_nests_within : goal.fields_nest_within-returns-then-not-shown_nests_within
+fields_nest_within-returns-then-not-shown_nests_within t c =
+    let l = c.loop-i in
+    let more = field_more c.args.registry.now c.args.items.now c.args.fields.now l.i c.index-items-i.result c.index-fields-i.result c.args.limit (omega arith) (omega arith) c.index-items-i.is c.index-fields-i.is l.invariant.distinct in
+    sym (l.invariant.left ∙ more ∙ grind (arith, common_steps))
+
+pub fields_nest_within-loop-i-preserved : goal.fields_nest_within-loop-i-preserved
+fields_nest_within-loop-i-preserved t c =
+    let l = c.loop-i in
+    let more = field_more c.args.registry.now c.args.items.now c.args.fields.now l.i c.index-items-i.result c.index-fields-i.result c.args.limit (omega arith) (omega arith) c.index-items-i.is c.index-fields-i.is l.invariant.distinct in record {
+      left = l.invariant.left ∙ more ∙ grind (arith, common_steps);
+      distinct = distinct_more c.args.fields.now l.i c.index-fields-i.result (omega arith) c.index-fields-i.is l.invariant.distinct;
+    }
+
+pub shown_nests_within-content_nests_within-requires : goal.shown_nests_within-content_nests_within-requires
+shown_nests_within-content_nests_within-requires t c = (
+  search (rules, the_lemmas),
+  container_distinct c.args.registry.now c.container.ensures.well_formed c.as_str.result.now (container_of c.in-Some.container.now) (sym c.container.ensures.found ∙ ap (option_map (λ k. container_of k.now)) c.in-Some.is),
+)
+
+pub shown_nests_within-returns-then-limit-gt0-3 : goal.shown_nests_within-returns-then-limit-gt0-3
+shown_nests_within-returns-then-limit-gt0-3 t c =
+    let m = c.in-Pairs-Map in
+    let at = at_map (λ t s. nat_le (depth (shown c.args.registry.now t (of s))) c.args.limit) c.args.value.now c.args.format.now m.pairs m.key m.value m.is-0 m.is-1 in
+    grind (arith, common_steps)

@@ -1,0 +1,193 @@
+//! How deep the JSON nests that is shown of a value, without making it.
+ghost use Rattle.std.specs.Prelude.{◌≡◌, ◌||◌, Some, true, map, nat_le, string_bytes};
+ghost use Rattle.std.specs.List.{list_all};
+ghost use Rattle.serde_json.specs.Data.{array, depth, items_depth, members_depth};
+ghost use Rattle.bcs_registry_formats.specs.View.{container_of, field_of, formats_shapes, payload_of, shape_of};
+ghost use Rattle.bcs_registry_formats.specs.WellFormed.{are_distinct, container_names, payload_names};
+ghost use Rattle.bcs_value_tree.specs.View.{entries_pairs, items_trees, tree_of};
+ghost use Rattle.bcs_json_laws.specs.Bytes.{is_byte};
+ghost use Rattle.bcs_json_laws.specs.JsonContent.{json_content, of};
+ghost use Rattle.bcs_json_laws.specs.Shown.{shown, shown_all, shown_choice, shown_each, shown_fields, shown_pairs};
+
+use bcs_registry::{Container, Format, Named, Registry, VariantFormat};
+use bcs_value::Value;
+
+/// Whether arrays and objects nest at most `limit` deep in the JSON of the value. The walk goes as deep as they may,
+/// and as containers do.
+#[cycle(nesting)]
+pub fn shown_nests_within(value: &Value, format: &Format, registry: &Registry, limit: u32) -> bool
+    ensures { result ≡ nat_le (depth (shown registry.now (tree_of value.now) (of (shape_of format.now)))) limit }
+{
+    match (value, format) {
+        (Value::Present(inner), Format::Opt(content)) => {
+            0 < limit && shown_nests_within(inner, content, registry, limit - 1)
+        }
+        (Value::Items(items), Format::Seq(element)) => {
+            list_nests_within(items, element, registry, limit)
+        }
+        (Value::Items(items), Format::TupleArray(element, _)) => {
+            list_nests_within(items, element, registry, limit)
+        }
+        (Value::Items(items), Format::Tuple(formats)) => {
+            0 < limit && each_nests_within(items, formats, registry, limit - 1)
+        }
+        (Value::Pairs(pairs), Format::Map(key, value)) => {
+            0 < limit && pairs_nest_within(pairs, key, value, registry, limit - 1)
+        }
+        (Value::Named(inner), Format::TypeName(name)) => match registry.container(name.as_str()) {
+            Some(container) => content_nests_within(inner, container, registry, limit),
+            None => true,
+        },
+        (
+            Value::Unit
+            | Value::Bool(_)
+            | Value::Unsigned(_)
+            | Value::Signed(_)
+            | Value::Text(_)
+            | Value::Bytes(_)
+            | Value::Absent
+            | Value::Variant(..),
+            _,
+        ) => true,
+        _ => true,
+    }
+}
+
+/// The same of what stands in a container.
+#[cycle(nesting)]
+fn content_nests_within(
+    value: &Value,
+    container: &Container,
+    registry: &Registry,
+    limit: u32,
+) -> bool
+    requires distinct { list_all are_distinct (container_names (container_of container.now)) ≡ true }
+    ensures { result ≡ nat_le (depth (shown registry.now (tree_of value.now) (json_content (container_of container.now)))) limit }
+{
+    match (container, value) {
+        (Container::NewTypeStruct(format), _) => shown_nests_within(value, format, registry, limit),
+        (Container::TupleStruct(formats), Value::Items(items)) => {
+            0 < limit && each_nests_within(items, formats, registry, limit - 1)
+        }
+        (Container::Struct(fields), Value::Items(items)) => {
+            0 < limit && fields_nest_within(items, fields, registry, limit - 1)
+        }
+        (Container::Enum(variants), Value::Variant(number, inner)) => match variants.get(number) {
+            Some(variant) => variant_nests_within(inner, variant, registry, limit),
+            None => true,
+        },
+        _ => true,
+    }
+}
+
+/// The same of a variant: its name alone doesn't nest, and an object with what it carries does.
+#[cycle(nesting)]
+fn variant_nests_within(
+    value: &Value,
+    variant: &Named<VariantFormat>,
+    registry: &Registry,
+    limit: u32,
+) -> bool
+    requires distinct { list_all are_distinct (payload_names (payload_of variant.now.value)) ≡ true }
+    ensures { result ≡ nat_le (depth (shown_choice (shown registry.now (tree_of value.now))
+        (Some (string_bytes variant.now.name, payload_of variant.now.value)))) limit }
+{
+    match (&variant.value, value) {
+        (VariantFormat::Unit, _) => true,
+        (VariantFormat::NewType(format), _) => {
+            0 < limit && shown_nests_within(value, format, registry, limit - 1)
+        }
+        (VariantFormat::Tuple(formats), Value::Items(items)) => {
+            1 < limit && each_nests_within(items, formats, registry, limit - 2)
+        }
+        (VariantFormat::Struct(fields), Value::Items(items)) => {
+            1 < limit && fields_nest_within(items, fields, registry, limit - 2)
+        }
+        _ => 0 < limit,
+    }
+}
+
+/// The same of a list or an array: bytes are a string.
+#[cycle(nesting)]
+fn list_nests_within(items: &[Value], element: &Format, registry: &Registry, limit: u32) -> bool
+    ensures { result ≡ (is_byte (shape_of element.now)
+        || nat_le (depth (array (shown_all registry.now (items_trees items.now) (shape_of element.now)))) limit) }
+{
+    if matches!(element, Format::U8) {
+        return true;
+    }
+    0 < limit && all_nest_within(items, element, registry, limit - 1)
+}
+
+/// Whether each element of one format nests at most `limit` deep.
+#[cycle(nesting)]
+fn all_nest_within(items: &[Value], element: &Format, registry: &Registry, limit: u32) -> bool
+    ensures { result ≡ nat_le (items_depth (shown_all registry.now (items_trees items.now) (shape_of element.now))) limit }
+{
+    for item in items {
+        if !shown_nests_within(item, element, registry, limit) {
+            return false;
+        }
+    }
+    true
+}
+
+/// The same of the elements of a tuple.
+#[cycle(nesting)]
+fn each_nests_within(items: &[Value], formats: &[Format], registry: &Registry, limit: u32) -> bool
+    ensures { result ≡ nat_le (items_depth (shown_each registry.now (items_trees items.now) (formats_shapes formats.now))) limit }
+{
+    for (i, item) in items.iter().enumerate() {
+        if i >= formats.len() {
+            return true;
+        }
+        if !shown_nests_within(item, &formats[i], registry, limit) {
+            return false;
+        }
+    }
+    true
+}
+
+/// The same of the fields of a struct, whose names differ.
+#[cycle(nesting)]
+fn fields_nest_within(
+    items: &[Value],
+    fields: &[Named<Format>],
+    registry: &Registry,
+    limit: u32,
+) -> bool
+    requires distinct { are_distinct (map (λ f. f.0) (map field_of fields.now)) ≡ true }
+    ensures { result ≡ nat_le (members_depth (shown_fields registry.now (items_trees items.now) (map field_of fields.now))) limit }
+{
+    for (i, item) in items.iter().enumerate() {
+        if i >= fields.len() {
+            return true;
+        }
+        if !shown_nests_within(item, &fields[i].value, registry, limit) {
+            return false;
+        }
+    }
+    true
+}
+
+/// The same of a map's entries, each of which is an array.
+#[cycle(nesting)]
+fn pairs_nest_within(
+    pairs: &[(Value, Value)],
+    key: &Format,
+    value: &Format,
+    registry: &Registry,
+    limit: u32,
+) -> bool
+    ensures { result ≡ nat_le (items_depth (shown_pairs registry.now (entries_pairs pairs.now) (shape_of key.now) (shape_of value.now))) limit }
+{
+    for (k, v) in pairs {
+        if limit == 0
+            || !shown_nests_within(k, key, registry, limit - 1)
+            || !shown_nests_within(v, value, registry, limit - 1)
+        {
+            return false;
+        }
+    }
+    true
+}

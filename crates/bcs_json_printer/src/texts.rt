@@ -1,0 +1,30 @@
+//! The compact text of a value's JSON.
+ghost use Rattle.std.specs.Prelude.{◌≤◌, IfOk, string_bytes};
+ghost use Rattle.serde_json.specs.Data.{depth};
+ghost use Rattle.bcs_registry_formats.specs.View.{shape_of};
+ghost use Rattle.bcs_value_laws.specs.Fits.{Fits};
+ghost use Rattle.bcs_value_tree.specs.View.{tree_of};
+ghost use Rattle.bcs_json_laws.specs.JsonContent.{of};
+ghost use Rattle.bcs_json_laws.specs.Shown.{shown};
+ghost use Rattle.bcs_json_laws.specs.Texts.{IsReadAs, IsTextOf, nesting_limit};
+
+use crate::printing::into_json;
+use bcs_registry::{Format, Registry};
+use bcs_value::Value;
+use std::alloc::{AllocError, Global};
+
+/// The text of a value of the format, whose JSON nests within the limit. It is read as that JSON again. Fails only for
+/// want of memory.
+pub fn show(
+    value: Value,
+    format: &Format,
+    registry: &Registry,
+    alloc: Global,
+) -> Result<String, AllocError>
+    requires fits { Fits registry.now (shape_of format.now) (tree_of value) }
+    requires nests { depth (shown registry.now (tree_of value) (of (shape_of format.now))) ≤ nesting_limit }
+    ensures text { IfOk result (λ s. IsTextOf registry.now (shape_of format.now) (tree_of value) (string_bytes s)) }
+    ensures reads_back { IfOk result (λ s. IsReadAs (string_bytes s) (shown registry.now (tree_of value) (of (shape_of format.now)))) }
+{
+    into_json(value, format, registry, alloc)?.to_string(alloc)
+}

@@ -1,0 +1,6 @@
+//! The JSON of values without parts, and the small pieces of which the JSON of the others is made.
+#![tactic(auto)]
+
+pub mod hexadecimal;
+pub mod numbers;
+pub mod pieces;
