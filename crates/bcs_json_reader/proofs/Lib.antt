@@ -4,3 +4,4 @@ pub mod Rows
 pub mod PairRows
 pub mod FieldRows
 pub mod Names
+pub mod Called

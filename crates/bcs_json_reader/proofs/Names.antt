@@ -24,6 +24,12 @@ module _ (registry : Entries) (name : List ℕ) (o : Option (Bor declared.Contai
   pub json_content_missing : o ≡ None → json_content_at name registry ≡ nothing
   json_content_missing none = ap (λ p. option_map_or json_content p nothing) (sym found ∙ ap (option_map (λ c. container_of c.now)) none)
 
+-- an enum's numbers differ
+pub differ : (registry : Entries) (name : List ℕ) → IsOrderly registry → (cs : List Choice) → container_at name registry ≡ Some (enumeration cs) → numbers_differ cs ≡ true
+differ registry name orderly cs h =
+    (and_parts (numbers_differ cs) (numbers_fit cs)
+    (sym (ap (λ p. has_numbering (option_map_or json_content p nothing)) h) ∙ numbering_at name registry (orderly_numbering registry orderly))).0
+
 module _ (registry : Entries) (good : IsWellFormed registry) (name : List ℕ) where
   content_found : (c : Container) → container_at name registry ≡ Some c → content_at name registry ≡ content c
   content_found c h = ap (λ p. option_map_or content p container.nothing) h
@@ -39,12 +45,7 @@ module _ (registry : Entries) (good : IsWellFormed registry) (name : List ℕ) w
 
   -- what stands in a variant that was found by its name
   module _ (orderly : IsOrderly registry) (cs : List Choice) (h : container_at name registry ≡ Some (enumeration cs)) where
-    differ : numbers_differ cs ≡ true
-    differ =
-        (and_parts (numbers_differ cs) (numbers_fit cs)
-        (sym (ap (λ p. has_numbering (option_map_or json_content p nothing)) h) ∙ numbering_at name registry (orderly_numbering registry orderly))).0
-
     pub variant_levels : (word : List ℕ) (c : Choice) → choice_called word cs ≡ Some c → levels (payload_shape c.1.1) ≤ 33
     variant_levels word c called =
         (choice_at-inside registry good name cs (content_found (enumeration cs) h) c.0 (payload_shape c.1.1)
-        (ap (λ o. option_map_or (λ v. container.of (payload_shape v.1)) o container.nothing) (called_numbered word cs c differ called))).1
+        (ap (λ o. option_map_or (λ v. container.of (payload_shape v.1)) o container.nothing) (called_numbered word cs c (differ registry name orderly cs h) called))).1

@@ -1,6 +1,7 @@
 //! An enum's variants by their names.
 ghost use Rattle.std.specs.Prelude.{◌≡◌, Some, map, option_map, string_bytes};
 ghost use Rattle.bcs_registry_formats.specs.Container.{container_at, enumeration, choice_called};
+ghost use Rattle.bcs_registry_formats.specs.Ranges.{IsOrderly};
 ghost use Rattle.bcs_registry_formats.specs.View.{choice_of};
 ghost use Rattle.bcs_value_tree.specs.View.{tree_of};
 ghost use Rattle.bcs_json_laws.specs.Reading as spec;
@@ -15,20 +16,18 @@ use std::collections::BTreeMap;
 /// The variant of this name, with its number, in the enum that stands under `name`.
 #[inline(never)]
 pub(crate) fn variant_called<'a>(
-    _registry: &Registry,
-    _name: &str,
+    registry: &Registry,
+    name: &str,
     variants: &'a BTreeMap<u32, Named<VariantFormat>>,
     word: &str,
 ) -> Option<(u32, &'a Named<VariantFormat>)>
-    requires { container_at _name.now _registry.now ≡ Some (enumeration (map choice_of variants.now.entries)) }
+    requires stands { container_at name.now registry.now ≡ Some (enumeration (map choice_of variants.now.entries)) }
+    requires orderly { IsOrderly registry.now }
     ensures { option_map (λ v. choice_of (v.0, v.1.now)) result ≡ choice_called word.now (map choice_of variants.now.entries) }
 {
-    for (number, variant) in variants.iter() {
-        if variant.name.as_str() == word {
-            return Some((*number, variant));
-        }
-    }
-    None
+    let number = registry.variant_number(name, word)?;
+    let variant = variants.get(&number)?;
+    Some((number, variant))
 }
 
 /// A string that names a unit variant.
@@ -40,7 +39,8 @@ pub(crate) fn read_word(
     word: String,
     alloc: Global,
 ) -> Result<Value, JsonFault>
-    requires { container_at name.now registry.now ≡ Some (enumeration (map choice_of variants.now.entries)) }
+    requires stands { container_at name.now registry.now ≡ Some (enumeration (map choice_of variants.now.entries)) }
+    requires orderly { IsOrderly registry.now }
     ensures { Tells tree_of result (spec.read_word (choice_called (string_bytes word) (map choice_of variants.now.entries))) }
 {
     let Some((number, variant)) = variant_called(registry, name, variants, word.as_str()) else {
