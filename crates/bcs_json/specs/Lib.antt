@@ -1,0 +1,13 @@
+pub mod Printing
+pub mod Showing
+pub use Rattle.bcs_json_text.specs.Json
+pub use Rattle.bcs_json_laws.specs.JsonContent
+pub use Rattle.bcs_json_laws.specs.Look
+pub use Rattle.bcs_json_laws.specs.Numbers
+pub use Rattle.bcs_json_laws.specs.Bytes
+pub use Rattle.bcs_json_laws.specs.Spells
+pub use Rattle.bcs_json_laws.specs.Refuses
+pub use Rattle.bcs_json_laws.specs.Shown
+pub use Rattle.bcs_json_laws.specs.Texts
+pub use Rattle.bcs_json_laws.specs.Headline
+pub use Rattle.bcs_json_laws.specs.Laws

@@ -1,0 +1,32 @@
+//! Bytes of texts.
+ghost use Rattle.std.specs.Prelude.{◌≡◌, ◌≢◌, IfErr, IfOk};
+ghost use Rattle.bcs_registry_formats.specs.View.{shape_of};
+ghost use Rattle.bcs_value_tree.specs.Tree.{Tree};
+ghost use Rattle.bcs_json_laws.specs.Headline.{HasBytes};
+ghost use Rattle.bcs_json_laws.specs.Texts.{Denotes, RefusesText};
+ghost use Rattle.bcs_json_faults.specs.declared.json_fault.JsonFault.TheVariants.{OutOfMemory};
+
+use crate::spelling::spelled;
+use bcs_encode::encode;
+use bcs_json_faults::JsonFault;
+use bcs_registry::{Format, Registry};
+use bcs_value::Limits;
+use std::alloc::Global;
+
+/// The encoding of the value that a JSON text denotes. It is refused as by [`read_value`](crate::read_value).
+pub fn to_bcs(
+    alloc: Global,
+    registry: &Registry,
+    format: &Format,
+    limits: &Limits,
+    text: &[u8],
+) -> Result<Vec<u8>, JsonFault>
+    ensures bytes { IfOk result (λ b. HasBytes registry.now limits.now (shape_of format.now) text.now b.items) }
+    ensures fault { IfErr result (λ e. e ≢ OutOfMemory → RefusesText registry.now limits.now (shape_of format.now) text.now e) }
+    ensures memory { IfErr result (λ e. (t : Tree) → Denotes registry.now limits.now (shape_of format.now) text.now t → e ≡ OutOfMemory) }
+{
+    registry.recall();
+    let value = spelled(alloc, registry, format, limits, text)?;
+    let bytes = encode(alloc, registry, format, limits, &value)?;
+    Ok(bytes)
+}

@@ -1,0 +1,35 @@
+//! Whether two texts denote the same value.
+ghost use Rattle.std.specs.Prelude.{◌≡◌, ◌≢◌, ◌⊎◌, IfErr, IfOk};
+ghost use Rattle.bcs_registry_formats.specs.View.{shape_of};
+ghost use Rattle.bcs_json_laws.specs.Headline.{Compares};
+ghost use Rattle.bcs_json_laws.specs.Texts.{Denotes, RefusesText};
+ghost use Rattle.bcs_value_tree.specs.Tree.{Tree};
+ghost use Rattle.bcs_json_faults.specs.declared.json_fault.JsonFault.TheVariants.{OutOfMemory};
+
+use crate::bytes::to_bcs;
+use bcs_json_faults::JsonFault;
+use bcs_registry::{Format, Registry};
+use bcs_value::Limits;
+use std::alloc::Global;
+
+/// Whether two JSON texts denote equal values, maps being finite maps, which is whether their bytes are equal.
+///
+/// Each is refused as by [`read_value`](crate::read_value), a fault of the first before the second is read.
+pub fn compare(
+    alloc: Global,
+    registry: &Registry,
+    format: &Format,
+    limits: &Limits,
+    first: &[u8],
+    second: &[u8],
+) -> Result<bool, JsonFault>
+    ensures compares { IfOk result (λ answer. Compares registry.now limits.now (shape_of format.now) first.now second.now answer) }
+    ensures fault { IfErr result (λ e. e ≢ OutOfMemory
+        → RefusesText registry.now limits.now (shape_of format.now) first.now e
+        ⊎ (((t : Tree) × Denotes registry.now limits.now (shape_of format.now) first.now t)
+        × RefusesText registry.now limits.now (shape_of format.now) second.now e)) }
+{
+    let one = to_bcs(alloc, registry, format, limits, first)?;
+    let other = to_bcs(alloc, registry, format, limits, second)?;
+    Ok(one == other)
+}

@@ -1,0 +1,32 @@
+//! The value that a text spells.
+ghost use Rattle.std.specs.Prelude.{◌≢◌, IfErr, IfOk};
+ghost use Rattle.bcs_registry_formats.specs.View.{shape_of};
+ghost use Rattle.bcs_value_tree.specs.View.{tree_of};
+ghost use Rattle.bcs_json_laws.specs.Texts.{SpelledBy, RefusesText};
+ghost use Rattle.bcs_json_faults.specs.declared.json_fault.JsonFault.TheVariants.{OutOfMemory};
+
+use bcs_json_faults::JsonFault;
+use bcs_json_reader::reading::read;
+use bcs_json_text::{NESTING_LIMIT, nests_within, read_json};
+use bcs_registry::{Format, Registry};
+use bcs_value::{Limits, Value};
+use std::alloc::Global;
+
+/// The value that a text spells, its pairs as they stand there. It isn't judged yet: it may have too many nodes, too
+/// long lengths, or equal keys.
+pub(crate) fn spelled(
+    alloc: Global,
+    registry: &Registry,
+    format: &Format,
+    limits: &Limits,
+    text: &[u8],
+) -> Result<Value, JsonFault>
+    ensures spelled { IfOk result (λ v. SpelledBy registry.now limits.now (shape_of format.now) text.now (tree_of v)) }
+    ensures fault { IfErr result (λ e. e ≢ OutOfMemory → RefusesText registry.now limits.now (shape_of format.now) text.now e) }
+{
+    let json = read_json(alloc, text)?;
+    if !nests_within(&json, NESTING_LIMIT) {
+        return Err(JsonFault::TooNested);
+    }
+    read(json, format, registry, limits.depth(), alloc)
+}

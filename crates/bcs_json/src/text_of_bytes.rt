@@ -1,0 +1,60 @@
+//! Texts of bytes.
+ghost use Rattle.std.specs.Prelude.{string_bytes};
+ghost use Rattle.bcs_registry_formats.specs.View.{shape_of};
+ghost use Rattle.bcs_registry_formats.specs.WellFormed.{Admits};
+ghost use Rattle.bcs_json.specs.Showing.{DecodesWhole, Shows};
+
+use crate::from_fault::FromFault;
+use bcs_decode::{DecodeFault, Reason, Stop, decode_slice};
+use bcs_json_printer::nesting::shown_nests_within;
+use bcs_json_printer::texts::show;
+use bcs_json_text::NESTING_LIMIT;
+use bcs_registry::{Format, Registry};
+use bcs_value::{Limits, Value};
+use std::alloc::Global;
+
+/// The text of the one value whose bytes are the whole input. The bytes of that text are the input again.
+///
+/// `Stop`: the whole input is no value's bytes; it is the one stop. `TooNested`: it is, and the arrays and objects of
+/// its text would nest more than 100 deep.
+pub fn from_bcs(
+    alloc: Global,
+    registry: &Registry,
+    format: &Format,
+    limits: &Limits,
+    bytes: &[u8],
+) -> Result<String, FromFault>
+    requires { Admits registry.now (shape_of format.now) }
+    ensures { Shows registry.now limits.now (shape_of format.now) bytes.now result }
+{
+    registry.recall();
+    let value = whole_value(alloc, registry, format, limits, bytes)?;
+    if !shown_nests_within(&value, format, registry, NESTING_LIMIT) {
+        return Err(FromFault::TooNested);
+    }
+    let text = show(value, format, registry, alloc)?;
+    Ok(text)
+}
+
+// The value whose bytes are the whole input.
+fn whole_value(
+    alloc: Global,
+    registry: &Registry,
+    format: &Format,
+    limits: &Limits,
+    bytes: &[u8],
+) -> Result<Value, FromFault>
+    requires { Admits registry.now (shape_of format.now) }
+    ensures { DecodesWhole registry.now limits.now (shape_of format.now) bytes.now result }
+{
+    match decode_slice(alloc, registry, format, limits, bytes) {
+        Ok((value, length)) => if length == bytes.len() {
+            Ok(value)
+        } else {
+            Err(FromFault::Stop(Stop { reason: Reason::TrailingBytes, place: length as u64 }))
+        },
+        Err(DecodeFault::Stop(stop)) => Err(FromFault::Stop(stop)),
+        Err(DecodeFault::OutOfMemory) => Err(FromFault::OutOfMemory),
+        Err(DecodeFault::Read) => unreachable!(),
+    }
+}

@@ -1,0 +1,39 @@
+//! Texts of values.
+ghost use Rattle.std.specs.Prelude.{◌≢◌, IfErr, IfOk, string_bytes};
+ghost use Rattle.bcs_encode_laws.specs.declared.fault.EncodeFault.TheVariants.{OutOfMemory};
+ghost use Rattle.bcs_registry_formats.specs.View.{shape_of};
+ghost use Rattle.bcs_value_tree.specs.View.{tree_of};
+ghost use Rattle.bcs_json.specs.Printing.{Prints, PrintRefuses};
+ghost use Rattle.bcs_json.specs.declared.print_fault.PrintFault.TheVariants.{Encode};
+
+use crate::print_fault::PrintFault;
+use bcs_encode::canonicalise;
+use bcs_json_printer::nesting::shown_nests_within;
+use bcs_json_printer::texts::show;
+use bcs_json_text::NESTING_LIMIT;
+use bcs_registry::{Format, Registry};
+use bcs_value::{Limits, Value};
+use std::alloc::Global;
+
+/// The one text of a sound value: the compact JSON of its canonical form.
+///
+/// `Encode`: the value is refused as `encode` refuses it. `TooNested`: it is sound, and the arrays and objects of its
+/// text would nest more than 100 deep.
+pub fn print_value(
+    alloc: Global,
+    registry: &Registry,
+    format: &Format,
+    limits: &Limits,
+    value: &Value,
+) -> Result<String, PrintFault>
+    ensures prints { IfOk result (λ s. Prints registry.now limits.now (shape_of format.now) (tree_of value.now) (string_bytes s)) }
+    ensures fault { IfErr result (λ e. e ≢ Encode OutOfMemory → PrintRefuses registry.now limits.now (shape_of format.now) (tree_of value.now) e) }
+{
+    registry.recall();
+    let form = canonicalise(alloc, registry, format, limits, value)?;
+    if !shown_nests_within(&form, format, registry, NESTING_LIMIT) {
+        return Err(PrintFault::TooNested);
+    }
+    let text = show(form, format, registry, alloc)?;
+    Ok(text)
+}

@@ -1,0 +1,37 @@
+//! Values from texts.
+ghost use Rattle.std.specs.Prelude.{◌≡◌, ◌≢◌, IfErr, IfOk};
+ghost use Rattle.bcs_registry_formats.specs.View.{shape_of};
+ghost use Rattle.bcs_value_tree.specs.Tree.{Tree};
+ghost use Rattle.bcs_value_tree.specs.View.{tree_of};
+ghost use Rattle.bcs_json_laws.specs.Texts.{Denotes, RefusesText};
+ghost use Rattle.bcs_json_faults.specs.declared.json_fault.JsonFault.TheVariants.{OutOfMemory};
+
+use crate::spelling::spelled;
+use bcs_encode::encode;
+use bcs_json_faults::JsonFault;
+use bcs_registry::{Format, Registry};
+use bcs_value::{Limits, Value};
+use std::alloc::Global;
+
+/// The value that a JSON text denotes, its pairs as they stand in the text.
+///
+/// `NotJson`: `serde_json` doesn't read the text. `TooNested`: arrays and objects nest more than 100 deep. Then the
+/// JSON and the format are gone through together, and the first test that fails is the answer: `Unsupported`,
+/// `BadShape`, `BadNumber`, `BadHex`, `UnknownField`, `MissingField`, `UnknownVariant` or `TooDeep`. Then the whole
+/// value is judged: `TooManyNodes`, `TooLong`, `RepeatedKey`. A text that denotes a value is refused for memory alone.
+pub fn read_value(
+    alloc: Global,
+    registry: &Registry,
+    format: &Format,
+    limits: &Limits,
+    text: &[u8],
+) -> Result<Value, JsonFault>
+    ensures denotes { IfOk result (λ v. Denotes registry.now limits.now (shape_of format.now) text.now (tree_of v)) }
+    ensures fault { IfErr result (λ e. e ≢ OutOfMemory → RefusesText registry.now limits.now (shape_of format.now) text.now e) }
+    ensures memory { IfErr result (λ e. (t : Tree) → Denotes registry.now limits.now (shape_of format.now) text.now t → e ≡ OutOfMemory) }
+{
+    registry.recall();
+    let value = spelled(alloc, registry, format, limits, text)?;
+    encode(alloc, registry, format, limits, &value)?;
+    Ok(value)
+}
