@@ -8,6 +8,7 @@ ghost use Rattle.bcs_decode.specs.Whole.{AreKnown, DecodesAll, DecodesFrom, Deco
 use bcs_decode_keys::at::At;
 use bcs_decode_sources::ByteSource;
 use bcs_decode_stops::{DecodeFault, Reason, Stop};
+use bcs_decode_stream::reader::Reader;
 use bcs_decode_stream::values::value;
 use bcs_registry::{Format, Registry};
 use bcs_value::{Limits, Value};
@@ -106,15 +107,13 @@ fn front<S: ByteSource>(
         is_in_key: false,
         kept: Vec::new(alloc),
     };
-    let mut found = Value::Unit;
-    value(
+    let mut reader = Reader {
         alloc,
         registry,
-        format,
-        limits.depth(),
         source,
-        &mut at,
-        &mut found,
-    )?;
+        at: &mut at,
+    };
+    let mut found = Value::Unit;
+    value(&mut reader, format, limits.depth(), &mut found)?;
     Ok((found, at.place))
 }

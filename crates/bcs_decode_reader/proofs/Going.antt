@@ -1,10 +1,8 @@
 -- Steps over a source, one after another.
-use Rattle.std.proofs.Common.{◌≡◌, ℕ, ◌+◌, ◌-◌, ◌<◌, ◌≤◌, Bool, true, false, List, ◌++◌, length, take, drop, replicate, length-take-le, length-take, take-take, take_all, length-drop, take-add, Option, Some, None, Result, Ok, Err, IsErr, IfOk, refl, sym, ap, subst, ◌∙◌, arith, append_assoc}
+use Rattle.std.proofs.Common.{◌≡◌, ℕ, ◌+◌, ◌-◌, ◌<◌, ◌≤◌, Bool, true, false, List, ◌++◌, length, take, drop, replicate, length-take, take-take, take_all, length-drop, take-add, Option, Some, None, Result, Ok, Err, IsErr, IfOk, refl, sym, ap, subst, ◌∙◌, arith, append_assoc}
 use Rattle.std.specs.Io.KnownBytes.{Consumes, IsAtEnd}
 use Rattle.std.proofs.lemmas.Bool.{le-ltb, lt-ltb}
-use Rattle.std.proofs.lemmas.List.{length-replicate, take_at, drop_at, drop-drop, take-append-le, length-append, append-nil}
-use Rattle.std.proofs.Math.Seq.{take-append-add}
-use borrow.Rule.Slice.PartMut.{put_mid, post_of}
+use Rattle.std.proofs.lemmas.List.{length-replicate, take_at, drop_at, drop-drop, length-append, append-nil}
 use Rattle.bcs_decode_stops.specs.declared.reason.Reason.{Reason}
 use Rattle.bcs_decode_stops.specs.declared.reason.Reason.TheVariants.{EndOfInput}
 use Rattle.bcs_decode_stops.specs.declared.decode_fault.DecodeFault.{DecodeFault}

@@ -15,19 +15,22 @@ use std::alloc::{AllocError, Global};
 pub struct Entries {
     pub found: Vec<(Value, Value)>,
     pub key: Value,
+    /// How many entries the map has.
+    pub count: u64,
 }
 
 impl Entries {
     /// No entries, with room for so many, but for no more than bytes are known to come.
     #[inline(never)]
     pub fn with_room(alloc: Global, at: &At, count: u64) -> Result<Box<Entries>, AllocError>
+        ensures count { IfOk result (λ e. e.value.count ≡ count) }
         ensures empty { IfOk result (λ e. e.value.found.items ≡ []) }
         ensures room { IfOk result (λ e. vec_capacity e.value.found ≡ min count (at.now.known - at.now.place)) }
     {
         let mut found = Vec::new(alloc);
         make_room(alloc, &mut found, at, count)?;
         let key = Value::Unit;
-        Ok(Box::new(alloc, Entries { found, key })?)
+        Ok(Box::new(alloc, Entries { found, key, count })?)
     }
 }
 

@@ -1,13 +1,14 @@
 //! What stands in containers, from a source.
-ghost use Rattle.std.specs.Prelude.{◌≡◌, ℕ, ◌+◌, ◌<◌, ◌^◌, [], false, map};
+ghost use Rattle.std.specs.Prelude.{◌≡◌, [], map};
 ghost use Rattle.bcs_registry_formats.specs.Container.{content_at, field_shapes, payload_shape};
 ghost use Rattle.bcs_registry_formats.specs.View.{field_of, payload_of};
 ghost use Rattle.bcs_value_tree.specs.View.{tree_of, items_trees};
-ghost use Rattle.bcs_decode_reader.specs.Sees.{Sees, FailedIfRead, Goes, read, each, tuple_value, content_value, named_value};
+ghost use Rattle.bcs_decode_reader.specs.Sees.{read, each, tuple_value, content_value, named_value};
+ghost use Rattle.bcs_decode_stream.specs.Reads.{Ready, Reads};
 
+use crate::reader::Reader;
 use crate::rows::tuple;
 use crate::values::value;
-use bcs_decode_keys::at::At;
 use bcs_decode_reader::bytes::begin;
 use bcs_decode_reader::leaves::put_unit;
 use bcs_decode_reader::names::{enter, variant_number};
@@ -15,34 +16,26 @@ use bcs_decode_reader::room::make_room;
 use bcs_decode_reader::slots::finish;
 use bcs_decode_sources::ByteSource;
 use bcs_decode_stops::{DecodeFault, Reason, Stop};
-use bcs_registry::{Container, Format, Named, Registry, VariantFormat};
+use bcs_registry::{Container, Format, Named, VariantFormat};
 use bcs_value::Value;
 use bcs_value_tree::slot::{keep, wrap_named, wrap_variant};
-use std::alloc::Global;
 
 /// The container of this name.
 #[inline(never)]
 #[cycle(streaming)]
 #[tactic(auto, unfolding(bcs_decode_laws::specs::Reading::chain, bcs_decode_laws::specs::Reading::give, bcs_decode_reader::specs::Sees::named_value))]
 pub fn named<S: ByteSource>(
-    alloc: Global,
-    registry: &Registry,
+    reader: &mut Reader<'_, S>,
     name: &str,
     depth: u32,
-    source: &mut S,
-    at: &mut At,
     slot: &mut Value,
 ) -> Result<(), DecodeFault>
-    requires good { S.is_failed source.old ≡ false }
-    requires room { at.old.place + S.allowance source.old < 2 ^ 64 }
-    ensures sees { Sees (λ _. tree_of slot.new) result (S.content source.old) at.old (named_value registry.now depth name.now) at.new (S.content source.new) }
-    ensures failed { FailedIfRead result (S.is_failed source.new) }
-    ensures room { at.new.place + S.allowance source.new < 2 ^ 64 }
-    ensures goes { Goes result (S.content source.old) at.old (S.content source.new) at.new }
+    requires ready { Ready S.is_failed S.allowance reader.old }
+    ensures reads { Reads S.content S.is_failed S.allowance (λ _. tree_of slot.new) result reader.old (named_value reader.old.registry.now depth name.now) reader.new }
 {
-    enter(source, at, depth)?;
-    content(alloc, registry, name, depth - 1, source, at, slot)?;
-    wrap_named(alloc, slot)?;
+    enter(reader.source, reader.at, depth)?;
+    content(reader, name, depth - 1, slot)?;
+    wrap_named(reader.alloc, slot)?;
     Ok(())
 }
 
@@ -50,47 +43,37 @@ pub fn named<S: ByteSource>(
 #[inline(never)]
 #[cycle(streaming)]
 fn content<S: ByteSource>(
-    alloc: Global,
-    registry: &Registry,
+    reader: &mut Reader<'_, S>,
     name: &str,
     depth: u32,
-    source: &mut S,
-    at: &mut At,
     slot: &mut Value,
 ) -> Result<(), DecodeFault>
-    requires good { S.is_failed source.old ≡ false }
-    requires room { at.old.place + S.allowance source.old < 2 ^ 64 }
-    ensures sees { Sees (λ _. tree_of slot.new) result (S.content source.old) at.old (content_value registry.now depth (content_at name.now registry.now)) at.new (S.content source.new) }
-    ensures failed { FailedIfRead result (S.is_failed source.new) }
-    ensures room { at.new.place + S.allowance source.new < 2 ^ 64 }
-    ensures goes { Goes result (S.content source.old) at.old (S.content source.new) at.new }
+    requires ready { Ready S.is_failed S.allowance reader.old }
+    ensures reads { Reads S.content S.is_failed S.allowance (λ _. tree_of slot.new) result reader.old (content_value reader.old.registry.now depth (content_at name.now reader.old.registry.now)) reader.new }
 {
+    let registry = reader.registry;
     let Some(container) = registry.container(name) else {
         return Err(DecodeFault::Stop(Stop {
             reason: Reason::Unsupported,
-            place: at.place,
+            place: reader.at.place,
         }));
     };
     match container {
-        Container::UnitStruct => put_unit(source, at, slot),
-        Container::NewTypeStruct(format) => {
-            value(alloc, registry, format, depth, source, at, slot)
-        }
-        Container::TupleStruct(formats) => {
-            tuple(alloc, registry, formats, depth, source, at, slot)
-        }
-        Container::Struct(fields) => { structure(alloc, registry, fields, depth, source, at, slot) }
+        Container::UnitStruct => put_unit(reader.source, reader.at, slot),
+        Container::NewTypeStruct(format) => { value(reader, format, depth, slot) }
+        Container::TupleStruct(formats) => { tuple(reader, formats, depth, slot) }
+        Container::Struct(fields) => { structure(reader, fields, depth, slot) }
         Container::Enum(variants) => {
-            let start = at.place;
-            let number = variant_number(source, at)?;
+            let start = reader.at.place;
+            let number = variant_number(reader.source, reader.at)?;
             let Some(variant) = variants.get(&number) else {
                 return Err(DecodeFault::Stop(Stop {
                     reason: Reason::UnknownVariant,
                     place: start,
                 }));
             };
-            payload(alloc, registry, &variant.value, depth, source, at, slot)?;
-            wrap_variant(alloc, number, slot)?;
+            payload(reader, &variant.value, depth, slot)?;
+            wrap_variant(reader.alloc, number, slot)?;
             Ok(())
         }
     }
@@ -100,28 +83,19 @@ fn content<S: ByteSource>(
 #[inline(never)]
 #[cycle(streaming)]
 pub fn payload<S: ByteSource>(
-    alloc: Global,
-    registry: &Registry,
+    reader: &mut Reader<'_, S>,
     payload: &VariantFormat,
     depth: u32,
-    source: &mut S,
-    at: &mut At,
     slot: &mut Value,
 ) -> Result<(), DecodeFault>
-    requires good { S.is_failed source.old ≡ false }
-    requires room { at.old.place + S.allowance source.old < 2 ^ 64 }
-    ensures sees { Sees (λ _. tree_of slot.new) result (S.content source.old) at.old (read registry.now depth (payload_shape (payload_of payload.now))) at.new (S.content source.new) }
-    ensures failed { FailedIfRead result (S.is_failed source.new) }
-    ensures room { at.new.place + S.allowance source.new < 2 ^ 64 }
-    ensures goes { Goes result (S.content source.old) at.old (S.content source.new) at.new }
+    requires ready { Ready S.is_failed S.allowance reader.old }
+    ensures reads { Reads S.content S.is_failed S.allowance (λ _. tree_of slot.new) result reader.old (read reader.old.registry.now depth (payload_shape (payload_of payload.now))) reader.new }
 {
     match payload {
-        VariantFormat::Unit => put_unit(source, at, slot),
-        VariantFormat::NewType(format) => value(alloc, registry, format, depth, source, at, slot),
-        VariantFormat::Tuple(formats) => tuple(alloc, registry, formats, depth, source, at, slot),
-        VariantFormat::Struct(fields) => {
-            structure(alloc, registry, fields, depth, source, at, slot)
-        }
+        VariantFormat::Unit => put_unit(reader.source, reader.at, slot),
+        VariantFormat::NewType(format) => value(reader, format, depth, slot),
+        VariantFormat::Tuple(formats) => tuple(reader, formats, depth, slot),
+        VariantFormat::Struct(fields) => { structure(reader, fields, depth, slot) }
     }
 }
 
@@ -130,50 +104,36 @@ pub fn payload<S: ByteSource>(
 #[cycle(streaming)]
 #[tactic(auto, unfolding(bcs_decode_laws::specs::Reading::chain, bcs_decode_laws::specs::Reading::give, bcs_decode_reader::specs::Sees::tuple_value))]
 pub fn structure<S: ByteSource>(
-    alloc: Global,
-    registry: &Registry,
+    reader: &mut Reader<'_, S>,
     fields: &[Named<Format>],
     depth: u32,
-    source: &mut S,
-    at: &mut At,
     slot: &mut Value,
 ) -> Result<(), DecodeFault>
-    requires good { S.is_failed source.old ≡ false }
-    requires room { at.old.place + S.allowance source.old < 2 ^ 64 }
-    ensures sees { Sees (λ _. tree_of slot.new) result (S.content source.old) at.old (tuple_value registry.now depth (field_shapes (map field_of fields.now))) at.new (S.content source.new) }
-    ensures failed { FailedIfRead result (S.is_failed source.new) }
-    ensures room { at.new.place + S.allowance source.new < 2 ^ 64 }
-    ensures goes { Goes result (S.content source.old) at.old (S.content source.new) at.new }
+    requires ready { Ready S.is_failed S.allowance reader.old }
+    ensures reads { Reads S.content S.is_failed S.allowance (λ _. tree_of slot.new) result reader.old (tuple_value reader.old.registry.now depth (field_shapes (map field_of fields.now))) reader.new }
 {
-    begin(source, at)?;
-    let mut found = Vec::new(alloc);
-    make_room(alloc, &mut found, at, fields.len() as u64)?;
-    let read = each_field(alloc, registry, fields, depth, source, at, slot, &mut found);
+    begin(reader.source, reader.at)?;
+    let mut found = Vec::new(reader.alloc);
+    make_room(reader.alloc, &mut found, reader.at, fields.len() as u64)?;
+    let read = each_field(reader, fields, depth, slot, &mut found);
     finish(read, found, slot)
 }
 
 /// A value of each field's format in turn.
 #[cycle(streaming)]
 fn each_field<S: ByteSource>(
-    alloc: Global,
-    registry: &Registry,
+    reader: &mut Reader<'_, S>,
     fields: &[Named<Format>],
     depth: u32,
-    source: &mut S,
-    at: &mut At,
     slot: &mut Value,
     found: &mut Vec<Value>,
 ) -> Result<(), DecodeFault>
-    requires good { S.is_failed source.old ≡ false }
-    requires room { at.old.place + S.allowance source.old < 2 ^ 64 }
+    requires ready { Ready S.is_failed S.allowance reader.old }
     requires empty { found.old.items ≡ [] }
-    ensures sees { Sees (λ _. items_trees found.new.items) result (S.content source.old) at.old (each registry.now depth (field_shapes (map field_of fields.now))) at.new (S.content source.new) }
-    ensures failed { FailedIfRead result (S.is_failed source.new) }
-    ensures room { at.new.place + S.allowance source.new < 2 ^ 64 }
-    ensures goes { Goes result (S.content source.old) at.old (S.content source.new) at.new }
+    ensures reads { Reads S.content S.is_failed S.allowance (λ _. items_trees found.new.items) result reader.old (each reader.old.registry.now depth (field_shapes (map field_of fields.now))) reader.new }
 {
     for field in fields {
-        value(alloc, registry, &field.value, depth, source, at, slot)?;
+        value(reader, &field.value, depth, slot)?;
         keep(found, slot)?;
     }
     Ok(())

@@ -3,5 +3,6 @@
 
 mod containers;
 mod maps;
+pub mod reader;
 mod rows;
 pub mod values;

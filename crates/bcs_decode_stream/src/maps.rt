@@ -1,58 +1,40 @@
 //! Maps from a source.
-ghost use Rattle.std.specs.Prelude.{◌≡◌, ℕ, ◌+◌, ◌<◌, ◌^◌, [], false, length, Some, IfOk};
+ghost use Rattle.std.specs.Prelude.{◌≡◌, [], length, Some, IfOk};
 ghost use Rattle.bcs_registry_formats.specs.View.{shape_of};
 ghost use Rattle.bcs_value_tree.specs.View.{tree_of, entries_pairs};
 ghost use Rattle.bcs_decode_keys.specs.Kept.{Stands, last_bytes, key_of};
-ghost use Rattle.bcs_decode_reader.specs.Sees.{Sees, FailedIfRead, Goes, GoesInMap, read, pairs_value, entries_leaf, key_leaf};
+ghost use Rattle.bcs_decode_reader.specs.Sees.{read, pairs_value, entries_leaf, key_leaf};
+ghost use Rattle.bcs_decode_stream.specs.Reads.{Ready, Reads, ReadsInMap};
 
+use crate::reader::Reader;
 use crate::values::value;
-use bcs_decode_keys::at::At;
 use bcs_decode_keys::keys::{MapKeys, follow, let_go};
 use bcs_decode_reader::entries::{Entries, put_entries};
 use bcs_decode_reader::number::row_count;
 use bcs_decode_reader::slots::discard;
 use bcs_decode_sources::ByteSource;
 use bcs_decode_stops::DecodeFault;
-use bcs_registry::{Format, Registry};
+use bcs_registry::Format;
 use bcs_value::Value;
 use bcs_value_tree::slot::keep_entry;
-use std::alloc::Global;
 
 /// A map.
 #[inline(never)]
 #[cycle(streaming)]
 #[tactic(auto, unfolding(bcs_decode_laws::specs::Reading::chain, bcs_decode_laws::specs::Reading::give, bcs_decode_reader::specs::Sees::pairs_value))]
 pub fn pairs<S: ByteSource>(
-    alloc: Global,
-    registry: &Registry,
+    reader: &mut Reader<'_, S>,
     key: &Format,
     part: &Format,
     depth: u32,
-    source: &mut S,
-    at: &mut At,
     slot: &mut Value,
 ) -> Result<(), DecodeFault>
-    requires good { S.is_failed source.old ≡ false }
-    requires room { at.old.place + S.allowance source.old < 2 ^ 64 }
-    ensures sees { Sees (λ _. tree_of slot.new) result (S.content source.old) at.old (pairs_value (read registry.now depth (shape_of key.now)) (read registry.now depth (shape_of part.now))) at.new (S.content source.new) }
-    ensures failed { FailedIfRead result (S.is_failed source.new) }
-    ensures room { at.new.place + S.allowance source.new < 2 ^ 64 }
-    ensures goes { Goes result (S.content source.old) at.old (S.content source.new) at.new }
+    requires ready { Ready S.is_failed S.allowance reader.old }
+    ensures reads { Reads S.content S.is_failed S.allowance (λ _. tree_of slot.new) result reader.old (pairs_value (read reader.old.registry.now depth (shape_of key.now)) (read reader.old.registry.now depth (shape_of part.now))) reader.new }
 {
-    let count = row_count(source, at, None)?;
-    let mut entries = Entries::with_room(alloc, at, count)?;
-    match each_entry(
-        alloc,
-        registry,
-        key,
-        part,
-        count,
-        depth,
-        source,
-        at,
-        slot,
-        &mut entries,
-    ) {
+    let count = row_count(reader.source, reader.at, None)?;
+    let mut entries = Entries::with_room(reader.alloc, reader.at, count)?;
+    match each_entry(reader, key, part, depth, slot, &mut entries) {
         Ok(()) => {
             put_entries(slot, entries);
             Ok(())
@@ -67,44 +49,28 @@ pub fn pairs<S: ByteSource>(
 /// So many entries, whose keys rise.
 #[cycle(streaming)]
 fn each_entry<S: ByteSource>(
-    alloc: Global,
-    registry: &Registry,
+    reader: &mut Reader<'_, S>,
     key: &Format,
     part: &Format,
-    count: u64,
     depth: u32,
-    source: &mut S,
-    at: &mut At,
     slot: &mut Value,
     entries: &mut Entries,
 ) -> Result<(), DecodeFault>
-    requires good { S.is_failed source.old ≡ false }
-    requires room { at.old.place + S.allowance source.old < 2 ^ 64 }
+    requires ready { Ready S.is_failed S.allowance reader.old }
     requires empty { entries.old.found.items ≡ [] }
-    ensures sees { Sees (λ _. entries_pairs entries.new.found.items) result (S.content source.old) at.old (entries_leaf (read registry.now depth (shape_of key.now)) (read registry.now depth (shape_of part.now)) count) at.new (S.content source.new) }
-    ensures failed { FailedIfRead result (S.is_failed source.new) }
-    ensures room { at.new.place + S.allowance source.new < 2 ^ 64 }
-    ensures goes { Goes result (S.content source.old) at.old (S.content source.new) at.new }
+    ensures reads { Reads S.content S.is_failed S.allowance (λ _. entries_pairs entries.new.found.items) result reader.old (entries_leaf (read reader.old.registry.now depth (shape_of key.now)) (read reader.old.registry.now depth (shape_of part.now)) entries.old.count) reader.new }
 {
+    let count = entries.count;
     let mut keys = MapKeys {
-        begun: at.kept.len(),
+        begun: reader.at.kept.len(),
         last: None,
     };
     for _ in 0..count {
-        next_key(
-            alloc,
-            registry,
-            key,
-            &mut keys,
-            depth,
-            source,
-            at,
-            &mut entries.key,
-        )?;
-        value(alloc, registry, part, depth, source, at, slot)?;
+        next_key(reader, key, &mut keys, depth, &mut entries.key)?;
+        value(reader, part, depth, slot)?;
         keep_entry(&mut entries.found, &mut entries.key, slot)?;
     }
-    let_go(at, &keys);
+    let_go(reader.at, &keys);
     Ok(())
 }
 
@@ -112,32 +78,26 @@ fn each_entry<S: ByteSource>(
 #[inline(never)]
 #[cycle(streaming)]
 fn next_key<S: ByteSource>(
-    alloc: Global,
-    registry: &Registry,
+    reader: &mut Reader<'_, S>,
     key: &Format,
     keys: &mut MapKeys,
     depth: u32,
-    source: &mut S,
-    at: &mut At,
     slot: &mut Value,
 ) -> Result<(), DecodeFault>
-    requires good { S.is_failed source.old ≡ false }
-    requires room { at.old.place + S.allowance source.old < 2 ^ 64 }
-    requires stands { Stands keys.old.last keys.old.begun (length at.old.kept.items) }
-    ensures sees { Sees (λ _. (tree_of slot.new, key_of keys.new.last at.new.kept.items)) result (S.content source.old) at.old (key_leaf (read registry.now depth (shape_of key.now)) (last_bytes keys.old.last at.old.kept.items)) at.new (S.content source.new) }
-    ensures failed { FailedIfRead result (S.is_failed source.new) }
-    ensures room { at.new.place + S.allowance source.new < 2 ^ 64 }
-    ensures goes { GoesInMap keys.old.begun result (S.content source.old) at.old (S.content source.new) at.new }
+    requires ready { Ready S.is_failed S.allowance reader.old }
+    requires stands { Stands keys.old.last keys.old.begun (length reader.old.at.now.kept.items) }
+    ensures reads { ReadsInMap S.content S.is_failed S.allowance keys.old.begun (λ _. (tree_of slot.new, key_of keys.new.last reader.new.at.now.kept.items)) result reader.old
+        (key_leaf (read reader.old.registry.now depth (shape_of key.now)) (last_bytes keys.old.last reader.old.at.now.kept.items)) reader.new }
     ensures begun { keys.new.begun ≡ keys.old.begun }
-    ensures stands { IfOk result (λ _. Stands keys.new.last keys.new.begun (length at.new.kept.items)) }
-    ensures last { IfOk result (λ _. last_bytes keys.new.last at.new.kept.items ≡ Some (key_of keys.new.last at.new.kept.items)) }
+    ensures stands { IfOk result (λ _. Stands keys.new.last keys.new.begun (length reader.new.at.now.kept.items)) }
+    ensures last { IfOk result (λ _. last_bytes keys.new.last reader.new.at.now.kept.items ≡ Some (key_of keys.new.last reader.new.at.now.kept.items)) }
 {
-    let start = at.place;
-    let from = at.kept.len();
-    let is_within_key = at.is_in_key;
-    at.is_in_key = true;
-    value(alloc, registry, key, depth, source, at, slot)?;
-    at.is_in_key = is_within_key;
-    follow(at, keys, from, start)?;
+    let start = reader.at.place;
+    let from = reader.at.kept.len();
+    let is_within_key = reader.at.is_in_key;
+    reader.at.is_in_key = true;
+    value(reader, key, depth, slot)?;
+    reader.at.is_in_key = is_within_key;
+    follow(reader.at, keys, from, start)?;
     Ok(())
 }

@@ -1,75 +1,59 @@
 //! Values in a row from a source.
-ghost use Rattle.std.specs.Prelude.{◌≡◌, ℕ, ◌+◌, ◌<◌, ◌^◌, [], false};
+ghost use Rattle.std.specs.Prelude.{◌≡◌, []};
 ghost use Rattle.bcs_registry_formats.specs.View.{shape_of, formats_shapes};
 ghost use Rattle.bcs_value_tree.specs.View.{tree_of, items_trees};
-ghost use Rattle.bcs_decode_reader.specs.Sees.{Sees, FailedIfRead, Goes, read, row_leaf, items_value, each, tuple_value};
+ghost use Rattle.bcs_decode_reader.specs.Sees.{read, row_leaf, items_value, each, tuple_value};
+ghost use Rattle.bcs_decode_stream.specs.Reads.{Ready, Reads};
 
+use crate::reader::Reader;
 use crate::values::value;
-use bcs_decode_keys::at::At;
 use bcs_decode_reader::bytes::begin;
 use bcs_decode_reader::number::row_count;
 use bcs_decode_reader::room::make_room;
 use bcs_decode_reader::slots::finish;
 use bcs_decode_sources::ByteSource;
 use bcs_decode_stops::DecodeFault;
-use bcs_registry::{Format, Registry};
+use bcs_registry::Format;
 use bcs_value::Value;
 use bcs_value_tree::slot::keep;
-use std::alloc::Global;
 
 /// A list or an array.
 #[inline(never)]
 #[cycle(streaming)]
 #[tactic(auto, unfolding(bcs_decode_laws::specs::Reading::chain, bcs_decode_laws::specs::Reading::give, bcs_decode_reader::specs::Sees::items_value))]
 pub fn items<S: ByteSource>(
-    alloc: Global,
-    registry: &Registry,
+    reader: &mut Reader<'_, S>,
     element: &Format,
     size: Option<u64>,
     depth: u32,
-    source: &mut S,
-    at: &mut At,
     slot: &mut Value,
 ) -> Result<(), DecodeFault>
-    requires good { S.is_failed source.old ≡ false }
-    requires room { at.old.place + S.allowance source.old < 2 ^ 64 }
-    ensures sees { Sees (λ _. tree_of slot.new) result (S.content source.old) at.old (items_value (read registry.now depth (shape_of element.now)) size) at.new (S.content source.new) }
-    ensures failed { FailedIfRead result (S.is_failed source.new) }
-    ensures room { at.new.place + S.allowance source.new < 2 ^ 64 }
-    ensures goes { Goes result (S.content source.old) at.old (S.content source.new) at.new }
+    requires ready { Ready S.is_failed S.allowance reader.old }
+    ensures reads { Reads S.content S.is_failed S.allowance (λ _. tree_of slot.new) result reader.old (items_value (read reader.old.registry.now depth (shape_of element.now)) size) reader.new }
 {
-    let count = row_count(source, at, size)?;
-    let mut found = Vec::new(alloc);
-    make_room(alloc, &mut found, at, count)?;
-    let read = row(
-        alloc, registry, element, count, depth, source, at, slot, &mut found,
-    );
+    let count = row_count(reader.source, reader.at, size)?;
+    let mut found = Vec::new(reader.alloc);
+    make_room(reader.alloc, &mut found, reader.at, count)?;
+    let read = row(reader, element, count, depth, slot, &mut found);
     finish(read, found, slot)
 }
 
 /// So many values, each read into the slot first.
 #[cycle(streaming)]
 fn row<S: ByteSource>(
-    alloc: Global,
-    registry: &Registry,
+    reader: &mut Reader<'_, S>,
     element: &Format,
     count: u64,
     depth: u32,
-    source: &mut S,
-    at: &mut At,
     slot: &mut Value,
     found: &mut Vec<Value>,
 ) -> Result<(), DecodeFault>
-    requires good { S.is_failed source.old ≡ false }
-    requires room { at.old.place + S.allowance source.old < 2 ^ 64 }
+    requires ready { Ready S.is_failed S.allowance reader.old }
     requires empty { found.old.items ≡ [] }
-    ensures sees { Sees (λ _. items_trees found.new.items) result (S.content source.old) at.old (row_leaf (read registry.now depth (shape_of element.now)) count) at.new (S.content source.new) }
-    ensures failed { FailedIfRead result (S.is_failed source.new) }
-    ensures room { at.new.place + S.allowance source.new < 2 ^ 64 }
-    ensures goes { Goes result (S.content source.old) at.old (S.content source.new) at.new }
+    ensures reads { Reads S.content S.is_failed S.allowance (λ _. items_trees found.new.items) result reader.old (row_leaf (read reader.old.registry.now depth (shape_of element.now)) count) reader.new }
 {
     for _ in 0..count {
-        value(alloc, registry, element, depth, source, at, slot)?;
+        value(reader, element, depth, slot)?;
         keep(found, slot)?;
     }
     Ok(())
@@ -80,52 +64,36 @@ fn row<S: ByteSource>(
 #[cycle(streaming)]
 #[tactic(auto, unfolding(bcs_decode_laws::specs::Reading::chain, bcs_decode_laws::specs::Reading::give, bcs_decode_reader::specs::Sees::tuple_value))]
 pub fn tuple<S: ByteSource>(
-    alloc: Global,
-    registry: &Registry,
+    reader: &mut Reader<'_, S>,
     formats: &[Format],
     depth: u32,
-    source: &mut S,
-    at: &mut At,
     slot: &mut Value,
 ) -> Result<(), DecodeFault>
-    requires good { S.is_failed source.old ≡ false }
-    requires room { at.old.place + S.allowance source.old < 2 ^ 64 }
-    ensures sees { Sees (λ _. tree_of slot.new) result (S.content source.old) at.old (tuple_value registry.now depth (formats_shapes formats.now)) at.new (S.content source.new) }
-    ensures failed { FailedIfRead result (S.is_failed source.new) }
-    ensures room { at.new.place + S.allowance source.new < 2 ^ 64 }
-    ensures goes { Goes result (S.content source.old) at.old (S.content source.new) at.new }
+    requires ready { Ready S.is_failed S.allowance reader.old }
+    ensures reads { Reads S.content S.is_failed S.allowance (λ _. tree_of slot.new) result reader.old (tuple_value reader.old.registry.now depth (formats_shapes formats.now)) reader.new }
 {
-    begin(source, at)?;
-    let mut found = Vec::new(alloc);
-    make_room(alloc, &mut found, at, formats.len() as u64)?;
-    let read = parts(
-        alloc, registry, formats, depth, source, at, slot, &mut found,
-    );
+    begin(reader.source, reader.at)?;
+    let mut found = Vec::new(reader.alloc);
+    make_room(reader.alloc, &mut found, reader.at, formats.len() as u64)?;
+    let read = parts(reader, formats, depth, slot, &mut found);
     finish(read, found, slot)
 }
 
 /// A value of each format in turn.
 #[cycle(streaming)]
 fn parts<S: ByteSource>(
-    alloc: Global,
-    registry: &Registry,
+    reader: &mut Reader<'_, S>,
     formats: &[Format],
     depth: u32,
-    source: &mut S,
-    at: &mut At,
     slot: &mut Value,
     found: &mut Vec<Value>,
 ) -> Result<(), DecodeFault>
-    requires good { S.is_failed source.old ≡ false }
-    requires room { at.old.place + S.allowance source.old < 2 ^ 64 }
+    requires ready { Ready S.is_failed S.allowance reader.old }
     requires empty { found.old.items ≡ [] }
-    ensures sees { Sees (λ _. items_trees found.new.items) result (S.content source.old) at.old (each registry.now depth (formats_shapes formats.now)) at.new (S.content source.new) }
-    ensures failed { FailedIfRead result (S.is_failed source.new) }
-    ensures room { at.new.place + S.allowance source.new < 2 ^ 64 }
-    ensures goes { Goes result (S.content source.old) at.old (S.content source.new) at.new }
+    ensures reads { Reads S.content S.is_failed S.allowance (λ _. items_trees found.new.items) result reader.old (each reader.old.registry.now depth (formats_shapes formats.now)) reader.new }
 {
     for format in formats {
-        value(alloc, registry, format, depth, source, at, slot)?;
+        value(reader, format, depth, slot)?;
         keep(found, slot)?;
     }
     Ok(())

@@ -1,10 +1,11 @@
-use Rattle.std.proofs.Common.{◌≡◌, ℕ, ◌+◌, ◌*◌, ◌<◌, ◌^◌, false, max, length, map, drop}
+use Rattle.std.proofs.Common.{◌≡◌, ℕ, ◌+◌, ◌*◌, max, length, map, drop}
 use Rattle.bcs_registry_formats.specs.Container.{field_shapes, payload_shape}
 use Rattle.bcs_registry_formats.specs.View.{shape_of, formats_shapes, field_of, payload_of}
 use Rattle.bcs_registry_formats.specs.WellFormed.{levels, shapes_levels}
 use Rattle.bcs_decode_keys.specs.Kept.{Stands, last_bytes}
 use Rattle.bcs_decode_reader.specs.Sees.{Along, AlongMap, read}
 use Rattle.bcs_decode_reader.proofs.StreamedRows.{ItemsSoFar, EachSoFar, PairsSoFar}
+use Rattle.bcs_decode_stream.specs.Reads.{Ready, IsSame}
 use Rattle.bcs_decode_stream.proofs.+streaming.Given as goal
 
 -- a format in a registry has at most 33 levels with those of its container
@@ -55,34 +56,34 @@ decreases-maps::next_key g l = work l.depth (levels (shape_of l.key.now)) + 5
 
 abbrev pub invariant-rows::row-loop : goal.invariant-rows::row-loop
 invariant-rows::row-loop g l = record {
-  good : g.S.ByteSource.is_failed l.source ≡ false;
-  room : l.at.place + g.S.ByteSource.allowance l.source < 2 ^ 64;
-  goes : Along (g.S.ByteSource.content l.initial.source) l.initial.at (g.S.ByteSource.content l.source) l.at;
-  sees : ItemsSoFar (read l.registry l.depth (shape_of l.element)) l.count l.counter l.found.items (g.S.ByteSource.content l.initial.source) (g.S.ByteSource.content l.source) l.initial.at l.at;
+  ready : Ready g.S.ByteSource.is_failed g.S.ByteSource.allowance l.reader;
+  same : IsSame l.initial.reader l.reader;
+  goes : Along (g.S.ByteSource.content l.initial.reader.source.now) l.initial.reader.at.now (g.S.ByteSource.content l.reader.source.now) l.reader.at.now;
+  sees : ItemsSoFar (read l.initial.reader.registry.now l.depth (shape_of l.element)) l.count l.counter l.found.items (g.S.ByteSource.content l.initial.reader.source.now) (g.S.ByteSource.content l.reader.source.now) l.initial.reader.at.now l.reader.at.now;
 }
 
 abbrev pub invariant-rows::parts-loop-format : goal.invariant-rows::parts-loop-format
 invariant-rows::parts-loop-format g l = record {
-  good : g.S.ByteSource.is_failed l.source ≡ false;
-  room : l.at.place + g.S.ByteSource.allowance l.source < 2 ^ 64;
-  goes : Along (g.S.ByteSource.content l.initial.source) l.initial.at (g.S.ByteSource.content l.source) l.at;
-  sees : EachSoFar l.registry l.depth (formats_shapes l.formats) (formats_shapes (drop l.format-index l.formats)) l.found.items (g.S.ByteSource.content l.initial.source) (g.S.ByteSource.content l.source) l.initial.at l.at;
+  ready : Ready g.S.ByteSource.is_failed g.S.ByteSource.allowance l.reader;
+  same : IsSame l.initial.reader l.reader;
+  goes : Along (g.S.ByteSource.content l.initial.reader.source.now) l.initial.reader.at.now (g.S.ByteSource.content l.reader.source.now) l.reader.at.now;
+  sees : EachSoFar l.initial.reader.registry.now l.depth (formats_shapes l.formats) (formats_shapes (drop l.format-index l.formats)) l.found.items (g.S.ByteSource.content l.initial.reader.source.now) (g.S.ByteSource.content l.reader.source.now) l.initial.reader.at.now l.reader.at.now;
 }
 
 abbrev pub invariant-containers::each_field-loop-field : goal.invariant-containers::each_field-loop-field
 invariant-containers::each_field-loop-field g l = record {
-  good : g.S.ByteSource.is_failed l.source ≡ false;
-  room : l.at.place + g.S.ByteSource.allowance l.source < 2 ^ 64;
-  goes : Along (g.S.ByteSource.content l.initial.source) l.initial.at (g.S.ByteSource.content l.source) l.at;
-  sees : EachSoFar l.registry l.depth (field_shapes (map field_of l.fields)) (field_shapes (map field_of (drop l.field-index l.fields))) l.found.items (g.S.ByteSource.content l.initial.source) (g.S.ByteSource.content l.source) l.initial.at l.at;
+  ready : Ready g.S.ByteSource.is_failed g.S.ByteSource.allowance l.reader;
+  same : IsSame l.initial.reader l.reader;
+  goes : Along (g.S.ByteSource.content l.initial.reader.source.now) l.initial.reader.at.now (g.S.ByteSource.content l.reader.source.now) l.reader.at.now;
+  sees : EachSoFar l.initial.reader.registry.now l.depth (field_shapes (map field_of l.fields)) (field_shapes (map field_of (drop l.field-index l.fields))) l.found.items (g.S.ByteSource.content l.initial.reader.source.now) (g.S.ByteSource.content l.reader.source.now) l.initial.reader.at.now l.reader.at.now;
 }
 
 abbrev pub invariant-maps::each_entry-loop : goal.invariant-maps::each_entry-loop
 invariant-maps::each_entry-loop g l = record {
-  good : g.S.ByteSource.is_failed l.source ≡ false;
-  room : l.at.place + g.S.ByteSource.allowance l.source < 2 ^ 64;
-  begun : l.keys.begun ≡ length l.initial.at.kept.items;
-  stands : Stands l.keys.last l.keys.begun (length l.at.kept.items);
-  goes : AlongMap (length l.initial.at.kept.items) (g.S.ByteSource.content l.initial.source) l.initial.at (g.S.ByteSource.content l.source) l.at;
-  sees : PairsSoFar (read l.registry l.depth (shape_of l.key)) (read l.registry l.depth (shape_of l.part)) l.count l.counter (last_bytes l.keys.last l.at.kept.items) l.entries.found.items (g.S.ByteSource.content l.initial.source) (g.S.ByteSource.content l.source) l.initial.at l.at;
+  ready : Ready g.S.ByteSource.is_failed g.S.ByteSource.allowance l.reader;
+  same : IsSame l.initial.reader l.reader;
+  begun : l.keys.begun ≡ length l.initial.reader.at.now.kept.items;
+  stands : Stands l.keys.last l.keys.begun (length l.reader.at.now.kept.items);
+  goes : AlongMap (length l.initial.reader.at.now.kept.items) (g.S.ByteSource.content l.initial.reader.source.now) l.initial.reader.at.now (g.S.ByteSource.content l.reader.source.now) l.reader.at.now;
+  sees : PairsSoFar (read l.initial.reader.registry.now l.depth (shape_of l.key)) (read l.initial.reader.registry.now l.depth (shape_of l.part)) l.count l.counter (last_bytes l.keys.last l.reader.at.now.kept.items) l.entries.found.items (g.S.ByteSource.content l.initial.reader.source.now) (g.S.ByteSource.content l.reader.source.now) l.initial.reader.at.now l.reader.at.now;
 }

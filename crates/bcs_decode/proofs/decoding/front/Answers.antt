@@ -8,14 +8,18 @@ pub returns-in_err-value-clause-told : goal.returns-in_err-value-clause-told
 returns-in_err-value-clause-told g c =
     let p = err_from_is_err_and c.from_residual.result c.from_residual.ensures.1 in
     let depth = c.depth.ensures.is in
-    rw (p.1, p.2) (stopped c.args.registry.now c.args.limits.now (shape_of c.args.format.now) (g.S.ByteSource.content c.args.source.now) (g.S.ByteSource.content c.value.new.source) c.in_err-value.field-0.0
-    (record { place = 0; known = c.args.known; nodes = c.nodes.result; is_in_key = false; kept = c.new.result }) c.value.new.at refl c.nodes.ensures.is (rw (← depth) c.in_err-value.ensures.sees) c.in_err-value.ensures.goes)
+    let content = g.S.ByteSource.content in
+    let told = stopped c.args.registry.now c.args.limits.now (shape_of c.args.format.now) (content c.args.source.now) (content c.value.new.reader.source.now) c.in_err-value.field-0.0
+    (record { place = 0; known = c.args.known; nodes = c.nodes.result; is_in_key = false; kept = c.new.result }) c.value.new.reader.at.now refl c.nodes.ensures.is (rw (← depth) c.in_err-value.ensures.reads.sees) c.in_err-value.ensures.reads.goes in
+    rw (p.1, p.2) (search (rules, told))
 
 pub returns-clause-told : goal.returns-clause-told
 returns-clause-told g c =
     let depth = c.depth.ensures.is in
-    decoded c.args.registry.now c.args.limits.now (shape_of c.args.format.now) (g.S.ByteSource.content c.args.source.now) (g.S.ByteSource.content c.value.new.source) c.value.new.slot
-    (record { place = 0; known = c.args.known; nodes = c.nodes.result; is_in_key = false; kept = c.new.result }) c.value.new.at refl c.nodes.ensures.is (rw (← depth) c.in_ok-value.ensures.sees) c.in_ok-value.ensures.goes
+    let content = g.S.ByteSource.content in
+    let told = decoded c.args.registry.now c.args.limits.now (shape_of c.args.format.now) (content c.args.source.now) (content c.value.new.reader.source.now) c.value.new.slot
+    (record { place = 0; known = c.args.known; nodes = c.nodes.result; is_in_key = false; kept = c.new.result }) c.value.new.reader.at.now refl c.nodes.ensures.is (rw (← depth) c.in_ok-value.ensures.reads.sees) c.in_ok-value.ensures.reads.goes in
+    search (rules, told)
 
 pub returns-then-failed-clause-told : goal.returns-then-failed-clause-told
 returns-then-failed-clause-told g c =
