@@ -23,10 +23,10 @@ pub(crate) fn answer(
     };
     let asked = Question::read(alloc, &setting.registry, format, limits)?;
     let value = value_of(alloc, value)?;
-    if question == "form" {
-        return formed(alloc, &asked, &value);
+    match question {
+        "encode" => encoded(alloc, &asked, &value),
+        _ => formed(alloc, &asked, &value),
     }
-    encoded(alloc, &asked, &value)
 }
 
 // The canonical form, by the names that values have in code.

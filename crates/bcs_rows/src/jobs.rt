@@ -11,47 +11,48 @@ use std::str;
 
 pub(crate) fn answer(alloc: Global, words: &[&str]) -> Result<String, RowFault> {
     match words {
-        ["check", registry] => without_input(
-            alloc,
-            &on_registries(alloc, Command::Check, registry, "")?,
-        ),
-        ["grows", older, newer] => without_input(
-            alloc,
-            &on_registries(alloc, Command::Grows, older, newer)?,
-        ),
-        ["encode", registry, format] => without_input(
-            alloc,
-            &encoding(alloc, registry, format, false)?,
-        ),
-        ["encode", registry, format, input] => with_input(
-            alloc,
-            &encoding(alloc, registry, format, false)?,
-            input,
-        ),
-        ["raw", registry, format, input] => with_input(
-            alloc,
-            &encoding(alloc, registry, format, true)?,
-            input,
-        ),
+        ["check", registry] => judge(alloc, Command::Check, registry, ""),
+        ["grows", older, newer] => judge(alloc, Command::Grows, older, newer),
+        ["encode", registry, format] => refuse(alloc, registry, format),
+        ["encode", registry, format, input] => encode(alloc, registry, format, input, false),
+        ["raw", registry, format, input] => encode(alloc, registry, format, input, true),
         _ => Err(RowFault::NotUnderstood),
     }
 }
 
-// A job on a registry, or on an older one and a newer one.
-fn on_registries(
+// The answer to a job on a registry, or on an older one and a newer one.
+fn judge(
     alloc: Global,
     command: Command,
     registry: &str,
     second: &str,
-) -> Result<Work, RowFault> {
-    Ok(Work {
+) -> Result<String, RowFault> {
+    let work = Work {
         command,
         registry: bytes(alloc, registry)?,
         second: bytes(alloc, second)?,
         format: String::new(alloc),
         path: String::new(alloc),
         raw: false,
-    })
+    };
+    without_input(alloc, &work)
+}
+
+// The answer to a job to encode that its own words refuse.
+fn refuse(alloc: Global, registry: &str, format: &str) -> Result<String, RowFault> {
+    without_input(alloc, &encoding(alloc, registry, format, false)?)
+}
+
+// The answer to a job to encode, and its input.
+fn encode(
+    alloc: Global,
+    registry: &str,
+    format: &str,
+    input: &str,
+    raw: bool,
+) -> Result<String, RowFault> {
+    let work = encoding(alloc, registry, format, raw)?;
+    with_input(alloc, &work, &bytes(alloc, input)?)
 }
 
 // A job to encode at a format.
@@ -66,15 +67,13 @@ fn encoding(alloc: Global, registry: &str, format: &str, raw: bool) -> Result<Wo
     })
 }
 
-// The answer to a job and its input.
-fn with_input(alloc: Global, work: &Work, input: &str) -> Result<String, RowFault> {
-    let input = bytes(alloc, input)?;
+fn with_input(alloc: Global, work: &Work, input: &[u8]) -> Result<String, RowFault> {
     let mut out = PieceSink::<80>::new(7, None);
-    let outcome = run(alloc, work, &mut SliceSource::new(&input), &mut out);
+    let outcome = run(alloc, work, &mut SliceSource::new(input), &mut out);
     told(alloc, outcome, out.taken())
 }
 
-// The answer to a job that leaves its input as it was. The first call of the source fails.
+// The input is left as it was: the first call of the source would fail.
 fn without_input(alloc: Global, work: &Work) -> Result<String, RowFault> {
     let mut input = PieceSource::new(b"x", 1, Some(1));
     let mut out = PieceSink::<80>::new(7, None);

@@ -22,10 +22,19 @@ pub(crate) fn answer(
 fn asked(alloc: Global, setting: &mut Setting, row: &str) -> Result<String, RowFault> {
     let row = unrolled(alloc, row)?;
     let words: Vec<&str> = row.split('\t').collect(alloc)?;
-    let Some((question, words)) = words.as_slice().split_first() else {
-        return Err(RowFault::NotUnderstood);
-    };
-    match *question {
+    match words.as_slice() {
+        [question, words @ ..] => answered(alloc, setting, question, words),
+        _ => Err(RowFault::NotUnderstood),
+    }
+}
+
+fn answered(
+    alloc: Global,
+    setting: &mut Setting,
+    question: &str,
+    words: &[&str],
+) -> Result<String, RowFault> {
+    match question {
         "uleb" | "take_uleb" | "put" | "take" | "number" => {
             numbers::answer(alloc, question, words)
         }

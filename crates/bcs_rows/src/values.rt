@@ -30,9 +30,14 @@ fn values(alloc: Global, setting: &mut Setting, text: &str) -> Result<String, Ro
 // A sign for each value.
 fn fits(alloc: Global, setting: &Setting, format: &str) -> Result<String, RowFault> {
     let question = Question::read(alloc, &setting.registry, format, &[])?;
+    let values = values_of(alloc, setting.values.as_str())?;
+    signs(alloc, &question, &values)
+}
+
+fn signs(alloc: Global, question: &Question, values: &[Value]) -> Result<String, RowFault> {
     let mut signs = String::new(alloc);
-    for value in values_of(alloc, setting.values.as_str())? {
-        signs.push_str(sign(&question, &value)?)?;
+    for value in values {
+        signs.push_str(sign(question, value)?)?;
     }
     Ok(signs)
 }

@@ -22,14 +22,22 @@ pub(crate) fn answer(
     };
     let asked = Question::read(alloc, &setting.registry, format, limits)?;
     let bytes = words::bytes(alloc, bytes)?;
-    if question == "changes" {
-        let count = agreeing_changes(alloc, &asked, &bytes)?;
-        return Ok(format!(in alloc; "{count} agree")?);
+    match question {
+        "verdict" => judged(alloc, &asked, &bytes),
+        _ => changed(alloc, &asked, &bytes),
     }
-    match verdict(alloc, &asked, &bytes)? {
+}
+
+fn judged(alloc: Global, question: &Question, bytes: &[u8]) -> Result<String, RowFault> {
+    match verdict(alloc, question, bytes)? {
         Ok(length) => Ok(format!(in alloc; "ok {length}")?),
         Err(Stop { reason, place }) => Ok(format!(in alloc; "{reason} at {place}")?),
     }
+}
+
+fn changed(alloc: Global, question: &Question, bytes: &[u8]) -> Result<String, RowFault> {
+    let count = agreeing_changes(alloc, question, bytes)?;
+    Ok(format!(in alloc; "{count} agree")?)
 }
 
 /// The length of the value that the bytes begin with, or where and why they stop being one: by `scan`, and all other
