@@ -50,7 +50,8 @@ pub fn read_byte_array(
     ensures { Tells (λ v. items (items_trees v.items)) result (follow (spec.read_byte_text (is_byte (shape_of element.now)) (string_bytes text)) (sized size)) }
 {
     let bytes = bytes_of(alloc, element, text)?;
-    if bytes.len() as u64 != size {
+    let count = bytes.len() as u64;
+    if count != size {
         return Err(JsonFault::BadShape);
     }
     numbers(alloc, bytes.as_slice())

@@ -15,11 +15,11 @@ use Rattle.bcs_json_laws.specs.Look.{without}
 use Rattle.bcs_json_laws.specs.Reading.{follow, read_data, read_all, read_each, read_pairs, read_fields, read_named}
 use Rattle.bcs_json_leaves.proofs.Joined.{joined}
 use Rattle.bcs_json_reader.proofs.Counts.{items_read, items_fault, tuple_other, tuple_row, array_other, array_row}
-use Rattle.bcs_json_reader.proofs.FieldRows.{field_more, fields_done, member_left, none_left, some_left}
+use Rattle.bcs_json_reader.proofs.FieldRows.{field_more, field_fault, fields_done, member_left, none_left, some_left}
 use Rattle.bcs_json_reader.proofs.Formats.{tells_as, option_read, seq_read, array_read, map_read, levels_here, field_levels_here}
 use Rattle.bcs_json_reader.proofs.Names.{container_found, newtype_levels, tuple_levels, struct_levels, variant_levels}
-use Rattle.bcs_json_reader.proofs.PairRows.{joined_pairs, pair_more, pairs_done}
-use Rattle.bcs_json_reader.proofs.Rows.{item_more, items_done, each_more, each_done}
+use Rattle.bcs_json_reader.proofs.PairRows.{joined_pairs, pair_more, pair_fault, key_fault, value_fault, pairs_done}
+use Rattle.bcs_json_reader.proofs.Rows.{item_more, item_fault, items_done, each_more, each_fault, each_done}
 use Rattle.bcs_json_reader.proofs.+reading.Goals as goal
 
 -- ---- formats with formats inside
@@ -91,6 +91,13 @@ parts::read_all-loop-item-preserved t c =
     ∙ item_more r (into_iter_items l.item-iterator) l.found.items left c.in-Some.item c.in_ok-read.field-0 c.in-Some.ensures.steps.0 c.in_ok-read.ensures
     ∙ ap (λ (vs : List Value). follow (read_all r (items_view left)) (λ ts. Ok (joined vs ts))) (sym c.in_ok-push.ensures.items)
 
+pub parts::read_all-returns-in_err-read : goal.parts::read_all-returns-in_err-read
+parts::read_all-returns-in_err-read t c =
+    let l = c.loop-item in
+    let p = err_from_is_err_and c.from_residual-in_err-read.result c.from_residual-in_err-read.ensures.1 in
+    rw (p.1, p.2) (λ other. l.invariant
+    ∙ item_fault (read_data c.args.registry.now c.args.left (of (shape_of c.args.element.now))) (into_iter_items l.item-iterator) l.found.items (into_iter_items c.next.new.self) c.in-Some.item _ c.in-Some.ensures.steps.0 (c.in_err-read.ensures other))
+
 pub parts::read_all-returns : goal.parts::read_all-returns
 parts::read_all-returns t c =
     let l = c.loop-item in
@@ -119,6 +126,17 @@ parts::read_each-loop-format-preserved t c =
     l.invariant
     ∙ each_more named (drop l.format-index fs) (into_iter_items l.rest) l.found.items f gs c.in-Some.item left c.in_ok-read.field-0 here c.in-Some.ensures.items c.in_ok-read.ensures
     ∙ ap (λ (vs : List Value). follow (read_each named (formats_shapes gs) (items_view left)) (λ ts. Ok (joined vs ts))) (sym c.in_ok-push.ensures.items)
+
+pub parts::read_each-returns-in_err-read : goal.parts::read_each-returns-in_err-read
+parts::read_each-returns-in_err-read t c =
+    let l = c.loop-format in
+    let fs = c.args.formats.now in
+    let f = c.format-item.result in
+    let gs = drop (l.format-index + 1) fs in
+    let here : drop l.format-index fs ≡ f ∷ gs = drop_more fs l.format-index f (omega (arith, c.loop-format-test.true)) ∙ ap (λ y. y ∷ gs) (sym c.format-item.is) in
+    let p = err_from_is_err_and c.from_residual-in_err-read.result c.from_residual-in_err-read.ensures.1 in
+    rw (p.1, p.2) (λ other. l.invariant
+    ∙ each_fault (read_named c.args.registry.now c.args.left) (drop l.format-index fs) (into_iter_items l.rest) l.found.items f gs c.in-Some.item (into_iter_items c.next.new.self) _ here c.in-Some.ensures.items (c.in_err-read.ensures other))
 
 pub parts::read_each-returns : goal.parts::read_each-returns
 parts::read_each-returns t c =
@@ -152,6 +170,19 @@ parts::read_fields-loop-field-preserved t c =
     ∙ field_more named x rest (drop l.field-index xs) here ms l.found.items less (view c.in-Some.member) c.in_ok-read.field-0 found left c.in_ok-read.ensures
     ∙ ap (λ (vs : List Value). follow (read_fields named (map field_of rest) less) (λ ts. Ok (joined vs ts))) (sym c.in_ok-push.ensures.items)
 
+pub parts::read_fields-returns-in_err-read : goal.parts::read_fields-returns-in_err-read
+parts::read_fields-returns-in_err-read t c =
+    let l = c.loop-field in
+    let xs = c.args.fields.now in
+    let x = c.field-item.result in
+    let rest = drop (l.field-index + 1) xs in
+    let here : drop l.field-index xs ≡ x ∷ rest = drop_more xs l.field-index x (omega (arith, c.loop-field-test.true)) ∙ ap (λ y. y ∷ rest) (sym c.field-item.is) in
+    let ms = members_view l.members.entries in
+    let found = ap (λ s. get_member s ms) (sym c.as_str.ensures.value) ∙ sym c.in-Some.ensures.found in
+    let p = err_from_is_err_and c.from_residual-in_err-read.result c.from_residual-in_err-read.ensures.1 in
+    rw (p.1, p.2) (λ other. l.invariant
+    ∙ field_fault (read_named c.args.registry.now c.args.left) x rest (drop l.field-index xs) here ms l.found.items (view c.in-Some.member) _ found (c.in_err-read.ensures other))
+
 pub parts::read_fields-returns-then-is_empty : goal.parts::read_fields-returns-then-is_empty
 parts::read_fields-returns-then-is_empty t c =
     let l = c.loop-field in
@@ -177,6 +208,30 @@ parts::read_pairs-loop-item-preserved t c =
     l.invariant
     ∙ pair_more k v (into_iter_items l.item-iterator) l.found.items left c.in-Some.item c.in-Some.ensures.steps.0 (view c.in_ok-first.first) (view c.in_ok-first.second) c.in_ok-first.ensures.ok c.in_ok-name.name c.in_ok-value.value c.in_ok-name.ensures c.in_ok-value.ensures
     ∙ ap (λ (es : List (Value × Value)). follow (read_pairs k v (items_view left)) (λ ps. Ok (joined_pairs es ps))) (sym c.in_ok-push.ensures.items)
+
+pub parts::read_pairs-returns-in_err-first : goal.parts::read_pairs-returns-in_err-first
+parts::read_pairs-returns-in_err-first t c =
+    let l = c.loop-item in
+    let k = read_data c.args.registry.now c.args.left (of (shape_of c.args.key.now)) in
+    let v = read_data c.args.registry.now c.args.left (of (shape_of c.args.content.now)) in
+    let p = err_from_is_err_and c.from_residual-in_err-first.result c.from_residual-in_err-first.ensures.1 in
+    rw (p.1, p.2) (λ other. l.invariant ∙ pair_fault k v (into_iter_items l.item-iterator) l.found.items (into_iter_items c.next.new.self) c.in-Some.item _ c.in-Some.ensures.steps.0 (c.in_err-first.ensures.fault k v))
+
+pub parts::read_pairs-returns-in_err-name : goal.parts::read_pairs-returns-in_err-name
+parts::read_pairs-returns-in_err-name t c =
+    let l = c.loop-item in
+    let k = read_data c.args.registry.now c.args.left (of (shape_of c.args.key.now)) in
+    let v = read_data c.args.registry.now c.args.left (of (shape_of c.args.content.now)) in
+    let p = err_from_is_err_and c.from_residual-in_err-name.result c.from_residual-in_err-name.ensures.1 in
+    rw (p.1, p.2) (λ other. l.invariant ∙ key_fault k v (into_iter_items l.item-iterator) l.found.items (into_iter_items c.next.new.self) c.in-Some.item c.in-Some.ensures.steps.0 (view c.in_ok-first.first) (view c.in_ok-first.second) c.in_ok-first.ensures.ok _ (c.in_err-name.ensures other))
+
+pub parts::read_pairs-returns-in_err-value : goal.parts::read_pairs-returns-in_err-value
+parts::read_pairs-returns-in_err-value t c =
+    let l = c.loop-item in
+    let k = read_data c.args.registry.now c.args.left (of (shape_of c.args.key.now)) in
+    let v = read_data c.args.registry.now c.args.left (of (shape_of c.args.content.now)) in
+    let p = err_from_is_err_and c.from_residual-in_err-value.result c.from_residual-in_err-value.ensures.1 in
+    rw (p.1, p.2) (λ other. l.invariant ∙ value_fault k v (into_iter_items l.item-iterator) l.found.items (into_iter_items c.next.new.self) c.in-Some.item c.in-Some.ensures.steps.0 (view c.in_ok-first.first) (view c.in_ok-first.second) c.in_ok-first.ensures.ok c.in_ok-name.name _ c.in_ok-name.ensures (c.in_err-value.ensures other))
 
 pub parts::read_pairs-returns : goal.parts::read_pairs-returns
 parts::read_pairs-returns t c =
