@@ -1,11 +1,9 @@
 -- What is shown of a value has no float.
-use Rattle.std.proofs.Common.{◌≡◌, ℕ, ℤ, pos, negsuc, List, ◌∷◌, Option, Some, None, Bool, true, false, if◌then◌else◌, Ordering, Less, Equal, Greater, refl}
-use Rattle.std.proofs.lemmas.Bool.{or_parts, or_from}
-use Rattle.std.specs.Cmp.Lexicographic.{slice_cmp}
-use Rattle.std.specs.Ordering.{nat_cmp, match_ordering}
-use Rattle.serde_json.specs.Data.{Data, number, string, Members, no_members, member, put}
+use Rattle.std.proofs.Common.{◌≡◌, ℕ, ℤ, pos, negsuc, List, ◌∷◌, Option, Some, None, Bool, true, false, if◌then◌else◌, refl}
+use Rattle.serde_json.specs.Data.{Data, number, string}
 use Rattle.serde_json.specs.Find.{of_integer}
 use Rattle.serde_json.specs.Written.{has_float, items_have_float, members_have_float}
+use Rattle.bcs_registry.proofs.ShownFloats.{no_float-put}
 use Rattle.bcs_registry_formats.specs.Container as container
 use Rattle.bcs_registry_formats.specs.Container.{Field, Payload, newtype, tuple, Entries, choice_numbered}
 use Rattle.bcs_registry_formats.specs.Shape as shape
@@ -15,16 +13,6 @@ use Rattle.bcs_value_tree.specs.Tree.{Tree, Trees, no_trees, tree, Pairs, no_pai
 use Rattle.bcs_json_laws.specs.Bytes.{is_byte}
 use Rattle.bcs_json_laws.specs.JsonContent.{JsonContent, of, fields, one_of, json_content_at}
 use Rattle.bcs_json_laws.specs.Shown.{is_wide, shown, shown_all, shown_each, shown_pairs, shown_fields, shown_choice}
-
-put_plain_at : (o : Ordering) (k l : List ℕ) (d e : Data) (ms : Members) → has_float d ≡ false → members_have_float (member l e ms) ≡ false → members_have_float (put k d ms) ≡ false
-    → members_have_float (match_ordering o (member k d (member l e ms)) (member l d ms) (member l e (put k d ms))) ≡ false
-put_plain_at Less k l d e ms p h q = rw p h
-put_plain_at Equal k l d e ms p h q = rw p (or_parts (has_float e) (members_have_float ms) h).1
-put_plain_at Greater k l d e ms p h q = or_from (has_float e) (members_have_float (put k d ms)) (or_parts (has_float e) (members_have_float ms) h).0 q
-
-put_plain : (k : List ℕ) (d : Data) (ms : Members) → has_float d ≡ false → members_have_float ms ≡ false → members_have_float (put k d ms) ≡ false
-put_plain k d no_members p h = rw p refl
-put_plain k d (member l e ms) p h = put_plain_at (slice_cmp nat_cmp k l) k l d e ms p h (put_plain k d ms p (or_parts (has_float e) (members_have_float ms) h).1)
 
 -- a number, or a string in its place
 number_plain : (b : Bool) (s : List ℕ) (d : Data) → has_float d ≡ false → has_float (if b then string s else d) ≡ false
@@ -74,5 +62,5 @@ module _ (registry : Entries) where
     pairs_plain (pair l m ps) k v = rw (shown_plain l (of k), shown_plain m (of v)) (pairs_plain ps k v)
 
     fields_plain : (ts : Trees) (fs : List Field) → members_have_float (shown_fields registry ts fs) ≡ false
-    fields_plain (tree t ts) (f ∷ fs) = put_plain f.0 (shown registry t (of f.1)) (shown_fields registry ts fs) (shown_plain t (of f.1)) (fields_plain ts fs)
+    fields_plain (tree t ts) (f ∷ fs) = no_float-put f.0 (shown registry t (of f.1)) (shown_fields registry ts fs) (shown_plain t (of f.1)) (fields_plain ts fs)
     fields_plain _ _ = refl

@@ -10,7 +10,7 @@ ghost use Rattle.bcs_json_laws.specs.JsonContent.{json_content, of};
 ghost use Rattle.bcs_json_laws.specs.Shown.{shown, shown_all, shown_choice, shown_each, shown_fields, shown_pairs};
 
 use bcs_registry::{Container, Format, Named, Registry, VariantFormat};
-use bcs_value::Value;
+use bcs_value_tree::Value;
 
 /// Whether arrays and objects nest at most `limit` deep in the JSON of the value. The walk goes as deep as they may,
 /// and as containers do.

@@ -15,7 +15,7 @@ use bcs_json_shown_leaves::hexadecimal::{byte_list_json, bytes_json};
 use bcs_json_shown_leaves::numbers::{narrow_signed, narrow_unsigned, wide_signed, wide_unsigned};
 use bcs_json_shown_leaves::pieces::{entry_json, single_member};
 use bcs_registry::{Container, Format, Named, Registry, VariantFormat};
-use bcs_value::Value;
+use bcs_value_tree::Value;
 use serde_json::{Map, Value as Json};
 use std::alloc::{AllocError, Global};
 

@@ -10,7 +10,7 @@ ghost use Rattle.bcs_json_laws.specs.Texts.{IsReadAs, IsTextOf, nesting_limit};
 
 use crate::printing::into_json;
 use bcs_registry::{Format, Registry};
-use bcs_value::Value;
+use bcs_value_tree::Value;
 use std::alloc::{AllocError, Global};
 
 /// The text of a value of the format, whose JSON nests within the limit. It is read as that JSON again. Fails only for

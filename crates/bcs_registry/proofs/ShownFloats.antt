@@ -18,7 +18,8 @@ no_float-put_at Less k l d e ms p h q = rw p h
 no_float-put_at Equal k l d e ms p h q = rw p (or_parts (has_float e) (members_have_float ms) h).1
 no_float-put_at Greater k l d e ms p h q = or_from (has_float e) (members_have_float (put k d ms)) (or_parts (has_float e) (members_have_float ms) h).0 q
 
-no_float-put : (k : List ℕ) (d : Data) (ms : Members) → has_float d ≡ false → members_have_float ms ≡ false → members_have_float (put k d ms) ≡ false
+-- a member without a float is put beside others without one
+pub no_float-put : (k : List ℕ) (d : Data) (ms : Members) → has_float d ≡ false → members_have_float ms ≡ false → members_have_float (put k d ms) ≡ false
 no_float-put k d no_members p h = rw p refl
 no_float-put k d (member l e ms) p h = no_float-put_at (slice_cmp nat_cmp k l) k l d e ms p h (no_float-put k d ms p (or_parts (has_float e) (members_have_float ms) h).1)
 

@@ -13,7 +13,7 @@ use Rattle.bcs_registry_formats.specs.Container.{Field, Payload, Choice, Contain
 use Rattle.bcs_registry_formats.specs.WellFormed.{shape_list, payload_formats, container_formats, levels, shapes_levels, has_few_levels, is_known, are_known, levels_hold, names_differ, names_known, IsWellFormed, admits, Admits}
 
 -- what passes everywhere in the rows of a map passes in the row that is found
-list_all-found : {K X Y : Type 0} (p : Y → Bool) (row : X → List Y) (test : K → Bool) (es : List (K × X)) (x : X) → list_all p (flat_map (λ e. row e.1) es) ≡ true → lookup test es ≡ Some x → list_all p (row x) ≡ true
+pub list_all-found : {K X Y : Type 0} (p : Y → Bool) (row : X → List Y) (test : K → Bool) (es : List (K × X)) (x : X) → list_all p (flat_map (λ e. row e.1) es) ≡ true → lookup test es ≡ Some x → list_all p (row x) ≡ true
 list_all-found p row test [] x h found = absurd (none-some x found)
 list_all-found p row test (e ∷ es) x h found =
     let both = sym (list_all-append p (row e.1) (flat_map (λ e. row e.1) es)) ∙ h in
