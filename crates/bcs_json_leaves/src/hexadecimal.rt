@@ -61,10 +61,11 @@ pub fn read_byte_array(
 fn bytes_of(alloc: Global, element: &Format, text: String) -> Result<Vec<u8>, JsonFault>
     ensures { Tells (λ v. byte_trees v.items) result (spec.read_byte_text (is_byte (shape_of element.now)) (string_bytes text)) }
 {
-    if !matches!(element, Format::U8) {
-        return Err(JsonFault::BadShape);
+    if matches!(element, Format::U8) {
+        read_hex(alloc, text.as_str())
+    } else {
+        Err(JsonFault::BadShape)
     }
-    read_hex(alloc, text.as_str())
 }
 
 // The bytes of hexadecimal digits.

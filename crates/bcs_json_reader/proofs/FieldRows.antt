@@ -1,5 +1,5 @@
 -- The fields of a struct from one on, in the members that are left.
-use Rattle.std.proofs.Common.{◌≡◌, ◌∙◌, ◌++◌, ℕ, String, Global, List, [], ◌∷◌, Ok, Err, Some, None, map, string_bytes, refl, ap, sym}
+use Rattle.std.proofs.Common.{◌≡◌, ◌∙◌, ◌++◌, ℕ, String, Global, List, [], ◌∷◌, Ok, Err, Some, map, string_bytes, refl, ap, sym}
 use Rattle.serde_json.specs.Data.{Data, Members, no_members, member}
 use Rattle.serde_json.specs.Find.{get_member}
 use Rattle.serde_json.specs.View.{members_view}
@@ -13,7 +13,7 @@ use Rattle.bcs_value_tree.specs.declared.value.Value.{Value}
 use Rattle.bcs_json_laws.specs.Look.{without}
 use Rattle.bcs_json_laws.specs.Reading.{Read, follow, read_shape, read_member, read_fields}
 use Rattle.bcs_json_faults.specs.declared.json_fault.JsonFault.{JsonFault}
-use Rattle.bcs_json_faults.specs.declared.json_fault.JsonFault.TheVariants.{MissingField, UnknownField}
+use Rattle.bcs_json_faults.specs.declared.json_fault.JsonFault.TheVariants.{UnknownField}
 use Rattle.bcs_json_leaves.proofs.Joined.{joined, joined-none}
 use Rattle.bcs_json_reader.proofs.Rows.{row_more, row_fault}
 
@@ -37,13 +37,6 @@ module _ (named : List ℕ → Data → Read Tree) (x : Named Format) (fs gs : L
       ap so_far here
       ∙ row_fault vs (read_member (read_shape named (shape_of x.value)) (get_member (string_bytes x.name) ms)) (read_fields named (map field_of fs) (without (string_bytes x.name) ms)) e
       (ap (read_member (read_shape named (shape_of x.value))) found ∙ h)
-
-  -- or it isn't there
-  pub field_missing : get_member (string_bytes x.name) ms ≡ None → so_far gs ≡ Err MissingField
-  field_missing none =
-      ap so_far here
-      ∙ row_fault vs (read_member (read_shape named (shape_of x.value)) (get_member (string_bytes x.name) ms)) (read_fields named (map field_of fs) (without (string_bytes x.name) ms)) MissingField
-      (ap (read_member (read_shape named (shape_of x.value))) none)
 
 -- after all of them no member is left, or one is
 module _ (named : List ℕ → Data → Read Tree) (gs : List (Named Format)) (done : gs ≡ []) (vs : List Value) where

@@ -9,7 +9,6 @@ use Rattle.bcs_value_tree.specs.Tree.{Tree, Trees, tree}
 use Rattle.bcs_value_tree.specs.View.{tree_of, items_trees}
 use Rattle.bcs_value_tree.specs.declared.value.Value.{Value}
 use Rattle.bcs_json_faults.specs.declared.json_fault.JsonFault.{JsonFault}
-use Rattle.bcs_json_faults.specs.declared.json_fault.JsonFault.TheVariants.{BadShape}
 use Rattle.bcs_json_laws.specs.Reading.{Read, follow, read_all, read_shape, read_each}
 use Rattle.bcs_json_leaves.proofs.Joined.{joined, joined-none, joined-more}
 
@@ -64,10 +63,6 @@ module _ (named : List ℕ → Data → Read Tree) (fs : List Format) (js : List
   pub each_fault : (f : Format) (gs : List Format) (j : Json) (left : List Json) (e : JsonFault) → fs ≡ f ∷ gs → js ≡ j ∷ left → read_shape named (shape_of f) (view j) ≡ Err e
       → each_from fs js ≡ Err e
   each_fault f gs j left e g h k = each_is (f ∷ gs) (j ∷ left) g h ∙ row_fault vs (read_shape named (shape_of f) (view j)) (read_each named (formats_shapes gs) (items_view left)) e k
-
-  -- or it isn't there
-  pub each_missing : (f : Format) (gs : List Format) → fs ≡ f ∷ gs → js ≡ [] → each_from fs js ≡ Err BadShape
-  each_missing f gs g h = each_is (f ∷ gs) [] g h
 
   -- or no format is left
   pub each_done : fs ≡ [] → each_from fs js ≡ Ok (items_trees vs)
