@@ -51,7 +51,10 @@ fn whole_value(
         Ok((value, length)) => if length == bytes.len() {
             Ok(value)
         } else {
-            Err(FromFault::Stop(Stop { reason: Reason::TrailingBytes, place: length as u64 }))
+            Err(FromFault::Stop(Stop {
+                reason: Reason::TrailingBytes,
+                place: length as u64,
+            }))
         },
         Err(DecodeFault::Stop(stop)) => Err(FromFault::Stop(stop)),
         Err(DecodeFault::OutOfMemory) => Err(FromFault::OutOfMemory),

@@ -34,7 +34,8 @@ normal_text_is_stable registry limits s text out again n m =
 
 pub shown_bytes_come_back : ShownBytesComeBack
 shown_bytes_come_back registry limits s bytes text again h =
-    let own : Encodes registry limits s h.value bytes = accepted_is_encoded_is registry limits s bytes h.value h.accepted in
-    (record { value = h.value; denoted = h.denoted; encoded = own },
-    λ other.
-        sym ((bytes_decide_same registry limits s h.value h.value bytes again own (encoded registry limits s text h.value again h.denoted other)).0 (same-refl h.value)))
+    let own : Encodes registry limits s h.value bytes = accepted_is_encoded_is registry limits s bytes h.value h.accepted in (
+      record { value = h.value; denoted = h.denoted; encoded = own },
+      λ other.
+          sym ((bytes_decide_same registry limits s h.value h.value bytes again own (encoded registry limits s text h.value again h.denoted other)).0 (same-refl h.value)),
+    )

@@ -7,8 +7,8 @@ ghost use Rattle.bcs_value_tree.specs.View.{tree_of};
 ghost use Rattle.bcs_tool.specs.Spelling.{Denotes, RefusesText, Spells, is_served, refusal};
 
 use crate::input_fault::InputFault;
-use bcs_json_text::{NESTING_LIMIT, nests_within, read_json};
 use crate::whole_number::{read_signed, read_unsigned};
+use bcs_json_text::{NESTING_LIMIT, nests_within, read_json};
 use bcs_num::Width;
 use bcs_registry::Format;
 use bcs_value::Value;
