@@ -1,19 +1,28 @@
-use Rattle.std.proofs.Common.{rules, ◌≡◌, ◌≢◌, IfErr, IfOk, ℕ, ◌+◌, ◌-◌, ◌*◌, ◌<◌, ◌≤◌, length, ◌/◌, ◌%◌, Bool, true, false, nat_eq, nat_lt, List, [], ◌∷◌, ◌++◌, slice_index_or, slice_set, bit_and, bit_or, Fits, w8, w32, w64, Bor, MutBor}
+use Rattle.std.proofs.Common.{rules}
+use Rattle.std.proofs.lemmas.Result.{err_from_is_err_and}
 use Rattle.bcs_registry_formats.specs.View.{shape_of}
-use Rattle.bcs_value_tree.specs.Tree.{Tree}
-use Rattle.bcs_json_laws.specs.Headline.{HasBytes}
-use Rattle.bcs_json_laws.specs.Texts.{Denotes, RefusesText}
-use Rattle.bcs_json_faults.specs.declared.json_fault.JsonFault.TheVariants.{OutOfMemory}
+use Rattle.bcs_value_tree.specs.View.{tree_of}
+use Rattle.bcs_json_faults.specs.Causes.{fault_of_value}
+use Rattle.bcs_json_laws.proofs.TextOutcomes.{memory_alone}
+use Rattle.bcs_json.proofs.Outcomes.{value_fault}
 use Rattle.bcs_json.proofs.bytes.to_bcs.Goals as goal
 
--- src/bytes.rt:29:17
 pub returns-in_err-value-clause-memory : goal.returns-in_err-value-clause-memory
-returns-in_err-value-clause-memory c = ?
+returns-in_err-value-clause-memory c =
+    let p = err_from_is_err_and c.from_residual.result c.from_residual.ensures.1 in
+    rw (p.1, p.2) (memory_alone c.args.registry.now c.args.limits.now (shape_of c.args.format.now) c.args.text.now c.in_err-value.field-0.0 c.in_err-value.ensures.fault)
 
--- src/bytes.rt:30:17
 pub returns-in_err-bytes-clause-fault : goal.returns-in_err-bytes-clause-fault
-returns-in_err-bytes-clause-fault c = ?
+returns-in_err-bytes-clause-fault c =
+    let p = err_from_is_err_and c.from_residual-in_err-bytes.result c.from_residual-in_err-bytes.ensures.1 in
+    rw (p.1, p.2)
+    (value_fault c.args.registry.now c.args.limits.now (shape_of c.args.format.now) c.args.text.now c.recall.ensures.orderly (tree_of c.in_ok-value.value) c.in_ok-value.ensures.spelled
+    c.in_err-bytes.field-0.0 c.in_err-bytes.ensures.fault)
 
--- src/bytes.rt:30:17
 pub returns-in_err-bytes-clause-memory : goal.returns-in_err-bytes-clause-memory
-returns-in_err-bytes-clause-memory c = ?
+returns-in_err-bytes-clause-memory c =
+    let p = err_from_is_err_and c.from_residual-in_err-bytes.result c.from_residual-in_err-bytes.ensures.1 in
+    rw (p.1, p.2)
+    (memory_alone c.args.registry.now c.args.limits.now (shape_of c.args.format.now) c.args.text.now (fault_of_value c.in_err-bytes.field-0.0)
+    (value_fault c.args.registry.now c.args.limits.now (shape_of c.args.format.now) c.args.text.now c.recall.ensures.orderly (tree_of c.in_ok-value.value) c.in_ok-value.ensures.spelled
+    c.in_err-bytes.field-0.0 c.in_err-bytes.ensures.fault))

@@ -1,27 +1,40 @@
-use Rattle.std.proofs.Common.{rules, ◌≡◌, ◌≢◌, IfErr, IfOk, string_bytes, ℕ, ◌+◌, ◌-◌, ◌*◌, ◌<◌, ◌≤◌, length, ◌/◌, ◌%◌, Bool, true, false, nat_eq, nat_lt, List, [], ◌∷◌, ◌++◌, slice_index_or, slice_set, bit_and, bit_or, Fits, w8, w32, w64, Bor, MutBor}
+use Rattle.std.proofs.Common.{rules, string_bytes}
+use Rattle.std.proofs.lemmas.Result.{err_from_is_err_and}
 use Rattle.bcs_registry_formats.specs.View.{shape_of}
-use Rattle.bcs_value_tree.specs.Tree.{Tree}
-use Rattle.bcs_json_laws.specs.Headline.{Normalises}
-use Rattle.bcs_json_laws.specs.Texts.{Denotes, RefusesText}
-use Rattle.bcs_json_faults.specs.declared.json_fault.JsonFault.TheVariants.{OutOfMemory}
+use Rattle.bcs_value_tree.specs.View.{tree_of}
+use Rattle.bcs_json_faults.specs.Causes.{fault_of_value}
+use Rattle.bcs_json_laws.proofs.TextOutcomes.{memory_alone}
+use Rattle.bcs_json_laws.proofs.Printed.{form_nests}
+use Rattle.bcs_json.proofs.Outcomes.{value_fault, normalises}
 use Rattle.bcs_json.proofs.normal_text.normalise.Goals as goal
 
--- src/normal_text.rt:31:17
 pub returns-in_err-value-clause-memory : goal.returns-in_err-value-clause-memory
-returns-in_err-value-clause-memory c = ?
+returns-in_err-value-clause-memory c =
+    let p = err_from_is_err_and c.from_residual.result c.from_residual.ensures.1 in
+    rw (p.1, p.2) (memory_alone c.args.registry.now c.args.limits.now (shape_of c.args.format.now) c.args.text.now c.in_err-value.field-0.0 c.in_err-value.ensures.fault)
 
--- src/normal_text.rt:32:16
 pub returns-in_err-form-clause-fault : goal.returns-in_err-form-clause-fault
-returns-in_err-form-clause-fault c = ?
+returns-in_err-form-clause-fault c =
+    let p = err_from_is_err_and c.from_residual-in_err-form.result c.from_residual-in_err-form.ensures.1 in
+    rw (p.1, p.2)
+    (value_fault c.args.registry.now c.args.limits.now (shape_of c.args.format.now) c.args.text.now c.recall.ensures.orderly (tree_of c.in_ok-value.value) c.in_ok-value.ensures.spelled
+    c.in_err-form.field-0.0 c.in_err-form.ensures.fault)
 
--- src/normal_text.rt:32:16
 pub returns-in_err-form-clause-memory : goal.returns-in_err-form-clause-memory
-returns-in_err-form-clause-memory c = ?
+returns-in_err-form-clause-memory c =
+    let p = err_from_is_err_and c.from_residual-in_err-form.result c.from_residual-in_err-form.ensures.1 in
+    rw (p.1, p.2)
+    (memory_alone c.args.registry.now c.args.limits.now (shape_of c.args.format.now) c.args.text.now (fault_of_value c.in_err-form.field-0.0)
+    (value_fault c.args.registry.now c.args.limits.now (shape_of c.args.format.now) c.args.text.now c.recall.ensures.orderly (tree_of c.in_ok-value.value) c.in_ok-value.ensures.spelled
+    c.in_err-form.field-0.0 c.in_err-form.ensures.fault))
 
--- src/normal_text.rt:34:15
 pub show-requires-clause-nests : goal.show-requires-clause-nests
-show-requires-clause-nests c = ?
+show-requires-clause-nests c =
+    form_nests c.args.registry.now c.args.limits.now (shape_of c.args.format.now) c.recall.ensures.well_formed c.recall.ensures.orderly c.args.text.now
+    (tree_of c.in_ok-value.value) (tree_of c.in_ok-form.form) c.in_ok-value.ensures.spelled c.in_ok-form.ensures.form
 
--- src/normal_text.rt:19:1
 pub returns-clause-normal : goal.returns-clause-normal
-returns-clause-normal c = ?
+returns-clause-normal c =
+    normalises c.args.registry.now c.args.limits.now (shape_of c.args.format.now) c.args.text.now c.recall.ensures.well_formed c.recall.ensures.orderly
+    (tree_of c.in_ok-value.value) (tree_of c.in_ok-form.form) (string_bytes c.in_ok-out.out) c.in_ok-value.ensures.spelled c.in_ok-form.ensures.sound c.in_ok-form.ensures.form
+    c.in_ok-out.ensures.text c.in_ok-out.ensures.reads_back

@@ -1,0 +1,94 @@
+-- What the calls answer, from what the crates below tell.
+use Rattle.std.proofs.Common.{◌≡◌, ◌≢◌, ◌↔◌, ◌≤◌, ◌<◌, ℕ, List, Ok, Err, Result, IfOk, IfErr, Bool, true, Decides, IsTrue, length, refl, sym, subst}
+use Rattle.serde_json.specs.Data.{Data, depth}
+use Rattle.bcs_registry_formats.specs.Container.{Entries}
+use Rattle.bcs_registry_formats.specs.Container as container
+use Rattle.bcs_registry_formats.specs.Ranges.{IsOrderly}
+use Rattle.bcs_registry_formats.specs.Shape.{Shape}
+use Rattle.bcs_registry_formats.specs.WellFormed.{IsWellFormed}
+use Rattle.bcs_value_laws.specs.Limits.{Bounds}
+use Rattle.bcs_value_laws.specs.Same.{Same}
+use Rattle.bcs_value_tree.specs.Tree.{Tree}
+use Rattle.bcs_value_tree.specs.View.{tree_of}
+use Rattle.bcs_value_tree.specs.declared.value.Value.{Value}
+use Rattle.bcs_encode_laws.proofs.FormLaws.{bytes_decide_same}
+use Rattle.bcs_encode_laws.specs.Encodes.{Encodes, IsForm}
+use Rattle.bcs_encode_laws.specs.Refused as encode
+use Rattle.bcs_encode_laws.specs.Sound.{IsSound}
+use Rattle.bcs_encode_laws.specs.declared.fault.EncodeFault.{EncodeFault}
+use Rattle.bcs_encode_laws.specs.declared.fault.EncodeFault.TheVariants as encode_fault
+use Rattle.bcs_json_faults.specs.Causes.{fault_of_value}
+use Rattle.bcs_json_faults.specs.declared.json_fault.JsonFault.{JsonFault}
+use Rattle.bcs_json_faults.specs.declared.json_fault.JsonFault.TheVariants.{OutOfMemory}
+use Rattle.bcs_json_laws.specs.Headline.{HasBytes, Compares, Normalises}
+use Rattle.bcs_json_laws.specs.JsonContent.{of}
+use Rattle.bcs_json_laws.specs.Reading.{Tells, read_data}
+use Rattle.bcs_json_laws.specs.Shown.{shown}
+use Rattle.bcs_json_laws.specs.Texts.{IsReadAs, Denotes, SpelledBy, RefusesText, IsTextOf}
+use Rattle.bcs_json_laws.proofs.Printed.{shown_denotes, form_is_sound}
+use Rattle.bcs_json_laws.proofs.TextOutcomes.{read_is_spelled, stop_is_refusal, sound_is_denoted, refused_value}
+use Rattle.bcs_json.specs.Printing.{Prints}
+
+module _ (registry : Entries) (limits : Bounds) (s : Shape) (text : List ℕ) where
+  -- what the reader gave is spelled
+  pub told_value : (d : Data) → IsReadAs text d → (r : Result Value JsonFault) → Tells tree_of r (read_data registry limits.depth (of s) d) → IfOk r (λ v. SpelledBy registry limits s text (tree_of v))
+  told_value d is (Ok v) h = read_is_spelled registry limits s text d is (tree_of v) h
+  told_value d is (Err e) h = tt
+
+  -- where it stopped, the text is refused
+  pub told_fault : (d : Data) → IsReadAs text d → (r : Result Value JsonFault) → Tells tree_of r (read_data registry limits.depth (of s) d) → IfErr r (λ e. e ≢ OutOfMemory → RefusesText registry limits s text e)
+  told_fault d is (Ok v) h = tt
+  told_fault d is (Err e) h = λ other. stop_is_refusal registry limits s text d is e (h other)
+
+  -- a fault of encoding what is spelled is one of the text
+  pub value_fault : IsOrderly registry → (t : Tree) → SpelledBy registry limits s text t → (e : EncodeFault) → (e ≢ encode_fault.OutOfMemory → encode.Refuses registry limits s t e)
+      → fault_of_value e ≢ OutOfMemory → RefusesText registry limits s text (fault_of_value e)
+  value_fault orderly t spelled encode_fault.OutOfMemory h other = absurd (other refl)
+  value_fault orderly t spelled encode_fault.NotOfFormat h other = refused_value registry limits s text orderly t spelled encode_fault.NotOfFormat (h (λ is. cc))
+  value_fault orderly t spelled encode_fault.Unsupported h other = refused_value registry limits s text orderly t spelled encode_fault.Unsupported (h (λ is. cc))
+  value_fault orderly t spelled encode_fault.TooDeep h other = refused_value registry limits s text orderly t spelled encode_fault.TooDeep (h (λ is. cc))
+  value_fault orderly t spelled encode_fault.TooManyNodes h other = refused_value registry limits s text orderly t spelled encode_fault.TooManyNodes (h (λ is. cc))
+  value_fault orderly t spelled encode_fault.TooLong h other = refused_value registry limits s text orderly t spelled encode_fault.TooLong (h (λ is. cc))
+  value_fault orderly t spelled encode_fault.RepeatedKey h other = refused_value registry limits s text orderly t spelled encode_fault.RepeatedKey (h (λ is. cc))
+
+  -- the text of the canonical form of what is spelled
+  pub normalises : IsWellFormed registry → IsOrderly registry → (t form : Tree) (out : List ℕ) → SpelledBy registry limits s text t → IsSound registry limits s t → IsForm registry (container.of s) t form
+      → IsTextOf registry s form out → IsReadAs out (shown registry form (of s)) → Normalises registry limits s text out
+  normalises well orderly t form out spelled sound is_form is back =
+      record {
+        value = t;
+        denoted = sound_is_denoted registry limits s text t spelled sound;
+        form = form;
+        is_form = is_form;
+        is = is;
+        again = shown_denotes registry limits s well orderly form (form_is_sound registry limits s well orderly t form sound is_form) out back.0 back.1;
+      }
+
+-- the text of the canonical form of a sound value
+pub prints : (registry : Entries) (limits : Bounds) (s : Shape) → IsWellFormed registry → IsOrderly registry → (t form : Tree) (out : List ℕ) → IsSound registry limits s t → IsForm registry (container.of s) t form
+    → IsTextOf registry s form out → IsReadAs out (shown registry form (of s)) → Prints registry limits s t out
+prints registry limits s well orderly t form out sound is_form is back =
+    record {
+      form = form;
+      is_form = is_form;
+      is = is;
+      denotes = shown_denotes registry limits s well orderly form (form_is_sound registry limits s well orderly t form sound is_form) out back.0 back.1;
+    }
+
+-- bytes that are equal or not say whether the values are the same
+pub compares : (registry : Entries) (limits : Bounds) (s : Shape) (first second b c : List ℕ) (answer : Bool) → HasBytes registry limits s first b → HasBytes registry limits s second c
+    → Decides answer (b ≡ c) → Compares registry limits s first second answer
+compares registry limits s first second b c answer one other equal =
+    let decide : Same one.value other.value ↔ (b ≡ c) = bytes_decide_same registry limits s one.value other.value b c one.encoded other.encoded in
+    record {
+      one = one.value;
+      one_denoted = one.denoted;
+      other = other.value;
+      other_denoted = other.denoted;
+      same = (λ h. decide.1 (equal.0 h), λ h. equal.1 (decide.0 h));
+      one_bytes = b;
+      one_encoded = one.encoded;
+      other_bytes = c;
+      other_encoded = other.encoded;
+      equal = equal;
+    }

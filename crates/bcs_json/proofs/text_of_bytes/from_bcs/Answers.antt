@@ -1,0 +1,15 @@
+use Rattle.std.proofs.Common.{string_bytes}
+use Rattle.bcs_registry_formats.specs.View.{shape_of}
+use Rattle.bcs_value_tree.specs.View.{tree_of}
+use Rattle.bcs_json_laws.proofs.Printed.{shown_denotes}
+use Rattle.bcs_json.proofs.text_of_bytes.from_bcs.Goals as goal
+
+pub returns : goal.returns
+returns c = record {
+  value = tree_of c.in_ok-value.value;
+  accepted = c.in_ok-value.ensures;
+  is = c.in_ok-text.ensures.text;
+  denoted =
+      shown_denotes c.args.registry.now c.args.limits.now (shape_of c.args.format.now) c.recall.ensures.well_formed c.recall.ensures.orderly (tree_of c.in_ok-value.value)
+      c.in_ok-value.ensures.sound (string_bytes c.in_ok-text.text) c.in_ok-text.ensures.reads_back.0 c.in_ok-text.ensures.reads_back.1;
+}

@@ -1,0 +1,11 @@
+use Rattle.std.proofs.Common.{string_bytes}
+use Rattle.bcs_registry_formats.specs.View.{shape_of}
+use Rattle.bcs_value_tree.specs.View.{tree_of}
+use Rattle.bcs_json.proofs.Outcomes.{prints}
+use Rattle.bcs_json.proofs.value_printing.print_value.Goals as goal
+
+pub returns-clause-prints : goal.returns-clause-prints
+returns-clause-prints c =
+    prints c.args.registry.now c.args.limits.now (shape_of c.args.format.now) c.recall.ensures.well_formed c.recall.ensures.orderly
+    (tree_of c.args.value.now) (tree_of c.in_ok-form.form) (string_bytes c.in_ok-text.text) c.in_ok-form.ensures.sound c.in_ok-form.ensures.form
+    c.in_ok-text.ensures.text c.in_ok-text.ensures.reads_back
