@@ -1,6 +1,6 @@
 -- What the calls answer, from what the crates below tell.
-use Rattle.std.proofs.Common.{◌≡◌, ◌≢◌, ◌↔◌, ◌≤◌, ◌<◌, ℕ, List, Ok, Err, Result, IfOk, IfErr, Bool, true, Decides, IsTrue, length, refl, sym, subst}
-use Rattle.serde_json.specs.Data.{Data, depth}
+use Rattle.std.proofs.Common.{◌≡◌, ◌≢◌, ◌↔◌, ℕ, List, Ok, Err, Result, IfOk, IfErr, Bool, Decides, refl}
+use Rattle.serde_json.specs.Data.{Data}
 use Rattle.bcs_registry_formats.specs.Container.{Entries}
 use Rattle.bcs_registry_formats.specs.Container as container
 use Rattle.bcs_registry_formats.specs.Ranges.{IsOrderly}
@@ -12,7 +12,7 @@ use Rattle.bcs_value_tree.specs.Tree.{Tree}
 use Rattle.bcs_value_tree.specs.View.{tree_of}
 use Rattle.bcs_value_tree.specs.declared.value.Value.{Value}
 use Rattle.bcs_encode_laws.proofs.FormLaws.{bytes_decide_same}
-use Rattle.bcs_encode_laws.specs.Encodes.{Encodes, IsForm}
+use Rattle.bcs_encode_laws.specs.Encodes.{IsForm}
 use Rattle.bcs_encode_laws.specs.Refused as encode
 use Rattle.bcs_encode_laws.specs.Sound.{IsSound}
 use Rattle.bcs_encode_laws.specs.declared.fault.EncodeFault.{EncodeFault}
@@ -24,7 +24,7 @@ use Rattle.bcs_json_laws.specs.Headline.{HasBytes, Compares, Normalises}
 use Rattle.bcs_json_laws.specs.JsonContent.{of}
 use Rattle.bcs_json_laws.specs.Reading.{Tells, read_data}
 use Rattle.bcs_json_laws.specs.Shown.{shown}
-use Rattle.bcs_json_laws.specs.Texts.{IsReadAs, Denotes, SpelledBy, RefusesText, IsTextOf}
+use Rattle.bcs_json_laws.specs.Texts.{IsReadAs, SpelledBy, RefusesText, IsTextOf}
 use Rattle.bcs_json_laws.proofs.Printed.{shown_denotes, form_is_sound}
 use Rattle.bcs_json_laws.proofs.TextOutcomes.{read_is_spelled, stop_is_refusal, sound_is_denoted, refused_value}
 use Rattle.bcs_json.specs.Printing.{Prints}

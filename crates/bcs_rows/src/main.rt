@@ -11,6 +11,7 @@ mod registries;
 mod row_fault;
 mod rows;
 mod setting;
+mod texts;
 mod value_words;
 mod values;
 mod verdicts;

@@ -3,7 +3,7 @@
 use crate::row_fault::RowFault;
 use crate::setting::Setting;
 use crate::words::unrolled;
-use crate::{encodings, jobs, lines, numbers, registries, values, verdicts};
+use crate::{encodings, jobs, lines, numbers, registries, texts, values, verdicts};
 use std::alloc::{AllocError, Global};
 
 /// The answer to a row, or why there is none.
@@ -44,6 +44,7 @@ fn answered(
         "verdict" | "changes" => verdicts::answer(alloc, setting, question, words),
         "values" | "fits" => values::answer(alloc, setting, question, words),
         "encode" | "form" => encodings::answer(alloc, setting, question, words),
+        "json" | "text" | "same" => texts::answer(alloc, setting, question, words),
         "line" | "usage" | "help" => lines::answer(alloc, question, words),
         "bcs" => jobs::answer(alloc, words),
         _ => Err(RowFault::NotUnderstood),

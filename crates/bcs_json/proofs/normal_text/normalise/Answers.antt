@@ -1,4 +1,4 @@
-use Rattle.std.proofs.Common.{rules, string_bytes}
+use Rattle.std.proofs.Common.{string_bytes}
 use Rattle.std.proofs.lemmas.Result.{err_from_is_err_and}
 use Rattle.bcs_registry_formats.specs.View.{shape_of}
 use Rattle.bcs_value_tree.specs.View.{tree_of}
