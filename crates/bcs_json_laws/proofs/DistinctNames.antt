@@ -1,15 +1,14 @@
 -- In a well-formed registry the names of fields differ, and the names of variants do.
-use Rattle.std.proofs.Common.{◌≡◌, ◌∙◌, ℕ, List, [], ◌∷◌, map, Option, Some, Bool, true, false, not, cond, ◌&&◌, ◌==◌, bytes_eq, refl, ap, sym, subst}
-use Rattle.std.proofs.lemmas.Bool.{or_left, or_right}
-use Rattle.std.proofs.lemmas.Bool.Decides.{Decides-eqb}
+use Rattle.std.proofs.Common.{◌≡◌, ◌∙◌, ℕ, List, [], ◌∷◌, map, Option, Some, Bool, true, false, cond, ◌&&◌, ◌==◌, bytes_eq, refl, sym, subst}
 use Rattle.std.proofs.lemmas.List.Folds.{list_all-append}
-use Rattle.std.specs.List.{flat_map, list_all, list_any}
+use Rattle.std.specs.List.{flat_map, list_all}
 use Rattle.std.specs.Option.{option_map_or}
 use Rattle.bcs_registry_formats.specs.Container as container
 use Rattle.bcs_registry_formats.specs.Container.{Container, unit_struct, newtype_struct, tuple_struct, field_struct, enumeration, Field, Payload, newtype, tuple, Choice, Entries, container_at, choice_numbered, choice_called}
 use Rattle.bcs_registry_formats.specs.WellFormed.{payload_names, container_names, are_distinct, levels_hold, names_differ, IsWellFormed}
 use Rattle.bcs_value_laws.proofs.Equivalence.{bytes-refl}
 use Rattle.bcs_json_laws.specs.JsonContent.{JsonContent, fields, one_of, nothing, json_content, json_content_at, payload_content}
+use Rattle.bcs_json_laws.proofs.DistinctVariants.{numbered_called as called_by_name}
 use Rattle.bcs_json_laws.proofs.Fitting.{and_left, and_right}
 
 -- the lists of names that must differ where this stands
@@ -69,38 +68,6 @@ payload_names_differ n cs p h found = in_payload n cs p (and_right (are_distinct
 
 -- ---- a variant by its name
 
--- the variant of this number is among those of its name
-among_at : (name : List ℕ) (d : Choice) (ds : List Choice) (n : ℕ) (p : List ℕ × Payload) (b : Bool) → cond b (Some d.1) (choice_numbered n ds) ≡ Some p → bytes_eq name p.0 ≡ true
-    → (choice_numbered n ds ≡ Some p → list_any (bytes_eq name) (map (λ c. c.1.0) ds) ≡ true) → list_any (bytes_eq name) (map (λ c. c.1.0) (d ∷ ds)) ≡ true
-among_at name d ds n p true found is later =
-    let same : d.1 ≡ p = cc in or_left (bytes_eq name d.1.0) _ (ap (λ (x : List ℕ × Payload). bytes_eq name x.0) same ∙ is)
-among_at name d ds n p false found is later = or_right (bytes_eq name d.1.0) _ (later found)
-
-among : (name : List ℕ) (cs : List Choice) (n : ℕ) (p : List ℕ × Payload) → choice_numbered n cs ≡ Some p → bytes_eq name p.0 ≡ true → list_any (bytes_eq name) (map (λ c. c.1.0) cs) ≡ true
-among name [] n p found is = cc
-among name (d ∷ ds) n p found is = among_at name d ds n p (d.0 == n) found is (λ g. among name ds n p g is)
-
-own_name : (d : Choice) (ds : List Choice) → choice_called d.1.0 (d ∷ ds) ≡ Some d
-own_name d ds = ap (λ b. cond b (Some d) (choice_called d.1.0 ds)) (bytes-refl d.1.0)
-
-other_name : (d : Choice) (ds : List Choice) (n : ℕ) (p : List ℕ × Payload) (b : Bool) → bytes_eq d.1.0 p.0 ≡ b → not (list_any (bytes_eq d.1.0) (map (λ c. c.1.0) ds)) ≡ true
-    → (bytes_eq d.1.0 p.0 ≡ true → list_any (bytes_eq d.1.0) (map (λ c. c.1.0) ds) ≡ true) → choice_called p.0 ds ≡ Some (n, p) → cond b (Some d) (choice_called p.0 ds) ≡ Some (n, p)
-other_name d ds n p true is differ hit later = let again : false ≡ true = sym (ap not (hit is)) ∙ differ in absurd (cc)
-other_name d ds n p false is differ hit later = later
-
-called_at : (d : Choice) (ds : List Choice) (n : ℕ) (p : List ℕ × Payload) (b : Bool) → (d.0 == n) ≡ b → cond b (Some d.1) (choice_numbered n ds) ≡ Some p
-    → are_distinct (map (λ c. c.1.0) (d ∷ ds)) ≡ true → (choice_numbered n ds ≡ Some p → choice_called p.0 ds ≡ Some (n, p)) → choice_called p.0 (d ∷ ds) ≡ Some (n, p)
-called_at d ds n p true is found differ later =
-    let same : d.1 ≡ p = cc in
-    let number : d.0 ≡ n = (Decides-eqb d.0 n).0 is in
-    subst (λ (x : List ℕ × Payload). choice_called x.0 (d ∷ ds) ≡ Some (n, x)) same (subst (λ (m : ℕ). choice_called d.1.0 (d ∷ ds) ≡ Some (m, d.1)) number (own_name d ds))
-called_at d ds n p false is found differ later = other_name d ds n p (bytes_eq d.1.0 p.0) refl (and_left _ _ differ) (among d.1.0 ds n p found) (later found)
-
-numbered_at : (n : ℕ) (cs : List Choice) (p : List ℕ × Payload) → are_distinct (map (λ c. c.1.0) cs) ≡ true → choice_numbered n cs ≡ Some p → choice_called p.0 cs ≡ Some (n, p)
-numbered_at n [] p differ found = cc
-numbered_at n (d ∷ ds) p differ found =
-    called_at d ds n p (d.0 == n) refl found differ (numbered_at n ds p (and_right (not (list_any (bytes_eq d.1.0) (map (λ c. c.1.0) ds))) _ differ))
-
 -- the variant of this number is the one that is called as it is
 pub numbered_called : (n : ℕ) (cs : List Choice) (p : List ℕ × Payload) → has_names (one_of cs) ≡ true → choice_numbered n cs ≡ Some p → choice_called p.0 cs ≡ Some (n, p)
-numbered_called n cs p h found = numbered_at n cs p (and_left (are_distinct (map (λ c. c.1.0) cs)) _ h) found
+numbered_called n cs p h found = called_by_name p.0 cs (n, p) (and_left (are_distinct (map (λ c. c.1.0) cs)) _ h) found (bytes-refl p.0)

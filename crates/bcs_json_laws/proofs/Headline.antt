@@ -1,5 +1,5 @@
 -- Equal values and equal bytes, a stable normal text, and bytes that come back.
-use Rattle.std.proofs.Common.{◌≡◌, ◌∙◌, ◌↔◌, ℕ, List, length, sym, ap, subst}
+use Rattle.std.proofs.Common.{◌≡◌, ◌∙◌, ℕ, List, sym, ap, subst}
 use Rattle.serde_json.specs.Written.{compact_text}
 use Rattle.bcs_registry_formats.specs.Container.{Entries}
 use Rattle.bcs_registry_formats.specs.Container as container
@@ -11,7 +11,7 @@ use Rattle.bcs_encode_laws.proofs.FormLaws.{bytes_decide_same, forms_same}
 use Rattle.bcs_encode_laws.specs.Encodes.{Encodes, IsForm}
 use Rattle.bcs_decode_laws.proofs.Encoded.{accepted_is_encoded_is}
 use Rattle.bcs_json_laws.specs.JsonContent.{of}
-use Rattle.bcs_json_laws.specs.Headline.{HasBytes, Normalises, ShowsBytes}
+use Rattle.bcs_json_laws.specs.Headline.{HasBytes}
 use Rattle.bcs_json_laws.specs.Laws.{EqualValuesEqualBytes, NormalTextIsStable, ShownBytesComeBack}
 use Rattle.bcs_json_laws.specs.Shown.{shown}
 use Rattle.bcs_json_laws.specs.Texts.{Denotes}

@@ -21,7 +21,7 @@ use Rattle.bcs_json_laws.specs.Look.{IfStringOrArray, IfThere, without}
 use Rattle.bcs_json_laws.proofs.Numbering.{numbers_differ, has_numbering, orderly_numbering}
 use Rattle.bcs_json_laws.specs.Shown.{shown, shown_all, shown_each, shown_pairs, shown_fields, shown_choice, is_wide}
 use Rattle.bcs_json_laws.specs.Spells.{Spells, AllSpell, EachSpells, PairsSpell, FieldsSpell, IsWordOf}
-use Rattle.bcs_json_laws.proofs.Fitting.{and_left, and_right, Part, one, items_in, text_or_items, members_in, two, word_or_one, there, numbering_at, payload_numbering, called_numbered}
+use Rattle.bcs_json_laws.proofs.Fitting.{and_left, Part, one, items_in, text_or_items, members_in, two, word_or_one, there, numbering_at, payload_numbering, called_numbered}
 
 -- ---- members
 

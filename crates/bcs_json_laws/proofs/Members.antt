@@ -1,5 +1,5 @@
 -- Members that are put in are found again by their names, and taken away again.
-use Rattle.std.proofs.Common.{◌≡◌, ◌∙◌, ℕ, ◌≤◌, List, [], ◌∷◌, map, Option, Some, None, true, false, true≢false, not, cond, bytes_eq, Ordering, Less, Equal, Greater, refl, ap, sym, subst}
+use Rattle.std.proofs.Common.{◌≡◌, ◌∙◌, ℕ, ◌≤◌, List, [], ◌∷◌, map, Some, None, true, false, true≢false, not, cond, bytes_eq, Ordering, Less, Equal, Greater, refl, ap, sym, subst}
 use Rattle.std.proofs.lemmas.Bool.{or_parts, not-true}
 use Rattle.std.proofs.lemmas.Map.Text.{is_eq-slice_cmp}
 use Rattle.std.specs.Cmp.Lexicographic.{slice_cmp}

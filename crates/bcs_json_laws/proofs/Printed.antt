@@ -1,5 +1,5 @@
 -- What is shown of a canonical form denotes this form, and nests no deeper than what it was read from.
-use Rattle.std.proofs.Common.{◌≡◌, ◌≤◌, ℕ, List, sym, subst, arith}
+use Rattle.std.proofs.Common.{◌≤◌, ℕ, List, sym, subst, arith}
 use Rattle.serde_json.specs.Data.{depth}
 use Rattle.bcs_registry_formats.specs.Container.{Entries}
 use Rattle.bcs_registry_formats.specs.Container as container

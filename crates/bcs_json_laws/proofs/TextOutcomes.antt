@@ -5,10 +5,8 @@ use Rattle.bcs_registry_formats.specs.Container.{Entries}
 use Rattle.bcs_registry_formats.specs.Ranges.{IsOrderly}
 use Rattle.bcs_registry_formats.specs.Shape.{Shape}
 use Rattle.bcs_value_laws.proofs.Loosening.{strictly_then_loosely}
-use Rattle.bcs_value_laws.specs.Fits.{Fits}
 use Rattle.bcs_value_laws.specs.Limits.{Bounds}
 use Rattle.bcs_value_tree.specs.Tree.{Tree}
-use Rattle.bcs_encode_laws.specs.Encodes.{Encodes}
 use Rattle.bcs_encode_laws.specs.Refused as encode
 use Rattle.bcs_encode_laws.specs.Sound.{IsSound}
 use Rattle.bcs_encode_laws.specs.declared.fault.EncodeFault.{EncodeFault}

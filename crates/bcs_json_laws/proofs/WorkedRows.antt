@@ -1,5 +1,5 @@
 -- What the definitions say of some texts, by computation.
-use Rattle.std.proofs.Common.{◌≡◌, ℕ, negsuc, [], ◌∷◌, codes, Ok, Err, true, Float, refl, arith, rules}
+use Rattle.std.proofs.Common.{◌≡◌, ℕ, negsuc, [], ◌∷◌, codes, Ok, Err, true, Float, refl, rules}
 use Rattle.std.specs.Int.{w8, w16, w128}
 use Rattle.std.proofs.lemmas.Str.{IsUtf8-from_ascii, is_utf8-from_IsUtf8}
 use Rattle.std.specs.Str.{is_utf8}

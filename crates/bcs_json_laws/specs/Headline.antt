@@ -1,5 +1,5 @@
 -- What the calls over texts and bytes answer: a normal text, a text's bytes beside another's, the text of bytes.
-use Rattle.std.specs.Prelude.{◌≡◌, ◌↔◌, ℕ, List, length, Bool, true, IsTrue}
+use Rattle.std.specs.Prelude.{◌≡◌, ◌↔◌, ℕ, List, length, Bool, IsTrue}
 use Rattle.bcs_registry_formats.specs.Container.{Entries}
 use Rattle.bcs_registry_formats.specs.Container as container
 use Rattle.bcs_registry_formats.specs.Shape.{Shape}
