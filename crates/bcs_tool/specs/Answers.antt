@@ -6,20 +6,37 @@ use Rattle.bcs_registry_formats.specs.Container.{Entries}
 use Rattle.bcs_registry_formats.specs.Grows.{Grows}
 use Rattle.bcs_registry_formats.specs.Shape.{Shape}
 use Rattle.bcs_value_laws.specs.Limits.{Bounds}
-use Rattle.bcs_value_tree.specs.Tree.{Tree}
-use Rattle.bcs_encode_laws.specs.Encodes.{Encodes}
+use Rattle.bcs_json_laws.specs.Headline.{HasBytes}
+use Rattle.bcs_json_laws.specs.Texts.{RefusesText}
+use Rattle.bcs_json_faults.specs.declared.json_fault.JsonFault.{JsonFault}
+use Rattle.bcs_json_faults.specs.declared.json_fault.JsonFault.TheVariants.{NotJson, TooNested, Unsupported, BadShape, BadNumber, BadHex, UnknownField, MissingField, UnknownVariant, TooDeep, TooManyNodes, TooLong, RepeatedKey, OutOfMemory}
 use Rattle.bcs_tool_files.specs.Files.{size_limit}
 use Rattle.bcs_tool.specs.Judging.{Asks, IsRegistry, RefusesEarly, job_fault_name}
-use Rattle.bcs_tool.specs.Spelling.{Denotes, RefusesText, input_name}
 use Rattle.bcs_tool_line.specs.declared.command.Command.TheVariants as command
 use Rattle.bcs_tool_line.specs.declared.command.Command.TheVariants.{Check}
 use Rattle.bcs_tool.specs.declared.job_fault.JobFault.{JobFault}
-use Rattle.bcs_tool.specs.declared.input_fault.InputFault.{InputFault}
 use Rattle.bcs_tool_files.specs.declared.work.Work.{Work}
 
 -- the limits of a value
 abbrev pub standard_bounds : Bounds
 standard_bounds = record { depth = 500; nodes = 4294967295 }
+
+-- the name that is printed of why a text denotes no value
+abbrev pub json_fault_name : JsonFault → List ℕ
+json_fault_name NotJson = codes "NotJson"
+json_fault_name TooNested = codes "TooNested"
+json_fault_name Unsupported = codes "Unsupported"
+json_fault_name BadShape = codes "BadShape"
+json_fault_name BadNumber = codes "BadNumber"
+json_fault_name BadHex = codes "BadHex"
+json_fault_name UnknownField = codes "UnknownField"
+json_fault_name MissingField = codes "MissingField"
+json_fault_name UnknownVariant = codes "UnknownVariant"
+json_fault_name TooDeep = codes "TooDeep"
+json_fault_name TooManyNodes = codes "TooManyNodes"
+json_fault_name TooLong = codes "TooLong"
+json_fault_name RepeatedKey = codes "RepeatedKey"
+json_fault_name OutOfMemory = codes "OutOfMemory"
 
 -- the text, and a line end
 abbrev pub line_of : List ℕ → List ℕ
@@ -46,9 +63,9 @@ pub data Answers (work : Work) (input : List ℕ) : ℕ → List ℕ → Type 0 
   -- `grows`: the newer registry keeps all that the older one has
   grown : (older newer : Entries) → work.command ≡ command.Grows → IsRegistry work.registry.items older → IsRegistry work.second.items newer → Grows older newer → Answers work input 0 (line_of (codes "grows"))
   -- the input is refused
-  refused : (registry : Entries) (s : Shape) (fault : InputFault) → Asks work registry s → length input ≤ size_limit → RefusesText s input fault → Answers work input 2 (refusal_line (input_name fault))
+  refused : (registry : Entries) (s : Shape) (fault : JsonFault) → Asks work registry s → length input ≤ size_limit → RefusesText registry standard_bounds s input fault → Answers work input 2 (refusal_line (json_fault_name fault))
   -- `encode`: the bytes of the value
-  encoded : (registry : Entries) (s : Shape) (value : Tree) (bytes : List ℕ) → Asks work registry s → length input ≤ size_limit → Denotes s input value → Encodes registry standard_bounds s value bytes → Answers work input 0 (printed work.raw bytes)
+  encoded : (registry : Entries) (s : Shape) (bytes : List ℕ) → Asks work registry s → length input ≤ size_limit → HasBytes registry standard_bounds s input bytes → Answers work input 0 (printed work.raw bytes)
 
 -- these bytes may be the content: they are it, where it is known
 abbrev pub IsContent : Option (List ℕ) → List ℕ → Type 0

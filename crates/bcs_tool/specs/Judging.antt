@@ -10,7 +10,6 @@ use Rattle.bcs_registry_formats.specs.declared.fault.RegistryFault.{RegistryFaul
 use Rattle.bcs_registry_formats.specs.declared.fault.RegistryFault.TheVariants.{NotJson, BadShape, BadNumber, TooNested, RepeatedName, UnknownName, OutOfMemory}
 use Rattle.bcs_registry_formats.specs.declared.growth_fault.GrowthFault.{GrowthFault}
 use Rattle.bcs_registry_formats.specs.declared.growth_fault.GrowthFault.TheVariants.{Missing, Changed, VariantMissing, VariantChanged}
-use Rattle.bcs_tool.specs.Spelling.{is_served}
 use Rattle.bcs_tool_line.specs.declared.command.Command.{Command}
 use Rattle.bcs_tool_line.specs.declared.command.Command.TheVariants as command
 use Rattle.bcs_tool.specs.declared.job_fault.JobFault.{JobFault}
@@ -37,7 +36,6 @@ growth_fault_name VariantChanged = codes "VariantChanged"
 abbrev pub job_fault_name : JobFault → List ℕ
 job_fault_name (job.Registry fault) = registry_fault_name fault
 job_fault_name (job.Growth fault) = growth_fault_name fault
-job_fault_name job.NotYet = codes "NotYet"
 
 -- ---- the registry's text
 
@@ -69,24 +67,20 @@ pub record Asks (work : Work) (registry : Entries) (s : Shape) : Type 0 where
   pub command : work.command ≡ command.Encode
   pub is_registry : IsRegistry work.registry.items registry
   pub is_format : IsFormat registry (string_bytes work.format) s
-  pub serves : is_served s ≡ true
 
--- the job's words are served, and it has an input, which is read
+-- the job has an input, which is read, since its words are not refused
 abbrev pub ReadsInput : Work → Type 0
 ReadsInput work = (registry : Entries) × (s : Shape) × Asks work registry s
 
--- the registry's fault, or else the format's, or else the format isn't served yet
+-- the registry's fault, or else the format's
 abbrev pub RefusesEncoding : Work → JobFault → Type 0
 RefusesEncoding work (job.Registry fault) = IsLeastFault work.registry.items fault
     ⊎ ((registry : Entries) × IsRegistry work.registry.items registry × RefusesFormat registry (string_bytes work.format) fault)
 RefusesEncoding work (job.Growth fault) = ⊥
-RefusesEncoding work job.NotYet = (registry : Entries) × (s : Shape) × IsRegistry work.registry.items registry
-    × IsFormat registry (string_bytes work.format) s × (is_served s ≡ false)
 
 abbrev pub RefusesCheck : Work → JobFault → Type 0
 RefusesCheck work (job.Registry fault) = IsLeastFault work.registry.items fault
 RefusesCheck work (job.Growth fault) = ⊥
-RefusesCheck work job.NotYet = ⊥
 
 -- the older registry's fault, or else the newer's, or else why the one has not grown into the other
 abbrev pub RefusesGrowth : Work → JobFault → Type 0
@@ -94,7 +88,6 @@ RefusesGrowth work (job.Registry fault) = IsLeastFault work.registry.items fault
     ⊎ ((older : Entries) × IsRegistry work.registry.items older × IsLeastFault work.second.items fault)
 RefusesGrowth work (job.Growth fault) = (older : Entries) × (newer : Entries) × IsRegistry work.registry.items older
     × IsRegistry work.second.items newer × IsFirstGrowthFault older newer fault
-RefusesGrowth work job.NotYet = ⊥
 
 abbrev pub RefusesAt : Command → Work → JobFault → Type 0
 RefusesAt command.Encode = RefusesEncoding

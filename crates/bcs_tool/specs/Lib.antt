@@ -1,5 +1,4 @@
 pub mod Judging
-pub mod Spelling
 pub mod Answers
 pub use Rattle.bcs_tool_files.specs.Files
 pub use Rattle.bcs_tool_line.specs.Jobs

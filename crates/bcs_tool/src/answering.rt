@@ -2,22 +2,20 @@
 ghost use Rattle.std.specs.Prelude.{◌≡◌, ◌≢◌, ◌≤◌, ◌+◌, ℕ, List, length, true, Err, IfOk};
 ghost use Rattle.bcs_decode_sources.specs.Taking.{Took};
 ghost use Rattle.bcs_registry_formats.specs.View.{shape_of};
-ghost use Rattle.bcs_value_tree.specs.View.{tree_of};
-ghost use Rattle.bcs_encode_laws.specs.Encodes.{Encodes};
-ghost use Rattle.bcs_tool.specs.Answers.{Answers, IsContent, printed, standard_bounds};
+ghost use Rattle.bcs_tool.specs.Answers.{Answers, IsContent};
 ghost use Rattle.bcs_tool_files.specs.Files.{size_limit};
 ghost use Rattle.bcs_tool.specs.Judging.{Asks, ReadsInput};
 
 use crate::answer::{Answer, counted, encoded, grown};
 use crate::judging::{Asked, judge_check, judge_encoding, judge_growth};
-use crate::reading::read_text;
 use crate::run_fault::RunFault;
+use crate::text_refusal::refused_text;
 use bcs_decode::ByteSource;
-use bcs_encode::encode;
+use bcs_json::to_bcs;
 use bcs_tool_files::limits::SIZE_LIMIT;
 use bcs_tool_files::{TakeFault, Work, take_all};
 use bcs_tool_line::Command;
-use bcs_value::{Limits, Value};
+use bcs_value::Limits;
 use std::alloc::{AllocError, Global};
 
 /// The answer to the job. The input is read only where the job has one and its own words are not refused.
@@ -85,39 +83,20 @@ fn answer_encoding<S: ByteSource>(
     }
 }
 
-// The answer to the input's text, where the job asks for this format.
+// The answer to the input's text, where the job asks for this format: the bytes of the value, as they are printed.
 fn answer_text(alloc: Global, work: &Work, asked: &Asked, text: &[u8]) -> Result<Answer, AllocError>
     requires asks { Asks work.now asked.now.registry (shape_of asked.now.format) }
     requires within { length text.now ≤ size_limit }
     ensures { IfOk result (λ a. Answers work.now text.now a.status a.output.items) }
 {
-    match read_text(alloc, &asked.format, text) {
-        Ok(value) => answer_value(alloc, work, asked, &value),
-        Err(fault) => fault.answer(alloc),
-    }
-}
-
-// The bytes of a value, as they are printed.
-fn answer_value(
-    alloc: Global,
-    work: &Work,
-    asked: &Asked,
-    value: &Value,
-) -> Result<Answer, AllocError>
-    requires asks { Asks work.now asked.now.registry (shape_of asked.now.format) }
-    ensures { IfOk result (λ a. (a.status ≡ 0) × ((bytes : List ℕ)
-        × Encodes asked.now.registry standard_bounds (shape_of asked.now.format) (tree_of value.now) bytes
-        × (a.output.items ≡ printed work.now.raw bytes))) }
-{
-    match encode(
+    match to_bcs(
         alloc,
         &asked.registry,
         &asked.format,
         &Limits::standard(),
-        value,
+        text,
     ) {
         Ok(bytes) => encoded(alloc, bytes.as_slice(), work.raw),
-        // A value that was read is sound, so that memory alone is a fault.
-        Err(_) => Err(AllocError),
+        Err(fault) => refused_text(alloc, fault),
     }
 }

@@ -18,9 +18,6 @@ pub enum JobFault {
     /// The newer registry doesn't keep all that the older one has.
     #[error("{0}")]
     Growth(GrowthFault),
-    /// The format isn't served yet.
-    #[error("NotYet")]
-    NotYet,
 }
 
 impl JobFault {
@@ -42,7 +39,6 @@ impl JobFault {
         match self {
             JobFault::Registry(fault) => registry_name(fault),
             JobFault::Growth(fault) => growth_name(fault),
-            JobFault::NotYet => "NotYet",
         }
     }
 }

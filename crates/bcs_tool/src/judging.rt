@@ -8,7 +8,6 @@ ghost use Rattle.bcs_registry_formats.specs.declared.fault.RegistryFault.TheVari
 ghost use Rattle.bcs_tool.specs.Judging.{Asks, IsFormat, IsRegistry, RefusesCheck, RefusesEncoding, RefusesFormat, RefusesGrowth, is_json_word};
 
 use crate::job_fault::JobFault;
-use crate::reading::is_served;
 use bcs_registry::{Format, Registry, RegistryFault};
 use bcs_tool_files::Work;
 use bcs_tool_line::Command;
@@ -51,11 +50,7 @@ pub fn judge_encoding(alloc: Global, work: &Work) -> Result<Asked, JobFault>
 {
     let registry = Registry::read(alloc, work.registry.as_slice())?;
     let format = judge_format(alloc, &registry, work.format.as_str())?;
-    if is_served(&format) {
-        Ok(Asked { registry, format })
-    } else {
-        Err(JobFault::NotYet)
-    }
+    Ok(Asked { registry, format })
 }
 
 // The format of a word: its JSON, or a container's name.

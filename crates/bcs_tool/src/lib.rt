@@ -3,13 +3,11 @@
 
 mod answer;
 mod answering;
-mod input_fault;
 mod job_fault;
 mod judging;
-mod reading;
 mod run_fault;
 mod running;
-mod whole_number;
+mod text_refusal;
 
 pub use bcs_decode::{ByteSource, ReadSource};
 pub use bcs_encode::{ByteSink, WriteSink};
