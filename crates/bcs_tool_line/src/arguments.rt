@@ -1,10 +1,11 @@
 //! The job of a command's words, as clap found them.
-ghost use Rattle.std.specs.Prelude.{◌≡◌, IfOk, option_map, string_bytes};
-ghost use Rattle.clap.specs.Words.{found_of, rows_of, first_of};
-ghost use Rattle.bcs_tool_line.specs.Jobs.{IsJob, is_raw, text_or_empty};
+ghost use Rattle.std.specs.Prelude.{◌≡◌, ℕ, IfOk, option_map, string_bytes};
+ghost use Rattle.clap.specs.Words.{found_of, one_of, rows_of};
+ghost use Rattle.bcs_tool_line.specs.Jobs.{AreLimits, IsJob, WritesLimit, text_or_empty};
 
 use crate::command::Command;
 use crate::job::Job;
+use bcs_value::Limits;
 use clap::ArgMatches;
 use std::alloc::{AllocError, Global};
 
@@ -15,11 +16,12 @@ pub fn job_of(alloc: Global, command: Command, given: &ArgMatches<'_>) -> Result
     Ok(Job {
         command,
         registry: text_of(alloc, given.get_str("REG").or(given.get_str("OLD")))?,
-        second: text_of(alloc, given.get_str("NEW"))?,
+        second: text_of(alloc, given.get_str("NEW").or(given.get_str("A")))?,
         format: text_of(alloc, given.get_str("FORMAT"))?,
         path: text_of(alloc, given.get_str("PATH"))?,
-        file: file_name(alloc, given.get_str("FILE"))?,
+        file: file_name(alloc, given.get_str("FILE").or(given.get_str("B")))?,
         raw: given.get_str("raw").unwrap_or("") == "true",
+        limits: limits_of(given),
     })
 }
 
@@ -38,4 +40,20 @@ fn file_name(alloc: Global, word: Option<&str>) -> Result<Option<String>, AllocE
         Some(name) => Ok(Some(String::from_str(alloc, name)?)),
         None => Ok(None),
     }
+}
+
+// The limits of the options, and the standard ones where there are none. clap has judged their numbers.
+fn limits_of(given: &ArgMatches<'_>) -> Limits
+    ensures { AreLimits (rows_of (found_of given.now)) result }
+{
+    let standard = Limits::standard();
+    let depth = number_of(given, "depth", standard.depth());
+    let nodes = number_of(given, "nodes", standard.nodes());
+    Limits::new(depth, nodes).unwrap_or(standard)
+}
+
+fn number_of(given: &ArgMatches<'_>, option: &str, standard: u32) -> u32
+    ensures { (n : ℕ) → WritesLimit standard (one_of option.now (rows_of (found_of given.now))) n → result ≡ n }
+{
+    given.get_one(option).unwrap_or(standard)
 }
