@@ -1,4 +1,5 @@
 pub mod Judging
+pub mod Input
 pub mod Answers
 pub use Rattle.bcs_tool_files.specs.Files
 pub use Rattle.bcs_tool_line.specs.Jobs

@@ -3,11 +3,13 @@
 
 mod answer;
 mod answering;
+mod blanks;
 mod job_fault;
 mod judging;
 mod run_fault;
 mod running;
 mod text_refusal;
+mod value_answers;
 
 pub use bcs_decode::{ByteSource, ReadSource};
 pub use bcs_encode::{ByteSink, WriteSink};
