@@ -11,7 +11,7 @@ ghost use Rattle.bcs_tool.specs.Judging.{Asks, IsFormat, IsRegistry, RefusesChec
 use crate::job_fault::JobFault;
 use bcs_registry::{Format, Registry, RegistryFault};
 use bcs_tool_files::Work;
-use std::alloc::Global;
+use std::alloc::{AllocError, Global};
 
 /// How many containers the registry has.
 pub fn judge_check(alloc: Global, work: &Work) -> Result<usize, JobFault>
@@ -75,7 +75,7 @@ fn named(alloc: Global, name: &str) -> Result<Format, RegistryFault>
 {
     match String::from_str(alloc, name) {
         Ok(name) => Ok(Format::TypeName(name)),
-        Err(_) => Err(RegistryFault::OutOfMemory),
+        Err(AllocError) => Err(RegistryFault::OutOfMemory),
     }
 }
 

@@ -9,7 +9,7 @@ use crate::taking::{TakeFault, take_all};
 use crate::work::Work;
 use bcs_decode_sources::ReadSource;
 use bcs_tool_line::{Command, Job};
-use std::alloc::Global;
+use std::alloc::{AllocError, Global};
 use std::fs::File;
 use std::rt::Files;
 
@@ -76,6 +76,6 @@ fn copy(alloc: Global, text: &str) -> Result<Vec<u8>, FileFault>
 {
     match Vec::from_slice(alloc, text.as_bytes()) {
         Ok(bytes) => Ok(bytes),
-        Err(_) => Err(FileFault::Take(TakeFault::OutOfMemory)),
+        Err(AllocError) => Err(FileFault::Take(TakeFault::OutOfMemory)),
     }
 }

@@ -32,11 +32,10 @@ abbrev pub WritesLimit : ℕ → Option Text → ℕ → Type 0
 WritesLimit most None n = n ≡ most
 WritesLimit most (Some word) n = IsNumeral 10 (without_leading_plus word) × (n ≡ digits_value 10 (without_leading_plus word)) × (n ≤ most)
 
--- the limits that the options write, which are the standard ones where there are none. In an option's word that writes none
--- clap finds a fault.
-abbrev pub AreLimits : List Row → Bounds → Type 0
-AreLimits found limits = (depth nodes : ℕ) → WritesLimit 500 (one_of (codes "depth") found) depth
-    → WritesLimit 4294967295 (one_of (codes "nodes") found) nodes → limits ≡ record { depth = depth; nodes = nodes }
+-- the limits that the options write, which are the standard ones where there are none
+abbrev pub WritesLimits : List Row → Bounds → Type 0
+WritesLimits found limits = WritesLimit 500 (one_of (codes "depth") found) limits.depth
+    × WritesLimit 4294967295 (one_of (codes "nodes") found) limits.nodes
 
 -- the job of a command, where clap found these words for its arguments
 pub record IsJob (command : Command) (found : List Row) (job : Job) : Type 0 where
@@ -48,7 +47,7 @@ pub record IsJob (command : Command) (found : List Row) (job : Job) : Type 0 whe
   pub path : string_bytes job.path ≡ text_or_empty (first_of (codes "PATH") found)
   pub file : option_map string_bytes job.file ≡ option_or (first_of (codes "FILE") found) (first_of (codes "B") found)
   pub raw : job.raw ≡ is_raw found
-  pub limits : AreLimits found job.limits
+  pub limits : WritesLimits found job.limits
 
 -- the job that the words ask for, of which the first is the program's own name: that of the
 -- subcommand that clap finds in them, by its name and its words

@@ -1,7 +1,8 @@
 //! The job of a command's words, as clap found them.
 ghost use Rattle.std.specs.Prelude.{◌≡◌, ℕ, IfOk, option_map, string_bytes};
 ghost use Rattle.clap.specs.Words.{found_of, one_of, rows_of};
-ghost use Rattle.bcs_tool_line.specs.Jobs.{AreLimits, IsJob, WritesLimit, text_or_empty};
+ghost use Rattle.bcs_value_laws.specs.Limits.{Bounds};
+ghost use Rattle.bcs_tool_line.specs.Jobs.{IsJob, WritesLimit, WritesLimits, text_or_empty};
 
 use crate::command::Command;
 use crate::job::Job;
@@ -11,6 +12,7 @@ use std::alloc::{AllocError, Global};
 
 /// The job of a command with the words that were given to it.
 pub fn job_of(alloc: Global, command: Command, given: &ArgMatches<'_>) -> Result<Job, AllocError>
+    requires { (limits : Bounds) × WritesLimits (rows_of (found_of given.now)) limits }
     ensures { IfOk result (IsJob command (rows_of (found_of given.now))) }
 {
     Ok(Job {
@@ -44,7 +46,8 @@ fn file_name(alloc: Global, word: Option<&str>) -> Result<Option<String>, AllocE
 
 // The limits of the options, and the standard ones where there are none. clap has judged their numbers.
 fn limits_of(given: &ArgMatches<'_>) -> Limits
-    ensures { AreLimits (rows_of (found_of given.now)) result }
+    requires { (limits : Bounds) × WritesLimits (rows_of (found_of given.now)) limits }
+    ensures { WritesLimits (rows_of (found_of given.now)) result }
 {
     let standard = Limits::standard();
     let depth = number_of(given, "depth", standard.depth());
@@ -52,8 +55,10 @@ fn limits_of(given: &ArgMatches<'_>) -> Limits
     Limits::new(depth, nodes).unwrap_or(standard)
 }
 
+// The number of an option, and the standard one where there is none.
 fn number_of(given: &ArgMatches<'_>, option: &str, standard: u32) -> u32
-    ensures { (n : ℕ) → WritesLimit standard (one_of option.now (rows_of (found_of given.now))) n → result ≡ n }
+    requires { (n : ℕ) × WritesLimit standard (one_of option.now (rows_of (found_of given.now))) n }
+    ensures { WritesLimit standard (one_of option.now (rows_of (found_of given.now))) result }
 {
     given.get_one(option).unwrap_or(standard)
 }
