@@ -9,6 +9,7 @@ use Rattle.clap.specs.Walk.{Row, Rule, Text, answers_to, nothing_held, stop_afte
 use Rattle.clap.specs.declared.builder.value_parser.ValueParser.{ValueParser}
 use Rattle.clap.specs.declared.builder.value_parser.ValueParser.TheVariants.{Signed}
 use Rattle.clap.specs.declared.parser.matches.ArgMatches.{ArgMatches}
+use Rattle.clap.proofs.WalkLemmas.{both}
 use Rattle.bcs_value_laws.specs.Limits.{Bounds}
 use Rattle.bcs_tool_words.specs.CommandLine.{bcs_app}
 use Rattle.bcs_tool_words.proofs.Subcommands.{none_left}
@@ -23,11 +24,12 @@ module _ (id : Text) (most : ℕ) where
 
   found_shape : (f : Shape → Bool) (ss : List Shape) → AreShapes ss → IfSome (find f ss) (λ s. AreRules id (Signed (pos 0) (pos most)) s.rules)
   found_shape f [] h = tt
-  found_shape f (s ∷ ss) h = go (f s)
+  found_shape f (s ∷ ss) h = go (f s) (found_shape f ss h.1)
     where
-      go : (b : Bool) → IfSome (cond b (Some s) (find f ss)) (λ s. AreRules id (Signed (pos 0) (pos most)) s.rules)
-      go true = h.0
-      go false = found_shape f ss h.1
+      go : (b : Bool) → IfSome (find f ss) (λ s. AreRules id (Signed (pos 0) (pos most)) s.rules)
+          → IfSome (cond b (Some s) (find f ss)) (λ s. AreRules id (Signed (pos 0) (pos most)) s.rules)
+      go true rest = h.0
+      go false rest = rest
 
   sub_keeps : (o : Option Shape) → IfSome o (λ s. AreRules id (Signed (pos 0) (pos most)) s.rules) → (words : List Text)
       → option_map_or (λ s. level_fault s [] nothing_held words false []) o [] ≡ []
@@ -57,13 +59,14 @@ module _ (id : Text) (q : ValueParser) where
   no : (a : Rule) → bytes_eq a.id id ≡ false → IsRule id q a
   no a other same = absurd (true≢false (sym same ∙ other))
 
+  differs : (b : Bool) → not b ≡ true → b ≡ false
+  differs false e = refl
+  differs true e = cc
+
   none : (rules : List Rule) → list_all (λ a. not (bytes_eq a.id id)) rules ≡ true → AreRules id q rules
   none [] e = tt
-  none (a ∷ rules) e = go (bytes_eq a.id id) refl e
-    where
-      go : (b : Bool) → bytes_eq a.id id ≡ b → (not b && list_all (λ a. not (bytes_eq a.id id)) rules) ≡ true → AreRules id q (a ∷ rules)
-      go true same bad = cc
-      go false other good = (no a other, none rules good)
+  none (a ∷ rules) e =
+      let p = both _ _ e in (no a (differs (bytes_eq a.id id) p.0), none rules p.1)
 
 depths : AreShapes (codes "depth") 500 (built bcs_app).subs
 depths =

@@ -75,7 +75,7 @@ writes most t passed =
 -- the rows of an option whose values passed
 pub row_limit : (id : Text) (most : ℕ) (rows : List Row) → AreRows id (Signed (pos 0) (pos most)) rows → (n : ℕ) × WritesLimit most (one_of id rows) n
 row_limit id most [] h = (most, refl)
-row_limit id most (r ∷ rs) h = go (bytes_eq r.id id) refl
+row_limit id most (r ∷ rs) h = go (bytes_eq r.id id) refl (row_limit id most rs h.1)
   where
     own : (r : Row) (values : List Text) → r.values ≡ values → Passed id (Signed (pos 0) (pos most)) r → (n : ℕ) × WritesLimit most (row_text r) n
     own r [] at is = rw at (most, refl)
@@ -83,6 +83,7 @@ row_limit id most (r ∷ rs) h = go (bytes_eq r.id id) refl
         let passed = accepts-Accepts false (Signed (pos 0) (pos most)) v (both _ _ (rw at at is.values)).0 in
         rw (at, is.reading) (writes most v passed)
 
-    go : (b : Bool) → bytes_eq r.id id ≡ b → (n : ℕ) × WritesLimit most (option_and_then row_text (cond b (Some r) (find (λ x. bytes_eq x.id id) rs))) n
-    go true same = own r r.values refl (h.0 same)
-    go false other = row_limit id most rs h.1
+    go : (b : Bool) → bytes_eq r.id id ≡ b → ((n : ℕ) × WritesLimit most (one_of id rs) n)
+        → (n : ℕ) × WritesLimit most (option_and_then row_text (cond b (Some r) (find (λ x. bytes_eq x.id id) rs))) n
+    go true same rest = own r r.values refl (h.0 same)
+    go false other rest = rest

@@ -1,5 +1,5 @@
 -- Where clap finds no fault in the words, each value that they give an option passed the option's parser.
-use Rattle.std.proofs.Common.{◌≡◌, ◌∙◌, ap, subst, sym, refl, true, false, true≢false, cond, ◌&&◌, not, Bool, ℕ, zero, suc, List, [], ◌∷◌, ◌++◌, drop, fold, length, encode_utf8, slice_get, Option, Some, None, is_some, IfSome, find}
+use Rattle.std.proofs.Common.{◌≡◌, ◌∙◌, ◌+◌, ap, ap₂, subst, min, unwrap_or, sym, refl, true, false, true≢false, cond, ◌&&◌, not, Bool, ℕ, zero, suc, List, [], ◌∷◌, ◌++◌, drop, fold, length, encode_utf8, slice_get, Option, Some, None, is_some, IfSome, find}
 use Rattle.std.specs.List.{list_all}
 use Rattle.std.specs.Option.{option_map_or}
 use Rattle.std.specs.Str.{bytes_eq, chars}
@@ -16,10 +16,11 @@ use Rattle.clap.specs.declared.parser.matches.ValueSource.TheVariants.{CommandLi
 use Rattle.clap.specs.Lexer.{long_of, short_of}
 use Rattle.clap.specs.Values.{reading_of}
 use Rattle.clap.specs.ValueTests.{accepts}
-use Rattle.clap.specs.Kinds.{Kinds, or_else, values_kinds}
-use Rattle.clap.specs.Faults.{bundle_fault, bundle_step_fault, flag_word_fault, flags_fault, level_fault, long_fault, option_fault, other_fault, react_fault, settle_fault, short_fault, step_fault, stray_fault, turn_fault, use_fault, walk_fault, word_fault}
+use Rattle.clap.specs.Facts.{parser_of_value, unwrap_or_range}
+use Rattle.clap.specs.Kinds.{Kinds, or_else, range_kinds, values_kinds}
+use Rattle.clap.specs.Faults.{action_fault, bundle_fault, bundle_step_fault, flag_word_fault, flags_fault, level_fault, long_fault, option_fault, other_fault, react_fault, repeat_fault, set_fault, settle_fault, short_fault, step_fault, stray_fault, turn_fault, use_fault, values_fault, walk_fault, word_fault}
 use Rattle.clap.specs.Simple.{Shape}
-use Rattle.clap.specs.Walk.{Held, Names, Outcome, Row, Rule, Step, Text, Waiting, Walk, action_of, after_flag, after_step, arg_by_id, arg_by_index, arg_by_long, arg_by_short, at_row, attached_value, bundle, bundle_met, bundle_step, counted, default_rows, done, flag_met, has_row, idle, is_pending, long_met, long_or_other, more_values, new_count, next, nothing_held, option, option_met, option_word, plain, plain_word, positional, positional_held, reacted, reading_by, refused, rows_after, settled, short_met, short_or_plain, subcommand, subcommand_met, subcommand_or_other, takes_several, takes_values, to_positional, trailing, used, used_as, used_by_id, value, values_or_missing, waits, walk, walk_from, walked, walked_from, with_count, with_default, with_values, without, word_met}
+use Rattle.clap.specs.Walk.{Held, Names, Outcome, Row, Rule, Step, Text, Waiting, Walk, action_of, after_flag, after_step, arg_by_id, arg_by_index, arg_by_long, arg_by_short, at_row, attached_value, bundle, bundle_met, bundle_step, count_of, counted, default_rows, done, flag_met, has_row, idle, is_pending, long_met, long_or_other, more_values, most_values, new_count, next, nothing_held, option, option_met, option_word, plain, plain_word, positional, positional_held, reacted, reading_by, refused, rows_after, settled, short_met, short_or_plain, subcommand, subcommand_met, subcommand_or_other, takes_several, takes_values, to_positional, trailing, used, used_as, used_by_id, value, values_or_missing, waits, walk, walk_from, walked, walked_from, with_count, with_default, with_values, without, word_met}
 use Rattle.bcs_tool_words.proofs.Subcommands.{none_left}
 
 module _ (id : Text) (q : ValueParser) where
@@ -74,11 +75,11 @@ module _ (id : Text) (q : ValueParser) where
       (step : (r : Row) → bytes_eq r.id key ≡ true → IsRow r → AreRows (change r)) (last : AreRows missing) where
     at_row_keeps : (rows : List Row) → AreRows rows → AreRows (at_row key change missing rows)
     at_row_keeps [] h = last
-    at_row_keeps (r ∷ rs) h = go (bytes_eq r.id key) refl
+    at_row_keeps (r ∷ rs) h = go (bytes_eq r.id key) refl (at_row_keeps rs h.1)
       where
-        go : (b : Bool) → bytes_eq r.id key ≡ b → AreRows (cond b (change r ++ rs) (r ∷ at_row key change missing rs))
-        go true e = joined (change r) rs (step r e h.0) h.1
-        go false e = (h.0, at_row_keeps rs h.1)
+        go : (b : Bool) → bytes_eq r.id key ≡ b → AreRows (at_row key change missing rs) → AreRows (cond b (change r ++ rs) (r ∷ at_row key change missing rs))
+        go true e rest = joined (change r) rs (step r e h.0) h.1
+        go false e rest = (h.0, rest)
 
   without_keeps : (key : Text) (rows : List Row) → AreRows rows → AreRows (without key rows)
   without_keeps key rows h = at_row_keeps key (λ _. []) [] (λ r e is. tt) tt rows h
@@ -101,7 +102,7 @@ module _ (id : Text) (q : ValueParser) where
         (λ same. absurd (true≢false (sym same ∙ other)), tt) rows h
 
     counted_keeps : (how : Reading) (values : List Text) (rows : List Row) → AreRows rows → AreRows (counted key how values rows)
-    counted_keeps how [] rows h = count_keeps how CommandLine _ (without key rows) (without_keeps key rows h)
+    counted_keeps how [] rows h = count_keeps how CommandLine (min (count_of key rows + 1) 255) (without key rows) (without_keeps key rows h)
     counted_keeps how (v ∷ vs) rows h = values_keep how CommandLine (v ∷ vs) (without key rows) (without_keeps key rows h)
 
     other_use_keeps : (action : ArgAction) (how : Reading) (values : List Text) (rows : List Row) → AreRows rows → AreRows (used_as action key how values rows)
@@ -127,11 +128,13 @@ module _ (id : Text) (q : ValueParser) where
       → AreRows rows → AreRows (used a values rows)
   own_use_keeps a is again values rows e h =
       let given = values_or_missing a values in
-      let late = (none_left _ _ e).1 in
-      let of_set = (none_left _ _ (rw (is.action) at late)).1 in
-      let good = accepted given (rw (is.parser, is.exact) at of_set) in
+      let late = (none_left (range_kinds (unwrap_or_range a.range).start_inclusive (most_values a) (length values))
+      (action_fault (action_of a) again a given rows) e).1 in
+      let set : set_fault again a given rows ≡ [] = ap (λ (o : Option ArgAction). action_fault (unwrap_or o Set) again a given rows) (sym is.action) ∙ late in
+      let passed = (none_left (repeat_fault again a.id rows) (values_fault a given) set).1 in
+      let good = accepted given (ap₂ (λ (b : Bool) (o : Option ValueParser). values_kinds b (parser_of_value o) given) (sym is.exact) (sym is.parser) ∙ passed) in
       let by_set = own_values_keep a is CommandLine given (without a.id rows) good (without_keeps a.id rows h) in
-      rw (is.action) by_set
+      subst (λ (o : Option ArgAction). AreRows (used_as (unwrap_or o Set) a.id (reading_by a) given rows)) (sym is.action) by_set
 
   use_keeps : (a : Rule) → IsRule a → (again : Bool) (values : List Text) (rows : List Row) → use_fault again a values rows ≡ []
       → AreRows rows → AreRows (used a values rows)
@@ -145,11 +148,11 @@ module _ (id : Text) (q : ValueParser) where
 
   found_rule : (f : Rule → Bool) (c : List Rule) → AreRules c → IfSome (find f c) IsRule
   found_rule f [] h = tt
-  found_rule f (a ∷ c) h = go (f a)
+  found_rule f (a ∷ c) h = go (f a) (found_rule f c h.1)
     where
-      go : (b : Bool) → IfSome (cond b (Some a) (find f c)) IsRule
-      go true = h.0
-      go false = found_rule f c h.1
+      go : (b : Bool) → IfSome (find f c) IsRule → IfSome (cond b (Some a) (find f c)) IsRule
+      go true rest = h.0
+      go false rest = rest
 
   module _ (c : List Rule) (again : Bool) (rules : AreRules c) where
     by_id_keeps : (o : Option Rule) → IfSome o IsRule → (values : List Text) (rows : List Row)
