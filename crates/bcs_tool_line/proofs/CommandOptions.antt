@@ -1,5 +1,5 @@
 -- Where clap finds no fault in the words, the options of the command that they name write limits.
-use Rattle.std.proofs.Common.{◌≡◌, ◌∙◌, ap, subst, sym, refl, true, false, true≢false, cond, not, ◌&&◌, Bool, ℕ, List, [], ◌∷◌, Option, Some, None, IfSome, codes, pos, find, option_map}
+use Rattle.std.proofs.Common.{◌≡◌, ◌∙◌, ap, subst, sym, refl, true, false, true≢false, cond, not, ◌&&◌, Bool, ℕ, List, [], ◌∷◌, Option, Some, None, IfSome, codes, drop, pos, slice_get, find, option_map}
 use Rattle.std.specs.List.{list_all}
 use Rattle.std.specs.Option.{option_map_or}
 use Rattle.std.specs.Str.{bytes_eq}
@@ -68,35 +68,35 @@ module _ (id : Text) (q : ValueParser) where
   none (a ∷ rules) e =
       let p = both _ _ e in (no a (differs (bytes_eq a.id id) p.0), none rules p.1)
 
+-- the arguments of a command by its place
+abbrev rules_at : ℕ → List Rule
+rules_at place = option_map_or (λ s. s.rules) (slice_get (built bcs_app).subs place) []
+
 depths : AreShapes (codes "depth") 500 (built bcs_app).subs
 depths =
+    let id = codes "depth" in
     let q = Signed (pos 0) (pos 500) in
-    let no_rules = none (codes "depth") q in
-    let none_of = no (codes "depth") q in (
-      no_rules _ refl,
-      no_rules _ refl,
-      (none_of _ refl, none_of _ refl, λ same. record { action = refl; parser = refl; exact = refl; defaults = refl }, no_rules _ refl),
-      (none_of _ refl, none_of _ refl, λ same. record { action = refl; parser = refl; exact = refl; defaults = refl }, no_rules _ refl),
-      (none_of _ refl, none_of _ refl, λ same. record { action = refl; parser = refl; exact = refl; defaults = refl }, no_rules _ refl),
-      (none_of _ refl, none_of _ refl, λ same. record { action = refl; parser = refl; exact = refl; defaults = refl }, no_rules _ refl),
-      no_rules _ refl,
-      tt,
-    )
+    (none id q (rules_at 0) refl,
+    (none id q (rules_at 1) refl,
+    ((no id q _ refl, (no id q _ refl, (λ same. record { action = refl; parser = refl; exact = refl; defaults = refl }, none id q (drop 3 (rules_at 2)) refl))),
+    ((no id q _ refl, (no id q _ refl, (λ same. record { action = refl; parser = refl; exact = refl; defaults = refl }, none id q (drop 3 (rules_at 3)) refl))),
+    ((no id q _ refl, (no id q _ refl, (λ same. record { action = refl; parser = refl; exact = refl; defaults = refl }, none id q (drop 3 (rules_at 4)) refl))),
+    ((no id q _ refl, (no id q _ refl, (λ same. record { action = refl; parser = refl; exact = refl; defaults = refl }, none id q (drop 3 (rules_at 5)) refl))),
+    (none id q (rules_at 6) refl,
+    tt)))))))
 
 nodes : AreShapes (codes "nodes") 4294967295 (built bcs_app).subs
 nodes =
+    let id = codes "nodes" in
     let q = Signed (pos 0) (pos 4294967295) in
-    let no_rules = none (codes "nodes") q in
-    let none_of = no (codes "nodes") q in (
-      no_rules _ refl,
-      no_rules _ refl,
-      (none_of _ refl, none_of _ refl, none_of _ refl, λ same. record { action = refl; parser = refl; exact = refl; defaults = refl }, no_rules _ refl),
-      (none_of _ refl, none_of _ refl, none_of _ refl, λ same. record { action = refl; parser = refl; exact = refl; defaults = refl }, no_rules _ refl),
-      (none_of _ refl, none_of _ refl, none_of _ refl, λ same. record { action = refl; parser = refl; exact = refl; defaults = refl }, no_rules _ refl),
-      (none_of _ refl, none_of _ refl, none_of _ refl, λ same. record { action = refl; parser = refl; exact = refl; defaults = refl }, no_rules _ refl),
-      no_rules _ refl,
-      tt,
-    )
+    (none id q (rules_at 0) refl,
+    (none id q (rules_at 1) refl,
+    ((no id q _ refl, (no id q _ refl, (no id q _ refl, (λ same. record { action = refl; parser = refl; exact = refl; defaults = refl }, none id q (drop 4 (rules_at 2)) refl)))),
+    ((no id q _ refl, (no id q _ refl, (no id q _ refl, (λ same. record { action = refl; parser = refl; exact = refl; defaults = refl }, none id q (drop 4 (rules_at 3)) refl)))),
+    ((no id q _ refl, (no id q _ refl, (no id q _ refl, (λ same. record { action = refl; parser = refl; exact = refl; defaults = refl }, none id q (drop 4 (rules_at 4)) refl)))),
+    ((no id q _ refl, (no id q _ refl, (no id q _ refl, (λ same. record { action = refl; parser = refl; exact = refl; defaults = refl }, none id q (drop 4 (rules_at 5)) refl)))),
+    (none id q (rules_at 6) refl,
+    tt)))))))
 
 -- ---- of a parse
 
@@ -110,7 +110,7 @@ limits_of_rows (Some p) rows is deep many =
     let depth = row_limit (codes "depth") 500 p.1 deep in
     let nodes = row_limit (codes "nodes") 4294967295 p.1 many in
     subst (λ (found : List Row). (limits : Bounds) × WritesLimits found limits) same
-    (record { depth = depth.0; nodes = nodes.0 }, depth.1, nodes.1)
+    (record { depth = depth.0; nodes = nodes.0 }, (depth.1, nodes.1))
 
 -- a parse by the definition that succeeds meets options that write limits
 pub met_limits : (a : App) (words : List Text) (m : ArgMatches) (rows : List Row) → a ≡ bcs_app → HasMatchesOf a words m

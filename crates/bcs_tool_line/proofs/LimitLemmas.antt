@@ -66,11 +66,11 @@ writes most t passed =
         let low = rw minus at passed.2 in
         let numeral : IsNumeral 10 (drop 1 t) = rw minus at passed.0 in
         let same = no_plus (drop 1 t) numeral in
-        rw minus (digits_value 10 (drop 1 t), rw same numeral, ap (digits_value 10) (sym same), omega (arith, ints))
+        rw minus (digits_value 10 (drop 1 t), (rw same numeral, ap (digits_value 10) (sym same), omega (arith, ints)))
     go false minus =
         let high = rw minus at passed.3 in
         let numeral = rw minus at passed.0 in
-        rw minus (digits_value 10 (without_leading_plus t), numeral, refl, omega (arith, ints))
+        rw minus (digits_value 10 (without_leading_plus t), (numeral, refl, omega (arith, ints)))
 
 -- the rows of an option whose values passed
 pub row_limit : (id : Text) (most : ℕ) (rows : List Row) → AreRows id (Signed (pos 0) (pos most)) rows → (n : ℕ) × WritesLimit most (one_of id rows) n
