@@ -6,6 +6,7 @@ mod answering;
 mod blanks;
 mod job_fault;
 mod judging;
+pub mod laws;
 mod run_fault;
 mod running;
 mod text_refusal;
