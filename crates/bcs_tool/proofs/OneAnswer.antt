@@ -28,7 +28,7 @@ use Rattle.bcs_json_laws.proofs.TextLaws.{denoted_is_not_refused, denotes_once}
 use Rattle.bcs_registry_laws.proofs.OneText.{same_registry}
 use Rattle.bcs_tool_files.specs.declared.work.Work.{Work}
 use Rattle.bcs_tool_line.specs.declared.command.Command.{Command}
-use Rattle.bcs_tool_line.specs.declared.command.Command.TheVariants.{Check, Encode, Decode, Normalise, Same}
+use Rattle.bcs_tool_line.specs.declared.command.Command.TheVariants.{Check, Encode, Decode, Normalise}
 use Rattle.bcs_tool_line.specs.declared.command.Command.TheVariants as command
 use Rattle.bcs_tool.specs.AnswerLaws.{OneAnswer}
 use Rattle.bcs_tool.specs.Answers.{Answers, IsAsked, count_line, json_fault_name, line_of, printed, refusal_line, stop_line}
@@ -47,6 +47,15 @@ one_given : (raw : Bool) (input b c : List ℕ) → given.Gives raw input b → 
 one_given true input b c h k = h ∙ sym k
 one_given false input b c h k = let same : Ok b ≡ Ok c = sym h ∙ k in cc
 
+-- how `same` answers
+abbrev word_of : Bool → List ℕ
+word_of true = line_of (codes "equal")
+word_of false = line_of (codes "different")
+
+abbrev status_of : Bool → ℕ
+status_of true = 0
+status_of false = 1
+
 module _ (work : Work) (input : List ℕ) where
   -- ---- what is answered at a registry and a format
 
@@ -59,14 +68,6 @@ module _ (work : Work) (input : List ℕ) where
 
     abbrev Normalised : ℕ → List ℕ → Type 0
     Normalised s p = ((t : List ℕ) × Normalises r work.limits f input t × (s ≡ 0) × (p ≡ line_of t)) ⊎ Refused input s p
-
-    abbrev word_of : Bool → List ℕ
-    word_of true = line_of (codes "equal")
-    word_of false = line_of (codes "different")
-
-    abbrev status_of : Bool → ℕ
-    status_of true = 0
-    status_of false = 1
 
     abbrev Compared : ℕ → List ℕ → Type 0
     Compared s p = ((b : Bool) × Compares r work.limits f work.second.items input b × (s ≡ status_of b) × (p ≡ word_of b))
@@ -246,10 +247,10 @@ module _ (work : Work) (input : List ℕ) where
   one_late Check s z p q (r, h, hs, hp) (n, k, ks, kq) =
       (hs ∙ sym ks, hp ∙ ap (λ (m : Entries). count_line (length m)) (same_registry work.registry.items r n h.0 k.0) ∙ sym kq)
   one_late command.Grows s z p q (r, n, h, g, w, hs, hp) (r2, n2, k, i, x, ks, kq) = (hs ∙ sym ks, hp ∙ sym kq)
-  one_late Encode = one_valued Encoded one_encoded
-  one_late Decode = one_valued Decoded one_decoded
-  one_late Normalise = one_valued Normalised one_normalised
-  one_late command.Same = one_valued Compared one_compared
+  one_late Encode s z p q h k = one_valued Encoded one_encoded s z p q h k
+  one_late Decode s z p q h k = one_valued Decoded one_decoded s z p q h k
+  one_late Normalise s z p q h k = one_valued Normalised one_normalised s z p q h k
+  one_late command.Same s z p q h k = one_valued Compared one_compared s z p q h k
 
   -- a job that is refused for its words answers nothing else
   of_valued : (P : Entries → Shape → ℕ → List ℕ → Type 0) (fault : JobFault) (s : ℕ) (p : List ℕ) → RefusesFormatted work fault → Valued P s p → ⊥

@@ -1,6 +1,7 @@
 -- The words of a job are refused for one reason, and then nothing else is answered.
 use Rattle.std.proofs.Common.{◌≡◌, ◌∙◌, ◌⊎◌, inl, inr, ℕ, List, Option, Some, None, Result, Ok, Err, true, false, ap, refl, string_bytes, sym, subst}
-use Rattle.std.specs.Prelude.{is_some, result_err}
+use Rattle.std.specs.Prelude.{is_some}
+use Rattle.std.specs.Result.{result_err}
 use Rattle.std.proofs.lemmas.Bool.{true≢false}
 use Rattle.bcs_registry_formats.specs.Container.{Entries, container_at}
 use Rattle.bcs_registry_formats.specs.Growing.{growth_fault}
@@ -49,7 +50,7 @@ module _ (registry : Entries) (word : List ℕ) where
 
 -- ---- growth
 
-verdict_of : Option GrowthFault → Result (Unit {0}) GrowthFault
+abbrev verdict_of : Option GrowthFault → Result (Unit {0}) GrowthFault
 verdict_of None = Ok tt
 verdict_of (Some e) = Err e
 
