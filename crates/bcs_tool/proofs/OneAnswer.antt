@@ -34,7 +34,7 @@ use Rattle.bcs_tool.specs.AnswerLaws.{OneAnswer}
 use Rattle.bcs_tool.specs.Answers.{Answers, IsAsked, count_line, json_fault_name, line_of, printed, refusal_line, stop_line}
 use Rattle.bcs_tool.specs.Answers as answer
 use Rattle.bcs_tool.specs.Input as given
-use Rattle.bcs_tool.specs.Judging.{Asks, IsFormat, IsRegistry, RefusesAt, RefusesFormatted, job_fault_name}
+use Rattle.bcs_tool.specs.Judging.{IsFormat, IsRegistry, RefusesAt, RefusesFormatted, job_fault_name}
 use Rattle.bcs_tool.specs.declared.job_fault.JobFault.{JobFault}
 use Rattle.bcs_tool.proofs.OneRefusal.{not_checked, not_formatted, not_grown, one_format_word, one_refusal}
 

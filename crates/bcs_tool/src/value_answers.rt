@@ -77,12 +77,7 @@ fn answer_normalise(
 }
 
 // Whether the job's text and this one have the same value.
-fn answer_same(
-    alloc: Global,
-    work: &Work,
-    asked: &Asked,
-    text: &[u8],
-) -> Result<Answer, AllocError>
+fn answer_same(alloc: Global, work: &Work, asked: &Asked, text: &[u8]) -> Result<Answer, AllocError>
     requires command { work.now.command ≡ Command.Same }
     requires asks { Asks work.now asked.now.registry (shape_of asked.now.format) }
     requires within { length text.now ≤ size_limit }
