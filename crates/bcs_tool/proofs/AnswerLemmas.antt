@@ -1,11 +1,24 @@
 -- An answer of an equal status and equal output; which content there may be; and what is asked of an input.
-use Rattle.std.proofs.Common.{◌≡◌, ◌≤◌, ◌⊎◌, inl, inr, ℕ, List, [], Option, Some, None, length, refl, sym, subst, true}
+use Rattle.std.proofs.Common.{◌≡◌, ◌≢◌, ◌≤◌, ◌<◌, ◌⊎◌, Err, Ok, arith, inl, inr, ℕ, List, [], Option, Some, None, length, refl, sym, subst, true}
 use Rattle.bcs_registry_formats.specs.Container.{Entries}
 use Rattle.bcs_registry_formats.specs.Shape.{Shape}
 use Rattle.bcs_value_tree.specs.Tree.{Tree}
 use Rattle.bcs_json_faults.specs.declared.json_fault.JsonFault.{JsonFault}
-use Rattle.bcs_json_laws.specs.Texts.{Denotes, RefusesText}
-use Rattle.bcs_tool.specs.Answers.{Answers, IsAsked, IsContent, first_refused, json_fault_name, refusal_line, second_refused}
+use Rattle.serde_json.specs.Data.{depth}
+use Rattle.bcs_value_laws.specs.Limits.{Bounds}
+use Rattle.bcs_decode_stops.specs.declared.stop.Stop.{Stop}
+use Rattle.bcs_decode_laws.specs.Accepting.{Accepts}
+use Rattle.bcs_decode_laws.specs.Stopping.{StopsAll}
+use Rattle.bcs_json.specs.Showing.{Shows}
+use Rattle.bcs_json.specs.declared.from_fault.FromFault.{FromFault}
+use Rattle.bcs_json.specs.declared.from_fault.FromFault.TheVariants as from
+use Rattle.bcs_json_laws.specs.JsonContent.{of}
+use Rattle.bcs_json_laws.specs.Shown.{shown}
+use Rattle.bcs_json_laws.specs.Texts.{Denotes, RefusesText, nesting_limit}
+use Rattle.hex.specs.Hex.{decode_of}
+use Rattle.hex.specs.declared.error.FromHexError.{FromHexError}
+use Rattle.hex.specs.declared.error.FromHexError.TheVariants.{OutOfMemory}
+use Rattle.bcs_tool.specs.Answers.{Answers, IsAsked, IsContent, checked, decoded, different, encoded, equal, first_refused, grown, json_fault_name, no_bytes, normalised, refusal_line, refused, refused_early, second_refused, stopped, too_nested}
 use Rattle.bcs_tool.specs.Judging.{Asks, RefusesAt, RefusesFormatted, works_on_values}
 use Rattle.bcs_tool.specs.declared.job_fault.JobFault.{JobFault}
 use Rattle.bcs_tool_files.specs.Files.{size_limit}
@@ -42,3 +55,35 @@ refuses_formatted Encode work fault on h = h
 refuses_formatted Decode work fault on h = h
 refuses_formatted Normalise work fault on h = h
 refuses_formatted Same work fault on h = h
+
+-- what is shown where bytes stop, and where their text would nest too deep
+module _ (registry : Entries) (limits : Bounds) (s : Shape) (bytes : List ℕ) (fault : FromFault) where
+  pub stops : (stop : Stop) → fault ≡ from.Stop stop → Shows registry limits s bytes (Err fault) → StopsAll registry limits s bytes stop.reason stop.place
+  stops stop is h = subst (λ (f : FromFault). Shows registry limits s bytes (Err f)) is h
+
+  pub nests : fault ≡ from.TooNested → Shows registry limits s bytes (Err fault)
+      → (c : Tree) × Accepts registry limits s bytes (length bytes) c × (nesting_limit < depth (shown registry c (of s)))
+  nests is h = subst (λ (f : FromFault). Shows registry limits s bytes (Err f)) is h
+
+-- an answer ends with 0, 1 or 2
+pub status_below : (work : Work) (input : List ℕ) (s : ℕ) (p : List ℕ) → Answers work input s p → s < 3
+status_below work input s p (refused_early f h) = omega arith
+status_below work input s p (checked r k h) = omega arith
+status_below work input s p (grown o n k a b h) = omega arith
+status_below work input s p (encoded r f b k h) = omega arith
+status_below work input s p (normalised r f t k h) = omega arith
+status_below work input s p (refused c r f e o k h) = omega arith
+status_below work input s p (equal r f k h) = omega arith
+status_below work input s p (different r f k h) = omega arith
+status_below work input s p (first_refused r f e k h) = omega arith
+status_below work input s p (second_refused r f t e k d h) = omega arith
+status_below work input s p (decoded r f b t k g h) = omega arith
+status_below work input s p (stopped r f b e o k g h) = omega arith
+status_below work input s p (too_nested r f b c k g a h) = omega arith
+status_below work input s p (no_bytes r f k h) = omega arith
+
+-- text that is refused for its digits has no bytes
+pub no_digits : (text : List ℕ) (e : FromHexError) → (e ≡ OutOfMemory) ⊎ (decode_of text ≡ Err e) → e ≢ OutOfMemory
+    → (bytes : List ℕ) → decode_of text ≡ Ok bytes → ⊥
+no_digits text e (inl memory) differs bytes is = differs memory
+no_digits text e (inr bad) differs bytes is = cc

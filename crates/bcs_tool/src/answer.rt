@@ -40,11 +40,8 @@ pub fn stopped(alloc: Global, stop: Stop) -> Result<Answer, AllocError>
     ensures { IfOk result (λ a. (a.status ≡ 2) × (a.output.items ≡ stop_line stop.reason stop.place)) }
 {
     let reason = stop.reason.name();
-    let text = format!(in alloc; "refused: {reason} at {}", stop.place)?;
-    Ok(Answer {
-        status: 2,
-        output: with_line_end(text)?,
-    })
+    let text = format!(in alloc; "{reason} at {}", stop.place)?;
+    refused(alloc, text.as_str())
 }
 
 /// A word on a line of its own.

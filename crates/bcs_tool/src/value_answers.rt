@@ -1,8 +1,8 @@
 //! The answers to the input of a job that works on values.
-ghost use Rattle.std.specs.Prelude.{◌≡◌, ◌≤◌, ℕ, List, length, IfOk};
+ghost use Rattle.std.specs.Prelude.{◌≡◌, ◌≢◌, ◌≤◌, ℕ, List, codes, length, IfOk};
 ghost use Rattle.bcs_registry_formats.specs.View.{shape_of};
 ghost use Rattle.bcs_registry_formats.specs.WellFormed.{Admits};
-ghost use Rattle.bcs_tool.specs.Answers.{Answers};
+ghost use Rattle.bcs_tool.specs.Answers.{Answers, refusal_line};
 ghost use Rattle.bcs_tool.specs.Input.{Gives};
 ghost use Rattle.bcs_tool.specs.Judging.{Asks};
 ghost use Rattle.bcs_tool_files.specs.Files.{size_limit};
@@ -110,12 +110,20 @@ fn answer_decode(
     }
     match hex::decode(alloc, without_blanks(input)) {
         Ok(bytes) => answer_bytes(alloc, work, asked, bytes.as_slice()),
-        Err(FromHexError::OutOfMemory) => Err(AllocError),
-        Err(
-            FromHexError::OddLength
-            | FromHexError::InvalidHexCharacter { .. }
-            | FromHexError::InvalidStringLength,
-        ) => refused(alloc, "BadHex"),
+        Err(fault) => refused_digits(alloc, fault),
+    }
+}
+
+// The answer to text that is no hexadecimal digits. Want of memory is no refusal.
+fn refused_digits(alloc: Global, fault: FromHexError) -> Result<Answer, AllocError>
+    ensures { IfOk result (λ a. (fault ≢ FromHexError.OutOfMemory) × (a.status ≡ 2)
+        × (a.output.items ≡ refusal_line (codes "BadHex"))) }
+{
+    match fault {
+        FromHexError::OutOfMemory => Err(AllocError),
+        FromHexError::OddLength
+        | FromHexError::InvalidHexCharacter { .. }
+        | FromHexError::InvalidStringLength => refused(alloc, "BadHex"),
     }
 }
 

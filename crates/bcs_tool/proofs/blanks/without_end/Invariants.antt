@@ -8,3 +8,6 @@ invariant-loop-end l = record {
   within : l.end ≤ length l.text;
   blank : suffix_len is_blank l.text ≡ (length l.text - l.end) + suffix_len is_blank (take l.end l.text);
 }
+
+abbrev pub decreases-loop-end : goal.decreases-loop-end
+decreases-loop-end l = l.end
