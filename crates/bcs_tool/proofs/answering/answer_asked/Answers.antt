@@ -1,9 +1,7 @@
 use Rattle.bcs_tool.specs.Answers.{refused_early, refusal_line}
-use Rattle.std.proofs.Common.{sym, subst}
-use Rattle.bcs_tool.specs.Judging.{RefusesAt, job_fault_name}
-use Rattle.bcs_tool_line.specs.declared.command.Command.{Command}
-use Rattle.bcs_tool.proofs.AnswerLemmas.{same_answer, some_content}
-use Rattle.bcs_tool.proofs.answering.answer_encoding.Goals as goal
+use Rattle.bcs_tool.specs.Judging.{job_fault_name}
+use Rattle.bcs_tool.proofs.AnswerLemmas.{refuses_formatted, same_answer, some_content}
+use Rattle.bcs_tool.proofs.answering.answer_asked.Goals as goal
 
 pub returns-in_ok-answer-in-Err-clause-ok : goal.returns-in_ok-answer-in-Err-clause-ok
 returns-in_ok-answer-in-Err-clause-ok g c =
@@ -15,5 +13,5 @@ returns-in_ok-answer-in-Err-clause-ok g c =
       content.0,
       content.1,
       same_answer work content.0 2 made.status (refusal_line (job_fault_name fault)) made.output.items is.1 is.2
-          (refused_early fault (subst (λ (asked : Command). RefusesAt asked work fault) (sym c.requires) (c.in-Err.ensures.fault is.0))),
+          (refused_early fault (refuses_formatted work.command work fault c.requires (c.in-Err.ensures.fault is.0))),
     )
