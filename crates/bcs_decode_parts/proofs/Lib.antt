@@ -1,0 +1,4 @@
+pub mod Growing
+pub mod KeysLead
+pub mod Standing
+pub mod WorkedRows
