@@ -15,7 +15,7 @@ use Rattle.bcs_value_laws.proofs.VariantFits.{payload_fits}
 use Rattle.bcs_encode_laws.specs.Plain.{plain}
 use Rattle.bcs_encode_laws.proofs.Growth.{plain_newer, fitting_stays}
 use Rattle.bcs_decode_parts.specs.Parts.{Step, item, inner, key, Part, part_after, part_onward, item_of, item_in, value_of, step_at, part_at}
-use Rattle.bcs_decode_parts.specs.Laws.{IsSamePart, GrowthKeepsParts}
+use Rattle.bcs_decode_parts.specs.PartLaws.{IsSamePart, GrowthKeepsParts}
 
 -- content that is unchanged stays
 stays_alike : (f : Content) → StaysIn f f

@@ -12,7 +12,7 @@ use Rattle.bcs_encode_laws.specs.Plain.{plain, plain_pairs}
 use Rattle.bcs_encode_laws.specs.Canonical.{Below, Rises, RisesFrom}
 use Rattle.bcs_encode_laws.proofs.BelowLaws.{Below-irrefl, Below-trans}
 use Rattle.bcs_decode_parts.specs.Parts.{Part, part_after, value_of}
-use Rattle.bcs_decode_parts.specs.Laws.{joined, KeyLeadsToOne}
+use Rattle.bcs_decode_parts.specs.PartLaws.{joined, KeyLeadsToOne}
 
 -- bytes are equal, or they aren't
 pub same_bytes : (a b : List ℕ) → a ≡ b → bytes_eq a b ≡ true

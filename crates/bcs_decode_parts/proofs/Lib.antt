@@ -1,4 +1,13 @@
+pub mod Arrivals
+pub mod FormatRows
 pub mod Growing
+pub mod HolderSteps
 pub mod KeysLead
+pub mod Leaves
+pub mod MapSteps
+pub mod Paths
+pub mod RowSteps
+pub mod Rows
+pub mod Skips
 pub mod Standing
 pub mod WorkedRows

@@ -1,5 +1,5 @@
 //! What holds of parts: laws that a proof may cite. No call does anything.
-ghost use Rattle.bcs_decode_parts.specs.Laws.{GrowthKeepsParts, KeyLeadsToOne, PartStands};
+ghost use Rattle.bcs_decode_parts.specs.PartLaws.{GrowthKeepsParts, KeyLeadsToOne, PartStands};
 
 /// A part's bytes stand in those of the whole, at its place.
 pub fn part_stands()
