@@ -30,9 +30,9 @@ module _ (registry : Entries) (ahead : Ahead) where
   -- ---- options
 
   module _ (s : Shape) where
-    pub option_none : (t : Tree) (after : List ℕ) → Fronts registry ahead (of (shape.option s)) t after → ahead.bytes.now ≡ [] → ⊥
-    option_none tree.absent after h e = let same = sym e ∙ h.is in absurd cc
-    option_none (tree.present t) after h e = let same = sym e ∙ h.is in absurd cc
+    pub option_none : (t : Tree) (after : List ℕ) → Fronts registry ahead (of (shape.option s)) t after → length ahead.bytes.now ≡ 0 → ⊥
+    option_none tree.absent after h e = let same = ap length h.is in omega (arith, e, same)
+    option_none (tree.present t) after h e = let same = ap length h.is in omega (arith, e, same)
     option_none _ after h e = absurd (let k = h.good.sound.fit in cc)
 
     pub option_absent : (t : Tree) (after : List ℕ) (x : ℕ) (rest : List ℕ) → Fronts registry ahead (of (shape.option s)) t after → ahead.bytes.now ≡ x ∷ rest → x ≢ 1

@@ -54,7 +54,7 @@ fn inside_format(format: &Format) -> Inside<'_>
 }
 
 /// What stands inside what stands here.
-pub fn open<'r>(here: &Here<'r>) -> Inside<'r>
+pub fn inside_of<'r>(here: &Here<'r>) -> Inside<'r>
     ensures { Opens (content_of here.now) result }
 {
     match *here {

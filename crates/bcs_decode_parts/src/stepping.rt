@@ -10,7 +10,7 @@ ghost use Rattle.bcs_decode_parts.specs.Steps.{step_of};
 
 use crate::ahead::{Ahead, before};
 use crate::here::{Here, Reached, container_inside, payload_inside};
-use crate::inside::{Inside, open};
+use crate::inside::{Inside, inside_of};
 use crate::passing::{after_fields, after_formats, after_items, after_value};
 use crate::step::Step;
 use crate::variants::{after_number, chosen};
@@ -175,7 +175,7 @@ fn to_item<'r, 'a>(
 ) -> Option<Reached<'r, 'a>>
     ensures { StepsTo registry.now at.now.ahead (item index) (content_of at.now.here) result }
 {
-    match open(&at.here) {
+    match inside_of(&at.here) {
         Inside::List(element) => list_item(registry, element, index, &at.ahead),
         Inside::Array(element, size) => array_item(registry, element, size, index, &at.ahead),
         Inside::Tuple(formats) => tuple_item(registry, formats, index, &at.ahead),
@@ -192,7 +192,7 @@ fn to_item<'r, 'a>(
 fn to_inner<'r, 'a>(registry: &'r Registry, at: &Reached<'r, 'a>) -> Option<Reached<'r, 'a>>
     ensures { StepsTo registry.now at.now.ahead inner (content_of at.now.here) result }
 {
-    match open(&at.here) {
+    match inside_of(&at.here) {
         Inside::Option(content) => in_option(content, &at.ahead),
         Inside::Container(name) => in_container(registry, name, &at.ahead),
         Inside::Variants(variants) => in_variant(variants, &at.ahead),
@@ -213,7 +213,7 @@ fn to_value<'r, 'a>(
 ) -> Option<Reached<'r, 'a>>
     ensures { StepsTo registry.now at.now.ahead (key_step wanted.now) (content_of at.now.here) result }
 {
-    match open(&at.here) {
+    match inside_of(&at.here) {
         Inside::Map(key, content) => map_value(registry, key, content, wanted, &at.ahead),
         Inside::Nothing
         | Inside::Option(_)

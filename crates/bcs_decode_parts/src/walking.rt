@@ -17,7 +17,7 @@ use bcs_registry::{Format, Registry};
 
 /// The part that the steps lead to, of the value ahead.
 ///
-/// Bytes at whose front no value of the format stands may give anything: [`bcs_decode::part`] scans them first.
+/// Where no value of the format stands ahead, nothing is said of the answer.
 pub fn walk<'a>(
     registry: &Registry,
     format: &Format,

@@ -7,6 +7,6 @@ use Rattle.bcs_decode_parts.proofs.stepping.map_value.Given as goal
 -- what is found from here on is found from the first entry on
 abbrev pub invariant-loop : goal.invariant-loop
 invariant-loop l = record {
-  whole : (r : Option Reached) → Finds l.registry.now l.ahead.now (shape_of l.key.now) (shape_of l.content.now) l.wanted.now l.rest.now (l.count - l.counter) r
-      → Finds l.registry.now l.ahead.now (shape_of l.key.now) (shape_of l.content.now) l.wanted.now l.initial.rest.now l.count r;
+  whole : (r : Option Reached) → Finds l.registry l.ahead (shape_of l.key) (shape_of l.content) l.wanted l.rest (l.count - l.counter) r
+      → Finds l.registry l.ahead (shape_of l.key) (shape_of l.content) l.wanted l.initial.rest l.count r;
 }
