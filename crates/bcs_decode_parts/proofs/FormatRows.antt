@@ -1,5 +1,5 @@
 -- The format of a number in a row of formats: what stands before it, and what after it.
-use Rattle.std.proofs.Common.{◌≡◌, ℕ, ◌+◌, ◌<◌, ◌≤◌, List, [], ◌∷◌, ◌++◌, length, get_or, map, take, drop, suc, refl, sym, ap, ◌∙◌, arith}
+use Rattle.std.proofs.Common.{◌≡◌, ℕ, ◌+◌, ◌<◌, ◌≤◌, List, [], ◌∷◌, ◌++◌, length, get_or, map, take, drop, suc, refl, sym, ap, ap₂, ◌∙◌, arith}
 use Rattle.std.proofs.lemmas.List.{length-take, take-append-drop}
 use Rattle.bcs_registry_formats.specs.Shape.{Shape, Shapes, shape}
 use Rattle.bcs_registry_formats.specs.Container.{field_shapes}
@@ -17,13 +17,14 @@ pub formats_count : (fs : List Format) → shapes_count (formats_shapes fs) ≡ 
 formats_count [] = refl
 formats_count (f ∷ fs) = ap suc (formats_count fs)
 
-pub formats_split : (fs : List Format) (i : ℕ) (f : Format) → i < length fs → f ≡ get_or fs i f
-    → formats_shapes fs ≡ shapes_joined (formats_shapes (take i fs)) (shape (shape_of f) (formats_shapes (drop (i + 1) fs)))
-formats_split fs i f lt is =
-    ap formats_shapes (sym (take-append-drop i fs)) ∙ formats_joined (take i fs) (drop i fs) ∙ ap (shapes_joined (formats_shapes (take i fs))) (formats_next fs i f lt is)
+pub formats_split : (fs front : List Format) (i : ℕ) (f : Format) → front ≡ take i fs → i < length fs → f ≡ get_or fs i f
+    → formats_shapes fs ≡ shapes_joined (formats_shapes front) (shape (shape_of f) (formats_shapes (drop (i + 1) fs)))
+formats_split fs front i f e lt is =
+    ap formats_shapes (sym (take-append-drop i fs)) ∙ formats_joined (take i fs) (drop i fs)
+    ∙ ap₂ (λ (a b : Shapes). shapes_joined a b) (ap formats_shapes (sym e)) (formats_next fs i f lt is)
 
-pub formats_before : (fs : List Format) (i : ℕ) → i < length fs → shapes_count (formats_shapes (take i fs)) ≡ i
-formats_before fs i lt = formats_count (take i fs) ∙ omega (arith, length-take i fs)
+pub formats_before : (fs front : List Format) (i : ℕ) → front ≡ take i fs → i < length fs → shapes_count (formats_shapes front) ≡ i
+formats_before fs front i e lt = formats_count front ∙ omega (arith, ap length e, length-take i fs)
 
 abbrev named_shapes : List (Named Format) → Shapes
 named_shapes fs = field_shapes (map field_of fs)
@@ -36,10 +37,11 @@ pub fields_count : (fs : List (Named Format)) → shapes_count (named_shapes fs)
 fields_count [] = refl
 fields_count (f ∷ fs) = ap suc (fields_count fs)
 
-pub fields_split : (fs : List (Named Format)) (i : ℕ) (f : Named Format) → i < length fs → f ≡ get_or fs i f
-    → named_shapes fs ≡ shapes_joined (named_shapes (take i fs)) (shape (shape_of f.value) (named_shapes (drop (i + 1) fs)))
-fields_split fs i f lt is =
-    ap named_shapes (sym (take-append-drop i fs)) ∙ fields_joined (take i fs) (drop i fs) ∙ ap (shapes_joined (named_shapes (take i fs))) (fields_next fs i f lt is)
+pub fields_split : (fs front : List (Named Format)) (i : ℕ) (f : Named Format) → front ≡ take i fs → i < length fs → f ≡ get_or fs i f
+    → named_shapes fs ≡ shapes_joined (named_shapes front) (shape (shape_of f.value) (named_shapes (drop (i + 1) fs)))
+fields_split fs front i f e lt is =
+    ap named_shapes (sym (take-append-drop i fs)) ∙ fields_joined (take i fs) (drop i fs)
+    ∙ ap₂ (λ (a b : Shapes). shapes_joined a b) (ap named_shapes (sym e)) (fields_next fs i f lt is)
 
-pub fields_before : (fs : List (Named Format)) (i : ℕ) → i < length fs → shapes_count (named_shapes (take i fs)) ≡ i
-fields_before fs i lt = fields_count (take i fs) ∙ omega (arith, length-take i fs)
+pub fields_before : (fs front : List (Named Format)) (i : ℕ) → front ≡ take i fs → i < length fs → shapes_count (named_shapes front) ≡ i
+fields_before fs front i e lt = fields_count front ∙ omega (arith, ap length e, length-take i fs)

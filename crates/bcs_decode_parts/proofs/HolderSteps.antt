@@ -43,14 +43,14 @@ module _ (registry : Entries) (ahead : Ahead) where
 
     pub option_leads : (t : Tree) (after : List ℕ) (x : ℕ) (rest : List ℕ) (r : Reached) → Fronts registry ahead (of (shape.option s)) t after → ahead.bytes.now ≡ x ∷ rest → x ≡ 1
         → content_of r.here ≡ of s → AsLimited ahead r.ahead → r.ahead.bytes.now ≡ rest → LeadsTo registry ahead.bytes.now (step_at registry inner (of (shape.option s)) t) (Some r)
-    option_leads tree.absent after x rest r h e one same as on = absurd (let k = sym e ∙ h.is in cc)
-    option_leads (tree.present t) after x rest r h e one same as on =
+    option_leads tree.absent after x rest r h e one same alike on = absurd (let k = sym e ∙ h.is in cc)
+    option_leads (tree.present t) after x rest r h e one same alike on =
         let g = h.good in
         let few = h.few in
         let k : rest ≡ plain registry t (of s) ++ after = (let same = sym e ∙ h.is in cc) in
-        reached registry ahead (record { value = t; content = of s; place = 1 }) r ahead.bytes.now (1 ∷ []) after same as
+        reached registry ahead (record { value = t; content = of s; place = 1 }) r ahead.bytes.now (1 ∷ []) after same alike
         (decodable registry ahead.depth (of s) t g.sound.fit g.canonical g.sound.depth_holds g.sound.lengths) (omega (arith, few)) refl h.is (on ∙ k)
-    option_leads _ after x rest r h e one same as on = absurd (let k = h.good.sound.fit in cc)
+    option_leads _ after x rest r h e one same alike on = absurd (let k = h.good.sound.fit in cc)
 
   -- ---- containers
 
@@ -101,19 +101,19 @@ module _ (registry : Entries) (ahead : Ahead) where
     pub variant_stands : (t : Tree) (after : List ℕ) (s : Shape) (rest : List ℕ) (mid : Ahead) → Fronts registry ahead (one_of cs) t after
         → ((n : ℕ) (z : List ℕ) → n < 2 ^ 32 → ahead.bytes.now ≡ uleb n ++ z → (choice_at n cs ≡ of s) × (rest ≡ z)) → AsLimited ahead mid → mid.bytes.now ≡ rest
         → (u : Tree) × Fronts registry mid (of s) u after
-    variant_stands (tree.variant n t) after s rest mid h found as is =
+    variant_stands (tree.variant n t) after s rest mid h found alike is =
         let v = variant_is n t after h in
         let c = found n (plain registry t (choice_at n cs) ++ after) v.0 v.1 in
         let few = h.few in
-        (t, subst (λ (f : Content). Fronts registry mid f t after) c.0 (fronts registry ahead mid (choice_at n cs) t after as v.2 (omega (arith, few)) (is ∙ c.1)))
-    variant_stands _ after s rest mid h found as is = absurd (let k = h.good.sound.fit in cc)
+        (t, subst (λ (f : Content). Fronts registry mid f t after) c.0 (fronts registry ahead mid (choice_at n cs) t after alike v.2 (omega (arith, few)) (is ∙ c.1)))
+    variant_stands _ after s rest mid h found alike is = absurd (let k = h.good.sound.fit in cc)
 
     pub variant_leads : (t : Tree) (after : List ℕ) (s : Shape) (rest : List ℕ) (r : Reached) → Fronts registry ahead (one_of cs) t after
         → ((n : ℕ) (z : List ℕ) → n < 2 ^ 32 → ahead.bytes.now ≡ uleb n ++ z → (choice_at n cs ≡ of s) × (rest ≡ z)) → content_of r.here ≡ of s → AsLimited ahead r.ahead → r.ahead.bytes.now ≡ rest
         → LeadsTo registry ahead.bytes.now (step_at registry inner (one_of cs) t) (Some r)
-    variant_leads (tree.variant n t) after s rest r h found same as on =
+    variant_leads (tree.variant n t) after s rest r h found same alike on =
         let v = variant_is n t after h in
         let c = found n (plain registry t (choice_at n cs) ++ after) v.0 v.1 in
         let few = h.few in
-        reached registry ahead (record { value = t; content = choice_at n cs; place = length (uleb n) }) r ahead.bytes.now (uleb n) after (same ∙ sym c.0) as v.2 (omega (arith, few)) refl v.1 (on ∙ c.1)
-    variant_leads _ after s rest r h found same as on = absurd (let k = h.good.sound.fit in cc)
+        reached registry ahead (record { value = t; content = choice_at n cs; place = length (uleb n) }) r ahead.bytes.now (uleb n) after (same ∙ sym c.0) alike v.2 (omega (arith, few)) refl v.1 (on ∙ c.1)
+    variant_leads _ after s rest r h found same alike on = absurd (let k = h.good.sound.fit in cc)

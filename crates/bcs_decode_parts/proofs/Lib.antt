@@ -3,8 +3,9 @@ pub mod FormatRows
 pub mod Growing
 pub mod HolderSteps
 pub mod KeysLead
-pub mod Leaves
 pub mod MapSteps
+pub mod Nowhere
+pub mod Numbers
 pub mod Paths
 pub mod RowSteps
 pub mod Rows

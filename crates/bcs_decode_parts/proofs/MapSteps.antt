@@ -88,10 +88,10 @@ module _ (registry : Entries) (ahead : Ahead) (f g : Shape) (wanted : List ℕ) 
     parted = h.is ∙ append_assoc key_bytes (value_bytes ++ plain_pairs registry ps f g) after ∙ ap (λ (b : List ℕ). key_bytes ++ b) (append_assoc value_bytes (plain_pairs registry ps f g) after)
 
     key_stands : (mid : Ahead) → AsLimited ahead mid → mid.bytes.now ≡ bytes → Fronts registry mid (of f) k (value_bytes ++ others)
-    key_stands mid as is = let few = h.few in fronts registry ahead mid (of f) k (value_bytes ++ others) as h.all.0 (omega (arith, few)) (is ∙ parted)
+    key_stands mid alike is = let few = h.few in fronts registry ahead mid (of f) k (value_bytes ++ others) alike h.all.0 (omega (arith, few)) (is ∙ parted)
 
     value_stands : (mid : Ahead) → AsLimited ahead mid → mid.bytes.now ≡ value_bytes ++ others → Fronts registry mid (of g) v others
-    value_stands mid as is = let few = h.few in fronts registry ahead mid (of g) v others as h.all.2 (omega (arith, few)) is
+    value_stands mid alike is = let few = h.few in fronts registry ahead mid (of g) v others alike h.all.2 (omega (arith, few)) is
 
     others_stand : EntriesStand others ps after
     others_stand = record { last = Some key_bytes; all = h.all.3; few = (let few = h.few in omega (arith, few)); is = refl }
@@ -109,13 +109,13 @@ module _ (registry : Entries) (ahead : Ahead) (f g : Shape) (wanted : List ℕ) 
 
       -- the key is the one
       pub key_leads : (q : Reached) → front ≡ wanted → content_of q.here ≡ of g → AsLimited ahead q.ahead → q.ahead.bytes.now ≡ behind → Finds bytes n (Some q)
-      key_leads q e same as on no_pairs after long h = absurd (omega (arith, some, long))
-      key_leads q e same as on (pair k v ps) after long h =
+      key_leads q e same alike on no_pairs after long h = absurd (omega (arith, some, long))
+      key_leads q e same alike on (pair k v ps) after long h =
           let is_key = key_is k v ps after h in
           let few = h.few in
           somewhere registry bytes _ (record { value = v; content = of g; place = length (plain registry k (of f)) }) q
           (rw (same_bytes wanted (plain registry k (of f)) (sym e ∙ is_key.1)) refl)
-          (reached registry ahead _ q bytes (plain registry k (of f)) (plain_pairs registry ps f g ++ after) same as h.all.2 (omega (arith, few)) refl (parted bytes k v ps after h) (on ∙ is_key.0))
+          (reached registry ahead _ q bytes (plain registry k (of f)) (plain_pairs registry ps f g ++ after) same alike h.all.2 (omega (arith, few)) refl (parted bytes k v ps after h) (on ∙ is_key.0))
 
       -- the key is another one
       module _ (other : front ≡ wanted → ⊥) (second : Ahead) (limited2 : AsLimited ahead second) (is2 : second.bytes.now ≡ behind) where

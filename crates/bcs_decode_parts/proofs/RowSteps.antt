@@ -1,5 +1,5 @@
 -- A step to an element of a list, an array, a tuple or a struct.
-use Rattle.std.proofs.Common.{◌≡◌, ℕ, ◌+◌, ◌<◌, ◌≤◌, ◌^◌, ◌==◌, nat_le, List, ◌++◌, length, Option, Some, None, refl, sym, ap, subst, ◌∙◌, append_assoc, arith}
+use Rattle.std.proofs.Common.{◌≡◌, ℕ, ◌+◌, ◌<◌, ◌≤◌, ◌^◌, ◌==◌, nat_le, false, List, ◌++◌, length, Option, Some, None, refl, sym, ap, subst, ◌∙◌, append_assoc, arith}
 use Rattle.std.proofs.lemmas.Bool.{and_parts, and_from, eq-eqb, leb-true}
 use Rattle.bcs_num.specs.Uleb.{uleb}
 use Rattle.bcs_registry_formats.specs.Shape as shape
@@ -41,7 +41,7 @@ module _ (registry : Entries) (ahead : Ahead) where
     pub all : AllAre (IsDecodable registry ahead.depth (of s)) ts
     pub few : trees_nodes ts < ahead.nodes
 
-  module _ (s : Shape) (ts : Trees) (i : ℕ) (after : List ℕ) (mid : Ahead) (h : RowAhead s ts) (as : AsLimited ahead mid) (is : mid.bytes.now ≡ plain_items registry ts s ++ after) (lt : i < count ts) where
+  module _ (s : Shape) (ts : Trees) (i : ℕ) (after : List ℕ) (mid : Ahead) (h : RowAhead s ts) (alike : AsLimited ahead mid) (is : mid.bytes.now ≡ plain_items registry ts s ++ after) (lt : i < count ts) where
     abbrev here : ItemAt registry ahead.depth s ts i
     here = item_at registry ahead.depth s ts i h.all lt
 
@@ -61,7 +61,7 @@ module _ (registry : Entries) (ahead : Ahead) where
         let a = items_are registry ahead.depth s here.before here.before_good in
         let few = h.few in
         let m = here.few in
-        fronts registry ahead mid (of (shape.array s i)) (tree.items here.before) later as
+        fronts registry ahead mid (of (shape.array s i)) (tree.items here.before) later alike
         (decodable registry ahead.depth (of (shape.array s i)) (tree.items here.before) (and_from _ _ (eq-eqb (count here.before) i here.long) a.fit_is) a.canonical_is a.deep_is a.long_is)
         (omega (arith, few, m)) split
 
@@ -107,11 +107,11 @@ module _ (registry : Entries) (ahead : Ahead) where
 
     pub array_leads : (t : Tree) (after rest : List ℕ) (r : Reached) → Fronts registry ahead (of (shape.array s n)) t after → i < n → RestIs registry ahead (of (shape.array s i)) rest
         → content_of r.here ≡ of s → AsLimited ahead r.ahead → r.ahead.bytes.now ≡ rest → LeadsTo registry ahead.bytes.now (step_at registry (item i) (of (shape.array s n)) t) (Some r)
-    array_leads (tree.items ts) after rest r h lt found same as on =
+    array_leads (tree.items ts) after rest r h lt found same alike on =
         let a = array_row ts after h in
         let e = a.1 in
-        row_leads s ts i after ahead a.0 (record { depth_is = refl; nodes_are = refl }) h.is (omega (arith, lt, e)) rest r found same as on
-    array_leads _ after rest r h lt found same as on = absurd (let e = h.good.sound.fit in cc)
+        row_leads s ts i after ahead a.0 (record { depth_is = refl; nodes_are = refl }) h.is (omega (arith, lt, e)) rest r found same alike on
+    array_leads _ after rest r h lt found same alike on = absurd (let e = h.good.sound.fit in cc)
 
   -- ---- lists
 
@@ -143,23 +143,23 @@ module _ (registry : Entries) (ahead : Ahead) where
 
     pub list_stuck : (t : Tree) (after : List ℕ) (n : ℕ) (rest : List ℕ) (mid : Ahead) → Fronts registry ahead (of (shape.seq s)) t after → NumberIs ahead.bytes.now n rest → i < n
         → AsLimited ahead mid → mid.bytes.now ≡ rest → NoneStands registry mid (of (shape.array s i)) → ⊥
-    list_stuck (tree.items ts) after n rest mid h number lt as is none =
+    list_stuck (tree.items ts) after n rest mid h number lt alike is none =
         let l = list_number ts after h in
         let e = number (count ts) (plain_items registry ts s ++ after) l.1 l.2 in
         let same = e.0 in
-        row_stuck s ts i after mid l.0 as (is ∙ e.1) (omega (arith, lt, same)) none
-    list_stuck _ after n rest mid h number lt as is none = absurd (let e = h.good.sound.fit in cc)
+        row_stuck s ts i after mid l.0 alike (is ∙ e.1) (omega (arith, lt, same)) none
+    list_stuck _ after n rest mid h number lt alike is none = absurd (let e = h.good.sound.fit in cc)
 
     pub list_leads : (t : Tree) (after : List ℕ) (n : ℕ) (rest : List ℕ) (mid : Ahead) (on : List ℕ) (r : Reached) → Fronts registry ahead (of (shape.seq s)) t after → NumberIs ahead.bytes.now n rest → i < n
         → AsLimited ahead mid → mid.bytes.now ≡ rest → RestIs registry mid (of (shape.array s i)) on → content_of r.here ≡ of s → AsLimited ahead r.ahead → r.ahead.bytes.now ≡ on
         → LeadsTo registry ahead.bytes.now (step_at registry (item i) (of (shape.seq s)) t) (Some r)
-    list_leads (tree.items ts) after n rest mid on r h number lt as is found same as2 there =
+    list_leads (tree.items ts) after n rest mid on r h number lt alike is found same as2 there =
         let l = list_number ts after h in
         let e = number (count ts) (plain_items registry ts s ++ after) l.1 l.2 in
         let long = e.0 in
         leads_after registry ahead.bytes.now (uleb (count ts)) mid.bytes.now (item_of registry ts s i) (Some r) (l.2 ∙ ap (λ (b : List ℕ). uleb (count ts) ++ b) (sym (is ∙ e.1)))
-        (row_leads s ts i after mid l.0 as (is ∙ e.1) (omega (arith, lt, long)) on r found same as2 there)
-    list_leads _ after n rest mid on r h number lt as is found same as2 there = absurd (let e = h.good.sound.fit in cc)
+        (row_leads s ts i after mid l.0 alike (is ∙ e.1) (omega (arith, lt, long)) on r found same as2 there)
+    list_leads _ after n rest mid on r h number lt alike is found same as2 there = absurd (let e = h.good.sound.fit in cc)
 
   -- ---- tuples
 
@@ -198,11 +198,11 @@ module _ (registry : Entries) (ahead : Ahead) where
 
     each_leads : (rest : List ℕ) (r : Reached) → RestIs registry ahead (of (shape.tuple front)) rest → content_of r.here ≡ of s → AsLimited ahead r.ahead → r.ahead.bytes.now ≡ rest
         → LeadsTo registry ahead.bytes.now (item_in registry ts (shapes_joined front (shape.shape s rear)) (shapes_count front)) (Some r)
-    each_leads rest r found same as on =
+    each_leads rest r found same alike on =
         let few = h.few in
         let m = each.few in
         somewhere registry ahead.bytes.now _ _ r each.found
-        (reached registry ahead _ r ahead.bytes.now (plain_each registry each.before front) (plain_each registry each.rest rear ++ after) same as each.good (omega (arith, few, m)) refl parted
+        (reached registry ahead _ r ahead.bytes.now (plain_each registry each.before front) (plain_each registry each.rest rear ++ after) same alike each.good (omega (arith, few, m)) refl parted
         (on ∙ found (tree.items each.before) behind tuple_front))
 
   module _ (ss front : Shapes) (s : Shape) (rear : Shapes) (i : ℕ) (split : ss ≡ shapes_joined front (shape.shape s rear)) (long : shapes_count front ≡ i) where
@@ -215,6 +215,6 @@ module _ (registry : Entries) (ahead : Ahead) where
 
     pub tuple_leads : (t : Tree) (after rest : List ℕ) (r : Reached) → Fronts registry ahead (of (shape.tuple ss)) t after → RestIs registry ahead (of (shape.tuple front)) rest → content_of r.here ≡ of s
         → AsLimited ahead r.ahead → r.ahead.bytes.now ≡ rest → LeadsTo registry ahead.bytes.now (step_at registry (item i) (of (shape.tuple ss)) t) (Some r)
-    tuple_leads (tree.items ts) after rest r h found same as on =
-        rw (split, ← long) (each_leads front s rear ts after (as_split (tree.items ts) after h) rest r found same as on)
-    tuple_leads _ after rest r h found same as on = absurd (let e = h.good.sound.fit in cc)
+    tuple_leads (tree.items ts) after rest r h found same alike on =
+        rw (split, ← long) (each_leads front s rear ts after (as_split (tree.items ts) after h) rest r found same alike on)
+    tuple_leads _ after rest r h found same alike on = absurd (let e = h.good.sound.fit in cc)
