@@ -89,5 +89,5 @@ module _ (registry : Entries) where
     walk_stuck r none front t after is h = absurd (none t after h)
 
 -- the next step of a path
-pub steps_next : (path : List Step) (i : ℕ) (s : Step) → i < length path → s ≡ get_or path i s → map step_of (drop i path) ≡ step_of s ∷ map step_of (drop (i + 1) path)
-steps_next path i s lt is = ap (map step_of) (drop_more path i s lt ∙ ap (λ y. y ∷ drop (i + 1) path) (sym is))
+pub steps_next : (path : List Step) (i : ℕ) (d : Step) → i < length path → map step_of (drop i path) ≡ step_of (get_or path i d) ∷ map step_of (drop (i + 1) path)
+steps_next path i d lt = ap (map step_of) (drop_more path i d lt)

@@ -25,7 +25,7 @@ impl<'a> Ahead<'a> {
 }
 
 /// The bytes before the rest, which ends where they end.
-pub fn before<'a>(bytes: &'a [u8], rest: &[u8]) -> &'a [u8]
+pub fn bytes_before<'a>(bytes: &'a [u8], rest: &[u8]) -> &'a [u8]
     ensures { (front : List ℕ) → bytes.now ≡ front ++ rest.now → result.now ≡ front }
 {
     let (front, _) = bytes.split_at(bytes.len().saturating_sub(rest.len()));

@@ -8,7 +8,7 @@ ghost use Rattle.bcs_decode_parts.specs.Fronts.{StepsTo};
 ghost use Rattle.bcs_decode_parts.specs.Here.{content_of};
 ghost use Rattle.bcs_decode_parts.specs.Steps.{step_of};
 
-use crate::ahead::{Ahead, before};
+use crate::ahead::{Ahead, bytes_before};
 use crate::here::{Here, Reached, container_inside, payload_inside};
 use crate::inside::{Inside, inside_of};
 use crate::passing::{after_fields, after_formats, after_items, after_value};
@@ -156,7 +156,7 @@ fn map_value<'r, 'a>(
     let (count, mut rest) = after_number(ahead.bytes)?;
     for _ in 0..count {
         let behind = after_value(registry, key, &ahead.at(rest))?;
-        if before(rest, behind) == wanted {
+        if bytes_before(rest, behind) == wanted {
             return Some(Reached {
                 here: Here::Value(content),
                 ahead: ahead.at(behind),

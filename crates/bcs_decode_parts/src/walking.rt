@@ -7,7 +7,7 @@ ghost use Rattle.bcs_decode_parts.specs.Fronts.{Fronts};
 ghost use Rattle.bcs_decode_parts.specs.Parts.{part_at};
 ghost use Rattle.bcs_decode_parts.specs.Steps.{GivesPart, step_of};
 
-use crate::ahead::{Ahead, before};
+use crate::ahead::{Ahead, bytes_before};
 use crate::here::{Here, Reached};
 use crate::part::Part;
 use crate::passing::after_reached;
@@ -36,7 +36,7 @@ pub fn walk<'a>(
     }
     let behind = after_reached(registry, &at)?;
     Some(Part {
-        bytes: before(at.ahead.bytes, behind),
-        place: before(ahead.bytes, at.ahead.bytes).len(),
+        bytes: bytes_before(at.ahead.bytes, behind),
+        place: bytes_before(ahead.bytes, at.ahead.bytes).len(),
     })
 }

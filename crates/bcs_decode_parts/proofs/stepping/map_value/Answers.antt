@@ -36,8 +36,8 @@ returns-then-eq c = λ t after h.
     let some : 0 < n - l.counter = omega (arith, c.loop-test.true) in
     found_in_map r a f g w n start c.in_ok-count.ensures (Some _)
     (l.invariant.whole (Some _)
-      (key_leads r a f g w l.rest.now (n - l.counter) some c.at.result (record { depth_is = c.at.ensures.depth; nodes_are = c.at.ensures.nodes }) c.at.ensures.bytes c.in_ok-behind.behind.now c.before-in-loop.result.now c.in_ok-behind.ensures c.before-in-loop.ensures
-        _ ((bytes_eq-Decides c.before-in-loop.result.now w).0 (sym c.eq.ensures ∙ c.if-eq.true)) refl (record { depth_is = c.at-then-eq.ensures.depth; nodes_are = c.at-then-eq.ensures.nodes }) c.at-then-eq.ensures.bytes)) t after h)
+      (key_leads r a f g w l.rest.now (n - l.counter) some c.at.result (record { depth_is = c.at.ensures.depth; nodes_are = c.at.ensures.nodes }) c.at.ensures.bytes c.in_ok-behind.behind.now c.bytes_before.result.now c.in_ok-behind.ensures c.bytes_before.ensures
+        _ ((bytes_eq-Decides c.bytes_before.result.now w).0 (sym c.eq.ensures ∙ c.if-eq.true)) refl (record { depth_is = c.at-then-eq.ensures.depth; nodes_are = c.at-then-eq.ensures.nodes }) c.at-then-eq.ensures.bytes)) t after h)
 
 pub returns-in_err-rest : goal.returns-in_err-rest
 returns-in_err-rest c = λ t after h.
@@ -53,8 +53,8 @@ returns-in_err-rest c = λ t after h.
     rw (c.from_residual-in_err-rest.ensures)
     (found_in_map r a f g w n start c.in_ok-count.ensures None
       (l.invariant.whole None
-        (value_stuck r a f g w l.rest.now (n - l.counter) some c.at.result (record { depth_is = c.at.ensures.depth; nodes_are = c.at.ensures.nodes }) c.at.ensures.bytes c.in_ok-behind.behind.now c.before-in-loop.result.now c.in_ok-behind.ensures c.before-in-loop.ensures
-          (λ e. absurd (false≢true (sym (sym c.eq.ensures ∙ c.if-eq.false) ∙ (bytes_eq-Decides c.before-in-loop.result.now w).1 e))) c.at-in-loop.result (record { depth_is = c.at-in-loop.ensures.depth; nodes_are = c.at-in-loop.ensures.nodes }) c.at-in-loop.ensures.bytes c.in_err-rest.ensures None)) t after h))
+        (value_stuck r a f g w l.rest.now (n - l.counter) some c.at.result (record { depth_is = c.at.ensures.depth; nodes_are = c.at.ensures.nodes }) c.at.ensures.bytes c.in_ok-behind.behind.now c.bytes_before.result.now c.in_ok-behind.ensures c.bytes_before.ensures
+          (λ e. absurd (false≢true (sym (sym c.eq.ensures ∙ c.if-eq.false) ∙ (bytes_eq-Decides c.bytes_before.result.now w).1 e))) c.at-in-loop.result (record { depth_is = c.at-in-loop.ensures.depth; nodes_are = c.at-in-loop.ensures.nodes }) c.at-in-loop.ensures.bytes c.in_err-rest.ensures None)) t after h))
 
 pub loop-preserved : goal.loop-preserved
 loop-preserved c =
@@ -69,8 +69,8 @@ loop-preserved c =
     let some : 0 < n - l.counter = omega (arith, c.loop-test.true) in
     record {
       whole = λ q found. l.invariant.whole q
-          (next_finds r a f g w l.rest.now (n - l.counter) some c.at.result (record { depth_is = c.at.ensures.depth; nodes_are = c.at.ensures.nodes }) c.at.ensures.bytes c.in_ok-behind.behind.now c.before-in-loop.result.now c.in_ok-behind.ensures c.before-in-loop.ensures
-            (λ e. absurd (false≢true (sym (sym c.eq.ensures ∙ c.if-eq.false) ∙ (bytes_eq-Decides c.before-in-loop.result.now w).1 e))) c.at-in-loop.result (record { depth_is = c.at-in-loop.ensures.depth; nodes_are = c.at-in-loop.ensures.nodes }) c.at-in-loop.ensures.bytes c.in_ok-rest.rest.now q c.in_ok-rest.ensures
+          (next_finds r a f g w l.rest.now (n - l.counter) some c.at.result (record { depth_is = c.at.ensures.depth; nodes_are = c.at.ensures.nodes }) c.at.ensures.bytes c.in_ok-behind.behind.now c.bytes_before.result.now c.in_ok-behind.ensures c.bytes_before.ensures
+            (λ e. absurd (false≢true (sym (sym c.eq.ensures ∙ c.if-eq.false) ∙ (bytes_eq-Decides c.bytes_before.result.now w).1 e))) c.at-in-loop.result (record { depth_is = c.at-in-loop.ensures.depth; nodes_are = c.at-in-loop.ensures.nodes }) c.at-in-loop.ensures.bytes c.in_ok-rest.rest.now q c.in_ok-rest.ensures
             (let fewer : n - (l.counter + 1) ≡ (n - l.counter) - 1 = omega arith in subst (λ (m : ℕ). Finds r a f g w c.in_ok-rest.rest.now m q) fewer found));
     })
 
