@@ -1,7 +1,7 @@
 -- The format of a number in a row of formats: what stands before it, and what after it.
-use Rattle.std.proofs.Common.{◌≡◌, ℕ, ◌+◌, ◌<◌, ◌≤◌, List, [], ◌∷◌, ◌++◌, length, get_or, map, take, drop, suc, refl, sym, ap, ap₂, ◌∙◌, arith}
+use Rattle.std.proofs.Common.{◌≡◌, ℕ, ◌+◌, ◌<◌, List, [], ◌∷◌, ◌++◌, length, get_or, map, take, drop, suc, refl, sym, ap, ap₂, ◌∙◌, arith}
 use Rattle.std.proofs.lemmas.List.{length-take, take-append-drop}
-use Rattle.bcs_registry_formats.specs.Shape.{Shape, Shapes, shape}
+use Rattle.bcs_registry_formats.specs.Shape.{Shapes, shape}
 use Rattle.bcs_registry_formats.specs.Container.{field_shapes}
 use Rattle.bcs_registry_formats.specs.View.{shape_of, formats_shapes, field_of}
 use Rattle.bcs_registry_formats.specs.declared.format.Format.{Format}

@@ -129,7 +129,7 @@ module _ (older newer : Entries) (grows : Grows older newer) where
     h.place_is,
     ap (λ (t : Tree). plain newer t y.content) h.value_is
         ∙ fitting_stays (λ u g. plain newer u g ≡ plain older x.value x.content) (λ m u cs ds is p. ap (λ (g : Content). uleb m ++ plain newer u g) is ∙ p)
-          older x.value x.content y.content h.content_stays h.fit (plain_newer older newer grows x.value x.content h.fit),
+        older x.value x.content y.content h.content_stays h.fit (plain_newer older newer grows x.value x.content h.fit),
   )
   same_parts None (Some y) h = absurd h
   same_parts (Some x) None h = absurd h

@@ -1,5 +1,5 @@
 -- A step to what an option, a container or a variant holds.
-use Rattle.std.proofs.Common.{◌≡◌, ◌≢◌, ℕ, ◌+◌, ◌-◌, ◌<◌, ◌^◌, List, [], ◌∷◌, ◌++◌, length, Some, None, false, true, refl, sym, ap, subst, ◌∙◌, append_assoc, arith}
+use Rattle.std.proofs.Common.{◌≡◌, ◌≢◌, ℕ, ◌-◌, ◌<◌, ◌^◌, List, [], ◌∷◌, ◌++◌, length, Some, None, false, true, refl, sym, ap, subst, ◌∙◌, append_assoc, arith}
 use Rattle.std.proofs.lemmas.Bool.{false≢true}
 use Rattle.bcs_num.specs.Uleb.{uleb}
 use Rattle.bcs_registry_formats.specs.Shape as shape
@@ -12,12 +12,12 @@ use Rattle.bcs_value_laws.proofs.VariantFits.{number_fits, payload_fits}
 use Rattle.bcs_encode_laws.specs.Plain.{plain}
 use Rattle.bcs_decode_laws.specs.Accepting.{IsDecodable}
 use Rattle.bcs_decode_laws.proofs.Decodable.{decodable}
-use Rattle.bcs_decode_parts.specs.Parts.{inner, Part, step_at}
+use Rattle.bcs_decode_parts.specs.Parts.{inner, step_at}
 use Rattle.bcs_decode_parts.specs.declared.ahead.Ahead.{Ahead}
 use Rattle.bcs_decode_parts.specs.declared.here.Reached.{Reached}
 use Rattle.bcs_decode_parts.specs.Here.{content_of}
 use Rattle.bcs_decode_parts.specs.Fronts.{Fronts, LeadsTo}
-use Rattle.bcs_decode_parts.proofs.Arrivals.{AsLimited, fronts, reached, nowhere, somewhere}
+use Rattle.bcs_decode_parts.proofs.Arrivals.{AsLimited, fronts, reached}
 
 module _ (registry : Entries) (ahead : Ahead) where
   -- what fits nothing stands nowhere

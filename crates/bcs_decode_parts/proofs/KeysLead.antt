@@ -1,17 +1,16 @@
 -- A key leads to one entry of a canonical map.
-use Rattle.std.proofs.Common.{◌≡◌, ℕ, ◌+◌, List, ◌++◌, length, Bool, true, false, if◌then◌else◌, Option, Some, None, refl, sym, ap, subst, ◌∙◌, arith}
+use Rattle.std.proofs.Common.{◌≡◌, ℕ, ◌+◌, List, ◌++◌, length, Bool, true, false, Some, refl, sym, ap, subst, arith}
 use Rattle.std.proofs.lemmas.List.{length-append}
 use Rattle.std.proofs.lemmas.Slice.Eq.{bytes_eq-Decides}
 use Rattle.std.specs.Str.{bytes_eq}
 use Rattle.bcs_num.specs.Uleb.{uleb}
-use Rattle.bcs_registry_formats.specs.Shape.{Shape, map as map_shape}
+use Rattle.bcs_registry_formats.specs.Shape.{Shape}
 use Rattle.bcs_registry_formats.specs.Container.{Entries, of}
-use Rattle.bcs_value_tree.specs.Tree as tree
 use Rattle.bcs_value_tree.specs.Tree.{Tree, Pairs, no_pairs, pair, pair_count}
 use Rattle.bcs_encode_laws.specs.Plain.{plain, plain_pairs}
 use Rattle.bcs_encode_laws.specs.Canonical.{Below, Rises, RisesFrom}
 use Rattle.bcs_encode_laws.proofs.BelowLaws.{Below-irrefl, Below-trans}
-use Rattle.bcs_decode_parts.specs.Parts.{Part, part_after, value_of}
+use Rattle.bcs_decode_parts.specs.Parts.{part_after, value_of}
 use Rattle.bcs_decode_parts.specs.PartLaws.{joined, KeyLeadsToOne}
 
 -- bytes are equal, or they aren't

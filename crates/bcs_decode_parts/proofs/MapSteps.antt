@@ -1,8 +1,7 @@
 -- A step to the value of an entry.
-use Rattle.std.proofs.Common.{◌≡◌, ℕ, suc, ◌+◌, ◌-◌, ◌<◌, ◌≤◌, ◌^◌, nat_le, List, ◌++◌, length, Option, Some, None, true, false, if◌then◌else◌, refl, sym, ap, subst, ◌∙◌, append_assoc, arith}
+use Rattle.std.proofs.Common.{◌≡◌, ℕ, ◌-◌, ◌<◌, ◌^◌, nat_le, List, ◌++◌, length, Option, Some, None, refl, sym, ap, subst, ◌∙◌, append_assoc, arith}
 use Rattle.std.proofs.lemmas.Bool.{and_parts, leb-true}
 use Rattle.std.proofs.lemmas.List.{length-append}
-use Rattle.std.specs.Str.{bytes_eq}
 use Rattle.bcs_num.specs.Uleb.{uleb}
 use Rattle.bcs_registry_formats.specs.Shape as shape
 use Rattle.bcs_registry_formats.specs.Shape.{Shape}
@@ -14,12 +13,12 @@ use Rattle.bcs_encode_laws.specs.Lengths.{length_limit, pairs_hold}
 use Rattle.bcs_decode_laws.specs.Accepting.{IsDecodable}
 use Rattle.bcs_decode_laws.specs.Stopping.{AllRise}
 use Rattle.bcs_decode_laws.proofs.Decodable.{are_pairs}
-use Rattle.bcs_decode_parts.specs.Parts.{key, Part, part_after, value_of, step_at}
+use Rattle.bcs_decode_parts.specs.Parts.{key, value_of, step_at}
 use Rattle.bcs_decode_parts.specs.declared.ahead.Ahead.{Ahead}
 use Rattle.bcs_decode_parts.specs.declared.here.Reached.{Reached}
 use Rattle.bcs_decode_parts.specs.Here.{content_of}
 use Rattle.bcs_decode_parts.specs.Fronts.{Fronts, LeadsTo}
-use Rattle.bcs_decode_parts.proofs.Arrivals.{AsLimited, fronts, reached, nowhere, somewhere, leads_after}
+use Rattle.bcs_decode_parts.proofs.Arrivals.{AsLimited, fronts, reached, somewhere, leads_after}
 use Rattle.bcs_decode_parts.proofs.KeysLead.{same_bytes, other_bytes}
 use Rattle.bcs_decode_parts.proofs.RowSteps.{NumberIs, RestIs, NoneStands}
 

@@ -1,6 +1,6 @@
 -- Steps in a row.
-use Rattle.std.proofs.Common.{◌≡◌, ℕ, zero, ◌+◌, ◌<◌, List, [], ◌∷◌, ◌++◌, length, get_or, map, take, drop, Option, Some, None, refl, sym, ap, subst, ◌∙◌, append_assoc, arith}
-use Rattle.std.proofs.lemmas.List.{length-append, drop_more, drop_all, take_at, drop_at, drop-drop}
+use Rattle.std.proofs.Common.{◌≡◌, ℕ, ◌+◌, ◌<◌, List, [], ◌∷◌, ◌++◌, length, get_or, map, take, drop, Option, Some, None, sym, ap, subst, ◌∙◌, append_assoc, arith}
+use Rattle.std.proofs.lemmas.List.{length-append, drop_more, take_at, drop_at, drop-drop}
 use Rattle.bcs_registry_formats.specs.Container.{Entries, Content}
 use Rattle.bcs_value_tree.specs.Tree.{Tree}
 use Rattle.bcs_encode_laws.specs.Plain.{plain}
@@ -66,11 +66,11 @@ module _ (registry : Entries) where
         at None k = absurd k
         at (Some x) k =
             let on = next (front ++ k.before) x.value k.after (is ∙ ap (λ (b : List ℕ). front ++ b) k.is ∙ sym (append_assoc front k.before q.ahead.bytes.now))
-                (subst (λ (c : Content). Fronts registry q.ahead c x.value k.after) (sym k.content) k.stands) in
+            (subst (λ (c : Content). Fronts registry q.ahead c x.value k.after) (sym k.content) k.stands) in
             let long : length (front ++ k.before) ≡ length front + x.place = (let place = k.place in omega (arith, length-append front k.before, place)) in
             gives_after (length front) ahead.bytes.now k.before q.ahead.bytes.now x.place (part_at registry path x.content x.value) r k.is k.place
             (subst (λ (c : Content). GivesFrom (length front + x.place) q.ahead.bytes.now (part_at registry path c x.value) r) k.content
-              (subst (λ (n : ℕ). GivesFrom n q.ahead.bytes.now (part_at registry path (content_of q.here) x.value) r) long on))
+            (subst (λ (n : ℕ). GivesFrom n q.ahead.bytes.now (part_at registry path (content_of q.here) x.value) r) long on))
 
     -- there are no more steps: the part is what stands ahead
     pub walk_arrives : (behind own gone : List ℕ) (r : Part) → RestIs registry ahead f behind → ((z : List ℕ) → ahead.bytes.now ≡ z ++ behind → own ≡ z) → ((z : List ℕ) → whole ≡ z ++ ahead.bytes.now → gone ≡ z)

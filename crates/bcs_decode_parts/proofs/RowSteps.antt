@@ -1,5 +1,5 @@
 -- A step to an element of a list, an array, a tuple or a struct.
-use Rattle.std.proofs.Common.{◌≡◌, ℕ, ◌+◌, ◌<◌, ◌≤◌, ◌^◌, ◌==◌, nat_le, false, List, ◌++◌, length, Option, Some, None, refl, sym, ap, subst, ◌∙◌, append_assoc, arith}
+use Rattle.std.proofs.Common.{◌≡◌, ℕ, ◌<◌, ◌≤◌, ◌^◌, ◌==◌, nat_le, false, List, ◌++◌, length, Some, None, refl, sym, ap, subst, ◌∙◌, append_assoc, arith}
 use Rattle.std.proofs.lemmas.Bool.{and_parts, and_from, eq-eqb, leb-true}
 use Rattle.bcs_num.specs.Uleb.{uleb}
 use Rattle.bcs_registry_formats.specs.Shape as shape
@@ -13,8 +13,8 @@ use Rattle.bcs_encode_laws.specs.Plain.{plain, plain_items, plain_each}
 use Rattle.bcs_encode_laws.specs.Lengths.{length_limit, all_hold}
 use Rattle.bcs_decode_laws.specs.Accepting.{IsDecodable}
 use Rattle.bcs_decode_laws.specs.Stopping.{AllAre}
-use Rattle.bcs_decode_laws.proofs.Decodable.{decodable, EachIs, are_items, items_are}
-use Rattle.bcs_decode_parts.specs.Parts.{Step, item, Part, part_after, item_of, item_in, step_at}
+use Rattle.bcs_decode_laws.proofs.Decodable.{decodable, are_items, items_are}
+use Rattle.bcs_decode_parts.specs.Parts.{item, part_after, item_of, item_in, step_at}
 use Rattle.bcs_decode_parts.specs.declared.ahead.Ahead.{Ahead}
 use Rattle.bcs_decode_parts.specs.declared.here.Reached.{Reached}
 use Rattle.bcs_decode_parts.specs.Here.{content_of}

@@ -1,5 +1,5 @@
 -- The element of a number among values in a row: what stands before it, and what after it.
-use Rattle.std.proofs.Common.{◌≡◌, ℕ, zero, suc, ◌+◌, ◌<◌, ◌≤◌, List, ◌++◌, length, Option, Some, None, true, refl, sym, ap, ◌∙◌, append_assoc, arith}
+use Rattle.std.proofs.Common.{◌≡◌, ℕ, zero, suc, ◌+◌, ◌<◌, ◌≤◌, List, ◌++◌, length, Some, None, refl, sym, ap, ◌∙◌, append_assoc, arith}
 use Rattle.std.proofs.lemmas.Bool.{false≢true}
 use Rattle.std.proofs.lemmas.List.{length-append}
 use Rattle.bcs_registry_formats.specs.Shape.{Shape, Shapes, no_shapes, shape}
@@ -9,7 +9,7 @@ use Rattle.bcs_encode_laws.specs.Plain.{plain, plain_items, plain_each}
 use Rattle.bcs_decode_laws.specs.Accepting.{IsDecodable}
 use Rattle.bcs_decode_laws.specs.Stopping.{AllAre}
 use Rattle.bcs_decode_laws.proofs.Decodable.{EachIs, each_is, is_each}
-use Rattle.bcs_decode_parts.specs.Parts.{Part, part_after, item_of, item_in}
+use Rattle.bcs_decode_parts.specs.Parts.{part_after, item_of, item_in}
 
 -- as one row
 abbrev pub shapes_joined : Shapes → Shapes → Shapes

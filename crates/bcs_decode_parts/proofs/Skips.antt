@@ -1,5 +1,5 @@
 -- A value that stands ahead is gone past.
-use Rattle.std.proofs.Common.{◌≡◌, ℕ, suc, ◌+◌, ◌-◌, ◌≤◌, List, ◌++◌, length, take, drop, Ok, Err, refl, sym, ap, subst, ◌∙◌, arith}
+use Rattle.std.proofs.Common.{◌≡◌, ℕ, suc, ◌-◌, List, ◌++◌, length, take, drop, Ok, Err, refl, sym, ap, ◌∙◌, arith}
 use Rattle.std.proofs.lemmas.List.{length-append, take-append-drop, take_at, drop_at}
 use Rattle.bcs_registry_formats.specs.Shape as shape
 use Rattle.bcs_registry_formats.specs.Shape.{Shape}
@@ -8,7 +8,7 @@ use Rattle.bcs_value_tree.specs.Tree.{Tree, nodes}
 use Rattle.bcs_value_laws.specs.Limits.{Bounds}
 use Rattle.bcs_encode_laws.specs.Plain.{plain}
 use Rattle.bcs_decode_stops.specs.declared.reason.Reason.{Reason}
-use Rattle.bcs_decode_laws.specs.Accepting.{IsDecodable, Accepts}
+use Rattle.bcs_decode_laws.specs.Accepting.{Accepts}
 use Rattle.bcs_decode_laws.specs.Reading.{Parser, Read, items_here, shape_here, value_here, node, chain, skipping}
 use Rattle.bcs_decode_laws.proofs.Combine.{parts}
 use Rattle.bcs_decode_laws.proofs.Decodable.{decodable}

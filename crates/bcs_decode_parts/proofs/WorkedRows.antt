@@ -1,14 +1,14 @@
 -- What the definition says of some values, by computation.
-use Rattle.std.proofs.Common.{◌≡◌, ℕ, List, [], ◌∷◌, codes, Option, Some, None, true, false, refl}
-use Rattle.std.specs.Int.{w8, w16}
+use Rattle.std.proofs.Common.{◌≡◌, [], ◌∷◌, Some, None, true, false, refl}
+use Rattle.std.specs.Int.{w16}
 use Rattle.bcs_num.specs.Uleb.{uleb}
 use Rattle.bcs_num.specs.Le as le_file
 use Rattle.bcs_registry_formats.specs.Shape as shape
 use Rattle.bcs_registry_formats.specs.Shape.{Shape}
-use Rattle.bcs_registry_formats.specs.Container.{Entries, Content, of, unit, newtype, enumeration}
+use Rattle.bcs_registry_formats.specs.Container.{Content, of}
 use Rattle.bcs_value_tree.specs.Tree as tree
 use Rattle.bcs_value_tree.specs.Tree.{Tree, no_pairs, pair}
-use Rattle.bcs_decode_parts.specs.Parts.{Part, part_at, item, inner, key}
+use Rattle.bcs_decode_parts.specs.Parts.{part_at, item, key}
 
 -- {256: false, 1: true}, as its keys' bytes rise
 abbrev switches : Tree

@@ -9,7 +9,7 @@ use Rattle.bcs_value_tree.specs.Tree.{Tree, Pairs, no_pairs, pair, pair_count}
 use Rattle.bcs_value_laws.specs.Fits.{fits}
 use Rattle.bcs_encode_laws.specs.Plain.{plain, plain_pairs}
 use Rattle.bcs_encode_laws.specs.Canonical.{IsCanonical}
-use Rattle.bcs_decode_parts.specs.Parts.{Step, key, Part, part_after, step_at, part_at, Stands}
+use Rattle.bcs_decode_parts.specs.Parts.{Step, key, Part, step_at, part_at, Stands}
 
 -- a part's bytes stand in those of the whole, at its place
 abbrev pub PartStands : Type 0

@@ -168,11 +168,7 @@ fn map_value<'r, 'a>(
 }
 
 /// To the element of this number.
-fn to_item<'r, 'a>(
-    registry: &Registry,
-    at: &Reached<'r, 'a>,
-    index: u64,
-) -> Option<Reached<'r, 'a>>
+fn to_item<'r, 'a>(registry: &Registry, at: &Reached<'r, 'a>, index: u64) -> Option<Reached<'r, 'a>>
     ensures { StepsTo registry.now at.now.ahead (item index) (content_of at.now.here) result }
 {
     match inside_of(&at.here) {

@@ -1,7 +1,7 @@
 use Rattle.bcs_registry_formats.specs.View.{shape_of}
 use Rattle.bcs_decode_cursor.specs.Passing.{skip}
 use Rattle.bcs_decode_laws.specs.Reading.{items_here, skipping}
-use Rattle.bcs_decode_parts.proofs.Skips.{Over, row_skipped, passed, stuck}
+use Rattle.bcs_decode_parts.proofs.Skips.{row_skipped, passed, stuck}
 use Rattle.bcs_decode_parts.proofs.passing.after_items.Goals as goal
 
 pub returns-in-Ok : goal.returns-in-Ok

@@ -25,5 +25,5 @@ returns-in_ok-held-in-Variants c = λ t after h.
     let k = c.in_ok-held-in-Variants in
     let here = subst (λ (f : Content). Fronts r ahead f t after) (ap content_of c.in-Variants.is) h in
     let v = variant_stands r ahead (map choice_of c.in-Variants.variants.now.entries) t after (payload_shape (payload_of k.held.now)) k.rest.now c.at.result here k.ensures
-        (record { depth_is = c.at.ensures.depth; nodes_are = c.at.ensures.nodes }) c.at.ensures.bytes in
+    (record { depth_is = c.at.ensures.depth; nodes_are = c.at.ensures.nodes }) c.at.ensures.bytes in
     c.after_payload.ensures v.0 after v.1)

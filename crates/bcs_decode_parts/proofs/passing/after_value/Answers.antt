@@ -1,6 +1,6 @@
 use Rattle.bcs_registry_formats.specs.View.{shape_of}
 use Rattle.bcs_decode_cursor.specs.Passing.{skip}
-use Rattle.bcs_decode_parts.proofs.Skips.{Over, skipped, passed, stuck}
+use Rattle.bcs_decode_parts.proofs.Skips.{skipped, passed, stuck}
 use Rattle.bcs_decode_parts.proofs.passing.after_value.Goals as goal
 
 pub returns-in-Ok : goal.returns-in-Ok

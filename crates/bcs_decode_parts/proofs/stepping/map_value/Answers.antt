@@ -21,7 +21,7 @@ returns-in_err-behind c = λ t after h.
     let some : 0 < n - l.counter = omega (arith, c.loop-test.true) in
     rw (c.from_residual-in_err-behind.ensures)
     (found_in_map r a f g w n start c.in_ok-count.ensures None
-      (l.invariant.whole None (key_stuck r a f g w l.rest.now (n - l.counter) some c.at.result (record { depth_is = c.at.ensures.depth; nodes_are = c.at.ensures.nodes }) c.at.ensures.bytes c.in_err-behind.ensures None)) t after h))
+    (l.invariant.whole None (key_stuck r a f g w l.rest.now (n - l.counter) some c.at.result (record { depth_is = c.at.ensures.depth; nodes_are = c.at.ensures.nodes }) c.at.ensures.bytes c.in_err-behind.ensures None)) t after h))
 
 pub returns-then-eq : goal.returns-then-eq
 returns-then-eq c = λ t after h.
@@ -36,8 +36,8 @@ returns-then-eq c = λ t after h.
     let some : 0 < n - l.counter = omega (arith, c.loop-test.true) in
     found_in_map r a f g w n start c.in_ok-count.ensures (Some _)
     (l.invariant.whole (Some _)
-      (key_leads r a f g w l.rest.now (n - l.counter) some c.at.result (record { depth_is = c.at.ensures.depth; nodes_are = c.at.ensures.nodes }) c.at.ensures.bytes c.in_ok-behind.behind.now c.bytes_before.result.now c.in_ok-behind.ensures c.bytes_before.ensures
-        _ ((bytes_eq-Decides c.bytes_before.result.now w).0 (sym c.eq.ensures ∙ c.if-eq.true)) refl (record { depth_is = c.at-then-eq.ensures.depth; nodes_are = c.at-then-eq.ensures.nodes }) c.at-then-eq.ensures.bytes)) t after h)
+    (key_leads r a f g w l.rest.now (n - l.counter) some c.at.result (record { depth_is = c.at.ensures.depth; nodes_are = c.at.ensures.nodes }) c.at.ensures.bytes c.in_ok-behind.behind.now c.bytes_before.result.now c.in_ok-behind.ensures c.bytes_before.ensures
+    _ ((bytes_eq-Decides c.bytes_before.result.now w).0 (sym c.eq.ensures ∙ c.if-eq.true)) refl (record { depth_is = c.at-then-eq.ensures.depth; nodes_are = c.at-then-eq.ensures.nodes }) c.at-then-eq.ensures.bytes)) t after h)
 
 pub returns-in_err-rest : goal.returns-in_err-rest
 returns-in_err-rest c = λ t after h.
@@ -52,9 +52,9 @@ returns-in_err-rest c = λ t after h.
     let some : 0 < n - l.counter = omega (arith, c.loop-test.true) in
     rw (c.from_residual-in_err-rest.ensures)
     (found_in_map r a f g w n start c.in_ok-count.ensures None
-      (l.invariant.whole None
-        (value_stuck r a f g w l.rest.now (n - l.counter) some c.at.result (record { depth_is = c.at.ensures.depth; nodes_are = c.at.ensures.nodes }) c.at.ensures.bytes c.in_ok-behind.behind.now c.bytes_before.result.now c.in_ok-behind.ensures c.bytes_before.ensures
-          (λ e. absurd (false≢true (sym (sym c.eq.ensures ∙ c.if-eq.false) ∙ (bytes_eq-Decides c.bytes_before.result.now w).1 e))) c.at-in-loop.result (record { depth_is = c.at-in-loop.ensures.depth; nodes_are = c.at-in-loop.ensures.nodes }) c.at-in-loop.ensures.bytes c.in_err-rest.ensures None)) t after h))
+    (l.invariant.whole None
+    (value_stuck r a f g w l.rest.now (n - l.counter) some c.at.result (record { depth_is = c.at.ensures.depth; nodes_are = c.at.ensures.nodes }) c.at.ensures.bytes c.in_ok-behind.behind.now c.bytes_before.result.now c.in_ok-behind.ensures c.bytes_before.ensures
+    (λ e. absurd (false≢true (sym (sym c.eq.ensures ∙ c.if-eq.false) ∙ (bytes_eq-Decides c.bytes_before.result.now w).1 e))) c.at-in-loop.result (record { depth_is = c.at-in-loop.ensures.depth; nodes_are = c.at-in-loop.ensures.nodes }) c.at-in-loop.ensures.bytes c.in_err-rest.ensures None)) t after h))
 
 pub loop-preserved : goal.loop-preserved
 loop-preserved c =
@@ -70,8 +70,8 @@ loop-preserved c =
     record {
       whole = λ q found. l.invariant.whole q
           (next_finds r a f g w l.rest.now (n - l.counter) some c.at.result (record { depth_is = c.at.ensures.depth; nodes_are = c.at.ensures.nodes }) c.at.ensures.bytes c.in_ok-behind.behind.now c.bytes_before.result.now c.in_ok-behind.ensures c.bytes_before.ensures
-            (λ e. absurd (false≢true (sym (sym c.eq.ensures ∙ c.if-eq.false) ∙ (bytes_eq-Decides c.bytes_before.result.now w).1 e))) c.at-in-loop.result (record { depth_is = c.at-in-loop.ensures.depth; nodes_are = c.at-in-loop.ensures.nodes }) c.at-in-loop.ensures.bytes c.in_ok-rest.rest.now q c.in_ok-rest.ensures
-            (let fewer : n - (l.counter + 1) ≡ (n - l.counter) - 1 = omega arith in subst (λ (m : ℕ). Finds r a f g w c.in_ok-rest.rest.now m q) fewer found));
+          (λ e. absurd (false≢true (sym (sym c.eq.ensures ∙ c.if-eq.false) ∙ (bytes_eq-Decides c.bytes_before.result.now w).1 e))) c.at-in-loop.result (record { depth_is = c.at-in-loop.ensures.depth; nodes_are = c.at-in-loop.ensures.nodes }) c.at-in-loop.ensures.bytes c.in_ok-rest.rest.now q c.in_ok-rest.ensures
+          (let fewer : n - (l.counter + 1) ≡ (n - l.counter) - 1 = omega arith in subst (λ (m : ℕ). Finds r a f g w c.in_ok-rest.rest.now m q) fewer found));
     })
 
 pub returns : goal.returns

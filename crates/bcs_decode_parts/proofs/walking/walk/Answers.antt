@@ -1,7 +1,5 @@
-use Rattle.std.proofs.Common.{◌≡◌, ◌+◌, List, [], ◌∷◌, Option, Some, None, get_or, drop, map, length, refl, sym, ap, subst, ◌∙◌, arith, rules}
+use Rattle.std.proofs.Common.{◌+◌, List, [], Some, None, get_or, drop, map, length, refl, sym, ap, subst, arith}
 use Rattle.std.proofs.lemmas.List.{drop_all}
-use Rattle.bcs_registry_formats.specs.Container.{of}
-use Rattle.bcs_registry_formats.specs.View.{shape_of}
 use Rattle.bcs_decode_parts.specs.declared.part.Part.{Part}
 use Rattle.bcs_decode_parts.specs.declared.step.Step.TheVariants.{Item}
 use Rattle.bcs_decode_parts.specs.Parts.{Step}
@@ -20,10 +18,10 @@ returns-in_err-at c = λ t after h.
     let next = steps_next path l.step-index (Item 0) (omega arith) in
     rw (c.from_residual.ensures)
     (gives_from_front r a.bytes.now _ None
-      (l.invariant.whole None
-        (subst (λ (p : List Step). WalksIn r a.bytes.now l.at.ahead (content_of l.at.here) p None) (sym next)
-          (walk_ends r a.bytes.now l.at.ahead (content_of l.at.here) (step_of s) (map step_of (drop (l.step-index + 1) path)) c.in_err-at.ensures))
-        [] t after refl h)))
+    (l.invariant.whole None
+    (subst (λ (p : List Step). WalksIn r a.bytes.now l.at.ahead (content_of l.at.here) p None) (sym next)
+    (walk_ends r a.bytes.now l.at.ahead (content_of l.at.here) (step_of s) (map step_of (drop (l.step-index + 1) path)) c.in_err-at.ensures))
+    [] t after refl h)))
 
 pub loop-step-preserved : goal.loop-step-preserved
 loop-step-preserved c =
@@ -36,7 +34,7 @@ loop-step-preserved c =
     record {
       whole = λ q on. l.invariant.whole q
           (subst (λ (p : List Step). WalksIn r a.bytes.now l.at.ahead (content_of l.at.here) p q) (sym next)
-            (walk_on r a.bytes.now l.at.ahead (content_of l.at.here) (step_of s) (map step_of (drop (l.step-index + 1) path)) c.in_ok-at.at q c.in_ok-at.ensures on));
+          (walk_on r a.bytes.now l.at.ahead (content_of l.at.here) (step_of s) (map step_of (drop (l.step-index + 1) path)) c.in_ok-at.at q c.in_ok-at.ensures on));
     })
 
 pub returns-in_err-behind : goal.returns-in_err-behind
@@ -48,10 +46,10 @@ returns-in_err-behind c = λ t after h.
     let none = ap (map step_of) (drop_all l.step-index path (omega arith)) in
     rw (c.from_residual-in_err-behind.ensures)
     (gives_from_front r a.bytes.now _ None
-      (l.invariant.whole None
-        (subst (λ (p : List Step). WalksIn r a.bytes.now l.at.ahead (content_of l.at.here) p None) (sym none)
-          (walk_stuck r a.bytes.now l.at.ahead (content_of l.at.here) None c.in_err-behind.ensures))
-        [] t after refl h)))
+    (l.invariant.whole None
+    (subst (λ (p : List Step). WalksIn r a.bytes.now l.at.ahead (content_of l.at.here) p None) (sym none)
+    (walk_stuck r a.bytes.now l.at.ahead (content_of l.at.here) None c.in_err-behind.ensures))
+    [] t after refl h)))
 
 pub returns : goal.returns
 returns c = λ t after h.
@@ -63,6 +61,6 @@ returns c = λ t after h.
     let q : Part = record { bytes = c.bytes_before.result; place = length c.bytes_before-2.result.now } in
     gives_from_front r a.bytes.now _ (Some q)
     (l.invariant.whole (Some q)
-      (subst (λ (p : List Step). WalksIn r a.bytes.now l.at.ahead (content_of l.at.here) p (Some q)) (sym none)
-        (walk_arrives r a.bytes.now l.at.ahead (content_of l.at.here) c.in_ok-behind.behind.now c.bytes_before.result.now c.bytes_before-2.result.now q c.in_ok-behind.ensures c.bytes_before.ensures c.bytes_before-2.ensures refl refl))
-      [] t after refl h))
+    (subst (λ (p : List Step). WalksIn r a.bytes.now l.at.ahead (content_of l.at.here) p (Some q)) (sym none)
+    (walk_arrives r a.bytes.now l.at.ahead (content_of l.at.here) c.in_ok-behind.behind.now c.bytes_before.result.now c.bytes_before-2.result.now q c.in_ok-behind.ensures c.bytes_before.ensures c.bytes_before-2.ensures refl refl))
+    [] t after refl h))
