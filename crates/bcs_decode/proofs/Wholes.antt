@@ -21,6 +21,8 @@ use Rattle.bcs_decode_reader.proofs.Going.{Along-gave}
 use Rattle.bcs_decode_reader.proofs.StreamedRows.{Found}
 use Rattle.bcs_decode_laws.proofs.Values.{exact_value}
 use Rattle.bcs_decode_laws.proofs.Verdicts.{reads_accepts}
+use Rattle.bcs_decode_laws.proofs.Encoded.{is_decoded, no_encoding_stops}
+use Rattle.bcs_decode_laws.specs.Stopping.{StopsAll}
 
 some_same : {x y : List ℕ} → Some x ≡ Some y → x ≡ y
 some_same h = cc
@@ -85,7 +87,7 @@ module _ (registry : Entries) (limits : Bounds) (s : Shape) where
 
   pub all_stop : (c d : Option (List ℕ)) (x : DecodeFault) → DecodesFront registry limits s c d (Err x) → DecodesAll registry limits s c d (Err x)
   all_stop None d x h = tt
-  all_stop (Some b) d (Stop stop) h = λ bytes. (inl (h bytes).0, inl (h bytes))
+  all_stop (Some b) d (Stop stop) h = λ bytes. (inl (h bytes).0, no_encoding_stops registry limits s b stop.reason stop.place (inl (h bytes).0), inl (h bytes))
   all_stop (Some b) d Read h = h
   all_stop (Some b) d OutOfMemory h = h
 
@@ -97,7 +99,7 @@ module _ (registry : Entries) (limits : Bounds) (s : Shape) where
   all_value (Some b) (Some x) (Some y) r h k at = λ bytes.
       (let left : drop r.1 b ≡ [] = some_same (sym (h.1 bytes).1) ∙ k ∙ at in
       let whole : length b ≡ r.1 = omega (arith, (h.1 bytes).0.within, length-drop r.1 b, ap length left) in
-      (subst (λ n. Accepts registry limits s b n (tree_of r.0)) (sym whole) (h.1 bytes).0, ap Some at))
+      (is_decoded registry limits s b (tree_of r.0) (subst (λ n. Accepts registry limits s b n (tree_of r.0)) (sym whole) (h.1 bytes).0), ap Some at))
 
   -- the source fails there
   pub all_lost : (c d e : Option (List ℕ)) (r : Value × ℕ) → DecodesFront registry limits s c d (Ok r) → Consumes d e [] → DecodesAll registry limits s c e (Err Read)
@@ -115,7 +117,8 @@ module _ (registry : Entries) (limits : Bounds) (s : Shape) where
       (let left : drop r.1 b ≡ x ∷ y = some_same (sym (h.1 bytes).1) ∙ k in
       let more : r.1 < length b = omega (arith, (h.1 bytes).0.within, length-drop r.1 b, ap length left) in
       let next : drop (suc r.1) b ≡ y = drop-suc r.1 b ∙ ap (drop 1) left in
-      (inr (r.1, tree_of r.0, (h.1 bytes).0, more, refl, refl), inr (record { reason = refl; value = tree_of r.0; accepted = (h.1 bytes).0; after = more; gone = ap Some (sym next) })))
+      let trailing : StopsAll registry limits s b TrailingBytes r.1 = inr (r.1, tree_of r.0, (h.1 bytes).0, more, refl, refl) in
+      (trailing, no_encoding_stops registry limits s b TrailingBytes r.1 trailing, inr (record { reason = refl; value = tree_of r.0; accepted = (h.1 bytes).0; after = more; gone = ap Some (sym next) })))
 
   pub trails_by : (c d e : Option (List ℕ)) (r : Value × ℕ) (bs : List ℕ) → length bs ≡ 1 → DecodesFront registry limits s c d (Ok r) → Consumes d e bs → DecodesAll registry limits s c e (Err (Stop (record { reason = TrailingBytes; place = r.1 })))
   trails_by c d e r [] len h k = absurd (omega (arith, len))

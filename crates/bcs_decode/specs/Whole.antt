@@ -7,12 +7,13 @@ use Rattle.bcs_value_tree.specs.View.{tree_of}
 use Rattle.bcs_value_tree.specs.declared.value.Value.{Value}
 use Rattle.bcs_decode_stops.specs.declared.decode_fault.DecodeFault.{DecodeFault}
 use Rattle.bcs_decode_stops.specs.declared.decode_fault.DecodeFault.TheVariants.{Stop, Read, OutOfMemory}
-use Rattle.bcs_decode_laws.specs.Accepting.{Accepts}
+use Rattle.bcs_decode_laws.specs.Accepting.{Accepts, IsDecoded}
 use Rattle.bcs_decode_laws.specs.Stopping.{Stops, StopsAll}
 use Rattle.bcs_decode_stops.specs.declared.stop.Stop as stop
 use Rattle.bcs_decode_stops.specs.declared.reason.Reason.TheVariants.{TrailingBytes}
 use Rattle.bcs_value_tree.specs.Tree.{Tree}
 use Rattle.bcs_decode_laws.specs.Exact.{AreBytes}
+use Rattle.bcs_encode_laws.specs.Encodes.{Encodes}
 
 -- so many bytes are known to come: of bytes that are told no more than there are, and else none
 abbrev pub AreKnown : ℕ → Option (List ℕ) → Type 0
@@ -53,12 +54,13 @@ pub record Trails (registry : Entries) (limits : Bounds) (s : Shape) (b : List �
   pub after : stop.place < length b
   pub gone : rest ≡ Some (drop (suc stop.place) b)
 
--- of bytes that are told: the value that all of them are; or the stop of the whole input, where a stop within the value
--- is that of its front; or another cause, and a front is gone, however long
+-- of bytes that are told: the value that all of them are; or the stop of the whole input, which no value then encodes to,
+-- and where a stop within the value is that of its front; or another cause, and a front is gone, however long
 abbrev pub DecodesAll : Entries → Bounds → Shape → Option (List ℕ) → Option (List ℕ) → Result Value DecodeFault → Type 0
 DecodesAll registry limits s None rest r = Unit {0}
-DecodesAll registry limits s (Some b) rest (Ok v) = AreBytes b → Accepts registry limits s b (length b) (tree_of v) × (rest ≡ Some [])
+DecodesAll registry limits s (Some b) rest (Ok v) = AreBytes b → IsDecoded registry limits s b (tree_of v) × (rest ≡ Some [])
 DecodesAll registry limits s (Some b) rest (Err (Stop stop)) = AreBytes b → StopsAll registry limits s b stop.reason stop.place
+    × ((v : Tree) → Encodes registry limits s v b → ⊥)
     × ((Stops registry limits s b stop.reason stop.place × GoneTo b rest stop.place) ⊎ Trails registry limits s b rest stop)
 DecodesAll registry limits s (Some b) rest (Err Read) = FrontGone b rest
 DecodesAll registry limits s (Some b) rest (Err OutOfMemory) = FrontGone b rest

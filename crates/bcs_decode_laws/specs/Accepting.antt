@@ -1,4 +1,4 @@
--- Which values bytes begin with.
+-- Which values bytes begin with, and which value they are.
 use Rattle.std.specs.Prelude.{◌≡◌, ◌≤◌, ℕ, List, length, take}
 use Rattle.bcs_registry_formats.specs.Shape.{Shape}
 use Rattle.bcs_registry_formats.specs.Container.{Entries, Content, of}
@@ -7,6 +7,8 @@ use Rattle.bcs_value_laws.specs.Limits.{Bounds}
 use Rattle.bcs_encode_laws.specs.Plain.{plain}
 use Rattle.bcs_encode_laws.specs.Canonical.{IsCanonical}
 use Rattle.bcs_encode_laws.specs.Sound.{IsSoundAt, IsSound}
+use Rattle.bcs_encode_laws.specs.Encodes.{Encodes}
+use Rattle.bcs_value_laws.specs.Same.{Same}
 
 -- a value that bytes may have where so many containers may still be opened: sound and canonical, however many nodes it
 -- has, since these are counted where it stands
@@ -20,3 +22,10 @@ pub record Accepts (registry : Entries) (limits : Bounds) (s : Shape) (bytes : L
   pub canonical : IsCanonical registry c (of s)
   pub within : n ≤ length bytes
   pub is : take n bytes ≡ plain registry c (of s)
+
+-- c is the value that the whole input is: it is accepted, the input is its encoding, and each value that has this encoding
+-- is the same as c
+pub record IsDecoded (registry : Entries) (limits : Bounds) (s : Shape) (bytes : List ℕ) (c : Tree) : Type 0 where
+  pub accepted : Accepts registry limits s bytes (length bytes) c
+  pub encoded : Encodes registry limits s c bytes
+  pub only : (v : Tree) → Encodes registry limits s v bytes → Same v c

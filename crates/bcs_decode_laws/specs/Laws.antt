@@ -1,5 +1,5 @@
 -- What holds of reading, whatever the registry, the limits and the format are.
-use Rattle.std.specs.Prelude.{◌≡◌, ◌⊎◌, ◌≢◌, ℕ, List, ◌++◌, length}
+use Rattle.std.specs.Prelude.{◌≡◌, ◌↔◌, ◌⊎◌, ◌≢◌, ℕ, List, ◌++◌, length}
 use Rattle.bcs_registry_formats.specs.Shape.{Shape}
 use Rattle.bcs_registry_formats.specs.Container.{Entries}
 use Rattle.bcs_registry_formats.specs.Grows.{Grows}
@@ -10,7 +10,7 @@ use Rattle.bcs_value_laws.specs.Limits.{Bounds}
 use Rattle.bcs_encode_laws.specs.Encodes.{Encodes}
 use Rattle.bcs_decode_stops.specs.declared.reason.Reason.{Reason}
 use Rattle.bcs_decode_stops.specs.declared.reason.Reason.TheVariants.{EndOfInput, UnknownVariant}
-use Rattle.bcs_decode_laws.specs.Accepting.{Accepts}
+use Rattle.bcs_decode_laws.specs.Accepting.{Accepts, IsDecoded}
 use Rattle.bcs_decode_laws.specs.Stopping.{Stops, StopsAll}
 use Rattle.bcs_decode_laws.specs.Exact.{AreBytes}
 
@@ -76,6 +76,12 @@ AcceptedIsEncoded = (registry : Entries) (limits : Bounds) (s : Shape) (b : List
 abbrev pub EncodedIsAccepted : Type 0
 EncodedIsAccepted = (registry : Entries) (limits : Bounds) (s : Shape) (v : Tree) (b : List ℕ)
     → Encodes registry limits s v b → (c : Tree) × Same v c × Accepts registry limits s b (length b) c
+
+-- a whole input is accepted exactly if it is some value's encoding, and what is accepted is that value
+abbrev pub ExactDecoding : Type 0
+ExactDecoding = (registry : Entries) (limits : Bounds) (s : Shape) (b : List ℕ)
+    → (((v : Tree) × Encodes registry limits s v b) ↔ ((c : Tree) × Accepts registry limits s b (length b) c))
+    × ((c : Tree) → Accepts registry limits s b (length b) c → IsDecoded registry limits s b c)
 
 -- ---- growth
 

@@ -1,5 +1,5 @@
 //! What holds of reading: laws that a proof may cite. No call does anything.
-ghost use Rattle.bcs_decode_laws.specs.Laws.{AcceptedIsEncoded, AcceptsOnce, EncodedIsAccepted, GrowthKeepsAccepting, GrowthKeepsStops, GrowthKeepsStopsAll, NoTwoVerdicts, NoTwoVerdictsOfAll, SomeVerdict, SomeVerdictOfAll, StopsAllOnce, StopsOnce, VerdictIsStable};
+ghost use Rattle.bcs_decode_laws.specs.Laws.{AcceptedIsEncoded, AcceptsOnce, EncodedIsAccepted, ExactDecoding, GrowthKeepsAccepting, GrowthKeepsStops, GrowthKeepsStopsAll, NoTwoVerdicts, NoTwoVerdictsOfAll, SomeVerdict, SomeVerdictOfAll, StopsAllOnce, StopsOnce, VerdictIsStable};
 
 /// Bytes begin with a value, or they stop.
 pub fn some_verdict()
@@ -49,6 +49,11 @@ pub fn accepted_is_encoded()
 /// A value's encoding is accepted, and gives its canonical form.
 pub fn encoded_is_accepted()
     ensures { EncodedIsAccepted }
+{}
+
+/// A whole input is accepted exactly if it is some value's encoding, and what is accepted is that value.
+pub fn exact_decoding()
+    ensures { ExactDecoding }
 {}
 
 /// What is accepted stays accepted, with the same length and the same value, at a registry that its own one grows to.
