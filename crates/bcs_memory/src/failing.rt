@@ -16,7 +16,7 @@ use std::alloc::Global;
 
 /// Makes the calls that read or write, once for each read and each write.
 pub(crate) fn ask(alloc: Global, row: &Row, tally: &mut Tally) -> Result<(), Told> {
-    if row.question != "value" {
+    if row.question != "value" && row.question != "scalar" {
         return Ok(());
     }
     let accepted = Accepted::read(alloc, row)?;

@@ -9,14 +9,13 @@ use bcs_decode::pieces::PieceSource;
 use bcs_decode::{DecodeFault, decode_all, decode_from, decode_slice};
 use bcs_encode::pieces::PieceSink;
 use bcs_encode::{EncodeFault, WriteFault, canonicalise, encode, encode_by_entries, write};
-use bcs_registry::Format;
 use bcs_value::Value;
 use std::alloc::Global;
 
 /// Sets a row up, and makes those of its calls that ask for no memory where `is_asked`.
 pub(crate) fn ask(alloc: Global, row: &Row, is_asked: bool, tally: &mut Tally) -> Result<(), Told> {
     match row.question {
-        "value" => ask_of_number(alloc, row, is_asked, tally),
+        "scalar" => ask_of_scalar(alloc, row, is_asked, tally),
         "bytes" | "early" => ask_of_stop(alloc, row, is_asked, tally),
         "other" => ask_of_fault(alloc, row, is_asked, tally),
         _ => Ok(()),
@@ -24,9 +23,9 @@ pub(crate) fn ask(alloc: Global, row: &Row, is_asked: bool, tally: &mut Tally) -
 }
 
 // Each decoder gives a whole number, a truth value or the unit.
-fn ask_of_number(alloc: Global, row: &Row, is_asked: bool, tally: &mut Tally) -> Result<(), Told> {
+fn ask_of_scalar(alloc: Global, row: &Row, is_asked: bool, tally: &mut Tally) -> Result<(), Told> {
     let accepted = Accepted::read(alloc, row)?;
-    if is_asked && has_no_parts(&accepted.asked.format) {
+    if is_asked {
         let bytes = accepted.bytes.as_slice();
         let given = slice_fault(alloc, &accepted.asked, bytes);
         tally.note("decode_slice", Told::of(given.is_none()));
@@ -34,24 +33,6 @@ fn ask_of_number(alloc: Global, row: &Row, is_asked: bool, tally: &mut Tally) ->
         tally.note("decode_from", Told::of(given == [None, None]));
     }
     Ok(())
-}
-
-fn has_no_parts(format: &Format) -> bool {
-    matches!(
-        format,
-        Format::Unit
-            | Format::Bool
-            | Format::I8
-            | Format::I16
-            | Format::I32
-            | Format::I64
-            | Format::I128
-            | Format::U8
-            | Format::U16
-            | Format::U32
-            | Format::U64
-            | Format::U128
-    )
 }
 
 // A slice's stop is always told without memory, and a source's where nothing was kept before it.

@@ -23,7 +23,7 @@ pub(crate) fn ask(alloc: Global, part: &str, row: &Row, tally: &mut Tally) {
 // Each call that takes memory.
 fn answers(alloc: Global, row: &Row, tally: &mut Tally) -> Result<(), Told> {
     match row.question {
-        "value" => accepted::ask(alloc, row, tally),
+        "value" | "scalar" => accepted::ask(alloc, row, tally),
         "text" => refused_texts::ask(alloc, row, tally),
         "bytes" | "early" | "whole" | "shown" => refused_bytes::ask(alloc, row, tally),
         "other" | "twice" => refused_values::ask(alloc, row, tally),
