@@ -92,7 +92,7 @@ module _ (registry : Entries) (limits : Bounds) (s : Shape) where
   all_stop (Some b) d OutOfMemory h = h
 
   -- the content ends where the value does
-  pub all_value : (c d e : Option (List ℕ)) (r : Value × ℕ) → DecodesFront registry limits s c d (Ok r) → Consumes d e [] → IsAtEnd e → DecodesAll registry limits s c e (Ok r.0)
+  all_value : (c d e : Option (List ℕ)) (r : Value × ℕ) → DecodesFront registry limits s c d (Ok r) → Consumes d e [] → IsAtEnd e → DecodesAll registry limits s c e (Ok r.0)
   all_value None d e r h k at = tt
   all_value (Some b) None e r h k at = λ bytes. absurd (let w = (h.1 bytes).1 in cc)
   all_value (Some b) (Some x) None r h k at = absurd k
@@ -100,6 +100,10 @@ module _ (registry : Entries) (limits : Bounds) (s : Shape) where
       (let left : drop r.1 b ≡ [] = some_same (sym (h.1 bytes).1) ∙ k ∙ at in
       let whole : length b ≡ r.1 = omega (arith, (h.1 bytes).0.within, length-drop r.1 b, ap length left) in
       (is_decoded registry limits s b (tree_of r.0) (subst (λ n. Accepts registry limits s b n (tree_of r.0)) (sym whole) (h.1 bytes).0), ap Some at))
+
+  pub all_by : (c d e : Option (List ℕ)) (r : Value × ℕ) (bs : List ℕ) → length bs ≡ 0 → DecodesFront registry limits s c d (Ok r) → Consumes d e bs → IsAtEnd e → DecodesAll registry limits s c e (Ok r.0)
+  all_by c d e r [] len h k at = all_value c d e r h k at
+  all_by c d e r (x ∷ bs) len h k at = absurd (omega (arith, len))
 
   -- the source fails there
   pub all_lost : (c d e : Option (List ℕ)) (r : Value × ℕ) → DecodesFront registry limits s c d (Ok r) → Consumes d e [] → DecodesAll registry limits s c e (Err Read)

@@ -1,0 +1,110 @@
+#!/usr/bin/env python3
+"""Runs a program at the edges of its sizes: sizes.py BCS. Prints the status, the first bytes of the answer, processor
+seconds, and the most memory, also as a multiple of the input. The stack is 8 MiB."""
+
+import os
+import resource
+import subprocess
+import sys
+import tempfile
+
+STACK = 8 << 20
+MIB = 1 << 20
+LIMIT = 256 * MIB
+
+
+def nested(format, levels):
+    return "".join('{"SEQ":' for _ in range(levels)) + format + "}" * levels
+
+
+def chain(content):
+    """A list of containers, each of which holds an option of the next 32 levels deep."""
+    return '{"L":{"NEWTYPESTRUCT":' + content + "}}"
+
+
+def cases():
+    """The name of each case, its words, and a maker of its input."""
+    yield "registry, 256 MiB of one name", ["check", "@"], lambda: b'{"' + b"a" * (LIMIT - 16) + b'":"UNITSTRUCT"}'
+    yield "registry, 64 MiB of small containers", ["check", "@"], lambda: containers(64 * MIB)
+    yield "registry, an enum of a million variants", ["check", "@"], lambda: variants(1_000_000)
+    yield "registry, a name of 1 MB", ["check", "@"], lambda: b'{"' + b"a" * 1_000_000 + b'":"UNITSTRUCT"}'
+    yield "text, 256 MiB of one string", ["encode", "{}", '"STR"'], lambda: b'"' + b"a" * (LIMIT - 2) + b'"'
+    yield "text, 64 MiB of numbers", ["encode", "{}", '{"SEQ":"U8"}'], lambda: b"[" + b"1," * (32 * MIB - 1) + b"1]"
+    yield "text, one byte too large", ["encode", "{}", '"STR"'], lambda: b'"' + b"a" * (LIMIT - 1) + b'"'
+    yield "text, a word of a million variants", ["encode", variants(1_000_000).decode(), "E"], lambda: b'"V999999"'
+    yield "text, an object of a million members", ["encode", fields(1_000_000).decode(), "S"], lambda: members(1_000_000)
+    yield "text, nesting 100", ["encode", "{}", nested('"U8"', 32)], lambda: b"[" * 100 + b"]" * 100
+    yield "hexadecimal, 256 MiB of one byte string", ["decode", "{}", '"BYTES"'], lambda: b"f8ffff3f" + b"00" * (128 * MIB - 8)
+    yield "bytes, 200 MB of one text", ["decode", "--raw", "{}", '"STR"'], lambda: uleb(200_000_000) + b"a" * 200_000_000
+    yield "bytes, 64 MiB of numbers", ["decode", "--raw", "{}", '{"SEQ":"U16"}'], lambda: uleb(32 * MIB) + b"ab" * (32 * MIB)
+    yield "bytes, a list of 2147483647 units, within 1000 nodes", ["decode", "--nodes", "1000", "{}", '{"SEQ":"UNIT"}'], lambda: b"ffffffff07"
+    yield "bytes, 10 million empty structs", ["decode", "--raw", '{"U":"UNITSTRUCT"}', '{"SEQ":{"TYPENAME":"U"}}'], lambda: uleb(10_000_000)
+    deep = chain(nested('{"OPTION":{"TYPENAME":"L"}}', 31))
+    yield "bytes, 500 containers of 32 levels", ["decode", "--raw", deep, "L"], lambda: b"\x01" * (31 * 500) + b"\x00"
+    yield "bytes, maps nested as keys", ["decode", "--raw", KEYS, "K"], lambda: b"\x01" * 400 + b"\x00"
+
+
+KEYS = '{"K":{"NEWTYPESTRUCT":{"MAP":{"KEY":{"OPTION":{"TYPENAME":"K"}},"VALUE":"UNIT"}}}}'
+
+
+def uleb(number):
+    digits = []
+    while number >= 128:
+        digits.append(number & 127 | 128)
+        number >>= 7
+    return bytes(digits + [number])
+
+
+def containers(size):
+    count = size // 32
+    return ("{" + ",".join(f'"C{number:07}":{{"NEWTYPESTRUCT":"U8"}}' for number in range(count)) + "}").encode()
+
+
+def variants(count):
+    return ('{"E":{"ENUM":{' + ",".join(f'"{number}":{{"V{number}":"UNIT"}}' for number in range(count)) + "}}}").encode()
+
+
+def fields(count):
+    return ('{"S":{"STRUCT":[' + ",".join(f'{{"f{number}":"U8"}}' for number in range(count)) + "]}}").encode()
+
+
+def members(count):
+    return ("{" + ",".join(f'"f{number}":1' for number in range(count)) + "}").encode()
+
+
+def run(program, words, given):
+    with tempfile.NamedTemporaryFile() as file, tempfile.NamedTemporaryFile() as registry:
+        file.write(given)
+        file.flush()
+        words = [file.name if word == "@" else word for word in words]
+        # A word has at most 128 KiB, so a long registry is a file.
+        for place, word in enumerate(words):
+            if len(word) > 100_000:
+                registry.write(word.encode())
+                registry.flush()
+                words[place] = registry.name
+        file.seek(0)
+        process = subprocess.Popen([program, *words], stdin=file, stdout=subprocess.PIPE, stderr=subprocess.PIPE,
+                                   preexec_fn=lambda: resource.setrlimit(resource.RLIMIT_STACK, (STACK, STACK)))
+        answer = process.stdout.read(24)
+        while process.stdout.read(MIB):
+            pass
+        note = process.stderr.read(24)
+        _, status, usage = os.wait4(process.pid, 0)
+        return os.waitstatus_to_exitcode(status), answer or note, usage
+
+
+def main():
+    print("| Case | Input, MB | Status | Answer begins | Processor s | MiB | MiB for each MiB of input |")
+    print("|---|---|---|---|---|---|---|")
+    for name, words, make in cases():
+        given = make()
+        status, answer, usage = run(sys.argv[1], words, given)
+        size = max(len(given), sum(map(len, words)))
+        memory = usage.ru_maxrss / 1024
+        shown = answer.decode(errors="replace").strip().replace("|", "\\|")
+        print(f"| {name} | {size / 1e6:.1f} | {status} | `{shown}` | {usage.ru_utime + usage.ru_stime:.2f}"
+              f" | {memory:.0f} | {memory * MIB / size:.1f} |", flush=True)
+
+
+main()
