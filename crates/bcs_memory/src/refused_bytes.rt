@@ -1,0 +1,39 @@
+//! Rows on bytes that are no value, or none that has a text.
+
+use crate::asked::Asked;
+use crate::decoders;
+use crate::row::Row;
+use crate::tally::Tally;
+use crate::told::{Told, bytes_of};
+use crate::wanted::Wanted;
+use bcs_value::Value;
+use std::alloc::Global;
+
+/// A row `bytes` or `early` asks of the front and of the whole, `whole` of the whole, and `shown` of its text alone.
+pub(crate) fn ask(alloc: Global, row: &Row, tally: &mut Tally) -> Result<(), Told> {
+    let asked = Asked::read(alloc, row, row.format, row.more)?;
+    let bytes = bytes_of(alloc, row.input)?;
+    let wanted = Wanted::refused(row.answer);
+    if row.question == "bytes" || row.question == "early" {
+        decoders::ask_of_front(
+            alloc,
+            &asked,
+            bytes.as_slice(),
+            &Value::Unit,
+            &wanted,
+            tally,
+        );
+    }
+    if row.question != "shown" {
+        decoders::ask_of_whole(
+            alloc,
+            &asked,
+            bytes.as_slice(),
+            &Value::Unit,
+            &wanted,
+            tally,
+        );
+    }
+    decoders::ask_of_text(alloc, &asked, bytes.as_slice(), &wanted, tally);
+    Ok(())
+}
