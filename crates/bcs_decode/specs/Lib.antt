@@ -9,4 +9,7 @@ pub use Rattle.bcs_decode_laws.specs.Accepting
 pub use Rattle.bcs_decode_laws.specs.Stopping
 pub use Rattle.bcs_decode_laws.specs.Exact
 pub use Rattle.bcs_decode_laws.specs.Laws
+pub use Rattle.bcs_decode_parts.specs.Parts
+pub use Rattle.bcs_decode_parts.specs.Steps
+pub use Rattle.bcs_decode_parts.specs.PartLaws
 pub use Rattle.bcs_decode_reader.specs.Sees

@@ -67,7 +67,7 @@ pub fn value<'a>(
 /// So many values of one format. Whole numbers and `UNIT` are gone past in one step.
 #[cycle(scanning)]
 #[inline(never)]
-fn elements<'a>(
+pub fn elements<'a>(
     registry: &Registry,
     element: &Format,
     count: u64,
@@ -137,7 +137,7 @@ fn next_key<'a>(
 /// A value of each format in turn.
 #[cycle(scanning)]
 #[inline(never)]
-fn tuple<'a>(
+pub fn tuple<'a>(
     registry: &Registry,
     formats: &[Format],
     depth: u32,
@@ -157,7 +157,7 @@ fn tuple<'a>(
 /// A value of each field's format in turn.
 #[cycle(scanning)]
 #[inline(never)]
-fn structure<'a>(
+pub fn structure<'a>(
     registry: &Registry,
     fields: &[Named<Format>],
     depth: u32,
@@ -215,7 +215,7 @@ fn named<'a>(
 /// What a variant carries.
 #[cycle(scanning)]
 #[inline(never)]
-fn payload<'a>(
+pub fn payload<'a>(
     registry: &Registry,
     payload: &VariantFormat,
     depth: u32,

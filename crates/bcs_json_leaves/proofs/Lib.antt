@@ -2,3 +2,4 @@ pub mod Whole
 pub mod Joined
 pub mod Texts
 pub mod Taken
+pub mod OtherCounts

@@ -8,6 +8,7 @@ ghost use Rattle.bcs_json_laws.specs.Bytes.{byte_trees, is_byte};
 ghost use Rattle.bcs_json_laws.specs.Reading as spec;
 ghost use Rattle.bcs_json_laws.specs.Reading.{Tells, follow, sized};
 
+use crate::arrays::exactly;
 use bcs_json_faults::JsonFault;
 use bcs_registry_formats::Format;
 use bcs_value_tree::Value;
@@ -50,10 +51,7 @@ pub fn read_byte_array(
     ensures { Tells (λ v. items (items_trees v.items)) result (follow (spec.read_byte_text (is_byte (shape_of element.now)) (string_bytes text)) (sized size)) }
 {
     let bytes = bytes_of(alloc, element, text)?;
-    let count = bytes.len() as u64;
-    if count != size {
-        return Err(JsonFault::BadShape);
-    }
+    exactly(bytes.len(), size)?;
     numbers(alloc, bytes.as_slice())
 }
 

@@ -1,7 +1,13 @@
 //! Reading JSON that has no values inside, and taking JSON apart, so that its parts are moved and not copied.
 #![tactic(auto)]
 
+pub mod arrays;
+pub mod enums;
 pub mod hexadecimal;
+pub mod leaf;
 pub mod leaves;
-pub mod parts;
+pub mod lists;
+pub mod objects;
+pub mod opening;
+pub mod options;
 pub mod whole_number;

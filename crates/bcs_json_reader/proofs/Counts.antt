@@ -1,11 +1,9 @@
 -- Arrays of exactly so many items.
 use Rattle.std.proofs.Common.{◌≡◌, ◌∙◌, ℕ, suc, List, [], ◌∷◌, length, Vec, Global, Bool, Ok, Err, ◌==◌, refl, ap, sym, rules}
 use Rattle.std.proofs.lemmas.Bool.Decides.{Decides-eqb}
-use Rattle.serde_json.specs.Data.{Data, array}
-use Rattle.serde_json.specs.View.{view, items_view}
-use Rattle.serde_json.specs.declared.value.Value as json
+use Rattle.serde_json.specs.Data.{Data, Items, null, boolean, number, string, array, object}
+use Rattle.serde_json.specs.View.{items_view}
 use Rattle.serde_json.specs.declared.value.Value.{Value as Json}
-use Rattle.serde_json.proofs.Views.{view-Array}
 use Rattle.bcs_registry_formats.specs.Shape as shape
 use Rattle.bcs_registry_formats.specs.View.{formats_shapes}
 use Rattle.bcs_registry_formats.specs.declared.format.Format.{Format}
@@ -16,12 +14,9 @@ use Rattle.bcs_value_tree.specs.declared.value.Value.{Value, the_lemmas}
 use Rattle.bcs_json_faults.specs.declared.json_fault.JsonFault.{JsonFault}
 use Rattle.bcs_json_faults.specs.declared.json_fault.JsonFault.TheVariants.{BadShape}
 use Rattle.bcs_json_laws.specs.Look.{item_count, shape_count}
-use Rattle.bcs_json_laws.specs.Reading.{Read, follow, read_all, read_array, read_shape, read_each}
+use Rattle.bcs_json_laws.specs.Reading.{Read, follow, read_all, read_array, read_map, read_tuple, read_shape, read_each}
 use Rattle.bcs_json_laws.proofs.Exact.{when_true, when_false}
-
-count_items : (js : List Json) → item_count (items_view js) ≡ length js
-count_items [] = refl
-count_items (j ∷ js) = ap suc (count_items js)
+use Rattle.bcs_json_leaves.proofs.OtherCounts.{count_items}
 
 count_formats : (fs : List Format) → shape_count (formats_shapes fs) ≡ length fs
 count_formats [] = refl
@@ -37,44 +32,42 @@ items_read x v h = ap (λ (y : Read Trees). follow y (λ ts. Ok (items ts))) h �
 pub items_fault : (x : Read Trees) (e : JsonFault) → x ≡ Err e → follow x (λ ts. Ok (items ts)) ≡ Err e
 items_fault x e h = ap (λ (y : Read Trees). follow y (λ ts. Ok (items ts))) h
 
-module _ (j : Json) (v : Vec Json Global) (is : j ≡ json.Array v) where
-  array_of : view j ≡ array (items_view v.items)
-  array_of = ap view is ∙ view-Array v
+-- a tuple of as many items as formats
+module _ (named : List ℕ → Data → Read Tree) (fs : List Format) (j : Data) where
+  pub tuple_refused : (n : ℕ) (e : JsonFault) → n ≡ length fs → ((r : Items → Read Trees) → read_tuple n r j ≡ Err e) → read_shape named (shape.tuple (formats_shapes fs)) j ≡ Err e
+  tuple_refused n e same h = ap (λ m. read_tuple m (read_each named (formats_shapes fs)) j) (count_formats fs ∙ sym same) ∙ h (read_each named (formats_shapes fs))
 
-  module _ (named : List ℕ → Data → Read Tree) (fs : List Format) where
+  module _ (v : Vec Json Global) (is : j ≡ array (items_view v.items)) where
     abbrev row : Read Tree
     row = follow (read_each named (formats_shapes fs) (items_view v.items)) (λ ts. Ok (items ts))
 
-    abbrev same_count : Bool
-    same_count = item_count (items_view v.items) == shape_count (formats_shapes fs)
-
-    -- a tuple of another number of items
-    pub tuple_other : (length v.items ≡ length fs → ⊥) → read_shape named (shape.tuple (formats_shapes fs)) (view j) ≡ Err BadShape
-    tuple_other other =
-        ap (read_shape named (shape.tuple (formats_shapes fs))) array_of
-        ∙ when_false same_count row (Err BadShape) (Decides-eqb (item_count (items_view v.items)) (shape_count (formats_shapes fs)))
-        (λ is. other (sym (count_items v.items) ∙ is ∙ count_formats fs))
-
-    -- of as many items as formats
-    pub tuple_row : length v.items ≡ length fs → read_shape named (shape.tuple (formats_shapes fs)) (view j) ≡ row
+    pub tuple_row : length v.items ≡ length fs → read_shape named (shape.tuple (formats_shapes fs)) j ≡ row
     tuple_row same =
-        ap (read_shape named (shape.tuple (formats_shapes fs))) array_of
-        ∙ when_true same_count row (Err BadShape) (Decides-eqb (item_count (items_view v.items)) (shape_count (formats_shapes fs)))
+        ap (read_shape named (shape.tuple (formats_shapes fs))) is
+        ∙ when_true (item_count (items_view v.items) == shape_count (formats_shapes fs)) row (Err BadShape) (Decides-eqb (item_count (items_view v.items)) (shape_count (formats_shapes fs)))
         (count_items v.items ∙ same ∙ sym (count_formats fs))
 
-  module _ (bytes : Bool) (n : ℕ) (r : Data → Read Tree) where
-    abbrev elements : Read Tree
-    elements = follow (read_all r (items_view v.items)) (λ ts. Ok (items ts))
+-- an array of so many elements, or of another number
+module _ (bytes : Bool) (n : ℕ) (r : Data → Read Tree) (j : Data) (v : Vec Json Global) (is : j ≡ array (items_view v.items)) where
+  abbrev elements : Read Tree
+  elements = follow (read_all r (items_view v.items)) (λ ts. Ok (items ts))
 
-    -- an array of another number of elements
-    pub array_other : (length v.items ≡ n → ⊥) → read_array bytes n r (view j) ≡ Err BadShape
-    array_other other =
-        ap (read_array bytes n r) array_of
-        ∙ when_false (item_count (items_view v.items) == n) elements (Err BadShape) (Decides-eqb (item_count (items_view v.items)) n)
-        (λ is. other (sym (count_items v.items) ∙ is))
+  pub array_other : (length v.items ≡ n → ⊥) → read_array bytes n r j ≡ Err BadShape
+  array_other other =
+      ap (read_array bytes n r) is
+      ∙ when_false (item_count (items_view v.items) == n) elements (Err BadShape) (Decides-eqb (item_count (items_view v.items)) n)
+      (λ same. other (sym (count_items v.items) ∙ same))
 
-    -- of so many elements
-    pub array_row : length v.items ≡ n → read_array bytes n r (view j) ≡ elements
-    array_row same =
-        ap (read_array bytes n r) array_of
-        ∙ when_true (item_count (items_view v.items) == n) elements (Err BadShape) (Decides-eqb (item_count (items_view v.items)) n) (count_items v.items ∙ same)
+  pub array_row : length v.items ≡ n → read_array bytes n r j ≡ elements
+  array_row same =
+      ap (read_array bytes n r) is
+      ∙ when_true (item_count (items_view v.items) == n) elements (Err BadShape) (Decides-eqb (item_count (items_view v.items)) n) (count_items v.items ∙ same)
+
+-- another kind of JSON than an array is no map
+pub map_other : (k v : Data → Read Tree) (j : Data) → ((ds : Items) → j ≡ array ds → ⊥) → read_map k v j ≡ Err BadShape
+map_other k v null other = refl
+map_other k v (boolean b) other = refl
+map_other k v (number n) other = refl
+map_other k v (string s) other = refl
+map_other k v (array ds) other = absurd (other ds refl)
+map_other k v (object ms) other = refl

@@ -1,9 +1,7 @@
 -- The fields of a struct from one on, in the members that are left.
-use Rattle.std.proofs.Common.{◌≡◌, ◌∙◌, ◌++◌, ℕ, String, Global, List, [], ◌∷◌, Ok, Err, Some, map, string_bytes, refl, ap, sym}
+use Rattle.std.proofs.Common.{◌≡◌, ◌∙◌, ◌++◌, ℕ, List, [], ◌∷◌, Ok, Err, Some, None, map, string_bytes, refl, ap, sym}
 use Rattle.serde_json.specs.Data.{Data, Members, no_members, member}
 use Rattle.serde_json.specs.Find.{get_member}
-use Rattle.serde_json.specs.View.{members_view}
-use Rattle.serde_json.specs.declared.value.Value.{Value as Json}
 use Rattle.bcs_registry_formats.specs.View.{shape_of, field_of}
 use Rattle.bcs_registry_formats.specs.declared.format.Format.{Format}
 use Rattle.bcs_registry_formats.specs.declared.named.Named.{Named}
@@ -13,7 +11,7 @@ use Rattle.bcs_value_tree.specs.declared.value.Value.{Value}
 use Rattle.bcs_json_laws.specs.Look.{without}
 use Rattle.bcs_json_laws.specs.Reading.{Read, follow, read_shape, read_member, read_fields}
 use Rattle.bcs_json_faults.specs.declared.json_fault.JsonFault.{JsonFault}
-use Rattle.bcs_json_faults.specs.declared.json_fault.JsonFault.TheVariants.{UnknownField}
+use Rattle.bcs_json_faults.specs.declared.json_fault.JsonFault.TheVariants.{UnknownField, MissingField}
 use Rattle.bcs_json_leaves.proofs.Joined.{joined, joined-none}
 use Rattle.bcs_json_reader.proofs.Rows.{row_more, row_fault}
 
@@ -38,6 +36,13 @@ module _ (named : List ℕ → Data → Read Tree) (x : Named Format) (fs gs : L
       ∙ row_fault vs (read_member (read_shape named (shape_of x.value)) (get_member (string_bytes x.name) ms)) (read_fields named (map field_of fs) (without (string_bytes x.name) ms)) e
       (ap (read_member (read_shape named (shape_of x.value))) found ∙ h)
 
+  -- or there was none
+  pub field_missing : get_member (string_bytes x.name) ms ≡ None → so_far gs ≡ Err MissingField
+  field_missing none =
+      ap so_far here
+      ∙ row_fault vs (read_member (read_shape named (shape_of x.value)) (get_member (string_bytes x.name) ms)) (read_fields named (map field_of fs) (without (string_bytes x.name) ms)) MissingField
+      (ap (read_member (read_shape named (shape_of x.value))) none)
+
 -- after all of them no member is left, or one is
 module _ (named : List ℕ → Data → Read Tree) (gs : List (Named Format)) (done : gs ≡ []) (vs : List Value) where
   pub fields_done : (ms : Members) → ms ≡ no_members → follow (read_fields named (map field_of gs) ms) (λ ts. Ok (joined vs ts)) ≡ Ok (items_trees vs)
@@ -48,10 +53,3 @@ module _ (named : List ℕ → Data → Read Tree) (gs : List (Named Format)) (d
   pub member_left : (ms : Members) → (ms ≡ no_members → ⊥) → follow (read_fields named (map field_of gs) ms) (λ ts. Ok (joined vs ts)) ≡ Err UnknownField
   member_left no_members some = absurd (some refl)
   member_left (member k d ms) some = ap (λ hs. follow (read_fields named (map field_of hs) (member k d ms)) (λ ts. Ok (joined vs ts))) done
-
-pub none_left : (es : List (String Global × Json)) → es ≡ [] → members_view es ≡ no_members
-none_left es h = ap members_view h
-
-pub some_left : (es : List (String Global × Json)) → (es ≡ [] → ⊥) → members_view es ≡ no_members → ⊥
-some_left [] some h = some refl
-some_left (e ∷ es) some h = cc

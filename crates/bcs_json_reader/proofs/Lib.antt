@@ -4,4 +4,3 @@ pub mod Rows
 pub mod PairRows
 pub mod FieldRows
 pub mod Names
-pub mod Called

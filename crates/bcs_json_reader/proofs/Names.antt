@@ -1,7 +1,6 @@
 -- A container that was looked up: what stands in it, and how many levels that has.
-use Rattle.std.proofs.Common.{◌≡◌, ◌∙◌, ℕ, suc, ◌≤◌, List, Option, Some, None, option_map, Bor, true, ap, sym}
+use Rattle.std.proofs.Common.{◌≡◌, ◌∙◌, ℕ, suc, ◌≤◌, List, Some, ap}
 use Rattle.std.specs.Option.{option_map_or}
-use Rattle.std.proofs.lemmas.Bool.{and_parts}
 use Rattle.bcs_registry_formats.specs.Shape.{Shape, Shapes, tuple as tuple_shape}
 use Rattle.bcs_registry_formats.specs.Container as container
 use Rattle.bcs_registry_formats.specs.Container.{Field, Choice, Container, newtype_struct, tuple_struct, field_struct, enumeration, Entries, container_at, content, content_at, choice_at, field_shapes, payload_shape, choice_called}
@@ -10,25 +9,13 @@ use Rattle.bcs_registry_formats.specs.View.{container_of}
 use Rattle.bcs_registry_formats.specs.WellFormed.{IsWellFormed, levels, shapes_levels}
 use Rattle.bcs_registry_formats.specs.declared.container.Container as declared
 use Rattle.bcs_registry_formats.proofs.Admitted.{content_at-inside, choice_at-inside}
-use Rattle.bcs_json_laws.specs.JsonContent.{nothing, json_content, json_content_at}
-use Rattle.bcs_json_laws.proofs.Fitting.{numbering_at, called_numbered}
-use Rattle.bcs_json_laws.proofs.Numbering.{numbers_differ, numbers_fit, has_numbering, orderly_numbering}
+use Rattle.bcs_json_laws.proofs.Fitting.{called_numbered}
+use Rattle.bcs_json_names.proofs.Called.{differ}
 
-module _ (registry : Entries) (name : List ℕ) (o : Option (Bor declared.Container)) (found : option_map (λ c. container_of c.now) o ≡ container_at name registry) where
-  pub container_found : (c : Bor declared.Container) (k : declared.Container) → o ≡ Some c → c.now ≡ k → container_at name registry ≡ Some (container_of k)
-  container_found c k some is = sym found ∙ ap (option_map (λ c. container_of c.now)) some ∙ ap (λ k. Some (container_of k)) is
-
-  pub json_content_found : (c : Bor declared.Container) (k : declared.Container) → o ≡ Some c → c.now ≡ k → json_content_at name registry ≡ json_content (container_of k)
-  json_content_found c k some is = ap (λ p. option_map_or json_content p nothing) (container_found c k some is)
-
-  pub json_content_missing : o ≡ None → json_content_at name registry ≡ nothing
-  json_content_missing none = ap (λ p. option_map_or json_content p nothing) (sym found ∙ ap (option_map (λ c. container_of c.now)) none)
-
--- an enum's numbers differ
-pub differ : (registry : Entries) (name : List ℕ) → IsOrderly registry → (cs : List Choice) → container_at name registry ≡ Some (enumeration cs) → numbers_differ cs ≡ true
-differ registry name orderly cs h =
-    (and_parts (numbers_differ cs) (numbers_fit cs)
-    (sym (ap (λ p. has_numbering (option_map_or json_content p nothing)) h) ∙ numbering_at name registry (orderly_numbering registry orderly))).0
+-- what was found is this container
+pub container_found : (registry : Entries) (name : List ℕ) (c k : declared.Container) → container_at name registry ≡ Some (container_of c) → c ≡ k
+    → container_at name registry ≡ Some (container_of k)
+container_found registry name c k found is = found ∙ ap (λ k. Some (container_of k)) is
 
 module _ (registry : Entries) (good : IsWellFormed registry) (name : List ℕ) where
   content_found : (c : Container) → container_at name registry ≡ Some c → content_at name registry ≡ content c

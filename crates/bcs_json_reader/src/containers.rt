@@ -12,10 +12,13 @@ ghost use Rattle.bcs_json_laws.specs.Reading.{Tells, read_data};
 
 use crate::parts::read_fields;
 use crate::reading::{read, read_tuple};
-use crate::variants::{read_word, variant_called};
 use bcs_json_faults::JsonFault;
+use bcs_json_leaves::enums::{EnumJson, enum_of};
 use bcs_json_leaves::leaves::read_unit;
-use bcs_json_leaves::parts::only_member;
+use bcs_json_leaves::objects::object_of;
+use bcs_json_leaves::opening::open_container;
+use bcs_json_names::containers::container_called;
+use bcs_json_names::variants::{read_word, variant_called};
 use bcs_registry::{Container, Format, Named, Registry, VariantFormat};
 use bcs_value_tree::Value;
 use serde_json::Value as Json;
@@ -33,10 +36,8 @@ pub(crate) fn read_named(
 ) -> Result<Value, JsonFault>
     ensures { Tells tree_of result (spec.read_named registry.now left name.now (view json)) }
 {
-    if left == 0 {
-        return Err(JsonFault::TooDeep);
-    }
-    let value = read_content(json, name, registry, left - 1, alloc)?;
+    let inside = open_container(left)?;
+    let value = read_content(json, name, registry, inside, alloc)?;
     Ok(Value::Named(Box::new(alloc, value)?))
 }
 
@@ -51,10 +52,7 @@ fn read_content(
 ) -> Result<Value, JsonFault>
     ensures { Tells tree_of result (read_data registry.now left (json_content_at name.now registry.now) (view json)) }
 {
-    let Some(container) = registry.container(name) else {
-        return Err(JsonFault::BadShape);
-    };
-    match container {
+    match container_called(registry, name)? {
         Container::UnitStruct => read_unit(json),
         Container::NewTypeStruct(format) => read(json, format, registry, left, alloc),
         Container::TupleStruct(formats) => read_tuple(json, formats, registry, left, alloc),
@@ -74,12 +72,8 @@ fn read_struct(
 ) -> Result<Value, JsonFault>
     ensures { Tells tree_of result (spec.read_struct (spec.read_named registry.now left) (map field_of fields.now) (view json)) }
 {
-    match json {
-        Json::Object(members) => {
-            Ok(Value::Items(read_fields(members, fields, registry, left, alloc)?))
-        }
-        _ => Err(JsonFault::BadShape),
-    }
+    let members = object_of(json)?;
+    Ok(Value::Items(read_fields(members, fields, registry, left, alloc)?))
 }
 
 /// A unit variant's name, or an object with one member, the variant's name with its payload.
@@ -97,20 +91,13 @@ fn read_enum(
     requires orderly { IsOrderly registry.now }
     ensures { Tells tree_of result (spec.read_enum (spec.read_named registry.now left) (map choice_of variants.now.entries) (view json)) }
 {
-    match json {
-        Json::String(word) => read_word(registry, name, variants, word, alloc),
-        Json::Object(members) => {
-            let Some((word, part)) = only_member(members) else {
-                return Err(JsonFault::BadShape);
-            };
-            let Some((number, variant)) = variant_called(registry, name, variants, word.as_str())
-            else {
-                return Err(JsonFault::UnknownVariant);
-            };
+    match enum_of(json)? {
+        EnumJson::Name(word) => read_word(registry, name, variants, word, alloc),
+        EnumJson::Member(word, part) => {
+            let (number, variant) = variant_called(registry, name, variants, word.as_str())?;
             let value = read_payload(part, &variant.value, registry, left, alloc)?;
             Ok(Value::Variant(number, Box::new(alloc, value)?))
         }
-        _ => Err(JsonFault::BadShape),
     }
 }
 

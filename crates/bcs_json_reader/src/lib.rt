@@ -4,4 +4,3 @@
 mod containers;
 mod parts;
 pub mod reading;
-mod variants;

@@ -9,7 +9,8 @@ ghost use Rattle.bcs_json_laws.specs.Reading.{Tells, read_data};
 
 use crate::reading::read;
 use bcs_json_faults::JsonFault;
-use bcs_json_leaves::parts::{pair_of, take_member};
+use bcs_json_leaves::arrays::pair_of;
+use bcs_json_leaves::objects::{no_member_left, take_field};
 use bcs_registry::{Format, Named, Registry};
 use bcs_value_tree::Value;
 use serde_json::{Map, Value as Json};
@@ -95,14 +96,9 @@ pub(crate) fn read_fields(
     let mut members = members;
     let mut found = Vec::with_capacity(alloc, fields.len())?;
     for field in fields {
-        let Some(member) = take_member(&mut members, field.name.as_str()) else {
-            return Err(JsonFault::MissingField);
-        };
+        let member = take_field(&mut members, field.name.as_str())?;
         found.push(read(member, &field.value, registry, left, alloc)?)?;
     }
-    if members.is_empty() {
-        Ok(found)
-    } else {
-        Err(JsonFault::UnknownField)
-    }
+    no_member_left(&members)?;
+    Ok(found)
 }

@@ -12,10 +12,11 @@ ghost use Rattle.bcs_json_laws.specs.Reading.{Tells, read_data};
 use crate::containers::read_named;
 use crate::parts::{read_all, read_each, read_pairs};
 use bcs_json_faults::JsonFault;
-use bcs_json_leaves::hexadecimal::{read_byte_array, read_byte_text, read_bytes};
-use bcs_json_leaves::leaves::{read_signed, read_text, read_truth, read_unit, read_unsigned};
-use bcs_json_leaves::parts::only_member;
-use bcs_num::Width;
+use bcs_json_leaves::arrays::{array_of, array_of_exactly, exactly};
+use bcs_json_leaves::hexadecimal::{read_byte_array, read_byte_text};
+use bcs_json_leaves::leaf::read_leaf;
+use bcs_json_leaves::lists::{ListJson, list_of};
+use bcs_json_leaves::options::option_of;
 use bcs_registry::{Format, Registry};
 use bcs_value_tree::Value;
 use serde_json::Value as Json;
@@ -33,21 +34,6 @@ pub fn read(
     ensures { Tells tree_of result (read_data registry.now left (of (shape_of format.now)) (view json)) }
 {
     match format {
-        Format::Unit => read_unit(json),
-        Format::Bool => read_truth(json),
-        Format::U8 => read_unsigned(Width::W1, json),
-        Format::U16 => read_unsigned(Width::W2, json),
-        Format::U32 => read_unsigned(Width::W4, json),
-        Format::U64 => read_unsigned(Width::W8, json),
-        Format::U128 => read_unsigned(Width::W16, json),
-        Format::I8 => read_signed(Width::W1, json),
-        Format::I16 => read_signed(Width::W2, json),
-        Format::I32 => read_signed(Width::W4, json),
-        Format::I64 => read_signed(Width::W8, json),
-        Format::I128 => read_signed(Width::W16, json),
-        Format::F32 | Format::F64 | Format::Char => Err(JsonFault::Unsupported),
-        Format::Str => read_text(json),
-        Format::Bytes => read_bytes(alloc, json),
         Format::TypeName(name) => read_named(json, name.as_str(), registry, left, alloc),
         Format::Opt(content) => read_option(json, content, registry, left, alloc),
         Format::Seq(element) => read_list(json, element, registry, left, alloc),
@@ -56,6 +42,23 @@ pub fn read(
         Format::TupleArray(element, size) => {
             read_array(json, element, *size, registry, left, alloc)
         }
+        Format::Unit
+        | Format::Bool
+        | Format::U8
+        | Format::U16
+        | Format::U32
+        | Format::U64
+        | Format::U128
+        | Format::I8
+        | Format::I16
+        | Format::I32
+        | Format::I64
+        | Format::I128
+        | Format::F32
+        | Format::F64
+        | Format::Char
+        | Format::Str
+        | Format::Bytes => read_leaf(json, format, alloc),
     }
 }
 
@@ -70,19 +73,12 @@ fn read_option(
 ) -> Result<Value, JsonFault>
     ensures { Tells tree_of result (spec.read_option (read_data registry.now left (of (shape_of content.now))) (view json)) }
 {
-    match json {
-        Json::Null => Ok(Value::Absent),
-        Json::Object(members) => {
-            let Some((name, part)) = only_member(members) else {
-                return Err(JsonFault::BadShape);
-            };
-            if name.as_str() != "some" {
-                return Err(JsonFault::BadShape);
-            }
+    match option_of(json)? {
+        None => Ok(Value::Absent),
+        Some(part) => {
             let value = read(part, content, registry, left, alloc)?;
             Ok(Value::Present(Box::new(alloc, value)?))
         }
-        _ => Err(JsonFault::BadShape),
     }
 }
 
@@ -98,10 +94,11 @@ fn read_list(
     ensures { Tells tree_of result
         (spec.read_seq (is_byte (shape_of element.now)) (read_data registry.now left (of (shape_of element.now))) (view json)) }
 {
-    match json {
-        Json::Array(items) => Ok(Value::Items(read_all(items, element, registry, left, alloc)?)),
-        Json::String(text) => Ok(Value::Items(read_byte_text(alloc, element, text)?)),
-        _ => Err(JsonFault::BadShape),
+    match list_of(json)? {
+        ListJson::Array(items) => {
+            Ok(Value::Items(read_all(items, element, registry, left, alloc)?))
+        }
+        ListJson::Text(text) => Ok(Value::Items(read_byte_text(alloc, element, text)?)),
     }
 }
 
@@ -118,15 +115,12 @@ fn read_array(
     ensures { Tells tree_of result
         (spec.read_array (is_byte (shape_of element.now)) size (read_data registry.now left (of (shape_of element.now))) (view json)) }
 {
-    match json {
-        Json::Array(items) => {
-            if items.len() as u64 != size {
-                return Err(JsonFault::BadShape);
-            }
+    match list_of(json)? {
+        ListJson::Array(items) => {
+            exactly(items.len(), size)?;
             Ok(Value::Items(read_all(items, element, registry, left, alloc)?))
         }
-        Json::String(text) => Ok(Value::Items(read_byte_array(alloc, element, size, text)?)),
-        _ => Err(JsonFault::BadShape),
+        ListJson::Text(text) => Ok(Value::Items(read_byte_array(alloc, element, size, text)?)),
     }
 }
 
@@ -141,15 +135,8 @@ pub(crate) fn read_tuple(
 ) -> Result<Value, JsonFault>
     ensures { Tells tree_of result (read_data registry.now left (of (tuple_shape (formats_shapes formats.now))) (view json)) }
 {
-    match json {
-        Json::Array(items) => {
-            if items.len() != formats.len() {
-                return Err(JsonFault::BadShape);
-            }
-            Ok(Value::Items(read_each(items, formats, registry, left, alloc)?))
-        }
-        _ => Err(JsonFault::BadShape),
-    }
+    let items = array_of_exactly(json, formats.len() as u64)?;
+    Ok(Value::Items(read_each(items, formats, registry, left, alloc)?))
 }
 
 /// An array of keys with their values.
@@ -165,10 +152,6 @@ fn read_map(
     ensures { Tells tree_of result
         (spec.read_map (read_data registry.now left (of (shape_of key.now))) (read_data registry.now left (of (shape_of content.now))) (view json)) }
 {
-    match json {
-        Json::Array(items) => {
-            Ok(Value::Pairs(read_pairs(items, key, content, registry, left, alloc)?))
-        }
-        _ => Err(JsonFault::BadShape),
-    }
+    let items = array_of(json)?;
+    Ok(Value::Pairs(read_pairs(items, key, content, registry, left, alloc)?))
 }

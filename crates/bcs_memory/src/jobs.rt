@@ -5,6 +5,7 @@ use crate::told::Told;
 use bcs_decode::SliceSource;
 use bcs_encode::pieces::PieceSink;
 use bcs_tool::{Command, Outcome, Work, run};
+use bcs_value::Limits;
 use std::alloc::{AllocError, Global};
 use std::str;
 
@@ -23,6 +24,7 @@ pub(crate) fn job(
         format: String::from_str(alloc, format)?,
         path: String::new(alloc),
         raw: false,
+        limits: Limits::standard(),
     })
 }
 

@@ -1,11 +1,13 @@
 //! Rows on jobs of the program `bcs`, whose files were read.
 
+use crate::question::limits_of;
 use crate::row_fault::RowFault;
 use crate::words::{bytes, word_of};
 use bcs_decode::SliceSource;
 use bcs_decode::pieces::PieceSource;
 use bcs_encode::pieces::PieceSink;
 use bcs_tool::{ByteSource, Command, Outcome, Work, run};
+use bcs_value::Limits;
 use std::alloc::{AllocError, Global};
 use std::str;
 
@@ -13,9 +15,10 @@ pub(crate) fn answer(alloc: Global, words: &[&str]) -> Result<String, RowFault> 
     match words {
         ["check", registry] => judge(alloc, Command::Check, registry, ""),
         ["grows", older, newer] => judge(alloc, Command::Grows, older, newer),
-        ["encode", registry, format] => refuse(alloc, registry, format),
-        ["encode", registry, format, input] => encode(alloc, registry, format, input, false),
-        ["raw", registry, format, input] => encode(alloc, registry, format, input, true),
+        [name, words @ ..] => match Command::named(name) {
+            Some(command) => on_values(alloc, command, words),
+            None => Err(RowFault::NotUnderstood),
+        },
         _ => Err(RowFault::NotUnderstood),
     }
 }
@@ -34,42 +37,98 @@ fn judge(
         format: String::new(alloc),
         path: String::new(alloc),
         raw: false,
+        limits: Limits::standard(),
     };
     without_input(alloc, &work)
 }
 
-// The answer to a job to encode that its own words refuse.
-fn refuse(alloc: Global, registry: &str, format: &str) -> Result<String, RowFault> {
-    without_input(alloc, &encoding(alloc, registry, format, false)?)
-}
-
-// The answer to a job to encode, and its input.
-fn encode(
-    alloc: Global,
-    registry: &str,
-    format: &str,
-    input: &str,
+// The words of a job on values, but for its input.
+struct Asked<'a> {
+    command: Command,
     raw: bool,
-) -> Result<String, RowFault> {
-    let work = encoding(alloc, registry, format, raw)?;
-    with_input(alloc, &work, &bytes(alloc, input)?)
+    registry: &'a str,
+    format: &'a str,
+    second: &'a str,
+    limits: &'a [&'a str],
 }
 
-// A job to encode at a format.
-fn encoding(alloc: Global, registry: &str, format: &str, raw: bool) -> Result<Work, RowFault> {
+// The answer to a job on values, and to its input where it has one.
+fn on_values(alloc: Global, command: Command, words: &[&str]) -> Result<String, RowFault> {
+    match (command, words) {
+        (_, [registry, format]) => without_input(
+            alloc,
+            &work_of(
+                alloc,
+                &Asked {
+                    command,
+                    raw: false,
+                    registry,
+                    format,
+                    second: "",
+                    limits: &[],
+                },
+            )?,
+        ),
+        (Command::Same, [registry, format, second, input, limits @ ..]) => with_input(
+            alloc,
+            &Asked {
+                command,
+                raw: false,
+                registry,
+                format,
+                second,
+                limits,
+            },
+            input,
+        ),
+        (_, ["--raw", registry, format, input, limits @ ..]) => with_input(
+            alloc,
+            &Asked {
+                command,
+                raw: true,
+                registry,
+                format,
+                second: "",
+                limits,
+            },
+            input,
+        ),
+        (_, [registry, format, input, limits @ ..]) => with_input(
+            alloc,
+            &Asked {
+                command,
+                raw: false,
+                registry,
+                format,
+                second: "",
+                limits,
+            },
+            input,
+        ),
+        _ => Err(RowFault::NotUnderstood),
+    }
+}
+
+fn work_of(alloc: Global, asked: &Asked<'_>) -> Result<Work, RowFault> {
+    let Some(limits) = limits_of(asked.limits) else {
+        return Err(RowFault::NotUnderstood);
+    };
     Ok(Work {
-        command: Command::Encode,
-        registry: bytes(alloc, registry)?,
-        second: Vec::new(alloc),
-        format: String::from_str(alloc, format)?,
+        command: asked.command,
+        registry: bytes(alloc, asked.registry)?,
+        second: bytes(alloc, asked.second)?,
+        format: String::from_str(alloc, asked.format)?,
         path: String::new(alloc),
-        raw,
+        raw: asked.raw,
+        limits,
     })
 }
 
-fn with_input(alloc: Global, work: &Work, input: &[u8]) -> Result<String, RowFault> {
-    let mut out = PieceSink::<80>::new(7, None);
-    let outcome = run(alloc, work, &mut SliceSource::new(input), &mut out);
+fn with_input(alloc: Global, asked: &Asked<'_>, input: &str) -> Result<String, RowFault> {
+    let work = work_of(alloc, asked)?;
+    let input = bytes(alloc, input)?;
+    let mut out = PieceSink::<1000>::new(7, None);
+    let outcome = run(alloc, &work, &mut SliceSource::new(&input), &mut out);
     told(alloc, outcome, out.taken())
 }
 

@@ -35,7 +35,8 @@ impl Question {
     }
 }
 
-fn limits_of(words: &[&str]) -> Option<Limits> {
+/// The limits of no words, or of a depth and a number of nodes.
+pub(crate) fn limits_of(words: &[&str]) -> Option<Limits> {
     match words {
         [] => Some(Limits::standard()),
         [depth, nodes] => Limits::new(number(depth).ok()?, number(nodes).ok()?),

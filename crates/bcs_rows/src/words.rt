@@ -3,31 +3,43 @@
 use crate::row_fault::RowFault;
 use std::alloc::Global;
 
-/// The row as it is meant: `(3*ab)` in it stands for `ababab`.
+/// The row as it is meant: `(3*ab)` in it stands for `ababab`, and `(3*[#])` for `[2][1][0]`.
 pub(crate) fn unrolled(alloc: Global, row: &str) -> Result<String, RowFault> {
     let mut text = String::new(alloc);
     for (place, part) in row.split('(').enumerate() {
         if place == 0 {
             text.push_str(part)?;
         } else {
-            push_repeated(&mut text, part)?;
+            push_repeated(alloc, &mut text, part)?;
         }
     }
     Ok(text)
 }
 
 // Pushes what a count, `*`, a text and `)` stand for, and what comes after them.
-fn push_repeated(text: &mut String, part: &str) -> Result<(), RowFault> {
+fn push_repeated(alloc: Global, text: &mut String, part: &str) -> Result<(), RowFault> {
     let Some((group, rest)) = part.split_once(')') else {
         return Err(RowFault::NotUnderstood);
     };
     let Some((count, repeated)) = group.split_once('*') else {
         return Err(RowFault::NotUnderstood);
     };
-    for _ in 0..number(count)? {
-        text.push_str(repeated)?;
+    let count = number(count)?;
+    for place in 0..count {
+        push_numbered(alloc, text, repeated, count - 1 - place)?;
     }
     text.push_str(rest)?;
+    Ok(())
+}
+
+// Pushes the text with how many of it are still to come in the place of each `#`.
+fn push_numbered(alloc: Global, text: &mut String, repeated: &str, left: u32) -> Result<(), RowFault> {
+    for (place, part) in repeated.split('#').enumerate() {
+        if place > 0 {
+            text.push_str(&format!(in alloc; "{left}")?)?;
+        }
+        text.push_str(part)?;
+    }
     Ok(())
 }
 

@@ -1,8 +1,30 @@
--- An answer of an equal status and equal output; and the standard limits.
-use Rattle.std.proofs.Common.{◌≡◌, ℕ, List, [], Option, Some, None, ap₂, refl, sym, subst}
-use Rattle.bcs_tool.specs.Answers.{Answers, IsContent, standard_bounds}
-use Rattle.bcs_tool_files.specs.declared.work.Work.{Work}
+-- An answer of an equal status and equal output; which content there may be; and what is asked of an input.
+use Rattle.std.proofs.Common.{◌≡◌, ◌≢◌, ◌≤◌, ◌<◌, ◌⊎◌, Err, Ok, arith, inl, inr, ℕ, List, [], Option, Some, None, length, refl, sym, subst, true}
+use Rattle.bcs_registry_formats.specs.Container.{Entries}
+use Rattle.bcs_registry_formats.specs.Shape.{Shape}
+use Rattle.bcs_value_tree.specs.Tree.{Tree}
+use Rattle.bcs_json_faults.specs.declared.json_fault.JsonFault.{JsonFault}
+use Rattle.serde_json.specs.Data.{depth}
 use Rattle.bcs_value_laws.specs.Limits.{Bounds}
+use Rattle.bcs_decode_stops.specs.declared.stop.Stop.{Stop}
+use Rattle.bcs_decode_laws.specs.Accepting.{Accepts}
+use Rattle.bcs_decode_laws.specs.Stopping.{StopsAll}
+use Rattle.bcs_json.specs.Showing.{Shows}
+use Rattle.bcs_json.specs.declared.from_fault.FromFault.{FromFault}
+use Rattle.bcs_json.specs.declared.from_fault.FromFault.TheVariants as from
+use Rattle.bcs_json_laws.specs.JsonContent.{of}
+use Rattle.bcs_json_laws.specs.Shown.{shown}
+use Rattle.bcs_json_laws.specs.Texts.{Denotes, RefusesText, nesting_limit}
+use Rattle.hex.specs.Hex.{decode_of}
+use Rattle.hex.specs.declared.error.FromHexError.{FromHexError}
+use Rattle.hex.specs.declared.error.FromHexError.TheVariants.{OutOfMemory}
+use Rattle.bcs_tool.specs.Answers.{Answers, IsAsked, IsContent, checked, decoded, different, encoded, equal, first_refused, grown, json_fault_name, no_bytes, normalised, refusal_line, refused, refused_early, second_refused, stopped, too_nested}
+use Rattle.bcs_tool.specs.Judging.{Asks, RefusesAt, RefusesFormatted, works_on_values}
+use Rattle.bcs_tool.specs.declared.job_fault.JobFault.{JobFault}
+use Rattle.bcs_tool_files.specs.Files.{size_limit}
+use Rattle.bcs_tool_files.specs.declared.work.Work.{Work}
+use Rattle.bcs_tool_line.specs.declared.command.Command.{Command}
+use Rattle.bcs_tool_line.specs.declared.command.Command.TheVariants.{Check, Grows, Encode, Decode, Normalise, Same}
 
 pub same_answer : (work : Work) (input : List ℕ) (s t : ℕ) (p q : List ℕ) → t ≡ s → q ≡ p → Answers work input s p → Answers work input t q
 same_answer work input s t p q same_status same_output is =
@@ -13,9 +35,55 @@ pub some_content : (content : Option (List ℕ)) → (bytes : List ℕ) × IsCon
 some_content None = ([], tt)
 some_content (Some bytes) = (bytes, refl)
 
-abbrev bounds : ℕ → ℕ → Bounds
-bounds depth nodes = record { depth = depth; nodes = nodes }
+pub is_asked : (work : Work) (input : List ℕ) (asked : Command) (registry : Entries) (s : Shape) → work.command ≡ asked → Asks work registry s
+    → length input ≤ size_limit → IsAsked work input asked registry s
+is_asked work input asked registry s command asks within = record { is_command = command; asks = asks; within = within }
 
--- limits of these two numbers are the standard ones
-pub are_standard : (limits : Bounds) → limits.depth ≡ 500 → limits.nodes ≡ 4294967295 → limits ≡ standard_bounds
-are_standard limits depth nodes = ap₂ bounds depth nodes
+-- of two texts the first is refused, or the second after it
+pub refused_texts : (work : Work) (input : List ℕ) (registry : Entries) (s : Shape) (fault : JsonFault) → IsAsked work input Same registry s
+    → RefusesText registry work.limits s work.second.items fault
+    ⊎ (((t : Tree) × Denotes registry work.limits s work.second.items t) × RefusesText registry work.limits s input fault)
+    → Answers work input 2 (refusal_line (json_fault_name fault))
+refused_texts work input registry s fault asked (inl first) = first_refused registry s fault asked first
+refused_texts work input registry s fault asked (inr both) = second_refused registry s both.0.0 fault asked both.0.1 both.1
+
+-- the words of a command on values are refused for its registry or its format
+pub refuses_formatted : (asked : Command) (work : Work) (fault : JobFault) → works_on_values asked ≡ true → RefusesFormatted work fault → RefusesAt asked work fault
+refuses_formatted Check work fault on h = cc
+refuses_formatted Grows work fault on h = cc
+refuses_formatted Encode work fault on h = h
+refuses_formatted Decode work fault on h = h
+refuses_formatted Normalise work fault on h = h
+refuses_formatted Same work fault on h = h
+
+-- what is shown where bytes stop, and where their text would nest too deep
+module _ (registry : Entries) (limits : Bounds) (s : Shape) (bytes : List ℕ) (fault : FromFault) where
+  pub stops : (stop : Stop) → fault ≡ from.Stop stop → Shows registry limits s bytes (Err fault) → StopsAll registry limits s bytes stop.reason stop.place
+  stops stop is h = subst (λ (f : FromFault). Shows registry limits s bytes (Err f)) is h
+
+  pub nests : fault ≡ from.TooNested → Shows registry limits s bytes (Err fault)
+      → (c : Tree) × Accepts registry limits s bytes (length bytes) c × (nesting_limit < depth (shown registry c (of s)))
+  nests is h = subst (λ (f : FromFault). Shows registry limits s bytes (Err f)) is h
+
+-- an answer ends with 0, 1 or 2
+pub status_below : (work : Work) (input : List ℕ) (s : ℕ) (p : List ℕ) → Answers work input s p → s < 3
+status_below work input s p (refused_early f h) = omega arith
+status_below work input s p (checked r k h) = omega arith
+status_below work input s p (grown o n k a b h) = omega arith
+status_below work input s p (encoded r f b k h) = omega arith
+status_below work input s p (normalised r f t k h) = omega arith
+status_below work input s p (refused c r f e o k h) = omega arith
+status_below work input s p (equal r f k h) = omega arith
+status_below work input s p (different r f k h) = omega arith
+status_below work input s p (first_refused r f e k h) = omega arith
+status_below work input s p (second_refused r f t e k d h) = omega arith
+status_below work input s p (decoded r f b t k g h) = omega arith
+status_below work input s p (stopped r f b e o k g h) = omega arith
+status_below work input s p (too_nested r f b c k g a h) = omega arith
+status_below work input s p (no_bytes r f k h) = omega arith
+
+-- text that is refused for its digits has no bytes
+pub no_digits : (text : List ℕ) (e : FromHexError) → (e ≡ OutOfMemory) ⊎ (decode_of text ≡ Err e) → e ≢ OutOfMemory
+    → (bytes : List ℕ) → decode_of text ≡ Ok bytes → ⊥
+no_digits text e (inl memory) differs bytes is = differs memory
+no_digits text e (inr bad) differs bytes is = cc

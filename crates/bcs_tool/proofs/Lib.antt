@@ -1,2 +1,4 @@
 pub mod AnswerLemmas
 pub mod JudgingLemmas
+pub mod OneRefusal
+pub mod OneAnswer

@@ -1,25 +1,29 @@
 -- What the program answers to a job and its input: a status, and the bytes of the standard output.
-use Rattle.std.specs.Prelude.{◌≡◌, ◌⊎◌, ◌≤◌, ◌++◌, ◌∷◌, [], ℕ, List, Bool, Option, Some, None, codes, length, if◌then◌else◌}
+use Rattle.std.specs.Prelude.{◌≡◌, ◌⊎◌, ◌≤◌, ◌<◌, ◌++◌, ◌∷◌, [], ℕ, List, Bool, true, false, Option, Some, None, codes, length, if◌then◌else◌}
 use Rattle.std.specs.Fmt.{decimal}
 use Rattle.hex.specs.Hex.{encode_lower}
+use Rattle.serde_json.specs.Data.{depth}
 use Rattle.bcs_registry_formats.specs.Container.{Entries}
 use Rattle.bcs_registry_formats.specs.Grows.{Grows}
 use Rattle.bcs_registry_formats.specs.Shape.{Shape}
-use Rattle.bcs_value_laws.specs.Limits.{Bounds}
-use Rattle.bcs_json_laws.specs.Headline.{HasBytes}
-use Rattle.bcs_json_laws.specs.Texts.{RefusesText}
+use Rattle.bcs_value_tree.specs.Tree.{Tree}
+use Rattle.bcs_decode_stops.specs.Stop.{reason_name}
+use Rattle.bcs_decode_stops.specs.declared.reason.Reason.{Reason}
+use Rattle.bcs_decode_laws.specs.Accepting.{Accepts}
+use Rattle.bcs_decode_laws.specs.Stopping.{StopsAll}
+use Rattle.bcs_json_laws.specs.Headline.{Compares, HasBytes, Normalises, ShowsBytes}
+use Rattle.bcs_json_laws.specs.JsonContent.{of}
+use Rattle.bcs_json_laws.specs.Shown.{shown}
+use Rattle.bcs_json_laws.specs.Texts.{Denotes, RefusesText, nesting_limit}
 use Rattle.bcs_json_faults.specs.declared.json_fault.JsonFault.{JsonFault}
 use Rattle.bcs_json_faults.specs.declared.json_fault.JsonFault.TheVariants.{NotJson, TooNested, Unsupported, BadShape, BadNumber, BadHex, UnknownField, MissingField, UnknownVariant, TooDeep, TooManyNodes, TooLong, RepeatedKey, OutOfMemory}
 use Rattle.bcs_tool_files.specs.Files.{size_limit}
+use Rattle.bcs_tool.specs.Input as given
 use Rattle.bcs_tool.specs.Judging.{Asks, IsRegistry, RefusesEarly, job_fault_name}
+use Rattle.bcs_tool_line.specs.declared.command.Command.{Command}
 use Rattle.bcs_tool_line.specs.declared.command.Command.TheVariants as command
-use Rattle.bcs_tool_line.specs.declared.command.Command.TheVariants.{Check}
 use Rattle.bcs_tool.specs.declared.job_fault.JobFault.{JobFault}
 use Rattle.bcs_tool_files.specs.declared.work.Work.{Work}
-
--- the limits of a value
-abbrev pub standard_bounds : Bounds
-standard_bounds = record { depth = 500; nodes = 4294967295 }
 
 -- the name that is printed of why a text denotes no value
 abbrev pub json_fault_name : JsonFault → List ℕ
@@ -46,6 +50,10 @@ line_of text = text ++ 10 ∷ []
 abbrev pub refusal_line : List ℕ → List ℕ
 refusal_line name = line_of (codes "refused: " ++ name)
 
+-- the line for bytes that stop being a value
+abbrev pub stop_line : Reason → ℕ → List ℕ
+stop_line reason place = refusal_line (reason_name reason ++ codes " at " ++ decimal place)
+
 -- bytes as they are, or as a line of hexadecimal digits
 abbrev pub printed : Bool → List ℕ → List ℕ
 printed raw bytes = if raw then bytes else line_of (encode_lower bytes)
@@ -54,18 +62,44 @@ printed raw bytes = if raw then bytes else line_of (encode_lower bytes)
 abbrev pub count_line : ℕ → List ℕ
 count_line n = line_of (codes "ok " ++ decimal n)
 
+-- the job is for this command on values of this format, and its input is no larger than is allowed
+pub record IsAsked (work : Work) (input : List ℕ) (asked : Command) (registry : Entries) (s : Shape) : Type 0 where
+  pub is_command : work.command ≡ asked
+  pub asks : Asks work registry s
+  pub within : length input ≤ size_limit
+
+-- the one input is the text of a value, as that of these commands
+abbrev pub IsOneText : Command → Type 0
+IsOneText asked = (asked ≡ command.Encode) ⊎ (asked ≡ command.Normalise)
+
 -- a case for each kind of answer
 pub data Answers (work : Work) (input : List ℕ) : ℕ → List ℕ → Type 0 where
   -- the words are refused, whatever the input
   refused_early : (fault : JobFault) → RefusesEarly work fault → Answers work input 2 (refusal_line (job_fault_name fault))
   -- `check`: how many containers the registry has
-  checked : (registry : Entries) → work.command ≡ Check → IsRegistry work.registry.items registry → Answers work input 0 (count_line (length registry))
+  checked : (registry : Entries) → work.command ≡ command.Check → IsRegistry work.registry.items registry → Answers work input 0 (count_line (length registry))
   -- `grows`: the newer registry keeps all that the older one has
   grown : (older newer : Entries) → work.command ≡ command.Grows → IsRegistry work.registry.items older → IsRegistry work.second.items newer → Grows older newer → Answers work input 0 (line_of (codes "grows"))
-  -- the input is refused
-  refused : (registry : Entries) (s : Shape) (fault : JsonFault) → Asks work registry s → length input ≤ size_limit → RefusesText registry standard_bounds s input fault → Answers work input 2 (refusal_line (json_fault_name fault))
-  -- `encode`: the bytes of the value
-  encoded : (registry : Entries) (s : Shape) (bytes : List ℕ) → Asks work registry s → length input ≤ size_limit → HasBytes registry standard_bounds s input bytes → Answers work input 0 (printed work.raw bytes)
+  -- `encode`: the bytes of the value that the text denotes
+  encoded : (registry : Entries) (s : Shape) (bytes : List ℕ) → IsAsked work input command.Encode registry s → HasBytes registry work.limits s input bytes → Answers work input 0 (printed work.raw bytes)
+  -- `normalise`: its normal text
+  normalised : (registry : Entries) (s : Shape) (text : List ℕ) → IsAsked work input command.Normalise registry s → Normalises registry work.limits s input text → Answers work input 0 (line_of text)
+  -- `encode` and `normalise`: the text is refused
+  refused : (asked : Command) (registry : Entries) (s : Shape) (fault : JsonFault) → IsOneText asked → IsAsked work input asked registry s → RefusesText registry work.limits s input fault → Answers work input 2 (refusal_line (json_fault_name fault))
+  -- `same`: the two texts denote equal values, or different ones
+  equal : (registry : Entries) (s : Shape) → IsAsked work input command.Same registry s → Compares registry work.limits s work.second.items input true → Answers work input 0 (line_of (codes "equal"))
+  different : (registry : Entries) (s : Shape) → IsAsked work input command.Same registry s → Compares registry work.limits s work.second.items input false → Answers work input 1 (line_of (codes "different"))
+  -- `same`: the first text is refused; or it denotes a value, and the second is refused
+  first_refused : (registry : Entries) (s : Shape) (fault : JsonFault) → IsAsked work input command.Same registry s → RefusesText registry work.limits s work.second.items fault → Answers work input 2 (refusal_line (json_fault_name fault))
+  second_refused : (registry : Entries) (s : Shape) (t : Tree) (fault : JsonFault) → IsAsked work input command.Same registry s → Denotes registry work.limits s work.second.items t → RefusesText registry work.limits s input fault → Answers work input 2 (refusal_line (json_fault_name fault))
+  -- `decode`: the text of the one value whose bytes the input gives
+  decoded : (registry : Entries) (s : Shape) (bytes text : List ℕ) → IsAsked work input command.Decode registry s → given.Gives work.raw input bytes → ShowsBytes registry work.limits s bytes text → Answers work input 0 (line_of text)
+  -- `decode`: the bytes stop being a value at a place
+  stopped : (registry : Entries) (s : Shape) (bytes : List ℕ) (reason : Reason) (place : ℕ) → IsAsked work input command.Decode registry s → given.Gives work.raw input bytes → StopsAll registry work.limits s bytes reason place → Answers work input 2 (stop_line reason place)
+  -- `decode`: they are a value's, and its text would nest deeper than a text may
+  too_nested : (registry : Entries) (s : Shape) (bytes : List ℕ) (c : Tree) → IsAsked work input command.Decode registry s → given.Gives work.raw input bytes → Accepts registry work.limits s bytes (length bytes) c → nesting_limit < depth (shown registry c (of s)) → Answers work input 2 (refusal_line (codes "TooNested"))
+  -- `decode`: the input gives no bytes
+  no_bytes : (registry : Entries) (s : Shape) → IsAsked work input command.Decode registry s → ((bytes : List ℕ) → given.Gives work.raw input bytes → ⊥) → Answers work input 2 (refusal_line (codes "BadHex"))
 
 -- these bytes may be the content: they are it, where it is known
 abbrev pub IsContent : Option (List ℕ) → List ℕ → Type 0

@@ -62,9 +62,18 @@ RefusesFormat registry word fault = ((is_json_word word ≡ true) × IsLeastForm
 
 -- ---- the job
 
--- the job is to encode at this format of this registry
+-- the command works on values: it has a format and an input
+abbrev pub works_on_values : Command → Bool
+works_on_values command.Check = false
+works_on_values command.Grows = false
+works_on_values command.Encode = true
+works_on_values command.Decode = true
+works_on_values command.Normalise = true
+works_on_values command.Same = true
+
+-- the job works on values of this format of this registry
 pub record Asks (work : Work) (registry : Entries) (s : Shape) : Type 0 where
-  pub command : work.command ≡ command.Encode
+  pub command : works_on_values work.command ≡ true
   pub is_registry : IsRegistry work.registry.items registry
   pub is_format : IsFormat registry (string_bytes work.format) s
 
@@ -73,10 +82,10 @@ abbrev pub ReadsInput : Work → Type 0
 ReadsInput work = (registry : Entries) × (s : Shape) × Asks work registry s
 
 -- the registry's fault, or else the format's
-abbrev pub RefusesEncoding : Work → JobFault → Type 0
-RefusesEncoding work (job.Registry fault) = IsLeastFault work.registry.items fault
+abbrev pub RefusesFormatted : Work → JobFault → Type 0
+RefusesFormatted work (job.Registry fault) = IsLeastFault work.registry.items fault
     ⊎ ((registry : Entries) × IsRegistry work.registry.items registry × RefusesFormat registry (string_bytes work.format) fault)
-RefusesEncoding work (job.Growth fault) = ⊥
+RefusesFormatted work (job.Growth fault) = ⊥
 
 abbrev pub RefusesCheck : Work → JobFault → Type 0
 RefusesCheck work (job.Registry fault) = IsLeastFault work.registry.items fault
@@ -90,9 +99,12 @@ RefusesGrowth work (job.Growth fault) = (older : Entries) × (newer : Entries) �
     × IsRegistry work.second.items newer × IsFirstGrowthFault older newer fault
 
 abbrev pub RefusesAt : Command → Work → JobFault → Type 0
-RefusesAt command.Encode = RefusesEncoding
 RefusesAt command.Check = RefusesCheck
 RefusesAt command.Grows = RefusesGrowth
+RefusesAt command.Encode = RefusesFormatted
+RefusesAt command.Decode = RefusesFormatted
+RefusesAt command.Normalise = RefusesFormatted
+RefusesAt command.Same = RefusesFormatted
 
 -- the job is refused before an input is read
 abbrev pub RefusesEarly : Work → JobFault → Type 0

@@ -1,7 +1,8 @@
 //! What is printed.
-ghost use Rattle.std.specs.Prelude.{◌≡◌, IfOk, codes, string_bytes};
-ghost use Rattle.bcs_tool.specs.Answers.{count_line, line_of, printed, refusal_line};
+ghost use Rattle.std.specs.Prelude.{◌≡◌, IfOk, string_bytes};
+ghost use Rattle.bcs_tool.specs.Answers.{count_line, line_of, printed, refusal_line, stop_line};
 
+use bcs_decode::Stop;
 use std::alloc::{AllocError, Global};
 
 /// The program's status, and what it prints.
@@ -34,11 +35,30 @@ pub fn counted(alloc: Global, count: usize) -> Result<Answer, AllocError>
     })
 }
 
-/// The line for a registry that has grown.
-pub fn grown(alloc: Global) -> Result<Answer, AllocError>
-    ensures { IfOk result (λ a. (a.status ≡ 0) × (a.output.items ≡ line_of (codes "grows"))) }
+/// The line for bytes that stop being a value.
+pub fn stopped(alloc: Global, stop: Stop) -> Result<Answer, AllocError>
+    ensures { IfOk result (λ a. (a.status ≡ 2) × (a.output.items ≡ stop_line stop.reason stop.place)) }
 {
-    let text = String::from_str(alloc, "grows")?;
+    let reason = stop.reason.name();
+    let text = format!(in alloc; "{reason} at {}", stop.place)?;
+    refused(alloc, text.as_str())
+}
+
+/// A word on a line of its own.
+pub fn told(alloc: Global, status: u8, word: &str) -> Result<Answer, AllocError>
+    ensures { IfOk result (λ a. (a.status ≡ status) × (a.output.items ≡ line_of word.now)) }
+{
+    let text = String::from_str(alloc, word)?;
+    Ok(Answer {
+        status,
+        output: with_line_end(text)?,
+    })
+}
+
+/// The text of a value.
+pub fn shown(text: String) -> Result<Answer, AllocError>
+    ensures { IfOk result (λ a. (a.status ≡ 0) × (a.output.items ≡ line_of (string_bytes text))) }
+{
     Ok(Answer {
         status: 0,
         output: with_line_end(text)?,

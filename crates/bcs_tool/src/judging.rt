@@ -1,17 +1,17 @@
 //! What is judged of a job before its input is read: its registries, and then the format.
-ghost use Rattle.std.specs.Prelude.{◌≡◌, ◌≢◌, ℕ, length, IfOk, IfErr, OnOk};
+ghost use Rattle.std.specs.Prelude.{◌≡◌, ◌≢◌, ℕ, length, true, IfOk, IfErr, OnOk};
 ghost use Rattle.bcs_registry_formats.specs.Container.{Entries};
 ghost use Rattle.bcs_registry_formats.specs.Grows.{Grows};
 ghost use Rattle.bcs_registry_formats.specs.Shape as shape;
 ghost use Rattle.bcs_registry_formats.specs.View.{shape_of};
+ghost use Rattle.bcs_registry_formats.specs.WellFormed.{Admits};
 ghost use Rattle.bcs_registry_formats.specs.declared.fault.RegistryFault.TheVariants.{OutOfMemory};
-ghost use Rattle.bcs_tool.specs.Judging.{Asks, IsFormat, IsRegistry, RefusesCheck, RefusesEncoding, RefusesFormat, RefusesGrowth, is_json_word};
+ghost use Rattle.bcs_tool.specs.Judging.{Asks, IsFormat, IsRegistry, RefusesCheck, RefusesFormat, RefusesFormatted, RefusesGrowth, is_json_word, works_on_values};
 
 use crate::job_fault::JobFault;
 use bcs_registry::{Format, Registry, RegistryFault};
 use bcs_tool_files::Work;
-use bcs_tool_line::Command;
-use std::alloc::Global;
+use std::alloc::{AllocError, Global};
 
 /// How many containers the registry has.
 pub fn judge_check(alloc: Global, work: &Work) -> Result<usize, JobFault>
@@ -35,7 +35,7 @@ pub fn judge_growth(alloc: Global, work: &Work) -> Result<(), JobFault>
     Ok(())
 }
 
-/// What a job is to encode at.
+/// Values of which format of a registry a job works on.
 #[derive(Drop)]
 pub struct Asked {
     pub registry: Registry,
@@ -43,10 +43,11 @@ pub struct Asked {
 }
 
 /// The registry and the format that the job asks for. The registry's fault comes before the format's.
-pub fn judge_encoding(alloc: Global, work: &Work) -> Result<Asked, JobFault>
-    requires { work.now.command ≡ Command.Encode }
+pub fn judge_asked(alloc: Global, work: &Work) -> Result<Asked, JobFault>
+    requires { works_on_values work.now.command ≡ true }
     ensures ok { IfOk result (λ asked. Asks work.now asked.registry (shape_of asked.format)) }
-    ensures fault { IfErr result (λ e. e ≢ JobFault.Registry OutOfMemory → RefusesEncoding work.now e) }
+    ensures admitted { IfOk result (λ asked. Admits asked.registry (shape_of asked.format)) }
+    ensures fault { IfErr result (λ e. e ≢ JobFault.Registry OutOfMemory → RefusesFormatted work.now e) }
 {
     let registry = Registry::read(alloc, work.registry.as_slice())?;
     let format = judge_format(alloc, &registry, work.format.as_str())?;
@@ -74,7 +75,7 @@ fn named(alloc: Global, name: &str) -> Result<Format, RegistryFault>
 {
     match String::from_str(alloc, name) {
         Ok(name) => Ok(Format::TypeName(name)),
-        Err(_) => Err(RegistryFault::OutOfMemory),
+        Err(AllocError) => Err(RegistryFault::OutOfMemory),
     }
 }
 

@@ -3,11 +3,14 @@
 
 mod answer;
 mod answering;
+mod blanks;
 mod job_fault;
 mod judging;
+pub mod laws;
 mod run_fault;
 mod running;
 mod text_refusal;
+mod value_answers;
 
 pub use bcs_decode::{ByteSource, ReadSource};
 pub use bcs_encode::{ByteSink, WriteSink};

@@ -3,6 +3,7 @@ ghost use Rattle.std.specs.Prelude.{◌≡◌, ◌⊎◌, ◌<◌, ◌+◌, ℕ,
 ghost use Rattle.bcs_encode_sinks.specs.Taking as sink;
 ghost use Rattle.bcs_decode_sources.specs.Taking as source;
 ghost use Rattle.bcs_tool.specs.Answers.{Answers, IsContent, IsFaultNote};
+ghost use Rattle.bcs_tool.specs.Input.{IsUnhurt};
 ghost use Rattle.bcs_tool_files.specs.Files.{size_limit};
 ghost use Rattle.bcs_tool.specs.Judging.{ReadsInput};
 
@@ -35,7 +36,8 @@ pub fn run<S: ByteSource, K: ByteSink>(
         × ((bytes : List ℕ) × (length bytes ≡ size_limit + 1)
         × source.Took S.content S.is_failed S.allowance input.old input.new bytes)
         × (out.new ≡ out.old) }
-    ensures memory { result.note.now ≡ codes "fault: memory" → out.new ≡ out.old }
+    ensures memory { result.note.now ≡ codes "fault: memory"
+        → IsUnhurt S.content S.is_failed S.allowance input.old input.new × (out.new ≡ out.old) }
 
     // Less than the whole answer was put.
     ensures write { result.note.now ≡ codes "fault: write" → (bytes : List ℕ) × (status : ℕ)
@@ -74,7 +76,8 @@ fn put_answer<S: ByteSource, K: ByteSink>(
         × ((bytes : List ℕ) × (length bytes ≡ size_limit + 1)
         × source.Took S.content S.is_failed S.allowance input.old input.new bytes)
         × (out.new ≡ out.old) }
-    ensures memory { result ≡ Err (RunFault.Take TakeFault.OutOfMemory) → out.new ≡ out.old }
+    ensures memory { result ≡ Err (RunFault.Take TakeFault.OutOfMemory)
+        → IsUnhurt S.content S.is_failed S.allowance input.old input.new × (out.new ≡ out.old) }
     ensures write { result ≡ Err RunFault.Write → (bytes : List ℕ) × (status : ℕ)
         × (output : List ℕ) × (n : ℕ) × IsContent (S.content input.old) bytes
         × Answers work.now bytes status output × (n < length output)

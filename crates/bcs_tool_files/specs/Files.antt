@@ -1,8 +1,8 @@
 -- The files that a job names.
-use Rattle.std.specs.Prelude.{◌≡◌, ◌==◌, ℕ, List, [], ◌∷◌, Bool, true, false, codes, Option, String, string_bytes}
+use Rattle.std.specs.Prelude.{◌≡◌, ◌≢◌, ◌≤◌, ◌==◌, ℕ, List, [], ◌∷◌, Bool, true, false, codes, length, Option, String, string_bytes}
 use Rattle.std.specs.declared.alloc.Global.{Global}
 use Rattle.bcs_tool_line.specs.declared.command.Command.{Command}
-use Rattle.bcs_tool_line.specs.declared.command.Command.TheVariants.{Check, Encode, Grows}
+use Rattle.bcs_tool_line.specs.declared.command.Command.TheVariants.{Check, Grows, Encode, Decode, Normalise, Same}
 use Rattle.bcs_tool_files.specs.declared.file_fault.FileFault.{FileFault}
 use Rattle.bcs_tool_files.specs.declared.file_fault.FileFault.TheVariants.{Open, Take}
 use Rattle.bcs_tool_line.specs.declared.job.Job.{Job}
@@ -36,12 +36,15 @@ IsTextOf word text = is_registry_text word ≡ true → text ≡ word
 -- bytes that were read for the second word of a command: none where the command has none
 abbrev pub IsSecondOf : Command → List ℕ → List ℕ → Type 0
 IsSecondOf Check word text = text ≡ []
-IsSecondOf Encode word text = text ≡ []
 IsSecondOf Grows word text = IsTextOf word text
+IsSecondOf Encode word text = text ≡ []
+IsSecondOf Decode word text = text ≡ []
+IsSecondOf Normalise word text = text ≡ []
+IsSecondOf Same word text = length text ≤ size_limit
 
--- the job's registries are texts themselves, so that no file is read for its work
-abbrev pub NamesNoRegistryFile : Job → Type 0
-NamesNoRegistryFile job = (is_registry_text (string_bytes job.registry) ≡ true)
+-- the job's registries are texts themselves, and it has no A, so that no file is read for its work
+abbrev pub NamesNoFile : Job → Type 0
+NamesNoFile job = (is_registry_text (string_bytes job.registry) ≡ true) × (job.command ≢ Same)
     × (job.command ≡ Grows → is_registry_text (string_bytes job.second) ≡ true)
 
 -- the job's work, and the name of the input's file
@@ -52,4 +55,5 @@ pub record IsWorkOf (job : Job) (work : Work) (file : Option (String Global)) : 
   pub format : work.format ≡ job.format
   pub path : work.path ≡ job.path
   pub raw : work.raw ≡ job.raw
+  pub limits : work.limits ≡ job.limits
   pub input : file ≡ job.file

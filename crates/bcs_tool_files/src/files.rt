@@ -1,7 +1,7 @@
 //! The files that a job names.
 ghost use Rattle.std.specs.Prelude.{◌≡◌, ◌≤◌, true, vec_len, IfOk, IsOkUnless};
 ghost use Rattle.bcs_tool_files.specs.Files.{size_limit};
-ghost use Rattle.bcs_tool_files.specs.Files.{IsWorkOf, NamesNoRegistryFile, is_registry_text};
+ghost use Rattle.bcs_tool_files.specs.Files.{IsWorkOf, NamesNoFile, is_registry_text};
 
 use crate::file_fault::FileFault;
 use crate::limits::SIZE_LIMIT;
@@ -9,7 +9,7 @@ use crate::taking::{TakeFault, take_all};
 use crate::work::Work;
 use bcs_decode_sources::ReadSource;
 use bcs_tool_line::{Command, Job};
-use std::alloc::Global;
+use std::alloc::{AllocError, Global};
 use std::fs::File;
 use std::rt::Files;
 
@@ -24,18 +24,21 @@ pub fn read_named<R: Files + AllocGlobal>(rt: &R, name: &str) -> Result<Vec<u8>,
 }
 
 /// The work of a job, and the name of the input's file. The files that the job names are read, that
-/// of REG or OLD before that of NEW.
+/// of REG or OLD before that of NEW or A.
 pub fn read_work<R: Files + AllocGlobal>(
     rt: &R,
     job: Job,
 ) -> Result<(Work, Option<String>), FileFault>
     ensures work { IfOk result (λ r. IsWorkOf job r.0 r.1) }
-    ensures good { NamesNoRegistryFile job → IsOkUnless result (FileFault.Take TakeFault.OutOfMemory) }
+    ensures good { NamesNoFile job → IsOkUnless result (FileFault.Take TakeFault.OutOfMemory) }
 {
     let registry = read_registry(rt, job.registry.as_str())?;
     let second = match job.command {
         Command::Grows => read_registry(rt, job.second.as_str())?,
-        Command::Check | Command::Encode => Vec::new(rt.alloc()),
+        Command::Same => read_named(rt, job.second.as_str())?,
+        Command::Check | Command::Encode | Command::Decode | Command::Normalise => {
+            Vec::new(rt.alloc())
+        },
     };
     let work = Work {
         command: job.command,
@@ -44,6 +47,7 @@ pub fn read_work<R: Files + AllocGlobal>(
         format: job.format,
         path: job.path,
         raw: job.raw,
+        limits: job.limits,
     };
     Ok((work, job.file))
 }
@@ -72,6 +76,6 @@ fn copy(alloc: Global, text: &str) -> Result<Vec<u8>, FileFault>
 {
     match Vec::from_slice(alloc, text.as_bytes()) {
         Ok(bytes) => Ok(bytes),
-        Err(_) => Err(FileFault::Take(TakeFault::OutOfMemory)),
+        Err(AllocError) => Err(FileFault::Take(TakeFault::OutOfMemory)),
     }
 }

@@ -1,5 +1,5 @@
 //! Taking the whole content of a source.
-ghost use Rattle.std.specs.Prelude.{◌≡◌, ◌+◌, ◌≤◌, ℕ, List, length, vec_len, IfOk, Err};
+ghost use Rattle.std.specs.Prelude.{◌≡◌, ◌+◌, ◌≤◌, ℕ, List, false, length, vec_len, IfOk, Err};
 ghost use Rattle.std.specs.Io.KnownBytes.{IsAtEnd};
 ghost use Rattle.bcs_decode_sources.specs.Taking.{Took, Lost};
 ghost use Rattle.bcs_tool_files.specs.Files.{take_note};
@@ -46,7 +46,7 @@ pub fn take_all<S: ByteSource>(
     limit: u64,
 ) -> Result<Vec<u8>, TakeFault>
     ensures whole { IfOk result (λ v. Took S.content S.is_failed S.allowance input.old input.new v.items
-        × IsAtEnd (S.content input.new)) }
+        × IsAtEnd (S.content input.new) × (S.is_failed input.new ≡ false)) }
     ensures within { IfOk result (λ v. vec_len v ≤ limit) }
     ensures read { result ≡ Err TakeFault.Read → (bytes : List ℕ)
         × Lost S.content S.is_failed S.allowance input.old input.new bytes × (length bytes ≤ limit) }
@@ -54,7 +54,8 @@ pub fn take_all<S: ByteSource>(
         × Took S.content S.is_failed S.allowance input.old input.new bytes
         × (length bytes ≡ limit + 1) }
     ensures memory { result ≡ Err TakeFault.OutOfMemory → (bytes : List ℕ)
-        × Took S.content S.is_failed S.allowance input.old input.new bytes × (length bytes ≤ limit) }
+        × Took S.content S.is_failed S.allowance input.old input.new bytes × (length bytes ≤ limit)
+        × (S.is_failed input.new ≡ false) }
 {
     let mut bytes = Vec::new(alloc);
     let mut block = [0; BLOCK as usize];

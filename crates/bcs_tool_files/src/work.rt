@@ -1,6 +1,7 @@
 //! What a run is given, and how it ends.
 
 use bcs_tool_line::Command;
+use bcs_value::Limits;
 
 /// A job whose named files were read.
 #[derive(Debug, Drop)]
@@ -8,14 +9,16 @@ pub struct Work {
     pub command: Command,
     /// The text of REG, or of OLD.
     pub registry: Vec<u8>,
-    /// The text of NEW; empty where the command has none.
+    /// The text of NEW, or of A; empty where the command has neither.
     pub second: Vec<u8>,
     /// FORMAT as it stands; empty where the command has none.
     pub format: String,
     /// PATH as it stands; empty where the command has none.
     pub path: String,
-    /// Whether bytes are written as they are, and not as hexadecimal digits.
+    /// Whether bytes are read and written as they are, and not as hexadecimal digits.
     pub raw: bool,
+    /// What a value may hold.
+    pub limits: Limits,
 }
 
 /// How a run ended.

@@ -7,7 +7,7 @@ use Rattle.clap.proofs.OnLiterals.{clap_on_literals}
 use Rattle.bcs_tool_words.specs.CommandLine.{bcs_app}
 use Rattle.bcs_tool_line.specs.Jobs.{command_named, is_raw}
 use Rattle.bcs_tool_line.specs.declared.command.Command.{Command}
-use Rattle.bcs_tool_line.specs.declared.command.Command.TheVariants.{Check, Encode, Grows}
+use Rattle.bcs_tool_line.specs.declared.command.Command.TheVariants.{Check, Grows, Encode, Same}
 
 -- the command of the words, and what it was given
 abbrev command_in : List Text → Option (Option Command)
@@ -184,3 +184,66 @@ any_is_taken program registry format = refl
 any_format : (program registry format : List ℕ) → given_in (codes "FORMAT") (program ∷ codes "encode" ∷ (123 ∷ registry) ∷ (34 ∷ format) ∷ []) ≡ Some (Some (34 ∷ format))
 unfolding clap_on_literals
 any_format program registry format = refl
+
+-- ---- commands on values
+
+abbrev same_words : List Text
+same_words = codes "bcs" ∷ codes "same" ∷ codes "{}" ∷ codes "S" ∷ codes "a" ∷ codes "b" ∷ []
+
+same_is_taken : fault_of bcs_app same_words ≡ []
+unfolding clap_on_literals
+same_is_taken = refl
+
+same_command : command_in same_words ≡ Some (Some Same)
+unfolding clap_on_literals
+same_command = refl
+
+same_first : given_in (codes "A") same_words ≡ Some (Some (codes "a"))
+unfolding clap_on_literals
+same_first = refl
+
+same_second : given_in (codes "B") same_words ≡ Some (Some (codes "b"))
+unfolding clap_on_literals
+same_second = refl
+
+decode_raw : raw_in (codes "bcs" ∷ codes "decode" ∷ codes "--raw" ∷ codes "{}" ∷ codes "S" ∷ []) ≡ Some true
+unfolding clap_on_literals
+decode_raw = refl
+
+normalise_raw : fault_of bcs_app (codes "bcs" ∷ codes "normalise" ∷ codes "{}" ∷ codes "S" ∷ codes "--raw" ∷ []) ≡ kind.UnknownArgument ∷ []
+unfolding clap_on_literals
+normalise_raw = refl
+
+wants_first : fault_of bcs_app (codes "bcs" ∷ codes "same" ∷ codes "{}" ∷ codes "S" ∷ []) ≡ kind.MissingRequiredArgument ∷ []
+unfolding clap_on_literals
+wants_first = refl
+
+-- ---- limits
+
+depth_is_given : given_in (codes "depth") (codes "bcs" ∷ codes "encode" ∷ codes "--depth" ∷ codes "500" ∷ codes "{}" ∷ codes "S" ∷ []) ≡ Some (Some (codes "500"))
+unfolding clap_on_literals
+depth_is_given = refl
+
+nodes_are_given : given_in (codes "nodes") (codes "bcs" ∷ codes "decode" ∷ codes "{}" ∷ codes "S" ∷ codes "--nodes=0" ∷ []) ≡ Some (Some (codes "0"))
+unfolding clap_on_literals
+nodes_are_given = refl
+
+no_depth : given_in (codes "depth") same_words ≡ Some None
+unfolding clap_on_literals
+no_depth = refl
+
+deep : fault_of bcs_app (codes "bcs" ∷ codes "encode" ∷ codes "--depth" ∷ codes "501" ∷ codes "{}" ∷ codes "S" ∷ []) ≡ kind.ValueValidation ∷ []
+unfolding clap_on_literals
+deep = refl
+
+many : fault_of bcs_app (codes "bcs" ∷ codes "decode" ∷ codes "--nodes" ∷ codes "4294967296" ∷ codes "{}" ∷ codes "S" ∷ []) ≡ kind.ValueValidation ∷ []
+unfolding clap_on_literals
+many = refl
+
+no_number : fault_of bcs_app (codes "bcs" ∷ codes "same" ∷ codes "--nodes" ∷ codes "x" ∷ codes "{}" ∷ codes "S" ∷ codes "a" ∷ []) ≡ kind.ValueValidation ∷ []
+unfolding clap_on_literals
+no_number = refl
+
+check_depth : fault_of bcs_app (codes "bcs" ∷ codes "check" ∷ codes "{}" ∷ codes "--depth" ∷ codes "1" ∷ []) ≡ kind.UnknownArgument ∷ []
+unfolding clap_on_literals
+check_depth = refl

@@ -1,6 +1,6 @@
 -- Words in which clap finds no fault name one of the commands of `bcs`.
 use Rattle.std.proofs.Common.{◌≡◌, ap, subst, sym, refl, inl, inr, codes, true, false, not, ◌&&◌, Bool, List, [], Option, Some, None, is_some, option_map, ◌∙◌}
-use Rattle.std.specs.Prelude.{option_and_then, Box}
+use Rattle.std.specs.Prelude.{IsSomeAnd, option_and_then, Box}
 use Rattle.std.specs.Box.{box_value}
 use Rattle.std.specs.Str.{bytes_eq}
 use Rattle.std.specs.List.{list_any}
@@ -15,7 +15,9 @@ use Rattle.clap.specs.declared.parser.matches.ArgMatches.TheViews.{out-ArgMatche
 use Rattle.clap.specs.declared.parser.matches.SubCommand.{SubCommand}
 use Rattle.clap.specs.Walk.{Row, Text, finished, nothing_held, settled, stop_after, walk, walk_from}
 use Rattle.bcs_tool_words.specs.CommandLine.{bcs_app}
-use Rattle.bcs_tool_line.specs.Jobs.{command_named}
+use Rattle.bcs_tool_line.specs.Jobs.{IsJob, IsJobOf, command_named}
+use Rattle.bcs_tool_line.specs.declared.command.Command.{Command}
+use Rattle.bcs_tool_line.specs.declared.job.Job.{Job}
 use Rattle.bcs_tool_words.proofs.Subcommands.{IsAmong, IsEntered, enters, none_left}
 
 wants_one : (s : Shape) (rows : List Row) → s.subcommand_required ≡ true → check_fault s rows false ≡ [] → ⊥
@@ -55,11 +57,14 @@ entered_is_command name rest h = go h.among
 
     go : IsAmong (names_of (built bcs_app)) name → command_at (Some (name, rest)) ≡ true
     go (inl e) = at (codes "check") e refl
-    go (inr (inl e)) = at (codes "encode") e refl
-    go (inr (inr (inl e))) = at (codes "grows") e refl
-    go (inr (inr (inr (inl e)))) =
+    go (inr (inl e)) = at (codes "grows") e refl
+    go (inr (inr (inl e))) = at (codes "encode") e refl
+    go (inr (inr (inr (inl e)))) = at (codes "decode") e refl
+    go (inr (inr (inr (inr (inl e))))) = at (codes "normalise") e refl
+    go (inr (inr (inr (inr (inr (inl e)))))) = at (codes "same") e refl
+    go (inr (inr (inr (inr (inr (inr (inl e))))))) =
         let bad : true ≡ false = subst (λ x. bytes_eq x (codes "help") ≡ false) (sym e) h.not_help in absurd cc
-    go (inr (inr (inr (inr e)))) = absurd e
+    go (inr (inr (inr (inr (inr (inr (inr e))))))) = absurd e
 
 stop_is_command : (words : List Text) → built_fault (built bcs_app) nothing_held words ≡ []
     → (stop : Option (Text × List Text)) → stop_after (built bcs_app).top.rules (names_of (built bcs_app)) words ≡ stop → command_at stop ≡ true
@@ -94,6 +99,28 @@ met_is_named a words m name same matches passes met none =
     is_named (subcommand_of bcs_app words) name
     (met ∙ (name_of_rows (out-ArgMatches m).subcommand ∙ ap (option_map (λ p. p.0)) found))
     (names_command words passes) none
+  where
+    is_simple_bcs : is_simple bcs_app ≡ true
+    is_simple_bcs = refl
+
+-- the job of the subcommand that is met is the one that the words ask for
+is_job : (found : Option (Text × List Row)) (name : Text) (rows : List Row) (command : Command) (job : Job)
+    → Some name ≡ option_map (λ p. p.0) found → Some rows ≡ option_map (λ p. p.1) found → Some command ≡ command_named name
+    → IsJob command rows job → IsSomeAnd found (λ p. IsSomeAnd (command_named p.0) (λ k. IsJob k p.1 job))
+is_job None name rows command job of_name of_rows named h = cc
+is_job (Some p) name rows command job of_name of_rows named h =
+    let same_name : name ≡ p.0 = cc in
+    let same_rows : rows ≡ p.1 = cc in
+    let is : Some command ≡ command_named p.0 = named ∙ ap command_named same_name in
+    subst (λ (o : Option Command). IsSomeAnd o (λ k. IsJob k p.1 job)) is (subst (λ (found : List Row). IsJob command found job) same_rows h)
+
+pub met_job : (a : App) (words : List Text) (m : ArgMatches) (name : Text) (rows : List Row) (command : Command) (job : Job) → a ≡ bcs_app → HasMatchesOf a words m
+    → Some name ≡ subcommand_name_of m → Some rows ≡ option_map (λ p. p.1) (subcommand_rows_of m) → Some command ≡ command_named name
+    → IsJob command rows job → IsJobOf words job
+met_job a words m name rows command job same matches of_name of_rows named h =
+    let found : subcommand_rows_of m ≡ subcommand_of bcs_app words = (subst (λ (b : App). HasMatchesOf b words m) same matches is_simple_bcs).1 in
+    is_job (subcommand_of bcs_app words) name rows command job
+    (of_name ∙ (name_of_rows (out-ArgMatches m).subcommand ∙ ap (option_map (λ p. p.0)) found)) (of_rows ∙ ap (option_map (λ p. p.1)) found) named h
   where
     is_simple_bcs : is_simple bcs_app ≡ true
     is_simple_bcs = refl

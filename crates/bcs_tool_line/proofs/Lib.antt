@@ -1,3 +1,5 @@
 pub mod CommandLines
 pub mod CommandNames
+pub mod CommandOptions
+pub mod LimitLemmas
 pub mod LineFaultLemmas

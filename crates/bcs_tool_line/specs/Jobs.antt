@@ -1,18 +1,23 @@
 -- The job that a command line asks for.
-use Rattle.std.specs.Prelude.{◌≡◌, IsSomeAnd, List, [], Option, Some, None, Bool, codes, option_map, unwrap_or, if◌then◌else◌, string_bytes}
+use Rattle.std.specs.Prelude.{◌≡◌, ◌≤◌, IsSomeAnd, ℕ, List, [], Option, Some, None, Bool, codes, option_map, unwrap_or, if◌then◌else◌, string_bytes}
 use Rattle.std.specs.Str.{bytes_eq}
+use Rattle.std.specs.Str.Parse.{IsNumeral, digits_value, without_leading_plus}
 use Rattle.std.specs.Option.{option_or}
-use Rattle.clap.specs.Words.{Row, Text, first_of, subcommand_of}
+use Rattle.clap.specs.Words.{Row, Text, first_of, one_of, subcommand_of}
+use Rattle.bcs_value_laws.specs.Limits.{Bounds}
 use Rattle.bcs_tool_words.specs.CommandLine.{bcs_app}
 use Rattle.bcs_tool_line.specs.declared.command.Command.{Command}
-use Rattle.bcs_tool_line.specs.declared.command.Command.TheVariants.{Check, Encode, Grows}
+use Rattle.bcs_tool_line.specs.declared.command.Command.TheVariants.{Check, Grows, Encode, Decode, Normalise, Same}
 use Rattle.bcs_tool_line.specs.declared.job.Job.{Job}
 
 -- the command of a name
 abbrev pub command_named : Text → Option Command
 command_named name = if bytes_eq name (codes "check") then Some Check
+    else (if bytes_eq name (codes "grows") then Some Grows
     else (if bytes_eq name (codes "encode") then Some Encode
-    else (if bytes_eq name (codes "grows") then Some Grows else None))
+    else (if bytes_eq name (codes "decode") then Some Decode
+    else (if bytes_eq name (codes "normalise") then Some Normalise
+    else (if bytes_eq name (codes "same") then Some Same else None)))))
 
 -- the text of a word, which is empty where there is none
 abbrev pub text_or_empty : Option Text → Text
@@ -22,16 +27,27 @@ text_or_empty word = unwrap_or word []
 abbrev pub is_raw : List Row → Bool
 is_raw found = bytes_eq (text_or_empty (first_of (codes "raw") found)) (codes "true")
 
+-- the word writes the number n, of at most `most`, or there is none and n is `most`
+abbrev pub WritesLimit : ℕ → Option Text → ℕ → Type 0
+WritesLimit most None n = n ≡ most
+WritesLimit most (Some word) n = IsNumeral 10 (without_leading_plus word) × (n ≡ digits_value 10 (without_leading_plus word)) × (n ≤ most)
+
+-- the limits that the options write, which are the standard ones where there are none
+abbrev pub WritesLimits : List Row → Bounds → Type 0
+WritesLimits found limits = WritesLimit 500 (one_of (codes "depth") found) limits.depth
+    × WritesLimit 4294967295 (one_of (codes "nodes") found) limits.nodes
+
 -- the job of a command, where clap found these words for its arguments
 pub record IsJob (command : Command) (found : List Row) (job : Job) : Type 0 where
   pub same_command : job.command ≡ command
   pub registry : string_bytes job.registry
       ≡ text_or_empty (option_or (first_of (codes "REG") found) (first_of (codes "OLD") found))
-  pub second : string_bytes job.second ≡ text_or_empty (first_of (codes "NEW") found)
+  pub second : string_bytes job.second ≡ text_or_empty (option_or (first_of (codes "NEW") found) (first_of (codes "A") found))
   pub format : string_bytes job.format ≡ text_or_empty (first_of (codes "FORMAT") found)
   pub path : string_bytes job.path ≡ text_or_empty (first_of (codes "PATH") found)
-  pub file : option_map string_bytes job.file ≡ first_of (codes "FILE") found
+  pub file : option_map string_bytes job.file ≡ option_or (first_of (codes "FILE") found) (first_of (codes "B") found)
   pub raw : job.raw ≡ is_raw found
+  pub limits : WritesLimits found job.limits
 
 -- the job that the words ask for, of which the first is the program's own name: that of the
 -- subcommand that clap finds in them, by its name and its words

@@ -1,25 +1,29 @@
 //! The job of a command's words, as clap found them.
-ghost use Rattle.std.specs.Prelude.{◌≡◌, IfOk, option_map, string_bytes};
-ghost use Rattle.clap.specs.Words.{found_of, rows_of, first_of};
-ghost use Rattle.bcs_tool_line.specs.Jobs.{IsJob, is_raw, text_or_empty};
+ghost use Rattle.std.specs.Prelude.{◌≡◌, ℕ, IfOk, option_map, string_bytes};
+ghost use Rattle.clap.specs.Words.{found_of, one_of, rows_of};
+ghost use Rattle.bcs_value_laws.specs.Limits.{Bounds};
+ghost use Rattle.bcs_tool_line.specs.Jobs.{IsJob, WritesLimit, WritesLimits, text_or_empty};
 
 use crate::command::Command;
 use crate::job::Job;
+use bcs_value::Limits;
 use clap::ArgMatches;
 use std::alloc::{AllocError, Global};
 
 /// The job of a command with the words that were given to it.
 pub fn job_of(alloc: Global, command: Command, given: &ArgMatches<'_>) -> Result<Job, AllocError>
+    requires { (limits : Bounds) × WritesLimits (rows_of (found_of given.now)) limits }
     ensures { IfOk result (IsJob command (rows_of (found_of given.now))) }
 {
     Ok(Job {
         command,
         registry: text_of(alloc, given.get_str("REG").or(given.get_str("OLD")))?,
-        second: text_of(alloc, given.get_str("NEW"))?,
+        second: text_of(alloc, given.get_str("NEW").or(given.get_str("A")))?,
         format: text_of(alloc, given.get_str("FORMAT"))?,
         path: text_of(alloc, given.get_str("PATH"))?,
-        file: file_name(alloc, given.get_str("FILE"))?,
+        file: file_name(alloc, given.get_str("FILE").or(given.get_str("B")))?,
         raw: given.get_str("raw").unwrap_or("") == "true",
+        limits: limits_of(given),
     })
 }
 
@@ -38,4 +42,23 @@ fn file_name(alloc: Global, word: Option<&str>) -> Result<Option<String>, AllocE
         Some(name) => Ok(Some(String::from_str(alloc, name)?)),
         None => Ok(None),
     }
+}
+
+// The limits of the options, and the standard ones where there are none. clap has judged their numbers.
+fn limits_of(given: &ArgMatches<'_>) -> Limits
+    requires { (limits : Bounds) × WritesLimits (rows_of (found_of given.now)) limits }
+    ensures { WritesLimits (rows_of (found_of given.now)) result }
+{
+    let standard = Limits::standard();
+    let depth = number_of(given, "depth", standard.depth());
+    let nodes = number_of(given, "nodes", standard.nodes());
+    Limits::new(depth, nodes).unwrap_or(standard)
+}
+
+// The number of an option, and the standard one where there is none.
+fn number_of(given: &ArgMatches<'_>, option: &str, standard: u32) -> u32
+    requires { (n : ℕ) × WritesLimit standard (one_of option.now (rows_of (found_of given.now))) n }
+    ensures { WritesLimit standard (one_of option.now (rows_of (found_of given.now))) result }
+{
+    given.get_one(option).unwrap_or(standard)
 }

@@ -7,10 +7,16 @@ ghost use Rattle.bcs_tool_line.specs.Jobs.{command_named};
 pub enum Command {
     /// `check`: reads a registry and counts its containers.
     Check,
-    /// `encode`: turns a value's JSON text into its bytes.
-    Encode,
     /// `grows`: finds whether a registry only adds to an older one.
     Grows,
+    /// `encode`: turns a value's JSON text into its bytes.
+    Encode,
+    /// `decode`: turns a value's bytes into its JSON text.
+    Decode,
+    /// `normalise`: turns a value's JSON text into its one normal text.
+    Normalise,
+    /// `same`: finds whether two JSON texts have the same value.
+    Same,
 }
 
 impl Command {
@@ -20,8 +26,11 @@ impl Command {
     {
         match name {
             "check" => Some(Command::Check),
-            "encode" => Some(Command::Encode),
             "grows" => Some(Command::Grows),
+            "encode" => Some(Command::Encode),
+            "decode" => Some(Command::Decode),
+            "normalise" => Some(Command::Normalise),
+            "same" => Some(Command::Same),
             _ => None,
         }
     }

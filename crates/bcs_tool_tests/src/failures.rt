@@ -3,6 +3,7 @@ use bcs_decode::pieces::PieceSource;
 use bcs_decode::{ByteSource, SliceSource};
 use bcs_encode::pieces::PieceSink;
 use bcs_tool::{Command, Work, run};
+use bcs_value::Limits;
 use std::alloc::{AllocError, AllocGlobal, Global};
 use std::process::Abort;
 use std::test::Fail;
@@ -16,6 +17,7 @@ fn encoding(alloc: Global) -> Result<Work, AllocError> {
         format: String::from_str(alloc, "\"I16\"")?,
         path: String::new(alloc),
         raw: false,
+        limits: Limits::standard(),
     })
 }
 

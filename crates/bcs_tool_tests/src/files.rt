@@ -1,5 +1,6 @@
 //! Files that are named, and the work of jobs.
 use bcs_tool::{Command, FileFault, Job, TakeFault, Work, read_named, read_work};
+use bcs_value::Limits;
 use std::alloc::{AllocError, Global};
 use std::fs;
 use std::test::Fail;
@@ -17,35 +18,40 @@ fn named_files(rt: HostRuntime) -> Result<(), Fail> {
     Ok(())
 }
 
-// A job whose second word names a file.
-fn job(alloc: Global) -> Result<Job, AllocError> {
+// A job of a command whose second word names a file.
+fn job(alloc: Global, command: Command) -> Result<Job, AllocError> {
     Ok(Job {
-        command: Command::Grows,
+        command,
         registry: String::from_str(alloc, "{}")?,
         second: String::from_str(alloc, "bcs_tool_second.test")?,
         format: String::from_str(alloc, "F")?,
         path: String::from_str(alloc, "P")?,
         file: Some(String::from_str(alloc, "I")?),
         raw: true,
+        limits: Limits::new(7, 9).unwrap_or(Limits::standard()),
     })
 }
 
 // The job's work, where the file holds `newer`.
-fn is_work(work: &Work) -> bool {
-    work.command == Command::Grows
+fn is_work(work: &Work, command: Command) -> bool {
+    work.command == command
         && work.registry.as_slice() == b"{}".as_slice()
         && work.second.as_slice() == b"newer".as_slice()
         && work.format.as_str() == "F"
         && work.path.as_str() == "P"
         && work.raw
+        && work.limits.depth() == 7
+        && work.limits.nodes() == 9
 }
 
 #[test]
 fn works_of_jobs(rt: HostRuntime) -> Result<(), Fail> {
     fs::write(&rt, "bcs_tool_second.test", b"newer".as_slice())?;
-    let (work, file) = read_work(&rt, job(rt.alloc())?)?;
-    assert!(rt; is_work(&work));
-    assert!(rt; file.as_deref() == Some("I"));
+    for command in [Command::Grows, Command::Same] {
+        let (work, file) = read_work(&rt, job(rt.alloc(), command)?)?;
+        assert!(rt; is_work(&work, command));
+        assert!(rt; file.as_deref() == Some("I"));
+    }
     fs::remove_file(&rt, "bcs_tool_second.test")?;
     Ok(())
 }

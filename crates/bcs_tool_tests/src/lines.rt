@@ -12,9 +12,11 @@ struct Asked {
     format: &'static str,
     file: Option<&'static str>,
     raw: bool,
+    depth: u32,
+    nodes: u32,
 }
 
-const JOBS: [Asked; 5] = [
+const JOBS: [Asked; 7] = [
     Asked {
         words: &["encode", "{}", "\"I16\""],
         command: Command::Encode,
@@ -23,6 +25,8 @@ const JOBS: [Asked; 5] = [
         format: "\"I16\"",
         file: None,
         raw: false,
+        depth: 500,
+        nodes: 4294967295,
     },
     Asked {
         words: &["encode", "--raw", "r.json", "S", "in.json"],
@@ -32,6 +36,8 @@ const JOBS: [Asked; 5] = [
         format: "S",
         file: Some("in.json"),
         raw: true,
+        depth: 500,
+        nodes: 4294967295,
     },
     Asked {
         words: &["encode", "r.json", "S", "in.json", "--raw"],
@@ -41,6 +47,8 @@ const JOBS: [Asked; 5] = [
         format: "S",
         file: Some("in.json"),
         raw: true,
+        depth: 500,
+        nodes: 4294967295,
     },
     Asked {
         words: &["check", "{}"],
@@ -50,6 +58,8 @@ const JOBS: [Asked; 5] = [
         format: "",
         file: None,
         raw: false,
+        depth: 500,
+        nodes: 4294967295,
     },
     Asked {
         words: &["grows", "old.json", "new.json"],
@@ -59,6 +69,30 @@ const JOBS: [Asked; 5] = [
         format: "",
         file: None,
         raw: false,
+        depth: 500,
+        nodes: 4294967295,
+    },
+    Asked {
+        words: &["decode", "--raw", "r.json", "S", "--nodes", "1000", "in.bcs"],
+        command: Command::Decode,
+        registry: "r.json",
+        second: "",
+        format: "S",
+        file: Some("in.bcs"),
+        raw: true,
+        depth: 500,
+        nodes: 1000,
+    },
+    Asked {
+        words: &["same", "--depth=0", "r.json", "S", "a.json", "b.json"],
+        command: Command::Same,
+        registry: "r.json",
+        second: "a.json",
+        format: "S",
+        file: Some("b.json"),
+        raw: false,
+        depth: 0,
+        nodes: 4294967295,
     },
 ];
 
@@ -84,6 +118,8 @@ fn is_as_asked(job: &Job, asked: &Asked) -> bool {
         && job.path.is_empty()
         && job.file.as_deref() == asked.file
         && job.raw == asked.raw
+        && job.limits.depth() == asked.depth
+        && job.limits.nodes() == asked.nodes
 }
 
 // A refusal may come anywhere, also in the words of the test itself.

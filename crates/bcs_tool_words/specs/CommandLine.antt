@@ -1,9 +1,10 @@
 -- The command line of `bcs`, in the terms of clap's contracts: which words each command takes.
-use Rattle.std.specs.Prelude.{List, [], ◌∷◌, Some, true, codes, map, fold, String, string_bytes}
+use Rattle.std.specs.Prelude.{ℕ, List, [], ◌∷◌, ◌++◌, Some, true, codes, map, fold, pos, String, string_bytes}
 use Rattle.std.specs.declared.alloc.Global.{Global}
 use Rattle.clap.specs.Words.{App, Rule, Text, new_app, new_rule, with_rule, with_subcommand}
 use Rattle.clap.specs.Simple.{on_top}
 use Rattle.clap.specs.declared.builder.action.ArgAction.TheVariants.{SetTrue}
+use Rattle.clap.specs.declared.builder.value_parser.ValueParser.TheVariants.{Signed}
 
 -- a word that has to be there, known by its place
 abbrev pub required : Text → Rule
@@ -17,6 +18,11 @@ optional name = new_rule name
 abbrev pub raw_flag : Rule
 raw_flag = record (new_rule (codes "raw")) { long = Some (codes "raw"); action = Some SetTrue }
 
+-- an option of this name with a value, which is a whole number from 0 to `most`
+abbrev pub number_option : Text → ℕ → Rule
+number_option name most =
+    record (new_rule name) { long = Some name; value_names = 1; parser = Some (Signed (pos 0) (pos most)) }
+
 -- a command of this name that takes these words, in this order
 abbrev pub command_with : Text → List Rule → App
 command_with name rules = fold with_rule (new_app name) rules
@@ -24,21 +30,33 @@ command_with name rules = fold with_rule (new_app name) rules
 abbrev pub check_app : App
 check_app = command_with (codes "check") (required (codes "REG") ∷ [])
 
-abbrev pub encode_app : App
-encode_app = command_with (codes "encode") (required (codes "REG") ∷ required (codes "FORMAT")
-    ∷ optional (codes "FILE") ∷ raw_flag ∷ [])
-
 abbrev pub grows_app : App
-grows_app =
-    command_with (codes "grows") (required (codes "OLD") ∷ required (codes "NEW") ∷ [])
+grows_app = command_with (codes "grows") (required (codes "OLD") ∷ required (codes "NEW") ∷ [])
+
+-- a command on values of a format, within limits
+abbrev pub value_app : Text → App
+value_app name = command_with name (required (codes "REG") ∷ required (codes "FORMAT")
+    ∷ number_option (codes "depth") 500 ∷ number_option (codes "nodes") 4294967295 ∷ [])
+
+abbrev pub encode_app : App
+encode_app = fold with_rule (value_app (codes "encode")) (optional (codes "FILE") ∷ raw_flag ∷ [])
+
+abbrev pub decode_app : App
+decode_app = fold with_rule (value_app (codes "decode")) (optional (codes "FILE") ∷ raw_flag ∷ [])
+
+abbrev pub normalise_app : App
+normalise_app = fold with_rule (value_app (codes "normalise")) (optional (codes "FILE") ∷ [])
+
+abbrev pub same_app : App
+same_app = fold with_rule (value_app (codes "same")) (required (codes "A") ∷ optional (codes "B") ∷ [])
 
 -- one of its commands has to be there
 abbrev pub wants_command : App → App
 wants_command = on_top (λ s. record s { subcommand_required = true })
 
 abbrev pub bcs_app : App
-bcs_app = fold (λ program command. with_subcommand program command.top)
-    (wants_command (new_app (codes "bcs"))) (check_app ∷ encode_app ∷ grows_app ∷ [])
+bcs_app = fold (λ program command. with_subcommand program command.top) (wants_command (new_app (codes "bcs")))
+    (check_app ∷ grows_app ∷ encode_app ∷ decode_app ∷ normalise_app ∷ same_app ∷ [])
 
 -- the words as texts
 abbrev pub texts_of : List (String Global) → List Text

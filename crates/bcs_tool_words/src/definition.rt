@@ -1,10 +1,10 @@
 //! What words each command takes, in clap's terms.
-ghost use Rattle.std.specs.Prelude.{◌≡◌, IfOk, false};
+ghost use Rattle.std.specs.Prelude.{◌≡◌, IfOk, codes, false};
 ghost use Rattle.clap.specs.Words.{app_of, rule_of};
 ghost use Rattle.clap.specs.declared.builder.command.Command.TheViews.{out-Command};
-ghost use Rattle.bcs_tool_words.specs.CommandLine.{bcs_app, check_app, encode_app, grows_app, optional, required, raw_flag};
+ghost use Rattle.bcs_tool_words.specs.CommandLine.{bcs_app, check_app, decode_app, encode_app, grows_app, normalise_app, number_option, optional, raw_flag, required, same_app, value_app};
 
-use clap::{Arg, ArgAction, Command};
+use clap::{Arg, ArgAction, Command, value_parser};
 use std::alloc::{AllocError, Global};
 
 const REGISTRY: &str =
@@ -19,6 +19,10 @@ const FORMAT: &str =
 
 const FILE: &str = "The file to read in place of the standard input";
 
+const FIRST_FILE: &str = "The file of the first value's JSON text";
+
+const SECOND_FILE: &str = "The file of the second value's, in place of the standard input";
+
 /// The whole command line, of which the first word is the program's own name.
 pub fn bcs_command<'a>(alloc: Global) -> Result<Command<'a>, AllocError>
     ensures { IfOk result (λ c. app_of c ≡ bcs_app) }
@@ -27,8 +31,11 @@ pub fn bcs_command<'a>(alloc: Global) -> Result<Command<'a>, AllocError>
         .about("Binary Canonical Serialization, by a registry of formats")
         .subcommand_required(true)
         .subcommand(check_command(alloc)?)?
+        .subcommand(grows_command(alloc)?)?
         .subcommand(encode_command(alloc)?)?
-        .subcommand(grows_command(alloc)?)
+        .subcommand(decode_command(alloc)?)?
+        .subcommand(normalise_command(alloc)?)?
+        .subcommand(same_command(alloc)?)
 }
 
 fn check_command<'a>(alloc: Global) -> Result<Command<'a>, AllocError>
@@ -40,18 +47,6 @@ fn check_command<'a>(alloc: Global) -> Result<Command<'a>, AllocError>
         .arg(required_word(alloc, "REG", REGISTRY))
 }
 
-fn encode_command<'a>(alloc: Global) -> Result<Command<'a>, AllocError>
-    ensures app { IfOk result (λ c. app_of c ≡ encode_app) }
-    ensures global { IfOk result (λ c. (out-Command c).has_globals ≡ false) }
-{
-    Command::new(alloc, "encode")
-        .about("Prints the bytes of a value's JSON text")
-        .arg(required_word(alloc, "REG", REGISTRY))?
-        .arg(required_word(alloc, "FORMAT", FORMAT))?
-        .arg(optional_word(alloc, "FILE", FILE))?
-        .arg(raw_option(alloc))
-}
-
 fn grows_command<'a>(alloc: Global) -> Result<Command<'a>, AllocError>
     ensures app { IfOk result (λ c. app_of c ≡ grows_app) }
     ensures global { IfOk result (λ c. (out-Command c).has_globals ≡ false) }
@@ -60,6 +55,63 @@ fn grows_command<'a>(alloc: Global) -> Result<Command<'a>, AllocError>
         .about("Tells whether a registry only adds to an older one")
         .arg(required_word(alloc, "OLD", OLD_REGISTRY))?
         .arg(required_word(alloc, "NEW", NEW_REGISTRY))
+}
+
+fn encode_command<'a>(alloc: Global) -> Result<Command<'a>, AllocError>
+    ensures app { IfOk result (λ c. app_of c ≡ encode_app) }
+    ensures global { IfOk result (λ c. (out-Command c).has_globals ≡ false) }
+{
+    value_command(alloc, "encode")?
+        .about("Prints the bytes of a value's JSON text")
+        .arg(optional_word(alloc, "FILE", FILE))?
+        .arg(raw_option(
+            alloc,
+            "Writes the bytes as they are, and not as hexadecimal digits",
+        ))
+}
+
+fn decode_command<'a>(alloc: Global) -> Result<Command<'a>, AllocError>
+    ensures app { IfOk result (λ c. app_of c ≡ decode_app) }
+    ensures global { IfOk result (λ c. (out-Command c).has_globals ≡ false) }
+{
+    value_command(alloc, "decode")?
+        .about("Prints the JSON text of a value's bytes")
+        .arg(optional_word(alloc, "FILE", FILE))?
+        .arg(raw_option(
+            alloc,
+            "Reads the bytes as they are, and not as hexadecimal digits",
+        ))
+}
+
+fn normalise_command<'a>(alloc: Global) -> Result<Command<'a>, AllocError>
+    ensures app { IfOk result (λ c. app_of c ≡ normalise_app) }
+    ensures global { IfOk result (λ c. (out-Command c).has_globals ≡ false) }
+{
+    value_command(alloc, "normalise")?
+        .about("Prints the one normal JSON text of a value's JSON text")
+        .arg(optional_word(alloc, "FILE", FILE))
+}
+
+fn same_command<'a>(alloc: Global) -> Result<Command<'a>, AllocError>
+    ensures app { IfOk result (λ c. app_of c ≡ same_app) }
+    ensures global { IfOk result (λ c. (out-Command c).has_globals ≡ false) }
+{
+    value_command(alloc, "same")?
+        .about("Tells whether two JSON texts have the same value")
+        .arg(required_word(alloc, "A", FIRST_FILE))?
+        .arg(optional_word(alloc, "B", SECOND_FILE))
+}
+
+// A command on values of a format, within limits.
+fn value_command<'a>(alloc: Global, name: &'a str) -> Result<Command<'a>, AllocError>
+    ensures app { IfOk result (λ c. app_of c ≡ value_app name.entry.now) }
+    ensures global { IfOk result (λ c. (out-Command c).has_globals ≡ false) }
+{
+    Command::new(alloc, name)
+        .arg(required_word(alloc, "REG", REGISTRY))?
+        .arg(required_word(alloc, "FORMAT", FORMAT))?
+        .arg(depth_option(alloc))?
+        .arg(nodes_option(alloc))
 }
 
 // A word that has to be there, known by its place.
@@ -78,12 +130,34 @@ fn optional_word<'a>(alloc: Global, name: &'a str, help: &'a str) -> Arg<'a>
     Arg::new(alloc, name).help(help)
 }
 
-fn raw_option<'a>(alloc: Global) -> Arg<'a>
+fn raw_option<'a>(alloc: Global, help: &'a str) -> Arg<'a>
     ensures rule { rule_of result ≡ raw_flag }
     ensures global { result.global ≡ false }
 {
     Arg::new(alloc, "raw")
         .long("raw")
         .action(ArgAction::SetTrue)
-        .help("Writes the bytes as they are, and not as hexadecimal digits")
+        .help(help)
+}
+
+fn depth_option<'a>(alloc: Global) -> Arg<'a>
+    ensures rule { rule_of result ≡ number_option (codes "depth") 500 }
+    ensures global { result.global ≡ false }
+{
+    Arg::new(alloc, "depth")
+        .long("depth")
+        .value_name("N")
+        .value_parser(value_parser!(u32).range(..=500))
+        .help("The most containers that may be open at once, at most 500")
+}
+
+fn nodes_option<'a>(alloc: Global) -> Arg<'a>
+    ensures rule { rule_of result ≡ number_option (codes "nodes") 4294967295 }
+    ensures global { result.global ≡ false }
+{
+    Arg::new(alloc, "nodes")
+        .long("nodes")
+        .value_name("N")
+        .value_parser(value_parser!(u32))
+        .help("The most nodes of a value")
 }

@@ -1,4 +1,4 @@
-use Rattle.std.proofs.Common.{◌≡◌, ◌∙◌, ◌+◌, ◌≤◌, List, ◌∷◌, length, map, drop, option_map, Some, Ok, ap, sym, true≢false, arith}
+use Rattle.std.proofs.Common.{◌≡◌, ◌∙◌, ◌+◌, ◌≤◌, List, ◌∷◌, map, drop, Some, Ok, Err, refl, ap, sym, arith}
 use Rattle.std.specs.Vec.Iter.{into_iter_items}
 use Rattle.std.proofs.lemmas.List.{drop_more, drop_all, nil_from_length}
 use Rattle.std.proofs.lemmas.Result.{err_from_is_err_and}
@@ -13,9 +13,10 @@ use Rattle.bcs_json_laws.specs.Bytes.{is_byte}
 use Rattle.bcs_json_laws.specs.JsonContent.{of}
 use Rattle.bcs_json_laws.specs.Look.{without}
 use Rattle.bcs_json_laws.specs.Reading.{follow, read_data, read_all, read_each, read_pairs, read_fields, read_named}
+use Rattle.bcs_json_leaves.specs.Kinds.{list_json}
 use Rattle.bcs_json_leaves.proofs.Joined.{joined}
-use Rattle.bcs_json_reader.proofs.Counts.{items_read, items_fault, tuple_other, tuple_row, array_other, array_row}
-use Rattle.bcs_json_reader.proofs.FieldRows.{field_more, field_fault, fields_done, member_left, none_left, some_left}
+use Rattle.bcs_json_reader.proofs.Counts.{items_read, items_fault, tuple_refused, tuple_row, array_other, array_row, map_other}
+use Rattle.bcs_json_reader.proofs.FieldRows.{field_more, field_fault, field_missing, fields_done, member_left}
 use Rattle.bcs_json_reader.proofs.Formats.{tells_as, option_read, seq_read, array_read, map_read, levels_here, field_levels_here}
 use Rattle.bcs_json_reader.proofs.Names.{container_found, newtype_levels, tuple_levels, struct_levels, variant_levels}
 use Rattle.bcs_json_reader.proofs.PairRows.{joined_pairs, pair_more, pair_fault, key_fault, value_fault, pairs_done}
@@ -48,37 +49,47 @@ reading::read-returns-in-TupleArray t c =
 
 -- ---- arrays of so many items
 
-pub reading::read_array-returns-then-len-size : goal.reading::read_array-returns-then-len-size
-reading::read_array-returns-then-len-size t c =
-    λ _. array_other c.args.json c.in-Array.items c.in-Array.is (is_byte (shape_of c.args.element.now)) c.args.size (read_data c.args.registry.now c.args.left (of (shape_of c.args.element.now)))
-    (λ is. c.if-len-size.true (omega (arith, c.len.ensures, c.in-Array.items.ok, is)))
+pub reading::read_array-returns-in_err-exactly-in-Array : goal.reading::read_array-returns-in_err-exactly-in-Array
+reading::read_array-returns-in_err-exactly-in-Array t c =
+    let p = err_from_is_err_and c.from_residual-in_err-exactly-in-Array.result c.from_residual-in_err-exactly-in-Array.ensures.1 in
+    rw (p.1, p.2) (λ _. array_other (is_byte (shape_of c.args.element.now)) c.args.size (read_data c.args.registry.now c.args.left (of (shape_of c.args.element.now))) (view c.args.json) c.in-Array.items
+    (c.in_ok-items.ensures.ok ∙ ap list_json c.in-Array.is)
+    (λ is. c.in_err-exactly-in-Array.ensures.other (omega (arith, c.len.ensures, c.in-Array.items.ok, is))) ∙ ap Err (sym c.in_err-exactly-in-Array.ensures.fault))
 
 pub reading::read_array-returns-in_err-read_all-in-Array : goal.reading::read_array-returns-in_err-read_all-in-Array
 reading::read_array-returns-in_err-read_all-in-Array t c =
+    let p = err_from_is_err_and c.from_residual-in_err-read_all-in-Array.result c.from_residual-in_err-read_all-in-Array.ensures.1 in
+    rw (p.1, p.2) (λ other. array_row (is_byte (shape_of c.args.element.now)) c.args.size (read_data c.args.registry.now c.args.left (of (shape_of c.args.element.now))) (view c.args.json) c.in-Array.items
+    (c.in_ok-items.ensures.ok ∙ ap list_json c.in-Array.is)
+    (omega (arith, c.len.ensures, c.in-Array.items.ok, c.in_ok-exactly-in-Array.ensures.ok)) ∙ items_fault _ _ (c.in_err-read_all-in-Array.ensures other))
+
+pub reading::read_array-returns-in_ok-read_all-in-Array : goal.reading::read_array-returns-in_ok-read_all-in-Array
+reading::read_array-returns-in_ok-read_all-in-Array t c =
+    array_row (is_byte (shape_of c.args.element.now)) c.args.size (read_data c.args.registry.now c.args.left (of (shape_of c.args.element.now))) (view c.args.json) c.in-Array.items
+    (c.in_ok-items.ensures.ok ∙ ap list_json c.in-Array.is)
+    (omega (arith, c.len.ensures, c.in-Array.items.ok, c.in_ok-exactly-in-Array.ensures.ok)) ∙ items_read _ c.in_ok-read_all-in-Array.field-0 c.in_ok-read_all-in-Array.ensures
+
+pub reading::read_tuple-returns-in_err-items : goal.reading::read_tuple-returns-in_err-items
+reading::read_tuple-returns-in_err-items t c =
     let p = err_from_is_err_and c.from_residual.result c.from_residual.ensures.1 in
-    rw (p.1, p.2) (λ other. array_row c.args.json c.in-Array.items c.in-Array.is (is_byte (shape_of c.args.element.now)) c.args.size (read_data c.args.registry.now c.args.left (of (shape_of c.args.element.now)))
-    (omega (arith, c.len.ensures, c.in-Array.items.ok, c.if-len-size.false)) ∙ items_fault _ _ (c.in_err-read_all-in-Array.ensures other))
+    rw (p.1, p.2) (λ _. tuple_refused (read_named c.args.registry.now c.args.left) c.args.formats.now (view c.args.json) _ _ refl c.in_err-items.ensures.fault)
 
-pub reading::read_array-returns-in-Array : goal.reading::read_array-returns-in-Array
-reading::read_array-returns-in-Array t c =
-    array_row c.args.json c.in-Array.items c.in-Array.is (is_byte (shape_of c.args.element.now)) c.args.size (read_data c.args.registry.now c.args.left (of (shape_of c.args.element.now)))
-    (omega (arith, c.len.ensures, c.in-Array.items.ok, c.if-len-size.false)) ∙ items_read _ c.in_ok-read_all-in-Array.field-0 c.in_ok-read_all-in-Array.ensures
+pub reading::read_tuple-returns-in_err-read_each : goal.reading::read_tuple-returns-in_err-read_each
+reading::read_tuple-returns-in_err-read_each t c =
+    let p = err_from_is_err_and c.from_residual-in_err-read_each.result c.from_residual-in_err-read_each.ensures.1 in
+    rw (p.1, p.2) (λ other. tuple_row (read_named c.args.registry.now c.args.left) c.args.formats.now (view c.args.json) c.in_ok-items.items c.in_ok-items.ensures.ok
+    c.in_ok-items.ensures.count ∙ items_fault _ _ (c.in_err-read_each.ensures other))
 
-pub reading::read_tuple-returns-then-len-formats : goal.reading::read_tuple-returns-then-len-formats
-reading::read_tuple-returns-then-len-formats t c =
-    λ _. tuple_other c.args.json c.in-Array.items c.in-Array.is (read_named c.args.registry.now c.args.left) c.args.formats.now
-    (λ is. c.if-len-formats.true (omega (arith, c.len.ensures, c.in-Array.items.ok, is)))
+pub reading::read_tuple-returns : goal.reading::read_tuple-returns
+reading::read_tuple-returns t c =
+    tuple_row (read_named c.args.registry.now c.args.left) c.args.formats.now (view c.args.json) c.in_ok-items.items c.in_ok-items.ensures.ok
+    c.in_ok-items.ensures.count ∙ items_read _ c.in_ok-read_each.field-0 c.in_ok-read_each.ensures
 
-pub reading::read_tuple-returns-in_err-read_each-in-Array : goal.reading::read_tuple-returns-in_err-read_each-in-Array
-reading::read_tuple-returns-in_err-read_each-in-Array t c =
+pub reading::read_map-returns-in_err-items : goal.reading::read_map-returns-in_err-items
+reading::read_map-returns-in_err-items t c =
     let p = err_from_is_err_and c.from_residual.result c.from_residual.ensures.1 in
-    rw (p.1, p.2) (λ other. tuple_row c.args.json c.in-Array.items c.in-Array.is (read_named c.args.registry.now c.args.left) c.args.formats.now
-    (omega (arith, c.len.ensures, c.in-Array.items.ok, c.if-len-formats.false)) ∙ items_fault _ _ (c.in_err-read_each-in-Array.ensures other))
-
-pub reading::read_tuple-returns-in-Array : goal.reading::read_tuple-returns-in-Array
-reading::read_tuple-returns-in-Array t c =
-    tuple_row c.args.json c.in-Array.items c.in-Array.is (read_named c.args.registry.now c.args.left) c.args.formats.now
-    (omega (arith, c.len.ensures, c.in-Array.items.ok, c.if-len-formats.false)) ∙ items_read _ c.in_ok-read_each-in-Array.field-0 c.in_ok-read_each-in-Array.ensures
+    rw (p.1, p.2) (λ _. map_other (read_data c.args.registry.now c.args.left (of (shape_of c.args.key.now))) (read_data c.args.registry.now c.args.left (of (shape_of c.args.content.now))) (view c.args.json) c.in_err-items.ensures.other
+    ∙ ap Err (sym c.in_err-items.ensures.fault))
 
 -- ---- parts
 
@@ -163,11 +174,11 @@ parts::read_fields-loop-field-preserved t c =
     let here : drop l.field-index xs ≡ x ∷ rest = drop_more xs l.field-index x (omega (arith, c.loop-field-test.true)) ∙ ap (λ y. y ∷ rest) (sym c.field-item.is) in
     let named = read_named c.args.registry.now c.args.left in
     let ms = members_view l.members.entries in
-    let less = members_view c.take_member.new.members.entries in
-    let found = ap (λ s. get_member s ms) (sym c.as_str.ensures.value) ∙ sym c.in-Some.ensures.found in
-    let left = c.in-Some.ensures.left ∙ ap (λ s. without s ms) c.as_str.ensures.value in
+    let less = members_view c.take_field.new.members.entries in
+    let found = ap (λ s. get_member s ms) (sym c.as_str.ensures.value) ∙ c.in_ok-member.ensures.ok in
+    let left = c.in_ok-member.ensures.left ∙ ap (λ s. without s ms) c.as_str.ensures.value in
     l.invariant
-    ∙ field_more named x rest (drop l.field-index xs) here ms l.found.items less (view c.in-Some.member) c.in_ok-read.field-0 found left c.in_ok-read.ensures
+    ∙ field_more named x rest (drop l.field-index xs) here ms l.found.items less (view c.in_ok-member.member) c.in_ok-read.field-0 found left c.in_ok-read.ensures
     ∙ ap (λ (vs : List Value). follow (read_fields named (map field_of rest) less) (λ ts. Ok (joined vs ts))) (sym c.in_ok-push.ensures.items)
 
 pub parts::read_fields-returns-in_err-read : goal.parts::read_fields-returns-in_err-read
@@ -178,26 +189,39 @@ parts::read_fields-returns-in_err-read t c =
     let rest = drop (l.field-index + 1) xs in
     let here : drop l.field-index xs ≡ x ∷ rest = drop_more xs l.field-index x (omega (arith, c.loop-field-test.true)) ∙ ap (λ y. y ∷ rest) (sym c.field-item.is) in
     let ms = members_view l.members.entries in
-    let found = ap (λ s. get_member s ms) (sym c.as_str.ensures.value) ∙ sym c.in-Some.ensures.found in
+    let found = ap (λ s. get_member s ms) (sym c.as_str.ensures.value) ∙ c.in_ok-member.ensures.ok in
     let p = err_from_is_err_and c.from_residual-in_err-read.result c.from_residual-in_err-read.ensures.1 in
     rw (p.1, p.2) (λ other. l.invariant
-    ∙ field_fault (read_named c.args.registry.now c.args.left) x rest (drop l.field-index xs) here ms l.found.items (view c.in-Some.member) _ found (c.in_err-read.ensures other))
+    ∙ field_fault (read_named c.args.registry.now c.args.left) x rest (drop l.field-index xs) here ms l.found.items (view c.in_ok-member.member) _ found (c.in_err-read.ensures other))
 
-pub parts::read_fields-returns-then-is_empty : goal.parts::read_fields-returns-then-is_empty
-parts::read_fields-returns-then-is_empty t c =
+pub parts::read_fields-returns-in_err-member : goal.parts::read_fields-returns-in_err-member
+parts::read_fields-returns-in_err-member t c =
     let l = c.loop-field in
-    let none = drop_all l.field-index c.args.fields.now c.loop-field-test.false in
-    l.invariant
-    ∙ fields_done (read_named c.args.registry.now c.args.left) _ none l.found.items (members_view l.members.entries)
-    (none_left l.members.entries (nil_from_length l.members.entries (c.is_empty.ensures.0 c.if-is_empty.true)))
+    let xs = c.args.fields.now in
+    let x = c.field-item.result in
+    let rest = drop (l.field-index + 1) xs in
+    let here : drop l.field-index xs ≡ x ∷ rest = drop_more xs l.field-index x (omega (arith, c.loop-field-test.true)) ∙ ap (λ y. y ∷ rest) (sym c.field-item.is) in
+    let ms = members_view l.members.entries in
+    let none = ap (λ s. get_member s ms) (sym c.as_str.ensures.value) ∙ c.in_err-member.ensures.missing in
+    let p = err_from_is_err_and c.from_residual-in_err-member.result c.from_residual-in_err-member.ensures.1 in
+    rw (p.1, p.2) (λ _. l.invariant
+    ∙ field_missing (read_named c.args.registry.now c.args.left) x rest (drop l.field-index xs) here ms l.found.items none ∙ ap Err (sym c.in_err-member.ensures.fault))
+
+pub parts::read_fields-returns-in_err-no_member_left : goal.parts::read_fields-returns-in_err-no_member_left
+parts::read_fields-returns-in_err-no_member_left t c =
+    let l = c.loop-field in
+    let done = drop_all l.field-index c.args.fields.now c.loop-field-test.false in
+    let p = err_from_is_err_and c.from_residual-in_err-no_member_left.result c.from_residual-in_err-no_member_left.ensures.1 in
+    rw (p.1, p.2) (λ _. l.invariant
+    ∙ member_left (read_named c.args.registry.now c.args.left) _ done l.found.items (members_view l.members.entries) c.in_err-no_member_left.ensures.left
+    ∙ ap Err (sym c.in_err-no_member_left.ensures.fault))
 
 pub parts::read_fields-returns : goal.parts::read_fields-returns
-parts::read_fields-returns t c other =
+parts::read_fields-returns t c =
     let l = c.loop-field in
-    let none = drop_all l.field-index c.args.fields.now c.loop-field-test.false in
+    let done = drop_all l.field-index c.args.fields.now c.loop-field-test.false in
     l.invariant
-    ∙ member_left (read_named c.args.registry.now c.args.left) _ none l.found.items (members_view l.members.entries)
-    (some_left l.members.entries (λ e. true≢false (sym (c.is_empty.ensures.1 (ap length e)) ∙ c.if-is_empty.false)))
+    ∙ fields_done (read_named c.args.registry.now c.args.left) _ done l.found.items (members_view l.members.entries) c.in_ok-no_member_left.ensures.ok
 
 pub parts::read_pairs-loop-item-preserved : goal.parts::read_pairs-loop-item-preserved
 parts::read_pairs-loop-item-preserved t c =
@@ -246,8 +270,8 @@ pub containers::read_content-read-requires : goal.containers::read_content-read-
 containers::read_content-read-requires t c =
     let r = c.args.registry.now in
     let low =
-    newtype_levels r c.container.ensures.well_formed c.args.name.now (shape_of c.in-NewTypeStruct.format)
-    (container_found r c.args.name.now c.container.result c.container.ensures.found c.in-Some.container _ c.in-Some.is c.in-NewTypeStruct.is) in
+    newtype_levels r c.container_called.ensures.well_formed c.args.name.now (shape_of c.in-NewTypeStruct.format)
+    (container_found r c.args.name.now _ _ c.in_ok-format.ensures.ok c.in-NewTypeStruct.is) in
     (omega (arith, low), tt)
 
 pub containers::read_content-read_tuple-requires : goal.containers::read_content-read_tuple-requires
@@ -255,8 +279,8 @@ containers::read_content-read_tuple-requires t c =
     let r = c.args.registry.now in
     let ss = formats_shapes c.in-TupleStruct.formats.items in
     let low =
-    tuple_levels r c.container.ensures.well_formed c.args.name.now ss
-    (container_found r c.args.name.now c.container.result c.container.ensures.found c.in-Some.container _ c.in-Some.is c.in-TupleStruct.is) in
+    tuple_levels r c.container_called.ensures.well_formed c.args.name.now ss
+    (container_found r c.args.name.now _ _ c.in_ok-format.ensures.ok c.in-TupleStruct.is) in
     let same : shapes_levels (formats_shapes c.deref.result.now) ≡ shapes_levels ss = ap (λ fs. shapes_levels (formats_shapes fs)) c.deref.ensures.value in
     (omega (arith, low, same), tt)
 
@@ -265,8 +289,8 @@ containers::read_content-read_struct-requires t c =
     let r = c.args.registry.now in
     let fs = map field_of c.in-Struct.fields.items in
     let low =
-    struct_levels r c.container.ensures.well_formed c.args.name.now fs
-    (container_found r c.args.name.now c.container.result c.container.ensures.found c.in-Some.container _ c.in-Some.is c.in-Struct.is) in
+    struct_levels r c.container_called.ensures.well_formed c.args.name.now fs
+    (container_found r c.args.name.now _ _ c.in_ok-format.ensures.ok c.in-Struct.is) in
     let same : shapes_levels (field_shapes (map field_of c.deref-in-Struct.result.now)) ≡ shapes_levels (field_shapes fs) = ap (λ gs. shapes_levels (field_shapes (map field_of gs))) c.deref-in-Struct.ensures.value in
     (omega (arith, low, same), tt)
 
@@ -274,9 +298,9 @@ pub containers::read_enum-read_payload-requires : goal.containers::read_enum-rea
 containers::read_enum-read_payload-requires t c =
     let asked = c.requires.1.1 in
     let cs = map choice_of c.args.variants.now.entries in
-    let v = c.in-Some-variant_called in
+    let v = c.in_ok-number-in-Member in
     let chosen : Choice = choice_of (v.number, v.variant.now) in
-    let called : choice_called c.as_str.result.now cs ≡ Some chosen = sym c.variant_called.ensures ∙ ap (option_map (λ v. choice_of (v.0, v.1.now))) v.is in
+    let called : choice_called c.as_str.result.now cs ≡ Some chosen = v.ensures.ok in
     let low : levels (payload_shape (payload_of v.variant.now.value)) ≤ 33 =
     variant_levels c.args.registry.now asked.1.0 c.args.name.now asked.1.1 cs asked.0 c.as_str.result.now chosen called in
     (omega (arith, low), tt)

@@ -8,8 +8,8 @@ use Rattle.bcs_value_tree.specs.declared.value.Value.{Signed}
 use Rattle.bcs_json_leaves.proofs.Whole.{signed_told, tree_signed, widen}
 use Rattle.bcs_json_leaves.proofs.leaves.read_signed.Goals as goal
 
-pub returns : goal.returns
-returns c =
+pub returns-clause-reads : goal.returns-clause-reads
+returns-clause-reads c =
     let z = c.in_ok-signed_of.field-0 in
     let told = c.in_ok-signed_of.ensures.ok in
     signed_told (width_of c.args.width) (view c.args.json) z told.0 told.1 ∙ ap Ok (sym (tree_signed z))

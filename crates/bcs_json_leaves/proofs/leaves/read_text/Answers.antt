@@ -4,5 +4,5 @@ use Rattle.bcs_json_laws.specs.Reading as spec
 use Rattle.bcs_json_leaves.proofs.Texts.{text_read}
 use Rattle.bcs_json_leaves.proofs.leaves.read_text.Goals as goal
 
-pub returns-in-String : goal.returns-in-String
-returns-in-String c = ap (λ j. spec.read_text (view j)) c.in-String.is ∙ text_read c.in-String.text
+pub returns-in-String-clause-reads : goal.returns-in-String-clause-reads
+returns-in-String-clause-reads c = ap (λ j. spec.read_text (view j)) c.in-String.is ∙ text_read c.in-String.text

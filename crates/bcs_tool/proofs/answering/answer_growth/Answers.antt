@@ -10,8 +10,8 @@ pub returns-in-Ok : goal.returns-in-Ok
 returns-in-Ok c =
     let work = c.args.work.now in
     let is = c.in-Ok.ensures.ok in
-    IfOk-weaker c.grown.result _ _ (λ a made bytes. same_answer work bytes 0 a.status _ a.output.items made.0 made.1
-    (grown is.0 is.1 c.requires is.2 is.3 is.4)) c.grown.ensures
+    IfOk-weaker c.told.result _ _ (λ a made bytes. same_answer work bytes 0 a.status _ a.output.items made.0 made.1
+    (grown is.0 is.1 c.requires is.2 is.3 is.4)) c.told.ensures
 
 pub returns-in-Err : goal.returns-in-Err
 returns-in-Err c =

@@ -1,4 +1,4 @@
-use Rattle.std.proofs.Common.{◌+◌, ◌++◌, arith, take}
+use Rattle.std.proofs.Common.{◌+◌, ◌++◌, ◌∙◌, arith, take}
 use Rattle.std.proofs.lemmas.List.{length-append, length-take}
 use Rattle.bcs_decode_sources.proofs.TakingLemmas.{Took-then}
 use Rattle.bcs_tool_files.proofs.taking.take_all.Goals as goal
@@ -22,4 +22,5 @@ returns-then-is_err-clause-memory g c is =
       l.bytes.items ++ got,
       Took-then g.S.ByteSource.content g.S.ByteSource.is_failed g.S.ByteSource.allowance c.args.input.now l.input c.next.new.self l.bytes.items got l.invariant.front now.2,
       omega (arith, length-append l.bytes.items got, length-take c.in-Ok.count c.next.new.buf),
+      now.2.kept ∙ now.1,
     )

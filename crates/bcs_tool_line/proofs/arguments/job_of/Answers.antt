@@ -16,22 +16,29 @@ unwrap_or-option_map : {X Y : Type 0} (f : X → Y) (o : Option X) (d : X)
 unwrap_or-option_map f None d = refl
 unwrap_or-option_map f (Some x) d = refl
 
+-- the texts of one word or of the other
+either : (o p q : Option (Bor (List ℕ))) (s t : Option (List ℕ)) → q ≡ option_or o p → option_map (λ t. t.now) o ≡ s → option_map (λ t. t.now) p ≡ t
+    → option_map (λ t. t.now) q ≡ option_or s t
+either o p q s t is one other = ap (option_map (λ t. t.now)) is ∙ (option_map-option_or _ o p ∙ ap₂ option_or one other)
+
 pub returns : goal.returns
 returns c =
     let f = found_of c.args.given.now in
     record {
       same_command = refl;
-      registry = c.in_ok-text_of.ensures ∙ ap text_or_empty (ap (option_map (λ t. t.now)) c.or.ensures
-          ∙ (option_map-option_or _ _ _ ∙ ap₂ option_or (c.get_str.ensures ∙ first_value-rows f (codes "REG"))
-          (c.get_str-2.ensures ∙ first_value-rows f (codes "OLD"))));
-      second = c.in_ok-text_of-2.ensures ∙ ap text_or_empty (c.get_str-3.ensures ∙ first_value-rows f (codes "NEW"));
-      format = c.in_ok-text_of-3.ensures ∙ ap text_or_empty (c.get_str-4.ensures ∙ first_value-rows f (codes "FORMAT"));
-      path = c.in_ok-text_of-4.ensures ∙ ap text_or_empty (c.get_str-5.ensures ∙ first_value-rows f (codes "PATH"));
-      file = c.in_ok-file_name.ensures ∙ (c.get_str-6.ensures ∙ first_value-rows f (codes "FILE"));
+      registry = c.in_ok-text_of.ensures ∙ ap text_or_empty (either c.get_str.result c.get_str-2.result c.or.result _ _ c.or.ensures (c.get_str.ensures ∙ first_value-rows f (codes "REG"))
+          (c.get_str-2.ensures ∙ first_value-rows f (codes "OLD")));
+      second = c.in_ok-text_of-2.ensures ∙ ap text_or_empty (either c.get_str-3.result c.get_str-4.result c.or-2.result _ _ c.or-2.ensures (c.get_str-3.ensures ∙ first_value-rows f (codes "NEW"))
+          (c.get_str-4.ensures ∙ first_value-rows f (codes "A")));
+      format = c.in_ok-text_of-3.ensures ∙ ap text_or_empty (c.get_str-5.ensures ∙ first_value-rows f (codes "FORMAT"));
+      path = c.in_ok-text_of-4.ensures ∙ ap text_or_empty (c.get_str-6.ensures ∙ first_value-rows f (codes "PATH"));
+      file = c.in_ok-file_name.ensures ∙ either c.get_str-7.result c.get_str-8.result c.or-3.result _ _ c.or-3.ensures (c.get_str-7.ensures ∙ first_value-rows f (codes "FILE"))
+          (c.get_str-8.ensures ∙ first_value-rows f (codes "B"));
       raw = c.eq.ensures ∙ ap (λ t. bytes_eq t (codes "true"))
           (ap (λ (t : Bor (List ℕ)). t.now) c.unwrap_or.ensures
-          ∙ (unwrap_or-option_map (λ t. t.now) c.get_str-7.result _
-          ∙ ap text_or_empty (c.get_str-7.ensures ∙ first_value-rows f (codes "raw"))));
+          ∙ (unwrap_or-option_map (λ t. t.now) c.get_str-9.result _
+          ∙ ap text_or_empty (c.get_str-9.ensures ∙ first_value-rows f (codes "raw"))));
+      limits = c.limits_of.ensures;
     }
 
 pub returns-in_err-text_of : goal.returns-in_err-text_of

@@ -1,9 +1,10 @@
 use Rattle.std.proofs.Common.{◌∙◌, sym, rules}
-use Rattle.clap.specs.Words.{app_of}
+use Rattle.clap.specs.Words.{app_of, found_of, rows_of}
 use Rattle.bcs_tool_words.specs.CommandLine.{texts_of}
 use Rattle.bcs_tool_line.specs.LineFaults.{IsFaultOf}
 use Rattle.bcs_tool_line.proofs.LineFaultLemmas.{fault_of_error, memory_alone, taken_as}
-use Rattle.bcs_tool_line.proofs.CommandNames.{met_is_named}
+use Rattle.bcs_tool_line.proofs.CommandNames.{met_is_named, met_job}
+use Rattle.bcs_tool_line.proofs.CommandOptions.{met_limits}
 use Rattle.bcs_tool_line.proofs.command_line.line.Goals as goal
 use Rattle.bcs_tool_line.proofs.command_line.line.Goals.{Joined-error}
 
@@ -24,6 +25,13 @@ unreachable-requires-in_default-named c =
     met_is_named definition words c.in-Ok.matches c.in-Some.name.now c.in_ok-definition.ensures c.in-Ok.ensures.matches
     (taken_as definition words c.in_ok-definition.ensures c.in-Ok.ensures.kinds)
     c.in-Some.ensures.name (sym c.named.ensures ∙ c.in_default-named.is)
+
+pub job_of-requires : goal.job_of-requires
+job_of-requires c =
+    let words = texts_of c.args.words.now in
+    let definition = app_of c.in_ok-definition.definition in
+    met_limits definition words c.in-Ok.matches (rows_of (found_of c.in-Some.given.now)) c.in_ok-definition.ensures c.in-Ok.ensures.matches
+    (taken_as definition words c.in_ok-definition.ensures c.in-Ok.ensures.kinds) c.in-Some.ensures.rows
 
 pub returns-clause-taken : goal.returns-clause-taken
 returns-clause-taken c =
@@ -60,7 +68,10 @@ pub returns-in_err-job_of-clause-good : goal.returns-in_err-job_of-clause-good
 returns-in_err-job_of-clause-good c = search rules
 
 pub returns-clause-job : goal.returns-clause-job
-returns-clause-job c = search rules
+returns-clause-job c =
+    met_job (app_of c.in_ok-definition.definition) (texts_of c.args.words.now) c.in-Ok.matches c.in-Some.name.now (rows_of (found_of c.in-Some.given.now))
+    c.in-Some-named.command c.in_ok-job_of.field-0 c.in_ok-definition.ensures c.in-Ok.ensures.matches c.in-Some.ensures.name c.in-Some.ensures.rows
+    c.in-Some-named.ensures c.in_ok-job_of.ensures
 
 pub returns-clause-fault : goal.returns-clause-fault
 returns-clause-fault c = search rules

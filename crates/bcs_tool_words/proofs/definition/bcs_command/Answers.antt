@@ -21,8 +21,14 @@ returns c =
     ∙ ap wants_command (ap app_of_fields c.about.ensures ∙ c.new.ensures.app) in
     let check = added _ _ _ c.in_ok-subcommand.ensures
     c.in_ok-check_command.ensures.global top c.in_ok-check_command.ensures.app in
-    let encode = added _ _ _ c.in_ok-subcommand-2.ensures
-    c.in_ok-encode_command.ensures.global check c.in_ok-encode_command.ensures.app in
-    IfOk-weaker c.subcommand-3.result _ _
-    (λ r h. added _ _ r h c.in_ok-grows_command.ensures.global encode c.in_ok-grows_command.ensures.app)
-    c.subcommand-3.ensures
+    let grows = added _ _ _ c.in_ok-subcommand-2.ensures
+    c.in_ok-grows_command.ensures.global check c.in_ok-grows_command.ensures.app in
+    let encode = added _ _ _ c.in_ok-subcommand-3.ensures
+    c.in_ok-encode_command.ensures.global grows c.in_ok-encode_command.ensures.app in
+    let decode = added _ _ _ c.in_ok-subcommand-4.ensures
+    c.in_ok-decode_command.ensures.global encode c.in_ok-decode_command.ensures.app in
+    let normalise = added _ _ _ c.in_ok-subcommand-5.ensures
+    c.in_ok-normalise_command.ensures.global decode c.in_ok-normalise_command.ensures.app in
+    IfOk-weaker c.subcommand-6.result _ _
+    (λ r h. added _ _ r h c.in_ok-same_command.ensures.global normalise c.in_ok-same_command.ensures.app)
+    c.subcommand-6.ensures

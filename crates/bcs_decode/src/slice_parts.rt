@@ -1,0 +1,47 @@
+//! Parts of slices.
+ghost use Rattle.std.specs.Prelude.{◌≡◌, ℕ, Err, IfOk, IfErr, IsOk, map};
+ghost use Rattle.bcs_registry_formats.specs.Container.{of};
+ghost use Rattle.bcs_registry_formats.specs.View.{shape_of};
+ghost use Rattle.bcs_registry_formats.specs.WellFormed.{Admits};
+ghost use Rattle.bcs_value_tree.specs.Tree.{Tree};
+ghost use Rattle.bcs_decode_stops.specs.declared.reason.Reason.{Reason};
+ghost use Rattle.bcs_decode_laws.specs.Accepting.{Accepts};
+ghost use Rattle.bcs_decode_laws.specs.Stopping.{Stops};
+ghost use Rattle.bcs_decode_parts.specs.Parts.{part_at};
+ghost use Rattle.bcs_decode_parts.specs.Steps.{GivesPart, step_of};
+
+use crate::from_slice::scan;
+use bcs_decode_parts::ahead::Ahead;
+use bcs_decode_parts::walking::walk;
+use bcs_decode_parts::{Part, Step};
+use bcs_decode_stops::Stop;
+use bcs_registry::{Format, Registry};
+use bcs_value::Limits;
+
+/// The part of the value at the front of the input to which the steps lead, as a slice of the input. None exactly where
+/// they lead nowhere. No memory is taken.
+///
+/// A `Stop` is that of [`scan`](crate::scan): a part is handed out only where a value stands at the front, and what comes
+/// after the value isn't read.
+pub fn part<'a>(
+    registry: &Registry,
+    format: &Format,
+    limits: &Limits,
+    bytes: &'a [u8],
+    path: &[Step],
+) -> Result<Option<Part<'a>>, Stop>
+    requires admitted { Admits registry.now (shape_of format.now) }
+    ensures found { IfOk result (λ r. (n : ℕ) × (c : Tree) × Accepts registry.now limits.now (shape_of format.now) bytes.now n c
+        × GivesPart registry.now bytes.now (part_at registry.now (map step_of path.now) (of (shape_of format.now)) c) r) }
+    ensures only { (n : ℕ) (c : Tree) → Accepts registry.now limits.now (shape_of format.now) bytes.now n c → IsOk result }
+    ensures stops { IfErr result (λ stop. Stops registry.now limits.now (shape_of format.now) bytes.now stop.reason stop.place) }
+    ensures stopped { (e : Reason) (o : ℕ) → Stops registry.now limits.now (shape_of format.now) bytes.now e o → result ≡ Err (record { reason = e; place = o }) }
+{
+    scan(registry, format, limits, bytes)?;
+    let ahead = Ahead {
+        bytes,
+        depth: limits.depth(),
+        nodes: limits.nodes(),
+    };
+    Ok(walk(registry, format, &ahead, path))
+}

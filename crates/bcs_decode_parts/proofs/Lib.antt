@@ -1,0 +1,14 @@
+pub mod Arrivals
+pub mod FormatRows
+pub mod Growing
+pub mod HolderSteps
+pub mod KeysLead
+pub mod MapSteps
+pub mod Nowhere
+pub mod Numbers
+pub mod Paths
+pub mod RowSteps
+pub mod Rows
+pub mod Skips
+pub mod Standing
+pub mod WorkedRows

@@ -1,0 +1,98 @@
+-- A value that stands ahead is gone past.
+use Rattle.std.proofs.Common.{◌≡◌, ℕ, suc, ◌-◌, List, ◌++◌, length, take, drop, Ok, Err, refl, sym, ap, ◌∙◌, arith}
+use Rattle.std.proofs.lemmas.List.{length-append, take-append-drop, take_at, drop_at}
+use Rattle.bcs_registry_formats.specs.Shape as shape
+use Rattle.bcs_registry_formats.specs.Shape.{Shape}
+use Rattle.bcs_registry_formats.specs.Container.{Entries, of}
+use Rattle.bcs_value_tree.specs.Tree.{Tree, nodes}
+use Rattle.bcs_value_laws.specs.Limits.{Bounds}
+use Rattle.bcs_encode_laws.specs.Plain.{plain}
+use Rattle.bcs_decode_stops.specs.declared.reason.Reason.{Reason}
+use Rattle.bcs_decode_laws.specs.Accepting.{Accepts}
+use Rattle.bcs_decode_laws.specs.Reading.{Parser, Read, items_here, shape_here, value_here, node, chain, skipping}
+use Rattle.bcs_decode_laws.proofs.Combine.{parts}
+use Rattle.bcs_decode_laws.proofs.Decodable.{decodable}
+use Rattle.bcs_decode_laws.proofs.Verdicts.{accepts_skips}
+use Rattle.bcs_decode_cursor.specs.Passing.{skip}
+use Rattle.bcs_decode_cursor.specs.declared.cursor.Cursor.{Cursor}
+use Rattle.bcs_decode_cursor.proofs.Passings.{bare}
+use Rattle.bcs_decode_parts.specs.declared.ahead.Ahead.{Ahead}
+use Rattle.bcs_decode_parts.specs.Fronts.{Fronts}
+
+module _ (registry : Entries) (ahead : Ahead) where
+  module _ (s : Shape) (t : Tree) (after : List ℕ) (h : Fronts registry ahead (of s) t after) where
+    abbrev own : List ℕ
+    own = plain registry t (of s)
+
+    accepted : Accepts registry (record { depth = ahead.depth; nodes = ahead.nodes }) s ahead.bytes.now (length own) t
+    accepted = record {
+      sound = record {
+        fit = h.good.sound.fit;
+        distinct = h.good.sound.distinct;
+        depth_holds = h.good.sound.depth_holds;
+        nodes_hold = h.few;
+        lengths = h.good.sound.lengths;
+      };
+      canonical = h.good.canonical;
+      within = omega (arith, ap length h.is, length-append own after);
+      is = ap (take (length own)) h.is ∙ take_at own after (length own) refl;
+    }
+
+    -- it is gone past, to its end
+    pub skipped : skip registry ahead.depth s 0 ahead.nodes ahead.bytes.now ≡ Ok (tt, length own, ahead.nodes - nodes t, after)
+    skipped =
+        accepts_skips registry (record { depth = ahead.depth; nodes = ahead.nodes }) s ahead.bytes.now (length own) t accepted
+        ∙ ap (λ (c : List ℕ). Ok (tt, length own, ahead.nodes - nodes t, c)) (ap (drop (length own)) h.is ∙ drop_at own after (length own) refl)
+
+  -- ---- what a cursor over the bytes goes past
+
+  -- the cursor stands at the front of what lies ahead
+  pub record Over (cursor : Cursor) : Type 0 where
+    pub rest : cursor.rest.now ≡ ahead.bytes.now
+    pub place : cursor.place ≡ 0
+    pub nodes_are : cursor.nodes ≡ ahead.nodes
+
+  abbrev from_front : {A : Type 0} → Parser A → Read A
+  from_front f = f 0 ahead.nodes ahead.bytes.now
+
+  at_front : {A : Type 0} (f : Parser A) (cursor : Cursor) → Over cursor → f cursor.place cursor.nodes cursor.rest.now ≡ from_front f
+  at_front f cursor o = rw (o.place, o.nodes_are, o.rest) refl
+
+  -- what was gone past to an end was gone past to this one
+  pub passed : (f : Parser (Unit {0})) (cursor : Cursor) (q l p m : ℕ) (c after : List ℕ) → Over cursor → f cursor.place cursor.nodes cursor.rest.now ≡ Ok (tt, q, l, c)
+      → from_front f ≡ Ok (tt, p, m, after) → c ≡ after
+  passed f cursor q l p m c after o h k = (parts {A = Unit {0}} tt tt q p l m c after (sym h ∙ at_front f cursor o ∙ k)).3
+
+  pub stuck : (f : Parser (Unit {0})) (cursor : Cursor) (p m : ℕ) (e : Reason × ℕ) (after : List ℕ) → Over cursor → f cursor.place cursor.nodes cursor.rest.now ≡ Err e
+      → from_front f ≡ Ok (tt, p, m, after) → ⊥
+  stuck f cursor p m e after o h k = let same = sym h ∙ at_front f cursor o ∙ k in absurd cc
+
+-- ---- values in a row
+
+-- an array is a node, and its elements in a row
+array_is : (registry : Entries) (d : ℕ) (s : Shape) (n p m : ℕ) (b : List ℕ) → skip registry d (shape.array s n) p (suc m) b ≡ items_here skipping (skip registry d s) n p m b
+unfolding value_here shape_here node chain
+array_is registry d s n p m b = bare (items_here skipping (value_here skipping registry d s) n p m b)
+
+-- the elements of an array that stands ahead are gone past
+pub row_skipped : (registry : Entries) (ahead : Ahead) (s : Shape) (n : ℕ) (t : Tree) (after : List ℕ) → Fronts registry ahead (of (shape.array s n)) t after
+    → items_here skipping (skip registry ahead.depth s) n 0 ahead.nodes ahead.bytes.now ≡ Ok (tt, length (plain registry t (of (shape.array s n))), suc ahead.nodes - nodes t, after)
+row_skipped registry ahead s n t after h =
+    let more : Ahead = record ahead { nodes = suc ahead.nodes } in
+    sym (array_is registry ahead.depth s n 0 ahead.nodes ahead.bytes.now)
+    ∙ skipped registry more (shape.array s n) t after (record { good = h.good; few = (let k = h.few in omega (arith, k)); is = h.is })
+
+-- ---- the whole
+
+-- an accepted value stands ahead
+pub accepted_stands : (registry : Entries) (limits : Bounds) (s : Shape) (b : List ℕ) (n : ℕ) (c : Tree) (ahead : Ahead) → Accepts registry limits s b n c
+    → ahead.bytes.now ≡ b → ahead.depth ≡ limits.depth → ahead.nodes ≡ limits.nodes → Fronts registry ahead (of s) c (drop n b)
+accepted_stands registry limits s b n c ahead h is deep many =
+    let sound = h.sound in
+    let few = sound.nodes_hold in
+    let below = sound.depth_holds in
+    record {
+      good = decodable registry ahead.depth (of s) c sound.fit h.canonical (omega (arith, below, deep)) sound.lengths;
+      few = omega (arith, few, many);
+      is = is ∙ sym (take-append-drop n b) ∙ ap (λ (x : List ℕ). x ++ drop n b) h.is;
+    }

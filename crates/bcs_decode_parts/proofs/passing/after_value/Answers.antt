@@ -1,0 +1,14 @@
+use Rattle.bcs_registry_formats.specs.View.{shape_of}
+use Rattle.bcs_decode_cursor.specs.Passing.{skip}
+use Rattle.bcs_decode_parts.proofs.Skips.{skipped, passed, stuck}
+use Rattle.bcs_decode_parts.proofs.passing.after_value.Goals as goal
+
+pub returns-in-Ok : goal.returns-in-Ok
+returns-in-Ok c = λ t after h.
+    (let r = c.args.registry.now in
+    passed r c.args.ahead.now (skip r c.args.ahead.now.depth (shape_of c.args.format.now)) c.over-cursor.result _ _ _ _ _ after (record { rest = c.over-cursor.ensures.rest; place = c.over-cursor.ensures.place; nodes_are = c.over-cursor.ensures.nodes }) c.in-Ok.ensures.passes (skipped r c.args.ahead.now (shape_of c.args.format.now) t after h))
+
+pub returns-in-Err : goal.returns-in-Err
+returns-in-Err c = λ t after h.
+    (let r = c.args.registry.now in
+    stuck r c.args.ahead.now (skip r c.args.ahead.now.depth (shape_of c.args.format.now)) c.over-cursor.result _ _ _ after (record { rest = c.over-cursor.ensures.rest; place = c.over-cursor.ensures.place; nodes_are = c.over-cursor.ensures.nodes }) c.in-Err.ensures.passes (skipped r c.args.ahead.now (shape_of c.args.format.now) t after h))

@@ -1,0 +1,12 @@
+use Rattle.std.proofs.Common.{◌-◌, Option}
+use Rattle.bcs_registry_formats.specs.View.{shape_of}
+use Rattle.bcs_decode_parts.specs.declared.here.Reached.{Reached}
+use Rattle.bcs_decode_parts.proofs.MapSteps.{Finds}
+use Rattle.bcs_decode_parts.proofs.stepping.map_value.Given as goal
+
+-- what is found from here on is found from the first entry on
+abbrev pub invariant-loop : goal.invariant-loop
+invariant-loop l = record {
+  whole : (r : Option Reached) → Finds l.registry l.ahead (shape_of l.key) (shape_of l.content) l.wanted l.rest (l.count - l.counter) r
+      → Finds l.registry l.ahead (shape_of l.key) (shape_of l.content) l.wanted l.initial.rest l.count r;
+}

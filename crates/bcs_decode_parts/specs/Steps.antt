@@ -1,0 +1,21 @@
+-- What a clause reads of steps and parts.
+use Rattle.std.specs.Prelude.{◌≡◌, ℕ, List, length, take, drop, Option, Some, None}
+use Rattle.bcs_registry_formats.specs.Container.{Entries}
+use Rattle.bcs_encode_laws.specs.Plain.{plain}
+use Rattle.bcs_decode_parts.specs.declared.step.Step.{Step}
+use Rattle.bcs_decode_parts.specs.declared.step.Step.TheVariants.{Item, Inner, Key}
+use Rattle.bcs_decode_parts.specs.declared.part.Part.{Part}
+use Rattle.bcs_decode_parts.specs.Parts as parts
+
+abbrev pub step_of : Step → parts.Step
+step_of (Item i) = parts.item i
+step_of Inner = parts.inner
+step_of (Key k) = parts.key k.now
+
+-- what is handed out is the part, with its place and its bytes, which are the input's from there on
+abbrev pub GivesPart : Entries → List ℕ → Option parts.Part → Option Part → Type 0
+GivesPart registry bytes None None = Unit {0}
+GivesPart registry bytes (Some x) (Some r) =
+    (r.place ≡ x.place) × (r.bytes.now ≡ plain registry x.value x.content) × (r.bytes.now ≡ take (length r.bytes.now) (drop x.place bytes))
+GivesPart registry bytes None (Some r) = ⊥
+GivesPart registry bytes (Some x) None = ⊥

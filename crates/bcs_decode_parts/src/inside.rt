@@ -1,0 +1,67 @@
+//! What stands inside a value.
+ghost use Rattle.bcs_registry_formats.specs.Container.{of};
+ghost use Rattle.bcs_registry_formats.specs.View.{shape_of};
+ghost use Rattle.bcs_decode_parts.specs.Here.{content_of};
+ghost use Rattle.bcs_decode_parts.specs.Inside.{Opens};
+
+use crate::here::Here;
+use bcs_registry::{Format, Named, VariantFormat};
+use std::collections::BTreeMap;
+
+/// What stands inside a value, to which steps may lead.
+#[derive(Clone, Copy)]
+pub enum Inside<'r> {
+    Nothing,
+    Option(&'r Format),
+    Container(&'r str),
+    Variants(&'r BTreeMap<u32, Named<VariantFormat>>),
+    List(&'r Format),
+    Array(&'r Format, u64),
+    Tuple(&'r [Format]),
+    Fields(&'r [Named<Format>]),
+    Map(&'r Format, &'r Format),
+}
+
+/// What stands inside a value of the format.
+fn inside_format(format: &Format) -> Inside<'_>
+    ensures { Opens (of (shape_of format.now)) result }
+{
+    match format {
+        Format::Unit
+        | Format::Bool
+        | Format::I8
+        | Format::I16
+        | Format::I32
+        | Format::I64
+        | Format::I128
+        | Format::U8
+        | Format::U16
+        | Format::U32
+        | Format::U64
+        | Format::U128
+        | Format::F32
+        | Format::F64
+        | Format::Char
+        | Format::Str
+        | Format::Bytes => Inside::Nothing,
+        Format::TypeName(name) => Inside::Container(name.as_str()),
+        Format::Opt(content) => Inside::Option(content),
+        Format::Seq(element) => Inside::List(element),
+        Format::Map(key, content) => Inside::Map(key, content),
+        Format::Tuple(formats) => Inside::Tuple(formats),
+        Format::TupleArray(element, size) => Inside::Array(element, *size),
+    }
+}
+
+/// What stands inside what stands here.
+pub fn inside_of<'r>(here: &Here<'r>) -> Inside<'r>
+    ensures { Opens (content_of here.now) result }
+{
+    match *here {
+        Here::Unit => Inside::Nothing,
+        Here::Value(format) => inside_format(format),
+        Here::Tuple(formats) => Inside::Tuple(formats),
+        Here::Fields(fields) => Inside::Fields(fields),
+        Here::Variants(variants) => Inside::Variants(variants),
+    }
+}

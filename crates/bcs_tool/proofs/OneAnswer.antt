@@ -1,0 +1,275 @@
+-- A job has at most one answer to an input.
+use Rattle.std.proofs.Common.{◌≡◌, ◌<◌, ◌∙◌, ◌⊎◌, inl, inr, ℕ, List, Bool, true, false, Ok, codes, length, string_bytes, ap, ap₂, arith, refl, sym, subst}
+use Rattle.std.proofs.lemmas.Bool.{true≢false}
+use Rattle.serde_json.specs.Data.{depth}
+use Rattle.serde_json.specs.Written.{compact_text}
+use Rattle.bcs_registry_formats.specs.Container.{Entries}
+use Rattle.bcs_registry_formats.specs.Container as container
+use Rattle.bcs_registry_formats.specs.Grows.{Grows}
+use Rattle.bcs_registry_formats.specs.Ranges.{IsOrderly}
+use Rattle.bcs_registry_formats.specs.Shape.{Shape}
+use Rattle.bcs_value_laws.proofs.Equivalence.{same-refl}
+use Rattle.bcs_value_tree.specs.Tree.{Tree}
+use Rattle.bcs_value_laws.specs.Same.{Same}
+use Rattle.bcs_encode_laws.proofs.FormLaws.{bytes_decide_same, forms_same}
+use Rattle.bcs_encode_laws.specs.Encodes.{Encodes, IsForm}
+use Rattle.bcs_decode_laws.specs.Accepting.{Accepts}
+use Rattle.bcs_decode_laws.specs.Stopping.{StopsAll}
+use Rattle.bcs_decode_laws.proofs.Verdicts.{accepts_once_is, no_two_verdicts_of_all_are, stops_all_once_is}
+use Rattle.bcs_decode_stops.specs.declared.reason.Reason.{Reason}
+use Rattle.bcs_json_faults.specs.declared.json_fault.JsonFault.{JsonFault}
+use Rattle.bcs_json_laws.specs.Headline.{Compares, HasBytes, Normalises, ShowsBytes}
+use Rattle.bcs_json_laws.specs.JsonContent.{of}
+use Rattle.bcs_json_laws.specs.Shown.{shown}
+use Rattle.bcs_json_laws.specs.Texts.{Denotes, RefusesText, nesting_limit}
+use Rattle.bcs_json_laws.proofs.Lowest.{shown_is_lowest}
+use Rattle.bcs_json_laws.proofs.OneAnswer as text
+use Rattle.bcs_json_laws.proofs.TextLaws.{denoted_is_not_refused, denotes_once}
+use Rattle.bcs_registry_laws.proofs.OneText.{same_registry}
+use Rattle.bcs_tool_files.specs.declared.work.Work.{Work}
+use Rattle.bcs_tool_line.specs.declared.command.Command.{Command}
+use Rattle.bcs_tool_line.specs.declared.command.Command.TheVariants.{Check, Encode, Decode, Normalise}
+use Rattle.bcs_tool_line.specs.declared.command.Command.TheVariants as command
+use Rattle.bcs_tool.specs.AnswerLaws.{OneAnswer}
+use Rattle.bcs_tool.specs.Answers.{Answers, IsAsked, count_line, json_fault_name, line_of, printed, refusal_line, stop_line}
+use Rattle.bcs_tool.specs.Answers as answer
+use Rattle.bcs_tool.specs.Input as given
+use Rattle.bcs_tool.specs.Judging.{IsFormat, IsRegistry, RefusesAt, RefusesFormatted, job_fault_name}
+use Rattle.bcs_tool.specs.declared.job_fault.JobFault.{JobFault}
+use Rattle.bcs_tool.proofs.OneRefusal.{not_checked, not_formatted, not_grown, one_format_word, one_refusal}
+
+-- the same status and the same output
+abbrev Agrees : ℕ → List ℕ → ℕ → List ℕ → Type 0
+Agrees s p z q = (s ≡ z) × (p ≡ q)
+
+-- the bytes that an input gives are its own
+one_given : (raw : Bool) (input b c : List ℕ) → given.Gives raw input b → given.Gives raw input c → b ≡ c
+one_given true input b c h k = h ∙ sym k
+one_given false input b c h k = let same : Ok b ≡ Ok c = sym h ∙ k in cc
+
+-- how `same` answers
+abbrev word_of : Bool → List ℕ
+word_of true = line_of (codes "equal")
+word_of false = line_of (codes "different")
+
+abbrev status_of : Bool → ℕ
+status_of true = 0
+status_of false = 1
+
+module _ (work : Work) (input : List ℕ) where
+  -- ---- what is answered at a registry and a format
+
+  module _ (r : Entries) (f : Shape) where
+    abbrev Refused : List ℕ → ℕ → List ℕ → Type 0
+    Refused words s p = (e : JsonFault) × RefusesText r work.limits f words e × (s ≡ 2) × (p ≡ refusal_line (json_fault_name e))
+
+    abbrev Encoded : ℕ → List ℕ → Type 0
+    Encoded s p = ((b : List ℕ) × HasBytes r work.limits f input b × (s ≡ 0) × (p ≡ printed work.raw b)) ⊎ Refused input s p
+
+    abbrev Normalised : ℕ → List ℕ → Type 0
+    Normalised s p = ((t : List ℕ) × Normalises r work.limits f input t × (s ≡ 0) × (p ≡ line_of t)) ⊎ Refused input s p
+
+    abbrev Compared : ℕ → List ℕ → Type 0
+    Compared s p = ((b : Bool) × Compares r work.limits f work.second.items input b × (s ≡ status_of b) × (p ≡ word_of b))
+        ⊎ (Refused work.second.items s p
+        ⊎ ((t : Tree) × Denotes r work.limits f work.second.items t × Refused input s p))
+
+    abbrev Shown : List ℕ → ℕ → List ℕ → Type 0
+    Shown bytes s p = ((t : List ℕ) × ShowsBytes r work.limits f bytes t × (s ≡ 0) × (p ≡ line_of t))
+        ⊎ (((e : Reason) × (o : ℕ) × StopsAll r work.limits f bytes e o × (s ≡ 2) × (p ≡ stop_line e o))
+        ⊎ ((c : Tree) × Accepts r work.limits f bytes (length bytes) c × (nesting_limit < depth (shown r c (of f))) × (s ≡ 2) × (p ≡ refusal_line (codes "TooNested"))))
+
+    abbrev Decoded : ℕ → List ℕ → Type 0
+    Decoded s p = ((bytes : List ℕ) × given.Gives work.raw input bytes × Shown bytes s p)
+        ⊎ (((bytes : List ℕ) → given.Gives work.raw input bytes → ⊥) × (s ≡ 2) × (p ≡ refusal_line (codes "BadHex")))
+
+  -- ---- what is answered by each command
+
+  abbrev Valued : (Entries → Shape → ℕ → List ℕ → Type 0) → ℕ → List ℕ → Type 0
+  Valued P s p = (r : Entries) × (f : Shape) × IsRegistry work.registry.items r × IsFormat r (string_bytes work.format) f × P r f s p
+
+  abbrev Late : Command → ℕ → List ℕ → Type 0
+  Late Check s p = (r : Entries) × IsRegistry work.registry.items r × (s ≡ 0) × (p ≡ count_line (length r))
+  Late command.Grows s p = (r : Entries) × (n : Entries) × IsRegistry work.registry.items r × IsRegistry work.second.items n × Grows r n × (s ≡ 0) × (p ≡ line_of (codes "grows"))
+  Late Encode s p = Valued Encoded s p
+  Late Decode s p = Valued Decoded s p
+  Late Normalise s p = Valued Normalised s p
+  Late command.Same s p = Valued Compared s p
+
+  abbrev Early : Command → ℕ → List ℕ → Type 0
+  Early c s p = (fault : JobFault) × RefusesAt c work fault × (s ≡ 2) × (p ≡ refusal_line (job_fault_name fault))
+
+  valued : (P : Entries → Shape → ℕ → List ℕ → Type 0) (c : Command) (r : Entries) (f : Shape) (s : ℕ) (p : List ℕ) → IsAsked work input c r f → P r f s p → Valued P s p
+  valued P c r f s p asked is = (r, f, asked.asks.is_registry, asked.asks.is_format, is)
+
+  by : (c : Command) (s : ℕ) (p : List ℕ) → work.command ≡ c → Late c s p → Early work.command s p ⊎ Late work.command s p
+  by c s p is late = inr (subst (λ k. Late k s p) (sym is) late)
+
+  told : {s : ℕ} {p : List ℕ} → Answers work input s p → Early work.command s p ⊎ Late work.command s p
+  told (answer.refused_early fault h) = inl (fault, h, refl, refl)
+  told (answer.checked r c h) = by Check 0 (count_line (length r)) c (r, h, refl, refl)
+  told (answer.grown r n c h k g) = by command.Grows 0 (line_of (codes "grows")) c (r, n, h, k, g, refl, refl)
+  told (answer.encoded r f b a h) = by Encode 0 (printed work.raw b) a.is_command (valued Encoded Encode r f 0 (printed work.raw b) a (inl (b, h, refl, refl)))
+  told (answer.normalised r f t a h) = by Normalise 0 (line_of t) a.is_command (valued Normalised Normalise r f 0 (line_of t) a (inl (t, h, refl, refl)))
+  told (answer.refused c r f e (inl is) a h) = by Encode 2 (refusal_line (json_fault_name e)) (a.is_command ∙ is) (valued Encoded c r f 2 (refusal_line (json_fault_name e)) a (inr (e, h, refl, refl)))
+  told (answer.refused c r f e (inr is) a h) = by Normalise 2 (refusal_line (json_fault_name e)) (a.is_command ∙ is) (valued Normalised c r f 2 (refusal_line (json_fault_name e)) a (inr (e, h, refl, refl)))
+  told (answer.equal r f a h) = by command.Same 0 (line_of (codes "equal")) a.is_command (valued Compared command.Same r f 0 (line_of (codes "equal")) a (inl (true, h, refl, refl)))
+  told (answer.different r f a h) = by command.Same 1 (line_of (codes "different")) a.is_command (valued Compared command.Same r f 1 (line_of (codes "different")) a (inl (false, h, refl, refl)))
+  told (answer.first_refused r f e a h) = by command.Same 2 (refusal_line (json_fault_name e)) a.is_command (valued Compared command.Same r f 2 (refusal_line (json_fault_name e)) a (inr (inl (e, h, refl, refl))))
+  told (answer.second_refused r f t e a d h) = by command.Same 2 (refusal_line (json_fault_name e)) a.is_command (valued Compared command.Same r f 2 (refusal_line (json_fault_name e)) a (inr (inr (t, d, (e, h, refl, refl)))))
+  told (answer.decoded r f b t a g h) = by Decode 0 (line_of t) a.is_command (valued Decoded Decode r f 0 (line_of t) a (inl (b, g, inl (t, h, refl, refl))))
+  told (answer.stopped r f b e o a g h) = by Decode 2 (stop_line e o) a.is_command (valued Decoded Decode r f 2 (stop_line e o) a (inl (b, g, inr (inl (e, o, h, refl, refl)))))
+  told (answer.too_nested r f b c a g h n) = by Decode 2 (refusal_line (codes "TooNested")) a.is_command (valued Decoded Decode r f 2 (refusal_line (codes "TooNested")) a (inl (b, g, inr (inr (c, h, n, refl, refl)))))
+  told (answer.no_bytes r f a h) = by Decode 2 (refusal_line (codes "BadHex")) a.is_command (valued Decoded Decode r f 2 (refusal_line (codes "BadHex")) a (inr (h, refl, refl)))
+
+  -- ---- one of each
+
+  module _ (r : Entries) (f : Shape) (orderly : IsOrderly r) where
+    one_refused : (words : List ℕ) (s z : ℕ) (p q : List ℕ) → Refused r f words s p → Refused r f words z q → Agrees s p z q
+    one_refused words s z p q (e, h, hs, hp) (g, k, ks, kq) =
+        let same : e ≡ g = (text.text_denotes_or_is_refused r work.limits f words orderly).once e g h k in
+        (hs ∙ sym ks, hp ∙ ap (λ (x : JsonFault). refusal_line (json_fault_name x)) same ∙ sym kq)
+
+    not_both : (words : List ℕ) (t : Tree) (s : ℕ) (p : List ℕ) → Denotes r work.limits f words t → Refused r f words s p → ⊥
+    not_both words t s p d h = denoted_is_not_refused r work.limits f words t h.0 d h.1
+
+    -- a text's value and another's are the same tree
+    one_value : (words : List ℕ) (t u : Tree) → Denotes r work.limits f words t → Denotes r work.limits f words u → t ≡ u
+    one_value words t u h k = denotes_once r work.limits f words t u h k
+
+    one_encoding : (b c : List ℕ) → HasBytes r work.limits f input b → HasBytes r work.limits f input c → b ≡ c
+    one_encoding b c h k =
+        let own : Encodes r work.limits f h.value c = subst (λ (t : Tree). Encodes r work.limits f t c) (one_value input k.value h.value k.denoted h.denoted) k.encoded in
+        (bytes_decide_same r work.limits f h.value h.value b c h.encoded own).0 (same-refl h.value)
+
+    one_normal : (t u : List ℕ) → Normalises r work.limits f input t → Normalises r work.limits f input u → t ≡ u
+    one_normal t u h k =
+        let own : IsForm r (container.of f) h.value k.form = subst (λ (v : Tree). IsForm r (container.of f) v k.form) (one_value input k.value h.value k.denoted h.denoted) k.is_form in
+        let same : h.form ≡ k.form = forms_same r (container.of f) h.value h.value h.form k.form h.is_form own (same-refl h.value) in
+        h.is ∙ ap (λ (c : Tree). compact_text (shown r c (of f))) same ∙ sym k.is
+
+    one_encoded : (s z : ℕ) (p q : List ℕ) → Encoded r f s p → Encoded r f z q → Agrees s p z q
+    one_encoded s z p q (inl (b, h, hs, hp)) (inl (c, k, ks, kq)) = (hs ∙ sym ks, hp ∙ ap (printed work.raw) (one_encoding b c h k) ∙ sym kq)
+    one_encoded s z p q (inl (b, h, hs, hp)) (inr k) = absurd (not_both input h.value z q h.denoted k)
+    one_encoded s z p q (inr h) (inl (c, k, ks, kq)) = absurd (not_both input k.value s p k.denoted h)
+    one_encoded s z p q (inr h) (inr k) = one_refused input s z p q h k
+
+    one_normalised : (s z : ℕ) (p q : List ℕ) → Normalised r f s p → Normalised r f z q → Agrees s p z q
+    one_normalised s z p q (inl (t, h, hs, hp)) (inl (u, k, ks, kq)) = (hs ∙ sym ks, hp ∙ ap line_of (one_normal t u h k) ∙ sym kq)
+    one_normalised s z p q (inl (t, h, hs, hp)) (inr k) = absurd (not_both input h.value z q h.denoted k)
+    one_normalised s z p q (inr h) (inl (u, k, ks, kq)) = absurd (not_both input k.value s p k.denoted h)
+    one_normalised s z p q (inr h) (inr k) = one_refused input s z p q h k
+
+    one_comparison : (b c : Bool) → Compares r work.limits f work.second.items input b → Compares r work.limits f work.second.items input c → b ≡ c
+    one_comparison true true h k = refl
+    one_comparison false false h k = refl
+    one_comparison true false h k = absurd (differ h k)
+      where
+        differ : Compares r work.limits f work.second.items input true → Compares r work.limits f work.second.items input false → ⊥
+        differ h k =
+            let one : h.one ≡ k.one = one_value work.second.items h.one k.one h.one_denoted k.one_denoted in
+            let other : h.other ≡ k.other = one_value input h.other k.other h.other_denoted k.other_denoted in
+            let same : Same k.one k.other = subst (λ (t : Tree). Same k.one t) other (subst (λ (t : Tree). Same t h.other) one (h.same.0 refl)) in
+            true≢false (sym (k.same.1 same))
+    one_comparison false true h k = absurd (differ k h)
+      where
+        differ : Compares r work.limits f work.second.items input true → Compares r work.limits f work.second.items input false → ⊥
+        differ h k =
+            let one : h.one ≡ k.one = one_value work.second.items h.one k.one h.one_denoted k.one_denoted in
+            let other : h.other ≡ k.other = one_value input h.other k.other h.other_denoted k.other_denoted in
+            let same : Same k.one k.other = subst (λ (t : Tree). Same k.one t) other (subst (λ (t : Tree). Same t h.other) one (h.same.0 refl)) in
+            true≢false (sym (k.same.1 same))
+
+    one_compared : (s z : ℕ) (p q : List ℕ) → Compared r f s p → Compared r f z q → Agrees s p z q
+    one_compared s z p q (inl (b, h, hs, hp)) (inl (c, k, ks, kq)) =
+        let same = one_comparison b c h k in (hs ∙ ap status_of same ∙ sym ks, hp ∙ ap word_of same ∙ sym kq)
+    one_compared s z p q (inl (b, h, hs, hp)) (inr (inl k)) = absurd (not_both work.second.items h.one z q h.one_denoted k)
+    one_compared s z p q (inl (b, h, hs, hp)) (inr (inr (t, d, k))) = absurd (not_both input h.other z q h.other_denoted k)
+    one_compared s z p q (inr (inl h)) (inl (c, k, ks, kq)) = absurd (not_both work.second.items k.one s p k.one_denoted h)
+    one_compared s z p q (inr (inl h)) (inr (inl k)) = one_refused work.second.items s z p q h k
+    one_compared s z p q (inr (inl h)) (inr (inr (t, d, k))) = absurd (not_both work.second.items t s p d h)
+    one_compared s z p q (inr (inr (t, d, h))) (inl (c, k, ks, kq)) = absurd (not_both input k.other s p k.other_denoted h)
+    one_compared s z p q (inr (inr (t, d, h))) (inr (inl k)) = absurd (not_both work.second.items t z q d k)
+    one_compared s z p q (inr (inr (t, d, h))) (inr (inr (u, e, k))) = one_refused input s z p q h k
+
+    -- ---- of bytes
+
+    one_tree : (bytes : List ℕ) (c d : Tree) → Accepts r work.limits f bytes (length bytes) c → Accepts r work.limits f bytes (length bytes) d → c ≡ d
+    one_tree bytes c d h k = (accepts_once_is r work.limits f bytes (length bytes) (length bytes) c d h k).1
+
+    never_both : (bytes : List ℕ) (c : Tree) (e : Reason) (o : ℕ) → Accepts r work.limits f bytes (length bytes) c → StopsAll r work.limits f bytes e o → ⊥
+    never_both bytes c e o h k = no_two_verdicts_of_all_are r work.limits f bytes c e o h k
+
+    -- what is shown of accepted bytes nests no deeper than a text that is read
+    not_nested : (bytes t : List ℕ) (c : Tree) → ShowsBytes r work.limits f bytes t → Accepts r work.limits f bytes (length bytes) c → nesting_limit < depth (shown r c (of f)) → ⊥
+    not_nested bytes t c h k deep =
+        let same : h.value ≡ c = one_tree bytes h.value c h.accepted k in
+        let lowest = (shown_is_lowest r f h.denoted.read h.value orderly h.denoted.spells) in
+        let within = h.denoted.is.1 in
+        let own : nesting_limit < depth (shown r h.value (of f)) = subst (λ (t : Tree). nesting_limit < depth (shown r t (of f))) (sym same) deep in
+        omega (arith, lowest, within, own)
+
+    one_shown : (bytes : List ℕ) (s z : ℕ) (p q : List ℕ) → Shown r f bytes s p → Shown r f bytes z q → Agrees s p z q
+    one_shown bytes s z p q (inl (t, h, hs, hp)) (inl (u, k, ks, kq)) =
+        let same : h.value ≡ k.value = one_tree bytes h.value k.value h.accepted k.accepted in
+        let text : t ≡ u = h.is ∙ ap (λ (c : Tree). compact_text (shown r c (of f))) same ∙ sym k.is in
+        (hs ∙ sym ks, hp ∙ ap line_of text ∙ sym kq)
+    one_shown bytes s z p q (inl (t, h, hs, hp)) (inr (inl (e, o, k, ks, kq))) = absurd (never_both bytes h.value e o h.accepted k)
+    one_shown bytes s z p q (inl (t, h, hs, hp)) (inr (inr (c, k, n, ks, kq))) = absurd (not_nested bytes t c h k n)
+    one_shown bytes s z p q (inr (inl (e, o, h, hs, hp))) (inl (u, k, ks, kq)) = absurd (never_both bytes k.value e o k.accepted h)
+    one_shown bytes s z p q (inr (inl (e, o, h, hs, hp))) (inr (inl (g, i, k, ks, kq))) =
+        let same = stops_all_once_is r work.limits f bytes e g o i h k in
+        (hs ∙ sym ks, hp ∙ ap₂ stop_line same.0 same.1 ∙ sym kq)
+    one_shown bytes s z p q (inr (inl (e, o, h, hs, hp))) (inr (inr (c, k, n, ks, kq))) = absurd (never_both bytes c e o k h)
+    one_shown bytes s z p q (inr (inr (c, h, n, hs, hp))) (inl (u, k, ks, kq)) = absurd (not_nested bytes u c k h n)
+    one_shown bytes s z p q (inr (inr (c, h, n, hs, hp))) (inr (inl (e, o, k, ks, kq))) = absurd (never_both bytes c e o h k)
+    one_shown bytes s z p q (inr (inr (c, h, n, hs, hp))) (inr (inr (d, k, m, ks, kq))) = (hs ∙ sym ks, hp ∙ sym kq)
+
+    one_decoded : (s z : ℕ) (p q : List ℕ) → Decoded r f s p → Decoded r f z q → Agrees s p z q
+    one_decoded s z p q (inl (b, g, h)) (inl (c, e, k)) =
+        one_shown b s z p q h (subst (λ (bytes : List ℕ). Shown r f bytes z q) (one_given work.raw input c b e g) k)
+    one_decoded s z p q (inl (b, g, h)) (inr (none, ks, kq)) = absurd (none b g)
+    one_decoded s z p q (inr (none, hs, hp)) (inl (c, e, k)) = absurd (none c e)
+    one_decoded s z p q (inr (none, hs, hp)) (inr (none2, ks, kq)) = (hs ∙ sym ks, hp ∙ sym kq)
+
+  -- ---- one of each command
+
+  abbrev IsOne : (ℕ → List ℕ → Type 0) → Type 0
+  IsOne P = (s z : ℕ) (p q : List ℕ) → P s p → P z q → Agrees s p z q
+
+  one_valued : (P : Entries → Shape → ℕ → List ℕ → Type 0) → ((r : Entries) (f : Shape) → IsOrderly r → IsOne (P r f)) → IsOne (Valued P)
+  one_valued P one s z p q (r, f, h, a, x) (n, g, k, b, y) =
+      let same : n ≡ r = same_registry work.registry.items n r k.0 h.0 in
+      let format : g ≡ f = one_format_word r (string_bytes work.format) g f (subst (λ (m : Entries). IsFormat m (string_bytes work.format) g) same b) a in
+      one r f h.0.2.orderly s z p q x (subst (λ (i : Shape). P r i z q) format (subst (λ (m : Entries). P m g z q) same y))
+
+  one_late : (c : Command) → IsOne (Late c)
+  one_late Check s z p q (r, h, hs, hp) (n, k, ks, kq) =
+      (hs ∙ sym ks, hp ∙ ap (λ (m : Entries). count_line (length m)) (same_registry work.registry.items r n h.0 k.0) ∙ sym kq)
+  one_late command.Grows s z p q (r, n, h, g, w, hs, hp) (r2, n2, k, i, x, ks, kq) = (hs ∙ sym ks, hp ∙ sym kq)
+  one_late Encode s z p q h k = one_valued Encoded one_encoded s z p q h k
+  one_late Decode s z p q h k = one_valued Decoded one_decoded s z p q h k
+  one_late Normalise s z p q h k = one_valued Normalised one_normalised s z p q h k
+  one_late command.Same s z p q h k = one_valued Compared one_compared s z p q h k
+
+  -- a job that is refused for its words answers nothing else
+  of_valued : (P : Entries → Shape → ℕ → List ℕ → Type 0) (fault : JobFault) (s : ℕ) (p : List ℕ) → RefusesFormatted work fault → Valued P s p → ⊥
+  of_valued P fault s p h (r, f, is, a, x) = not_formatted work fault r f h is a
+
+  not_late : (c : Command) (fault : JobFault) (s : ℕ) (p : List ℕ) → RefusesAt c work fault → Late c s p → ⊥
+  not_late Check fault s p h (r, is, ks, kq) = not_checked work fault r h is
+  not_late command.Grows fault s p h (r, n, is, i, g, ks, kq) = not_grown work fault r n h is i g
+  not_late Encode fault s p h k = of_valued Encoded fault s p h k
+  not_late Decode fault s p h k = of_valued Decoded fault s p h k
+  not_late Normalise fault s p h k = of_valued Normalised fault s p h k
+  not_late command.Same fault s p h k = of_valued Compared fault s p h k
+
+  one_of_both : (c : Command) (s z : ℕ) (p q : List ℕ) → Early c s p ⊎ Late c s p → Early c z q ⊎ Late c z q → Agrees s p z q
+  one_of_both c s z p q (inl (e, h, hs, hp)) (inl (g, k, ks, kq)) =
+      (hs ∙ sym ks, hp ∙ ap (λ (x : JobFault). refusal_line (job_fault_name x)) (one_refusal c work e g h k) ∙ sym kq)
+  one_of_both c s z p q (inl (e, h, hs, hp)) (inr k) = absurd (not_late c e z q h k)
+  one_of_both c s z p q (inr h) (inl (g, k, ks, kq)) = absurd (not_late c g s p k h)
+  one_of_both c s z p q (inr h) (inr k) = one_late c s z p q h k
+
+pub one_answer : OneAnswer
+one_answer work input s z p q h k = one_of_both work input work.command s z p q (told work input h) (told work input k)
