@@ -43,7 +43,8 @@ fn judge(
 }
 
 // The words of a job on values, but for its input.
-struct Asked<'a> {
+#[derive(Clone, Copy)]
+struct ValueJob<'a> {
     command: Command,
     raw: bool,
     registry: &'a str,
@@ -52,64 +53,47 @@ struct Asked<'a> {
     limits: &'a [&'a str],
 }
 
+fn asked<'a>(
+    command: Command,
+    registry: &'a str,
+    format: &'a str,
+    limits: &'a [&'a str],
+) -> ValueJob<'a> {
+    ValueJob {
+        command,
+        raw: false,
+        registry,
+        format,
+        second: "",
+        limits,
+    }
+}
+
 // The answer to a job on values, and to its input where it has one.
 fn on_values(alloc: Global, command: Command, words: &[&str]) -> Result<String, RowFault> {
     match (command, words) {
-        (_, [registry, format]) => without_input(
-            alloc,
-            &work_of(
-                alloc,
-                &Asked {
-                    command,
-                    raw: false,
-                    registry,
-                    format,
-                    second: "",
-                    limits: &[],
-                },
-            )?,
-        ),
-        (Command::Same, [registry, format, second, input, limits @ ..]) => with_input(
-            alloc,
-            &Asked {
-                command,
-                raw: false,
-                registry,
-                format,
-                second,
-                limits,
-            },
-            input,
-        ),
-        (_, ["--raw", registry, format, input, limits @ ..]) => with_input(
-            alloc,
-            &Asked {
-                command,
-                raw: true,
-                registry,
-                format,
-                second: "",
-                limits,
-            },
-            input,
-        ),
-        (_, [registry, format, input, limits @ ..]) => with_input(
-            alloc,
-            &Asked {
-                command,
-                raw: false,
-                registry,
-                format,
-                second: "",
-                limits,
-            },
-            input,
-        ),
+        (_, [registry, format]) => {
+            let work = work_of(alloc, asked(command, registry, format, &[]))?;
+            without_input(alloc, &work)
+        }
+        (Command::Same, [registry, format, second, input, limits @ ..]) => {
+            let mut asked = asked(command, registry, format, limits);
+            asked.second = second;
+            with_input(alloc, asked, input)
+        }
+        (_, ["--raw", registry, format, input, limits @ ..]) => {
+            let mut asked = asked(command, registry, format, limits);
+            asked.raw = true;
+            with_input(alloc, asked, input)
+        }
+        (_, [registry, format, input, limits @ ..]) => {
+            with_input(alloc, asked(command, registry, format, limits), input)
+        }
         _ => Err(RowFault::NotUnderstood),
     }
 }
 
-fn work_of(alloc: Global, asked: &Asked<'_>) -> Result<Work, RowFault> {
+fn work_of(alloc: Global, asked: ValueJob<'_>) -> Result<Work, RowFault> {
     let Some(limits) = limits_of(asked.limits) else {
         return Err(RowFault::NotUnderstood);
     };
@@ -124,7 +108,7 @@ fn work_of(alloc: Global, asked: &Asked<'_>) -> Result<Work, RowFault> {
     })
 }
 
-fn with_input(alloc: Global, asked: &Asked<'_>, input: &str) -> Result<String, RowFault> {
+fn with_input(alloc: Global, asked: ValueJob<'_>, input: &str) -> Result<String, RowFault> {
     let work = work_of(alloc, asked)?;
     let input = bytes(alloc, input)?;
     let mut out = PieceSink::<1000>::new(7, None);
