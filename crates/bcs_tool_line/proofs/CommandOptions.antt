@@ -75,28 +75,54 @@ rules_at place = option_map_or (λ s. s.rules) (slice_get (built bcs_app).subs p
 depths : AreShapes (codes "depth") 500 (built bcs_app).subs
 depths =
     let id = codes "depth" in
-    let q = Signed (pos 0) (pos 500) in
-    (none id q (rules_at 0) refl,
-    (none id q (rules_at 1) refl,
-    ((no id q _ refl, (no id q _ refl, (λ same. record { action = refl; parser = refl; exact = refl; defaults = refl }, none id q (drop 3 (rules_at 2)) refl))),
-    ((no id q _ refl, (no id q _ refl, (λ same. record { action = refl; parser = refl; exact = refl; defaults = refl }, none id q (drop 3 (rules_at 3)) refl))),
-    ((no id q _ refl, (no id q _ refl, (λ same. record { action = refl; parser = refl; exact = refl; defaults = refl }, none id q (drop 3 (rules_at 4)) refl))),
-    ((no id q _ refl, (no id q _ refl, (λ same. record { action = refl; parser = refl; exact = refl; defaults = refl }, none id q (drop 3 (rules_at 5)) refl))),
-    (none id q (rules_at 6) refl,
-    tt)))))))
+    let q = Signed (pos 0) (pos 500) in (
+      none id q (rules_at 0) refl,
+      (
+        none id q (rules_at 1) refl,
+        (
+          (no id q _ refl, (no id q _ refl, (λ same. record { action = refl; parser = refl; exact = refl; defaults = refl }, none id q (drop 3 (rules_at 2)) refl))),
+          (
+            (no id q _ refl, (no id q _ refl, (λ same. record { action = refl; parser = refl; exact = refl; defaults = refl }, none id q (drop 3 (rules_at 3)) refl))),
+            (
+              (no id q _ refl, (no id q _ refl, (λ same. record { action = refl; parser = refl; exact = refl; defaults = refl }, none id q (drop 3 (rules_at 4)) refl))),
+              (
+                (no id q _ refl, (no id q _ refl, (λ same. record { action = refl; parser = refl; exact = refl; defaults = refl }, none id q (drop 3 (rules_at 5)) refl))),
+                (
+                  none id q (rules_at 6) refl,
+                  tt,
+                ),
+              ),
+            ),
+          ),
+        ),
+      ),
+    )
 
 nodes : AreShapes (codes "nodes") 4294967295 (built bcs_app).subs
 nodes =
     let id = codes "nodes" in
-    let q = Signed (pos 0) (pos 4294967295) in
-    (none id q (rules_at 0) refl,
-    (none id q (rules_at 1) refl,
-    ((no id q _ refl, (no id q _ refl, (no id q _ refl, (λ same. record { action = refl; parser = refl; exact = refl; defaults = refl }, none id q (drop 4 (rules_at 2)) refl)))),
-    ((no id q _ refl, (no id q _ refl, (no id q _ refl, (λ same. record { action = refl; parser = refl; exact = refl; defaults = refl }, none id q (drop 4 (rules_at 3)) refl)))),
-    ((no id q _ refl, (no id q _ refl, (no id q _ refl, (λ same. record { action = refl; parser = refl; exact = refl; defaults = refl }, none id q (drop 4 (rules_at 4)) refl)))),
-    ((no id q _ refl, (no id q _ refl, (no id q _ refl, (λ same. record { action = refl; parser = refl; exact = refl; defaults = refl }, none id q (drop 4 (rules_at 5)) refl)))),
-    (none id q (rules_at 6) refl,
-    tt)))))))
+    let q = Signed (pos 0) (pos 4294967295) in (
+      none id q (rules_at 0) refl,
+      (
+        none id q (rules_at 1) refl,
+        (
+          (no id q _ refl, (no id q _ refl, (no id q _ refl, (λ same. record { action = refl; parser = refl; exact = refl; defaults = refl }, none id q (drop 4 (rules_at 2)) refl)))),
+          (
+            (no id q _ refl, (no id q _ refl, (no id q _ refl, (λ same. record { action = refl; parser = refl; exact = refl; defaults = refl }, none id q (drop 4 (rules_at 3)) refl)))),
+            (
+              (no id q _ refl, (no id q _ refl, (no id q _ refl, (λ same. record { action = refl; parser = refl; exact = refl; defaults = refl }, none id q (drop 4 (rules_at 4)) refl)))),
+              (
+                (no id q _ refl, (no id q _ refl, (no id q _ refl, (λ same. record { action = refl; parser = refl; exact = refl; defaults = refl }, none id q (drop 4 (rules_at 5)) refl)))),
+                (
+                  none id q (rules_at 6) refl,
+                  tt,
+                ),
+              ),
+            ),
+          ),
+        ),
+      ),
+    )
 
 -- ---- of a parse
 

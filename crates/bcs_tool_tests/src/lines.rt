@@ -73,7 +73,9 @@ const JOBS: [Asked; 7] = [
         nodes: 4294967295,
     },
     Asked {
-        words: &["decode", "--raw", "r.json", "S", "--nodes", "1000", "in.bcs"],
+        words: &[
+            "decode", "--raw", "r.json", "S", "--nodes", "1000", "in.bcs",
+        ],
         command: Command::Decode,
         registry: "r.json",
         second: "",
