@@ -33,7 +33,12 @@ fn push_repeated(alloc: Global, text: &mut String, part: &str) -> Result<(), Row
 }
 
 // Pushes the text with how many of it are still to come in the place of each `#`.
-fn push_numbered(alloc: Global, text: &mut String, repeated: &str, left: u32) -> Result<(), RowFault> {
+fn push_numbered(
+    alloc: Global,
+    text: &mut String,
+    repeated: &str,
+    left: u32,
+) -> Result<(), RowFault> {
     for (place, part) in repeated.split('#').enumerate() {
         if place > 0 {
             text.push_str(&format!(in alloc; "{left}")?)?;
