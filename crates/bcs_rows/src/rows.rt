@@ -41,7 +41,7 @@ fn answered(
         "registry" | "format" | "print" | "grows" => {
             registries::answer(alloc, setting, question, words)
         }
-        "verdict" | "changes" => verdicts::answer(alloc, setting, question, words),
+        "verdict" | "scan" | "changes" => verdicts::answer(alloc, setting, question, words),
         "values" | "fits" => values::answer(alloc, setting, question, words),
         "encode" | "form" => encodings::answer(alloc, setting, question, words),
         "json" | "text" | "same" => texts::answer(alloc, setting, question, words),

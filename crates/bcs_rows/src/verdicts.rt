@@ -23,13 +23,14 @@ pub(crate) fn answer(
     let asked = Question::read(alloc, &setting.registry, format, limits)?;
     let bytes = words::bytes(alloc, bytes)?;
     match question {
-        "verdict" => judged(alloc, &asked, &bytes),
+        "verdict" => judged(alloc, verdict(alloc, &asked, &bytes)?),
+        "scan" => judged(alloc, scanned(&asked, &bytes)?),
         _ => changed(alloc, &asked, &bytes),
     }
 }
 
-fn judged(alloc: Global, question: &Question, bytes: &[u8]) -> Result<String, RowFault> {
-    match verdict(alloc, question, bytes)? {
+fn judged(alloc: Global, verdict: Result<usize, Stop>) -> Result<String, RowFault> {
+    match verdict {
         Ok(length) => Ok(format!(in alloc; "ok {length}")?),
         Err(Stop { reason, place }) => Ok(format!(in alloc; "{reason} at {place}")?),
     }
@@ -47,15 +48,7 @@ pub(crate) fn verdict(
     question: &Question,
     bytes: &[u8],
 ) -> Result<Result<usize, Stop>, RowFault> {
-    if !question.registry.admits(&question.format) {
-        return Err(RowFault::Disagreement("admits"));
-    }
-    let verdict = scan(
-        &question.registry,
-        &question.format,
-        &question.limits,
-        bytes,
-    );
+    let verdict = scanned(question, bytes)?;
     if of_slice(alloc, question, bytes)? != verdict {
         return Err(RowFault::Disagreement("decode_slice"));
     }
@@ -64,6 +57,18 @@ pub(crate) fn verdict(
     agree_in_pieces(alloc, question, bytes, 3, verdict)?;
     agree_in_pieces(alloc, question, bytes, 65536, verdict)?;
     Ok(verdict)
+}
+
+fn scanned(question: &Question, bytes: &[u8]) -> Result<Result<usize, Stop>, RowFault> {
+    let Question {
+        registry,
+        format,
+        limits,
+    } = question;
+    if !registry.admits(format) {
+        return Err(RowFault::Disagreement("admits"));
+    }
+    Ok(scan(registry, format, limits, bytes))
 }
 
 fn of_slice(

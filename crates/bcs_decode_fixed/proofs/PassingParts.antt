@@ -37,7 +37,7 @@ node_counted g p m b n q l c h = counted_is (λ n. chain (g n) (λ _. give tt)) 
 node_uncounted : (g : ℕ → Parser (Unit {0})) (p m : ℕ) (b : List ℕ) (e : Reason × ℕ) → counted_here p m b ≡ Err e → node (chain length_here g) p m b ≡ Err e
 node_uncounted g p m b e h = counted_is g p m b ∙ counted_stop g p m b e h
 
-node_then : (g : Parser (Unit {0})) (p m : ℕ) (b : List ℕ) (q l : ℕ) (c : List ℕ) → node_here p m b ≡ Ok (tt, q, l, c) → node (chain g (λ _. give tt)) p m b ≡ g q l c
+pub node_then : (g : Parser (Unit {0})) (p m : ℕ) (b : List ℕ) (q l : ℕ) (c : List ℕ) → node_here p m b ≡ Ok (tt, q, l, c) → node (chain g (λ _. give tt)) p m b ≡ g q l c
 node_then g p m b q l c h = node_is (chain g (λ _. give tt)) p m b ∙ ap (λ (r : Read (Unit {0})). follow r (λ _. chain g (λ _. give tt))) h ∙ chained_bare g q l c
 
 node_stop : {A : Type 0} (g : Parser A) (p m : ℕ) (b : List ℕ) (e : Reason × ℕ) → node_here p m b ≡ Err e → node g p m b ≡ Err e

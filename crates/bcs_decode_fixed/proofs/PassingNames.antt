@@ -5,7 +5,7 @@ use Rattle.bcs_registry_formats.specs.Container.{Entries, Content, content, cont
 use Rattle.bcs_registry_formats.specs.View.{container_of}
 use Rattle.bcs_registry_formats.specs.declared.container.Container as declared
 use Rattle.bcs_decode_cursor.specs.Passing.{skip, enter_here}
-use Rattle.bcs_decode_scan.proofs.PassingParts.{named_on, content_past}
+use Rattle.bcs_decode_fixed.proofs.PassingParts.{named_on, content_past}
 use Rattle.bcs_decode_laws.proofs.LookedUp.{content_found}
 
 -- a container that opens and is found: what stands in it comes next

@@ -1,7 +1,7 @@
 use Rattle.std.proofs.Common.{◌≡◌, ◌*◌, ◌/◌, ◌<◌, ◌≤◌, suc, length, arith, ◌⊎◌, inl, inr}
-use Rattle.bcs_decode_scan.proofs.WholeRows.{row_passed, row_many, row_ended, room_low, room_high, room_for}
-use Rattle.bcs_decode_scan.proofs.whole_row.whole_row.Goals as goal
-use Rattle.bcs_decode_scan.proofs.whole_row.whole_row.Goals.{then-width-eq0, else-width-eq0}
+use Rattle.bcs_decode_fixed.proofs.WholeRows.{row_passed, row_many, row_ended, room_low, room_high, room_for}
+use Rattle.bcs_decode_fixed.proofs.whole_row.whole_row.Goals as goal
+use Rattle.bcs_decode_fixed.proofs.whole_row.whole_row.Goals.{then-width-eq0, else-width-eq0}
 
 pub returns-then-there-some-clause-passes : goal.returns-then-there-some-clause-passes
 returns-then-there-some-clause-passes c =

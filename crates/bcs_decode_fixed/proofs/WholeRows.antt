@@ -10,7 +10,7 @@ use Rattle.bcs_decode_cursor.specs.Passing.{whole_here}
 use Rattle.bcs_decode_cursor.proofs.Passings.{bare}
 
 module _ (w : ℕ) where
-  one_on : (p m : ℕ) (b : List ℕ) → w ≤ length b → whole_here w p (suc m) b ≡ Ok (tt, p + w, m, drop w b)
+  pub one_on : (p m : ℕ) (b : List ℕ) → w ≤ length b → whole_here w p (suc m) b ≡ Ok (tt, p + w, m, drop w b)
   unfolding whole_here chain node give bytes_here
   one_on p m b le = rw (le-ltb (length b) w le) refl
 
