@@ -1,4 +1,4 @@
-use Rattle.std.proofs.Common.{◌≡◌, ◌*◌, ◌/◌, ◌<◌, ◌≤◌, length, arith}
+use Rattle.std.proofs.Common.{◌≡◌, ◌*◌, ◌/◌, ◌<◌, ◌≤◌, length, arith, rules}
 use Rattle.std.proofs.Math.Nat.{le-div_iff_mul-le}
 use Rattle.bcs_decode_fixed.proofs.fixed_row.sized_row.Goals as goal
 use Rattle.bcs_decode_fixed.proofs.fixed_row.sized_row.Goals.{then-size-eq0, else-size-eq0}
@@ -17,3 +17,6 @@ returns-clause-most c k few there left =
           let room : k ≤ length at.rest.now / size.bytes = (le-div_iff_mul-le {k = size.bytes} {x = k} {y = length at.rest.now} positive).1 there in
           omega (arith, w.gone-is, w.min-gone.ensures, c.min-begun.ensures, some, few, room))
     ]
+
+pub returns-clause-nodes : goal.returns-clause-nodes
+returns-clause-nodes c = search rules
