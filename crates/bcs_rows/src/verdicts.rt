@@ -7,7 +7,7 @@ use crate::row_fault::RowFault;
 use crate::setting::Setting;
 use crate::words;
 use bcs_decode::pieces::PieceSource;
-use bcs_decode::{DecodeFault, Reason, Stop, decode_all, decode_from, decode_slice, scan};
+use bcs_decode::{DecodeFault, Reason, Stop, decode_all, decode_from, decode_slice, part, scan};
 use bcs_encode::encode;
 use std::alloc::Global;
 
@@ -56,6 +56,9 @@ pub(crate) fn verdict(
         &question.limits,
         bytes,
     );
+    if of_part(question, bytes)? != verdict {
+        return Err(RowFault::Disagreement("part"));
+    }
     if of_slice(alloc, question, bytes)? != verdict {
         return Err(RowFault::Disagreement("decode_slice"));
     }
@@ -64,6 +67,25 @@ pub(crate) fn verdict(
     agree_in_pieces(alloc, question, bytes, 3, verdict)?;
     agree_in_pieces(alloc, question, bytes, 65536, verdict)?;
     Ok(verdict)
+}
+
+// The whole is the part that no steps lead to.
+fn of_part(question: &Question, bytes: &[u8]) -> Result<Result<usize, Stop>, RowFault> {
+    let Question {
+        registry,
+        format,
+        limits,
+    } = question;
+    if !registry.admits(format) {
+        return Err(RowFault::Disagreement("admits"));
+    }
+    match part(registry, format, limits, bytes, &[]) {
+        Ok(Some(whole)) if whole.place == 0 && bytes.starts_with(whole.bytes) => {
+            Ok(Ok(whole.bytes.len()))
+        }
+        Ok(_) => Err(RowFault::Disagreement("part")),
+        Err(stop) => Ok(Err(stop)),
+    }
 }
 
 fn of_slice(
