@@ -7,7 +7,7 @@ use crate::row_fault::RowFault;
 use crate::setting::Setting;
 use crate::words;
 use bcs_decode::pieces::PieceSource;
-use bcs_decode::{DecodeFault, Reason, Stop, decode_all, decode_from, decode_slice, scan};
+use bcs_decode::{DecodeFault, Reason, Stop, decode_all, decode_from, decode_slice, part, scan};
 use bcs_encode::encode;
 use std::alloc::Global;
 
@@ -49,6 +49,9 @@ pub(crate) fn verdict(
     bytes: &[u8],
 ) -> Result<Result<usize, Stop>, RowFault> {
     let verdict = scanned(question, bytes)?;
+    if of_part(question, bytes)? != verdict {
+        return Err(RowFault::Disagreement("part"));
+    }
     if of_slice(alloc, question, bytes)? != verdict {
         return Err(RowFault::Disagreement("decode_slice"));
     }
@@ -69,6 +72,25 @@ fn scanned(question: &Question, bytes: &[u8]) -> Result<Result<usize, Stop>, Row
         return Err(RowFault::Disagreement("admits"));
     }
     Ok(scan(registry, format, limits, bytes))
+}
+
+// The whole is the part that no steps lead to.
+fn of_part(question: &Question, bytes: &[u8]) -> Result<Result<usize, Stop>, RowFault> {
+    let Question {
+        registry,
+        format,
+        limits,
+    } = question;
+    if !registry.admits(format) {
+        return Err(RowFault::Disagreement("admits"));
+    }
+    match part(registry, format, limits, bytes, &[]) {
+        Ok(Some(whole)) if whole.place == 0 && bytes.starts_with(whole.bytes) => {
+            Ok(Ok(whole.bytes.len()))
+        }
+        Ok(_) => Err(RowFault::Disagreement("part")),
+        Err(stop) => Ok(Err(stop)),
+    }
 }
 
 fn of_slice(
