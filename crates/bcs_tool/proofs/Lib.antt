@@ -2,3 +2,6 @@ pub mod AnswerLemmas
 pub mod JudgingLemmas
 pub mod OneRefusal
 pub mod OneAnswer
+pub mod SomeRefusal
+pub mod SomeInput
+pub mod SomeAnswer
