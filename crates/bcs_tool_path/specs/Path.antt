@@ -1,7 +1,7 @@
 -- The steps that the word PATH spells.
 use Rattle.std.specs.Prelude.{◌≡◌, ◌<◌, ◌^◌, ◌++◌, ℕ, List, [], ◌∷◌, Ok, codes}
 use Rattle.std.specs.Fmt.{decimal}
-use Rattle.std.specs.List.{join_with_byte}
+use Rattle.std.specs.List.{AllZip, join_with_byte}
 use Rattle.hex.specs.Hex.{decode_of}
 use Rattle.bcs_decode_parts.specs.Parts.{Step, item, inner, key}
 
@@ -11,17 +11,10 @@ SpellsStep text (item n) = (text ≡ decimal n) × (n < 2 ^ 64)
 SpellsStep text inner = text ≡ codes "inner"
 SpellsStep text (key bytes) = (digits : List ℕ) × (text ≡ codes "key:" ++ digits) × (decode_of digits ≡ Ok bytes)
 
--- a text for each step, in their order
-abbrev pub SpellEach : List (List ℕ) → List Step → Type 0
-SpellEach [] [] = Unit {0}
-SpellEach (text ∷ texts) (s ∷ path) = SpellsStep text s × SpellEach texts path
-SpellEach [] (s ∷ path) = ⊥
-SpellEach (text ∷ texts) [] = ⊥
-
 -- `.` for no step, which leads to the whole value; one step or more by their texts, joined by `/`
 abbrev pub SpellsPath : List ℕ → List Step → Type 0
 SpellsPath word [] = word ≡ codes "."
-SpellsPath word (s ∷ path) = (texts : List (List ℕ)) × (word ≡ join_with_byte 47 texts) × SpellEach texts (s ∷ path)
+SpellsPath word (s ∷ path) = (texts : List (List ℕ)) × (word ≡ join_with_byte 47 texts) × AllZip SpellsStep texts (s ∷ path)
 
 -- no steps are spelled so
 abbrev pub SpellsNoPath : List ℕ → Type 0
