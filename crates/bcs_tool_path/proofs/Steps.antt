@@ -1,10 +1,10 @@
 -- A text spells one step at most, and has no slash.
-use Rattle.std.proofs.Common.{◌≡◌, ◌∙◌, ◌<◌, ◌^◌, ◌++◌, ◌==◌, Bool, ℕ, List, [], ◌∷◌, Ok, ap, arith, codes, decimal, drop, false, get_or, not, refl, subst, sym, true, true≢false}
-use Rattle.std.specs.List.{All, AllPass, list_all}
+use Rattle.std.proofs.Common.{◌≡◌, ◌∙◌, ◌<◌, ◌≤◌, ◌^◌, ◌++◌, ◌==◌, Bool, ℕ, List, [], ◌∷◌, Ok, ap, arith, codes, decimal, drop, false, get_or, not, refl, subst, sym, true, true≢false}
+use Rattle.std.specs.List.{All, list_all}
 use Rattle.std.specs.Str.Parse.{AllDigits}
 use Rattle.std.proofs.lemmas.Bool.{ne_eqb}
 use Rattle.std.proofs.lemmas.Fmt.{decimal_injective, decimal_is_IsNumeral}
-use Rattle.std.proofs.lemmas.List.Elements.{All-cons, All-nil, All-weaker}
+use Rattle.std.proofs.lemmas.List.Elements.{All-append, All-cons, All-nil, All-weaker}
 use Rattle.std.proofs.lemmas.List.Sums.{AllPass-from_list_all}
 use Rattle.std.proofs.lemmas.Str.Parse.{digit_from_value}
 use Rattle.hex.specs.Hex.{decode_of, is_hex_digit}
@@ -40,14 +40,24 @@ one_step text (key bytes) (key others) h k =
     let same : h.0 ≡ k.0 = one_tail h.0 k.0 (sym h.1 ∙ k.1) in
     let decoded : Ok bytes ≡ Ok others = sym h.2 ∙ ap decode_of same ∙ k.2 in cc
 
+-- a text that begins as a key's spells nothing where its digits are none
+pub no_step : (text digits : List ℕ) → text ≡ codes "key:" ++ digits → ((bytes : List ℕ) → decode_of digits ≡ Ok bytes → ⊥)
+    → (s : Step) → SpellsStep text s → ⊥
+no_step text digits is none (item n) h = no_number n 107 _ h.1 (omega arith) (sym is ∙ h.0)
+no_step text digits is none inner h = no_key digits (sym h ∙ is)
+no_step text digits is none (key bytes) h = none bytes (ap decode_of (one_tail digits h.0 (sym is ∙ h.1)) ∙ h.2)
+
 -- ---- no text has a slash
 
+abbrev IsNoSlash : ℕ → Type 0
+IsNoSlash b = (b == 47) ≡ false
+
 abbrev pub HasNoSlash : List ℕ → Type 0
-HasNoSlash = All (λ b. (b == 47) ≡ false)
+HasNoSlash = All IsNoSlash
 
 digits_have_none : (ds : List ℕ) → AllDigits 10 ds → HasNoSlash ds
-digits_have_none [] h = All-nil _
-digits_have_none (c ∷ cs) h = All-cons _ c cs (ne_eqb c 47 (λ e. omega (arith, e, digit_from_value c h.0))) (digits_have_none cs h.1)
+digits_have_none [] h = All-nil IsNoSlash
+digits_have_none (c ∷ cs) h = All-cons IsNoSlash c cs (ne_eqb c 47 (λ e. omega (arith, e, digit_from_value c h.0))) (digits_have_none cs h.1)
 
 hex_digit_is_none : (c : ℕ) → is_hex_digit c ≡ true → (c == 47) ≡ false
 hex_digit_is_none c h = ne_eqb c 47 (λ e. true≢false (sym h ∙ ap is_hex_digit e))
@@ -57,11 +67,11 @@ not_false false e = refl
 not_false true e = cc
 
 none_by : (xs : List ℕ) → list_all (λ b. not (b == 47)) xs ≡ true → HasNoSlash xs
-none_by xs h = All-weaker _ _ (λ b e. not_false (b == 47) e) xs (AllPass-from_list_all (λ b. not (b == 47)) xs h)
+none_by xs h = All-weaker (λ b. not (b == 47) ≡ true) IsNoSlash (λ b e. not_false (b == 47) e) xs (AllPass-from_list_all (λ b. not (b == 47)) xs h)
 
 pub has_no_slash : (text : List ℕ) (s : Step) → SpellsStep text s → HasNoSlash text
 has_no_slash text (item n) h = subst HasNoSlash (sym h.0) (digits_have_none (decimal n) (decimal_is_IsNumeral n h.1).0.1)
 has_no_slash text inner h = subst HasNoSlash (sym h) (none_by (codes "inner") refl)
 has_no_slash text (key bytes) h =
-    let digits : HasNoSlash h.0 = All-weaker _ _ hex_digit_is_none h.0 (decode_of-ok h.0 bytes h.2).1 in
-    subst HasNoSlash (sym h.1) (All-cons _ 107 _ refl (All-cons _ 101 _ refl (All-cons _ 121 _ refl (All-cons _ 58 _ refl digits))))
+    let digits : HasNoSlash h.0 = All-weaker (λ b. is_hex_digit b ≡ true) IsNoSlash hex_digit_is_none h.0 (decode_of-ok h.0 bytes h.2).1 in
+    subst HasNoSlash (sym h.1) (All-append IsNoSlash (codes "key:") h.0 (none_by (codes "key:") refl) digits)

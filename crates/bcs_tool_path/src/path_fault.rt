@@ -1,7 +1,7 @@
 //! Why a word gives no path.
 ghost use Rattle.std.specs.Prelude.{◌≡◌};
 
-use std::alloc::AllocError;
+use std::alloc::AllocFailed;
 use thiserror::Error;
 
 /// Why a word gives no path. The message is the variant's name alone.
@@ -15,12 +15,12 @@ pub enum PathFault {
     OutOfMemory,
 }
 
-impl From<AllocError> for PathFault {
+impl<T: Drop> From<AllocFailed<T>> for PathFault {
     ghost use Rattle.bcs_tool_path.specs.declared.path_fault.PathFault.TheVariants.{OutOfMemory};
 
     ghost from_gives = { λ _ fault. fault ≡ OutOfMemory };
 
-    fn from(_error: AllocError) -> PathFault {
+    fn from(_: AllocFailed<T>) -> PathFault {
         PathFault::OutOfMemory
     }
 }
