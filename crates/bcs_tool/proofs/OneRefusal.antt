@@ -132,8 +132,8 @@ module _ (work : Work) where
 
   one_part : (e g : JobFault) → RefusesPart work e → RefusesPart work g → e ≡ g
   one_part (Registry e) (Registry g) h k = one_formatted (Registry e) (Registry g) h k
-  one_part (Registry e) BadPath h (r, s, is, f, no) = absurd (not_formatted (Registry e) r s h is f)
-  one_part BadPath (Registry g) (r, s, is, f, no) k = absurd (not_formatted (Registry g) r s k is f)
+  one_part (Registry e) BadPath h (r, s, is, f, never) = absurd (not_formatted (Registry e) r s h is f)
+  one_part BadPath (Registry g) (r, s, is, f, never) k = absurd (not_formatted (Registry g) r s k is f)
   one_part BadPath BadPath h k = refl
   one_part (Registry e) (Growth g) h k = absurd k
   one_part BadPath (Growth g) h k = absurd k
@@ -142,7 +142,7 @@ module _ (work : Work) where
   pub not_parted : (e : JobFault) (r : Entries) (s : Shape) (path : List Step) → RefusesPart work e → IsRegistry work.registry.items r
       → IsFormat r (string_bytes work.format) s → SpellsPath (string_bytes work.path) path → ⊥
   not_parted (Registry e) r s path h is f spells = not_formatted (Registry e) r s h is f
-  not_parted BadPath r s path (q, g, i, j, no) is f spells = no path spells
+  not_parted BadPath r s path (q, g, i, j, never) is f spells = never path spells
   not_parted (Growth e) r s path h is f spells = h
 
   pub not_checked : (e : JobFault) (r : Entries) → RefusesCheck work e → IsRegistry work.registry.items r → ⊥

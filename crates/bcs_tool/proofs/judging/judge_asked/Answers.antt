@@ -12,7 +12,7 @@ pub returns-in_err-registry-clause-fault : goal.returns-in_err-registry-clause-f
 returns-in_err-registry-clause-fault c =
     let work = c.args.work.now in
     let fault = c.in_err-registry.field-0.0 in
-    refused_by_registry (RefusesEarly work) c.from_residual-in_err-registry.result fault c.from_residual-in_err-registry.ensures.1
+    refused_by_registry (RefusesEarly work) c.from_residual.result fault c.from_residual.ensures.1
     (λ differs. refuses_formatted work.command work (Registry fault) c.requires
     (inl (subst (λ text. IsLeastFault text fault) c.as_slice.ensures.value (c.in_err-registry.ensures.fault differs))))
 
