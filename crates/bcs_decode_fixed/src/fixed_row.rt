@@ -10,14 +10,14 @@ use bcs_decode_cursor::cursor::{Cursor, advance};
 use bcs_registry::{Format, Registry};
 
 /// How many values a list has at least whose format is worth a look.
-const FEW: u64 = 8;
+const FEW: u64 = 16;
 
 /// The most formats that are looked at for one list.
 const LOOKS: u32 = 256;
 
 /// How many of so many values of one format are gone past in one step: as many as are there, where all have one size.
-/// The next ones are to be gone past one by one.
-#[inline(never)]
+/// The next ones are to be gone past one by one. It is part of its caller, so that a short list costs no call.
+#[inline(always)]
 pub fn fixed_row(
     registry: &Registry,
     element: &Format,
@@ -34,6 +34,24 @@ pub fn fixed_row(
     if count < FEW {
         return 0;
     }
+    long_row(registry, element, count, depth, cursor)
+}
+
+/// The same of a list that is long enough for a look.
+#[inline(never)]
+fn long_row(
+    registry: &Registry,
+    element: &Format,
+    count: u64,
+    depth: u32,
+    cursor: &mut Cursor,
+) -> u64
+    requires room { cursor.old.place + length cursor.old.rest.now < 2 ^ 64 }
+    ensures within { result ≤ count }
+    ensures whole { items_here skipping (skip registry.now depth (shape_of element.now)) count cursor.old.place cursor.old.nodes cursor.old.rest.now
+        ≡ items_here skipping (skip registry.now depth (shape_of element.now)) (count - result) cursor.new.place cursor.new.nodes cursor.new.rest.now }
+    ensures onward { Onward cursor.old cursor.new }
+{
     let mut looks = LOOKS;
     match value_size(registry, element, depth, &mut looks) {
         Some(size) => sized_row(cursor, size, count),

@@ -1,7 +1,7 @@
 use Rattle.bcs_registry_formats.specs.View.{shape_of}
 use Rattle.bcs_decode_cursor.specs.Passing.{skip}
 use Rattle.bcs_decode_fixed.proofs.Reaching.{items_reach}
-use Rattle.bcs_decode_fixed.proofs.fixed_row.fixed_row.Goals as goal
+use Rattle.bcs_decode_fixed.proofs.fixed_row.long_row.Goals as goal
 
 pub returns-in-Some-clause-whole : goal.returns-in-Some-clause-whole
 returns-in-Some-clause-whole c =
