@@ -1,4 +1,5 @@
 pub mod AnswerLemmas
+pub mod PartAnswers
 pub mod JudgingLemmas
 pub mod OneRefusal
 pub mod OneAnswer

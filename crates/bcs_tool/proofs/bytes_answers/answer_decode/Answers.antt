@@ -4,7 +4,7 @@ use Rattle.bcs_registry_formats.specs.View.{shape_of}
 use Rattle.bcs_tool.specs.Answers.{decoded, line_of, refusal_line, stop_line, stopped, too_nested}
 use Rattle.bcs_tool_line.specs.declared.command.Command.TheVariants.{Decode}
 use Rattle.bcs_tool.proofs.AnswerLemmas.{is_asked, nests, same_answer, stops}
-use Rattle.bcs_tool.proofs.value_answers.answer_bytes.Goals as goal
+use Rattle.bcs_tool.proofs.bytes_answers.answer_decode.Goals as goal
 
 pub returns-in-Ok : goal.returns-in-Ok
 returns-in-Ok c =
