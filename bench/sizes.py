@@ -24,7 +24,7 @@ def chain(content):
 
 def cases():
     """The name of each case, its words, and a maker of its input."""
-    yield "registry, 256 MiB of one name", ["check", "@"], lambda: b'{"' + b"a" * (LIMIT - 16) + b'":"UNITSTRUCT"}'
+    yield "registry, 256 MiB of one name", ["check", "@"], lambda: b'{"' + b"a" * (LIMIT - 17) + b'":"UNITSTRUCT"}'
     yield "registry, 64 MiB of small containers", ["check", "@"], lambda: containers(64 * MIB)
     yield "registry, an enum of a million variants", ["check", "@"], lambda: variants(1_000_000)
     yield "registry, a name of 1 MB", ["check", "@"], lambda: b'{"' + b"a" * 1_000_000 + b'":"UNITSTRUCT"}'
@@ -103,8 +103,9 @@ def main():
         size = max(len(given), sum(map(len, words)))
         memory = usage.ru_maxrss / 1024
         shown = answer.decode(errors="replace").strip().replace("|", "\\|")
+        multiple = f"{memory * MIB / size:.1f}" if size > MIB else ""
         print(f"| {name} | {size / 1e6:.1f} | {status} | `{shown}` | {usage.ru_utime + usage.ru_stime:.2f}"
-              f" | {memory:.0f} | {memory * MIB / size:.1f} |", flush=True)
+              f" | {memory:.0f} | {multiple} |", flush=True)
 
 
 main()

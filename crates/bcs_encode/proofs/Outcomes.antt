@@ -1,9 +1,10 @@
 -- What the verdict on a value that is sound besides its keys says of the value.
-use Rattle.std.proofs.Common.{◌≡◌, ℕ, true, List, [], sym, subst, ◌∙◌, Ok, Err}
-use Rattle.std.proofs.lemmas.Bool.{false≢true}
+use Rattle.std.proofs.Common.{◌≡◌, ℕ, ◌≤◌, ◌↔◌, Bool, true, false, IsTrue, List, [], sym, subst, ◌∙◌, Ok, Err}
+use Rattle.std.proofs.lemmas.Bool.{false≢true, iff_false}
 use Rattle.bcs_registry_formats.specs.Shape.{Shape}
 use Rattle.bcs_registry_formats.specs.Container.{Entries, of}
-use Rattle.bcs_value_tree.specs.Tree.{Tree}
+use Rattle.bcs_value_tree.specs.Tree.{Tree, depth, nodes}
+use Rattle.bcs_value_laws.specs.Fits.{Fits}
 use Rattle.bcs_value_laws.specs.Limits.{Bounds}
 use Rattle.bcs_value_laws.specs.Same.{distinct}
 use Rattle.bcs_encode_laws.specs.Encodes.{Encodes, IsForm}
@@ -53,3 +54,9 @@ written_form registry limits s t u b h e f =
     let d : distinct t ≡ true = (written_encodes registry limits s t b h e).sound.distinct in
     let is : u ≡ form_of registry t (of s) = f ∙ formed_is_form registry t (of s) h.fit h.lengths d in
     subst (IsForm registry (of s) t) (sym is) (form_of_is_form registry (of s) t h.fit d)
+
+-- a value that isn't sound besides its keys, though it fits within the limits, has a length that doesn't hold
+pub too_long : (registry : Entries) (limits : Bounds) (s : Shape) (t : Tree) (b : Bool) → IsTrue b ↔ IsSoundBesidesKeys registry limits s t → b ≡ false
+    → Fits registry s t → depth t ≤ limits.depth → nodes t ≤ limits.nodes → Refuses registry limits s t TooLong
+too_long registry limits s t b exact not fit deep many =
+    (fit, deep, many, λ h. iff_false exact not (record { fit = fit; depth_holds = deep; nodes_hold = many; lengths = h }))

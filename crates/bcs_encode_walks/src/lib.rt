@@ -4,4 +4,3 @@
 pub mod by_entries;
 pub mod encoding;
 pub mod forming;
-pub mod lengths;
