@@ -1,13 +1,16 @@
 -- Each job has an answer to each input within the size, a lemma for each command.
-use Rattle.std.proofs.Common.{◌≡◌, ◌⊎◌, ◌≤◌, inl, inr, ℕ, List, length, Bool, true, false, refl, bytes_eq, subst, sym}
+use Rattle.std.proofs.Common.{◌≡◌, ◌⊎◌, ◌≤◌, inl, inr, ℕ, List, length, Bool, true, false, refl, bytes_eq, string_bytes, subst, sym, [], Option, Some, None}
 use Rattle.std.proofs.lemmas.Bool.{cases_lt}
 use Rattle.std.proofs.lemmas.Slice.Eq.{bytes_eq-Decides}
 use Rattle.serde_json.specs.Data.{depth}
+use Rattle.bcs_registry_formats.specs.Container as container
 use Rattle.bcs_registry_formats.specs.Container.{Entries}
 use Rattle.bcs_registry_formats.specs.Shape.{Shape}
 use Rattle.bcs_value_tree.specs.Tree.{Tree}
-use Rattle.bcs_decode_laws.proofs.Verdicts.{some_verdict_of_all_is}
+use Rattle.bcs_decode_laws.proofs.Verdicts.{some_verdict_is, some_verdict_of_all_is}
+use Rattle.bcs_decode_laws.specs.Accepting.{Accepts}
 use Rattle.bcs_decode_laws.specs.Exact.{AreBytes}
+use Rattle.bcs_decode_parts.specs.Parts.{Part, Step, part_at}
 use Rattle.bcs_json.proofs.Outcomes.{compares}
 use Rattle.bcs_json_laws.specs.Headline.{Compares}
 use Rattle.bcs_json_laws.specs.JsonContent.{of}
@@ -17,16 +20,18 @@ use Rattle.bcs_json_laws.proofs.OneAnswer.{text_denotes_or_is_refused}
 use Rattle.bcs_json_laws.proofs.SomeText.{some_bytes, some_normal_text, some_shown_text}
 use Rattle.bcs_json_faults.specs.declared.json_fault.JsonFault.{JsonFault}
 use Rattle.bcs_tool.specs.AnswerLaws.{SomeAnswer}
-use Rattle.bcs_tool.specs.Answers.{Answers, IsAsked, checked, decoded, different, encoded, equal, first_refused, grown, no_bytes, normalised, refused, refused_early, second_refused, stopped, too_nested}
+use Rattle.bcs_tool.specs.Answers.{Answers, IsAsked, checked, decoded, different, encoded, equal, first_refused, found, front_stopped, grown, no_bytes, normalised, nowhere, refused, refused_early, second_refused, stopped, too_nested}
 use Rattle.bcs_tool.specs.Input.{Gives}
-use Rattle.bcs_tool.specs.Judging.{IsRegistry, RefusesAt, works_on_values}
+use Rattle.bcs_tool.specs.Judging.{IsFormat, IsPath, IsRegistry, RefusesAt, works_on_values}
 use Rattle.bcs_tool.specs.declared.job_fault.JobFault.{JobFault}
-use Rattle.bcs_tool.specs.declared.job_fault.JobFault.TheVariants.{Growth, Registry}
+use Rattle.bcs_tool.specs.declared.job_fault.JobFault.TheVariants.{BadPath, Growth, Registry}
 use Rattle.bcs_tool.proofs.AnswerLemmas.{refuses_formatted}
 use Rattle.bcs_tool.proofs.SomeInput.{some_given}
 use Rattle.bcs_tool.proofs.SomeRefusal.{some_formatted, some_growth, some_registry}
 use Rattle.bcs_tool_files.specs.Files.{size_limit}
 use Rattle.bcs_tool_files.specs.declared.work.Work.{Work}
+use Rattle.bcs_tool_path.proofs.SomePath.{some_path}
+use Rattle.bcs_tool_path.specs.Path.{SpellsPath}
 use Rattle.bcs_tool_line.specs.declared.command.Command.{Command}
 use Rattle.bcs_tool_line.specs.declared.command.Command.TheVariants as command
 
@@ -111,27 +116,62 @@ module _ (work : Work) (input : List ℕ) where
     some_decode : AreBytes input → IsAsked work input command.Decode r s → Answered
     some_decode are asked = elim (some_given input work.raw are) [
       | inl h ↦ bytes_answered asked h.0 h.1 h.2
-      | inr none ↦ (_, _, no_bytes r s asked none)
+      | inr none ↦ (_, _, no_bytes command.Decode r s (inl refl) asked none)
+    ]
+
+    -- a value stands at the front of bytes, and the steps lead to a part of it or nowhere; or the bytes stop
+    front_answered : IsAsked work input command.Part r s → (path : List Step) → SpellsPath (string_bytes work.path) path → (bytes : List ℕ) → AreBytes bytes → Gives work.raw input bytes → Answered
+    front_answered asked path spells bytes are given = elim (some_verdict_is r work.limits s bytes are) [
+      | inr h ↦ (_, _, front_stopped r s bytes h.0 h.1 asked given h.2)
+      | inl h ↦ at h.0 h.1 h.2 (part_at r path (container.of s) h.1) refl
+    ]
+      where
+        at : (n : ℕ) (c : Tree) → Accepts r work.limits s bytes n c → (o : Option Part) → part_at r path (container.of s) c ≡ o → Answered
+        at n c accepted None is = (_, _, nowhere r s path bytes n c asked spells given accepted is)
+        at n c accepted (Some x) is = (_, _, found r s path bytes n c x asked spells given accepted is)
+
+    some_part : AreBytes input → (path : List Step) → SpellsPath (string_bytes work.path) path → IsAsked work input command.Part r s → Answered
+    some_part are path spells asked = elim (some_given input work.raw are) [
+      | inl h ↦ front_answered asked path spells h.0 h.1 h.2
+      | inr none ↦ (_, _, no_bytes command.Part r s (inr refl) asked none)
     ]
 
   -- ---- each command
 
-  -- a command on values, from its answer to an input that is asked for
-  valued : (c : Command) → works_on_values c ≡ true → length input ≤ size_limit → ((r : Entries) (s : Shape) → IsRegistry work.registry.items r → IsAsked work input c r s → Answered) → work.command ≡ c → Answered
-  valued c values within answer is = elim (some_formatted work) [
+  -- a command on values asks for its input, where its words are good
+  asks_for : (c : Command) → works_on_values c ≡ true → length input ≤ size_limit → work.command ≡ c → (r : Entries) (s : Shape) → IsRegistry work.registry.items r → IsFormat r (string_bytes work.format) s
+      → (path : List Step) → IsPath c (string_bytes work.path) path → IsAsked work input c r s
+  asks_for c values within is r s registry format path spells =
+      let works : works_on_values work.command ≡ true = subst (λ (d : Command). works_on_values d ≡ true) (sym is) values in
+      let has : IsPath work.command (string_bytes work.path) path = subst (λ (d : Command). IsPath d (string_bytes work.path) path) (sym is) spells in
+      record { is_command = is; asks = record { command = works; is_registry = registry; is_format = format; has_path = (path, has) }; within = within }
+
+  -- a command on values without a PATH, from its answer to an input that is asked for
+  valued : (c : Command) → works_on_values c ≡ true → IsPath c (string_bytes work.path) [] → length input ≤ size_limit
+      → ((r : Entries) (s : Shape) → IsRegistry work.registry.items r → IsAsked work input c r s → Answered) → work.command ≡ c → Answered
+  valued c values none within answer is = elim (some_formatted work) [
     | inr h ↦ refused_words c is h.0 (refuses_formatted c work h.0 values h.1)
-    | inl h ↦
-        let works : works_on_values work.command ≡ true = subst (λ (d : Command). works_on_values d ≡ true) (sym is) values in
-        answer h.0 h.1 h.2 (record { is_command = is; asks = record { command = works; is_registry = h.2; is_format = h.3 }; within = within })
+    | inl h ↦ answer h.0 h.1 h.2 (asks_for c values within is h.0 h.1 h.2 h.3 [] none)
+  ]
+
+  -- the one with a PATH
+  of_part : AreBytes input → length input ≤ size_limit → work.command ≡ command.Part → Answered
+  of_part are within is = elim (some_formatted work) [
+    | inr h ↦ refused_words command.Part is h.0 (refuses_formatted command.Part work h.0 refl h.1)
+    | inl h ↦ elim (some_path (string_bytes work.path)) [
+      | inr none ↦ refused_words command.Part is BadPath (h.0, h.1, h.2, h.3, none)
+      | inl path ↦ some_part h.0 h.1 h.2 are path.0 path.1 (asks_for command.Part refl within is h.0 h.1 h.2 h.3 path.0 path.1)
+    ]
   ]
 
   of_command : AreBytes input → length input ≤ size_limit → (c : Command) → work.command ≡ c → Answered
   of_command are within command.Check is = some_check is
   of_command are within command.Grows is = some_grows is
-  of_command are within command.Encode is = valued command.Encode refl within some_encode is
-  of_command are within command.Decode is = valued command.Decode refl within (λ r s registry asked. some_decode r s registry are asked) is
-  of_command are within command.Normalise is = valued command.Normalise refl within some_normalise is
-  of_command are within command.Same is = valued command.Same refl within some_same is
+  of_command are within command.Encode is = valued command.Encode refl refl within some_encode is
+  of_command are within command.Decode is = valued command.Decode refl refl within (λ r s registry asked. some_decode r s registry are asked) is
+  of_command are within command.Normalise is = valued command.Normalise refl refl within some_normalise is
+  of_command are within command.Same is = valued command.Same refl refl within some_same is
+  of_command are within command.Part is = of_part are within is
 
 pub some_answer : SomeAnswer
 some_answer work input are within = of_command work input are within work.command refl
