@@ -4,4 +4,5 @@
 pub mod by_entries;
 pub mod encoding;
 pub mod forming;
+pub mod key_forming;
 pub mod lengths;
