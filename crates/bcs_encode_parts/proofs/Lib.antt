@@ -5,3 +5,6 @@ pub mod WritingViews
 pub mod WalkViews
 pub mod WritingLaws
 pub mod FormingLaws
+pub mod MapOrdering
+pub mod CanonicalLaws
+pub mod CanonicalViews

@@ -1,1 +1,3 @@
 pub mod LayingLaws
+pub mod KeyLayingLaws
+pub mod PairOrdering

@@ -4,3 +4,4 @@
 pub mod by_entries;
 pub mod encoding;
 pub mod forming;
+pub mod key_forming;
