@@ -1,9 +1,8 @@
 -- The answers to a part, by what `part` hands out.
-use Rattle.std.proofs.Common.{◌≡◌, ℕ, List, Option, Some, None, ap, length, refl, string_bytes, sym, subst}
+use Rattle.std.proofs.Common.{◌≡◌, ℕ, List, Option, Some, None, refl, string_bytes, sym, subst}
 use Rattle.bcs_registry_formats.specs.Container.{Entries, of}
 use Rattle.bcs_registry_formats.specs.Shape.{Shape}
 use Rattle.bcs_value_tree.specs.Tree.{Tree}
-use Rattle.bcs_encode_laws.specs.Plain.{plain}
 use Rattle.bcs_decode_laws.specs.Accepting.{Accepts}
 use Rattle.bcs_decode_parts.specs.Parts.{Step, Part, part_at}
 use Rattle.bcs_decode_parts.specs.Steps.{GivesPart}

@@ -1,4 +1,4 @@
-use Rattle.std.proofs.Common.{codes, refl, string_bytes}
+use Rattle.std.proofs.Common.{codes, string_bytes}
 use Rattle.std.proofs.lemmas.Result.{IfOk-weaker}
 use Rattle.bcs_registry_formats.specs.View.{shape_of}
 use Rattle.bcs_tool.specs.Answers.{decoded, line_of, refusal_line, stop_line, stopped, too_nested}

@@ -1,4 +1,4 @@
-use Rattle.std.proofs.Common.{Err, ap, inl, inr, string_bytes, subst, sym}
+use Rattle.std.proofs.Common.{Err, ap, inl, inr, subst, sym}
 use Rattle.bcs_registry_formats.specs.View.{shape_of}
 use Rattle.bcs_registry_laws.specs.Faults.{IsLeastFault}
 use Rattle.bcs_tool_line.specs.declared.command.Command.{Command}
