@@ -28,7 +28,26 @@ pub fn value_size(
         Format::TypeName(name) => named_size(registry, name.as_str(), depth, looks),
         Format::Tuple(formats) => tuple_size(registry, formats, depth, looks),
         Format::TupleArray(element, size) => { array_size(registry, element, *size, depth, looks) }
-        _ => whole_size(format),
+        Format::Unit
+        | Format::I8
+        | Format::I16
+        | Format::I32
+        | Format::I64
+        | Format::I128
+        | Format::U8
+        | Format::U16
+        | Format::U32
+        | Format::U64
+        | Format::U128 => whole_size(format),
+        Format::Bool
+        | Format::F32
+        | Format::F64
+        | Format::Char
+        | Format::Str
+        | Format::Bytes
+        | Format::Opt(_)
+        | Format::Seq(_)
+        | Format::Map(_, _) => None,
     }
 }
 
