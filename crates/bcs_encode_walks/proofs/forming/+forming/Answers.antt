@@ -7,8 +7,8 @@ use Rattle.bcs_value_tree.specs.Tree as tree
 use Rattle.bcs_value_tree.specs.View.{tree_of}
 use Rattle.bcs_encode_parts.specs.Forming.{formed}
 use Rattle.bcs_encode_parts.specs.Writing.{written}
-use Rattle.bcs_encode_parts.proofs.WalkViews.{at_enum, at_map, choice-found, count_items}
-use Rattle.bcs_encode_parts.proofs.WritingViews.{tells_along, array_refused, array_written, list_written, pairs_written, tuple_written, fields_written, variant_written, no_variant_written, count_formats, count_fields}
+use Rattle.bcs_encode_parts.proofs.WalkViews.{at_enum, at_map, choice-found}
+use Rattle.bcs_encode_parts.proofs.WritingViews.{tells_along, array_refused, array_written, list_written, pairs_written, tuple_written, fields_written, variant_written, no_variant_written}
 use Rattle.bcs_encode_walks.proofs.forming.+forming.Goals as goal
 
 pub form-returns-in_err-push_length-in-Items-Seq-clause-tells : goal.form-returns-in_err-push_length-in-Items-Seq-clause-tells
