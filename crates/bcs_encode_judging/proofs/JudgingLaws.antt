@@ -1,5 +1,5 @@
 -- What is judged to be sound is exactly what fits, within the depth and the nodes, with lengths that hold.
-use Rattle.std.proofs.Common.{◌≡◌, ℕ, suc, ◌+◌, ◌-◌, ◌≤◌, ◌^◌, Bool, true, false, ◌&&◌, ◌==◌, nat_le, nat_lt, length, Option, Some, None, is_some, IsTrue, ◌↔◌, refl, sym, ap, ◌∙◌, arith}
+use Rattle.std.proofs.Common.{◌≡◌, ℕ, ◌+◌, ◌-◌, ◌≤◌, ◌^◌, Bool, true, false, ◌&&◌, ◌==◌, nat_le, nat_lt, length, Option, Some, None, is_some, IsTrue, ◌↔◌, refl, sym, ap, ◌∙◌, arith}
 use Rattle.std.proofs.lemmas.Bool.{and_parts, and_from, false≢true}
 use Rattle.std.proofs.lemmas.Option.{none-some, same_Some}
 use Rattle.std.specs.Option.{option_and_then}
@@ -14,7 +14,7 @@ use Rattle.bcs_value_laws.specs.Limits.{Bounds}
 use Rattle.bcs_value_laws.proofs.FitsByViews.{fits-unsupported}
 use Rattle.bcs_encode_laws.specs.Lengths.{length_limit, lengths_hold, all_hold, each_holds, pairs_hold}
 use Rattle.bcs_encode_laws.specs.Refused.{IsSoundBesidesKeys}
-use Rattle.bcs_encode_judging.specs.Judging.{less, leaf, judged, all_judged, each_judged, pairs_judged}
+use Rattle.bcs_encode_judging.specs.Judging.{less, judged, all_judged, each_judged, pairs_judged}
 use Rattle.bcs_encode_judging.proofs.Options.{then_some, then_is, if_some, if_is, less_some, less_is, leaf_some, leaf_is}
 
 -- a tree's, a row's or a map's fitting and lengths, and its depth and nodes, of which so many are left

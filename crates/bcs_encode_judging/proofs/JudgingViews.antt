@@ -1,5 +1,5 @@
 -- What the walk needs of the views, shape by shape.
-use Rattle.std.proofs.Common.{◌≡◌, ℕ, suc, ◌+◌, ◌^◌, ◌<◌, ◌≤◌, nat_lt, Bool, true, false, ◌&&◌, List, [], ◌∷◌, length, map, Vec, BTreeMap, Box, Bor, Global, if◌then◌else◌, Option, Some, None, refl, sym, ap, ◌∙◌, arith, rules, le-leb, lt-ltb}
+use Rattle.std.proofs.Common.{◌≡◌, ℕ, suc, ◌+◌, ◌^◌, ◌<◌, ◌≤◌, nat_lt, Bool, false, ◌&&◌, List, [], ◌∷◌, length, map, Vec, BTreeMap, Box, Bor, Global, if◌then◌else◌, Option, Some, None, refl, sym, ap, ◌∙◌, arith, rules, le-leb, lt-ltb}
 use Rattle.std.proofs.lemmas.Bool.{and_parts, and_from}
 use Rattle.std.specs.Ordering.{nat_cmp}
 use Rattle.std.specs.Map.{lookup}

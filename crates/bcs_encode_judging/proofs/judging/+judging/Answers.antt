@@ -1,7 +1,6 @@
-use Rattle.std.proofs.Common.{◌≡◌, ℕ, None, sym, ap, ◌∙◌, refl, arith, rules, map}
+use Rattle.std.proofs.Common.{sym, ap, ◌∙◌, arith, rules, map}
 use Rattle.bcs_registry_formats.specs.Container.{of, field_shapes, payload_shape}
 use Rattle.bcs_registry_formats.specs.View.{field_of, formats_shapes, payload_of, shape_of}
-use Rattle.bcs_value_tree.specs.Tree.{Tree}
 use Rattle.bcs_value_tree.specs.View.{items_trees, tree_of}
 use Rattle.bcs_value_tree.specs.declared.value.Value.{Value}
 use Rattle.bcs_encode_judging.specs.Judging.{less, judged, each_judged}
