@@ -1,5 +1,5 @@
 -- What is made of a fitting tree outside keys is its canonical form, unless two keys of one map are the same.
-use Rattle.std.proofs.Common.{◌≡◌, ℕ, Bool, true, false, ◌&&◌, ◌==◌, List, [], ◌∷◌, ◌++◌, map, refl, sym, ap, subst, ◌∙◌, append_assoc, append-nil, inl, inr, Result, Ok, Err}
+use Rattle.std.proofs.Common.{◌≡◌, ℕ, Bool, true, false, ◌&&◌, ◌==◌, List, [], ◌∷◌, ◌++◌, map, refl, sym, ap, subst, append_assoc, append-nil, inl, inr, Result, Ok, Err}
 use Rattle.std.specs.Prelude.{nat_le}
 use Rattle.std.specs.List.Sorted.{IsPermutation}
 use Rattle.std.proofs.lemmas.Bool.{and_parts, false≢true, eq-eqb}
@@ -9,7 +9,7 @@ use Rattle.bcs_registry_formats.specs.Shape.{Shape, Shapes, no_shapes, shape}
 use Rattle.bcs_registry_formats.specs.Container.{Entries, Content, of, one_of, content_at, choice_at}
 use Rattle.bcs_value_tree.specs.Tree as tree
 use Rattle.bcs_value_tree.specs.Tree.{Tree, Trees, no_trees, tree, Pairs, no_pairs, pair, count, pair_count}
-use Rattle.bcs_value_tree.specs.View.{trees_of, pairs_of}
+use Rattle.bcs_value_tree.specs.View.{trees_of}
 use Rattle.bcs_value_laws.specs.Fits.{fits, all_fit, each_fits, pairs_fit}
 use Rattle.bcs_value_laws.proofs.VariantFits.{payload_fits}
 use Rattle.bcs_value_laws.specs.Same.{distinct, all_distinct, pairs_distinct}
@@ -24,7 +24,7 @@ use Rattle.bcs_encode_parts.specs.Writing.{chain, in_order, shape_count, written
 use Rattle.bcs_encode_parts.specs.Forming.{KeyedTrees, key_entry, map_ordered, row, formed, canonicalised, items_canonicalised, each_canonicalised, keyed_canonicalised}
 use Rattle.bcs_encode_parts.proofs.EntryArranging.{in_order_moves, in_order_rises_or_twins, sorted_written, twins_written}
 use Rattle.bcs_encode_parts.proofs.MapOrdering.{rises_anew, twins_anew}
-use Rattle.bcs_encode_parts.proofs.WritingLaws.{Told, chain_told, told_good, and_assoc, parts_distinct, parts_of_distinct, parts_repeat, forms_are_entries, each_count, written_told}
+use Rattle.bcs_encode_parts.proofs.WritingLaws.{Told, chain_told, told_good, and_assoc, parts_distinct, parts_repeat, forms_are_entries, each_count, written_told}
 use Rattle.bcs_encode_parts.proofs.FormingLaws.{keyed, forms, pairs_in_order_forms, formed_is_form}
 
 -- ---- one part after another

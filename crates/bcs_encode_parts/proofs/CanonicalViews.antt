@@ -1,5 +1,5 @@
 -- What the walk outside keys needs of the views.
-use Rattle.std.proofs.Common.{◌≡◌, ℕ, Bool, List, [], length, map, Vec, BTreeMap, Global, Option, Some, None, Box, Bor, Ok, Err, refl, sym, ap, ◌∙◌, if◌then◌else◌}
+use Rattle.std.proofs.Common.{◌≡◌, ℕ, Bool, List, [], length, map, BTreeMap, Global, Option, Some, None, Box, Bor, Ok, Err, refl, sym, ap, ◌∙◌, if◌then◌else◌}
 use Rattle.std.proofs.lemmas.Bool.{eq-eqb}
 use Rattle.std.specs.Ordering.{nat_cmp}
 use Rattle.std.specs.Map.{lookup}

@@ -1,5 +1,4 @@
 pub mod EntryArranging
-pub mod FormedSorting
 pub mod NumberViews
 pub mod WritingViews
 pub mod WalkViews

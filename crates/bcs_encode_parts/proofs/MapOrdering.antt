@@ -1,5 +1,5 @@
 -- The trees of a map's entries by rising keys: where the entries rise as they stand, and where they were sorted.
-use Rattle.std.proofs.Common.{◌≡◌, ℕ, true, false, List, [], ◌∷◌, length, map, refl, sym, ap, subst, ◌∙◌, arith, inl, inr, ◌⊎◌, Ok, Err}
+use Rattle.std.proofs.Common.{◌≡◌, ℕ, true, false, List, [], ◌∷◌, length, map, refl, sym, ap, ◌∙◌, arith, inl, inr, Ok, Err}
 use Rattle.std.specs.List.{zip}
 use Rattle.std.specs.List.Sorted.{IsPermutation, IsSortedByKey}
 use Rattle.std.specs.Ordering.{nat_cmp}
@@ -11,11 +11,12 @@ use Rattle.bcs_value_tree.specs.Tree as tree
 use Rattle.bcs_value_tree.specs.Tree.{Tree}
 use Rattle.bcs_value_tree.specs.View.{pairs_of}
 use Rattle.bcs_encode_laws.specs.Entries.{Keyed, Entry, EntriesRiseFrom, EntriesRise, HasTwins}
+use Rattle.bcs_encode_laws.specs.declared.fault.EncodeFault.{EncodeFault}
 use Rattle.bcs_encode_laws.specs.declared.fault.EncodeFault.TheVariants.{RepeatedKey}
 use Rattle.bcs_encode_laws.proofs.Sorting.{rise_or_twins}
-use Rattle.bcs_encode_parts.specs.Writing.{in_order, has_twins, keys_rise}
+use Rattle.bcs_encode_parts.specs.Writing.{Verdict, chain, in_order, has_twins, keys_rise, sorted_entries_written}
 use Rattle.bcs_encode_parts.specs.Forming.{KeyedTrees, key_entry, map_ordered, pairs_in_order}
-use Rattle.bcs_encode_parts.proofs.EntryArranging.{sorted_in_order, sorted_written, repeated_written, twins_found, keys_rise_up}
+use Rattle.bcs_encode_parts.proofs.EntryArranging.{sorted_in_order, sorted_written, repeated_written, twins_found, keys_rise_up, in_order_moves, in_order_rises_or_twins, twins_written}
 
 -- ---- what stands at the keys tells nothing of the order
 
@@ -91,4 +92,35 @@ module _ {X : Type 0} (keyed : X → KeyedTrees) where
         sorted_written (map key_alone xs) (map key_alone ys) [] (IsPermutation-map key_alone xs ys p) rises,
         sorted_in_order (map keyed xs) (map keyed ys) (IsPermutation-map keyed xs ys p) (keyed_rise ys rises),
       ) refl
+    ]
+
+-- ---- what the order of the trees tells of that of the bytes
+
+pub ordered_tree : (es : List KeyedTrees) (t : Tree) → map_ordered es ≡ Ok t → t ≡ tree.pairs (pairs_of (pairs_in_order es))
+unfolding map_ordered
+ordered_tree es t h = found (sorted_entries_written (map key_entry es) []) h
+  where
+    found : (v : Verdict) → chain v (λ b. Ok (tree.pairs (pairs_of (pairs_in_order es)))) ≡ Ok t → t ≡ tree.pairs (pairs_of (pairs_in_order es))
+    found (Ok b) is = cc
+    found (Err e) is = absurd cc
+
+zipped_alone : (es : List Entry) (us : List (Tree × Tree)) → length us ≡ length es → map key_entry (zip (map (λ e. e.0) es) us) ≡ map {B = Entry} (λ e. (e.0, [])) es
+zipped_alone [] us h = refl
+zipped_alone (e ∷ es) [] h = absurd (omega arith)
+zipped_alone (e ∷ es) (u ∷ us) h = ap (λ (ks : List Entry). (e.0, []) ∷ ks) (zipped_alone es us (omega arith))
+
+pub unordered_unwritten : (es : List Entry) (us : List (Tree × Tree)) (b : List ℕ) (e : EncodeFault) → length us ≡ length es
+    → map_ordered (zip (map (λ e. e.0) es) us) ≡ Err e → sorted_entries_written es b ≡ Err e
+unfolding map_ordered
+unordered_unwritten es us b e many h =
+    let ks : List KeyedTrees = zip (map (λ (x : Entry). x.0) es) us in
+    let lone : List Entry = map {B = Entry} (λ (x : Entry). (x.0, [])) es in
+    let moved : IsPermutation lone (map {B = Entry} (λ (x : Entry). (x.0, [])) (in_order es)) = IsPermutation-map {X = Entry} (λ (x : Entry). (x.0, [])) es (in_order es) (in_order_moves es) in
+    let is : chain (sorted_entries_written lone []) (λ c. Ok (tree.pairs (pairs_of (pairs_in_order ks)))) ≡ Err e =
+    ap (λ (x : List Entry). chain (sorted_entries_written x []) (λ c. Ok (tree.pairs (pairs_of (pairs_in_order ks))))) (sym (zipped_alone es us many)) ∙ h in
+    elim (in_order_rises_or_twins es) [
+      | inl rises ↦ (let good = sorted_written lone (map {B = Entry} (λ (x : Entry). (x.0, [])) (in_order es)) [] moved (rises_anew (λ x. []) (in_order es) rises) in absurd cc)
+      | inr twins ↦ (let bad = twins_written lone (map {B = Entry} (λ (x : Entry). (x.0, [])) (in_order es)) [] moved (twins_anew (λ x. []) (in_order es) twins) in
+          let same : RepeatedKey ≡ e = cc in
+          twins_written es (in_order es) b (in_order_moves es) twins ∙ ap (λ (x : EncodeFault). Err x) same)
     ]

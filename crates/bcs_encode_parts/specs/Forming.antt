@@ -61,6 +61,11 @@ module _ (registry : Entries) where
     keyed_formed (pair l w ps) k v es =
         keyed_formed ps k v (es ++ ((bytes_of (written registry l (of k) []), (formed l (of k), formed w (of v))) ∷ []))
 
+    -- the same without the keys' bytes
+    pub pairs_formed : Pairs → Shape → Shape → List (Tree × Tree) → List (Tree × Tree)
+    pairs_formed no_pairs k v us = us
+    pairs_formed (pair l w ps) k v us = pairs_formed ps k v (us ++ ((formed l (of k), formed w (of v)) ∷ []))
+
   -- ---- outside keys: the form, or the fault of a key that stands twice
   abbrev mutual
     pub canonicalised : Tree → Content → Result Tree EncodeFault

@@ -70,7 +70,7 @@ module _ (registry : Entries) (k v : Shape) where
 
 -- ---- the map of the keys that were laid
 
-length-spans_from : (at : ℕ) (es : List Entry) → length (spans_from at es) ≡ length es
+pub length-spans_from : (at : ℕ) (es : List Entry) → length (spans_from at es) ≡ length es
 length-spans_from at [] = refl
 length-spans_from at (e ∷ es) = omega (arith, length-spans_from ((at + length e.0) + length e.1) es)
 

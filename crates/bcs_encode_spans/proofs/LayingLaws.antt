@@ -111,7 +111,7 @@ spans_from at (e ∷ es) = span at (at + length e.0) ((at + length e.0) + length
 abbrev Lain : Type 0
 Lain = Result (List ℕ × List Span) EncodeFault
 
-abbrev lain : List ℕ → List Span → List Entry → Lain
+abbrev pub lain : List ℕ → List Span → List Entry → Lain
 lain b ss es = Ok (b ++ flat_map entry_bytes es, ss ++ spans_from (length b) es)
 
 lain_more : (b a c : List ℕ) (ss : List Span) (es : List Entry)
@@ -127,7 +127,7 @@ lain_more b a c ss es =
     ap₂ (λ (x : List ℕ) (y : List Span). Ok (x, y)) bytes spans
 
 module _ (registry : Entries) (k v : Shape) where
-  abbrev own_entries : Pairs → Result (List Entry) EncodeFault
+  abbrev pub own_entries : Pairs → Result (List Entry) EncodeFault
   own_entries no_pairs = Ok []
   own_entries (pair l w ps) =
       chain (written registry l (of k) []) (λ a. chain (written registry w (of v) []) (λ c. chain (own_entries ps) (λ es. Ok ((a, c) ∷ es))))
@@ -149,7 +149,7 @@ module _ (registry : Entries) (k v : Shape) where
       first h (Ok a) = second h a (written registry w (of v) [])
       first h (Err e) = refl
 
-  laid_own : (ps : Pairs) (b : List ℕ) (ss : List Span) → entries_laid registry ps k v b ss ≡ chain (own_entries ps) (lain b ss)
+  pub laid_own : (ps : Pairs) (b : List ℕ) (ss : List Span) → entries_laid registry ps k v b ss ≡ chain (own_entries ps) (lain b ss)
   laid_own no_pairs b ss = ap₂ (λ (x : List ℕ) (y : List Span). Ok (x, y)) (sym (append-nil b)) (sym (append-nil ss))
   laid_own (pair l w ps) b ss =
       ap (λ (u : Verdict). chain u (λ c. chain (written registry w (of v) c) (λ d. entries_laid registry ps k v d (ss ++ (span (length b) (length c) (length d) ∷ []))))) (written_behind registry l (of k) b)

@@ -3,15 +3,20 @@ ghost use Rattle.std.specs.Prelude.{◌≡◌, ◌≤◌, ◌-◌, ◌++◌, ◌
 ghost use Rattle.std.specs.List.Sorted.{IsPermutation, IsSortedByKey};
 ghost use Rattle.std.specs.Ordering.{nat_cmp};
 ghost use Rattle.std.specs.Cmp.Lexicographic.{slice_cmp};
+ghost use Rattle.std.specs.List.{flat_map};
+ghost use Rattle.bcs_value_tree.specs.Tree.{pairs as pairs_tree};
+ghost use Rattle.bcs_value_tree.specs.View as view;
 ghost use Rattle.bcs_value_tree.specs.View.{tree_of};
-ghost use Rattle.bcs_encode_parts.specs.Forming.{map_ordered};
-ghost use Rattle.bcs_encode_parts.specs.Writing.{Tells, has_twins};
+ghost use Rattle.bcs_encode_laws.specs.Entries.{entry_bytes};
+ghost use Rattle.bcs_encode_parts.specs.Forming.{map_ordered, pairs_in_order};
+ghost use Rattle.bcs_encode_parts.specs.Writing.{Tells, has_twins, sorted_entries_written};
 ghost use Rattle.bcs_encode_spans.specs.Laying as spec;
+ghost use Rattle.bcs_encode_spans.specs.Laying.{span_entry};
 ghost use Rattle.bcs_encode_spans.specs.KeyLaying.{keyed_spans, lone_key, pair_of, pair_trees, span_of, spanned_keyed};
 
 use crate::span::Span;
 use crate::spanned_pair::SpannedPair;
-use crate::spans::{part, rise};
+use crate::spans::{gather_in_order, part, rise};
 use crate::workspace::Workspace;
 use bcs_encode_laws::EncodeFault;
 use bcs_value_tree::Value;
@@ -56,6 +61,49 @@ pub fn put_in_order(
     put_pairs_in_order(&work.spans[first..], &work.out, pairs, alloc, slot)?;
     work.spans.truncate(first);
     work.out.truncate(start);
+    Ok(())
+}
+
+/// Leaves a span at the end of those before.
+#[inline(never)]
+pub fn keep_span(
+    spans: &mut Vec<Span>,
+    key: usize,
+    value: usize,
+    end: usize,
+) -> Result<(), AllocError>
+    ensures { OnOk result (spans.new.items ≡ spans.old.items ++ spec.span key value end ∷ []) }
+{
+    spans.push(Span { key, value, end })?;
+    Ok(())
+}
+
+/// Brings the entries of a map, whose bytes begin at `start`, into the order of their keys' bytes, and leaves the map of
+/// the pairs in that order in the slot; or refuses two with one key. Entries that rise stay where they are.
+#[inline(never)]
+pub fn arrange_pairs(
+    mut spans: Vec<Span>,
+    start: usize,
+    pairs: Vec<(Value, Value)>,
+    alloc: Global,
+    out: &mut Vec<u8>,
+    slot: &mut Value,
+) -> Result<(), EncodeFault>
+    requires many { length pairs.items ≡ length spans.items }
+    requires laid { take start out.old.items ++ flat_map entry_bytes (map (span_entry out.old.items) spans.items) ≡ out.old.items }
+    ensures tells { Tells result
+        (sorted_entries_written (map (span_entry out.old.items) spans.items) (take start out.old.items)) out.new.items }
+    ensures formed { OnOk result (tree_of slot.new
+        ≡ pairs_tree (view.pairs_of (pairs_in_order (keyed_spans out.old.items spans.items (map pair_trees pairs.items))))) }
+{
+    put_pairs_in_order(&spans, out, pairs, alloc, slot)?;
+    if rise(&spans, out) {
+        return Ok(());
+    }
+    let mut scratch = Vec::new(alloc);
+    gather_in_order(&mut spans, out, &mut scratch)?;
+    out.truncate(start);
+    out.extend_from_slice(&scratch)?;
     Ok(())
 }
 

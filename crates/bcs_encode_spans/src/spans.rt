@@ -62,7 +62,7 @@ pub(crate) fn rise(spans: &[Span], bytes: &[u8]) -> bool
 }
 
 /// The bytes of the entries by rising keys; or refuses two entries with one key.
-fn gather_in_order(
+pub(crate) fn gather_in_order(
     spans: &mut [Span],
     bytes: &[u8],
     scratch: &mut Vec<u8>,

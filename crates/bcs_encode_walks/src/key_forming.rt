@@ -6,19 +6,17 @@ ghost use Rattle.bcs_registry_formats.specs.Shape.{map as map_shape, tuple};
 ghost use Rattle.bcs_registry_formats.specs.View.{container_of, field_of, formats_shapes, payload_of, shape_of};
 ghost use Rattle.bcs_value_tree.specs.Tree.{items as items_tree, named, pairs as pairs_tree, present, unit};
 ghost use Rattle.bcs_value_tree.specs.View.{entries_pairs, items_trees, pairs_of, tree_of, trees_of};
-ghost use Rattle.bcs_encode_parts.specs.FormedView.{bytes_entry, keyed_of};
 ghost use Rattle.bcs_encode_parts.specs.Forming.{each_formed, formed, items_formed, keyed_formed, pairs_in_order};
 ghost use Rattle.bcs_encode_parts.specs.Writing as spec;
 ghost use Rattle.bcs_encode_parts.specs.Writing.{Tells};
 
 use crate::by_entries::push_value;
 use bcs_encode_laws::EncodeFault;
-use bcs_encode_parts::formed_entries::order_entries;
-use bcs_encode_parts::formed_entry::{FormedEntry, keep_formed};
 use bcs_encode_parts::pushing::{push_byte, push_length, push_number};
+use bcs_encode_spans::formed_pairs::{arrange_pairs, keep_span};
 use bcs_registry::{Container, Format, Named, Registry, VariantFormat};
 use bcs_value::Value;
-use bcs_value_tree::slot::{keep, put_items, wrap_named, wrap_present, wrap_variant};
+use bcs_value_tree::slot::{keep, keep_entry, put_items, wrap_named, wrap_present, wrap_variant};
 use std::alloc::Global;
 
 /// Leaves a key's form in the slot, or that of a part of one, and appends its bytes.
@@ -312,48 +310,17 @@ fn form_map(
         ≡ pairs_tree (pairs_of (pairs_in_order (keyed_formed registry.now (entries_pairs pairs.now) (shape_of key.now) (shape_of value.now) [])))) }
 {
     push_length(pairs.len(), out)?;
-    let mut entries = Vec::new(alloc);
-    form_entries(pairs, key, value, registry, alloc, &mut entries)?;
-    order_entries(entries, alloc, out, slot)
-}
-
-/// Appends the forms of a map's entries to those before, in the order of the pairs.
-#[cycle(key_forming)]
-#[inline(never)]
-fn form_entries(
-    pairs: &[(Value, Value)],
-    key: &Format,
-    value: &Format,
-    registry: &Registry,
-    alloc: Global,
-    entries: &mut Vec<FormedEntry>,
-) -> Result<(), EncodeFault>
-    ensures tells { Tells result
-        (spec.entries_written registry.now (entries_pairs pairs.now) (shape_of key.now) (shape_of value.now) (map bytes_entry entries.old.items))
-        (map bytes_entry entries.new.items) }
-    ensures formed { OnOk result (map keyed_of entries.new.items
-        ≡ keyed_formed registry.now (entries_pairs pairs.now) (shape_of key.now) (shape_of value.now) (map keyed_of entries.old.items)) }
-{
+    let start = out.len();
+    let mut spans = Vec::with_capacity(alloc, pairs.len())?;
+    let mut forms = Vec::with_capacity(alloc, pairs.len())?;
     for (k, v) in pairs {
-        let mut entry = FormedEntry::unformed(alloc)?;
-        let formed = &mut *entry;
-        form_key(
-            k,
-            key,
-            registry,
-            alloc,
-            &mut formed.bytes.key,
-            &mut formed.key,
-        )?;
-        form_key(
-            v,
-            value,
-            registry,
-            alloc,
-            &mut formed.bytes.value,
-            &mut formed.value,
-        )?;
-        keep_formed(entries, entry)?;
+        let mut formed = Value::Unit;
+        let place = out.len();
+        form_key(k, key, registry, alloc, out, &mut formed)?;
+        let middle = out.len();
+        form_key(v, value, registry, alloc, out, slot)?;
+        keep_span(&mut spans, place, middle, out.len())?;
+        keep_entry(&mut forms, &mut formed, slot)?;
     }
-    Ok(())
+    arrange_pairs(spans, start, forms, alloc, out, slot)
 }

@@ -1,14 +1,19 @@
-use Rattle.std.proofs.Common.{◌≡◌, ◌∙◌, sym, ap, arith, rules}
+use Rattle.std.proofs.Common.{◌≡◌, [], ◌∙◌, sym, ap, map, length, Ok, arith, rules}
 use Rattle.std.proofs.lemmas.Grind.{common_steps}
-use Rattle.std.proofs.lemmas.Result.{on_ok_weaker}
+use Rattle.std.proofs.lemmas.Result.{err_from_is_err_and, on_ok_weaker}
 use Rattle.bcs_registry_formats.specs.View.{shape_of, payload_of}
 use Rattle.bcs_registry_formats.specs.Container.{of, payload_shape}
 use Rattle.bcs_value_tree.specs.Tree as tree
-use Rattle.bcs_value_tree.specs.View.{tree_of}
-use Rattle.bcs_encode_parts.specs.Forming.{formed}
-use Rattle.bcs_encode_parts.specs.Writing.{written}
-use Rattle.bcs_encode_parts.proofs.WalkViews.{at_enum, at_map, choice-found, count_items}
+use Rattle.bcs_value_tree.specs.View.{entries_pairs, tree_of}
+use Rattle.bcs_encode_parts.specs.Forming.{formed, pairs_formed}
+use Rattle.bcs_encode_parts.specs.Writing.{Tells, written}
+use Rattle.bcs_encode_parts.proofs.WalkViews.{at_enum, at_map, choice-found, count_pairs}
 use Rattle.bcs_encode_parts.proofs.WritingViews.{tells_along, array_refused, array_written, list_written, pairs_written, tuple_written, fields_written, variant_written, no_variant_written, count_formats, count_fields}
+use Rattle.bcs_encode_spans.specs.Laying.{entries_laid}
+use Rattle.bcs_encode_spans.specs.KeyLaying.{pair_trees}
+use Rattle.bcs_encode_spans.proofs.LayingLaws.{laid_map, laid_whole, unlaid_map}
+use Rattle.bcs_encode_spans.proofs.FormedLaying.{forms_were_laid}
+use Rattle.std.proofs.lemmas.List.{length-map}
 use Rattle.bcs_encode_walks.proofs.key_forming.+key_forming.Goals as goal
 
 pub form_key-returns-in_err-push_length-in-Items-Seq-clause-tells : goal.form_key-returns-in_err-push_length-in-Items-Seq-clause-tells
@@ -86,22 +91,11 @@ pub form_map-returns-in_err-push_length-clause-tells : goal.form_map-returns-in_
 form_map-returns-in_err-push_length-clause-tells t c =
     tells_along _ _ _ _ (pairs_written c.args.registry.now c.args.pairs.now (shape_of c.args.key.now) (shape_of c.args.value.now) c.args.out.now.items) (search rules)
 
-pub form_map-returns-in_err-form_entries-clause-tells : goal.form_map-returns-in_err-form_entries-clause-tells
-form_map-returns-in_err-form_entries-clause-tells t c =
-    tells_along _ _ _ _ (pairs_written c.args.registry.now c.args.pairs.now (shape_of c.args.key.now) (shape_of c.args.value.now) c.args.out.now.items) (search rules)
-
-pub form_map-returns-clause-tells : goal.form_map-returns-clause-tells
-form_map-returns-clause-tells t c =
-    tells_along _ _ _ _ (pairs_written c.args.registry.now c.args.pairs.now (shape_of c.args.key.now) (shape_of c.args.value.now) c.args.out.now.items) (search rules)
-
 pub form_fields-loop-i-preserved : goal.form_fields-loop-i-preserved
 form_fields-loop-i-preserved t c = grind (arith, common_steps)
 
 pub form_each-loop-i-preserved : goal.form_each-loop-i-preserved
 form_each-loop-i-preserved t c = grind (arith, common_steps)
-
-pub form_entries-returns-in_err-form_key-2-clause-tells : goal.form_entries-returns-in_err-form_key-2-clause-tells
-form_entries-returns-in_err-form_key-2-clause-tells t c = grind (arith, common_steps)
 
 pub form_all-returns-in_err-form_key-clause-tells : goal.form_all-returns-in_err-form_key-clause-tells
 form_all-returns-in_err-form_key-clause-tells t c = grind (arith, common_steps)
@@ -112,23 +106,58 @@ form_fields-returns-clause-formed t c = grind (arith, common_steps)
 pub form_all-loop-item-preserved : goal.form_all-loop-item-preserved
 form_all-loop-item-preserved t c = grind (arith, common_steps)
 
-pub form_entries-returns-in_err-form_key-clause-tells : goal.form_entries-returns-in_err-form_key-clause-tells
-form_entries-returns-in_err-form_key-clause-tells t c = grind (arith, common_steps)
-
-pub form_entries-loop-k-preserved : goal.form_entries-loop-k-preserved
-form_entries-loop-k-preserved t c = grind (arith, common_steps)
-
 pub form_each-returns-clause-formed : goal.form_each-returns-clause-formed
 form_each-returns-clause-formed t c = grind (arith, common_steps)
 
 pub form_all-returns-clause-tells : goal.form_all-returns-clause-tells
 form_all-returns-clause-tells t c = grind (arith, common_steps)
 
-pub form_entries-returns-clause-formed : goal.form_entries-returns-clause-formed
-form_entries-returns-clause-formed t c = grind (arith, common_steps)
-
-pub form_entries-returns-clause-tells : goal.form_entries-returns-clause-tells
-form_entries-returns-clause-tells t c = grind (arith, common_steps)
-
 pub form_all-returns-clause-formed : goal.form_all-returns-clause-formed
 form_all-returns-clause-formed t c = grind (arith, common_steps)
+
+pub form_map-returns-in_err-form_key-clause-tells : goal.form_map-returns-in_err-form_key-clause-tells
+form_map-returns-in_err-form_key-clause-tells t c =
+    let p = err_from_is_err_and c.from_residual-in_err-form_key.result c.from_residual-in_err-form_key.ensures.1 in
+    let h : Tells c.from_residual-in_err-form_key.result (entries_laid c.args.registry.now (entries_pairs c.args.pairs.now) (shape_of c.args.key.now) (shape_of c.args.value.now) c.push_length.new.out.items []) (c.push_length.new.out.items, []) = grind (arith, common_steps) in
+    rw p.1 (λ k. unlaid_map c.args.registry.now (shape_of c.args.key.now) (shape_of c.args.value.now) (entries_pairs c.args.pairs.now) (length c.args.pairs.now) c.args.out.now.items
+    c.push_length.new.out.items [] _ (count_pairs c.args.pairs.now) c.in_ok-push_length.ensures ((rw p.1 at h) k))
+
+pub form_map-returns-in_err-form_key-2-clause-tells : goal.form_map-returns-in_err-form_key-2-clause-tells
+form_map-returns-in_err-form_key-2-clause-tells t c =
+    let p = err_from_is_err_and c.from_residual-in_err-form_key-2.result c.from_residual-in_err-form_key-2.ensures.1 in
+    let h : Tells c.from_residual-in_err-form_key-2.result (entries_laid c.args.registry.now (entries_pairs c.args.pairs.now) (shape_of c.args.key.now) (shape_of c.args.value.now) c.push_length.new.out.items []) (c.push_length.new.out.items, []) = grind (arith, common_steps) in
+    rw p.1 (λ k. unlaid_map c.args.registry.now (shape_of c.args.key.now) (shape_of c.args.value.now) (entries_pairs c.args.pairs.now) (length c.args.pairs.now) c.args.out.now.items
+    c.push_length.new.out.items [] _ (count_pairs c.args.pairs.now) c.in_ok-push_length.ensures ((rw p.1 at h) k))
+
+pub form_map-arrange_pairs-requires-clause-many : goal.form_map-arrange_pairs-requires-clause-many
+form_map-arrange_pairs-requires-clause-many t c =
+    let l = c.loop-k in
+    let laid : entries_laid c.args.registry.now (entries_pairs c.args.pairs.now) (shape_of c.args.key.now) (shape_of c.args.value.now) c.push_length.new.out.items [] ≡ Ok (l.out.items, l.spans.items) = grind (arith, common_steps) in
+    let forms : pairs_formed c.args.registry.now (entries_pairs c.args.pairs.now) (shape_of c.args.key.now) (shape_of c.args.value.now) [] ≡ map pair_trees l.forms.items = grind (arith, common_steps) in
+    let are = forms_were_laid c.args.registry.now (shape_of c.args.key.now) (shape_of c.args.value.now) (entries_pairs c.args.pairs.now) c.push_length.new.out.items l.out.items l.spans.items (map pair_trees l.forms.items) laid forms in
+    omega (arith, are.many, length-map l.forms.items pair_trees)
+
+pub form_map-arrange_pairs-requires-clause-laid : goal.form_map-arrange_pairs-requires-clause-laid
+form_map-arrange_pairs-requires-clause-laid t c =
+    let l = c.loop-k in
+    let laid : entries_laid c.args.registry.now (entries_pairs c.args.pairs.now) (shape_of c.args.key.now) (shape_of c.args.value.now) c.push_length.new.out.items [] ≡ Ok (l.out.items, l.spans.items) = grind (arith, common_steps) in
+    let start : c.len-start.result ≡ length c.push_length.new.out.items = search rules in
+    rw start (laid_whole c.args.registry.now (shape_of c.args.key.now) (shape_of c.args.value.now) (entries_pairs c.args.pairs.now) c.push_length.new.out.items l.out.items [] l.spans.items laid)
+
+pub form_map-returns-clause-tells : goal.form_map-returns-clause-tells
+form_map-returns-clause-tells t c =
+    let l = c.loop-k in
+    let laid : entries_laid c.args.registry.now (entries_pairs c.args.pairs.now) (shape_of c.args.key.now) (shape_of c.args.value.now) c.push_length.new.out.items [] ≡ Ok (l.out.items, l.spans.items) = grind (arith, common_steps) in
+    let start : c.len-start.result ≡ length c.push_length.new.out.items = search rules in
+    tells_along c.arrange_pairs.result _ _ c.arrange_pairs.new.out.items
+    (laid_map c.args.registry.now (shape_of c.args.key.now) (shape_of c.args.value.now) (entries_pairs c.args.pairs.now) (length c.args.pairs.now) c.args.out.now.items c.push_length.new.out.items l.out.items
+    [] l.spans.items (count_pairs c.args.pairs.now) c.in_ok-push_length.ensures laid)
+    (rw (← start) c.arrange_pairs.ensures.tells)
+
+pub form_map-returns-clause-formed : goal.form_map-returns-clause-formed
+form_map-returns-clause-formed t c =
+    let l = c.loop-k in
+    let laid : entries_laid c.args.registry.now (entries_pairs c.args.pairs.now) (shape_of c.args.key.now) (shape_of c.args.value.now) c.push_length.new.out.items [] ≡ Ok (l.out.items, l.spans.items) = grind (arith, common_steps) in
+    let forms : pairs_formed c.args.registry.now (entries_pairs c.args.pairs.now) (shape_of c.args.key.now) (shape_of c.args.value.now) [] ≡ map pair_trees l.forms.items = grind (arith, common_steps) in
+    let are = forms_were_laid c.args.registry.now (shape_of c.args.key.now) (shape_of c.args.value.now) (entries_pairs c.args.pairs.now) c.push_length.new.out.items l.out.items l.spans.items (map pair_trees l.forms.items) laid forms in
+    on_ok_weaker c.arrange_pairs.result (λ h. h ∙ are.form) c.arrange_pairs.ensures.formed
