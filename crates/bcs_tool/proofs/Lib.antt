@@ -2,3 +2,4 @@ pub mod AnswerLemmas
 pub mod JudgingLemmas
 pub mod OneRefusal
 pub mod OneAnswer
+pub mod EndingLemmas
