@@ -1,5 +1,5 @@
 -- What a stream was told: a text in one piece or in two, or a front of it.
-use Rattle.std.proofs.Common.{◌≡◌, ◌<◌, ◌+◌, ◌++◌, ◌⊎◌, ◌∙◌, Ok, Err, Result, ap, arith, codes, inl, inr, refl, ℕ, List, [], Bool, true, false, true≢false, Option, Some, None, is_some, length, length-append, sym, subst, take}
+use Rattle.std.proofs.Common.{◌≡◌, ◌<◌, ◌+◌, ◌++◌, ◌⊎◌, ◌∙◌, Ok, Err, Result, ap, arith, codes, inl, inr, refl, ℕ, List, [], Bool, false, true≢false, Option, Some, None, is_some, length, length-append, sym, subst, take}
 use Rattle.std.specs.Prelude.{String, string_bytes}
 use Rattle.std.specs.Str.{bytes_eq}
 use Rattle.std.specs.declared.alloc.Global.{Global}

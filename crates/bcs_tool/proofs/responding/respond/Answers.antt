@@ -1,4 +1,4 @@
-use Rattle.std.proofs.Common.{inl, inr, refl, subst, arith}
+use Rattle.std.proofs.Common.{inl, inr, refl, subst}
 use Rattle.bcs_tool_line.specs.declared.line_fault.LineFault.{LineFault}
 use Rattle.bcs_tool.specs.Endings.{TellsFault}
 use Rattle.bcs_tool.proofs.EndingLemmas.{fault_status, outcome_status}
