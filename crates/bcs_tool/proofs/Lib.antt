@@ -6,3 +6,4 @@ pub mod OneAnswer
 pub mod SomeRefusal
 pub mod SomeInput
 pub mod SomeAnswer
+pub mod EndingLemmas

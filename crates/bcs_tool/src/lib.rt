@@ -1,22 +1,28 @@
-//! The program `bcs`, but for its `main`: the command line, files, and the answer to a job.
+//! The program `bcs`: the command line, files, the answer to a job, and what its streams are told.
 #![tactic(auto)]
 
 mod answer;
 mod answering;
 mod blanks;
 mod bytes_answers;
+mod entry;
 mod job_fault;
 mod judging;
 pub mod laws;
+mod responding;
 mod run_fault;
 mod running;
+mod telling;
 mod text_refusal;
 mod value_answers;
 
 pub use bcs_decode::{ByteSource, ReadSource};
 pub use bcs_encode::{ByteSink, WriteSink};
 pub use bcs_tool_files::{
-    FileFault, Outcome, TakeFault, Work, put_all, read_named, read_work, take_all,
+    FileFault, Outcome, TakeFault, Work, put_all, read_named, read_opened, read_work, take_all,
 };
 pub use bcs_tool_line::{Command, Job, LineFault, line};
+pub use entry::{program, words_of};
+pub use responding::respond;
 pub use running::run;
+pub use telling::{tell_fault, tell_outcome};

@@ -52,7 +52,8 @@ pub fn run<S: ByteSource, K: ByteSink>(
     }
 }
 
-fn failed(note: &'static str) -> Outcome
+/// The outcome of a job that has no answer.
+pub fn failed(note: &'static str) -> Outcome
     ensures status { result.status ≡ 4 }
     ensures note { result.note.now ≡ note.now }
 {

@@ -1,5 +1,7 @@
 //! The files that a job names.
-ghost use Rattle.std.specs.Prelude.{◌≡◌, ◌≤◌, true, vec_len, IfOk, IsOkUnless};
+ghost use Rattle.std.specs.Prelude.{◌≡◌, ◌≢◌, ◌≤◌, ◌+◌, ℕ, List, Err, false, true, length, vec_len, IfOk, IsOkUnless};
+ghost use Rattle.std.specs.Io.KnownBytes.{IsAtEnd};
+ghost use Rattle.bcs_decode_sources.specs.Taking.{Took, Lost};
 ghost use Rattle.bcs_tool_files.specs.Files.{size_limit};
 ghost use Rattle.bcs_tool_files.specs.Files.{IsWorkOf, NamesNoFile, is_registry_text};
 
@@ -7,7 +9,7 @@ use crate::file_fault::FileFault;
 use crate::limits::SIZE_LIMIT;
 use crate::taking::{TakeFault, take_all};
 use crate::work::Work;
-use bcs_decode_sources::ReadSource;
+use bcs_decode_sources::{ByteSource, ReadSource};
 use bcs_tool_line::{Command, Job};
 use std::alloc::{AllocError, Global};
 use std::fs::File;
@@ -17,10 +19,26 @@ use std::rt::Files;
 pub fn read_named<R: Files + AllocGlobal>(rt: &R, name: &str) -> Result<Vec<u8>, FileFault>
     ensures { IfOk result (λ v. vec_len v ≤ size_limit) }
 {
-    let Ok(file) = File::open(rt, name) else {
-        return Err(FileFault::Open);
-    };
-    Ok(take_all(rt.alloc(), &mut ReadSource::new(file), SIZE_LIMIT)?)
+    match File::open(rt, name) {
+        Ok(file) => read_opened(rt.alloc(), &mut ReadSource::new(file)),
+        Err(_) => Err(FileFault::Open),
+    }
+}
+
+/// The content of a file that is open, of at most 268435456 bytes: what `take_all` takes of it.
+pub fn read_opened<S: ByteSource>(alloc: Global, file: &mut S) -> Result<Vec<u8>, FileFault>
+    ensures whole { IfOk result (λ v. Took S.content S.is_failed S.allowance file.old file.new v.items
+        × IsAtEnd (S.content file.new) × (S.is_failed file.new ≡ false) × (vec_len v ≤ size_limit)) }
+    ensures is_open { result ≢ Err FileFault.Open }
+    ensures read { result ≡ Err (FileFault.Take TakeFault.Read) → (bytes : List ℕ)
+        × Lost S.content S.is_failed S.allowance file.old file.new bytes × (length bytes ≤ size_limit) }
+    ensures too_large { result ≡ Err (FileFault.Take TakeFault.TooLarge) → (bytes : List ℕ)
+        × Took S.content S.is_failed S.allowance file.old file.new bytes × (length bytes ≡ size_limit + 1) }
+    ensures memory { result ≡ Err (FileFault.Take TakeFault.OutOfMemory) → (bytes : List ℕ)
+        × Took S.content S.is_failed S.allowance file.old file.new bytes × (length bytes ≤ size_limit)
+        × (S.is_failed file.new ≡ false) }
+{
+    Ok(take_all(alloc, file, SIZE_LIMIT)?)
 }
 
 /// The work of a job, and the name of the input's file. The files that the job names are read, that

@@ -9,7 +9,7 @@ mod taking;
 mod work;
 
 pub use file_fault::FileFault;
-pub use files::{read_named, read_work};
+pub use files::{read_named, read_opened, read_work};
 pub use putting::put_all;
 pub use taking::{TakeFault, take_all};
 pub use work::{Outcome, Work};

@@ -175,6 +175,21 @@ help_word : fault_of bcs_app (codes "bcs" ∷ codes "help" ∷ codes "encode" �
 unfolding clap_on_literals
 help_word = refl
 
+-- ---- words that ask for the version
+
+asks_version : fault_of bcs_app (codes "bcs" ∷ codes "--version" ∷ []) ≡ kind.DisplayVersion ∷ []
+unfolding clap_on_literals
+asks_version = refl
+
+asks_version_by_letter : fault_of bcs_app (codes "bcs" ∷ codes "-V" ∷ []) ≡ kind.DisplayVersion ∷ []
+unfolding clap_on_literals
+asks_version_by_letter = refl
+
+-- a command has none of its own
+version_of_encode : fault_of bcs_app (codes "bcs" ∷ codes "encode" ∷ codes "--version" ∷ []) ≡ kind.UnknownArgument ∷ []
+unfolding clap_on_literals
+version_of_encode = refl
+
 -- ---- any registry and any format that are texts themselves
 
 any_is_taken : (program registry format : List ℕ) → fault_of bcs_app (program ∷ codes "encode" ∷ (123 ∷ registry) ∷ (34 ∷ format) ∷ []) ≡ []

@@ -30,9 +30,10 @@ fault_among : (kinds : Kinds) (k : ErrorKind) (f : LineFault)
     → (k ≡ kind.OutOfMemory) ⊎ IsAmong k kinds → IsFaultOfKind k f → IsFaultAmong kinds f
 fault_among kinds k (Usage text) (inl e) h = absurd (h.1 e)
 fault_among kinds k (Usage text) (inr among) h = (k, among, h.0)
-fault_among kinds k (Help text) (inl e) h = cc
+fault_among kinds k (Help text) (inl e) (inl h) = cc
+fault_among kinds k (Help text) (inl e) (inr h) = cc
 fault_among kinds k (Help text) (inr among) h =
-    let P : ErrorKind → Type 0 = λ q. IsAmong q kinds in rw (h) at among
+    (k, among, h)
 fault_among kinds k OutOfMemory a h = tt
 
 -- the fault for an error of a parse is one that clap finds in the words
@@ -44,7 +45,7 @@ fault_of_error a words e f same h is = fault_among (fault_of bcs_app words) (kin
 none_is_memory : (kinds : Kinds) (f : LineFault) → IsFaultAmong kinds f → kinds ≡ [] → f ≡ OutOfMemory
 none_is_memory (k ∷ ks) f h e = cc
 none_is_memory [] (Usage text) h e = absurd h.1
-none_is_memory [] (Help text) h e = absurd h
+none_is_memory [] (Help text) h e = absurd h.1
 none_is_memory [] OutOfMemory h e = refl
 
 pub memory_alone : (words : List Text) (f : LineFault) → IsFaultOf words f → fault_of bcs_app words ≡ [] → f ≡ OutOfMemory

@@ -1,5 +1,5 @@
 -- Why a command line asks for no job.
-use Rattle.std.specs.Prelude.{◌≡◌, ◌≢◌, List}
+use Rattle.std.specs.Prelude.{◌≡◌, ◌≢◌, ◌⊎◌, List}
 use Rattle.clap.specs.Words.{IsAmong, Kinds, Text, fault_of}
 use Rattle.clap.specs.declared.error.kind.ErrorKind.{ErrorKind}
 use Rattle.clap.specs.declared.error.kind.ErrorKind.TheVariants as kind
@@ -7,16 +7,20 @@ use Rattle.bcs_tool_words.specs.CommandLine.{bcs_app}
 use Rattle.bcs_tool_line.specs.declared.line_fault.LineFault.{LineFault}
 use Rattle.bcs_tool_line.specs.declared.line_fault.LineFault.TheVariants.{Usage, Help, OutOfMemory}
 
+-- clap's error of this kind has a text that the words ask for: help, or the version
+abbrev pub IsAskedFor : ErrorKind → Type 0
+IsAskedFor k = (k ≡ kind.DisplayHelp) ⊎ (k ≡ kind.DisplayVersion)
+
 -- the fault for clap's error of this kind; the text itself may be refused its memory
 abbrev pub IsFaultOfKind : ErrorKind → LineFault → Type 0
-IsFaultOfKind k (Usage text) = (k ≢ kind.DisplayHelp) × (k ≢ kind.OutOfMemory)
-IsFaultOfKind k (Help text) = k ≡ kind.DisplayHelp
+IsFaultOfKind k (Usage text) = (¬ IsAskedFor k) × (k ≢ kind.OutOfMemory)
+IsFaultOfKind k (Help text) = IsAskedFor k
 IsFaultOfKind k OutOfMemory = Unit {0}
 
 -- the fault is for one of these kinds, or memory ran out
 abbrev pub IsFaultAmong : Kinds → LineFault → Type 0
-IsFaultAmong kinds (Usage text) = (k : ErrorKind) × IsAmong k kinds × (k ≢ kind.DisplayHelp)
-IsFaultAmong kinds (Help text) = IsAmong kind.DisplayHelp kinds
+IsFaultAmong kinds (Usage text) = (k : ErrorKind) × IsAmong k kinds × (¬ IsAskedFor k)
+IsFaultAmong kinds (Help text) = (k : ErrorKind) × IsAmong k kinds × IsAskedFor k
 IsFaultAmong kinds OutOfMemory = Unit {0}
 
 -- the fault is one that clap finds in the words, the program's own name first

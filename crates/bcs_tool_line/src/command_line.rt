@@ -18,7 +18,7 @@ use std::alloc::Global;
 /// command's. Options may stand anywhere after it. A word that begins with `-` is an option, unless
 /// it is `-` alone or stands after the word `--`.
 ///
-/// `Help` answers `--help`, `-h` and `help`. `Usage` answers other words that no command takes: no
+/// `Help` answers `--help`, `-h` and `help`, and `--version` and `-V`. `Usage` answers other words that no command takes: no
 /// command, another one, a word too few or too many, an option that the command doesn't have or
 /// that is given twice. Words that a command takes are refused only where memory runs out.
 pub fn line(alloc: Global, words: &[String]) -> Result<Job, LineFault>
@@ -53,7 +53,7 @@ fn refusal(alloc: Global, error: &Error) -> LineFault
         return LineFault::OutOfMemory;
     };
     match error.kind() {
-        ErrorKind::DisplayHelp => LineFault::Help(text),
+        ErrorKind::DisplayHelp | ErrorKind::DisplayVersion => LineFault::Help(text),
         _ => LineFault::Usage(text),
     }
 }

@@ -11,7 +11,7 @@ pub enum LineFault {
     /// standard error.
     #[error("Usage")]
     Usage(String),
-    /// The words ask for help. It holds clap's text of help, for the standard output.
+    /// The words ask for help, or for the version. It holds clap's text of it, for the standard output.
     #[error("Help")]
     Help(String),
     /// Memory ran out.

@@ -4,27 +4,10 @@ ghost use Rattle.clap.specs.Words.{app_of, rule_of};
 ghost use Rattle.clap.specs.declared.builder.command.Command.TheViews.{out-Command};
 ghost use Rattle.bcs_tool_words.specs.CommandLine.{bcs_app, check_app, decode_app, encode_app, grows_app, normalise_app, number_option, optional, part_app, raw_flag, required, same_app, value_app};
 
+use crate::texts;
+use crate::version::VERSION;
 use clap::{Arg, ArgAction, Command, value_parser};
 use std::alloc::{AllocError, Global};
-
-const REGISTRY: &str =
-    "The registry: its JSON text where the word begins with {, else a file's name";
-
-const OLD_REGISTRY: &str = "The older registry, as its text or a file";
-
-const NEW_REGISTRY: &str = "The newer registry, as its text or a file";
-
-const FORMAT: &str =
-    "The format: its JSON text where the word begins with { or \", else a container's name";
-
-const PATH: &str =
-    "The steps to the part: . for the whole value, or numbers, inner and key:DIGITS joined by /";
-
-const FILE: &str = "The file to read in place of the standard input";
-
-const FIRST_FILE: &str = "The file of the first value's JSON text";
-
-const SECOND_FILE: &str = "The file of the second value's, in place of the standard input";
 
 /// The whole command line, of which the first word is the program's own name.
 pub fn bcs_command<'a>(alloc: Global) -> Result<Command<'a>, AllocError>
@@ -32,6 +15,8 @@ pub fn bcs_command<'a>(alloc: Global) -> Result<Command<'a>, AllocError>
 {
     Command::new(alloc, "bcs")
         .about("Binary Canonical Serialization, by a registry of formats")
+        .after_help(texts::PROGRAM_END)
+        .version(VERSION)
         .subcommand_required(true)
         .subcommand(check_command(alloc)?)?
         .subcommand(grows_command(alloc)?)?
@@ -48,7 +33,8 @@ fn check_command<'a>(alloc: Global) -> Result<Command<'a>, AllocError>
 {
     Command::new(alloc, "check")
         .about("Checks a registry and prints how many containers it has")
-        .arg(required_word(alloc, "REG", REGISTRY))
+        .after_help(texts::CHECK_END)
+        .arg(required_word(alloc, "REG", texts::REGISTRY))
 }
 
 fn grows_command<'a>(alloc: Global) -> Result<Command<'a>, AllocError>
@@ -57,8 +43,9 @@ fn grows_command<'a>(alloc: Global) -> Result<Command<'a>, AllocError>
 {
     Command::new(alloc, "grows")
         .about("Tells whether a registry only adds to an older one")
-        .arg(required_word(alloc, "OLD", OLD_REGISTRY))?
-        .arg(required_word(alloc, "NEW", NEW_REGISTRY))
+        .after_help(texts::GROWS_END)
+        .arg(required_word(alloc, "OLD", texts::OLD_REGISTRY))?
+        .arg(required_word(alloc, "NEW", texts::NEW_REGISTRY))
 }
 
 fn encode_command<'a>(alloc: Global) -> Result<Command<'a>, AllocError>
@@ -67,7 +54,8 @@ fn encode_command<'a>(alloc: Global) -> Result<Command<'a>, AllocError>
 {
     value_command(alloc, "encode")?
         .about("Prints the bytes of a value's JSON text")
-        .arg(optional_word(alloc, "FILE", FILE))?
+        .after_help(texts::ENCODE_END)
+        .arg(optional_word(alloc, "FILE", texts::FILE))?
         .arg(raw_option(
             alloc,
             "Writes the bytes as they are, and not as hexadecimal digits",
@@ -80,7 +68,8 @@ fn decode_command<'a>(alloc: Global) -> Result<Command<'a>, AllocError>
 {
     value_command(alloc, "decode")?
         .about("Prints the JSON text of a value's bytes")
-        .arg(optional_word(alloc, "FILE", FILE))?
+        .after_help(texts::DECODE_END)
+        .arg(optional_word(alloc, "FILE", texts::FILE))?
         .arg(raw_option(
             alloc,
             "Reads the bytes as they are, and not as hexadecimal digits",
@@ -93,7 +82,8 @@ fn normalise_command<'a>(alloc: Global) -> Result<Command<'a>, AllocError>
 {
     value_command(alloc, "normalise")?
         .about("Prints the one normal JSON text of a value's JSON text")
-        .arg(optional_word(alloc, "FILE", FILE))
+        .after_help(texts::NORMALISE_END)
+        .arg(optional_word(alloc, "FILE", texts::FILE))
 }
 
 fn same_command<'a>(alloc: Global) -> Result<Command<'a>, AllocError>
@@ -102,8 +92,9 @@ fn same_command<'a>(alloc: Global) -> Result<Command<'a>, AllocError>
 {
     value_command(alloc, "same")?
         .about("Tells whether two JSON texts have the same value")
-        .arg(required_word(alloc, "A", FIRST_FILE))?
-        .arg(optional_word(alloc, "B", SECOND_FILE))
+        .after_help(texts::SAME_END)
+        .arg(required_word(alloc, "A", texts::FIRST_FILE))?
+        .arg(optional_word(alloc, "B", texts::SECOND_FILE))
 }
 
 fn part_command<'a>(alloc: Global) -> Result<Command<'a>, AllocError>
@@ -112,8 +103,9 @@ fn part_command<'a>(alloc: Global) -> Result<Command<'a>, AllocError>
 {
     value_command(alloc, "part")?
         .about("Prints the bytes of a part of a value, out of the value's bytes")
-        .arg(required_word(alloc, "PATH", PATH))?
-        .arg(optional_word(alloc, "FILE", FILE))?
+        .after_help(texts::PART_END)
+        .arg(required_word(alloc, "PATH", texts::PATH))?
+        .arg(optional_word(alloc, "FILE", texts::FILE))?
         .arg(raw_option(
             alloc,
             "Reads and writes the bytes as they are, and not as hexadecimal digits",
@@ -126,8 +118,8 @@ fn value_command<'a>(alloc: Global, name: &'a str) -> Result<Command<'a>, AllocE
     ensures global { IfOk result (λ c. (out-Command c).has_globals ≡ false) }
 {
     Command::new(alloc, name)
-        .arg(required_word(alloc, "REG", REGISTRY))?
-        .arg(required_word(alloc, "FORMAT", FORMAT))?
+        .arg(required_word(alloc, "REG", texts::REGISTRY))?
+        .arg(required_word(alloc, "FORMAT", texts::FORMAT))?
         .arg(depth_option(alloc))?
         .arg(nodes_option(alloc))
 }

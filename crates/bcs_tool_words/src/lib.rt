@@ -2,3 +2,5 @@
 #![tactic(auto)]
 
 pub mod definition;
+pub mod texts;
+pub mod version;

@@ -4,7 +4,7 @@ use Rattle.clap.specs.Words.{AddsSubcommand, App, app_of, new_app, with_subcomma
 use Rattle.clap.specs.Simple.{app_of_fields}
 use Rattle.clap.specs.declared.builder.command.Command.{Command}
 use Rattle.clap.specs.declared.builder.command.Command.TheViews.{out-Command}
-use Rattle.bcs_tool_words.specs.CommandLine.{wants_command}
+use Rattle.bcs_tool_words.specs.CommandLine.{tells_version, wants_command}
 use Rattle.bcs_tool_words.proofs.definition.bcs_command.Goals as goal
 
 -- a command with one more subcommand
@@ -16,9 +16,10 @@ added old sub new h local above below =
 
 pub returns : goal.returns
 returns c =
-    let top : app_of c.subcommand_required.result ≡ wants_command (new_app (codes "bcs")) =
+    let plain = ap app_of_fields c.after_help.ensures ∙ (ap app_of_fields c.about.ensures ∙ c.new.ensures.app) in
+    let top : app_of c.subcommand_required.result ≡ wants_command (tells_version (new_app (codes "bcs"))) =
     ap app_of_fields c.subcommand_required.ensures
-    ∙ ap wants_command (ap app_of_fields c.about.ensures ∙ c.new.ensures.app) in
+    ∙ ap wants_command (ap app_of_fields c.version.ensures ∙ ap tells_version plain) in
     let check = added _ _ _ c.in_ok-subcommand.ensures
     c.in_ok-check_command.ensures.global top c.in_ok-check_command.ensures.app in
     let grows = added _ _ _ c.in_ok-subcommand-2.ensures

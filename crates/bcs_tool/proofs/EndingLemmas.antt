@@ -1,0 +1,157 @@
+-- What a stream was told: a text in one piece or in two, or a front of it.
+use Rattle.std.proofs.Common.{◌≡◌, ◌<◌, ◌+◌, ◌++◌, ◌⊎◌, ◌∙◌, Ok, Err, Result, ap, arith, codes, inl, inr, refl, ℕ, List, [], Bool, false, true≢false, Option, Some, None, is_some, length, length-append, sym, subst, take}
+use Rattle.std.specs.Prelude.{String, string_bytes}
+use Rattle.std.specs.Str.{bytes_eq}
+use Rattle.std.specs.declared.alloc.Global.{Global}
+use Rattle.std.proofs.lemmas.Slice.Eq.{bytes_eq-Decides}
+use Rattle.std.specs.Prelude.{OnOk, OnErr}
+use Rattle.std.proofs.Math.Seq.{take-append-add}
+use Rattle.std.proofs.lemmas.List.{take-append-le}
+use Rattle.bcs_encode_sinks.specs.Taking.{Took, Lost}
+use Rattle.bcs_encode_sinks.proofs.TakingLemmas.{Lost-then, Took-then}
+use Rattle.bcs_tool_line.specs.declared.job.Job.{Job}
+use Rattle.bcs_tool_line.specs.declared.line_fault.LineFault.{LineFault}
+use Rattle.bcs_tool_line.specs.declared.line_fault.LineFault.TheVariants.{Usage, Help, OutOfMemory}
+use Rattle.bcs_tool_files.specs.Files.{IsWorkOf, file_note}
+use Rattle.bcs_tool_files.specs.declared.file_fault.FileFault.{FileFault}
+use Rattle.bcs_tool_files.specs.declared.file_fault.FileFault.TheVariants.{Open, Take}
+use Rattle.bcs_tool_files.specs.declared.taking.TakeFault.TheVariants as fault
+use Rattle.bcs_tool_files.specs.declared.work.Outcome.{Outcome}
+use Rattle.bcs_tool_files.specs.declared.work.Work.{Work}
+use Rattle.bcs_tool.specs.Answers.{Answers, IsContent, IsFaultNote, line_of}
+use Rattle.bcs_tool.specs.Endings.{HasAnswer, IsNote, Performs, PutFront, ReadsNoFile, TellsFault, TellsOutcome, Told, input_of}
+
+module _ {K : Type 0} (taken : K → Option (List ℕ)) (is_failed : K → Bool) where
+  -- a text that is put, or else in part
+  pub is_told : {A B : Type 0} (r : Result A B) (old new : K) (text : List ℕ)
+      → OnOk r (Took taken is_failed old new text) → OnErr r (PutFront taken is_failed old new text) → Told taken is_failed old new text
+  is_told (Ok a) old new text whole part = inl whole
+  is_told (Err e) old new text whole part = inr part
+
+  -- a front of a text is one of the text with more behind it
+  pub front_of_more : (old new : K) (xs ys : List ℕ) → PutFront taken is_failed old new xs → PutFront taken is_failed old new (xs ++ ys)
+  front_of_more old new xs ys (n, short, lost) =
+      (n, omega (arith, length-append xs ys), subst (λ (bs : List ℕ). Lost taken is_failed old new bs) (sym (take-append-le n xs ys (omega arith))) lost)
+
+  -- a text was put, and then another was told
+  pub told_then : (a b c : K) (xs ys : List ℕ) → Took taken is_failed a b xs → Told taken is_failed b c ys → Told taken is_failed a c (xs ++ ys)
+  told_then a b c xs ys first (inl whole) = inl (Took-then taken is_failed a b c xs ys first whole)
+  told_then a b c xs ys first (inr (n, short, lost)) =
+      inr (length xs + n, omega (arith, length-append xs ys), subst (λ (bs : List ℕ). Lost taken is_failed a c bs) (sym (take-append-add xs ys n)) (Lost-then taken is_failed a b c xs (take n ys) first lost))
+
+-- two texts that aren't equal
+differ : (a b : List ℕ) → bytes_eq a b ≡ false → a ≡ b → ⊥
+differ a b other same = true≢false (sym ((bytes_eq-Decides a b).1 same) ∙ other)
+
+-- ---- words that are no job
+
+module _ {O E : Type 0} (taken : O → Option (List ℕ)) (is_failed : O → Bool) (told : E → Option (List ℕ)) (has_failed : E → Bool) where
+  pub fault_status : (fault : LineFault) (out out' : O) (errors errors' : E) (status : ℕ)
+      → TellsFault taken is_failed told has_failed fault out out' errors errors' status → status < 5
+  fault_status (Usage text) out out' errors errors' status h = omega (arith, h.0)
+  fault_status (Help text) out out' errors errors' status (inl h) = omega (arith, h.0)
+  fault_status (Help text) out out' errors errors' status (inr h) = omega (arith, h.0)
+  fault_status OutOfMemory out out' errors errors' status h = omega (arith, h.0)
+
+  -- a note that is told
+  pub note_told : (outcome : Outcome) (errors errors' : E) (status : ℕ) (note : List ℕ) → TellsOutcome told has_failed outcome errors errors' status
+      → outcome.status ≡ 4 → outcome.note.now ≡ note → bytes_eq note [] ≡ false → (status ≡ 4) × Told told has_failed errors errors' (line_of note)
+  note_told outcome errors errors' status note h is same full =
+      let P : List ℕ → Type 0 = λ text. Told told has_failed errors errors' (line_of text) in
+      (h.0 ∙ is, subst P same (h.2 (λ empty. differ note [] full (sym same ∙ empty))))
+
+  -- the standard output failed before the end of a text that was asked for
+  pub cut_help : (fault : LineFault) (text : String Global) (out out' : O) (outcome : Outcome) (errors errors' : E) (status : ℕ)
+      → fault ≡ Help text → PutFront taken is_failed out out' (string_bytes text) → TellsOutcome told has_failed outcome errors errors' status
+      → outcome.status ≡ 4 → outcome.note.now ≡ codes "fault: write" → TellsFault taken is_failed told has_failed fault out out' errors errors' status
+  cut_help fault text out out' outcome errors errors' status asked front h is same =
+      let P : LineFault → Type 0 = λ f. TellsFault taken is_failed told has_failed f out out' errors errors' status in
+      let n = note_told outcome errors errors' status (codes "fault: write") h is same refl in
+      subst P (sym asked) (inr (n.0, front, n.1))
+
+  -- there was no memory for the words
+  pub no_memory : (fault : LineFault) (out : O) (outcome : Outcome) (errors errors' : E) (status : ℕ)
+      → fault ≡ OutOfMemory → TellsOutcome told has_failed outcome errors errors' status
+      → outcome.status ≡ 4 → outcome.note.now ≡ codes "fault: memory" → TellsFault taken is_failed told has_failed fault out out errors errors' status
+  no_memory fault out outcome errors errors' status asked h is same =
+      let P : LineFault → Type 0 = λ f. TellsFault taken is_failed told has_failed f out out errors errors' status in
+      let n = note_told outcome errors errors' status (codes "fault: memory") h is same refl in
+      subst P (sym asked) (n.0, refl, n.1)
+
+-- ---- the answer of a job
+
+-- the input is the standard one
+pub has_answer : (job : Job) (work : Work) (file : Option (String Global)) (content : Option (List ℕ)) (bytes output : List ℕ) (status : ℕ)
+    → IsWorkOf job work file → file ≡ None → IsContent content bytes → Answers work bytes status output → HasAnswer job content status output
+has_answer job work file content bytes output status is none known answers =
+    let P : Option (String Global) → Type 0 = λ f. IsWorkOf job work f in
+    let Q : Option (String Global) → Type 0 = λ f. IsContent (input_of f content) bytes in
+    (work, bytes, subst P is.input is, subst Q (sym none ∙ is.input) known, answers)
+
+-- it is a file
+pub has_file_answer : (job : Job) (work : Work) (file : Option (String Global)) (name : String Global) (content : Option (List ℕ)) (bytes output : List ℕ) (status : ℕ)
+    → IsWorkOf job work file → file ≡ Some name → Answers work bytes status output → HasAnswer job content status output
+has_file_answer job work file name content bytes output status is some answers =
+    let P : Option (String Global) → Type 0 = λ f. IsWorkOf job work f in
+    let Q : Option (String Global) → Type 0 = λ f. IsContent (input_of f content) bytes in
+    (work, bytes, subst P is.input is, subst Q (sym some ∙ is.input) tt, answers)
+
+-- such a job names a file
+pub names_file : (job : Job) (work : Work) (file : Option (String Global)) (name : String Global) → IsWorkOf job work file → file ≡ Some name → ReadsNoFile job → ⊥
+names_file job work file name is some no_file = true≢false (ap is_some (sym some ∙ (is.input ∙ no_file.1)))
+
+-- a run opens no file
+pub opens_none : (outcome : Outcome) → (outcome.status < 3) ⊎ (outcome.status ≡ 4) → (outcome.status < 3 → outcome.note.now ≡ [])
+    → (outcome.status ≡ 4 → IsFaultNote outcome.note.now) → outcome.note.now ≡ codes "fault: open" → ⊥
+opens_none outcome (inl below) answered noted is = differ [] (codes "fault: open") refl (sym (answered below) ∙ is)
+opens_none outcome (inr four) answered noted is = go (noted four)
+  where
+    other : (note : List ℕ) → bytes_eq note (codes "fault: open") ≡ false → outcome.note.now ≡ note → ⊥
+    other note differs same = differ note (codes "fault: open") differs (sym same ∙ is)
+
+    go : IsFaultNote outcome.note.now → ⊥
+    go (inl e) = other (codes "fault: read") refl e
+    go (inr (inl e)) = other (codes "fault: write") refl e
+    go (inr (inr (inl e))) = other (codes "fault: memory") refl e
+    go (inr (inr (inr e))) = other (codes "fault: too large") refl e
+
+-- ---- a job whose files are not read
+
+is_note : (f : FileFault) → IsNote (file_note f)
+is_note Open = inl refl
+is_note (Take fault.Read) = inr (inl refl)
+is_note (Take fault.TooLarge) = inr (inr (inr (inr refl)))
+is_note (Take fault.OutOfMemory) = inr (inr (inr (inl refl)))
+
+not_write : (f : FileFault) → file_note f ≡ codes "fault: write" → ⊥
+not_write Open e = differ (codes "fault: open") (codes "fault: write") refl e
+not_write (Take fault.Read) e = differ (codes "fault: read") (codes "fault: write") refl e
+not_write (Take fault.TooLarge) e = differ (codes "fault: too large") (codes "fault: write") refl e
+not_write (Take fault.OutOfMemory) e = differ (codes "fault: memory") (codes "fault: write") refl e
+
+module _ {S O : Type 0} (content : S → Option (List ℕ)) (has_stopped : S → Bool) (allowance : S → ℕ)
+    (taken : O → Option (List ℕ)) (is_failed : O → Bool) where
+  pub no_answer : (job : Job) (input : S) (out : O) (outcome : Outcome) (f : FileFault) → outcome.status ≡ 4
+      → outcome.note.now ≡ file_note f → (ReadsNoFile job → f ≡ Take fault.OutOfMemory)
+      → Performs content has_stopped allowance taken is_failed job input input out out outcome
+  no_answer job input out outcome f is note none =
+      let memory : ReadsNoFile job → outcome.note.now ≡ codes "fault: memory" = λ no_file. note ∙ ap file_note (none no_file) in
+      let P : List ℕ → Type 0 = λ text. IsNote text in record {
+        status = inr is;
+        answered = λ below. absurd (omega (arith, is, below));
+        noted = λ _. subst P (sym note) (is_note f);
+        apart = λ _. refl;
+        unopened = λ e. (λ no_file. differ (codes "fault: memory") (codes "fault: open") refl (sym (memory no_file) ∙ e), refl, refl);
+        read = λ e. (refl, λ no_file. absurd (differ (codes "fault: memory") (codes "fault: read") refl (sym (memory no_file) ∙ e)));
+        too_large = λ e. (refl, λ no_file. absurd (differ (codes "fault: memory") (codes "fault: too large") refl (sym (memory no_file) ∙ e)));
+        memory = λ e. (refl, inl refl);
+        write = λ e. absurd (not_write f (sym note ∙ e));
+      }
+
+  pub outcome_status : (job : Job) (input input' : S) (out out' : O) (outcome : Outcome) (status : ℕ)
+      → Performs content has_stopped allowance taken is_failed job input input' out out' outcome → status ≡ outcome.status → status < 5
+  outcome_status job input input' out out' outcome status h is = go h.status
+    where
+      go : (outcome.status < 3) ⊎ (outcome.status ≡ 4) → status < 5
+      go (inl below) = omega (arith, below, is)
+      go (inr four) = omega (arith, four, is)

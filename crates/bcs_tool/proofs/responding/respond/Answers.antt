@@ -1,0 +1,30 @@
+use Rattle.std.proofs.Common.{inl, inr, refl, subst}
+use Rattle.bcs_tool_line.specs.declared.line_fault.LineFault.{LineFault}
+use Rattle.bcs_tool.specs.Endings.{TellsFault}
+use Rattle.bcs_tool.proofs.EndingLemmas.{fault_status, outcome_status}
+use Rattle.bcs_tool.proofs.responding.respond.Goals as goal
+
+pub returns-in-Ok-clause-status : goal.returns-in-Ok-clause-status
+returns-in-Ok-clause-status g c =
+    outcome_status g.S.ByteSource.content g.S.ByteSource.is_failed g.S.ByteSource.allowance g.O.ByteSink.taken g.O.ByteSink.is_failed
+    _ _ _ _ _ c.perform.result _ c.perform.ensures c.tell_outcome.ensures.0
+
+pub returns-in-Ok-clause-no_job : goal.returns-in-Ok-clause-no_job
+returns-in-Ok-clause-no_job g c = λ wrong. absurd (wrong c.in-Ok.ensures.taken)
+
+pub returns-in-Ok-clause-job : goal.returns-in-Ok-clause-job
+returns-in-Ok-clause-job g c =
+    λ none. inr (c.in-Ok.job, c.perform.result, c.in-Ok.ensures.job, c.perform.ensures, c.tell_outcome.ensures)
+
+pub returns-in-Err-clause-status : goal.returns-in-Err-clause-status
+returns-in-Err-clause-status g c =
+    fault_status g.O.ByteSink.taken g.O.ByteSink.is_failed g.E.ByteSink.taken g.E.ByteSink.is_failed c.in-Err.fault _ _ _ _ _ c.tell_fault.ensures
+
+pub returns-in-Err-clause-no_job : goal.returns-in-Err-clause-no_job
+returns-in-Err-clause-no_job g c = λ wrong. (c.in-Err.fault, c.in-Err.ensures.fault, refl, c.tell_fault.ensures)
+
+pub returns-in-Err-clause-job : goal.returns-in-Err-clause-job
+returns-in-Err-clause-job g c =
+    let P : LineFault → Type 0 = λ f. TellsFault g.O.ByteSink.taken g.O.ByteSink.is_failed g.E.ByteSink.taken g.E.ByteSink.is_failed
+    f c.args.out.now c.tell_fault.new.out c.args.errors.now c.tell_fault.new.errors c.tell_fault.result in
+    λ none. inl (refl, subst P (c.in-Err.ensures.good none) c.tell_fault.ensures)

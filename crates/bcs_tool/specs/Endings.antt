@@ -1,0 +1,80 @@
+-- How the program ends: what the standard output and the standard error are told, and its status.
+use Rattle.std.specs.Prelude.{◌≡◌, ◌≢◌, ◌⊎◌, ◌<◌, ◌+◌, ℕ, List, [], Bool, true, Option, Some, None, String, codes, length, take, string_bytes}
+use Rattle.std.specs.declared.alloc.Global.{Global}
+use Rattle.bcs_encode_sinks.specs.Taking as sink
+use Rattle.bcs_decode_sources.specs.Taking as source
+use Rattle.bcs_tool_line.specs.declared.job.Job.{Job}
+use Rattle.bcs_tool_line.specs.declared.line_fault.LineFault.{LineFault}
+use Rattle.bcs_tool_line.specs.declared.line_fault.LineFault.TheVariants.{Usage, Help, OutOfMemory}
+use Rattle.bcs_tool_files.specs.Files.{IsWorkOf, NamesNoFile, size_limit}
+use Rattle.bcs_tool_files.specs.declared.work.Outcome.{Outcome}
+use Rattle.bcs_tool_files.specs.declared.work.Work.{Work}
+use Rattle.bcs_tool.specs.Answers.{Answers, IsContent, IsFaultNote, line_of}
+use Rattle.bcs_tool.specs.Input.{IsUnhurt}
+
+-- ---- one stream
+
+module _ {K : Type 0} (taken : K → Option (List ℕ)) (is_failed : K → Bool) where
+  -- a front of the text was put, less than the whole, and then the stream failed
+  abbrev pub PutFront : K → K → List ℕ → Type 0
+  PutFront old new text = (n : ℕ) × (n < length text) × sink.Lost taken is_failed old new (take n text)
+
+  -- the text was put, or a front of it where the stream failed
+  abbrev pub Told : K → K → List ℕ → Type 0
+  Told old new text = sink.Took taken is_failed old new text ⊎ PutFront old new text
+
+  -- the program ends with the outcome's status, and its note stands on a line of the standard error
+  abbrev pub TellsOutcome : Outcome → K → K → ℕ → Type 0
+  TellsOutcome outcome old new status = (status ≡ outcome.status) × (outcome.note.now ≡ [] → new ≡ old)
+      × (outcome.note.now ≢ [] → Told old new (line_of outcome.note.now))
+
+-- ---- words that are no job
+
+module _ {O E : Type 0} (taken : O → Option (List ℕ)) (is_failed : O → Bool) (told : E → Option (List ℕ)) (has_failed : E → Bool) where
+  -- the text of usage stands on the standard error, and ends with 3; that of help or of the version on
+  -- the standard output, and ends with 0
+  abbrev pub TellsFault : LineFault → O → O → E → E → ℕ → Type 0
+  TellsFault (Usage text) out out' errors errors' status =
+      (status ≡ 3) × (out' ≡ out) × Told told has_failed errors errors' (string_bytes text)
+  TellsFault (Help text) out out' errors errors' status =
+      ((status ≡ 0) × sink.Took taken is_failed out out' (string_bytes text) × (errors' ≡ errors))
+      ⊎ ((status ≡ 4) × PutFront taken is_failed out out' (string_bytes text) × Told told has_failed errors errors' (line_of (codes "fault: write")))
+  TellsFault OutOfMemory out out' errors errors' status =
+      (status ≡ 4) × (out' ≡ out) × Told told has_failed errors errors' (line_of (codes "fault: memory"))
+
+-- ---- a job
+
+-- no file is read: the registries are texts themselves, there is no A, and the input is the standard one
+abbrev pub ReadsNoFile : Job → Type 0
+ReadsNoFile job = NamesNoFile job × (job.file ≡ None)
+
+-- the content of the job's input: that of the standard input, or of a file, which is not known
+abbrev pub input_of : Option (String Global) → Option (List ℕ) → Option (List ℕ)
+input_of None content = content
+input_of (Some name) content = None
+
+-- the work that the job's files make of it has this answer to the input
+abbrev pub HasAnswer : Job → Option (List ℕ) → ℕ → List ℕ → Type 0
+HasAnswer job content status output = (work : Work) × (bytes : List ℕ) × IsWorkOf job work job.file
+    × IsContent (input_of job.file content) bytes × Answers work bytes status output
+
+-- the note of a job that has no answer
+abbrev pub IsNote : List ℕ → Type 0
+IsNote note = (note ≡ codes "fault: open") ⊎ IsFaultNote note
+
+-- what comes of a job: its answer is put, or nothing, or a front of its answer where the output failed
+module _ {S O : Type 0} (content : S → Option (List ℕ)) (has_stopped : S → Bool) (allowance : S → ℕ)
+    (taken : O → Option (List ℕ)) (is_failed : O → Bool) where
+  pub record Performs (job : Job) (input input' : S) (out out' : O) (outcome : Outcome) : Type 0 where
+    pub status : (outcome.status < 3) ⊎ (outcome.status ≡ 4)
+    pub answered : outcome.status < 3 → (outcome.note.now ≡ [])
+        × ((output : List ℕ) × HasAnswer job (content input) outcome.status output × sink.Took taken is_failed out out' output)
+    pub noted : outcome.status ≡ 4 → IsNote outcome.note.now
+    pub apart : job.file ≢ None → input' ≡ input
+    pub unopened : outcome.note.now ≡ codes "fault: open" → (¬ ReadsNoFile job) × (input' ≡ input) × (out' ≡ out)
+    pub read : outcome.note.now ≡ codes "fault: read" → (out' ≡ out) × (ReadsNoFile job → has_stopped input' ≡ true)
+    pub too_large : outcome.note.now ≡ codes "fault: too large" → (out' ≡ out)
+        × (ReadsNoFile job → (bytes : List ℕ) × (length bytes ≡ size_limit + 1) × source.Took content has_stopped allowance input input' bytes)
+    pub memory : outcome.note.now ≡ codes "fault: memory" → (out' ≡ out) × IsUnhurt content has_stopped allowance input input'
+    pub write : outcome.note.now ≡ codes "fault: write" → (status : ℕ) × (output : List ℕ)
+        × HasAnswer job (content input) status output × PutFront taken is_failed out out' output

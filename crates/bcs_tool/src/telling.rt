@@ -1,0 +1,53 @@
+//! What the standard output and the standard error are told, and the status.
+ghost use Rattle.bcs_tool.specs.Answers.{line_of};
+ghost use Rattle.bcs_tool.specs.Endings.{Told, TellsFault, TellsOutcome};
+
+use crate::running::failed;
+use bcs_encode::ByteSink;
+use bcs_tool_files::{Outcome, put_all};
+use bcs_tool_line::LineFault;
+
+/// Tells why the words are no job, or what they ask for, and gives the status.
+pub fn tell_fault<O: ByteSink, E: ByteSink>(fault: &LineFault, out: &mut O, errors: &mut E) -> u8
+    ensures { TellsFault O.taken O.is_failed E.taken E.is_failed fault.now out.old out.new errors.old errors.new result }
+{
+    match fault {
+        // clap's text ends its own line.
+        LineFault::Usage(text) => {
+            tell(text.as_str(), errors);
+            3
+        }
+        LineFault::Help(text) => match put_all(text.as_bytes(), out) {
+            Ok(()) => 0,
+            Err(_) => tell_outcome(failed("fault: write"), errors),
+        },
+        LineFault::OutOfMemory => tell_outcome(failed("fault: memory"), errors),
+    }
+}
+
+/// Tells the note of an outcome that has one, on a line, and gives its status.
+pub fn tell_outcome<E: ByteSink>(outcome: Outcome, errors: &mut E) -> u8
+    ensures { TellsOutcome E.taken E.is_failed outcome errors.old errors.new result }
+{
+    if !outcome.note.is_empty() {
+        tell_line(outcome.note, errors);
+    }
+    outcome.status
+}
+
+// Tells a text and a line end, without memory.
+fn tell_line<E: ByteSink>(text: &str, errors: &mut E)
+    ensures { Told E.taken E.is_failed errors.old errors.new (line_of text.now) }
+{
+    match put_all(text.as_bytes(), errors) {
+        Ok(()) => tell("\n", errors),
+        Err(_) => {}
+    }
+}
+
+// Tells a text. What the standard error doesn't take is lost, since nothing is left to tell it to.
+fn tell<E: ByteSink>(text: &str, errors: &mut E)
+    ensures { Told E.taken E.is_failed errors.old errors.new text.now }
+{
+    let _ = put_all(text.as_bytes(), errors);
+}

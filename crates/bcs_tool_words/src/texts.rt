@@ -1,0 +1,72 @@
+//! What the help says. Each example works as it stands, and prints what stands behind its `#`.
+
+// ---- words
+
+pub const REGISTRY: &str =
+    "The registry: its JSON text where the word begins with {, else a file's name";
+
+pub const OLD_REGISTRY: &str = "The older registry, as its text or a file";
+
+pub const NEW_REGISTRY: &str = "The newer registry, as its text or a file";
+
+pub const FORMAT: &str =
+    "The format: its JSON text where the word begins with { or \", else a container's name. \
+    JSON's quotes are part of the word, so a shell wants '\"I16\"'";
+
+pub const PATH: &str =
+    "The steps to the part, joined by /, or . for the whole value. A number leads to an element or \
+    a field, counted from 0; inner to what an option, a container or a variant holds; key: and \
+    hexadecimal digits to the value at the key of these bytes";
+
+pub const FILE: &str = "The file to read in place of the standard input";
+
+pub const FIRST_FILE: &str = "The file of the first value's JSON text";
+
+pub const SECOND_FILE: &str = "The file of the second value's, in place of the standard input";
+
+// ---- the ends of the helps
+
+pub const PROGRAM_END: &str = "Example:
+  echo -4660 | bcs encode '{}' '\"I16\"'  # cced
+
+Status:
+  0  done, or yes: equal, grows
+  1  no: different, none
+  2  refused: the standard output says why
+  3  the command line is wrong: the standard error says how
+  4  a file, the output or memory failed: the standard error says which";
+
+pub const CHECK_END: &str = "Example:
+  bcs check '{\"Id\":{\"NEWTYPESTRUCT\":\"U64\"}}'  # ok 1
+
+Status: 0 done, 2 refused, 3 usage, 4 file or memory";
+
+pub const GROWS_END: &str = "Example:
+  bcs grows '{}' '{\"Id\":{\"NEWTYPESTRUCT\":\"U64\"}}'  # grows
+
+Status: 0 grows, 2 refused, 3 usage, 4 file or memory";
+
+pub const ENCODE_END: &str = "Example:
+  echo -4660 | bcs encode '{}' '\"I16\"'  # cced
+
+Status: 0 done, 2 refused, 3 usage, 4 file or memory";
+
+pub const DECODE_END: &str = "Example:
+  echo cced | bcs decode '{}' '\"I16\"'  # -4660
+
+Status: 0 done, 2 refused, 3 usage, 4 file or memory";
+
+pub const NORMALISE_END: &str = "Example:
+  echo '\"-4660\"' | bcs normalise '{}' '\"I16\"'  # -4660
+
+Status: 0 done, 2 refused, 3 usage, 4 file or memory";
+
+pub const SAME_END: &str = "Example:
+  echo 7 > a.json; echo '\"7\"' | bcs same '{}' '\"U8\"' a.json  # equal
+
+Status: 0 equal, 1 different, 2 refused, 3 usage, 4 file or memory";
+
+pub const PART_END: &str = "Example:
+  echo 02000100010001 | bcs part '{}' '{\"MAP\":{\"KEY\":\"U16\",\"VALUE\":\"BOOL\"}}' key:0100  # 01
+
+Status: 0 done, 1 none, 2 refused, 3 usage, 4 file or memory";
