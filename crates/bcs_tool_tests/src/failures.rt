@@ -1,5 +1,5 @@
 //! Jobs whose input or output fails at a chosen call.
-use bcs_decode::pieces::PieceSource;
+use bcs_decode::pieces::{PieceSource, RepeatSource};
 use bcs_decode::{ByteSource, SliceSource};
 use bcs_encode::pieces::PieceSink;
 use bcs_tool::{Command, Work, run};
@@ -49,6 +49,14 @@ fn failed_reads(rt: HostRuntime) -> Result<(), Fail> {
         let mut input = PieceSource::new(b"-4660", 1, Some(fail_at));
         ends(&rt, &mut input, None, status, note, put)?;
     }
+    Ok(())
+}
+
+#[test]
+fn an_endless_input(rt: HostRuntime) -> Result<(), Fail> {
+    let mut input = RepeatSource::new(b' ');
+    ends(&rt, &mut input, None, 4, "fault: too large", "")?;
+    assert!(rt; input.given() == 268435457);
     Ok(())
 }
 

@@ -1,6 +1,10 @@
-//! Tests of the program, but for its `main`, that aren't rows of `bcs_rows`. There is nothing to call.
+//! Tests of the program that aren't rows of `bcs_rows`. There is nothing to call.
 #![tactic(auto)]
 
+#[cfg(test)]
+mod arguments;
+#[cfg(test)]
+mod endings;
 #[cfg(test)]
 mod failures;
 #[cfg(test)]

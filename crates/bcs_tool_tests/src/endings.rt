@@ -1,0 +1,158 @@
+//! How command lines end: what the standard output and the standard error are told, and the status.
+use bcs_decode::pieces::PieceSource;
+use bcs_encode::pieces::PieceSink;
+use bcs_tool::respond;
+use std::alloc::{AllocError, Global};
+use std::fs;
+use std::fs::File;
+use std::process::Abort;
+use std::rt::Files;
+use std::test::Fail;
+
+// The words after the program's name, the status, and what the standard output and the standard
+// error are told: all of it, or a front where it ends in `..`.
+type Ending = (&'static [&'static str], u8, &'static str, &'static str);
+
+fn words_of(alloc: Global, arguments: &[&str]) -> Result<Vec<String>, AllocError> {
+    let mut words = Vec::new(alloc);
+    words.push(String::from_str(alloc, "bcs")?)?;
+    for argument in arguments {
+        words.push(String::from_str(alloc, argument)?)?;
+    }
+    Ok(words)
+}
+
+fn is_told(taken: &[u8], told: &str) -> bool {
+    match told.strip_suffix("..") {
+        Some(front) => taken.starts_with(front.as_bytes()),
+        None => taken == told.as_bytes(),
+    }
+}
+
+// The command line ends so, where the input, the output and the errors fail from these calls on.
+fn ends(
+    rt: &(impl Abort + AllocGlobal + Files),
+    fails: [Option<u64>; 3],
+    ending: Ending,
+) -> Result<(), Fail> {
+    let (words, status, out, errors) = ending;
+    let words = words_of(rt.alloc(), words)?;
+    let mut input = PieceSource::new(b"-4660", 5, fails[0]);
+    let mut told_out = PieceSink::<4000>::new(4000, fails[1]);
+    let mut told_errors = PieceSink::<4000>::new(4000, fails[2]);
+    let answer = respond(rt, &words, &mut input, &mut told_out, &mut told_errors);
+    assert!(rt; answer == status, "{out}{errors}");
+    assert!(rt; is_told(told_out.taken(), out), "{out}{errors}");
+    assert!(rt; is_told(told_errors.taken(), errors), "{out}{errors}");
+    Ok(())
+}
+
+const NONE_FAILS: [Ending; 11] = [
+    (&["encode", "{}", "\"I16\""], 0, "cced\n", ""),
+    (&["check", "{"], 2, "refused: NotJson\n", ""),
+    (&["--help"], 0, "Binary Canonical Serialization..", ""),
+    (&["help", "encode"], 0, "Prints the bytes of..", ""),
+    (&["encode", "--help"], 0, "Prints the bytes of..", ""),
+    (
+        &["--version"],
+        0,
+        "bcs 0.1.0, proved with rattle-kit-..",
+        "",
+    ),
+    (&[], 3, "", "error: .."),
+    (&["frobnicate"], 3, "", "error: .."),
+    (&["check", "no.test"], 4, "", "fault: open\n"),
+    (
+        &["encode", "{}", "\"I16\"", "no.test"],
+        4,
+        "",
+        "fault: open\n",
+    ),
+    (&["encode", "{}", "\"I16\"", "."], 4, "", "fault: read\n"),
+];
+
+#[test]
+fn streams_that_are_good(rt: HostRuntime) -> Result<(), Fail> {
+    for ending in NONE_FAILS {
+        ends(&rt, [None; 3], ending)?;
+    }
+    Ok(())
+}
+
+// What is told where the input fails, the output, or the errors.
+const ONE_FAILS: [([Option<u64>; 3], Ending); 8] = [
+    ([Some(1), None, None], (&["check", "{}"], 0, "ok 0\n", "")),
+    (
+        [Some(1), None, None],
+        (&["encode", "{}", "\"I16\""], 4, "", "fault: read\n"),
+    ),
+    (
+        [None, Some(1), None],
+        (&["encode", "{}", "\"I16\""], 4, "", "fault: write\n"),
+    ),
+    (
+        [None, Some(1), None],
+        (&["--help"], 4, "", "fault: write\n"),
+    ),
+    (
+        [None, Some(1), None],
+        (&["--version"], 4, "", "fault: write\n"),
+    ),
+    ([None, None, Some(1)], (&["frobnicate"], 3, "", "")),
+    ([None, None, Some(1)], (&["check", "no.test"], 4, "", "")),
+    (
+        [None, None, Some(2)],
+        (&["check", "no.test"], 4, "", "fault: open"),
+    ),
+];
+
+#[test]
+fn streams_that_fail(rt: HostRuntime) -> Result<(), Fail> {
+    for (fails, ending) in ONE_FAILS {
+        ends(&rt, fails, ending)?;
+    }
+    Ok(())
+}
+
+// `large.test` has a byte too many, `.` is a folder, and `no.test` isn't there.
+const FILES: [Ending; 9] = [
+    (
+        &["grows", "large.test", "no.test"],
+        4,
+        "",
+        "fault: too large\n",
+    ),
+    (&["grows", "no.test", "large.test"], 4, "", "fault: open\n"),
+    (&["grows", ".", "no.test"], 4, "", "fault: read\n"),
+    (&["grows", "no.test", "."], 4, "", "fault: open\n"),
+    (&["grows", "{}", "."], 4, "", "fault: read\n"),
+    (&["same", ".", "\"U8\"", "no.test"], 4, "", "fault: read\n"),
+    (
+        &["same", "{}", "\"U8\"", "no.test", "."],
+        4,
+        "",
+        "fault: open\n",
+    ),
+    (
+        &["decode", "no.test", "\"U8\"", "."],
+        4,
+        "",
+        "fault: open\n",
+    ),
+    (
+        &["decode", "{}", "\"U8\"", "large.test"],
+        4,
+        "",
+        "fault: too large\n",
+    ),
+];
+
+#[test]
+fn the_first_file_that_fails(rt: HostRuntime) -> Result<(), Fail> {
+    File::create(&rt, "large.test")?.set_len(268435457)?;
+    for ending in FILES {
+        ends(&rt, [None; 3], ending)?;
+    }
+    fs::remove_file(&rt, "large.test")?;
+    Ok(())
+}
