@@ -17,6 +17,10 @@ def nested(format, levels):
     return "".join('{"SEQ":' for _ in range(levels)) + format + "}" * levels
 
 
+def key_of_keys(format, levels):
+    return "".join('{"MAP":{"KEY":' for _ in range(levels)) + format + ',"VALUE":"UNIT"}}' * levels
+
+
 def chain(content):
     """A list of containers, each of which holds an option of the next 32 levels deep."""
     return '{"L":{"NEWTYPESTRUCT":' + content + "}}"
@@ -24,7 +28,7 @@ def chain(content):
 
 def cases():
     """The name of each case, its words, and a maker of its input."""
-    yield "registry, 256 MiB of one name", ["check", "@"], lambda: b'{"' + b"a" * (LIMIT - 16) + b'":"UNITSTRUCT"}'
+    yield "registry, 256 MiB of one name", ["check", "@"], lambda: b'{"' + b"a" * (LIMIT - 17) + b'":"UNITSTRUCT"}'
     yield "registry, 64 MiB of small containers", ["check", "@"], lambda: containers(64 * MIB)
     yield "registry, an enum of a million variants", ["check", "@"], lambda: variants(1_000_000)
     yield "registry, a name of 1 MB", ["check", "@"], lambda: b'{"' + b"a" * 1_000_000 + b'":"UNITSTRUCT"}'
@@ -41,10 +45,9 @@ def cases():
     yield "bytes, 10 million empty structs", ["decode", "--raw", '{"U":"UNITSTRUCT"}', '{"SEQ":{"TYPENAME":"U"}}'], lambda: uleb(10_000_000)
     deep = chain(nested('{"OPTION":{"TYPENAME":"L"}}', 31))
     yield "bytes, 500 containers of 32 levels", ["decode", "--raw", deep, "L"], lambda: b"\x01" * (31 * 500) + b"\x00"
-    yield "bytes, maps nested as keys", ["decode", "--raw", KEYS, "K"], lambda: b"\x01" * 400 + b"\x00"
-
-
-KEYS = '{"K":{"NEWTYPESTRUCT":{"MAP":{"KEY":{"OPTION":{"TYPENAME":"K"}},"VALUE":"UNIT"}}}}'
+    keys = '{"K":{"NEWTYPESTRUCT":' + key_of_keys('{"OPTION":{"TYPENAME":"K"}}', 30) + "}}"
+    yield "bytes, 15,000 maps nested as keys", ["decode", "--raw", keys, "K"], lambda: b"\x01" * (31 * 500 - 1) + b"\x00"
+    yield "part, the last of 32 Mi numbers", ["part", "--raw", "{}", '{"SEQ":"U16"}', str(32 * MIB - 1)], lambda: uleb(32 * MIB) + b"ab" * (32 * MIB)
 
 
 def uleb(number):
@@ -103,8 +106,9 @@ def main():
         size = max(len(given), sum(map(len, words)))
         memory = usage.ru_maxrss / 1024
         shown = answer.decode(errors="replace").strip().replace("|", "\\|")
+        multiple = f"{memory * MIB / size:.1f}" if size > MIB else ""
         print(f"| {name} | {size / 1e6:.1f} | {status} | `{shown}` | {usage.ru_utime + usage.ru_stime:.2f}"
-              f" | {memory:.0f} | {memory * MIB / size:.1f} |", flush=True)
+              f" | {memory:.0f} | {multiple} |", flush=True)
 
 
 main()

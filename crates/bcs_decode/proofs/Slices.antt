@@ -1,13 +1,19 @@
--- A refusal of bytes at whose front a value stands.
-use Rattle.std.proofs.Common.{◌≡◌, ℕ, List, Option, Some, Err, refl}
+-- Bytes at whose front a value stands, and bytes that are a value's encoding.
+use Rattle.std.proofs.Common.{◌≡◌, ℕ, List, length, Option, Some, Ok, Err, refl, subst}
 use Rattle.bcs_registry_formats.specs.Shape.{Shape}
 use Rattle.bcs_registry_formats.specs.Container.{Entries}
 use Rattle.bcs_value_laws.specs.Limits.{Bounds}
 use Rattle.bcs_value_tree.specs.Tree.{Tree}
+use Rattle.bcs_value_tree.specs.View.{tree_of}
+use Rattle.bcs_value_tree.specs.declared.value.Value.{Value}
+use Rattle.bcs_encode_laws.specs.Encodes.{Encodes}
 use Rattle.bcs_decode_stops.specs.declared.decode_fault.DecodeFault.{DecodeFault}
 use Rattle.bcs_decode_stops.specs.declared.decode_fault.DecodeFault.TheVariants.{Stop, Read, OutOfMemory}
-use Rattle.bcs_decode_laws.specs.Accepting.{Accepts}
+use Rattle.bcs_decode_stops.specs.declared.stop.Stop as stop
+use Rattle.bcs_decode_laws.specs.Accepting.{Accepts, IsDecoded}
 use Rattle.bcs_decode_laws.specs.Exact.{AreBytes}
+use Rattle.bcs_decode_laws.proofs.Encoded.{encoded_is_accepted_is, is_decoded}
+use Rattle.bcs_decode_laws.proofs.Verdicts.{accepts_once_is, no_two_verdicts_are}
 use Rattle.bcs_decode.specs.Sliced.{DecodesSlice}
 use Rattle.bcs_decode.specs.Whole.{DecodesFrom}
 
@@ -16,3 +22,18 @@ pub refused_slice : (registry : Entries) (limits : Bounds) (s : Shape) (b : List
 refused_slice registry limits s b rest (Stop stop) bytes told read accepted = (told bytes).0
 refused_slice registry limits s b rest Read bytes told read accepted = read refl
 refused_slice registry limits s b rest OutOfMemory bytes told read accepted = accepted
+
+module _ (registry : Entries) (limits : Bounds) (s : Shape) (b : List ℕ) (rest : Option (List ℕ)) (bytes : AreBytes b) (encoded : (t : Tree) × Encodes registry limits s t b) where
+  -- what an encoding is decoded to is the value that all of it is
+  pub encoded_value : (v : Value) → DecodesFrom registry limits s (Some b) rest (Ok v) → IsDecoded registry limits s b (tree_of v)
+  encoded_value v told =
+      let found = told bytes in
+      let form = encoded_is_accepted_is registry limits s encoded.0 b encoded.1 in
+      let all : found.0 ≡ length b = (accepts_once_is registry limits s b found.0 (length b) (tree_of v) form.0 found.1 form.2).0 in
+      is_decoded registry limits s b (tree_of v) (subst (λ (n : ℕ). Accepts registry limits s b n (tree_of v)) all found.1)
+
+  -- and it never stops
+  pub encoded_never_stops : (x : stop.Stop) → DecodesFrom registry limits s (Some b) rest (Err (Stop x)) → ⊥
+  encoded_never_stops x told =
+      let form = encoded_is_accepted_is registry limits s encoded.0 b encoded.1 in
+      no_two_verdicts_are registry limits s b (length b) form.0 x.reason x.place form.2 (told bytes).0

@@ -43,7 +43,6 @@ pub(crate) fn decode_known<S: ByteSource>(
     known: u64,
     source: &mut S,
 ) -> Result<Value, DecodeFault>
-    requires admitted { Admits registry.now (shape_of format.now) }
     requires known { AreKnown known (S.content source.old) }
     ensures told { DecodesFrom registry.now limits.now (shape_of format.now) (S.content source.old) (S.content source.new) result }
     ensures read { IsErrOf result DecodeFault.Read ↔ S.is_failed source.new ≡ true }
@@ -91,7 +90,6 @@ fn front<S: ByteSource>(
     known: u64,
     source: &mut S,
 ) -> Result<(Value, u64), DecodeFault>
-    requires admitted { Admits registry.now (shape_of format.now) }
     requires known { AreKnown known (S.content source.old) }
     ensures told { DecodesFront registry.now limits.now (shape_of format.now) (S.content source.old) (S.content source.new) result }
     ensures read { IsErrOf result DecodeFault.Read ↔ S.is_failed source.new ≡ true }

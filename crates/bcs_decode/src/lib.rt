@@ -12,5 +12,5 @@ pub use bcs_decode_sources::{ByteSource, ReadSource, SliceSource, SourceFailed, 
 pub use bcs_decode_stops::{DecodeFault, Reason, Stop};
 pub use decoding::{decode_all, decode_from};
 pub use from_slice::scan;
-pub use slice_decoding::decode_slice;
+pub use slice_decoding::{decode_encoded, decode_slice};
 pub use slice_parts::part;

@@ -1,9 +1,13 @@
 //! Values from slices.
-ghost use Rattle.std.specs.Prelude.{◌≡◌, ◌≢◌, ℕ, true, Err};
+ghost use Rattle.std.specs.Prelude.{◌≡◌, ◌≢◌, ℕ, true, Err, IfOk};
 ghost use Rattle.bcs_registry_formats.specs.View.{shape_of};
 ghost use Rattle.bcs_registry_formats.specs.WellFormed.{Admits};
+ghost use Rattle.bcs_value_tree.specs.Tree.{Tree};
+ghost use Rattle.bcs_value_tree.specs.View.{tree_of};
+ghost use Rattle.bcs_encode_laws.specs.Encodes.{Encodes};
 ghost use Rattle.bcs_decode_reader.specs.Sees.{takes_no_memory};
 ghost use Rattle.bcs_decode.specs.Sliced.{DecodesSlice};
+ghost use Rattle.bcs_decode_laws.specs.Accepting.{IsDecoded};
 ghost use Rattle.bcs_decode_laws.specs.Stopping.{Stops};
 ghost use Rattle.bcs_decode_stops.specs.declared.reason.Reason.{Reason};
 
@@ -13,7 +17,7 @@ use bcs_decode_sources::SliceSource;
 use bcs_decode_stops::DecodeFault;
 use bcs_registry::{Format, Registry};
 use bcs_value::{Limits, Value};
-use std::alloc::Global;
+use std::alloc::{AllocError, Global};
 
 /// The canonical value of the format at the front of the input, and how many bytes it has.
 ///
@@ -41,5 +45,33 @@ pub fn decode_slice(
             }
         }
         Err(stop) => Err(DecodeFault::Stop(stop)),
+    }
+}
+
+/// The canonical value whose encoding the input is. It is for bytes that an encoder gave within the same limits: they
+/// can't stop being a value, so they aren't scanned first, and only memory may run out. The format need not be admitted.
+pub fn decode_encoded(
+    alloc: Global,
+    registry: &Registry,
+    format: &Format,
+    limits: &Limits,
+    bytes: &[u8],
+) -> Result<Value, AllocError>
+    requires { (t : Tree) × Encodes registry.now limits.now (shape_of format.now) t bytes.now }
+    ensures { IfOk result (λ v. IsDecoded registry.now limits.now (shape_of format.now) bytes.now (tree_of v)) }
+{
+    let mut source = SliceSource::new(bytes);
+    match decode_known(
+        alloc,
+        registry,
+        format,
+        limits,
+        bytes.len() as u64,
+        &mut source,
+    ) {
+        Ok(value) => Ok(value),
+        Err(DecodeFault::OutOfMemory) => Err(AllocError),
+        Err(DecodeFault::Stop(_)) => unreachable!(),
+        Err(DecodeFault::Read) => unreachable!(),
     }
 }

@@ -2,4 +2,3 @@
 #![tactic(auto)]
 
 pub mod scanning;
-mod whole_row;

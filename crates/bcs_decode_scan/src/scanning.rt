@@ -7,12 +7,13 @@ ghost use Rattle.bcs_registry_formats.specs.View.{shape_of, formats_shapes, fiel
 ghost use Rattle.bcs_decode_laws.specs.Reading.{items_here, key_here, pairs_here, skipping};
 ghost use Rattle.bcs_decode_cursor.specs.Passing.{Passes, Onward, key_bytes, skip};
 
-use crate::whole_row::{whole_row, whole_width};
 use bcs_decode_cursor::cursor::{Cursor, node};
 use bcs_decode_cursor::shallow::{
     bytes_value, counted, enter, follows, option, text_value, truth, unsupported, variant_number,
     whole,
 };
+use bcs_decode_fixed::fixed_row::fixed_row;
+use bcs_decode_fixed::whole_row::{whole_row, whole_width};
 use bcs_decode_stops::{Reason, Stop};
 use bcs_registry::{Container, Format, Named, Registry, VariantFormat};
 
@@ -64,7 +65,7 @@ pub fn value<'a>(
     }
 }
 
-/// So many values of one format. Whole numbers and `UNIT` are gone past in one step.
+/// So many values of one format. Those that all have one size are gone past in one step.
 #[cycle(scanning)]
 #[inline(never)]
 pub fn elements<'a>(
@@ -81,7 +82,8 @@ pub fn elements<'a>(
     if let Some(width) = whole_width(element) {
         return whole_row(cursor, width, count);
     }
-    for _ in 0..count {
+    let gone = fixed_row(registry, element, count, depth, cursor);
+    for _ in gone..count {
         value(registry, element, depth, cursor)?;
     }
     Ok(())

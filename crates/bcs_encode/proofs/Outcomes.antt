@@ -1,20 +1,22 @@
 -- What the verdict on a value that is sound besides its keys says of the value.
-use Rattle.std.proofs.Common.{◌≡◌, ℕ, true, List, [], sym, subst, ◌∙◌, Ok, Err}
-use Rattle.std.proofs.lemmas.Bool.{false≢true}
+use Rattle.std.proofs.Common.{◌≡◌, ℕ, ◌≤◌, ◌↔◌, Bool, true, false, IsTrue, List, [], sym, subst, ◌∙◌, Result, Ok, Err}
+use Rattle.std.proofs.lemmas.Bool.{false≢true, iff_false}
 use Rattle.bcs_registry_formats.specs.Shape.{Shape}
 use Rattle.bcs_registry_formats.specs.Container.{Entries, of}
-use Rattle.bcs_value_tree.specs.Tree.{Tree}
+use Rattle.bcs_value_tree.specs.Tree.{Tree, depth, nodes}
+use Rattle.bcs_value_laws.specs.Fits.{Fits}
 use Rattle.bcs_value_laws.specs.Limits.{Bounds}
 use Rattle.bcs_value_laws.specs.Same.{distinct}
 use Rattle.bcs_encode_laws.specs.Encodes.{Encodes, IsForm}
 use Rattle.bcs_encode_laws.specs.Plain.{plain}
 use Rattle.bcs_encode_laws.specs.Refused.{IsSoundBesidesKeys, Refuses}
+use Rattle.bcs_encode_laws.specs.Sound.{IsSound}
 use Rattle.bcs_encode_parts.specs.Writing.{Verdict, written}
 use Rattle.bcs_encode_laws.specs.declared.fault.EncodeFault.{EncodeFault}
 use Rattle.bcs_encode_laws.specs.declared.fault.EncodeFault.TheVariants.{NotOfFormat, Unsupported, TooDeep, TooManyNodes, TooLong, RepeatedKey, OutOfMemory}
-use Rattle.bcs_encode_parts.specs.Forming.{formed}
+use Rattle.bcs_encode_parts.specs.Forming.{canonicalised}
 use Rattle.bcs_encode_laws.specs.FormOf.{form_of}
-use Rattle.bcs_encode_parts.proofs.FormingLaws.{formed_is_form}
+use Rattle.bcs_encode_parts.proofs.CanonicalLaws.{canonicalised_told}
 use Rattle.bcs_encode_laws.proofs.FormLaws.{form_of_is_form}
 use Rattle.bcs_encode_parts.proofs.WritingLaws.{Told, written_told}
 
@@ -35,21 +37,46 @@ written_encodes registry limits s t b h e =
       bytes = sym k.1;
     }
 
+-- a verdict that is a fault tells the one reason of the refusal
+told_refuses : {A : Type 0} (registry : Entries) (limits : Bounds) (s : Shape) (t : Tree) (good : A) (e : EncodeFault) → IsSoundBesidesKeys registry limits s t
+    → Told (distinct t) good (Err e) → Refuses registry limits s t e
+told_refuses registry limits s t good RepeatedKey h told = (h, λ d. false≢true (sym told ∙ d))
+told_refuses registry limits s t good NotOfFormat h told = absurd told
+told_refuses registry limits s t good Unsupported h told = absurd told
+told_refuses registry limits s t good TooDeep h told = absurd told
+told_refuses registry limits s t good TooManyNodes h told = absurd told
+told_refuses registry limits s t good TooLong h told = absurd told
+told_refuses registry limits s t good OutOfMemory h told = absurd told
+
 -- and where nothing was, the keys of some map aren't distinct
 pub unwritten_refuses : (registry : Entries) (limits : Bounds) (s : Shape) (t : Tree) (e : EncodeFault) → IsSoundBesidesKeys registry limits s t → written registry t (of s) [] ≡ Err e
     → Refuses registry limits s t e
-unwritten_refuses registry limits s t RepeatedKey h is = (h, λ d. false≢true (sym (told_at registry limits s t (Err RepeatedKey) h is) ∙ d))
-unwritten_refuses registry limits s t NotOfFormat h is = absurd (told_at registry limits s t (Err NotOfFormat) h is)
-unwritten_refuses registry limits s t Unsupported h is = absurd (told_at registry limits s t (Err Unsupported) h is)
-unwritten_refuses registry limits s t TooDeep h is = absurd (told_at registry limits s t (Err TooDeep) h is)
-unwritten_refuses registry limits s t TooManyNodes h is = absurd (told_at registry limits s t (Err TooManyNodes) h is)
-unwritten_refuses registry limits s t TooLong h is = absurd (told_at registry limits s t (Err TooLong) h is)
-unwritten_refuses registry limits s t OutOfMemory h is = absurd (told_at registry limits s t (Err OutOfMemory) h is)
+unwritten_refuses registry limits s t e h is =
+    told_refuses registry limits s t (plain registry (form_of registry t (of s)) (of s)) e h (told_at registry limits s t (Err e) h is)
 
--- and what was formed beside it is the canonical form
-pub written_form : (registry : Entries) (limits : Bounds) (s : Shape) (t u : Tree) (b : List ℕ) → IsSoundBesidesKeys registry limits s t → written registry t (of s) [] ≡ Ok b
-    → u ≡ formed registry t (of s) → IsForm registry (of s) t u
-written_form registry limits s t u b h e f =
-    let d : distinct t ≡ true = (written_encodes registry limits s t b h e).sound.distinct in
-    let is : u ≡ form_of registry t (of s) = f ∙ formed_is_form registry t (of s) h.fit h.lengths d in
-    subst (IsForm registry (of s) t) (sym is) (form_of_is_form registry (of s) t h.fit d)
+form_told : (registry : Entries) (limits : Bounds) (s : Shape) (t : Tree) (v : Result Tree EncodeFault) → IsSoundBesidesKeys registry limits s t → canonicalised registry t (of s) ≡ v
+    → Told (distinct t) (form_of registry t (of s)) v
+form_told registry limits s t v h e = subst (Told (distinct t) (form_of registry t (of s))) e (canonicalised_told registry t (of s) h.fit h.lengths)
+
+-- what was brought into canonical form is sound, and the form is the canonical one
+pub formed_sound : (registry : Entries) (limits : Bounds) (s : Shape) (t u : Tree) → IsSoundBesidesKeys registry limits s t → canonicalised registry t (of s) ≡ Ok u
+    → IsSound registry limits s t
+formed_sound registry limits s t u h e =
+    record { fit = h.fit; distinct = (form_told registry limits s t (Ok u) h e).0; depth_holds = h.depth_holds; nodes_hold = h.nodes_hold; lengths = h.lengths }
+
+pub formed_form : (registry : Entries) (limits : Bounds) (s : Shape) (t u : Tree) → IsSoundBesidesKeys registry limits s t → canonicalised registry t (of s) ≡ Ok u
+    → IsForm registry (of s) t u
+formed_form registry limits s t u h e =
+    let k = form_told registry limits s t (Ok u) h e in
+    subst (IsForm registry (of s) t) (sym k.1) (form_of_is_form registry (of s) t h.fit k.0)
+
+-- and where nothing was, the keys of some map aren't distinct
+pub unformed_refuses : (registry : Entries) (limits : Bounds) (s : Shape) (t : Tree) (e : EncodeFault) → IsSoundBesidesKeys registry limits s t → canonicalised registry t (of s) ≡ Err e
+    → Refuses registry limits s t e
+unformed_refuses registry limits s t e h is = told_refuses registry limits s t (form_of registry t (of s)) e h (form_told registry limits s t (Err e) h is)
+
+-- a value that isn't sound besides its keys, though it fits within the limits, has a length that doesn't hold
+pub too_long : (registry : Entries) (limits : Bounds) (s : Shape) (t : Tree) (b : Bool) → IsTrue b ↔ IsSoundBesidesKeys registry limits s t → b ≡ false
+    → Fits registry s t → depth t ≤ limits.depth → nodes t ≤ limits.nodes → Refuses registry limits s t TooLong
+too_long registry limits s t b exact not fit deep many =
+    (fit, deep, many, λ h. iff_false exact not (record { fit = fit; depth_holds = deep; nodes_hold = many; lengths = h }))

@@ -10,6 +10,7 @@ ghost use Rattle.bcs_encode_laws.specs.declared.fault.EncodeFault.TheVariants.{O
 
 use crate::soundness::check_soundness;
 use bcs_encode_laws::EncodeFault;
+use bcs_encode_spans::workspace::Workspace;
 use bcs_encode_walks::forming::form;
 use bcs_registry::{Format, Registry};
 use bcs_value::{Limits, Value};
@@ -29,8 +30,12 @@ pub fn canonicalise(
     ensures memory { IfErr result (λ e. e ≡ OutOfMemory → IsSoundBesidesKeys registry.now limits.now (shape_of format.now) (tree_of value.now)) }
 {
     check_soundness(registry, format, limits, value)?;
-    let mut out = Vec::new(alloc);
+    let mut work = Workspace {
+        out: Vec::new(alloc),
+        spans: Vec::new(alloc),
+        scratch: Vec::new(alloc),
+    };
     let mut slot = Value::Unit;
-    form(value, format, registry, alloc, &mut out, &mut slot)?;
+    form(value, format, registry, alloc, &mut work, &mut slot)?;
     Ok(slot)
 }

@@ -4,12 +4,12 @@ ghost use Rattle.bcs_registry_formats.specs.View.{shape_of};
 ghost use Rattle.bcs_value_tree.specs.View.{tree_of};
 ghost use Rattle.bcs_encode_laws.specs.Refused.{IsSoundBesidesKeys, Refuses};
 
+use bcs_encode_judging::is_sound;
 use bcs_encode_laws::EncodeFault;
-use bcs_encode_walks::lengths::lengths_hold;
 use bcs_registry::{Format, Registry};
 use bcs_value::{Limits, Value, depth, fits_loosely, has_format, nodes};
 
-/// Looks for every fault but a repeated key, over the whole value and without memory.
+/// Looks for every fault but a repeated key, over the whole value and without memory. A good value is gone over once.
 pub(crate) fn check_soundness(
     registry: &Registry,
     format: &Format,
@@ -19,6 +19,9 @@ pub(crate) fn check_soundness(
     ensures sound { OnOk result (IsSoundBesidesKeys registry.now limits.now (shape_of format.now) (tree_of value.now)) }
     ensures fault { IfErr result (λ e. Refuses registry.now limits.now (shape_of format.now) (tree_of value.now) e) }
 {
+    if is_sound(value, format, registry, limits) {
+        return Ok(());
+    }
     if !has_format(registry, format, value) {
         return Err(if fits_loosely(registry, format, value) {
             EncodeFault::Unsupported
@@ -32,8 +35,6 @@ pub(crate) fn check_soundness(
     if nodes(value) > u64::from(limits.nodes()) {
         return Err(EncodeFault::TooManyNodes);
     }
-    if !lengths_hold(value, format, registry) {
-        return Err(EncodeFault::TooLong);
-    }
-    Ok(())
+    // The lengths are all that is left.
+    Err(EncodeFault::TooLong)
 }

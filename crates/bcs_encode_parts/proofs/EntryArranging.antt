@@ -143,7 +143,7 @@ rise_from : (e : Entry) (es : List Entry) → keys_rise (e ∷ es) ≡ true → 
 rise_from e [] h = tt
 rise_from e (d ∷ es) h = let p = and_parts (is_below e.0 d.0) (keys_rise (d ∷ es)) h in ((Below-is_lt e.0 d.0).0 p.0, rise_from d es p.1)
 
-keys_rise_up : (es : List Entry) → keys_rise es ≡ true → EntriesRise es
+pub keys_rise_up : (es : List Entry) → keys_rise es ≡ true → EntriesRise es
 keys_rise_up [] h = tt
 keys_rise_up (e ∷ es) h = rise_from e es h
 

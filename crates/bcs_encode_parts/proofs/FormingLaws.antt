@@ -63,7 +63,7 @@ ranked_same a b same = ap (slice_cmp nat_cmp a) (sym same) ∙ ranked_itself a
 
 module _ (registry : Entries) (f g : Shape) where
   -- the pairs, each with its key's bytes
-  abbrev keyed : Pairs → List KeyedTrees
+  abbrev pub keyed : Pairs → List KeyedTrees
   keyed no_pairs = []
   keyed (pair k v ps) = (plain registry k (of f), (k, v)) ∷ keyed ps
 
@@ -93,7 +93,7 @@ module _ (registry : Entries) (f g : Shape) where
       ∙ placed k v l w ps (insert registry f k v ps) (order (plain registry k (of f)) (plain registry l (of f)))
 
   -- the forms of the pairs, as they stand
-  abbrev forms : Pairs → Pairs
+  abbrev pub forms : Pairs → Pairs
   forms no_pairs = no_pairs
   forms (pair k v ps) = pair (form_of registry k (of f)) (form_of registry v (of g)) (forms ps)
 
@@ -103,7 +103,7 @@ module _ (registry : Entries) (f g : Shape) where
       ap (insert_in_order (plain registry (form_of registry k (of f)) (of f), (form_of registry k (of f), form_of registry v (of g)))) (in_order_forms ps)
       ∙ inserts_alike (form_of registry k (of f)) (form_of registry v (of g)) (pairs_form registry ps f g)
 
-  pairs_in_order_forms : (ps : Pairs) → pairs_of (pairs_in_order (keyed (forms ps))) ≡ pairs_form registry ps f g
+  pub pairs_in_order_forms : (ps : Pairs) → pairs_of (pairs_in_order (keyed (forms ps))) ≡ pairs_form registry ps f g
   unfolding pairs_in_order
   pairs_in_order_forms ps = ap (λ (es : List KeyedTrees). pairs_of (map (λ (e : KeyedTrees). e.1) es)) (in_order_forms ps) ∙ keyed_pairs (pairs_form registry ps f g)
 

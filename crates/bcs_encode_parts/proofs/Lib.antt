@@ -1,7 +1,9 @@
 pub mod EntryArranging
-pub mod FormedSorting
 pub mod NumberViews
 pub mod WritingViews
 pub mod WalkViews
 pub mod WritingLaws
 pub mod FormingLaws
+pub mod MapOrdering
+pub mod CanonicalLaws
+pub mod CanonicalViews

@@ -37,12 +37,12 @@ Told d good (Err OutOfMemory) = ⊥
 false_left : (a b : Bool) → a ≡ false → (a && b) ≡ false
 false_left a b h = ap (λ (x : Bool). x && b) h
 
-and_assoc : (a b c : Bool) → (a && (b && c)) ≡ ((a && b) && c)
+pub and_assoc : (a b c : Bool) → (a && (b && c)) ≡ ((a && b) && c)
 and_assoc true b c = refl
 and_assoc false b c = refl
 
 -- one part after another
-chain_told : {A B : Type 0} (d e : Bool) (x : A) (y : B) (v : Result A EncodeFault) (rest : A → Result B EncodeFault)
+pub chain_told : {A B : Type 0} (d e : Bool) (x : A) (y : B) (v : Result A EncodeFault) (rest : A → Result B EncodeFault)
     → Told d x v → Told e y (rest x) → Told (d && e) y (chain v rest)
 chain_told {B = B} d e x y (Ok a) rest h g =
     subst (λ (z : Bool). Told (z && e) y (rest a)) (sym h.0) (subst (λ z. Told e y (rest z)) (sym h.1) g)
@@ -54,7 +54,7 @@ chain_told d e x y (Err TooManyNodes) rest h g = h
 chain_told d e x y (Err TooLong) rest h g = h
 chain_told d e x y (Err OutOfMemory) rest h g = h
 
-told_good : {A : Type 0} (d : Bool) (x y : A) (v : Result A EncodeFault) → x ≡ y → Told d x v → Told d y v
+pub told_good : {A : Type 0} (d : Bool) (x y : A) (v : Result A EncodeFault) → x ≡ y → Told d x v → Told d y v
 told_good d x y v e h = subst (λ z. Told d z v) e h
 
 -- a length that holds
@@ -71,11 +71,11 @@ parts_of_distinct (pair k v ps) h =
     let q = and_parts (all_pairs (λ l w. not (same k l)) ps) (pairs_distinct ps) p.1 in
     and_from _ _ p.0 (parts_of_distinct ps q.1)
 
-parts_repeat : (ps : Pairs) → parts_distinct ps ≡ false → pairs_distinct ps ≡ false
+pub parts_repeat : (ps : Pairs) → parts_distinct ps ≡ false → pairs_distinct ps ≡ false
 parts_repeat ps h = false_from_ne_true (pairs_distinct ps) (λ d. false≢true (sym h ∙ parts_of_distinct ps d))
 
 module _ (registry : Entries) where
-  forms_are_entries : (ps : Pairs) (f g : Shape) → pairs_fit false registry ps f g ≡ true → parts_distinct ps ≡ true → EntriesOf registry f g ps (form_entries registry ps f g)
+  pub forms_are_entries : (ps : Pairs) (f g : Shape) → pairs_fit false registry ps f g ≡ true → parts_distinct ps ≡ true → EntriesOf registry f g ps (form_entries registry ps f g)
   forms_are_entries no_pairs f g h d = tt
   forms_are_entries (pair k v ps) f g h d =
       let p = and_parts (fits false registry k (of f) && fits false registry v (of g)) (pairs_fit false registry ps f g) h in
@@ -119,7 +119,7 @@ module _ (registry : Entries) where
   map_told ps f g b (Err TooLong) h t = t
   map_told ps f g b (Err OutOfMemory) h t = t
 
-  each_count : (ts : Trees) (ss : Shapes) → each_fits false registry ts ss ≡ true → count ts ≡ shape_count ss
+  pub each_count : (ts : Trees) (ss : Shapes) → each_fits false registry ts ss ≡ true → count ts ≡ shape_count ss
   each_count no_trees no_shapes h = refl
   each_count (tree t ts) (shape s ss) h = ap (λ (n : ℕ). suc n) (each_count ts ss (and_parts (fits false registry t (of s)) (each_fits false registry ts ss) h).1)
   each_count no_trees (shape s ss) h = absurd (false≢true h)

@@ -1,4 +1,3 @@
 pub mod Writing
 pub mod EntryView
 pub mod Forming
-pub mod FormedView

@@ -3,7 +3,5 @@
 
 pub mod arranging;
 pub mod entry_bytes;
-pub mod formed_entries;
-pub mod formed_entry;
 pub mod number_rows;
 pub mod pushing;

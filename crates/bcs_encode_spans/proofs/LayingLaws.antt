@@ -22,7 +22,7 @@ use Rattle.bcs_encode_laws.specs.declared.fault.EncodeFault.TheVariants.{NotOfFo
 
 -- ---- what was there before stays in front
 
-abbrev after : List ℕ → Verdict → Verdict
+abbrev pub after : List ℕ → Verdict → Verdict
 after b v = chain v (λ c. Ok (b ++ c))
 
 chain_after : (b : List ℕ) (v : Verdict) (f g : List ℕ → Verdict) → ((c : List ℕ) → f (b ++ c) ≡ after b (g c)) → chain (after b v) f ≡ after b (chain v g)
@@ -99,19 +99,19 @@ module _ (registry : Entries) where
     each_after no_trees (shape s ss) b x = refl
     each_after (tree t ts) no_shapes b x = refl
 
-  written_behind : (t : Tree) (f : Content) (b : List ℕ) → written registry t f b ≡ after b (written registry t f [])
+  pub written_behind : (t : Tree) (f : Content) (b : List ℕ) → written registry t f b ≡ after b (written registry t f [])
   written_behind t f b = ap (written registry t f) (sym (append-nil b)) ∙ written_after t f b []
 
 -- ---- the entries of a map
 
-abbrev spans_from : ℕ → List Entry → List Span
+abbrev pub spans_from : ℕ → List Entry → List Span
 spans_from at [] = []
 spans_from at (e ∷ es) = span at (at + length e.0) ((at + length e.0) + length e.1) ∷ spans_from ((at + length e.0) + length e.1) es
 
 abbrev Lain : Type 0
 Lain = Result (List ℕ × List Span) EncodeFault
 
-abbrev lain : List ℕ → List Span → List Entry → Lain
+abbrev pub lain : List ℕ → List Span → List Entry → Lain
 lain b ss es = Ok (b ++ flat_map entry_bytes es, ss ++ spans_from (length b) es)
 
 lain_more : (b a c : List ℕ) (ss : List Span) (es : List Entry)
@@ -127,7 +127,7 @@ lain_more b a c ss es =
     ap₂ (λ (x : List ℕ) (y : List Span). Ok (x, y)) bytes spans
 
 module _ (registry : Entries) (k v : Shape) where
-  abbrev own_entries : Pairs → Result (List Entry) EncodeFault
+  abbrev pub own_entries : Pairs → Result (List Entry) EncodeFault
   own_entries no_pairs = Ok []
   own_entries (pair l w ps) =
       chain (written registry l (of k) []) (λ a. chain (written registry w (of v) []) (λ c. chain (own_entries ps) (λ es. Ok ((a, c) ∷ es))))
@@ -149,7 +149,7 @@ module _ (registry : Entries) (k v : Shape) where
       first h (Ok a) = second h a (written registry w (of v) [])
       first h (Err e) = refl
 
-  laid_own : (ps : Pairs) (b : List ℕ) (ss : List Span) → entries_laid registry ps k v b ss ≡ chain (own_entries ps) (lain b ss)
+  pub laid_own : (ps : Pairs) (b : List ℕ) (ss : List Span) → entries_laid registry ps k v b ss ≡ chain (own_entries ps) (lain b ss)
   laid_own no_pairs b ss = ap₂ (λ (x : List ℕ) (y : List Span). Ok (x, y)) (sym (append-nil b)) (sym (append-nil ss))
   laid_own (pair l w ps) b ss =
       ap (λ (u : Verdict). chain u (λ c. chain (written registry w (of v) c) (λ d. entries_laid registry ps k v d (ss ++ (span (length b) (length c) (length d) ∷ []))))) (written_behind registry l (of k) b)
@@ -182,7 +182,7 @@ part_between x y z =
     let size : (length x + length y) - length x ≡ length y = omega arith in
     rw (low, high, size, drop-append_seam x (y ++ z), take-append_seam y z) refl
 
-spans_entries : (es : List Entry) (b : List ℕ) → map (span_entry (b ++ flat_map entry_bytes es)) (spans_from (length b) es) ≡ es
+pub spans_entries : (es : List Entry) (b : List ℕ) → map (span_entry (b ++ flat_map entry_bytes es)) (spans_from (length b) es) ≡ es
 spans_entries [] b = refl
 spans_entries (e ∷ es) b =
     let rest : List ℕ = flat_map entry_bytes es in

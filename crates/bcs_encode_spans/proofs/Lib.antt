@@ -1,1 +1,4 @@
 pub mod LayingLaws
+pub mod KeyLayingLaws
+pub mod PairOrdering
+pub mod FormedLaying

@@ -47,7 +47,7 @@ fn rearrange(work: &mut Workspace, first: usize, start: usize) -> Result<(), Enc
 
 /// Whether the keys' bytes rise from each entry to the next. Then the entries stay where they are, so that maps nested
 /// in canonical values aren't copied once a level.
-fn rise(spans: &[Span], bytes: &[u8]) -> bool
+pub(crate) fn rise(spans: &[Span], bytes: &[u8]) -> bool
     ensures { result ≡ keys_rise (map (span_entry bytes.now) spans.now) }
 {
     for i in 1..spans.len() {
@@ -62,7 +62,7 @@ fn rise(spans: &[Span], bytes: &[u8]) -> bool
 }
 
 /// The bytes of the entries by rising keys; or refuses two entries with one key.
-fn gather_in_order(
+pub(crate) fn gather_in_order(
     spans: &mut [Span],
     bytes: &[u8],
     scratch: &mut Vec<u8>,
@@ -110,7 +110,7 @@ fn gather(spans: &[Span], bytes: &[u8], scratch: &mut Vec<u8>) -> Result<(), Enc
 }
 
 /// The bytes from one place to another, or none where there is no such part.
-fn part(bytes: &[u8], from: usize, to: usize) -> &[u8]
+pub(crate) fn part(bytes: &[u8], from: usize, to: usize) -> &[u8]
     ensures { result.now ≡ spec.part bytes.now from to }
 {
     if from <= to && to <= bytes.len() {

@@ -1,27 +1,25 @@
-//! The canonical form of a value, made together with its bytes, by which the entries of maps are ordered. Each value is
-//! formed in the caller's slot, so that a level of a deep value needs little of the stack.
-ghost use Rattle.std.specs.Prelude.{◌≡◌, ◌++◌, ◌∷◌, [], OnOk, map};
+//! The canonical form of a value. Bytes are made of the keys of maps alone, by which the entries are ordered, and they are
+//! dropped at the map's end. Each value is formed in the caller's slot, so that a level of a deep value needs little of
+//! the stack.
+ghost use Rattle.std.specs.Prelude.{◌≡◌, [], Ok, OnOk, map};
 ghost use Rattle.bcs_registry_formats.specs.Container.{of, content, content_at, field_shapes, payload_shape};
 ghost use Rattle.bcs_registry_formats.specs.Shape.{map as map_shape, tuple};
 ghost use Rattle.bcs_registry_formats.specs.View.{container_of, field_of, formats_shapes, payload_of, shape_of};
 ghost use Rattle.bcs_value_tree.specs.Tree.{items as items_tree, named, pairs as pairs_tree, present, unit};
-ghost use Rattle.bcs_value_tree.specs.View.{entries_pairs, items_trees, pairs_of, tree_of, trees_of};
-ghost use Rattle.bcs_encode_parts.specs.FormedView.{bytes_entry, keyed_of};
-ghost use Rattle.bcs_encode_parts.specs.Forming.{each_formed, formed, items_formed, keyed_formed, pairs_in_order};
-ghost use Rattle.bcs_encode_parts.specs.Writing as spec;
-ghost use Rattle.bcs_encode_parts.specs.Writing.{Tells};
+ghost use Rattle.bcs_value_tree.specs.View.{entries_pairs, items_trees, tree_of};
+ghost use Rattle.bcs_encode_parts.specs.Forming.{canonicalised, items_canonicalised, row};
+ghost use Rattle.bcs_encode_parts.specs.Writing.{Tells, chain};
 
-use crate::by_entries::push_value;
+use crate::key_forming::form_key;
 use bcs_encode_laws::EncodeFault;
-use bcs_encode_parts::formed_entries::order_entries;
-use bcs_encode_parts::formed_entry::{FormedEntry, keep_formed};
-use bcs_encode_parts::pushing::{push_byte, push_length, push_number};
+use bcs_encode_spans::formed_pairs::{lay_key, put_in_order};
+use bcs_encode_spans::workspace::Workspace;
 use bcs_registry::{Container, Format, Named, Registry, VariantFormat};
 use bcs_value::Value;
-use bcs_value_tree::slot::{keep, put_items, wrap_named, wrap_present, wrap_variant};
+use bcs_value_tree::slot::{keep, keep_entry, put_items, wrap_named, wrap_present, wrap_variant};
 use std::alloc::Global;
 
-/// Leaves a value's form in the slot, and appends its bytes.
+/// Leaves a value's form in the slot. The workspace is what it was.
 #[cycle(forming)]
 #[inline(always)]
 pub fn form(
@@ -29,42 +27,47 @@ pub fn form(
     format: &Format,
     registry: &Registry,
     alloc: Global,
-    out: &mut Vec<u8>,
+    work: &mut Workspace,
     slot: &mut Value,
 ) -> Result<(), EncodeFault>
-    ensures tells { Tells result (spec.written registry.now (tree_of value.now) (of (shape_of format.now)) out.old.items) out.new.items }
-    ensures formed { OnOk result (tree_of slot.new ≡ formed registry.now (tree_of value.now) (of (shape_of format.now))) }
+    ensures tells { Tells result (canonicalised registry.now (tree_of value.now) (of (shape_of format.now))) (tree_of slot.new) }
+    ensures bytes { OnOk result (work.new.out.items ≡ work.old.out.items) }
+    ensures spans { OnOk result (work.new.spans.items ≡ work.old.spans.items) }
 {
     match (value, format) {
         (_, Format::F32 | Format::F64 | Format::Char) => Err(EncodeFault::NotOfFormat),
-        (Value::Unit, _) => form_plain(value, format, registry, alloc, out, slot),
-        (Value::Bool(_), _) => form_plain(value, format, registry, alloc, out, slot),
-        (Value::Unsigned(_), _) => form_plain(value, format, registry, alloc, out, slot),
-        (Value::Signed(_), _) => form_plain(value, format, registry, alloc, out, slot),
-        (Value::Text(_), _) => form_plain(value, format, registry, alloc, out, slot),
-        (Value::Bytes(_), _) => form_plain(value, format, registry, alloc, out, slot),
-        (Value::Absent, _) => form_plain(value, format, registry, alloc, out, slot),
+        (Value::Unit, Format::Unit) => form_plain(value, alloc, slot),
+        (Value::Bool(_), Format::Bool) => form_plain(value, alloc, slot),
+        (Value::Unsigned(_), Format::U8) => form_plain(value, alloc, slot),
+        (Value::Unsigned(_), Format::U16) => form_plain(value, alloc, slot),
+        (Value::Unsigned(_), Format::U32) => form_plain(value, alloc, slot),
+        (Value::Unsigned(_), Format::U64) => form_plain(value, alloc, slot),
+        (Value::Unsigned(_), Format::U128) => form_plain(value, alloc, slot),
+        (Value::Signed(_), Format::I8) => form_plain(value, alloc, slot),
+        (Value::Signed(_), Format::I16) => form_plain(value, alloc, slot),
+        (Value::Signed(_), Format::I32) => form_plain(value, alloc, slot),
+        (Value::Signed(_), Format::I64) => form_plain(value, alloc, slot),
+        (Value::Signed(_), Format::I128) => form_plain(value, alloc, slot),
+        (Value::Text(_), Format::Str) => form_plain(value, alloc, slot),
+        (Value::Bytes(_), Format::Bytes) => form_plain(value, alloc, slot),
+        (Value::Absent, Format::Opt(_)) => form_plain(value, alloc, slot),
         (Value::Present(inner), Format::Opt(content)) => {
-            form_present(inner, content, registry, alloc, out, slot)
+            form_present(inner, content, registry, alloc, work, slot)
         }
         (Value::Items(items), Format::Seq(element)) => {
-            push_length(items.len(), out)?;
-            form_all(items, element, registry, alloc, out, slot)
+            form_all(items, element, registry, alloc, work, slot)
         }
         (Value::Items(items), Format::Tuple(formats)) => {
-            form_each(items, formats, registry, alloc, out, slot)
+            form_each(items, formats, registry, alloc, work, slot)
         }
-        (Value::Items(items), Format::TupleArray(element, size)) => {
-            if items.len() as u64 != *size {
-                return Err(EncodeFault::NotOfFormat);
-            }
-            form_all(items, element, registry, alloc, out, slot)
+        (Value::Items(items), Format::TupleArray(element, _)) => {
+            form_all(items, element, registry, alloc, work, slot)
         }
         (Value::Pairs(pairs), Format::Map(key, value)) => {
-            form_map(pairs, key, value, registry, alloc, out, slot)
+            form_map(pairs, key, value, registry, alloc, work, slot)
         }
         (Value::Named(inner), Format::TypeName(name)) => {
-            form_named(inner, name.as_str(), registry, alloc, out, slot)
+            form_named(inner, name.as_str(), registry, alloc, work, slot)
         }
         _ => Err(EncodeFault::NotOfFormat),
     }
@@ -72,18 +75,9 @@ pub fn form(
 
 /// The form of a value with no parts, which is the value itself.
 #[inline(never)]
-fn form_plain(
-    value: &Value,
-    format: &Format,
-    registry: &Registry,
-    alloc: Global,
-    out: &mut Vec<u8>,
-    slot: &mut Value,
-) -> Result<(), EncodeFault>
-    ensures tells { Tells result (spec.written registry.now (tree_of value.now) (of (shape_of format.now)) out.old.items) out.new.items }
-    ensures same { OnOk result (tree_of slot.new ≡ tree_of value.now) }
+fn form_plain(value: &Value, alloc: Global, slot: &mut Value) -> Result<(), EncodeFault>
+    ensures { Tells result (Ok (tree_of value.now)) (tree_of slot.new) }
 {
-    push_value(value, format, registry, alloc, out)?;
     *slot = value.copy(alloc)?;
     Ok(())
 }
@@ -104,14 +98,14 @@ fn form_present(
     content: &Format,
     registry: &Registry,
     alloc: Global,
-    out: &mut Vec<u8>,
+    work: &mut Workspace,
     slot: &mut Value,
 ) -> Result<(), EncodeFault>
-    ensures tells { Tells result (spec.written registry.now (tree_of inner.now) (of (shape_of content.now)) (out.old.items ++ 1 ∷ [])) out.new.items }
-    ensures formed { OnOk result (tree_of slot.new ≡ present (formed registry.now (tree_of inner.now) (of (shape_of content.now)))) }
+    ensures tells { Tells result (chain (canonicalised registry.now (tree_of inner.now) (of (shape_of content.now))) (λ u. Ok (present u))) (tree_of slot.new) }
+    ensures bytes { OnOk result (work.new.out.items ≡ work.old.out.items) }
+    ensures spans { OnOk result (work.new.spans.items ≡ work.old.spans.items) }
 {
-    push_byte(1, out)?;
-    form(inner, content, registry, alloc, out, slot)?;
+    form(inner, content, registry, alloc, work, slot)?;
     wrap_present(alloc, slot)?;
     Ok(())
 }
@@ -124,15 +118,16 @@ fn form_named(
     name: &str,
     registry: &Registry,
     alloc: Global,
-    out: &mut Vec<u8>,
+    work: &mut Workspace,
     slot: &mut Value,
 ) -> Result<(), EncodeFault>
-    ensures tells { Tells result (spec.written registry.now (tree_of inner.now) (content_at name.now registry.now) out.old.items) out.new.items }
-    ensures formed { OnOk result (tree_of slot.new ≡ named (formed registry.now (tree_of inner.now) (content_at name.now registry.now))) }
+    ensures tells { Tells result (chain (canonicalised registry.now (tree_of inner.now) (content_at name.now registry.now)) (λ u. Ok (named u))) (tree_of slot.new) }
+    ensures bytes { OnOk result (work.new.out.items ≡ work.old.out.items) }
+    ensures spans { OnOk result (work.new.spans.items ≡ work.old.spans.items) }
 {
     match registry.container(name) {
         Some(container) => {
-            form_content(inner, container, registry, alloc, out, slot)?;
+            form_content(inner, container, registry, alloc, work, slot)?;
             wrap_named(alloc, slot)?;
             Ok(())
         }
@@ -148,35 +143,33 @@ fn form_content(
     container: &Container,
     registry: &Registry,
     alloc: Global,
-    out: &mut Vec<u8>,
+    work: &mut Workspace,
     slot: &mut Value,
 ) -> Result<(), EncodeFault>
-    ensures tells { Tells result (spec.written registry.now (tree_of value.now) (content (container_of container.now)) out.old.items) out.new.items }
-    ensures formed { OnOk result (tree_of slot.new ≡ formed registry.now (tree_of value.now) (content (container_of container.now))) }
+    ensures tells { Tells result (canonicalised registry.now (tree_of value.now) (content (container_of container.now))) (tree_of slot.new) }
+    ensures bytes { OnOk result (work.new.out.items ≡ work.old.out.items) }
+    ensures spans { OnOk result (work.new.spans.items ≡ work.old.spans.items) }
 {
     match (container, value) {
         (Container::UnitStruct, Value::Unit) => {
             form_unit(slot);
             Ok(())
         }
-        (Container::NewTypeStruct(format), _) => form(value, format, registry, alloc, out, slot),
+        (Container::NewTypeStruct(format), _) => form(value, format, registry, alloc, work, slot),
         (Container::TupleStruct(formats), Value::Items(items)) => {
-            form_each(items, formats, registry, alloc, out, slot)
+            form_each(items, formats, registry, alloc, work, slot)
         }
         (Container::Struct(fields), Value::Items(items)) => {
-            form_fields(items, fields, registry, alloc, out, slot)
+            form_fields(items, fields, registry, alloc, work, slot)
         }
-        (Container::Enum(variants), Value::Variant(number, inner)) => {
-            push_number(*number, out)?;
-            match variants.get(number) {
-                Some(variant) => {
-                    form_payload(inner, &variant.value, registry, alloc, out, slot)?;
-                    wrap_variant(alloc, *number, slot)?;
-                    Ok(())
-                }
-                None => Err(EncodeFault::NotOfFormat),
+        (Container::Enum(variants), Value::Variant(number, inner)) => match variants.get(number) {
+            Some(variant) => {
+                form_payload(inner, &variant.value, registry, alloc, work, slot)?;
+                wrap_variant(alloc, *number, slot)?;
+                Ok(())
             }
-        }
+            None => Err(EncodeFault::NotOfFormat),
+        },
         _ => Err(EncodeFault::NotOfFormat),
     }
 }
@@ -189,23 +182,24 @@ fn form_payload(
     payload: &VariantFormat,
     registry: &Registry,
     alloc: Global,
-    out: &mut Vec<u8>,
+    work: &mut Workspace,
     slot: &mut Value,
 ) -> Result<(), EncodeFault>
-    ensures tells { Tells result (spec.written registry.now (tree_of value.now) (of (payload_shape (payload_of payload.now))) out.old.items) out.new.items }
-    ensures formed { OnOk result (tree_of slot.new ≡ formed registry.now (tree_of value.now) (of (payload_shape (payload_of payload.now)))) }
+    ensures tells { Tells result (canonicalised registry.now (tree_of value.now) (of (payload_shape (payload_of payload.now)))) (tree_of slot.new) }
+    ensures bytes { OnOk result (work.new.out.items ≡ work.old.out.items) }
+    ensures spans { OnOk result (work.new.spans.items ≡ work.old.spans.items) }
 {
     match (payload, value) {
         (VariantFormat::Unit, Value::Unit) => {
             form_unit(slot);
             Ok(())
         }
-        (VariantFormat::NewType(format), _) => form(value, format, registry, alloc, out, slot),
+        (VariantFormat::NewType(format), _) => form(value, format, registry, alloc, work, slot),
         (VariantFormat::Tuple(formats), Value::Items(items)) => {
-            form_each(items, formats, registry, alloc, out, slot)
+            form_each(items, formats, registry, alloc, work, slot)
         }
         (VariantFormat::Struct(fields), Value::Items(items)) => {
-            form_fields(items, fields, registry, alloc, out, slot)
+            form_fields(items, fields, registry, alloc, work, slot)
         }
         _ => Err(EncodeFault::NotOfFormat),
     }
@@ -219,16 +213,16 @@ fn form_all(
     element: &Format,
     registry: &Registry,
     alloc: Global,
-    out: &mut Vec<u8>,
+    work: &mut Workspace,
     slot: &mut Value,
 ) -> Result<(), EncodeFault>
-    ensures tells { Tells result (spec.items_written registry.now (items_trees items.now) (shape_of element.now) out.old.items) out.new.items }
-    ensures formed { OnOk result (tree_of slot.new
-        ≡ items_tree (trees_of (items_formed registry.now (items_trees items.now) (shape_of element.now) []))) }
+    ensures tells { Tells result (chain (items_canonicalised registry.now (items_trees items.now) (shape_of element.now) []) row) (tree_of slot.new) }
+    ensures bytes { OnOk result (work.new.out.items ≡ work.old.out.items) }
+    ensures spans { OnOk result (work.new.spans.items ≡ work.old.spans.items) }
 {
     let mut forms = Vec::with_capacity(alloc, items.len())?;
     for item in items {
-        form(item, element, registry, alloc, out, slot)?;
+        form(item, element, registry, alloc, work, slot)?;
         keep(&mut forms, slot)?;
     }
     put_items(slot, forms);
@@ -244,19 +238,19 @@ fn form_each(
     formats: &[Format],
     registry: &Registry,
     alloc: Global,
-    out: &mut Vec<u8>,
+    work: &mut Workspace,
     slot: &mut Value,
 ) -> Result<(), EncodeFault>
-    ensures tells { Tells result (spec.written registry.now (items_tree (items_trees items.now)) (of (tuple (formats_shapes formats.now))) out.old.items) out.new.items }
-    ensures formed { OnOk result (tree_of slot.new
-        ≡ items_tree (trees_of (each_formed registry.now (items_trees items.now) (formats_shapes formats.now) []))) }
+    ensures tells { Tells result (canonicalised registry.now (items_tree (items_trees items.now)) (of (tuple (formats_shapes formats.now)))) (tree_of slot.new) }
+    ensures bytes { OnOk result (work.new.out.items ≡ work.old.out.items) }
+    ensures spans { OnOk result (work.new.spans.items ≡ work.old.spans.items) }
 {
     if items.len() != formats.len() {
         return Err(EncodeFault::NotOfFormat);
     }
     let mut forms = Vec::with_capacity(alloc, items.len())?;
     for (i, item) in items.iter().enumerate() {
-        form(item, &formats[i], registry, alloc, out, slot)?;
+        form(item, &formats[i], registry, alloc, work, slot)?;
         keep(&mut forms, slot)?;
     }
     put_items(slot, forms);
@@ -272,19 +266,19 @@ fn form_fields(
     fields: &[Named<Format>],
     registry: &Registry,
     alloc: Global,
-    out: &mut Vec<u8>,
+    work: &mut Workspace,
     slot: &mut Value,
 ) -> Result<(), EncodeFault>
-    ensures tells { Tells result (spec.written registry.now (items_tree (items_trees items.now)) (of (tuple (field_shapes (map field_of fields.now)))) out.old.items) out.new.items }
-    ensures formed { OnOk result (tree_of slot.new
-        ≡ items_tree (trees_of (each_formed registry.now (items_trees items.now) (field_shapes (map field_of fields.now)) []))) }
+    ensures tells { Tells result (canonicalised registry.now (items_tree (items_trees items.now)) (of (tuple (field_shapes (map field_of fields.now))))) (tree_of slot.new) }
+    ensures bytes { OnOk result (work.new.out.items ≡ work.old.out.items) }
+    ensures spans { OnOk result (work.new.spans.items ≡ work.old.spans.items) }
 {
     if items.len() != fields.len() {
         return Err(EncodeFault::NotOfFormat);
     }
     let mut forms = Vec::with_capacity(alloc, items.len())?;
     for (i, item) in items.iter().enumerate() {
-        form(item, &fields[i].value, registry, alloc, out, slot)?;
+        form(item, &fields[i].value, registry, alloc, work, slot)?;
         keep(&mut forms, slot)?;
     }
     put_items(slot, forms);
@@ -300,58 +294,23 @@ fn form_map(
     value: &Format,
     registry: &Registry,
     alloc: Global,
-    out: &mut Vec<u8>,
+    work: &mut Workspace,
     slot: &mut Value,
 ) -> Result<(), EncodeFault>
-    ensures tells { Tells result
-        (spec.written registry.now (pairs_tree (entries_pairs pairs.now)) (of (map_shape (shape_of key.now) (shape_of value.now))) out.old.items)
-        out.new.items }
-    ensures formed { OnOk result (tree_of slot.new
-        ≡ pairs_tree (pairs_of (pairs_in_order (keyed_formed registry.now (entries_pairs pairs.now) (shape_of key.now) (shape_of value.now) [])))) }
+    ensures tells { Tells result (canonicalised registry.now (pairs_tree (entries_pairs pairs.now)) (of (map_shape (shape_of key.now) (shape_of value.now)))) (tree_of slot.new) }
+    ensures bytes { OnOk result (work.new.out.items ≡ work.old.out.items) }
+    ensures spans { OnOk result (work.new.spans.items ≡ work.old.spans.items) }
 {
-    push_length(pairs.len(), out)?;
-    let mut entries = Vec::new(alloc);
-    form_entries(pairs, key, value, registry, alloc, &mut entries)?;
-    order_entries(entries, alloc, out, slot)
-}
-
-/// Appends the forms of a map's entries to those before, in the order of the pairs.
-#[cycle(forming)]
-#[inline(never)]
-fn form_entries(
-    pairs: &[(Value, Value)],
-    key: &Format,
-    value: &Format,
-    registry: &Registry,
-    alloc: Global,
-    entries: &mut Vec<FormedEntry>,
-) -> Result<(), EncodeFault>
-    ensures tells { Tells result
-        (spec.entries_written registry.now (entries_pairs pairs.now) (shape_of key.now) (shape_of value.now) (map bytes_entry entries.old.items))
-        (map bytes_entry entries.new.items) }
-    ensures formed { OnOk result (map keyed_of entries.new.items
-        ≡ keyed_formed registry.now (entries_pairs pairs.now) (shape_of key.now) (shape_of value.now) (map keyed_of entries.old.items)) }
-{
+    let first = work.spans.len();
+    let start = work.out.len();
+    let mut forms = Vec::with_capacity(alloc, pairs.len())?;
     for (k, v) in pairs {
-        let mut entry = FormedEntry::unformed(alloc)?;
-        let formed = &mut *entry;
-        form(
-            k,
-            key,
-            registry,
-            alloc,
-            &mut formed.bytes.key,
-            &mut formed.key,
-        )?;
-        form(
-            v,
-            value,
-            registry,
-            alloc,
-            &mut formed.bytes.value,
-            &mut formed.value,
-        )?;
-        keep_formed(entries, entry)?;
+        let place = work.out.len();
+        let mut formed = Value::Unit;
+        form_key(k, key, registry, alloc, &mut work.out, &mut formed)?;
+        lay_key(work, place)?;
+        form(v, value, registry, alloc, work, slot)?;
+        keep_entry(&mut forms, &mut formed, slot)?;
     }
-    Ok(())
+    put_in_order(work, first, start, forms, alloc, slot)
 }

@@ -4,4 +4,4 @@
 pub mod by_entries;
 pub mod encoding;
 pub mod forming;
-pub mod lengths;
+pub mod key_forming;

@@ -1,6 +1,6 @@
 -- What the calls answer, from what the crates below tell.
-use Rattle.std.proofs.Common.{◌≡◌, ◌≢◌, ◌↔◌, ℕ, List, Ok, Err, Result, IfOk, IfErr, Bool, Decides, refl}
-use Rattle.serde_json.specs.Data.{Data}
+use Rattle.std.proofs.Common.{◌≡◌, ◌≢◌, ◌≤◌, ◌↔◌, ℕ, List, Ok, Err, Result, IfOk, IfErr, Bool, Decides, refl}
+use Rattle.serde_json.specs.Data.{Data, depth}
 use Rattle.bcs_registry_formats.specs.Container.{Entries}
 use Rattle.bcs_registry_formats.specs.Container as container
 use Rattle.bcs_registry_formats.specs.Ranges.{IsOrderly}
@@ -17,6 +17,7 @@ use Rattle.bcs_encode_laws.specs.Refused as encode
 use Rattle.bcs_encode_laws.specs.Sound.{IsSound}
 use Rattle.bcs_encode_laws.specs.declared.fault.EncodeFault.{EncodeFault}
 use Rattle.bcs_encode_laws.specs.declared.fault.EncodeFault.TheVariants as encode_fault
+use Rattle.bcs_decode_laws.specs.Accepting.{IsDecoded}
 use Rattle.bcs_json_faults.specs.Causes.{fault_of_value}
 use Rattle.bcs_json_faults.specs.declared.json_fault.JsonFault.{JsonFault}
 use Rattle.bcs_json_faults.specs.declared.json_fault.JsonFault.TheVariants.{OutOfMemory}
@@ -24,9 +25,9 @@ use Rattle.bcs_json_laws.specs.Headline.{HasBytes, Compares, Normalises}
 use Rattle.bcs_json_laws.specs.JsonContent.{of}
 use Rattle.bcs_json_laws.specs.Reading.{Tells, read_data}
 use Rattle.bcs_json_laws.specs.Shown.{shown}
-use Rattle.bcs_json_laws.specs.Texts.{IsReadAs, SpelledBy, RefusesText, IsTextOf}
-use Rattle.bcs_json_laws.proofs.Printed.{shown_denotes, form_is_sound}
-use Rattle.bcs_json_laws.proofs.TextOutcomes.{read_is_spelled, stop_is_refusal, sound_is_denoted, refused_value}
+use Rattle.bcs_json_laws.specs.Texts.{nesting_limit, IsReadAs, SpelledBy, RefusesText, IsTextOf}
+use Rattle.bcs_json_laws.proofs.Printed.{shown_denotes, form_is_sound, form_nests}
+use Rattle.bcs_json_laws.proofs.TextOutcomes.{read_is_spelled, stop_is_refusal, refused_value}
 use Rattle.bcs_json.specs.Printing.{Prints}
 
 module _ (registry : Entries) (limits : Bounds) (s : Shape) (text : List ℕ) where
@@ -51,17 +52,28 @@ module _ (registry : Entries) (limits : Bounds) (s : Shape) (text : List ℕ) wh
   value_fault orderly t spelled encode_fault.TooLong h other = refused_value registry limits s text orderly t spelled encode_fault.TooLong (h (λ is. cc))
   value_fault orderly t spelled encode_fault.RepeatedKey h other = refused_value registry limits s text orderly t spelled encode_fault.RepeatedKey (h (λ is. cc))
 
-  -- the text of the canonical form of what is spelled
-  pub normalises : IsWellFormed registry → IsOrderly registry → (t form : Tree) (out : List ℕ) → SpelledBy registry limits s text t → IsSound registry limits s t → IsForm registry (container.of s) t form
+  -- what the bytes of a text are decoded to is the canonical form of what the text denotes
+  pub decoded_form : (b : List ℕ) (form : Tree) (has : HasBytes registry limits s text b) → IsDecoded registry limits s b form → IsForm registry (container.of s) has.value form
+  decoded_form b form has is = record { fit = is.accepted.sound.fit; canonical = is.accepted.canonical; is_same = is.only has.value has.encoded }
+
+  -- and what is shown of it nests no deeper than a text may
+  pub decoded_nests : IsWellFormed registry → IsOrderly registry → (b : List ℕ) (form : Tree) → HasBytes registry limits s text b → IsDecoded registry limits s b form → depth (shown registry form (of s)) ≤ nesting_limit
+  decoded_nests well orderly b form has is =
+      let denoted = has.denoted in
+      let spelled : SpelledBy registry limits s text has.value = record { read = denoted.read; is = denoted.is; spells = (denoted.spells, denoted.sound.depth_holds) } in
+      form_nests registry limits s well orderly text has.value form spelled (decoded_form b form has is)
+
+  -- the text of what the bytes of a text are decoded to
+  pub normalises : IsWellFormed registry → IsOrderly registry → (b : List ℕ) (form : Tree) (out : List ℕ) → HasBytes registry limits s text b → IsDecoded registry limits s b form
       → IsTextOf registry s form out → IsReadAs out (shown registry form (of s)) → Normalises registry limits s text out
-  normalises well orderly t form out spelled sound is_form is back =
+  normalises well orderly b form out has decoded is back =
       record {
-        value = t;
-        denoted = sound_is_denoted registry limits s text t spelled sound;
+        value = has.value;
+        denoted = has.denoted;
         form = form;
-        is_form = is_form;
+        is_form = decoded_form b form has decoded;
         is = is;
-        again = shown_denotes registry limits s well orderly form (form_is_sound registry limits s well orderly t form sound is_form) out back.0 back.1;
+        again = shown_denotes registry limits s well orderly form decoded.accepted.sound out back.0 back.1;
       }
 
 -- the text of the canonical form of a sound value

@@ -6,8 +6,7 @@ ghost use Rattle.bcs_json_laws.specs.Headline.{HasBytes};
 ghost use Rattle.bcs_json_laws.specs.Texts.{Denotes, RefusesText};
 ghost use Rattle.bcs_json_faults.specs.declared.json_fault.JsonFault.TheVariants.{OutOfMemory};
 
-use crate::spelling::spelled;
-use bcs_encode::encode;
+use crate::denoting::denoted;
 use bcs_json_faults::JsonFault;
 use bcs_registry::{Format, Registry};
 use bcs_value::Limits;
@@ -25,8 +24,6 @@ pub fn to_bcs(
     ensures fault { IfErr result (λ e. e ≢ OutOfMemory → RefusesText registry.now limits.now (shape_of format.now) text.now e) }
     ensures memory { IfErr result (λ e. (t : Tree) → Denotes registry.now limits.now (shape_of format.now) text.now t → e ≡ OutOfMemory) }
 {
-    registry.recall();
-    let value = spelled(alloc, registry, format, limits, text)?;
-    let bytes = encode(alloc, registry, format, limits, &value)?;
+    let (_, bytes) = denoted(alloc, registry, format, limits, text)?;
     Ok(bytes)
 }

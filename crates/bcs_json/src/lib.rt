@@ -3,6 +3,7 @@
 
 mod bytes;
 mod comparing;
+mod denoting;
 mod from_fault;
 mod normal_text;
 mod print_fault;

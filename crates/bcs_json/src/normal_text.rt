@@ -6,8 +6,8 @@ ghost use Rattle.bcs_json_laws.specs.Headline.{Normalises};
 ghost use Rattle.bcs_json_laws.specs.Texts.{Denotes, RefusesText};
 ghost use Rattle.bcs_json_faults.specs.declared.json_fault.JsonFault.TheVariants.{OutOfMemory};
 
-use crate::spelling::spelled;
-use bcs_encode::canonicalise;
+use crate::bytes::to_bcs;
+use bcs_decode::decode_encoded;
 use bcs_json_faults::JsonFault;
 use bcs_json_printer::texts::show;
 use bcs_registry::{Format, Registry};
@@ -28,9 +28,9 @@ pub fn normalise(
     ensures memory { IfErr result (λ e. (t : Tree) → Denotes registry.now limits.now (shape_of format.now) text.now t → e ≡ OutOfMemory) }
 {
     registry.recall();
-    let value = spelled(alloc, registry, format, limits, text)?;
-    let form = canonicalise(alloc, registry, format, limits, &value)?;
-    drop(value);
+    let bytes = to_bcs(alloc, registry, format, limits, text)?;
+    let form = decode_encoded(alloc, registry, format, limits, &bytes)?;
+    drop(bytes);
     let out = show(form, format, registry, alloc)?;
     Ok(out)
 }

@@ -6,8 +6,7 @@ ghost use Rattle.bcs_value_tree.specs.View.{tree_of};
 ghost use Rattle.bcs_json_laws.specs.Texts.{Denotes, RefusesText};
 ghost use Rattle.bcs_json_faults.specs.declared.json_fault.JsonFault.TheVariants.{OutOfMemory};
 
-use crate::spelling::spelled;
-use bcs_encode::encode;
+use crate::denoting::denoted;
 use bcs_json_faults::JsonFault;
 use bcs_registry::{Format, Registry};
 use bcs_value::{Limits, Value};
@@ -30,8 +29,6 @@ pub fn read_value(
     ensures fault { IfErr result (λ e. e ≢ OutOfMemory → RefusesText registry.now limits.now (shape_of format.now) text.now e) }
     ensures memory { IfErr result (λ e. (t : Tree) → Denotes registry.now limits.now (shape_of format.now) text.now t → e ≡ OutOfMemory) }
 {
-    registry.recall();
-    let value = spelled(alloc, registry, format, limits, text)?;
-    encode(alloc, registry, format, limits, &value)?;
+    let (value, _) = denoted(alloc, registry, format, limits, text)?;
     Ok(value)
 }

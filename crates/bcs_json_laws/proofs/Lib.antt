@@ -24,3 +24,9 @@ pub mod GrownContents
 pub mod GrownSpelling
 pub mod WalkFaults
 pub mod OneAnswer
+pub mod Utf8Contents
+pub mod Utf8Read
+pub mod Utf8Names
+pub mod WrittenBack
+pub mod ShownText
+pub mod SomeText

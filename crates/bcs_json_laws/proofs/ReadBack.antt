@@ -37,13 +37,13 @@ whole_back false (negsuc n) = refl
 
 -- ---- bytes
 
-are_bytes_is : (b : List ℕ) → are_bytes b ≡ true → IsBytes b
+pub are_bytes_is : (b : List ℕ) → are_bytes b ≡ true → IsBytes b
 are_bytes_is [] h i = (Decides-ltb 0 256).0 refl
 are_bytes_is (x ∷ b) h ℕ.zero = (Decides-ltb x 256).0 (and_left _ _ h)
 are_bytes_is (x ∷ b) h (suc i) = are_bytes_is b (and_right (nat_lt x 256) _ h) i
 
 module _ (registry : Entries) where
-  bytes_again : (ts : Trees) → all_fit false registry ts (shape.unsigned w8) ≡ true → (ts ≡ byte_trees (trees_bytes ts)) × (are_bytes (trees_bytes ts) ≡ true)
+  pub bytes_again : (ts : Trees) → all_fit false registry ts (shape.unsigned w8) ≡ true → (ts ≡ byte_trees (trees_bytes ts)) × (are_bytes (trees_bytes ts) ≡ true)
   bytes_again no_trees h = (refl, refl)
   bytes_again (tree (tree.unsigned n) ts) h =
       let rest = bytes_again ts (and_right (nat_lt n 256) _ h) in

@@ -64,8 +64,19 @@ pub(crate) fn ask(alloc: Global, row: &Row, tally: &mut Tally) -> Result<(), Tol
     decoders::ask_of_front(alloc, asked, bytes.as_slice(), value, &wanted, tally);
     decoders::ask_of_whole(alloc, asked, bytes.as_slice(), value, &wanted, tally);
     decoders::ask_of_text(alloc, asked, bytes.as_slice(), &wanted, tally);
+    ask_of_jobs(alloc, row, tally)
+}
+
+// The program's jobs at a value's text, its digits and its normal text.
+fn ask_of_jobs(alloc: Global, row: &Row, tally: &mut Tally) -> Result<(), Told> {
     let work = jobs::job(alloc, Command::Encode, row.registry, "", row.format)?;
     jobs::ask(alloc, &work, row.input, 0, row.answer, tally);
+    let work = jobs::job(alloc, Command::Decode, row.registry, "", row.format)?;
+    jobs::ask(alloc, &work, row.answer, 0, row.more, tally);
+    let work = jobs::job(alloc, Command::Normalise, row.registry, "", row.format)?;
+    jobs::ask(alloc, &work, row.input, 0, row.more, tally);
+    let work = jobs::job(alloc, Command::Same, row.registry, row.input, row.format)?;
+    jobs::ask(alloc, &work, row.more, 0, "equal", tally);
     Ok(())
 }
 

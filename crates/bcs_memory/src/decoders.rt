@@ -25,6 +25,7 @@ pub(crate) fn ask_of_front(
         limits,
     } = asked;
     if !registry.admits(format) {
+        tally.note("admits", Told::Wrong);
         return;
     }
     let answer = match decode_slice(alloc, registry, format, limits, bytes) {
@@ -52,6 +53,7 @@ pub(crate) fn ask_of_whole(
         limits,
     } = asked;
     if !registry.admits(format) {
+        tally.note("admits", Told::Wrong);
         return;
     }
     let mut source = PieceSource::new(bytes, 1, None);
@@ -73,6 +75,7 @@ pub(crate) fn ask_of_text(
         limits,
     } = asked;
     if !registry.admits(format) {
+        tally.note("admits", Told::Wrong);
         return;
     }
     let text = from_bcs(alloc, registry, format, limits, bytes);

@@ -1,11 +1,12 @@
 //! Rows on bytes that are no value, or none that has a text.
 
 use crate::asked::Asked;
-use crate::decoders;
 use crate::row::Row;
 use crate::tally::Tally;
 use crate::told::{Told, bytes_of};
 use crate::wanted::Wanted;
+use crate::{decoders, jobs};
+use bcs_tool::Command;
 use bcs_value::Value;
 use std::alloc::Global;
 
@@ -35,5 +36,8 @@ pub(crate) fn ask(alloc: Global, row: &Row, tally: &mut Tally) -> Result<(), Tol
         );
     }
     decoders::ask_of_text(alloc, &asked, bytes.as_slice(), &wanted, tally);
+    let mut work = jobs::job(alloc, Command::Decode, row.registry, "", row.format)?;
+    work.limits = asked.limits;
+    jobs::ask(alloc, &work, row.input, 2, row.answer, tally);
     Ok(())
 }

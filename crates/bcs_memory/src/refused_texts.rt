@@ -23,5 +23,9 @@ pub(crate) fn ask(alloc: Global, row: &Row, tally: &mut Tally) -> Result<(), Tol
     );
     let work = jobs::job(alloc, Command::Encode, row.registry, "", row.format)?;
     jobs::ask(alloc, &work, row.input, 2, row.answer, tally);
+    let work = jobs::job(alloc, Command::Normalise, row.registry, "", row.format)?;
+    jobs::ask(alloc, &work, row.input, 2, row.answer, tally);
+    let work = jobs::job(alloc, Command::Same, row.registry, row.input, row.format)?;
+    jobs::ask(alloc, &work, row.input, 2, row.answer, tally);
     Ok(())
 }

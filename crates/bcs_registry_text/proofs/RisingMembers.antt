@@ -56,7 +56,7 @@ names_either Less a b c = refl
 names_either Equal a b c = refl
 names_either Greater a b c = refl
 
-names_put : (k : List ℕ) (d : Data) (ms : Members) → names_of (put k d ms) ≡ insert_key (slice_cmp nat_cmp) (names_of ms) k
+pub names_put : (k : List ℕ) (d : Data) (ms : Members) → names_of (put k d ms) ≡ insert_key (slice_cmp nat_cmp) (names_of ms) k
 names_put k d no_members = refl
 names_put k d (member l e ms) = names_either (slice_cmp nat_cmp k l) _ _ _ ∙ rw (names_put k d ms) refl
 

@@ -15,6 +15,7 @@ pub(crate) fn answer(alloc: Global, words: &[&str]) -> Result<String, RowFault> 
     match words {
         ["check", registry] => judge(alloc, Command::Check, registry, ""),
         ["grows", older, newer] => judge(alloc, Command::Grows, older, newer),
+        ["part", words @ ..] => on_parts(alloc, words),
         [name, words @ ..] => match Command::named(name) {
             Some(command) => on_values(alloc, command, words),
             None => Err(RowFault::NotUnderstood),
@@ -50,6 +51,7 @@ struct ValueJob<'a> {
     registry: &'a str,
     format: &'a str,
     second: &'a str,
+    path: &'a str,
     limits: &'a [&'a str],
 }
 
@@ -65,6 +67,7 @@ fn asked<'a>(
         registry,
         format,
         second: "",
+        path: "",
         limits,
     }
 }
@@ -93,6 +96,30 @@ fn on_values(alloc: Global, command: Command, words: &[&str]) -> Result<String, 
     }
 }
 
+// The answer to a job on a part of a value, and to its input where it has one.
+fn on_parts(alloc: Global, words: &[&str]) -> Result<String, RowFault> {
+    match words {
+        [registry, format, path] => {
+            let mut asked = asked(Command::Part, registry, format, &[]);
+            asked.path = path;
+            let work = work_of(alloc, asked)?;
+            without_input(alloc, &work)
+        }
+        ["--raw", registry, format, path, input, limits @ ..] => {
+            let mut asked = asked(Command::Part, registry, format, limits);
+            asked.raw = true;
+            asked.path = path;
+            with_input(alloc, asked, input)
+        }
+        [registry, format, path, input, limits @ ..] => {
+            let mut asked = asked(Command::Part, registry, format, limits);
+            asked.path = path;
+            with_input(alloc, asked, input)
+        }
+        _ => Err(RowFault::NotUnderstood),
+    }
+}
+
 fn work_of(alloc: Global, asked: ValueJob<'_>) -> Result<Work, RowFault> {
     let Some(limits) = limits_of(asked.limits) else {
         return Err(RowFault::NotUnderstood);
@@ -102,10 +129,18 @@ fn work_of(alloc: Global, asked: ValueJob<'_>) -> Result<Work, RowFault> {
         registry: bytes(alloc, asked.registry)?,
         second: bytes(alloc, asked.second)?,
         format: String::from_str(alloc, asked.format)?,
-        path: String::new(alloc),
+        path: path_of(alloc, asked.path)?,
         raw: asked.raw,
         limits,
     })
+}
+
+// The word PATH; `0x` alone is an empty one.
+fn path_of(alloc: Global, word: &str) -> Result<String, RowFault> {
+    match word {
+        "0x" => Ok(String::new(alloc)),
+        _ => Ok(String::from_str(alloc, word)?),
+    }
 }
 
 fn with_input(alloc: Global, asked: ValueJob<'_>, input: &str) -> Result<String, RowFault> {

@@ -6,6 +6,8 @@ mod encodings;
 mod jobs;
 mod lines;
 mod numbers;
+mod pairs;
+mod parts;
 mod question;
 mod registries;
 mod row_fault;

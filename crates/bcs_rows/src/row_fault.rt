@@ -1,6 +1,7 @@
 //! Why a row has no answer.
 
 use bcs_registry::RegistryFault;
+use bcs_tool_path::PathFault;
 use hex::FromHexError;
 use std::alloc::{AllocError, AllocFailed};
 use thiserror::Error;
@@ -45,6 +46,15 @@ impl From<FromHexError> for RowFault {
         match error {
             FromHexError::OutOfMemory => RowFault::OutOfMemory,
             _ => RowFault::NotUnderstood,
+        }
+    }
+}
+
+impl From<PathFault> for RowFault {
+    fn from(fault: PathFault) -> RowFault {
+        match fault {
+            PathFault::BadPath => RowFault::NotUnderstood,
+            PathFault::OutOfMemory => RowFault::OutOfMemory,
         }
     }
 }

@@ -3,7 +3,7 @@
 use crate::row_fault::RowFault;
 use crate::setting::Setting;
 use crate::words::unrolled;
-use crate::{encodings, jobs, lines, numbers, registries, texts, values, verdicts};
+use crate::{encodings, jobs, lines, numbers, parts, registries, texts, values, verdicts};
 use std::alloc::{AllocError, Global};
 
 /// The answer to a row, or why there is none.
@@ -41,10 +41,11 @@ fn answered(
         "registry" | "format" | "print" | "grows" => {
             registries::answer(alloc, setting, question, words)
         }
-        "verdict" | "changes" => verdicts::answer(alloc, setting, question, words),
+        "verdict" | "scan" | "changes" => verdicts::answer(alloc, setting, question, words),
+        "part" => parts::answer(alloc, setting, words),
         "values" | "fits" => values::answer(alloc, setting, question, words),
         "encode" | "form" => encodings::answer(alloc, setting, question, words),
-        "json" | "text" | "same" => texts::answer(alloc, setting, question, words),
+        "json" | "text" | "same" | "pairs" => texts::answer(alloc, setting, question, words),
         "line" | "usage" | "help" => lines::answer(alloc, question, words),
         "bcs" => jobs::answer(alloc, words),
         _ => Err(RowFault::NotUnderstood),

@@ -1,5 +1,6 @@
 //! Rows on the JSON texts of values.
 
+use crate::pairs::agreeing_pairs;
 use crate::question::Question;
 use crate::row_fault::RowFault;
 use crate::setting::Setting;
@@ -27,6 +28,10 @@ pub(crate) fn answer(
         ("same", [format, one, other]) => {
             let asked = Question::read(alloc, &setting.registry, format, &[])?;
             compared(alloc, &asked, one.as_bytes(), other.as_bytes())
+        }
+        ("pairs", [format, texts @ ..]) => {
+            let asked = Question::read(alloc, &setting.registry, format, &[])?;
+            paired(alloc, &asked, texts)
         }
         _ => Err(RowFault::NotUnderstood),
     }
@@ -83,7 +88,11 @@ fn refused(
     Ok(format!(in alloc; "{fault}")?)
 }
 
-fn bytes_of(alloc: Global, question: &Question, text: &[u8]) -> Result<Vec<u8>, JsonFault> {
+pub(crate) fn bytes_of(
+    alloc: Global,
+    question: &Question,
+    text: &[u8],
+) -> Result<Vec<u8>, JsonFault> {
     to_bcs(
         alloc,
         &question.registry,
@@ -181,4 +190,9 @@ fn compared(
         Ok(false) => Ok(String::from_str(alloc, "different")?),
         Err(fault) => Ok(format!(in alloc; "{fault}")?),
     }
+}
+
+fn paired(alloc: Global, question: &Question, texts: &[&str]) -> Result<String, RowFault> {
+    let count = agreeing_pairs(alloc, question, texts)?;
+    Ok(format!(in alloc; "{count} equal")?)
 }

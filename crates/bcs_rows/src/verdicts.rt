@@ -7,7 +7,7 @@ use crate::row_fault::RowFault;
 use crate::setting::Setting;
 use crate::words;
 use bcs_decode::pieces::PieceSource;
-use bcs_decode::{DecodeFault, Reason, Stop, decode_all, decode_from, decode_slice, scan};
+use bcs_decode::{DecodeFault, Reason, Stop, decode_all, decode_from, decode_slice, part, scan};
 use bcs_encode::encode;
 use std::alloc::Global;
 
@@ -23,13 +23,14 @@ pub(crate) fn answer(
     let asked = Question::read(alloc, &setting.registry, format, limits)?;
     let bytes = words::bytes(alloc, bytes)?;
     match question {
-        "verdict" => judged(alloc, &asked, &bytes),
+        "verdict" => judged(alloc, verdict(alloc, &asked, &bytes)?),
+        "scan" => judged(alloc, scanned(&asked, &bytes)?),
         _ => changed(alloc, &asked, &bytes),
     }
 }
 
-fn judged(alloc: Global, question: &Question, bytes: &[u8]) -> Result<String, RowFault> {
-    match verdict(alloc, question, bytes)? {
+fn judged(alloc: Global, verdict: Result<usize, Stop>) -> Result<String, RowFault> {
+    match verdict {
         Ok(length) => Ok(format!(in alloc; "ok {length}")?),
         Err(Stop { reason, place }) => Ok(format!(in alloc; "{reason} at {place}")?),
     }
@@ -47,15 +48,10 @@ pub(crate) fn verdict(
     question: &Question,
     bytes: &[u8],
 ) -> Result<Result<usize, Stop>, RowFault> {
-    if !question.registry.admits(&question.format) {
-        return Err(RowFault::Disagreement("admits"));
+    let verdict = scanned(question, bytes)?;
+    if of_part(question, bytes)? != verdict {
+        return Err(RowFault::Disagreement("part"));
     }
-    let verdict = scan(
-        &question.registry,
-        &question.format,
-        &question.limits,
-        bytes,
-    );
     if of_slice(alloc, question, bytes)? != verdict {
         return Err(RowFault::Disagreement("decode_slice"));
     }
@@ -64,6 +60,37 @@ pub(crate) fn verdict(
     agree_in_pieces(alloc, question, bytes, 3, verdict)?;
     agree_in_pieces(alloc, question, bytes, 65536, verdict)?;
     Ok(verdict)
+}
+
+fn scanned(question: &Question, bytes: &[u8]) -> Result<Result<usize, Stop>, RowFault> {
+    let Question {
+        registry,
+        format,
+        limits,
+    } = question;
+    if !registry.admits(format) {
+        return Err(RowFault::Disagreement("admits"));
+    }
+    Ok(scan(registry, format, limits, bytes))
+}
+
+// The whole is the part that no steps lead to.
+fn of_part(question: &Question, bytes: &[u8]) -> Result<Result<usize, Stop>, RowFault> {
+    let Question {
+        registry,
+        format,
+        limits,
+    } = question;
+    if !registry.admits(format) {
+        return Err(RowFault::Disagreement("admits"));
+    }
+    match part(registry, format, limits, bytes, &[]) {
+        Ok(Some(whole)) if whole.place == 0 && bytes.starts_with(whole.bytes) => {
+            Ok(Ok(whole.bytes.len()))
+        }
+        Ok(_) => Err(RowFault::Disagreement("part")),
+        Err(stop) => Ok(Err(stop)),
+    }
 }
 
 fn of_slice(

@@ -18,13 +18,14 @@ use Rattle.bcs_json_laws.specs.Texts.{Denotes, RefusesText, nesting_limit}
 use Rattle.hex.specs.Hex.{decode_of}
 use Rattle.hex.specs.declared.error.FromHexError.{FromHexError}
 use Rattle.hex.specs.declared.error.FromHexError.TheVariants.{OutOfMemory}
-use Rattle.bcs_tool.specs.Answers.{Answers, IsAsked, IsContent, checked, decoded, different, encoded, equal, first_refused, grown, json_fault_name, no_bytes, normalised, refusal_line, refused, refused_early, second_refused, stopped, too_nested}
-use Rattle.bcs_tool.specs.Judging.{Asks, RefusesAt, RefusesFormatted, works_on_values}
+use Rattle.bcs_tool.specs.Answers.{Answers, IsAsked, IsContent, checked, decoded, different, encoded, equal, first_refused, found, front_stopped, grown, json_fault_name, no_bytes, normalised, nowhere, refusal_line, refused, refused_early, second_refused, stopped, too_nested}
+use Rattle.bcs_tool.specs.Judging.{Asks, RefusesAt, RefusesFormatted, RefusesPart, works_on_values}
 use Rattle.bcs_tool.specs.declared.job_fault.JobFault.{JobFault}
+use Rattle.bcs_tool.specs.declared.job_fault.JobFault.TheVariants.{BadPath, Growth, Registry}
 use Rattle.bcs_tool_files.specs.Files.{size_limit}
 use Rattle.bcs_tool_files.specs.declared.work.Work.{Work}
 use Rattle.bcs_tool_line.specs.declared.command.Command.{Command}
-use Rattle.bcs_tool_line.specs.declared.command.Command.TheVariants.{Check, Grows, Encode, Decode, Normalise, Same}
+use Rattle.bcs_tool_line.specs.declared.command.Command.TheVariants.{Check, Grows, Encode, Decode, Normalise, Same, Part}
 
 pub same_answer : (work : Work) (input : List ℕ) (s t : ℕ) (p q : List ℕ) → t ≡ s → q ≡ p → Answers work input s p → Answers work input t q
 same_answer work input s t p q same_status same_output is =
@@ -47,6 +48,11 @@ pub refused_texts : (work : Work) (input : List ℕ) (registry : Entries) (s : S
 refused_texts work input registry s fault asked (inl first) = first_refused registry s fault asked first
 refused_texts work input registry s fault asked (inr both) = second_refused registry s both.0.0 fault asked both.0.1 both.1
 
+refuses_part : (work : Work) (fault : JobFault) → RefusesFormatted work fault → RefusesPart work fault
+refuses_part work (Registry e) h = h
+refuses_part work (Growth e) h = absurd h
+refuses_part work BadPath h = absurd h
+
 -- the words of a command on values are refused for its registry or its format
 pub refuses_formatted : (asked : Command) (work : Work) (fault : JobFault) → works_on_values asked ≡ true → RefusesFormatted work fault → RefusesAt asked work fault
 refuses_formatted Check work fault on h = cc
@@ -55,6 +61,7 @@ refuses_formatted Encode work fault on h = h
 refuses_formatted Decode work fault on h = h
 refuses_formatted Normalise work fault on h = h
 refuses_formatted Same work fault on h = h
+refuses_formatted Part work fault on h = refuses_part work fault h
 
 -- what is shown where bytes stop, and where their text would nest too deep
 module _ (registry : Entries) (limits : Bounds) (s : Shape) (bytes : List ℕ) (fault : FromFault) where
@@ -80,7 +87,10 @@ status_below work input s p (second_refused r f t e k d h) = omega arith
 status_below work input s p (decoded r f b t k g h) = omega arith
 status_below work input s p (stopped r f b e o k g h) = omega arith
 status_below work input s p (too_nested r f b c k g a h) = omega arith
-status_below work input s p (no_bytes r f k h) = omega arith
+status_below work input s p (no_bytes c r f o k h) = omega arith
+status_below work input s p (found r f t b n c x k i g a h) = omega arith
+status_below work input s p (nowhere r f t b n c k i g a h) = omega arith
+status_below work input s p (front_stopped r f b e o k g h) = omega arith
 
 -- text that is refused for its digits has no bytes
 pub no_digits : (text : List ℕ) (e : FromHexError) → (e ≡ OutOfMemory) ⊎ (decode_of text ≡ Err e) → e ≢ OutOfMemory

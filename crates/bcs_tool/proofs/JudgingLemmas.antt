@@ -1,12 +1,15 @@
 -- Faults that a `?` hands on.
-use Rattle.std.proofs.Common.{◌≡◌, ◌≢◌, ◌∙◌, Result, IfErr, ap, sym, subst}
+use Rattle.std.proofs.Common.{◌≡◌, ◌≢◌, ◌∙◌, Result, IfErr, ap, refl, sym, subst}
 use Rattle.std.specs.Result.{IsErrAnd}
 use Rattle.std.proofs.lemmas.Result.{err_from_is_err_and}
 use Rattle.bcs_registry_formats.specs.declared.fault.RegistryFault.{RegistryFault}
 use Rattle.bcs_registry_formats.specs.declared.fault.RegistryFault.TheVariants.{OutOfMemory}
 use Rattle.bcs_registry_formats.specs.declared.growth_fault.GrowthFault.{GrowthFault}
+use Rattle.bcs_tool_path.specs.declared.path_fault.PathFault.{PathFault}
+use Rattle.bcs_tool_path.specs.declared.path_fault.PathFault.TheVariants as path
+use Rattle.bcs_tool.specs.Judging.{path_job_fault}
 use Rattle.bcs_tool.specs.declared.job_fault.JobFault.{JobFault}
-use Rattle.bcs_tool.specs.declared.job_fault.JobFault.TheVariants.{Registry, Growth}
+use Rattle.bcs_tool.specs.declared.job_fault.JobFault.TheVariants.{BadPath, Registry, Growth}
 
 pub refused_by_registry : {T : Type 0} (P : JobFault → Type 0) (r : Result T JobFault) (fault : RegistryFault) → IsErrAnd r (λ e. e ≡ Registry fault)
     → (fault ≢ OutOfMemory → P (Registry fault)) → IfErr r (λ e. e ≢ Registry OutOfMemory → P e)
@@ -17,3 +20,11 @@ pub refused_by_growth : {T : Type 0} (P : JobFault → Type 0) (r : Result T Job
     → P (Growth fault) → IfErr r (λ e. e ≢ Registry OutOfMemory → P e)
 refused_by_growth P r fault is why =
     let p = err_from_is_err_and r is in rw p.1 (λ differs. subst P (sym p.2) why)
+
+-- a PATH that is refused, where memory did not run out
+pub refused_by_path : {T : Type 0} (P : JobFault → Type 0) (r : Result T JobFault) (fault : PathFault) → IsErrAnd r (λ e. e ≡ path_job_fault fault)
+    → (fault ≡ path.BadPath → P BadPath) → IfErr r (λ e. e ≢ Registry OutOfMemory → P e)
+refused_by_path P r path.BadPath is why =
+    let p = err_from_is_err_and r is in rw p.1 (λ differs. subst P (sym p.2) (why refl))
+refused_by_path P r path.OutOfMemory is why =
+    let p = err_from_is_err_and r is in rw p.1 (λ differs. absurd (differs p.2))

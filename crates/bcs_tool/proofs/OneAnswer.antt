@@ -1,5 +1,5 @@
 -- A job has at most one answer to an input.
-use Rattle.std.proofs.Common.{◌≡◌, ◌<◌, ◌∙◌, ◌⊎◌, inl, inr, ℕ, List, Bool, true, false, Ok, codes, length, string_bytes, ap, ap₂, arith, refl, sym, subst}
+use Rattle.std.proofs.Common.{◌≡◌, ◌<◌, ◌∙◌, ◌⊎◌, inl, inr, ℕ, List, Bool, true, false, Some, None, Ok, codes, length, string_bytes, ap, ap₂, arith, refl, sym, subst}
 use Rattle.std.proofs.lemmas.Bool.{true≢false}
 use Rattle.serde_json.specs.Data.{depth}
 use Rattle.serde_json.specs.Written.{compact_text}
@@ -13,9 +13,11 @@ use Rattle.bcs_value_tree.specs.Tree.{Tree}
 use Rattle.bcs_value_laws.specs.Same.{Same}
 use Rattle.bcs_encode_laws.proofs.FormLaws.{bytes_decide_same, forms_same}
 use Rattle.bcs_encode_laws.specs.Encodes.{Encodes, IsForm}
+use Rattle.bcs_encode_laws.specs.Plain.{plain}
 use Rattle.bcs_decode_laws.specs.Accepting.{Accepts}
-use Rattle.bcs_decode_laws.specs.Stopping.{StopsAll}
-use Rattle.bcs_decode_laws.proofs.Verdicts.{accepts_once_is, no_two_verdicts_of_all_are, stops_all_once_is}
+use Rattle.bcs_decode_laws.specs.Stopping.{Stops, StopsAll}
+use Rattle.bcs_decode_laws.proofs.Verdicts.{accepts_once_is, no_two_verdicts_are, no_two_verdicts_of_all_are, stops_all_once_is, stops_once_is}
+use Rattle.bcs_decode_parts.specs.Parts.{Step, Part, part_at}
 use Rattle.bcs_decode_stops.specs.declared.reason.Reason.{Reason}
 use Rattle.bcs_json_faults.specs.declared.json_fault.JsonFault.{JsonFault}
 use Rattle.bcs_json_laws.specs.Headline.{Compares, HasBytes, Normalises, ShowsBytes}
@@ -26,17 +28,19 @@ use Rattle.bcs_json_laws.proofs.Lowest.{shown_is_lowest}
 use Rattle.bcs_json_laws.proofs.OneAnswer as text
 use Rattle.bcs_json_laws.proofs.TextLaws.{denoted_is_not_refused, denotes_once}
 use Rattle.bcs_registry_laws.proofs.OneText.{same_registry}
+use Rattle.bcs_tool_path.specs.Path.{SpellsPath}
+use Rattle.bcs_tool_path.proofs.Parts.{one_path}
 use Rattle.bcs_tool_files.specs.declared.work.Work.{Work}
 use Rattle.bcs_tool_line.specs.declared.command.Command.{Command}
 use Rattle.bcs_tool_line.specs.declared.command.Command.TheVariants.{Check, Encode, Decode, Normalise}
 use Rattle.bcs_tool_line.specs.declared.command.Command.TheVariants as command
 use Rattle.bcs_tool.specs.AnswerLaws.{OneAnswer}
-use Rattle.bcs_tool.specs.Answers.{Answers, IsAsked, count_line, json_fault_name, line_of, printed, refusal_line, stop_line}
+use Rattle.bcs_tool.specs.Answers.{Answers, IsAsked, count_line, json_fault_name, line_of, printed, printed_none, refusal_line, stop_line}
 use Rattle.bcs_tool.specs.Answers as answer
 use Rattle.bcs_tool.specs.Input as given
-use Rattle.bcs_tool.specs.Judging.{IsFormat, IsRegistry, RefusesAt, RefusesFormatted, job_fault_name}
+use Rattle.bcs_tool.specs.Judging.{IsFormat, IsPath, IsRegistry, RefusesAt, RefusesFormatted, job_fault_name}
 use Rattle.bcs_tool.specs.declared.job_fault.JobFault.{JobFault}
-use Rattle.bcs_tool.proofs.OneRefusal.{not_checked, not_formatted, not_grown, one_format_word, one_refusal}
+use Rattle.bcs_tool.proofs.OneRefusal.{not_checked, not_formatted, not_grown, not_parted, one_format_word, one_refusal}
 
 -- the same status and the same output
 abbrev Agrees : ℕ → List ℕ → ℕ → List ℕ → Type 0
@@ -79,9 +83,25 @@ module _ (work : Work) (input : List ℕ) where
         ⊎ (((e : Reason) × (o : ℕ) × StopsAll r work.limits f bytes e o × (s ≡ 2) × (p ≡ stop_line e o))
         ⊎ ((c : Tree) × Accepts r work.limits f bytes (length bytes) c × (nesting_limit < depth (shown r c (of f))) × (s ≡ 2) × (p ≡ refusal_line (codes "TooNested"))))
 
-    abbrev Decoded : ℕ → List ℕ → Type 0
-    Decoded s p = ((bytes : List ℕ) × given.Gives work.raw input bytes × Shown bytes s p)
+    -- where the input gives bytes, what is answered to these; and where it gives none
+    abbrev Given : (List ℕ → ℕ → List ℕ → Type 0) → ℕ → List ℕ → Type 0
+    Given P s p = ((bytes : List ℕ) × given.Gives work.raw input bytes × P bytes s p)
         ⊎ (((bytes : List ℕ) → given.Gives work.raw input bytes → ⊥) × (s ≡ 2) × (p ≡ refusal_line (codes "BadHex")))
+
+    abbrev Decoded : ℕ → List ℕ → Type 0
+    Decoded s p = Given Shown s p
+
+    -- what is printed of the value at the front of the bytes
+    abbrev Led : List Step → Tree → ℕ → List ℕ → Type 0
+    Led path c s p = ((x : Part) × (part_at r path (container.of f) c ≡ Some x) × (s ≡ 0) × (p ≡ printed work.raw (plain r x.value x.content)))
+        ⊎ ((part_at r path (container.of f) c ≡ None) × (s ≡ 1) × (p ≡ printed_none work.raw))
+
+    abbrev Fronted : List Step → List ℕ → ℕ → List ℕ → Type 0
+    Fronted path bytes s p = ((n : ℕ) × (c : Tree) × Accepts r work.limits f bytes n c × Led path c s p)
+        ⊎ ((e : Reason) × (o : ℕ) × Stops r work.limits f bytes e o × (s ≡ 2) × (p ≡ stop_line e o))
+
+    abbrev Parted : List Step → ℕ → List ℕ → Type 0
+    Parted path s p = Given (Fronted path) s p
 
   -- ---- what is answered by each command
 
@@ -95,12 +115,24 @@ module _ (work : Work) (input : List ℕ) where
   Late Decode s p = Valued Decoded s p
   Late Normalise s p = Valued Normalised s p
   Late command.Same s p = Valued Compared s p
+  Late command.Part s p = (path : List Step) × SpellsPath (string_bytes work.path) path × Valued (λ r f. Parted r f path) s p
 
   abbrev Early : Command → ℕ → List ℕ → Type 0
   Early c s p = (fault : JobFault) × RefusesAt c work fault × (s ≡ 2) × (p ≡ refusal_line (job_fault_name fault))
 
   valued : (P : Entries → Shape → ℕ → List ℕ → Type 0) (c : Command) (r : Entries) (f : Shape) (s : ℕ) (p : List ℕ) → IsAsked work input c r f → P r f s p → Valued P s p
   valued P c r f s p asked is = (r, f, asked.asks.is_registry, asked.asks.is_format, is)
+
+  -- `part`, whose PATH spells these steps
+  parted : (r : Entries) (f : Shape) (path : List Step) (s : ℕ) (p : List ℕ) → IsAsked work input command.Part r f
+      → SpellsPath (string_bytes work.path) path → Parted r f path s p → Late command.Part s p
+  parted r f path s p asked spells is = (path, spells, valued (λ r f. Parted r f path) command.Part r f s p asked is)
+
+  -- its PATH spells steps, since it is not refused
+  spelled : (c : Command) (r : Entries) (f : Shape) → c ≡ command.Part → IsAsked work input c r f → (path : List Step) × SpellsPath (string_bytes work.path) path
+  spelled c r f is asked =
+      let has = asked.asks.has_path in
+      (has.0, subst (λ (k : Command). IsPath k (string_bytes work.path) has.0) (asked.is_command ∙ is) has.1)
 
   by : (c : Command) (s : ℕ) (p : List ℕ) → work.command ≡ c → Late c s p → Early work.command s p ⊎ Late work.command s p
   by c s p is late = inr (subst (λ k. Late k s p) (sym is) late)
@@ -120,7 +152,20 @@ module _ (work : Work) (input : List ℕ) where
   told (answer.decoded r f b t a g h) = by Decode 0 (line_of t) a.is_command (valued Decoded Decode r f 0 (line_of t) a (inl (b, g, inl (t, h, refl, refl))))
   told (answer.stopped r f b e o a g h) = by Decode 2 (stop_line e o) a.is_command (valued Decoded Decode r f 2 (stop_line e o) a (inl (b, g, inr (inl (e, o, h, refl, refl)))))
   told (answer.too_nested r f b c a g h n) = by Decode 2 (refusal_line (codes "TooNested")) a.is_command (valued Decoded Decode r f 2 (refusal_line (codes "TooNested")) a (inl (b, g, inr (inr (c, h, n, refl, refl)))))
-  told (answer.no_bytes r f a h) = by Decode 2 (refusal_line (codes "BadHex")) a.is_command (valued Decoded Decode r f 2 (refusal_line (codes "BadHex")) a (inr (h, refl, refl)))
+  told (answer.no_bytes c r f (inl is) a h) = by Decode 2 (refusal_line (codes "BadHex")) (a.is_command ∙ is) (valued Decoded c r f 2 (refusal_line (codes "BadHex")) a (inr (h, refl, refl)))
+  told (answer.no_bytes c r f (inr is) a h) =
+      let path = spelled c r f is a in
+      let own = subst (λ (k : Command). IsAsked work input k r f) is a in
+      by command.Part 2 (refusal_line (codes "BadHex")) own.is_command (parted r f path.0 2 (refusal_line (codes "BadHex")) own path.1 (inr (h, refl, refl)))
+  told (answer.found r f path b n c x a spells g h at) =
+      by command.Part 0 (printed work.raw (plain r x.value x.content)) a.is_command
+      (parted r f path 0 (printed work.raw (plain r x.value x.content)) a spells (inl (b, g, inl (n, c, h, inl (x, at, refl, refl)))))
+  told (answer.nowhere r f path b n c a spells g h at) =
+      by command.Part 1 (printed_none work.raw) a.is_command
+      (parted r f path 1 (printed_none work.raw) a spells (inl (b, g, inl (n, c, h, inr (at, refl, refl)))))
+  told (answer.front_stopped r f b e o a g h) =
+      let path = spelled command.Part r f refl a in
+      by command.Part 2 (stop_line e o) a.is_command (parted r f path.0 2 (stop_line e o) a path.1 (inl (b, g, inr (e, o, h, refl, refl))))
 
   -- ---- one of each
 
@@ -225,12 +270,40 @@ module _ (work : Work) (input : List ℕ) where
     one_shown bytes s z p q (inr (inr (c, h, n, hs, hp))) (inr (inl (e, o, k, ks, kq))) = absurd (never_both bytes c e o h k)
     one_shown bytes s z p q (inr (inr (c, h, n, hs, hp))) (inr (inr (d, k, m, ks, kq))) = (hs ∙ sym ks, hp ∙ sym kq)
 
+    one_given_answer : (P : List ℕ → ℕ → List ℕ → Type 0) → ((bytes : List ℕ) (s z : ℕ) (p q : List ℕ) → P bytes s p → P bytes z q → Agrees s p z q)
+        → (s z : ℕ) (p q : List ℕ) → Given r f P s p → Given r f P z q → Agrees s p z q
+    one_given_answer P one s z p q (inl (b, g, h)) (inl (c, e, k)) =
+        one b s z p q h (subst (λ (bytes : List ℕ). P bytes z q) (one_given work.raw input c b e g) k)
+    one_given_answer P one s z p q (inl (b, g, h)) (inr (none, ks, kq)) = absurd (none b g)
+    one_given_answer P one s z p q (inr (none, hs, hp)) (inl (c, e, k)) = absurd (none c e)
+    one_given_answer P one s z p q (inr (none, hs, hp)) (inr (none2, ks, kq)) = (hs ∙ sym ks, hp ∙ sym kq)
+
     one_decoded : (s z : ℕ) (p q : List ℕ) → Decoded r f s p → Decoded r f z q → Agrees s p z q
-    one_decoded s z p q (inl (b, g, h)) (inl (c, e, k)) =
-        one_shown b s z p q h (subst (λ (bytes : List ℕ). Shown r f bytes z q) (one_given work.raw input c b e g) k)
-    one_decoded s z p q (inl (b, g, h)) (inr (none, ks, kq)) = absurd (none b g)
-    one_decoded s z p q (inr (none, hs, hp)) (inl (c, e, k)) = absurd (none c e)
-    one_decoded s z p q (inr (none, hs, hp)) (inr (none2, ks, kq)) = (hs ∙ sym ks, hp ∙ sym kq)
+    one_decoded s z p q h k = one_given_answer (Shown r f) one_shown s z p q h k
+
+    -- ---- of a part
+
+    one_led : (path : List Step) (c : Tree) (s z : ℕ) (p q : List ℕ) → Led r f path c s p → Led r f path c z q → Agrees s p z q
+    one_led path c s z p q (inl (x, h, hs, hp)) (inl (y, k, ks, kq)) =
+        let both : Some x ≡ Some y = sym h ∙ k in
+        let same : x ≡ y = cc in
+        (hs ∙ sym ks, hp ∙ ap (λ (t : Part). printed work.raw (plain r t.value t.content)) same ∙ sym kq)
+    one_led path c s z p q (inl (x, h, hs, hp)) (inr (k, ks, kq)) = let both : Some x ≡ None = sym h ∙ k in absurd cc
+    one_led path c s z p q (inr (h, hs, hp)) (inl (y, k, ks, kq)) = let both : None ≡ Some y = sym h ∙ k in absurd cc
+    one_led path c s z p q (inr (h, hs, hp)) (inr (k, ks, kq)) = (hs ∙ sym ks, hp ∙ sym kq)
+
+    one_fronted : (path : List Step) (bytes : List ℕ) (s z : ℕ) (p q : List ℕ) → Fronted r f path bytes s p → Fronted r f path bytes z q → Agrees s p z q
+    one_fronted path bytes s z p q (inl (n, c, h, w)) (inl (m, d, k, x)) =
+        let same : d ≡ c = (accepts_once_is r work.limits f bytes m n d c k h).1 in
+        one_led path c s z p q w (subst (λ (t : Tree). Led r f path t z q) same x)
+    one_fronted path bytes s z p q (inl (n, c, h, w)) (inr (e, o, k, ks, kq)) = absurd (no_two_verdicts_are r work.limits f bytes n c e o h k)
+    one_fronted path bytes s z p q (inr (e, o, h, hs, hp)) (inl (m, d, k, x)) = absurd (no_two_verdicts_are r work.limits f bytes m d e o k h)
+    one_fronted path bytes s z p q (inr (e, o, h, hs, hp)) (inr (g, i, k, ks, kq)) =
+        let same = stops_once_is r work.limits f bytes e g o i h k in
+        (hs ∙ sym ks, hp ∙ ap₂ stop_line same.0 same.1 ∙ sym kq)
+
+    one_parted : (path : List Step) (s z : ℕ) (p q : List ℕ) → Parted r f path s p → Parted r f path z q → Agrees s p z q
+    one_parted path s z p q h k = one_given_answer (Fronted r f path) (one_fronted path) s z p q h k
 
   -- ---- one of each command
 
@@ -251,6 +324,10 @@ module _ (work : Work) (input : List ℕ) where
   one_late Decode s z p q h k = one_valued Decoded one_decoded s z p q h k
   one_late Normalise s z p q h k = one_valued Normalised one_normalised s z p q h k
   one_late command.Same s z p q h k = one_valued Compared one_compared s z p q h k
+  one_late command.Part s z p q (path, spells, h) (other, also, k) =
+      let same : other ≡ path = one_path (string_bytes work.path) other path also spells in
+      one_valued (λ r f. Parted r f path) (λ r f orderly. one_parted r f orderly path) s z p q h
+      (subst (λ (t : List Step). Valued (λ r f. Parted r f t) z q) same k)
 
   -- a job that is refused for its words answers nothing else
   of_valued : (P : Entries → Shape → ℕ → List ℕ → Type 0) (fault : JobFault) (s : ℕ) (p : List ℕ) → RefusesFormatted work fault → Valued P s p → ⊥
@@ -263,6 +340,7 @@ module _ (work : Work) (input : List ℕ) where
   not_late Decode fault s p h k = of_valued Decoded fault s p h k
   not_late Normalise fault s p h k = of_valued Normalised fault s p h k
   not_late command.Same fault s p h k = of_valued Compared fault s p h k
+  not_late command.Part fault s p h (path, spells, (r, f, is, a, x)) = not_parted work fault r f path h is a spells
 
   one_of_both : (c : Command) (s z : ℕ) (p q : List ℕ) → Early c s p ⊎ Late c s p → Early c z q ⊎ Late c z q → Agrees s p z q
   one_of_both c s z p q (inl (e, h, hs, hp)) (inl (g, k, ks, kq)) =

@@ -13,12 +13,14 @@ use Rattle.bcs_registry_formats.proofs.FirstFaults.{fault_exactly, ok_exactly}
 use Rattle.bcs_registry_laws.specs.Faults.{IsLeastFault}
 use Rattle.bcs_registry_laws.proofs.OneFault.{one_fault, one_format_fault}
 use Rattle.bcs_registry_laws.proofs.OneText.{same_format, same_registry}
+use Rattle.bcs_decode_parts.specs.Parts.{Step}
+use Rattle.bcs_tool_path.specs.Path.{SpellsPath}
 use Rattle.bcs_tool_files.specs.declared.work.Work.{Work}
 use Rattle.bcs_tool_line.specs.declared.command.Command.{Command}
 use Rattle.bcs_tool_line.specs.declared.command.Command.TheVariants as command
-use Rattle.bcs_tool.specs.Judging.{IsFormat, IsRegistry, RefusesAt, RefusesCheck, RefusesFormat, RefusesFormatted, RefusesGrowth, is_json_word}
+use Rattle.bcs_tool.specs.Judging.{IsFormat, IsRegistry, RefusesAt, RefusesCheck, RefusesFormat, RefusesFormatted, RefusesGrowth, RefusesPart, is_json_word}
 use Rattle.bcs_tool.specs.declared.job_fault.JobFault.{JobFault}
-use Rattle.bcs_tool.specs.declared.job_fault.JobFault.TheVariants.{Registry, Growth}
+use Rattle.bcs_tool.specs.declared.job_fault.JobFault.TheVariants.{BadPath, Registry, Growth}
 
 -- ---- FORMAT
 
@@ -90,12 +92,18 @@ module _ (work : Work) where
   one_formatted (Registry e) (Growth g) h k = absurd k
   one_formatted (Growth e) (Registry g) h k = absurd h
   one_formatted (Growth e) (Growth g) h k = absurd h
+  one_formatted (Registry e) BadPath h k = absurd k
+  one_formatted (Growth e) BadPath h k = absurd h
+  one_formatted BadPath g h k = absurd h
 
   one_check : (e g : JobFault) → RefusesCheck work e → RefusesCheck work g → e ≡ g
   one_check (Registry e) (Registry g) h k = ap Registry (one_fault.0 work.registry.items e g h k)
   one_check (Registry e) (Growth g) h k = absurd k
   one_check (Growth e) (Registry g) h k = absurd h
   one_check (Growth e) (Growth g) h k = absurd h
+  one_check (Registry e) BadPath h k = absurd k
+  one_check (Growth e) BadPath h k = absurd h
+  one_check BadPath g h k = absurd h
 
   one_growth : (e g : JobFault) → RefusesGrowth work e → RefusesGrowth work g → e ≡ g
   one_growth (Registry e) (Registry g) (inl h) (inl k) = ap Registry (one_fault.0 work.registry.items e g h k)
@@ -110,6 +118,9 @@ module _ (work : Work) where
       let older : q ≡ r = same_registry work.registry.items q r j.0 is.0 in
       let newer : m ≡ n = same_registry work.second.items m n l.0 i.0 in
       ap Growth (one_growth_fault r n e g h (subst (λ (x : Entries). IsFirstGrowthFault r x g) newer (subst (λ (x : Entries). IsFirstGrowthFault x m g) older k)))
+  one_growth (Registry e) BadPath h k = absurd k
+  one_growth (Growth e) BadPath h k = absurd k
+  one_growth BadPath g h k = absurd h
 
   pub not_formatted : (e : JobFault) (r : Entries) (s : Shape) → RefusesFormatted work e → IsRegistry work.registry.items r → IsFormat r (string_bytes work.format) s → ⊥
   not_formatted (Registry e) r s (inl h) is f = fault_of_text work.registry.items r e is h
@@ -117,10 +128,27 @@ module _ (work : Work) where
       let same : q ≡ r = same_registry work.registry.items q r i.0 is.0 in
       not_format r (string_bytes work.format) e s (subst (λ (m : Entries). RefusesFormat m (string_bytes work.format) e) same h) f
   not_formatted (Growth e) r s h is f = h
+  not_formatted BadPath r s h is f = h
+
+  one_part : (e g : JobFault) → RefusesPart work e → RefusesPart work g → e ≡ g
+  one_part (Registry e) (Registry g) h k = one_formatted (Registry e) (Registry g) h k
+  one_part (Registry e) BadPath h (r, s, is, f, never) = absurd (not_formatted (Registry e) r s h is f)
+  one_part BadPath (Registry g) (r, s, is, f, never) k = absurd (not_formatted (Registry g) r s k is f)
+  one_part BadPath BadPath h k = refl
+  one_part (Registry e) (Growth g) h k = absurd k
+  one_part BadPath (Growth g) h k = absurd k
+  one_part (Growth e) g h k = absurd h
+
+  pub not_parted : (e : JobFault) (r : Entries) (s : Shape) (path : List Step) → RefusesPart work e → IsRegistry work.registry.items r
+      → IsFormat r (string_bytes work.format) s → SpellsPath (string_bytes work.path) path → ⊥
+  not_parted (Registry e) r s path h is f spells = not_formatted (Registry e) r s h is f
+  not_parted BadPath r s path (q, g, i, j, never) is f spells = never path spells
+  not_parted (Growth e) r s path h is f spells = h
 
   pub not_checked : (e : JobFault) (r : Entries) → RefusesCheck work e → IsRegistry work.registry.items r → ⊥
   not_checked (Registry e) r h is = fault_of_text work.registry.items r e is h
   not_checked (Growth e) r h is = h
+  not_checked BadPath r h is = h
 
   pub not_grown : (e : JobFault) (r n : Entries) → RefusesGrowth work e → IsRegistry work.registry.items r → IsRegistry work.second.items n → Grows r n → ⊥
   not_grown (Registry e) r n (inl h) is i g = fault_of_text work.registry.items r e is h
@@ -129,6 +157,7 @@ module _ (work : Work) where
       let older : q ≡ r = same_registry work.registry.items q r j.0 is.0 in
       let newer : m ≡ n = same_registry work.second.items m n l.0 i.0 in
       not_both r n e (subst (λ (x : Entries). IsFirstGrowthFault r x e) newer (subst (λ (x : Entries). IsFirstGrowthFault x m e) older h)) g
+  not_grown BadPath r n h is i g = h
 
 pub one_refusal : (c : Command) (work : Work) (e g : JobFault) → RefusesAt c work e → RefusesAt c work g → e ≡ g
 one_refusal command.Check work e g h k = one_check work e g h k
@@ -137,3 +166,4 @@ one_refusal command.Encode work e g h k = one_formatted work e g h k
 one_refusal command.Decode work e g h k = one_formatted work e g h k
 one_refusal command.Normalise work e g h k = one_formatted work e g h k
 one_refusal command.Same work e g h k = one_formatted work e g h k
+one_refusal command.Part work e g h k = one_part work e g h k

@@ -1,22 +1,26 @@
 -- What the program answers to a job and its input: a status, and the bytes of the standard output.
-use Rattle.std.specs.Prelude.{◌≡◌, ◌⊎◌, ◌≤◌, ◌<◌, ◌++◌, ◌∷◌, [], ℕ, List, Bool, true, false, Option, Some, None, codes, length, if◌then◌else◌}
+use Rattle.std.specs.Prelude.{◌≡◌, ◌⊎◌, ◌≤◌, ◌<◌, ◌++◌, ◌∷◌, [], ℕ, List, Bool, true, false, Option, Some, None, codes, length, if◌then◌else◌, string_bytes}
 use Rattle.std.specs.Fmt.{decimal}
 use Rattle.hex.specs.Hex.{encode_lower}
 use Rattle.serde_json.specs.Data.{depth}
+use Rattle.bcs_registry_formats.specs.Container as container
 use Rattle.bcs_registry_formats.specs.Container.{Entries}
 use Rattle.bcs_registry_formats.specs.Grows.{Grows}
 use Rattle.bcs_registry_formats.specs.Shape.{Shape}
 use Rattle.bcs_value_tree.specs.Tree.{Tree}
+use Rattle.bcs_encode_laws.specs.Plain.{plain}
 use Rattle.bcs_decode_stops.specs.Stop.{reason_name}
 use Rattle.bcs_decode_stops.specs.declared.reason.Reason.{Reason}
 use Rattle.bcs_decode_laws.specs.Accepting.{Accepts}
-use Rattle.bcs_decode_laws.specs.Stopping.{StopsAll}
+use Rattle.bcs_decode_laws.specs.Stopping.{Stops, StopsAll}
+use Rattle.bcs_decode_parts.specs.Parts.{Step, Part, part_at}
 use Rattle.bcs_json_laws.specs.Headline.{Compares, HasBytes, Normalises, ShowsBytes}
 use Rattle.bcs_json_laws.specs.JsonContent.{of}
 use Rattle.bcs_json_laws.specs.Shown.{shown}
 use Rattle.bcs_json_laws.specs.Texts.{Denotes, RefusesText, nesting_limit}
 use Rattle.bcs_json_faults.specs.declared.json_fault.JsonFault.{JsonFault}
 use Rattle.bcs_json_faults.specs.declared.json_fault.JsonFault.TheVariants.{NotJson, TooNested, Unsupported, BadShape, BadNumber, BadHex, UnknownField, MissingField, UnknownVariant, TooDeep, TooManyNodes, TooLong, RepeatedKey, OutOfMemory}
+use Rattle.bcs_tool_path.specs.Path.{SpellsPath}
 use Rattle.bcs_tool_files.specs.Files.{size_limit}
 use Rattle.bcs_tool.specs.Input as given
 use Rattle.bcs_tool.specs.Judging.{Asks, IsRegistry, RefusesEarly, job_fault_name}
@@ -58,6 +62,10 @@ stop_line reason place = refusal_line (reason_name reason ++ codes " at " ++ dec
 abbrev pub printed : Bool → List ℕ → List ℕ
 printed raw bytes = if raw then bytes else line_of (encode_lower bytes)
 
+-- what is printed where steps lead nowhere
+abbrev pub printed_none : Bool → List ℕ
+printed_none raw = if raw then [] else line_of (codes "none")
+
 -- the line for a registry of so many containers
 abbrev pub count_line : ℕ → List ℕ
 count_line n = line_of (codes "ok " ++ decimal n)
@@ -71,6 +79,10 @@ pub record IsAsked (work : Work) (input : List ℕ) (asked : Command) (registry 
 -- the one input is the text of a value, as that of these commands
 abbrev pub IsOneText : Command → Type 0
 IsOneText asked = (asked ≡ command.Encode) ⊎ (asked ≡ command.Normalise)
+
+-- the input gives the bytes of a value, as that of these commands
+abbrev pub TakesBytes : Command → Type 0
+TakesBytes asked = (asked ≡ command.Decode) ⊎ (asked ≡ command.Part)
 
 -- a case for each kind of answer
 pub data Answers (work : Work) (input : List ℕ) : ℕ → List ℕ → Type 0 where
@@ -98,8 +110,14 @@ pub data Answers (work : Work) (input : List ℕ) : ℕ → List ℕ → Type 0 
   stopped : (registry : Entries) (s : Shape) (bytes : List ℕ) (reason : Reason) (place : ℕ) → IsAsked work input command.Decode registry s → given.Gives work.raw input bytes → StopsAll registry work.limits s bytes reason place → Answers work input 2 (stop_line reason place)
   -- `decode`: they are a value's, and its text would nest deeper than a text may
   too_nested : (registry : Entries) (s : Shape) (bytes : List ℕ) (c : Tree) → IsAsked work input command.Decode registry s → given.Gives work.raw input bytes → Accepts registry work.limits s bytes (length bytes) c → nesting_limit < depth (shown registry c (of s)) → Answers work input 2 (refusal_line (codes "TooNested"))
-  -- `decode`: the input gives no bytes
-  no_bytes : (registry : Entries) (s : Shape) → IsAsked work input command.Decode registry s → ((bytes : List ℕ) → given.Gives work.raw input bytes → ⊥) → Answers work input 2 (refusal_line (codes "BadHex"))
+  -- `decode` and `part`: the input gives no bytes
+  no_bytes : (asked : Command) (registry : Entries) (s : Shape) → TakesBytes asked → IsAsked work input asked registry s → ((bytes : List ℕ) → given.Gives work.raw input bytes → ⊥) → Answers work input 2 (refusal_line (codes "BadHex"))
+  -- `part`: a value stands at the front of the bytes, and the steps of PATH lead to a part of it, whose bytes these are
+  found : (registry : Entries) (s : Shape) (path : List Step) (bytes : List ℕ) (n : ℕ) (c : Tree) (x : Part) → IsAsked work input command.Part registry s → SpellsPath (string_bytes work.path) path → given.Gives work.raw input bytes → Accepts registry work.limits s bytes n c → part_at registry path (container.of s) c ≡ Some x → Answers work input 0 (printed work.raw (plain registry x.value x.content))
+  -- `part`: they lead nowhere in it
+  nowhere : (registry : Entries) (s : Shape) (path : List Step) (bytes : List ℕ) (n : ℕ) (c : Tree) → IsAsked work input command.Part registry s → SpellsPath (string_bytes work.path) path → given.Gives work.raw input bytes → Accepts registry work.limits s bytes n c → part_at registry path (container.of s) c ≡ None → Answers work input 1 (printed_none work.raw)
+  -- `part`: no value stands at their front, since they stop being one at a place
+  front_stopped : (registry : Entries) (s : Shape) (bytes : List ℕ) (reason : Reason) (place : ℕ) → IsAsked work input command.Part registry s → given.Gives work.raw input bytes → Stops registry work.limits s bytes reason place → Answers work input 2 (stop_line reason place)
 
 -- these bytes may be the content: they are it, where it is known
 abbrev pub IsContent : Option (List ℕ) → List ℕ → Type 0

@@ -1,4 +1,4 @@
--- What is judged of a job before its input is read: its registries, and then the format.
+-- What is judged of a job before its input is read: its registries, then the format, and then the path.
 use Rattle.std.specs.Prelude.{◌≡◌, ◌⊎◌, ◌==◌, ◌||◌, ℕ, List, [], ◌∷◌, None, Bool, true, false, codes, is_some, string_bytes}
 use Rattle.bcs_registry_formats.specs.Container.{Entries, container_at}
 use Rattle.bcs_registry_laws.specs.Faults.{IsLeastFault, IsLeastFormatFault}
@@ -10,6 +10,10 @@ use Rattle.bcs_registry_formats.specs.declared.fault.RegistryFault.{RegistryFaul
 use Rattle.bcs_registry_formats.specs.declared.fault.RegistryFault.TheVariants.{NotJson, BadShape, BadNumber, TooNested, RepeatedName, UnknownName, OutOfMemory}
 use Rattle.bcs_registry_formats.specs.declared.growth_fault.GrowthFault.{GrowthFault}
 use Rattle.bcs_registry_formats.specs.declared.growth_fault.GrowthFault.TheVariants.{Missing, Changed, VariantMissing, VariantChanged}
+use Rattle.bcs_decode_parts.specs.Parts.{Step}
+use Rattle.bcs_tool_path.specs.Path.{SpellsNoPath, SpellsPath}
+use Rattle.bcs_tool_path.specs.declared.path_fault.PathFault.{PathFault}
+use Rattle.bcs_tool_path.specs.declared.path_fault.PathFault.TheVariants as path
 use Rattle.bcs_tool_line.specs.declared.command.Command.{Command}
 use Rattle.bcs_tool_line.specs.declared.command.Command.TheVariants as command
 use Rattle.bcs_tool.specs.declared.job_fault.JobFault.{JobFault}
@@ -36,6 +40,12 @@ growth_fault_name VariantChanged = codes "VariantChanged"
 abbrev pub job_fault_name : JobFault → List ℕ
 job_fault_name (job.Registry fault) = registry_fault_name fault
 job_fault_name (job.Growth fault) = growth_fault_name fault
+job_fault_name job.BadPath = codes "BadPath"
+
+-- the fault of a job whose PATH is refused
+abbrev pub path_job_fault : PathFault → JobFault
+path_job_fault path.BadPath = job.BadPath
+path_job_fault path.OutOfMemory = job.Registry OutOfMemory
 
 -- ---- the registry's text
 
@@ -60,6 +70,18 @@ abbrev pub RefusesFormat : Entries → List ℕ → RegistryFault → Type 0
 RefusesFormat registry word fault = ((is_json_word word ≡ true) × IsLeastFormatFault registry word fault)
     ⊎ ((is_json_word word ≡ false) × (container_at word registry ≡ None) × (fault ≡ UnknownName))
 
+-- ---- the path's word
+
+-- the steps that a command's word PATH spells; none where the command has no such word
+abbrev pub IsPath : Command → List ℕ → List Step → Type 0
+IsPath command.Check word path = path ≡ []
+IsPath command.Grows word path = path ≡ []
+IsPath command.Encode word path = path ≡ []
+IsPath command.Decode word path = path ≡ []
+IsPath command.Normalise word path = path ≡ []
+IsPath command.Same word path = path ≡ []
+IsPath command.Part word path = SpellsPath word path
+
 -- ---- the job
 
 -- the command works on values: it has a format and an input
@@ -70,12 +92,14 @@ works_on_values command.Encode = true
 works_on_values command.Decode = true
 works_on_values command.Normalise = true
 works_on_values command.Same = true
+works_on_values command.Part = true
 
--- the job works on values of this format of this registry
+-- the job works on values of this format of this registry, and its PATH is good where it has one
 pub record Asks (work : Work) (registry : Entries) (s : Shape) : Type 0 where
   pub command : works_on_values work.command ≡ true
   pub is_registry : IsRegistry work.registry.items registry
   pub is_format : IsFormat registry (string_bytes work.format) s
+  pub has_path : (path : List Step) × IsPath work.command (string_bytes work.path) path
 
 -- the job has an input, which is read, since its words are not refused
 abbrev pub ReadsInput : Work → Type 0
@@ -86,10 +110,12 @@ abbrev pub RefusesFormatted : Work → JobFault → Type 0
 RefusesFormatted work (job.Registry fault) = IsLeastFault work.registry.items fault
     ⊎ ((registry : Entries) × IsRegistry work.registry.items registry × RefusesFormat registry (string_bytes work.format) fault)
 RefusesFormatted work (job.Growth fault) = ⊥
+RefusesFormatted work job.BadPath = ⊥
 
 abbrev pub RefusesCheck : Work → JobFault → Type 0
 RefusesCheck work (job.Registry fault) = IsLeastFault work.registry.items fault
 RefusesCheck work (job.Growth fault) = ⊥
+RefusesCheck work job.BadPath = ⊥
 
 -- the older registry's fault, or else the newer's, or else why the one has not grown into the other
 abbrev pub RefusesGrowth : Work → JobFault → Type 0
@@ -97,6 +123,14 @@ RefusesGrowth work (job.Registry fault) = IsLeastFault work.registry.items fault
     ⊎ ((older : Entries) × IsRegistry work.registry.items older × IsLeastFault work.second.items fault)
 RefusesGrowth work (job.Growth fault) = (older : Entries) × (newer : Entries) × IsRegistry work.registry.items older
     × IsRegistry work.second.items newer × IsFirstGrowthFault older newer fault
+RefusesGrowth work job.BadPath = ⊥
+
+-- the registry's fault, or else the format's, or else no steps are spelled by PATH
+abbrev pub RefusesPart : Work → JobFault → Type 0
+RefusesPart work (job.Registry fault) = RefusesFormatted work (job.Registry fault)
+RefusesPart work (job.Growth fault) = ⊥
+RefusesPart work job.BadPath = (registry : Entries) × (s : Shape) × IsRegistry work.registry.items registry
+    × IsFormat registry (string_bytes work.format) s × SpellsNoPath (string_bytes work.path)
 
 abbrev pub RefusesAt : Command → Work → JobFault → Type 0
 RefusesAt command.Check = RefusesCheck
@@ -105,6 +139,7 @@ RefusesAt command.Encode = RefusesFormatted
 RefusesAt command.Decode = RefusesFormatted
 RefusesAt command.Normalise = RefusesFormatted
 RefusesAt command.Same = RefusesFormatted
+RefusesAt command.Part = RefusesPart
 
 -- the job is refused before an input is read
 abbrev pub RefusesEarly : Work → JobFault → Type 0

@@ -4,6 +4,7 @@ pub mod Answers
 pub mod AnswerLaws
 pub mod Endings
 pub use Rattle.bcs_tool_files.specs.Files
+pub use Rattle.bcs_tool_path.specs.Path
 pub use Rattle.bcs_tool_line.specs.Jobs
 pub use Rattle.bcs_tool_line.specs.LineFaults
 pub use Rattle.bcs_tool_words.specs.CommandLine

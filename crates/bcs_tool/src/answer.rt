@@ -1,6 +1,7 @@
 //! What is printed.
 ghost use Rattle.std.specs.Prelude.{◌≡◌, IfOk, string_bytes};
-ghost use Rattle.bcs_tool.specs.Answers.{count_line, line_of, printed, refusal_line, stop_line};
+ghost use Rattle.hex.specs.Hex.{encode_lower};
+ghost use Rattle.bcs_tool.specs.Answers.{count_line, line_of, printed, printed_none, refusal_line, stop_line};
 
 use bcs_decode::Stop;
 use std::alloc::{AllocError, Global};
@@ -66,15 +67,47 @@ pub fn shown(text: String) -> Result<Answer, AllocError>
 }
 
 /// The bytes of a value, as they are where `raw` is asked for, or as a line of hexadecimal digits.
-pub fn encoded(alloc: Global, bytes: &[u8], raw: bool) -> Result<Answer, AllocError>
+pub fn encoded(alloc: Global, bytes: Vec<u8>, raw: bool) -> Result<Answer, AllocError>
+    ensures { IfOk result (λ a. (a.status ≡ 0) × (a.output.items ≡ printed raw bytes.items)) }
+{
+    let output = if raw {
+        bytes
+    } else {
+        digits_line(alloc, bytes.as_slice())?
+    };
+    Ok(Answer { status: 0, output })
+}
+
+/// The bytes of a part, in the same way.
+pub fn found(alloc: Global, bytes: &[u8], raw: bool) -> Result<Answer, AllocError>
     ensures { IfOk result (λ a. (a.status ≡ 0) × (a.output.items ≡ printed raw bytes.now)) }
 {
     let output = if raw {
         Vec::from_slice(alloc, bytes)?
     } else {
-        with_line_end(hex::encode(alloc, bytes)?)?
+        digits_line(alloc, bytes)?
     };
     Ok(Answer { status: 0, output })
+}
+
+/// What is printed where there is no part: nothing where `raw` is asked for.
+pub fn nowhere(alloc: Global, raw: bool) -> Result<Answer, AllocError>
+    ensures { IfOk result (λ a. (a.status ≡ 1) × (a.output.items ≡ printed_none raw)) }
+{
+    if raw {
+        return Ok(Answer {
+            status: 1,
+            output: Vec::new(alloc),
+        });
+    }
+    told(alloc, 1, "none")
+}
+
+// The bytes as a line of hexadecimal digits.
+fn digits_line(alloc: Global, bytes: &[u8]) -> Result<Vec<u8>, AllocError>
+    ensures { IfOk result (λ v. v.items ≡ line_of (encode_lower bytes.now)) }
+{
+    with_line_end(hex::encode(alloc, bytes)?)
 }
 
 // The text and a line end.

@@ -6,10 +6,12 @@ ghost use Rattle.bcs_tool.specs.Judging.{job_fault_name, growth_fault_name, regi
 
 use crate::answer::{Answer, refused};
 use bcs_registry::{GrowthFault, RegistryFault};
+use bcs_tool_path::PathFault;
 use std::alloc::{AllocError, Global};
 use thiserror::Error;
 
-/// Why a job is refused before its input is read.
+/// Why a job is refused before its input is read. Want of memory is a `Registry` fault, whatever
+/// asked for the memory.
 #[derive(Clone, Copy, Debug, Drop, PartialEq, Eq, Error)]
 pub enum JobFault {
     /// A registry's text or FORMAT is refused.
@@ -18,6 +20,9 @@ pub enum JobFault {
     /// The newer registry doesn't keep all that the older one has.
     #[error("{0}")]
     Growth(GrowthFault),
+    /// PATH spells no steps.
+    #[error("BadPath")]
+    BadPath,
 }
 
 impl JobFault {
@@ -39,6 +44,7 @@ impl JobFault {
         match self {
             JobFault::Registry(fault) => registry_name(fault),
             JobFault::Growth(fault) => growth_name(fault),
+            JobFault::BadPath => "BadPath",
         }
     }
 }
@@ -76,6 +82,19 @@ impl From<RegistryFault> for JobFault {
 
     fn from(fault: RegistryFault) -> JobFault {
         JobFault::Registry(fault)
+    }
+}
+
+impl From<PathFault> for JobFault {
+    ghost use Rattle.bcs_tool.specs.Judging.{path_job_fault};
+
+    ghost from_gives = { λ fault result. result ≡ path_job_fault fault };
+
+    fn from(fault: PathFault) -> JobFault {
+        match fault {
+            PathFault::BadPath => JobFault::BadPath,
+            PathFault::OutOfMemory => JobFault::Registry(RegistryFault::OutOfMemory),
+        }
     }
 }
 

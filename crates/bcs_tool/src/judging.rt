@@ -1,16 +1,20 @@
-//! What is judged of a job before its input is read: its registries, and then the format.
-ghost use Rattle.std.specs.Prelude.{◌≡◌, ◌≢◌, ℕ, length, true, IfOk, IfErr, OnOk};
+//! What is judged of a job before its input is read: its registries, then the format, and then the path.
+ghost use Rattle.std.specs.Prelude.{◌≡◌, ◌≢◌, ℕ, length, string_bytes, true, Err, IfOk, IfErr, OnOk};
 ghost use Rattle.bcs_registry_formats.specs.Container.{Entries};
 ghost use Rattle.bcs_registry_formats.specs.Grows.{Grows};
 ghost use Rattle.bcs_registry_formats.specs.Shape as shape;
 ghost use Rattle.bcs_registry_formats.specs.View.{shape_of};
 ghost use Rattle.bcs_registry_formats.specs.WellFormed.{Admits};
 ghost use Rattle.bcs_registry_formats.specs.declared.fault.RegistryFault.TheVariants.{OutOfMemory};
-ghost use Rattle.bcs_tool.specs.Judging.{Asks, IsFormat, IsRegistry, RefusesCheck, RefusesFormat, RefusesFormatted, RefusesGrowth, is_json_word, works_on_values};
+ghost use Rattle.bcs_tool_path.specs.Path.{SpellsNoPath};
+ghost use Rattle.bcs_tool_path.specs.PathSteps.{all_spelled};
+ghost use Rattle.bcs_tool.specs.Judging.{Asks, IsFormat, IsPath, IsRegistry, RefusesCheck, RefusesEarly, RefusesFormat, RefusesGrowth, is_json_word, works_on_values};
 
 use crate::job_fault::JobFault;
 use bcs_registry::{Format, Registry, RegistryFault};
 use bcs_tool_files::Work;
+use bcs_tool_line::Command;
+use bcs_tool_path::{PathFault, PathStep, read_path};
 use std::alloc::{AllocError, Global};
 
 /// How many containers the registry has.
@@ -35,23 +39,47 @@ pub fn judge_growth(alloc: Global, work: &Work) -> Result<(), JobFault>
     Ok(())
 }
 
-/// Values of which format of a registry a job works on.
+/// Values of which format of a registry a job works on, and which steps into them it takes.
 #[derive(Drop)]
 pub struct Asked {
     pub registry: Registry,
     pub format: Format,
+    /// The steps of PATH; none where the command has no PATH.
+    pub path: Vec<PathStep>,
 }
 
-/// The registry and the format that the job asks for. The registry's fault comes before the format's.
+/// What the job asks for. The registry's fault comes before the format's, and this before that of PATH.
 pub fn judge_asked(alloc: Global, work: &Work) -> Result<Asked, JobFault>
     requires { works_on_values work.now.command ≡ true }
     ensures ok { IfOk result (λ asked. Asks work.now asked.registry (shape_of asked.format)) }
     ensures admitted { IfOk result (λ asked. Admits asked.registry (shape_of asked.format)) }
-    ensures fault { IfErr result (λ e. e ≢ JobFault.Registry OutOfMemory → RefusesFormatted work.now e) }
+    ensures path { IfOk result (λ asked. IsPath work.now.command (string_bytes work.now.path) (all_spelled asked.path.items)) }
+    ensures fault { IfErr result (λ e. e ≢ JobFault.Registry OutOfMemory → RefusesEarly work.now e) }
 {
     let registry = Registry::read(alloc, work.registry.as_slice())?;
     let format = judge_format(alloc, &registry, work.format.as_str())?;
-    Ok(Asked { registry, format })
+    let path = judge_path(alloc, work)?;
+    Ok(Asked {
+        registry,
+        format,
+        path,
+    })
+}
+
+// The steps of the job's PATH; none where the command has no PATH.
+fn judge_path(alloc: Global, work: &Work) -> Result<Vec<PathStep>, PathFault>
+    ensures ok { IfOk result (λ path. IsPath work.now.command (string_bytes work.now.path) (all_spelled path.items)) }
+    ensures bad { result ≡ Err PathFault.BadPath → (work.now.command ≡ Command.Part) × SpellsNoPath (string_bytes work.now.path) }
+{
+    match work.command {
+        Command::Part => read_path(alloc, work.path.as_str()),
+        Command::Check
+        | Command::Grows
+        | Command::Encode
+        | Command::Decode
+        | Command::Normalise
+        | Command::Same => Ok(Vec::new(alloc)),
+    }
 }
 
 // The format of a word: its JSON, or a container's name.

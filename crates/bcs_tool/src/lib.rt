@@ -4,6 +4,7 @@
 mod answer;
 mod answering;
 mod blanks;
+mod bytes_answers;
 mod entry;
 mod job_fault;
 mod judging;

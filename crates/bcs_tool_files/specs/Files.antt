@@ -2,7 +2,7 @@
 use Rattle.std.specs.Prelude.{◌≡◌, ◌≢◌, ◌≤◌, ◌==◌, ℕ, List, [], ◌∷◌, Bool, true, false, codes, length, Option, String, string_bytes}
 use Rattle.std.specs.declared.alloc.Global.{Global}
 use Rattle.bcs_tool_line.specs.declared.command.Command.{Command}
-use Rattle.bcs_tool_line.specs.declared.command.Command.TheVariants.{Check, Grows, Encode, Decode, Normalise, Same}
+use Rattle.bcs_tool_line.specs.declared.command.Command.TheVariants.{Check, Grows, Encode, Decode, Normalise, Same, Part}
 use Rattle.bcs_tool_files.specs.declared.file_fault.FileFault.{FileFault}
 use Rattle.bcs_tool_files.specs.declared.file_fault.FileFault.TheVariants.{Open, Take}
 use Rattle.bcs_tool_line.specs.declared.job.Job.{Job}
@@ -41,6 +41,7 @@ IsSecondOf Encode word text = text ≡ []
 IsSecondOf Decode word text = text ≡ []
 IsSecondOf Normalise word text = text ≡ []
 IsSecondOf Same word text = length text ≤ size_limit
+IsSecondOf Part word text = text ≡ []
 
 -- the job's registries are texts themselves, and it has no A, so that no file is read for its work
 abbrev pub NamesNoFile : Job → Type 0

@@ -7,7 +7,7 @@ use Rattle.clap.proofs.OnLiterals.{clap_on_literals}
 use Rattle.bcs_tool_words.specs.CommandLine.{bcs_app}
 use Rattle.bcs_tool_line.specs.Jobs.{command_named, is_raw}
 use Rattle.bcs_tool_line.specs.declared.command.Command.{Command}
-use Rattle.bcs_tool_line.specs.declared.command.Command.TheVariants.{Check, Grows, Encode, Same}
+use Rattle.bcs_tool_line.specs.declared.command.Command.TheVariants.{Check, Grows, Encode, Same, Part}
 
 -- the command of the words, and what it was given
 abbrev command_in : List Text → Option (Option Command)
@@ -232,6 +232,35 @@ normalise_raw = refl
 wants_first : fault_of bcs_app (codes "bcs" ∷ codes "same" ∷ codes "{}" ∷ codes "S" ∷ []) ≡ kind.MissingRequiredArgument ∷ []
 unfolding clap_on_literals
 wants_first = refl
+
+-- ---- parts
+
+abbrev part_words : List Text
+part_words = codes "bcs" ∷ codes "part" ∷ codes "{}" ∷ codes "S" ∷ codes "inner/1" ∷ codes "--raw" ∷ codes "f" ∷ []
+
+part_is_taken : fault_of bcs_app part_words ≡ []
+unfolding clap_on_literals
+part_is_taken = refl
+
+part_command : command_in part_words ≡ Some (Some Part)
+unfolding clap_on_literals
+part_command = refl
+
+part_path : given_in (codes "PATH") part_words ≡ Some (Some (codes "inner/1"))
+unfolding clap_on_literals
+part_path = refl
+
+part_file : given_in (codes "FILE") part_words ≡ Some (Some (codes "f"))
+unfolding clap_on_literals
+part_file = refl
+
+part_raw : raw_in part_words ≡ Some true
+unfolding clap_on_literals
+part_raw = refl
+
+wants_path : fault_of bcs_app (codes "bcs" ∷ codes "part" ∷ codes "{}" ∷ codes "S" ∷ []) ≡ kind.MissingRequiredArgument ∷ []
+unfolding clap_on_literals
+wants_path = refl
 
 -- ---- limits
 

@@ -17,6 +17,8 @@ pub enum Command {
     Normalise,
     /// `same`: finds whether two JSON texts have the same value.
     Same,
+    /// `part`: gives the bytes of a part of a value, out of the value's bytes.
+    Part,
 }
 
 impl Command {
@@ -31,6 +33,7 @@ impl Command {
             "decode" => Some(Command::Decode),
             "normalise" => Some(Command::Normalise),
             "same" => Some(Command::Same),
+            "part" => Some(Command::Part),
             _ => None,
         }
     }

@@ -50,6 +50,9 @@ normalise_app = fold with_rule (value_app (codes "normalise")) (optional (codes 
 abbrev pub same_app : App
 same_app = fold with_rule (value_app (codes "same")) (required (codes "A") ∷ optional (codes "B") ∷ [])
 
+abbrev pub part_app : App
+part_app = fold with_rule (value_app (codes "part")) (required (codes "PATH") ∷ optional (codes "FILE") ∷ raw_flag ∷ [])
+
 -- one of its commands has to be there
 abbrev pub wants_command : App → App
 wants_command = on_top (λ s. record s { subcommand_required = true })
@@ -60,7 +63,7 @@ tells_version = on_top (λ s. record s { has_version = true })
 
 abbrev pub bcs_app : App
 bcs_app = fold (λ program command. with_subcommand program command.top) (wants_command (tells_version (new_app (codes "bcs"))))
-    (check_app ∷ grows_app ∷ encode_app ∷ decode_app ∷ normalise_app ∷ same_app ∷ [])
+    (check_app ∷ grows_app ∷ encode_app ∷ decode_app ∷ normalise_app ∷ same_app ∷ part_app ∷ [])
 
 -- the words as texts
 abbrev pub texts_of : List (String Global) → List Text

@@ -2,7 +2,7 @@
 ghost use Rattle.std.specs.Prelude.{◌≡◌, IfOk, codes, false};
 ghost use Rattle.clap.specs.Words.{app_of, rule_of};
 ghost use Rattle.clap.specs.declared.builder.command.Command.TheViews.{out-Command};
-ghost use Rattle.bcs_tool_words.specs.CommandLine.{bcs_app, check_app, decode_app, encode_app, grows_app, normalise_app, number_option, optional, raw_flag, required, same_app, value_app};
+ghost use Rattle.bcs_tool_words.specs.CommandLine.{bcs_app, check_app, decode_app, encode_app, grows_app, normalise_app, number_option, optional, part_app, raw_flag, required, same_app, value_app};
 
 use crate::texts;
 use crate::version::VERSION;
@@ -23,7 +23,8 @@ pub fn bcs_command<'a>(alloc: Global) -> Result<Command<'a>, AllocError>
         .subcommand(encode_command(alloc)?)?
         .subcommand(decode_command(alloc)?)?
         .subcommand(normalise_command(alloc)?)?
-        .subcommand(same_command(alloc)?)
+        .subcommand(same_command(alloc)?)?
+        .subcommand(part_command(alloc)?)
 }
 
 fn check_command<'a>(alloc: Global) -> Result<Command<'a>, AllocError>
@@ -94,6 +95,21 @@ fn same_command<'a>(alloc: Global) -> Result<Command<'a>, AllocError>
         .after_help(texts::SAME_END)
         .arg(required_word(alloc, "A", texts::FIRST_FILE))?
         .arg(optional_word(alloc, "B", texts::SECOND_FILE))
+}
+
+fn part_command<'a>(alloc: Global) -> Result<Command<'a>, AllocError>
+    ensures app { IfOk result (λ c. app_of c ≡ part_app) }
+    ensures global { IfOk result (λ c. (out-Command c).has_globals ≡ false) }
+{
+    value_command(alloc, "part")?
+        .about("Prints the bytes of a part of a value, out of the value's bytes")
+        .after_help(texts::PART_END)
+        .arg(required_word(alloc, "PATH", texts::PATH))?
+        .arg(optional_word(alloc, "FILE", texts::FILE))?
+        .arg(raw_option(
+            alloc,
+            "Reads and writes the bytes as they are, and not as hexadecimal digits",
+        ))
 }
 
 // A command on values of a format, within limits.

@@ -8,9 +8,9 @@ use Rattle.bcs_registry_formats.specs.View.{shape_of, formats_shapes, field_of, 
 use Rattle.bcs_decode_laws.specs.Reading.{items_here, pairs_here, skipping}
 use Rattle.bcs_decode_cursor.specs.Passing.{skip, node_here, truth_here, whole_here, text_past, bytes_past, unsupported_here}
 use Rattle.bcs_decode_cursor.proofs.Passings.{past_Unit, past_Bool, past_Str, past_Bytes, past_float, past_8, past_16, past_32, past_64, past_128, unit_is, passes_from, passes_here}
-use Rattle.bcs_decode_scan.proofs.PassingParts.{option_stop, option_some, option_none, seq_stop, seq_on, map_stop, map_on, array_stop, array_on, items_stop, items_on, items_end, pairs_stop_key, pairs_stop_value, pairs_on, pairs_end, each, tuple_stop, tuple_on, each_end, each_stop, each_on, named_stop, named_on, content_past, content_shape, content_nothing, variant_stop, variant_unknown, variant_on}
+use Rattle.bcs_decode_fixed.proofs.PassingParts.{option_stop, option_some, option_none, seq_stop, seq_on, map_stop, map_on, array_stop, array_on, items_stop, items_on, items_end, pairs_stop_key, pairs_stop_value, pairs_on, pairs_end, each, tuple_stop, tuple_on, each_end, each_stop, each_on, named_stop, named_on, content_past, content_shape, content_nothing, variant_stop, variant_unknown, variant_on}
 use Rattle.bcs_decode_laws.proofs.LookedUp.{content_found, content_missing, choice_found, choice_missing, levels_in, field_levels_in, formats_next, fields_next}
-use Rattle.bcs_decode_scan.proofs.PassingNames.{named_past}
+use Rattle.bcs_decode_fixed.proofs.PassingNames.{named_past}
 use Rattle.bcs_registry_formats.proofs.Admitted.{content_at-inside, choice_at-inside}
 use Rattle.bcs_decode_scan.proofs.scanning.+scanning.Goals as goal
 

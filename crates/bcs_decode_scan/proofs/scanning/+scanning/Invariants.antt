@@ -4,7 +4,7 @@ use Rattle.bcs_registry_formats.specs.View.{shape_of, formats_shapes, field_of, 
 use Rattle.bcs_registry_formats.specs.WellFormed.{levels, shapes_levels}
 use Rattle.bcs_decode_laws.specs.Reading.{items_here, pairs_here, skipping}
 use Rattle.bcs_decode_cursor.specs.Passing.{key_bytes, Onward, skip}
-use Rattle.bcs_decode_scan.proofs.PassingParts.{each}
+use Rattle.bcs_decode_fixed.proofs.PassingParts.{each}
 use Rattle.bcs_decode_scan.proofs.scanning.+scanning.Given as goal
 
 -- a format in a registry has at most 33 levels with those of its container
@@ -38,8 +38,8 @@ decreases-payload l = work l.depth (levels (payload_shape (payload_of l.payload.
 abbrev pub invariant-elements-loop : goal.invariant-elements-loop
 invariant-elements-loop l = record {
   room : l.cursor.place + length l.cursor.rest.now < 2 ^ 64;
-  onward : Onward l.initial.cursor l.cursor;
-  whole : items_here skipping (skip l.registry l.depth (shape_of l.element)) l.count l.initial.cursor.place l.initial.cursor.nodes l.initial.cursor.rest.now
+  onward : Onward l.fn.cursor l.cursor;
+  whole : items_here skipping (skip l.registry l.depth (shape_of l.element)) l.count l.fn.cursor.place l.fn.cursor.nodes l.fn.cursor.rest.now
       ≡ items_here skipping (skip l.registry l.depth (shape_of l.element)) (l.count - l.counter) l.cursor.place l.cursor.nodes l.cursor.rest.now;
 }
 

@@ -1,4 +1,7 @@
 use Rattle.std.proofs.Common.{rules}
+use Rattle.bcs_registry_formats.specs.View.{shape_of}
+use Rattle.bcs_value_tree.specs.View.{tree_of}
+use Rattle.bcs_encode.proofs.Outcomes.{too_long}
 use Rattle.bcs_encode.proofs.soundness.check_soundness.Goals as goal
 
 pub returns-then-fits_loosely-clause-sound : goal.returns-then-fits_loosely-clause-sound
@@ -25,14 +28,15 @@ returns-then-nodes-from-clause-sound c = search rules
 pub returns-then-nodes-from-clause-fault : goal.returns-then-nodes-from-clause-fault
 returns-then-nodes-from-clause-fault c = search rules
 
-pub returns-then-not-lengths_hold-clause-sound : goal.returns-then-not-lengths_hold-clause-sound
-returns-then-not-lengths_hold-clause-sound c = search rules
+pub returns-then-is_sound-clause-sound : goal.returns-then-is_sound-clause-sound
+returns-then-is_sound-clause-sound c = search rules
 
-pub returns-then-not-lengths_hold-clause-fault : goal.returns-then-not-lengths_hold-clause-fault
-returns-then-not-lengths_hold-clause-fault c = search rules
+pub returns-then-is_sound-clause-fault : goal.returns-then-is_sound-clause-fault
+returns-then-is_sound-clause-fault c = search rules
 
 pub returns-clause-sound : goal.returns-clause-sound
 returns-clause-sound c = search rules
 
 pub returns-clause-fault : goal.returns-clause-fault
-returns-clause-fault c = search rules
+returns-clause-fault c =
+    too_long c.args.registry.now c.args.limits.now (shape_of c.args.format.now) (tree_of c.args.value.now) c.is_sound.result c.is_sound.ensures (search rules) (search rules) (search rules) (search rules)

@@ -1,4 +1,4 @@
-use Rattle.std.proofs.Common.{◌∙◌, ap, inl, refl}
+use Rattle.std.proofs.Common.{inl, refl}
 use Rattle.std.proofs.lemmas.Result.{IfOk-weaker}
 use Rattle.bcs_registry_formats.specs.View.{shape_of}
 use Rattle.bcs_tool.specs.Answers.{encoded, json_fault_name, printed, refusal_line, refused}
@@ -13,7 +13,7 @@ returns-in-Ok c =
     let registry = c.args.asked.now.registry in
     let s = shape_of c.args.asked.now.format in
     let bytes = c.in-Ok.bytes.items in
-    IfOk-weaker c.encoded.result _ _ (λ a is. same_answer work text 0 a.status (printed work.raw bytes) a.output.items is.0 (is.1 ∙ ap (printed work.raw) c.as_slice.ensures.value)
+    IfOk-weaker c.encoded.result _ _ (λ a is. same_answer work text 0 a.status (printed work.raw bytes) a.output.items is.0 is.1
     (encoded registry s bytes (is_asked work text Encode registry s c.requires.command c.requires.asks c.requires.within) c.in-Ok.ensures.bytes)) c.encoded.ensures
 
 pub returns-in-Err : goal.returns-in-Err

@@ -19,5 +19,8 @@ returns-in-normalise c = search rules
 pub returns-in-same : goal.returns-in-same
 returns-in-same c = search rules
 
+pub returns-in-part : goal.returns-in-part
+returns-in-part c = search rules
+
 pub returns-in_default : goal.returns-in_default
 returns-in_default c = search rules

@@ -1,0 +1,5 @@
+pub mod PassingParts
+pub mod PassingNames
+pub mod WholeRows
+pub mod Reaching
+pub mod FixedParts

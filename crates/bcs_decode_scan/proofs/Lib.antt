@@ -1,3 +1,0 @@
-pub mod PassingParts
-pub mod PassingNames
-pub mod WholeRows
