@@ -96,26 +96,41 @@ fn on_values(alloc: Global, command: Command, words: &[&str]) -> Result<String, 
     }
 }
 
+fn asked_part<'a>(
+    raw: bool,
+    registry: &'a str,
+    format: &'a str,
+    path: &'a str,
+    limits: &'a [&'a str],
+) -> ValueJob<'a> {
+    ValueJob {
+        command: Command::Part,
+        raw,
+        registry,
+        format,
+        second: "",
+        path,
+        limits,
+    }
+}
+
 // The answer to a job on a part of a value, and to its input where it has one.
 fn on_parts(alloc: Global, words: &[&str]) -> Result<String, RowFault> {
     match words {
         [registry, format, path] => {
-            let mut asked = asked(Command::Part, registry, format, &[]);
-            asked.path = path;
-            let work = work_of(alloc, asked)?;
+            let work = work_of(alloc, asked_part(false, registry, format, path, &[]))?;
             without_input(alloc, &work)
         }
-        ["--raw", registry, format, path, input, limits @ ..] => {
-            let mut asked = asked(Command::Part, registry, format, limits);
-            asked.raw = true;
-            asked.path = path;
-            with_input(alloc, asked, input)
-        }
-        [registry, format, path, input, limits @ ..] => {
-            let mut asked = asked(Command::Part, registry, format, limits);
-            asked.path = path;
-            with_input(alloc, asked, input)
-        }
+        ["--raw", registry, format, path, input, limits @ ..] => with_input(
+            alloc,
+            asked_part(true, registry, format, path, limits),
+            input,
+        ),
+        [registry, format, path, input, limits @ ..] => with_input(
+            alloc,
+            asked_part(false, registry, format, path, limits),
+            input,
+        ),
         _ => Err(RowFault::NotUnderstood),
     }
 }
