@@ -1,6 +1,6 @@
 #!/usr/bin/env python3
 """Runs a program at the edges of its sizes: sizes.py BCS. Prints the status, the first bytes of the answer, processor
-seconds, and the most memory, also as a multiple of the input. The stack is 8 MiB."""
+seconds, and the most memory, also as a multiple of the input. The stack is 8 MiB, and the memory 6 GiB."""
 
 import os
 import resource
@@ -10,6 +10,7 @@ import tempfile
 
 STACK = 8 << 20
 MIB = 1 << 20
+MEMORY = 6 << 30
 LIMIT = 256 * MIB
 
 
@@ -40,8 +41,18 @@ def cases():
     yield "text, nesting 100", ["encode", "{}", nested('"U8"', 32)], lambda: b"[" * 100 + b"]" * 100
     yield "hexadecimal, 256 MiB of one byte string", ["decode", "{}", '"BYTES"'], lambda: b"f8ffff3f" + b"00" * (128 * MIB - 8)
     yield "bytes, 200 MB of one text", ["decode", "--raw", "{}", '"STR"'], lambda: uleb(200_000_000) + b"a" * 200_000_000
+    yield "bytes, 256 MiB of one byte string", ["decode", "--raw", "{}", '"BYTES"'], lambda: uleb(LIMIT - 4) + b"a" * (LIMIT - 4)
     yield "bytes, 64 MiB of numbers", ["decode", "--raw", "{}", '{"SEQ":"U16"}'], lambda: uleb(32 * MIB) + b"ab" * (32 * MIB)
     yield "bytes, a list of 2147483647 units, within 1000 nodes", ["decode", "--nodes", "1000", "{}", '{"SEQ":"UNIT"}'], lambda: b"ffffffff07"
+    empty = '{"U":{"STRUCT":[]}}'
+    row = '{"SEQ":{"TYPENAME":"U"}}'
+    yield "bytes, a list of 2147483647 empty structs, within 1000 nodes", ["decode", "--nodes", "1000", empty, row], lambda: b"ffffffff07"
+    yield "bytes, a list of 2147483647 empty structs, one node too few", ["part", "--nodes", str(2 * (2**31 - 1)), empty, row, "0"], lambda: b"ffffffff07"
+    yield "bytes, a list of 2147483647 empty structs, whose part is taken", ["part", "--nodes", str(2**32 - 1), empty, row, "2147483646"], lambda: b"ffffffff07"
+    yield "bytes, a list of 2147483647 empty structs, more than the memory", ["decode", "--nodes", str(2**32 - 1), empty, row], lambda: b"ffffffff07"
+    for name, content in [("units", '"UNIT"'), ("empty structs", '{"TYPENAME":"U"}')]:
+        array = '{"TUPLEARRAY":{"CONTENT":' + content + ',"SIZE":18446744073709551615}}'
+        yield f"bytes, an array of 2^64-1 {name}", ["decode", empty, array], lambda: b""
     yield "bytes, 10 million empty structs", ["decode", "--raw", '{"U":"UNITSTRUCT"}', '{"SEQ":{"TYPENAME":"U"}}'], lambda: uleb(10_000_000)
     deep = chain(nested('{"OPTION":{"TYPENAME":"L"}}', 31))
     yield "bytes, 500 containers of 32 levels", ["decode", "--raw", deep, "L"], lambda: b"\x01" * (31 * 500) + b"\x00"
@@ -75,6 +86,11 @@ def members(count):
     return ("{" + ",".join(f'"f{number}":1' for number in range(count)) + "}").encode()
 
 
+def limit():
+    resource.setrlimit(resource.RLIMIT_STACK, (STACK, STACK))
+    resource.setrlimit(resource.RLIMIT_AS, (MEMORY, MEMORY))
+
+
 def run(program, words, given):
     with tempfile.NamedTemporaryFile() as file, tempfile.NamedTemporaryFile() as registry:
         file.write(given)
@@ -88,7 +104,7 @@ def run(program, words, given):
                 words[place] = registry.name
         file.seek(0)
         process = subprocess.Popen([program, *words], stdin=file, stdout=subprocess.PIPE, stderr=subprocess.PIPE,
-                                   preexec_fn=lambda: resource.setrlimit(resource.RLIMIT_STACK, (STACK, STACK)))
+                                   preexec_fn=limit)
         answer = process.stdout.read(24)
         while process.stdout.read(MIB):
             pass

@@ -1,16 +1,19 @@
 //! The yardstick of the timings: an ordinary Rust program over the real `serde_json`, with a tree of values, for the same
-//! commands as `bcs`. It makes few of its tests: no limits of depth and nodes, and one error for each fault.
+//! commands as `bcs`. It makes few of its tests: no limits of depth and nodes, and one error for each fault. Beside them it
+//! has `parse` and `pass`, the least that reading a text or bytes can take, and `calls`, which times encoding and decoding
+//! alone.
 
 mod bytes;
 mod registry;
 mod text;
 mod value;
 
-use registry::{read_format, Registry};
+use registry::{read_format, Format, Registry};
 use std::env;
 use std::fs;
 use std::io::{self, Read, Write};
 use std::process;
+use std::time::Instant;
 
 type Outcome<T> = Result<T, &'static str>;
 
@@ -59,8 +62,43 @@ fn answer(words: &[&str], raw: bool) -> Outcome<Vec<u8>> {
             let second = encoded(&registry, format, &input(second)?)?;
             Ok(if first == second { b"equal\n".to_vec() } else { b"different\n".to_vec() })
         }
+        ["parse", file @ ..] => parse(&input(file)?),
+        ["pass", file @ ..] => {
+            let letters = input(file)?.iter().filter(|byte| byte.is_ascii_alphabetic()).count();
+            Ok(format!("{letters}\n").into_bytes())
+        }
+        ["calls", registry, format, file @ ..] => {
+            let registry = Registry::read(&named(registry)?)?;
+            calls(&registry, &read_format(format)?, &input(file)?)
+        }
         _ => Err("Usage"),
     }
+}
+
+/// The least that a job on a text can take: `serde_json` reads it, and nothing else is done.
+fn parse(text: &[u8]) -> Outcome<Vec<u8>> {
+    let json: serde_json::Value = serde_json::from_slice(text).map_err(|_| "NotJson")?;
+    Ok(if json.is_null() { b"null\n".to_vec() } else { b"read\n".to_vec() })
+}
+
+/// The milliseconds that encoding the text's value takes, and decoding its bytes: the fastest of ten each.
+fn calls(registry: &Registry, format: &Format, text: &[u8]) -> Outcome<Vec<u8>> {
+    let json = serde_json::from_slice(text).map_err(|_| "NotJson")?;
+    let value = text::read(registry, format, json)?;
+    let bytes = bytes::encode(&value)?;
+    let encoding = fastest(|| bytes::encode(&value).map(drop))?;
+    let decoding = fastest(|| bytes::decode(registry, format, &bytes).map(drop))?;
+    Ok(format!("encode {encoding:.1} ms, decode {decoding:.1} ms\n").into_bytes())
+}
+
+fn fastest(call: impl Fn() -> Outcome<()>) -> Outcome<f64> {
+    let mut least = f64::INFINITY;
+    for _ in 0..10 {
+        let start = Instant::now();
+        call()?;
+        least = least.min(start.elapsed().as_secs_f64() * 1e3);
+    }
+    Ok(least)
 }
 
 fn encoded(registry: &Registry, format: &str, input: &[u8]) -> Outcome<Vec<u8>> {

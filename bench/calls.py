@@ -1,0 +1,51 @@
+#!/usr/bin/env python3
+"""Times library calls on the inputs of the benchmark: calls.py INPUTS CALLS [PLAIN]. CALLS is the program `bcs_calls`.
+Prints the milliseconds of processor time that a call takes: of so many calls in one run, less those of none."""
+
+import os
+import subprocess
+import sys
+from pathlib import Path
+
+INPUTS = ["records", "numbers", "map", "bytes"]
+CALLS = ["encode", "entries", "canonicalise", "scan", "decode_slice", "decode_all"]
+COUNT = 10
+RUNS = 3
+
+
+def seconds(words, source):
+    """Processor seconds of the fastest run."""
+    least = float("inf")
+    for _ in range(RUNS):
+        with open(source, "rb") as given:
+            process = subprocess.Popen(words, stdin=given, stdout=subprocess.PIPE)
+        answer = process.stdout.read()
+        _, status, usage = os.wait4(process.pid, 0)
+        if os.waitstatus_to_exitcode(status) != 0 or not answer.strip().isdigit():
+            sys.exit(f"{words[1:3]}: {answer.decode()}")
+        least = min(least, usage.ru_utime + usage.ru_stime)
+    return least
+
+
+def plain_calls(plain, registry, format, source):
+    """What the plain program says that encoding and decoding take."""
+    with open(source, "rb") as given:
+        answer = subprocess.run([plain, "calls", registry, format], stdin=given, capture_output=True, check=True).stdout
+    return answer.decode().strip()
+
+
+def main():
+    folder, program, plain = Path(sys.argv[1]), sys.argv[2], sys.argv[3:]
+    registry = (folder / "registry.json").read_text()
+    print("| Input | " + " | ".join(CALLS) + " | plain |")
+    print("|---|" + "---|" * (len(CALLS) + 1))
+    for name in INPUTS:
+        format, source = (folder / f"{name}.format").read_text(), folder / f"{name}.json"
+        none = seconds([program, "scan", "0", registry, format], source)
+        taken = [seconds([program, call, str(COUNT), registry, format], source) - none for call in CALLS]
+        cells = [f"{call / COUNT * 1e3:.1f}" for call in taken]
+        told = plain_calls(plain[0], registry, format, source) if plain else ""
+        print(f"| {name} | " + " | ".join(cells) + f" | {told} |", flush=True)
+
+
+main()
