@@ -1,4 +1,4 @@
-//! Accepted rows with each write and each read failing in turn.
+//! Rows with each write and each read failing in turn.
 
 use crate::accepted::Accepted;
 use crate::asked::Asked;
@@ -16,23 +16,55 @@ use std::alloc::Global;
 
 /// Makes the calls that read or write, once for each read and each write.
 pub(crate) fn ask(alloc: Global, row: &Row, tally: &mut Tally) -> Result<(), Told> {
-    if row.question != "value" && row.question != "scalar" {
-        return Ok(());
+    match row.question {
+        "value" | "scalar" => {
+            ask_of_calls(alloc, &Accepted::read(alloc, row)?, tally);
+            ask_of_jobs(alloc, row, tally)
+        }
+        "text" => ask_refused(alloc, Command::Encode, row, tally),
+        "bytes" | "early" | "whole" => ask_refused(alloc, Command::Decode, row, tally),
+        _ => Ok(()),
     }
-    let accepted = Accepted::read(alloc, row)?;
+}
+
+fn ask_of_calls(alloc: Global, accepted: &Accepted, tally: &mut Tally) {
     for done in 0..=accepted.bytes.len() {
-        tally.note("write", written_told(alloc, &accepted, done));
-        tally.note("decode_from", front_told(alloc, &accepted, done));
-        tally.note("decode_all", whole_told(alloc, &accepted, done));
+        tally.note("write", written_told(alloc, accepted, done));
+        tally.note("decode_from", front_told(alloc, accepted, done));
+        tally.note("decode_all", whole_told(alloc, accepted, done));
     }
+}
+
+// The commands on the value of a text, and on its bytes.
+fn ask_of_jobs(alloc: Global, row: &Row, tally: &mut Tally) -> Result<(), Told> {
     let work = jobs::job(alloc, Command::Encode, row.registry, "", row.format)?;
-    for done in 0..=row.input.len() {
-        tally.note("run", read_told(alloc, &work, row.input, done));
-    }
-    for done in 0..=row.answer.len() {
-        tally.note("run", put_told(alloc, &work, row, done));
-    }
+    ask_of_job(alloc, &work, row.input, row.answer, tally);
+    let work = jobs::job(alloc, Command::Decode, row.registry, "", row.format)?;
+    ask_of_job(alloc, &work, row.answer, row.more, tally);
+    let work = jobs::job(alloc, Command::Normalise, row.registry, "", row.format)?;
+    ask_of_job(alloc, &work, row.input, row.more, tally);
+    let work = jobs::job(alloc, Command::Same, row.registry, row.input, row.format)?;
+    ask_of_job(alloc, &work, row.input, "equal", tally);
     Ok(())
+}
+
+// A refusal is put as any other answer.
+fn ask_refused(alloc: Global, command: Command, row: &Row, tally: &mut Tally) -> Result<(), Told> {
+    let mut work = jobs::job(alloc, command, row.registry, "", row.format)?;
+    work.limits = Asked::read(alloc, row, row.format, row.more)?.limits;
+    let mut line = String::from_str(alloc, "refused: ")?;
+    line.push_str(row.answer)?;
+    ask_of_job(alloc, &work, row.input, line.as_str(), tally);
+    Ok(())
+}
+
+fn ask_of_job(alloc: Global, work: &Work, input: &str, line: &str, tally: &mut Tally) {
+    for done in 0..=input.len() {
+        tally.note("run", read_told(alloc, work, input, done));
+    }
+    for done in 0..=line.len() {
+        tally.note("run", put_told(alloc, work, [input, line], done));
+    }
 }
 
 // The sink takes so many bytes, one a call, and then fails.
@@ -101,10 +133,10 @@ fn read_told(alloc: Global, work: &Work, input: &str, done: usize) -> Told {
 }
 
 // The output takes so many bytes of the line, and then fails: at the line's end at the latest.
-fn put_told(alloc: Global, work: &Work, row: &Row, done: usize) -> Told {
-    let mut source = SliceSource::new(row.input.as_bytes());
+fn put_told(alloc: Global, work: &Work, [input, line]: [&str; 2], done: usize) -> Told {
+    let mut source = SliceSource::new(input.as_bytes());
     let mut out = PieceSink::<256>::new(1, Some((done as u64).saturating_add(1)));
     let Outcome { status, note } = run(alloc, work, &mut source, &mut out);
-    let is_front = row.answer.as_bytes().get(..done) == Some(out.taken());
+    let is_front = line.as_bytes().get(..done) == Some(out.taken());
     Told::of(status == 4 && note == "fault: write" && is_front)
 }
