@@ -1,7 +1,7 @@
 -- A byte string that is read by blocks.
-use Rattle.std.proofs.Common.{◌≡◌, ℕ, ◌+◌, ◌-◌, ◌≤◌, true, List, [], ◌++◌, length, drop, length-append, take-add, length-drop, append_assoc, Option, Ok, Err, inl, inr, refl, sym, ap, ◌∙◌, arith}
+use Rattle.std.proofs.Common.{◌≡◌, ℕ, ◌+◌, ◌-◌, ◌≤◌, true, List, [], ◌++◌, length, drop, length-append, take-add, take, take_all, length-drop, append_assoc, Option, Ok, Err, inl, inr, refl, sym, ap, ◌∙◌, arith}
 use Rattle.std.proofs.lemmas.Bool.{le-ltb, lt-ltb, cases_lt}
-use Rattle.std.proofs.lemmas.List.{drop-drop, append-nil}
+use Rattle.std.proofs.lemmas.List.{drop-drop, drop_all, drop_at, take_at, append-nil}
 use Rattle.bcs_decode_stops.specs.declared.decode_fault.DecodeFault.{DecodeFault}
 use Rattle.bcs_decode_keys.specs.declared.at.At.{At}
 use Rattle.bcs_decode_laws.specs.Reading.{Read, follow, give, bytes_here}
@@ -74,3 +74,14 @@ pub bytes_refused : (x : DecodeFault) (n k : ℕ) (xs : List ℕ) (c d : Option 
 bytes_refused x n k xs c d p q few h =
     Refuses-whole x c d p q (bytes_here n) (bytes_here k) (λ told. (h told).1)
     (λ e o told stop. (h told).0 ∙ ap (with_front xs) (bytes_split k (n - length xs) q.place q.nodes (rest_of d) few ∙ ap (λ s. follow s (λ zs o' l t. with_front zs (bytes_here (n - length xs - k) o' l t))) stop))
+
+-- a vector's tail, when it was filled
+pub tail_filled : (vs xs buf zs : List ℕ) (s n : ℕ) → s ≡ length vs → xs ≡ vs ++ zs → length buf ≡ length zs → n ≡ length xs
+    → take n (take s xs ++ (buf ++ drop (length buf) (drop s xs)) ++ drop (length (take s xs ++ (buf ++ drop (length buf) (drop s xs)))) xs) ≡ vs ++ buf
+tail_filled vs xs buf zs s n start is same all =
+    let front : take s xs ≡ vs = ap (take s) is ∙ take_at vs zs s (sym start) in
+    let behind : drop s xs ≡ zs = ap (drop s) is ∙ drop_at vs zs s (sym start) in
+    let none : drop (length buf) zs ≡ [] = drop_all (length buf) zs (omega (arith, same)) in
+    let long : length xs ≡ length (vs ++ buf) = ap length is ∙ length-append vs zs ∙ ap (λ k. length vs + k) (sym same) ∙ sym (length-append vs buf) in
+    let over : drop (length (vs ++ buf)) xs ≡ [] = drop_all (length (vs ++ buf)) xs (omega (arith, long)) in
+    rw (front, behind, none, append-nil buf, over, append-nil (vs ++ buf)) (take_all n (vs ++ buf) (omega (arith, all, long)))

@@ -1,6 +1,7 @@
 pub mod Blocks
 pub mod Chains
 pub mod Going
+pub mod NumberRows
 pub mod Streamed
 pub mod StreamedKeys
 pub mod StreamedRows

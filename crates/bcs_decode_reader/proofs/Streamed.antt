@@ -4,6 +4,9 @@ use Rattle.bcs_registry_formats.specs.Shape as shape
 use Rattle.bcs_registry_formats.specs.Shape.{Shape, Shapes}
 use Rattle.bcs_registry_formats.specs.Container.{Entries, Choice, of, one_of, nothing, choice_at}
 use Rattle.bcs_registry_formats.specs.View.{shape_of, formats_shapes}
+use Rattle.bcs_registry_formats.specs.Whole.{whole_shape}
+use Rattle.bcs_registry_formats.specs.declared.whole_number.WholeNumber.{WholeNumber}
+use Rattle.bcs_registry_formats.specs.declared.whole_number.WholeNumber.TheVariants.{Unsigned, Signed}
 use Rattle.bcs_registry_formats.specs.declared.format.Format as format
 use Rattle.bcs_registry_formats.proofs.FormatViews.{shape-Opt, shape-Seq, shape-TupleArray, shape-Map, shape-Tuple, shape-TypeName}
 use Rattle.bcs_value_tree.specs.Tree as tree
@@ -119,6 +122,12 @@ leaf_is registry d (shape.unsupported u) h = refl
 leaf_is registry d shape.text h = refl
 leaf_is registry d shape.bytes h = refl
 leaf_is registry d _ h = absurd cc
+
+-- a whole number is read as a leaf
+pub read_whole : (registry : Entries) (d : ℕ) (s : Shape) (n : WholeNumber) → s ≡ whole_shape n → read registry d s ≡ leaf_here (whole_shape n)
+unfolding value_here shape_here
+read_whole registry d s (Unsigned w) h = rw h refl
+read_whole registry d s (Signed w) h = rw h refl
 
 module _ (registry : Entries) (d : ℕ) (f : format.Format) where
   -- what has no parts is read as a leaf, whatever is registered

@@ -17,7 +17,7 @@ abbrev pub Found : {A : Type 0} → A → Parser A → Option (List ℕ) → Opt
 Found x f c d p q = is_told c ≡ true → (f p.place p.nodes (rest_of c) ≡ Ok (x, q.place, q.nodes, rest_of d)) × (is_told d ≡ true)
 
 -- these, and then those
-abbrev joined : Trees → Trees → Trees
+abbrev pub joined : Trees → Trees → Trees
 joined no_trees us = us
 joined (tree t ts) us = tree t (joined ts us)
 
@@ -40,7 +40,7 @@ unfolding give
 before_more vs v (Ok x) = ap (λ (us : Trees). Ok (us, x.1, x.2, x.3)) (sym (items_pushed vs v x.0))
 before_more vs v (Err e) = refl
 
-before_none : (x : Read Trees) → items_before no_trees x ≡ x
+pub before_none : (x : Read Trees) → items_before no_trees x ≡ x
 unfolding give
 before_none (Ok x) = refl
 before_none (Err e) = refl

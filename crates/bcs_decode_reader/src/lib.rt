@@ -7,6 +7,7 @@ pub mod leaf;
 pub mod leaves;
 pub mod names;
 pub mod number;
+pub mod number_rows;
 pub mod room;
 pub mod slots;
 mod strings;

@@ -10,10 +10,14 @@ use bcs_decode_sources::ByteSource;
 use bcs_decode_stops::{DecodeFault, Reason, Stop};
 use std::alloc::Global;
 
-/// How many bytes are taken at a time.
-const BLOCK: usize = 512;
+/// How many bytes are taken at first.
+const FIRST_BLOCK: usize = 512;
 
-/// So many bytes. They are taken by blocks, so that memory follows what was read.
+/// The most bytes that are taken at a time.
+const LAST_BLOCK: usize = 65536;
+
+/// So many bytes. They are taken by blocks that are as long as what was read before them, so that memory follows what was
+/// read.
 pub fn bytes<S: ByteSource>(
     alloc: Global,
     source: &mut S,
@@ -30,11 +34,11 @@ pub fn bytes<S: ByteSource>(
 {
     let mut found = Vec::new(alloc);
     make_room(alloc, &mut found, at, u64::from(count))?;
-    let mut block = [0u8; BLOCK];
     while found.len() < count as usize {
-        let size = (count as usize - found.len()).min(BLOCK);
-        read_exact(source, at, &mut block[..size])?;
-        found.extend_from_slice(&block[..size])?;
+        let start = found.len();
+        let size = (count as usize - start).min(start.clamp(FIRST_BLOCK, LAST_BLOCK));
+        found.resize(start + size, 0)?;
+        read_exact(source, at, found.slice_mut(start..))?;
     }
     Ok(found)
 }

@@ -9,11 +9,13 @@ use crate::reader::Reader;
 use crate::values::value;
 use bcs_decode_reader::bytes::begin;
 use bcs_decode_reader::number::row_count;
+use bcs_decode_reader::number_rows::push_numbers;
 use bcs_decode_reader::room::make_room;
 use bcs_decode_reader::slots::finish;
 use bcs_decode_sources::ByteSource;
 use bcs_decode_stops::DecodeFault;
 use bcs_registry::Format;
+use bcs_registry_formats::WholeNumber;
 use bcs_value::Value;
 use bcs_value_tree::slot::keep;
 
@@ -38,7 +40,7 @@ pub fn items<S: ByteSource>(
     finish(read, found, slot)
 }
 
-/// So many values, each read into the slot first.
+/// So many values: whole numbers in one loop, and others each read into the slot first.
 #[cycle(streaming)]
 fn row<S: ByteSource>(
     reader: &mut Reader<'_, S>,
@@ -52,6 +54,9 @@ fn row<S: ByteSource>(
     requires empty { found.old.items ≡ [] }
     ensures reads { Reads S.content S.is_failed S.allowance (λ _. items_trees found.new.items) result reader.old (row_leaf (read reader.old.registry.now depth (shape_of element.now)) count) reader.new }
 {
+    if let Some(format) = WholeNumber::of(element) {
+        return push_numbers(format, count, reader.source, reader.at, found);
+    }
     for _ in 0..count {
         value(reader, element, depth, slot)?;
         keep(found, slot)?;

@@ -16,7 +16,7 @@ use Rattle.bcs_decode_reader.proofs.Going.{Sees-as, Sees-row, Goes-then, Along-n
 use Rattle.bcs_decode_keys.proofs.KeptKeys.{Stands-begun, Stands-more, last_kept, same_key}
 use Rattle.bcs_decode_reader.proofs.StreamedKeys.{kept_wrong, kept_right}
 use Rattle.bcs_decode_laws.proofs.LookedUp.{content_found, content_missing, choice_found, choice_missing, levels_in, field_levels_in, formats_next, fields_next}
-use Rattle.bcs_decode_reader.proofs.Streamed.{read_leaf, read_Opt, read_Seq, read_TupleArray, read_Map, read_Tuple, read_TypeName, unit_is, read_tuple, content_shape, content_nothing, enum_stop, enum_unknown, enum_refused, enum_on, key_stop}
+use Rattle.bcs_decode_reader.proofs.Streamed.{read_leaf, read_whole, read_Opt, read_Seq, read_TupleArray, read_Map, read_Tuple, read_TypeName, unit_is, read_tuple, content_shape, content_nothing, enum_stop, enum_unknown, enum_refused, enum_on, key_stop}
 use Rattle.bcs_decode_reader.proofs.StreamedRows.{items_none, items_more, items_done, items_refused, each_none, each_more, each_done, each_refused, pairs_none, pairs_more, pairs_done, key_refused, value_refused}
 use Rattle.bcs_registry_formats.proofs.Admitted.{content_at-inside, choice_at-inside}
 use Rattle.bcs_decode_stream.proofs.Readers.{again, IsSame-then}
@@ -98,6 +98,18 @@ values::value-returns-in-TypeName-clause-reads g t c =
 pub rows::row-loop-init : goal.rows::row-loop-init
 rows::row-loop-init g t c =
     record { ready = c.requires.ready; same = again c.args.reader.now; goes = Along-none (g.S.ByteSource.content c.args.reader.now.source.now) c.args.reader.now.at.now; sees = items_none (read c.args.reader.now.registry.now c.args.depth (shape_of c.args.element.now)) c.args.count c.args.found.now.items (g.S.ByteSource.content c.args.reader.now.source.now) c.args.reader.now.at.now c.requires.empty }
+
+pub rows::row-returns-in-Some : goal.rows::row-returns-in-Some
+rows::row-returns-in-Some g t c =
+    record {
+      reads = record {
+        sees = (rw (read_whole c.args.reader.now.registry.now c.args.depth (shape_of c.args.element.now) c.in-Some.format c.in-Some.ensures.found) c.push_numbers.ensures.sees);
+        failed = search rules;
+        room = search rules;
+        goes = search rules;
+        same = search rules;
+      };
+    }
 
 pub rows::row-returns-in_err-value : goal.rows::row-returns-in_err-value
 rows::row-returns-in_err-value g t c =

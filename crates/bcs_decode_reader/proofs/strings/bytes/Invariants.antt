@@ -3,16 +3,15 @@ use Rattle.bcs_decode_reader.specs.Sees.{Along}
 use Rattle.bcs_decode_reader.proofs.Blocks.{BytesSoFar}
 use Rattle.bcs_decode_reader.proofs.strings.bytes.Given as goal
 
-abbrev pub invariant-loop-block : goal.invariant-loop-block
-invariant-loop-block g l = record {
+abbrev pub invariant-loop-found : goal.invariant-loop-found
+invariant-loop-found g l = record {
   good : g.S.ByteSource.is_failed l.source ≡ false;
   room : l.at.place + g.S.ByteSource.allowance l.source < 2 ^ 64;
   within : length l.found.items ≤ l.count;
   far : l.at.place ≡ l.fn.at.place + length l.found.items;
-  block : length l.block ≡ 512;
   sees : BytesSoFar l.count l.found.items (g.S.ByteSource.content l.fn.source) l.fn.at (g.S.ByteSource.content l.source) l.at;
   goes : Along (g.S.ByteSource.content l.fn.source) l.fn.at (g.S.ByteSource.content l.source) l.at;
 }
 
-abbrev pub decreases-loop-block : goal.decreases-loop-block
-decreases-loop-block g l = l.count - length l.found.items
+abbrev pub decreases-loop-found : goal.decreases-loop-found
+decreases-loop-found g l = l.count - length l.found.items
