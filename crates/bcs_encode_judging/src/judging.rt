@@ -209,9 +209,40 @@ fn judge_all(
     if let Some(format) = WholeNumber::of(element) {
         return judge_numbers(format, items, nodes);
     }
+    if let Format::TypeName(name) = element {
+        return judge_all_named(items, name.as_str(), registry, depth, nodes);
+    }
     let mut left = nodes;
     for item in items {
         left = judge_value(item, element, registry, depth, left)?;
+    }
+    Some(left)
+}
+
+/// Judges values of one container, which is looked up once.
+#[cycle(judging)]
+fn judge_all_named(
+    items: &[Value],
+    name: &str,
+    registry: &Registry,
+    depth: u64,
+    nodes: u64,
+) -> Option<u64>
+    ensures { result ≡ spec.all_judged registry.now (items_trees items.now) (name_shape name.now) depth nodes }
+{
+    let found = registry.container(name);
+    let mut left = nodes;
+    for item in items {
+        left = match (item, found) {
+            (Value::Named(inner), Some(container)) => judge_content(
+                inner,
+                container,
+                registry,
+                take(1, depth)?,
+                take(1, left)?,
+            )?,
+            _ => return None,
+        };
     }
     Some(left)
 }
