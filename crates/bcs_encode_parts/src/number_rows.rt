@@ -7,6 +7,7 @@ ghost use Rattle.bcs_encode_parts.specs.Writing.{Tells, items_written, written};
 
 use crate::pushing::{push_signed, push_unsigned};
 use bcs_encode_laws::EncodeFault;
+use bcs_num::Width;
 use bcs_registry_formats::WholeNumber;
 use bcs_value_tree::Value;
 
@@ -23,6 +24,31 @@ pub fn push_numbers(
         → IsErrOf result EncodeFault.OutOfMemory → ⊥ }
 {
     out.reserve(items.len().saturating_mul(format.byte_len()))?;
+    // Each format is named once more, so that each has a loop of its own, compiled for its width.
+    match format {
+        WholeNumber::Unsigned(Width::W1) => push_row(WholeNumber::Unsigned(Width::W1), items, out),
+        WholeNumber::Unsigned(Width::W2) => push_row(WholeNumber::Unsigned(Width::W2), items, out),
+        WholeNumber::Unsigned(Width::W4) => push_row(WholeNumber::Unsigned(Width::W4), items, out),
+        WholeNumber::Unsigned(Width::W8) => push_row(WholeNumber::Unsigned(Width::W8), items, out),
+        WholeNumber::Unsigned(Width::W16) => push_row(
+            WholeNumber::Unsigned(Width::W16),
+            items,
+            out,
+        ),
+        WholeNumber::Signed(Width::W1) => push_row(WholeNumber::Signed(Width::W1), items, out),
+        WholeNumber::Signed(Width::W2) => push_row(WholeNumber::Signed(Width::W2), items, out),
+        WholeNumber::Signed(Width::W4) => push_row(WholeNumber::Signed(Width::W4), items, out),
+        WholeNumber::Signed(Width::W8) => push_row(WholeNumber::Signed(Width::W8), items, out),
+        WholeNumber::Signed(Width::W16) => push_row(WholeNumber::Signed(Width::W16), items, out),
+    }
+}
+
+#[inline(always)]
+fn push_row(format: WholeNumber, items: &[Value], out: &mut Vec<u8>) -> Result<(), EncodeFault>
+    ensures tells { Tells result (items_written [] (items_trees items.now) (whole_shape format) out.old.items) out.new.items }
+    ensures in_place { vec_len out.old + length items.now * whole_len format ≤ vec_capacity out.old
+        → IsErrOf result EncodeFault.OutOfMemory → ⊥ }
+{
     for item in items {
         push_plain(format, item, out)?;
     }
