@@ -11,7 +11,7 @@ use Rattle.bcs_encode_parts.specs.Forming.{formed, items_formed, pairs_formed}
 use Rattle.bcs_encode_parts.specs.Writing.{Tells, written}
 use Rattle.bcs_encode_parts.proofs.NumberViews.{numbers_anywhere}
 use Rattle.bcs_encode_parts.proofs.WalkViews.{at_enum, at_map, choice-found, count_pairs}
-use Rattle.bcs_encode_parts.proofs.WritingViews.{tells_along, array_refused, array_written, list_written, pairs_written, tuple_written, fields_written, variant_written, no_variant_written, count_formats, count_fields}
+use Rattle.bcs_encode_parts.proofs.WritingViews.{tells_along, array_refused, array_written, list_written, pairs_written, tuple_written, fields_written, variant_written, no_variant_written}
 use Rattle.bcs_encode_spans.specs.Laying.{entries_laid}
 use Rattle.bcs_encode_spans.specs.KeyLaying.{pair_trees}
 use Rattle.bcs_encode_spans.proofs.LayingLaws.{laid_map, laid_whole, unlaid_map}
