@@ -11,7 +11,6 @@ use Rattle.bcs_value_tree.specs.Tree as tree
 use Rattle.bcs_value_tree.specs.Tree.{Tree, Trees, no_trees, tree}
 use Rattle.bcs_value_tree.specs.View.{trees_of}
 use Rattle.bcs_encode_laws.specs.declared.fault.EncodeFault.{EncodeFault}
-use Rattle.bcs_encode_laws.specs.declared.fault.EncodeFault.TheVariants.{OutOfMemory}
 use Rattle.bcs_encode_parts.specs.Writing.{Tells, Verdict, chain, written, items_written}
 use Rattle.bcs_encode_parts.specs.Forming.{row, canonicalised, items_canonicalised, formed, items_formed}
 
