@@ -1,5 +1,5 @@
 -- What the walk needs of the views, shape by shape.
-use Rattle.std.proofs.Common.{◌≡◌, ℕ, suc, ◌+◌, ◌^◌, ◌<◌, ◌≤◌, nat_lt, Bool, false, ◌&&◌, List, [], ◌∷◌, length, map, Vec, BTreeMap, Box, Bor, Global, if◌then◌else◌, Option, Some, None, refl, sym, ap, ◌∙◌, arith, rules, le-leb, lt-ltb}
+use Rattle.std.proofs.Common.{◌≡◌, ℕ, ℤ, suc, ◌+◌, ◌^◌, ◌<◌, ◌≤◌, nat_lt, Bool, false, ◌&&◌, List, [], ◌∷◌, length, map, Vec, BTreeMap, Box, Bor, Global, if◌then◌else◌, Option, Some, None, refl, sym, ap, ◌∙◌, arith, rules, le-leb, lt-ltb}
 use Rattle.std.proofs.lemmas.Bool.{and_parts, and_from}
 use Rattle.std.specs.Ordering.{nat_cmp}
 use Rattle.std.specs.Map.{lookup}
@@ -22,6 +22,7 @@ use Rattle.bcs_registry_formats.specs.declared.whole_number.WholeNumber.TheVaria
 use Rattle.bcs_value_tree.specs.Tree as tree
 use Rattle.bcs_value_tree.specs.Tree.{Tree, Trees, no_trees, tree, count, pair_count}
 use Rattle.bcs_value_tree.specs.View.{tree_of, items_trees, entries_pairs}
+use Rattle.bcs_value_tree.specs.declared.value.Value as value
 use Rattle.bcs_value_tree.specs.declared.value.Value.{Value, Items, Pairs, Variant, the_lemmas}
 use Rattle.bcs_value_laws.specs.Fits.{fits, all_fit}
 use Rattle.bcs_encode_laws.specs.Lengths.{length_limit}
@@ -31,6 +32,12 @@ use Rattle.bcs_encode_judging.proofs.Options.{then_some, then_is, then_none, if_
 
 tree_of_items : (vs : Vec Value Global) → tree_of (Items vs) ≡ tree.items (items_trees vs.items)
 tree_of_items vs = search (rules, the_lemmas)
+
+tree_of_unsigned : (n : ℕ) → tree_of (value.Unsigned n) ≡ tree.unsigned n
+tree_of_unsigned n = search (rules, the_lemmas)
+
+tree_of_signed : (z : ℤ) → tree_of (value.Signed z) ≡ tree.signed z
+tree_of_signed z = search (rules, the_lemmas)
 
 shape_of_tuple : (fs : Vec Format Global) → shape_of (Tuple fs) ≡ tuple (formats_shapes fs.items)
 shape_of_tuple fs = search (rules, format_lemmas)
@@ -63,6 +70,13 @@ fields_unlike r [] (f ∷ fs) d n h = refl
 fields_unlike r (v ∷ vs) [] d n h = refl
 fields_unlike r (v ∷ vs) (f ∷ fs) d n h =
     then_none (each_judged r (items_trees vs) (field_shapes (map field_of fs)) d) (judged r (tree_of v) (of (shape_of f.value)) d n) (λ m. fields_unlike r vs fs d m (λ e. h (omega (arith, e))))
+
+-- what a function of trees answers at a number's value
+pub at_unsigned : {A : Type 0} (walk : Tree → A) (v : Value) (n : ℕ) → v ≡ value.Unsigned n → walk (tree.unsigned n) ≡ walk (tree_of v)
+at_unsigned walk v n e = rw (e, tree_of_unsigned n) refl
+
+pub at_signed : {A : Type 0} (walk : Tree → A) (v : Value) (z : ℤ) → v ≡ value.Signed z → walk (tree.signed z) ≡ walk (tree_of v)
+at_signed walk v z e = rw (e, tree_of_signed z) refl
 
 -- what a function of trees and contents answers at the parts of a value, as slices, is what it answers at the value
 pub by_list : {A : Type 0} (walk : Tree → Content → A) (v : Value) (f : Format) (vs : Vec Value Global) (element : Box Format Global) (us : List Value) (g : Format)

@@ -8,10 +8,9 @@ ghost use Rattle.bcs_value_tree.specs.Tree.{items as items_tree, named as named_
 ghost use Rattle.bcs_value_tree.specs.View.{entries_pairs, items_trees, tree_of};
 ghost use Rattle.bcs_encode_judging.specs.Judging as spec;
 
-use crate::leaves::{judge_bytes, judge_leaf, judge_text, take};
+use crate::leaves::{judge_bytes, judge_signed, judge_text, judge_unsigned, take};
 use crate::number_rows::judge_numbers;
 use bcs_encode_parts::pushing::LENGTH_LIMIT;
-use bcs_num::Width;
 use bcs_registry::{Container, Format, Named, Registry, VariantFormat};
 use bcs_registry_formats::WholeNumber;
 use bcs_value::Value;
@@ -30,34 +29,8 @@ pub fn judge_value(
     match (value, format) {
         (Value::Unit, Format::Unit) => take(1, nodes),
         (Value::Bool(_), Format::Bool) => take(1, nodes),
-        (Value::Unsigned(number), Format::U8) => judge_leaf(
-            Width::W1.holds_unsigned(*number),
-            nodes,
-        ),
-        (Value::Unsigned(number), Format::U16) => judge_leaf(
-            Width::W2.holds_unsigned(*number),
-            nodes,
-        ),
-        (Value::Unsigned(number), Format::U32) => judge_leaf(
-            Width::W4.holds_unsigned(*number),
-            nodes,
-        ),
-        (Value::Unsigned(number), Format::U64) => judge_leaf(
-            Width::W8.holds_unsigned(*number),
-            nodes,
-        ),
-        (Value::Unsigned(number), Format::U128) => judge_leaf(
-            Width::W16.holds_unsigned(*number),
-            nodes,
-        ),
-        (Value::Signed(number), Format::I8) => judge_leaf(Width::W1.holds_signed(*number), nodes),
-        (Value::Signed(number), Format::I16) => judge_leaf(Width::W2.holds_signed(*number), nodes),
-        (Value::Signed(number), Format::I32) => judge_leaf(Width::W4.holds_signed(*number), nodes),
-        (Value::Signed(number), Format::I64) => judge_leaf(Width::W8.holds_signed(*number), nodes),
-        (Value::Signed(number), Format::I128) => judge_leaf(
-            Width::W16.holds_signed(*number),
-            nodes,
-        ),
+        (Value::Unsigned(number), _) => judge_unsigned(number, format, nodes),
+        (Value::Signed(number), _) => judge_signed(number, format, nodes),
         (Value::Text(text), Format::Str) => judge_text(text.as_str(), nodes),
         (Value::Bytes(bytes), Format::Bytes) => judge_bytes(bytes, nodes),
         (Value::Absent, Format::Opt(_)) => take(1, nodes),
@@ -209,9 +182,40 @@ fn judge_all(
     if let Some(format) = WholeNumber::of(element) {
         return judge_numbers(format, items, nodes);
     }
+    if let Format::TypeName(name) = element {
+        return judge_all_named(items, name.as_str(), registry, depth, nodes);
+    }
     let mut left = nodes;
     for item in items {
         left = judge_value(item, element, registry, depth, left)?;
+    }
+    Some(left)
+}
+
+/// Judges values of one container, which is looked up once.
+#[cycle(judging)]
+fn judge_all_named(
+    items: &[Value],
+    name: &str,
+    registry: &Registry,
+    depth: u64,
+    nodes: u64,
+) -> Option<u64>
+    ensures { result ≡ spec.all_judged registry.now (items_trees items.now) (name_shape name.now) depth nodes }
+{
+    let found = registry.container(name);
+    let mut left = nodes;
+    for item in items {
+        left = match (item, found) {
+            (Value::Named(inner), Some(container)) => judge_content(
+                inner,
+                container,
+                registry,
+                take(1, depth)?,
+                take(1, left)?,
+            )?,
+            _ => return None,
+        };
     }
     Some(left)
 }

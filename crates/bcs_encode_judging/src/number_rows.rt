@@ -7,6 +7,7 @@ ghost use Rattle.bcs_value_tree.specs.View.{items_trees, tree_of};
 ghost use Rattle.bcs_encode_judging.specs.Judging.{less};
 
 use crate::leaves::take;
+use bcs_num::Width;
 use bcs_registry_formats::WholeNumber;
 use bcs_value_tree::Value;
 
@@ -23,6 +24,25 @@ pub fn judge_numbers(format: WholeNumber, items: &[Value], nodes: u64) -> Option
 }
 
 fn are_numbers(format: WholeNumber, items: &[Value]) -> bool
+    ensures { result ≡ all_fit false [] (items_trees items.now) (whole_shape format) }
+{
+    // Each format is named once more, so that each has a loop of its own, compiled for its width.
+    match format {
+        WholeNumber::Unsigned(Width::W1) => is_row(WholeNumber::Unsigned(Width::W1), items),
+        WholeNumber::Unsigned(Width::W2) => is_row(WholeNumber::Unsigned(Width::W2), items),
+        WholeNumber::Unsigned(Width::W4) => is_row(WholeNumber::Unsigned(Width::W4), items),
+        WholeNumber::Unsigned(Width::W8) => is_row(WholeNumber::Unsigned(Width::W8), items),
+        WholeNumber::Unsigned(Width::W16) => is_row(WholeNumber::Unsigned(Width::W16), items),
+        WholeNumber::Signed(Width::W1) => is_row(WholeNumber::Signed(Width::W1), items),
+        WholeNumber::Signed(Width::W2) => is_row(WholeNumber::Signed(Width::W2), items),
+        WholeNumber::Signed(Width::W4) => is_row(WholeNumber::Signed(Width::W4), items),
+        WholeNumber::Signed(Width::W8) => is_row(WholeNumber::Signed(Width::W8), items),
+        WholeNumber::Signed(Width::W16) => is_row(WholeNumber::Signed(Width::W16), items),
+    }
+}
+
+#[inline(always)]
+fn is_row(format: WholeNumber, items: &[Value]) -> bool
     ensures { result ≡ all_fit false [] (items_trees items.now) (whole_shape format) }
 {
     for item in items {

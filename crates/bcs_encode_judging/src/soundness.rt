@@ -9,7 +9,7 @@ use bcs_registry::{Format, Registry};
 use bcs_value::{Limits, Value};
 
 /// Whether the value has the format, and its depth, its nodes and its lengths are within the limits. It goes over the
-/// value once, looks up each container once for each value in it, and takes no memory.
+/// value once, looks up a container once for each value in it, or once for a list of such values, and takes no memory.
 pub fn is_sound(value: &Value, format: &Format, registry: &Registry, limits: &Limits) -> bool
     ensures { IsTrue result ↔ IsSoundBesidesKeys registry.now limits.now (shape_of format.now) (tree_of value.now) }
 {

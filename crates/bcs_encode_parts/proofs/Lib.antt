@@ -1,5 +1,6 @@
 pub mod EntryArranging
 pub mod NumberViews
+pub mod NumberForms
 pub mod WritingViews
 pub mod WalkViews
 pub mod WritingLaws

@@ -1,5 +1,5 @@
 -- The entries of a key's map that are laid into one buffer, beside the forms of its pairs, are those of the map.
-use Rattle.std.proofs.Common.{◌≡◌, ℕ, ◌+◌, List, [], ◌∷◌, ◌++◌, length, map, take, refl, sym, ap, ap₂, subst, ◌∙◌, append_assoc, append-nil, length-append, arith, Result, Ok, Err}
+use Rattle.std.proofs.Common.{◌≡◌, ℕ, ◌+◌, List, [], ◌∷◌, ◌++◌, length, map, refl, sym, ap, ap₂, subst, ◌∙◌, append_assoc, append-nil, length-append, arith, Result, Ok, Err}
 use Rattle.std.specs.List.{flat_map, zip}
 use Rattle.bcs_registry_formats.specs.Shape as shape
 use Rattle.bcs_registry_formats.specs.Shape.{Shape}

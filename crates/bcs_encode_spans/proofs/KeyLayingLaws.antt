@@ -8,7 +8,6 @@ use Rattle.bcs_registry_formats.specs.Shape.{Shape}
 use Rattle.bcs_registry_formats.specs.Container.{Entries, of}
 use Rattle.bcs_value_tree.specs.Tree as tree
 use Rattle.bcs_value_tree.specs.Tree.{Tree, Pairs, no_pairs, pair}
-use Rattle.bcs_value_tree.specs.View.{pairs_of}
 use Rattle.bcs_encode_laws.specs.Entries.{Entry, entry_bytes}
 use Rattle.bcs_encode_laws.specs.declared.fault.EncodeFault.{EncodeFault}
 use Rattle.bcs_encode_parts.specs.Writing.{Verdict, chain, written}

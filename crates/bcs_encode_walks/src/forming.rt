@@ -12,9 +12,11 @@ ghost use Rattle.bcs_encode_parts.specs.Writing.{Tells, chain};
 
 use crate::key_forming::form_key;
 use bcs_encode_laws::EncodeFault;
+use bcs_encode_parts::number_rows::form_numbers;
 use bcs_encode_spans::formed_pairs::{lay_key, put_in_order};
 use bcs_encode_spans::workspace::Workspace;
 use bcs_registry::{Container, Format, Named, Registry, VariantFormat};
+use bcs_registry_formats::WholeNumber;
 use bcs_value::Value;
 use bcs_value_tree::slot::{keep, keep_entry, put_items, wrap_named, wrap_present, wrap_variant};
 use std::alloc::Global;
@@ -220,6 +222,9 @@ fn form_all(
     ensures bytes { OnOk result (work.new.out.items ≡ work.old.out.items) }
     ensures spans { OnOk result (work.new.spans.items ≡ work.old.spans.items) }
 {
+    if let Some(format) = WholeNumber::of(element) {
+        return form_numbers(format, items, alloc, slot);
+    }
     let mut forms = Vec::with_capacity(alloc, items.len())?;
     for item in items {
         form(item, element, registry, alloc, work, slot)?;

@@ -12,9 +12,11 @@ ghost use Rattle.bcs_encode_parts.specs.Writing.{Tells};
 
 use crate::by_entries::push_value;
 use bcs_encode_laws::EncodeFault;
+use bcs_encode_parts::number_rows::form_key_numbers;
 use bcs_encode_parts::pushing::{push_byte, push_length, push_number};
 use bcs_encode_spans::formed_pairs::{arrange_pairs, keep_span};
 use bcs_registry::{Container, Format, Named, Registry, VariantFormat};
+use bcs_registry_formats::WholeNumber;
 use bcs_value::Value;
 use bcs_value_tree::slot::{keep, keep_entry, put_items, wrap_named, wrap_present, wrap_variant};
 use std::alloc::Global;
@@ -226,6 +228,9 @@ fn form_all(
     ensures formed { OnOk result (tree_of slot.new
         ≡ items_tree (trees_of (items_formed registry.now (items_trees items.now) (shape_of element.now) []))) }
 {
+    if let Some(format) = WholeNumber::of(element) {
+        return form_key_numbers(format, items, alloc, out, slot);
+    }
     let mut forms = Vec::with_capacity(alloc, items.len())?;
     for item in items {
         form_key(item, element, registry, alloc, out, slot)?;

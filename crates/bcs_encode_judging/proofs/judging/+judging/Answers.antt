@@ -5,7 +5,7 @@ use Rattle.bcs_value_tree.specs.View.{items_trees, tree_of}
 use Rattle.bcs_value_tree.specs.declared.value.Value.{Value}
 use Rattle.bcs_encode_judging.specs.Judging.{less, judged, each_judged}
 use Rattle.bcs_encode_judging.proofs.Options.{then_none}
-use Rattle.bcs_encode_judging.proofs.JudgingViews.{by_array, by_list, by_map, by_struct, by_struct_payload, by_tuple, by_tuple_payload, by_tuple_struct, each_unlike, fields_unlike, list_judged, map_judged, variant_judged, no_variant_judged, row_judged}
+use Rattle.bcs_encode_judging.proofs.JudgingViews.{at_signed, at_unsigned, by_array, by_list, by_map, by_struct, by_struct_payload, by_tuple, by_tuple_payload, by_tuple_struct, each_unlike, fields_unlike, list_judged, map_judged, variant_judged, no_variant_judged, row_judged}
 use Rattle.bcs_encode_judging.proofs.judging.+judging.Goals as goal
 
 pub judge_all-returns-in-Some : goal.judge_all-returns-in-Some
@@ -85,3 +85,13 @@ pub judge_value-returns-in-Pairs-Map : goal.judge_value-returns-in-Pairs-Map
 judge_value-returns-in-Pairs-Map t c =
     let m = c.in-Pairs-Map in
     c.judge_map.ensures ∙ by_map (λ u f. judged c.args.registry.now u f c.args.depth c.args.nodes) _ _ m.pairs m.key m.value _ _ _ m.is-0 m.is-1 c.deref-in-Pairs-Map.ensures.value c.deref-in-Pairs-Map-2.ensures c.deref-in-Pairs-Map-3.ensures
+
+pub judge_value-returns-in-Unsigned-default : goal.judge_value-returns-in-Unsigned-default
+judge_value-returns-in-Unsigned-default t c =
+    c.judge_unsigned.ensures c.args.registry.now c.args.depth
+    ∙ at_unsigned (λ u. judged c.args.registry.now u (of (shape_of c.args.format.now)) c.args.depth c.args.nodes) c.args.value.now _ c.in-Unsigned-default.is-0
+
+pub judge_value-returns-in-Signed-default : goal.judge_value-returns-in-Signed-default
+judge_value-returns-in-Signed-default t c =
+    c.judge_signed.ensures c.args.registry.now c.args.depth
+    ∙ at_signed (λ u. judged c.args.registry.now u (of (shape_of c.args.format.now)) c.args.depth c.args.nodes) c.args.value.now _ c.in-Signed-default.is-0

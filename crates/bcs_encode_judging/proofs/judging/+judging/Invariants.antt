@@ -1,6 +1,6 @@
 use Rattle.std.proofs.Common.{◌≡◌, map, drop}
 use Rattle.bcs_registry_formats.specs.Container.{of, field_shapes}
-use Rattle.bcs_registry_formats.specs.Shape.{map as map_shape, tuple}
+use Rattle.bcs_registry_formats.specs.Shape.{map as map_shape, name as name_shape, tuple}
 use Rattle.bcs_registry_formats.specs.View.{field_of, formats_shapes, shape_of}
 use Rattle.bcs_value_tree.specs.Tree.{items as items_tree, pairs as pairs_tree}
 use Rattle.bcs_value_tree.specs.View.{entries_pairs, items_trees}
@@ -11,6 +11,11 @@ abbrev pub invariant-judge_all-loop-item : goal.invariant-judge_all-loop-item
 invariant-judge_all-loop-item l =
     all_judged l.registry (items_trees l.items) (shape_of l.element) l.depth l.nodes
     ≡ all_judged l.registry (items_trees (drop l.item-index l.items)) (shape_of l.element) l.depth l.left
+
+abbrev pub invariant-judge_all_named-loop-item : goal.invariant-judge_all_named-loop-item
+invariant-judge_all_named-loop-item l =
+    all_judged l.registry (items_trees l.items) (name_shape l.name) l.depth l.nodes
+    ≡ all_judged l.registry (items_trees (drop l.item-index l.items)) (name_shape l.name) l.depth l.left
 
 abbrev pub invariant-judge_each-loop-i : goal.invariant-judge_each-loop-i
 invariant-judge_each-loop-i l =

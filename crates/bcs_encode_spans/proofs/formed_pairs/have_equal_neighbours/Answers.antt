@@ -1,4 +1,3 @@
-use Rattle.std.proofs.lemmas.Grind.{common_steps}
 use Rattle.std.proofs.Common.{◌-◌, ◌∙◌, arith, map, drop, sym, length-drop}
 use Rattle.std.proofs.lemmas.List.{length-map}
 use Rattle.bcs_encode_parts.proofs.EntryArranging.{few_no_twins}

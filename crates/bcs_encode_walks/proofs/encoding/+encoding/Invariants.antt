@@ -1,5 +1,6 @@
 use Rattle.std.proofs.Common.{◌≡◌, map, drop}
 use Rattle.bcs_registry_formats.specs.Container.{field_shapes}
+use Rattle.bcs_registry_formats.specs.Shape.{name as name_shape}
 use Rattle.bcs_registry_formats.specs.View.{field_of, formats_shapes, shape_of}
 use Rattle.bcs_value_tree.specs.View.{entries_pairs, items_trees}
 use Rattle.bcs_encode_spans.specs.Laying.{entries_laid}
@@ -10,6 +11,13 @@ abbrev pub invariant-push_all-loop-item : goal.invariant-push_all-loop-item
 invariant-push_all-loop-item l = record {
   tells : items_written l.registry (items_trees l.items) (shape_of l.element) l.initial.work.out.items
       ≡ items_written l.registry (items_trees (drop l.item-index l.items)) (shape_of l.element) l.work.out.items;
+  kept : l.work.spans.items ≡ l.initial.work.spans.items;
+}
+
+abbrev pub invariant-push_all_named-loop-item : goal.invariant-push_all_named-loop-item
+invariant-push_all_named-loop-item l = record {
+  tells : items_written l.registry (items_trees l.items) (name_shape l.name) l.initial.work.out.items
+      ≡ items_written l.registry (items_trees (drop l.item-index l.items)) (name_shape l.name) l.work.out.items;
   kept : l.work.spans.items ≡ l.initial.work.spans.items;
 }
 

@@ -3,9 +3,10 @@ use Rattle.std.proofs.lemmas.Grind.{common_steps}
 use Rattle.std.proofs.lemmas.List.{length-map}
 use Rattle.std.proofs.lemmas.Result.{err_from_is_err_and, on_ok_weaker}
 use Rattle.bcs_registry_formats.specs.View.{shape_of}
-use Rattle.bcs_value_tree.specs.View.{entries_pairs}
+use Rattle.bcs_value_tree.specs.View.{entries_pairs, items_trees}
 use Rattle.bcs_encode_parts.specs.Forming.{canonicalised, map_ordered}
 use Rattle.bcs_encode_parts.specs.Writing.{Tells}
+use Rattle.bcs_encode_parts.proofs.NumberForms.{row_of_numbers}
 use Rattle.bcs_encode_parts.proofs.WalkViews.{at_map}
 use Rattle.bcs_encode_parts.proofs.WritingViews.{tells_along}
 use Rattle.bcs_encode_parts.proofs.CanonicalViews.{tuple_canonicalised, fields_canonicalised, variant_canonicalised, no_variant_canonicalised}
@@ -112,3 +113,7 @@ form_map-returns-clause-spans t c =
     c.args.work.now.spans.items l.work.spans.items (map pair_trees l.forms.items) laid in
     let first : c.len-first.result ≡ length c.args.work.now.spans.items = search rules in
     on_ok_weaker c.put_in_order.result (λ h. h ∙ ap (λ (n : ℕ). take n l.work.spans.items) first ∙ is.spans) c.put_in_order.ensures.spans
+
+pub form_all-returns-in-Some-clause-tells : goal.form_all-returns-in-Some-clause-tells
+form_all-returns-in-Some-clause-tells t c =
+    tells_along c.form_numbers.result _ _ _ (row_of_numbers c.args.registry.now [] c.in-Some.format (shape_of c.args.element.now) (items_trees c.args.items.now) (search rules)) c.form_numbers.ensures

@@ -1,14 +1,17 @@
 use Rattle.std.proofs.Common.{◌≡◌, [], ◌∙◌, sym, ap, map, length, Ok, arith, rules}
 use Rattle.std.proofs.lemmas.Grind.{common_steps}
 use Rattle.std.proofs.lemmas.Result.{err_from_is_err_and, on_ok_weaker}
+use Rattle.bcs_registry_formats.specs.Shape.{Shape}
+use Rattle.bcs_registry_formats.specs.Whole.{whole_shape}
 use Rattle.bcs_registry_formats.specs.View.{shape_of, payload_of}
 use Rattle.bcs_registry_formats.specs.Container.{of, payload_shape}
 use Rattle.bcs_value_tree.specs.Tree as tree
-use Rattle.bcs_value_tree.specs.View.{entries_pairs, tree_of}
-use Rattle.bcs_encode_parts.specs.Forming.{formed, pairs_formed}
+use Rattle.bcs_value_tree.specs.View.{entries_pairs, items_trees, tree_of, trees_of}
+use Rattle.bcs_encode_parts.specs.Forming.{formed, items_formed, pairs_formed}
 use Rattle.bcs_encode_parts.specs.Writing.{Tells, written}
+use Rattle.bcs_encode_parts.proofs.NumberViews.{numbers_anywhere}
 use Rattle.bcs_encode_parts.proofs.WalkViews.{at_enum, at_map, choice-found, count_pairs}
-use Rattle.bcs_encode_parts.proofs.WritingViews.{tells_along, array_refused, array_written, list_written, pairs_written, tuple_written, fields_written, variant_written, no_variant_written, count_formats, count_fields}
+use Rattle.bcs_encode_parts.proofs.WritingViews.{tells_along, array_refused, array_written, list_written, pairs_written, tuple_written, fields_written, variant_written, no_variant_written}
 use Rattle.bcs_encode_spans.specs.Laying.{entries_laid}
 use Rattle.bcs_encode_spans.specs.KeyLaying.{pair_trees}
 use Rattle.bcs_encode_spans.proofs.LayingLaws.{laid_map, laid_whole, unlaid_map}
@@ -161,3 +164,14 @@ form_map-returns-clause-formed t c =
     let forms : pairs_formed c.args.registry.now (entries_pairs c.args.pairs.now) (shape_of c.args.key.now) (shape_of c.args.value.now) [] ≡ map pair_trees l.forms.items = grind (arith, common_steps) in
     let are = forms_were_laid c.args.registry.now (shape_of c.args.key.now) (shape_of c.args.value.now) (entries_pairs c.args.pairs.now) c.push_length.new.out.items l.out.items l.spans.items (map pair_trees l.forms.items) laid forms in
     on_ok_weaker c.arrange_pairs.result (λ h. h ∙ are.form) c.arrange_pairs.ensures.formed
+
+pub form_all-returns-in-Some-clause-tells : goal.form_all-returns-in-Some-clause-tells
+form_all-returns-in-Some-clause-tells t c =
+    tells_along c.form_key_numbers.result _ _ _ (numbers_anywhere c.args.registry.now [] c.in-Some.format (shape_of c.args.element.now) (items_trees c.args.items.now) c.args.out.now.items (search rules)) c.form_key_numbers.ensures.tells
+
+pub form_all-returns-in-Some-clause-formed : goal.form_all-returns-in-Some-clause-formed
+form_all-returns-in-Some-clause-formed t c =
+    let is : shape_of c.args.element.now ≡ whole_shape c.in-Some.format = search rules in
+    on_ok_weaker c.form_key_numbers.result
+    (λ h. h c.args.registry.now ∙ ap (λ (s : Shape). tree.items (trees_of (items_formed c.args.registry.now (items_trees c.args.items.now) s []))) (sym is))
+    c.form_key_numbers.ensures.formed

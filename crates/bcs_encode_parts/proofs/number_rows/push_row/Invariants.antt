@@ -2,7 +2,7 @@ use Rattle.std.proofs.Common.{◌≡◌, ◌+◌, ◌-◌, ◌*◌, ◌≤◌, [
 use Rattle.bcs_value_tree.specs.View.{items_trees}
 use Rattle.bcs_registry_formats.specs.Whole.{whole_len, whole_shape}
 use Rattle.bcs_encode_parts.specs.Writing.{items_written}
-use Rattle.bcs_encode_parts.proofs.number_rows.push_numbers.Given as goal
+use Rattle.bcs_encode_parts.proofs.number_rows.push_row.Given as goal
 
 abbrev pub invariant-loop-item : goal.invariant-loop-item
 invariant-loop-item l = record {

@@ -2,7 +2,7 @@ use Rattle.std.proofs.Common.{◌≡◌, [], drop, false}
 use Rattle.bcs_registry_formats.specs.Whole.{whole_shape}
 use Rattle.bcs_value_laws.specs.Fits.{all_fit}
 use Rattle.bcs_value_tree.specs.View.{items_trees}
-use Rattle.bcs_encode_judging.proofs.number_rows.are_numbers.Given as goal
+use Rattle.bcs_encode_judging.proofs.number_rows.is_row.Given as goal
 
 abbrev pub invariant-loop-item : goal.invariant-loop-item
 invariant-loop-item l =
