@@ -8,6 +8,7 @@ mod encoders;
 mod failing;
 mod falling;
 mod jobs;
+mod parts;
 mod quiet;
 mod refused_bytes;
 mod refused_texts;

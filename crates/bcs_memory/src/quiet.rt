@@ -2,6 +2,7 @@
 
 use crate::accepted::{Accepted, value_of};
 use crate::asked::Asked;
+use crate::parts;
 use crate::row::Row;
 use crate::tally::Tally;
 use crate::told::{Told, bytes_of};
@@ -18,6 +19,7 @@ pub(crate) fn ask(alloc: Global, row: &Row, is_asked: bool, tally: &mut Tally) -
         "scalar" => ask_of_scalar(alloc, row, is_asked, tally),
         "bytes" | "early" => ask_of_stop(alloc, row, is_asked, tally),
         "other" => ask_of_fault(alloc, row, is_asked, tally),
+        "part" => parts::ask_quietly(alloc, row, is_asked, tally),
         _ => Ok(()),
     }
 }

@@ -3,7 +3,9 @@
 use crate::row::Row;
 use crate::tally::Tally;
 use crate::told::Told;
-use crate::{accepted, failing, quiet, refused_bytes, refused_texts, refused_values, registries};
+use crate::{
+    accepted, failing, parts, quiet, refused_bytes, refused_texts, refused_values, registries,
+};
 use std::alloc::Global;
 
 /// Does a part at a row. A row that can't be set up is noted as a call of its own.
@@ -26,6 +28,7 @@ fn answers(alloc: Global, row: &Row, tally: &mut Tally) -> Result<(), Told> {
         "value" | "scalar" => accepted::ask(alloc, row, tally),
         "text" => refused_texts::ask(alloc, row, tally),
         "bytes" | "early" | "whole" | "shown" => refused_bytes::ask(alloc, row, tally),
+        "part" | "path" => parts::ask(alloc, row, tally),
         "other" | "twice" => refused_values::ask(alloc, row, tally),
         "registry" | "format" => registries::ask_refused(alloc, row, tally),
         "check" => registries::ask_printed(alloc, row, tally),
