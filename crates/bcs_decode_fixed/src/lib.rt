@@ -4,4 +4,5 @@
 pub mod fixed_row;
 pub mod fixed_size;
 mod measuring;
+pub mod named_container;
 pub mod whole_row;

@@ -1,10 +1,12 @@
-//! Going past values of a format, front to back. `value` and `next_key` are part of their callers, and nothing else is, so
-//! that each level of a format takes one small frame of the stack.
-ghost use Rattle.std.specs.Prelude.{◌≡◌, ℕ, ◌+◌, ◌<◌, ◌≤◌, ◌^◌, None, length, map};
-ghost use Rattle.bcs_registry_formats.specs.Container.{field_shapes, payload_shape};
+//! Going past values of a format, front to back. `value`, `content` and `next_key` are part of their callers, and nothing
+//! else is, so that each level of a format takes one small frame of the stack.
+ghost use Rattle.std.specs.Prelude.{◌≡◌, ℕ, ◌+◌, ◌<◌, ◌≤◌, ◌^◌, List, None, length, map};
+ghost use Rattle.bcs_registry_formats.specs.Container as spec;
+ghost use Rattle.bcs_registry_formats.specs.Container.{content_at, field_shapes, payload_shape};
 ghost use Rattle.bcs_registry_formats.specs.Shape.{name as name_shape, tuple as tuple_shape};
-ghost use Rattle.bcs_registry_formats.specs.View.{shape_of, formats_shapes, field_of, payload_of};
-ghost use Rattle.bcs_decode_laws.specs.Reading.{items_here, key_here, pairs_here, skipping};
+ghost use Rattle.bcs_registry_formats.specs.View.{shape_of, formats_shapes, field_of, payload_of, container_of};
+ghost use Rattle.bcs_registry_formats.specs.WellFormed.{IsWellFormed};
+ghost use Rattle.bcs_decode_laws.specs.Reading.{content_here, items_here, key_here, named_here, pairs_here, skipping};
 ghost use Rattle.bcs_decode_cursor.specs.Passing.{Passes, Onward, key_bytes, skip};
 
 use bcs_decode_cursor::cursor::{Cursor, node};
@@ -13,6 +15,7 @@ use bcs_decode_cursor::shallow::{
     whole,
 };
 use bcs_decode_fixed::fixed_row::fixed_row;
+use bcs_decode_fixed::named_container::named_container;
 use bcs_decode_fixed::whole_row::{whole_row, whole_width};
 use bcs_decode_stops::{Reason, Stop};
 use bcs_registry::{Container, Format, Named, Registry, VariantFormat};
@@ -65,7 +68,8 @@ pub fn value<'a>(
     }
 }
 
-/// So many values of one format. Those that all have one size are gone past in one step.
+/// So many values of one format. Those that all have one size are gone past in one step, and a container is looked up
+/// once.
 #[cycle(scanning)]
 #[inline(never)]
 pub fn elements<'a>(
@@ -83,6 +87,12 @@ pub fn elements<'a>(
         return whole_row(cursor, width, count);
     }
     let gone = fixed_row(registry, element, count, depth, cursor);
+    if gone == count {
+        return Ok(());
+    }
+    if let Some(container) = named_container(registry, element) {
+        return containers(registry, container, count - gone, depth, cursor);
+    }
     for _ in gone..count {
         value(registry, element, depth, cursor)?;
     }
@@ -196,15 +206,57 @@ fn named<'a>(
             place: cursor.place,
         });
     };
+    content(registry, container, depth - 1, cursor)
+}
+
+/// So many values of a container of the registry, whichever its name is.
+#[cycle(scanning)]
+#[inline(never)]
+fn containers<'a>(
+    registry: &Registry,
+    container: &Container,
+    count: u64,
+    depth: u32,
+    cursor: &mut Cursor<'a>,
+) -> Result<(), Stop>
+    requires room { cursor.old.place + length cursor.old.rest.now < 2 ^ 64 }
+    requires found { (name : List ℕ) × (content_at name registry.now ≡ spec.content (container_of container.now)) }
+    requires well_formed { IsWellFormed registry.now }
+    ensures passes { (name : List ℕ) → content_at name registry.now ≡ spec.content (container_of container.now)
+        → Passes (λ x. x) result (items_here skipping (skip registry.now depth (name_shape name)) count) cursor.old cursor.new }
+    ensures onward { Onward cursor.old cursor.new }
+{
+    for _ in 0..count {
+        enter(cursor, depth)?;
+        content(registry, container, depth - 1, cursor)?;
+    }
+    Ok(())
+}
+
+/// What stands in a container of the registry.
+#[cycle(scanning)]
+#[inline(always)]
+fn content<'a>(
+    registry: &Registry,
+    container: &Container,
+    depth: u32,
+    cursor: &mut Cursor<'a>,
+) -> Result<(), Stop>
+    requires room { cursor.old.place + length cursor.old.rest.now < 2 ^ 64 }
+    requires found { (name : List ℕ) × (content_at name registry.now ≡ spec.content (container_of container.now)) }
+    requires well_formed { IsWellFormed registry.now }
+    ensures passes { Passes (λ x. x) result (content_here skipping (named_here skipping registry.now depth) (spec.content (container_of container.now))) cursor.old cursor.new }
+    ensures onward { Onward cursor.old cursor.new }
+{
     match container {
         Container::UnitStruct => node(cursor),
-        Container::NewTypeStruct(format) => value(registry, format, depth - 1, cursor),
-        Container::TupleStruct(formats) => tuple(registry, formats, depth - 1, cursor),
-        Container::Struct(fields) => structure(registry, fields, depth - 1, cursor),
+        Container::NewTypeStruct(format) => value(registry, format, depth, cursor),
+        Container::TupleStruct(formats) => tuple(registry, formats, depth, cursor),
+        Container::Struct(fields) => structure(registry, fields, depth, cursor),
         Container::Enum(variants) => {
             let (start, number) = variant_number(cursor)?;
             match variants.get(&number) {
-                Some(variant) => payload(registry, &variant.value, depth - 1, cursor),
+                Some(variant) => payload(registry, &variant.value, depth, cursor),
                 None => Err(Stop {
                     reason: Reason::UnknownVariant,
                     place: start,

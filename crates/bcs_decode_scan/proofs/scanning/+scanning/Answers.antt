@@ -1,10 +1,11 @@
-use Rattle.std.proofs.Common.{◌≡◌, ◌∙◌, ◌-◌, ◌≤◌, suc, [], None, drop, map, ap, sym, arith}
+use Rattle.std.proofs.Common.{◌≡◌, ℕ, List, ◌∙◌, ◌-◌, ◌≤◌, suc, [], None, drop, map, ap, sym, arith}
 use Rattle.std.proofs.lemmas.List.{drop_all}
 use Rattle.std.proofs.lemmas.Result.{err_from_is_err_and}
-use Rattle.bcs_registry_formats.specs.Shape.{Shape, tuple as tuple_shape}
-use Rattle.bcs_registry_formats.specs.Container.{Content, of, one_of, nothing, content, field_shapes, payload_shape, content_at, choice_at}
+use Rattle.bcs_registry_formats.specs.Shape.{Shape, name as name_shape, tuple as tuple_shape}
+use Rattle.bcs_registry_formats.specs.Container.{Entries, Content, of, one_of, nothing, content, field_shapes, payload_shape, content_at, choice_at}
 use Rattle.bcs_registry_formats.specs.WellFormed.{levels, shapes_levels}
 use Rattle.bcs_registry_formats.specs.View.{shape_of, formats_shapes, field_of, payload_of, choice_of, container_of}
+use Rattle.bcs_registry_formats.specs.declared.container.Container.{Container}
 use Rattle.bcs_decode_laws.specs.Reading.{items_here, pairs_here, skipping}
 use Rattle.bcs_decode_cursor.specs.Passing.{skip, node_here, truth_here, whole_here, text_past, bytes_past, unsupported_here}
 use Rattle.bcs_decode_cursor.proofs.Passings.{past_Unit, past_Bool, past_Str, past_Bytes, past_float, past_8, past_16, past_32, past_64, past_128, unit_is, passes_from, passes_here}
@@ -31,6 +32,20 @@ elements-loop-preserved t c = record {
 pub elements-returns-clause-passes : goal.elements-returns-clause-passes
 elements-returns-clause-passes t c =
     c.loop.invariant.whole ∙ items_end (skip c.args.registry.now c.args.depth (shape_of c.args.element.now)) c.args.count c.loop.counter _ _ _ c.loop-test.false
+
+pub elements-returns-then-gone-count-clause-passes : goal.elements-returns-then-gone-count-clause-passes
+elements-returns-then-gone-count-clause-passes t c =
+    c.fixed_row-gone.ensures.whole ∙ items_end (skip c.args.registry.now c.args.depth (shape_of c.args.element.now)) c.args.count c.fixed_row-gone.result _ _ _ (omega (arith, c.if-gone-count.true))
+
+pub elements-returns-in-Some-named_container-clause-passes : goal.elements-returns-in-Some-named_container-clause-passes
+elements-returns-in-Some-named_container-clause-passes t c =
+    let r = c.args.registry.now in
+    let at = c.fixed_row-gone.new.cursor in
+    let n = c.args.count - c.fixed_row-gone.result in
+    let found = c.in-Some-named_container.ensures.found in
+    passes_from (λ x. x) c.containers.result _ (items_here skipping (skip r c.args.depth (name_shape found.0)) n) c.args.cursor.now at c.containers.new.cursor
+    (c.fixed_row-gone.ensures.whole ∙ ap (λ s. items_here skipping (skip r c.args.depth s) n at.place at.nodes at.rest.now) found.1)
+    (c.containers.ensures.passes found.0 found.2)
 
 -- ---- entries
 
@@ -71,118 +86,173 @@ named-returns-in_default-clause-passes t c =
     ∙ ap (λ (k : Content). content_past r (c.args.depth - 1) k c.enter.new.cursor.place c.enter.new.cursor.nodes c.enter.new.cursor.rest.now) none
     ∙ content_nothing r (c.args.depth - 1) c.enter.new.cursor.place c.enter.new.cursor.nodes c.enter.new.cursor.rest.now
 
-pub named-value-requires : goal.named-value-requires
-named-value-requires t c =
+pub named-content-requires : goal.named-content-requires
+named-content-requires t c = (
+  omega (arith, c.in_ok-enter.ensures.positive),
+  (omega (arith, c.in_ok-enter.ensures.onward.0), ((c.args.name.now, content_found c.args.registry.now c.args.name.now c.container.result c.in-Some.container c.container.ensures.found c.in-Some.is), c.container.ensures.well_formed)),
+)
+
+pub named-returns-clause-passes : goal.named-returns-clause-passes
+named-returns-clause-passes t c =
+    let r = c.args.registry.now in
+    let at = c.enter.new.cursor in
+    passes_from (λ x. x) c.content.result _ (content_past r (c.args.depth - 1) (content (container_of c.in-Some.container.now))) c.args.cursor.now at c.content.new.cursor
+    (named_past r c.args.name.now _ _ _ c.args.depth _ _ _ c.in-Some.container.now c.in_ok-enter.ensures.positive c.in_ok-enter.ensures.passes (content_found r c.args.name.now c.container.result c.in-Some.container c.container.ensures.found c.in-Some.is))
+    c.content.ensures.passes
+
+-- ---- containers in a row
+
+pub containers-returns-in_err-enter-clause-passes : goal.containers-returns-in_err-enter-clause-passes
+containers-returns-in_err-enter-clause-passes t c name is =
+    let p = err_from_is_err_and c.from_residual.result c.from_residual.ensures.1 in
+    let r = c.args.registry.now in
+    rw (p.1, p.2) (c.loop.invariant.whole name is ∙ items_stop (skip r c.args.depth (name_shape name)) c.args.count c.loop.counter _ _ _ _ c.loop-test.true
+    (named_stop r name _ _ _ c.args.depth _ c.in_err-enter.ensures.passes))
+
+pub containers-content-requires : goal.containers-content-requires
+containers-content-requires t c = (
+  omega (arith, c.in_ok-enter.ensures.positive),
+  (omega (arith, c.loop.invariant.room, c.in_ok-enter.ensures.onward.0), (c.requires.found, c.requires.well_formed)),
+)
+
+pub containers-returns-in_err-content-clause-passes : goal.containers-returns-in_err-content-clause-passes
+containers-returns-in_err-content-clause-passes t c name is =
+    let p = err_from_is_err_and c.from_residual-in_err-content.result c.from_residual-in_err-content.ensures.1 in
+    let r = c.args.registry.now in
+    rw (p.1, p.2) (c.loop.invariant.whole name is ∙ items_stop (skip r c.args.depth (name_shape name)) c.args.count c.loop.counter _ _ _ _ c.loop-test.true
+    (named_past r name _ _ _ c.args.depth _ _ _ c.args.container.now c.in_ok-enter.ensures.positive c.in_ok-enter.ensures.passes is ∙ c.in_err-content.ensures.passes))
+
+pub containers-loop-preserved : goal.containers-loop-preserved
+containers-loop-preserved t c =
+    let r = c.args.registry.now in
+    record {
+      room = omega (arith, c.loop.invariant.room, c.in_ok-enter.ensures.onward.0, c.in_ok-content.ensures.onward.0);
+      onward = (omega (arith, c.loop.invariant.onward.0, c.in_ok-enter.ensures.onward.0, c.in_ok-content.ensures.onward.0), omega (arith, c.loop.invariant.onward.1, c.in_ok-enter.ensures.onward.1, c.in_ok-content.ensures.onward.1));
+      whole = λ name is. c.loop.invariant.whole name is ∙ items_on (skip r c.args.depth (name_shape name)) c.args.count c.loop.counter _ _ _ _ _ _ c.loop-test.true
+          (named_past r name _ _ _ c.args.depth _ _ _ c.args.container.now c.in_ok-enter.ensures.positive c.in_ok-enter.ensures.passes is ∙ c.in_ok-content.ensures.passes);
+    }
+
+pub containers-returns-clause-passes : goal.containers-returns-clause-passes
+containers-returns-clause-passes t c name is =
+    c.loop.invariant.whole name is ∙ items_end (skip c.args.registry.now c.args.depth (name_shape name)) c.args.count c.loop.counter _ _ _ c.loop-test.false
+
+-- ---- what stands in containers
+
+content_as : (registry : Entries) (d p m : ℕ) (b : List ℕ) (k j : Container) → k ≡ j → content_past registry d (content (container_of k)) p m b ≡ content_past registry d (content (container_of j)) p m b
+content_as registry d p m b k j is = ap (λ (x : Container). content_past registry d (content (container_of x)) p m b) is
+
+pub content-value-requires : goal.content-value-requires
+content-value-requires t c =
     let r = c.args.registry.now in
     let s : Shape = shape_of c.in-NewTypeStruct.format in
-    let is : content_at c.args.name.now r ≡ of s = content_found r c.args.name.now c.container.result c.in-Some.container c.container.ensures.found c.in-Some.is ∙ ap (λ k. content (container_of k)) c.in-NewTypeStruct.is in
-    let low : levels s ≤ 33 = (content_at-inside r c.container.ensures.well_formed c.args.name.now s is).1 in
-    (omega (arith, low, c.in_ok-enter.ensures.positive), omega (arith, c.in_ok-enter.ensures.onward.0))
+    let is : content_at c.requires.found.0 r ≡ of s = c.requires.found.1 ∙ ap (λ k. content (container_of k)) c.in-NewTypeStruct.is in
+    let low : levels s ≤ 33 = (content_at-inside r c.requires.well_formed c.requires.found.0 s is).1 in
+    (omega (arith, low), c.requires.room)
 
-pub named-tuple-requires : goal.named-tuple-requires
-named-tuple-requires t c =
+pub content-tuple-requires : goal.content-tuple-requires
+content-tuple-requires t c =
     let r = c.args.registry.now in
     let ss = formats_shapes c.in-TupleStruct.formats.items in
-    let is : content_at c.args.name.now r ≡ of (tuple_shape ss) = content_found r c.args.name.now c.container.result c.in-Some.container c.container.ensures.found c.in-Some.is ∙ ap (λ k. content (container_of k)) c.in-TupleStruct.is in
-    let low : suc (shapes_levels ss) ≤ 33 = (content_at-inside r c.container.ensures.well_formed c.args.name.now (tuple_shape ss) is).1 in
+    let is : content_at c.requires.found.0 r ≡ of (tuple_shape ss) = c.requires.found.1 ∙ ap (λ k. content (container_of k)) c.in-TupleStruct.is in
+    let low : suc (shapes_levels ss) ≤ 33 = (content_at-inside r c.requires.well_formed c.requires.found.0 (tuple_shape ss) is).1 in
     let same : shapes_levels (formats_shapes c.deref.result.now) ≡ shapes_levels ss = ap (λ fs. shapes_levels (formats_shapes fs)) c.deref.ensures.value in
-    (omega (arith, low, same, c.in_ok-enter.ensures.positive), omega (arith, c.in_ok-enter.ensures.onward.0))
+    (omega (arith, low, same), c.requires.room)
 
-pub named-structure-requires : goal.named-structure-requires
-named-structure-requires t c =
+pub content-structure-requires : goal.content-structure-requires
+content-structure-requires t c =
     let r = c.args.registry.now in
     let ss = field_shapes (map field_of c.in-Struct.fields.items) in
-    let is : content_at c.args.name.now r ≡ of (tuple_shape ss) = content_found r c.args.name.now c.container.result c.in-Some.container c.container.ensures.found c.in-Some.is ∙ ap (λ k. content (container_of k)) c.in-Struct.is in
-    let low : suc (shapes_levels ss) ≤ 33 = (content_at-inside r c.container.ensures.well_formed c.args.name.now (tuple_shape ss) is).1 in
+    let is : content_at c.requires.found.0 r ≡ of (tuple_shape ss) = c.requires.found.1 ∙ ap (λ k. content (container_of k)) c.in-Struct.is in
+    let low : suc (shapes_levels ss) ≤ 33 = (content_at-inside r c.requires.well_formed c.requires.found.0 (tuple_shape ss) is).1 in
     let same : shapes_levels (field_shapes (map field_of c.deref-in-Struct.result.now)) ≡ shapes_levels ss = ap (λ fs. shapes_levels (field_shapes (map field_of fs))) c.deref-in-Struct.ensures.value in
-    (omega (arith, low, same, c.in_ok-enter.ensures.positive), omega (arith, c.in_ok-enter.ensures.onward.0))
+    (omega (arith, low, same), c.requires.room)
 
-pub named-payload-requires : goal.named-payload-requires
-named-payload-requires t c =
+pub content-payload-requires : goal.content-payload-requires
+content-payload-requires t c =
     let r = c.args.registry.now in
     let cs = map choice_of c.in-Enum.variants.entries in
-    let s : Shape = payload_shape (payload_of c.in-Some-get.variant.now.value) in
-    let is : content_at c.args.name.now r ≡ one_of cs = content_found r c.args.name.now c.container.result c.in-Some.container c.container.ensures.found c.in-Some.is ∙ ap (λ k. content (container_of k)) c.in-Enum.is in
-    let at : choice_at c.in_ok-start-in-Enum.number cs ≡ of s = choice_found c.in_ok-start-in-Enum.number c.in-Enum.variants.entries c.in-Some-get.variant c.get.result c.get.ensures.value c.in-Some-get.is in
-    let low : levels s ≤ 33 = (choice_at-inside r c.container.ensures.well_formed c.args.name.now cs is c.in_ok-start-in-Enum.number s at).1 in
-    (omega (arith, low, c.in_ok-enter.ensures.positive), omega (arith, c.in_ok-enter.ensures.onward.0, c.in_ok-start-in-Enum.ensures.onward.0))
+    let s : Shape = payload_shape (payload_of c.in-Some.variant.now.value) in
+    let is : content_at c.requires.found.0 r ≡ one_of cs = c.requires.found.1 ∙ ap (λ k. content (container_of k)) c.in-Enum.is in
+    let at : choice_at c.in_ok-start-in-Enum.number cs ≡ of s = choice_found c.in_ok-start-in-Enum.number c.in-Enum.variants.entries c.in-Some.variant c.get.result c.get.ensures.value c.in-Some.is in
+    let low : levels s ≤ 33 = (choice_at-inside r c.requires.well_formed c.requires.found.0 cs is c.in_ok-start-in-Enum.number s at).1 in
+    (omega (arith, low), omega (arith, c.requires.room, c.in_ok-start-in-Enum.ensures.onward.0))
 
-pub named-returns-in-UnitStruct-clause-passes : goal.named-returns-in-UnitStruct-clause-passes
-named-returns-in-UnitStruct-clause-passes t c =
+pub content-returns-in-UnitStruct-clause-passes : goal.content-returns-in-UnitStruct-clause-passes
+content-returns-in-UnitStruct-clause-passes t c =
     let r = c.args.registry.now in
-    let d = c.args.depth - 1 in
-    let at = c.enter.new.cursor in
+    let d = c.args.depth in
+    let at = c.args.cursor.now in
     passes_from (λ x. x) c.node.result _ node_here c.args.cursor.now at c.node.new.cursor
-    (named_past r c.args.name.now _ _ _ c.args.depth _ _ _ c.container.result c.in-Some.container _ c.in_ok-enter.ensures.positive c.in_ok-enter.ensures.passes c.container.ensures.found c.in-Some.is c.in-UnitStruct.is
+    (content_as r d at.place at.nodes at.rest.now c.args.container.now _ c.in-UnitStruct.is
     ∙ content_shape r d at.place at.nodes at.rest.now _ ∙ unit_is r d at.place at.nodes at.rest.now)
     c.node.ensures.passes
 
-pub named-returns-in-NewTypeStruct-clause-passes : goal.named-returns-in-NewTypeStruct-clause-passes
-named-returns-in-NewTypeStruct-clause-passes t c =
+pub content-returns-in-NewTypeStruct-clause-passes : goal.content-returns-in-NewTypeStruct-clause-passes
+content-returns-in-NewTypeStruct-clause-passes t c =
     let r = c.args.registry.now in
-    let d = c.args.depth - 1 in
-    let at = c.enter.new.cursor in
+    let d = c.args.depth in
+    let at = c.args.cursor.now in
     let s : Shape = shape_of c.in-NewTypeStruct.format in
     passes_from (λ x. x) c.value.result _ (skip r d s) c.args.cursor.now at c.value.new.cursor
-    (named_past r c.args.name.now _ _ _ c.args.depth _ _ _ c.container.result c.in-Some.container _ c.in_ok-enter.ensures.positive c.in_ok-enter.ensures.passes c.container.ensures.found c.in-Some.is c.in-NewTypeStruct.is
+    (content_as r d at.place at.nodes at.rest.now c.args.container.now _ c.in-NewTypeStruct.is
     ∙ content_shape r d at.place at.nodes at.rest.now s)
     c.value.ensures.passes
 
-pub named-returns-in-TupleStruct-clause-passes : goal.named-returns-in-TupleStruct-clause-passes
-named-returns-in-TupleStruct-clause-passes t c =
+pub content-returns-in-TupleStruct-clause-passes : goal.content-returns-in-TupleStruct-clause-passes
+content-returns-in-TupleStruct-clause-passes t c =
     let r = c.args.registry.now in
-    let d = c.args.depth - 1 in
-    let at = c.enter.new.cursor in
+    let d = c.args.depth in
+    let at = c.args.cursor.now in
     let s : Shape = tuple_shape (formats_shapes c.in-TupleStruct.formats.items) in
     passes_from (λ x. x) c.tuple.result _ (skip r d (tuple_shape (formats_shapes c.deref.result.now))) c.args.cursor.now at c.tuple.new.cursor
-    (named_past r c.args.name.now _ _ _ c.args.depth _ _ _ c.container.result c.in-Some.container _ c.in_ok-enter.ensures.positive c.in_ok-enter.ensures.passes c.container.ensures.found c.in-Some.is c.in-TupleStruct.is
+    (content_as r d at.place at.nodes at.rest.now c.args.container.now _ c.in-TupleStruct.is
     ∙ content_shape r d at.place at.nodes at.rest.now s
     ∙ ap (λ fs. skip r d (tuple_shape (formats_shapes fs)) at.place at.nodes at.rest.now) (sym c.deref.ensures.value))
     c.tuple.ensures.passes
 
-pub named-returns-in-Struct-clause-passes : goal.named-returns-in-Struct-clause-passes
-named-returns-in-Struct-clause-passes t c =
+pub content-returns-in-Struct-clause-passes : goal.content-returns-in-Struct-clause-passes
+content-returns-in-Struct-clause-passes t c =
     let r = c.args.registry.now in
-    let d = c.args.depth - 1 in
-    let at = c.enter.new.cursor in
+    let d = c.args.depth in
+    let at = c.args.cursor.now in
     let s : Shape = tuple_shape (field_shapes (map field_of c.in-Struct.fields.items)) in
     passes_from (λ x. x) c.structure.result _ (skip r d (tuple_shape (field_shapes (map field_of c.deref-in-Struct.result.now)))) c.args.cursor.now at c.structure.new.cursor
-    (named_past r c.args.name.now _ _ _ c.args.depth _ _ _ c.container.result c.in-Some.container _ c.in_ok-enter.ensures.positive c.in_ok-enter.ensures.passes c.container.ensures.found c.in-Some.is c.in-Struct.is
+    (content_as r d at.place at.nodes at.rest.now c.args.container.now _ c.in-Struct.is
     ∙ content_shape r d at.place at.nodes at.rest.now s
     ∙ ap (λ fs. skip r d (tuple_shape (field_shapes (map field_of fs))) at.place at.nodes at.rest.now) (sym c.deref-in-Struct.ensures.value))
     c.structure.ensures.passes
 
-pub named-returns-in_err-start-in-Enum-clause-passes : goal.named-returns-in_err-start-in-Enum-clause-passes
-named-returns-in_err-start-in-Enum-clause-passes t c =
-    let p = err_from_is_err_and c.from_residual-in_err-start-in-Enum.result c.from_residual-in_err-start-in-Enum.ensures.1 in
+pub content-returns-in_err-start-in-Enum-clause-passes : goal.content-returns-in_err-start-in-Enum-clause-passes
+content-returns-in_err-start-in-Enum-clause-passes t c =
+    let p = err_from_is_err_and c.from_residual.result c.from_residual.ensures.1 in
     let r = c.args.registry.now in
-    let d = c.args.depth - 1 in
-    let at = c.enter.new.cursor in
+    let d = c.args.depth in
+    let at = c.args.cursor.now in
     rw (p.1, p.2)
-    (named_past r c.args.name.now _ _ _ c.args.depth _ _ _ c.container.result c.in-Some.container _ c.in_ok-enter.ensures.positive c.in_ok-enter.ensures.passes c.container.ensures.found c.in-Some.is c.in-Enum.is
+    (content_as r d at.place at.nodes at.rest.now c.args.container.now _ c.in-Enum.is
     ∙ variant_stop r d at.place at.nodes at.rest.now (map choice_of c.in-Enum.variants.entries) _ c.in_err-start-in-Enum.ensures.passes)
 
-pub named-returns-in-Some-get-clause-passes : goal.named-returns-in-Some-get-clause-passes
-named-returns-in-Some-get-clause-passes t c =
+pub content-returns-in-Some-clause-passes : goal.content-returns-in-Some-clause-passes
+content-returns-in-Some-clause-passes t c =
     let r = c.args.registry.now in
-    let d = c.args.depth - 1 in
-    let at = c.enter.new.cursor in
+    let d = c.args.depth in
+    let at = c.args.cursor.now in
     let cs = map choice_of c.in-Enum.variants.entries in
-    let s : Shape = payload_shape (payload_of c.in-Some-get.variant.now.value) in
-    let chosen : choice_at c.in_ok-start-in-Enum.number cs ≡ of s = choice_found c.in_ok-start-in-Enum.number c.in-Enum.variants.entries c.in-Some-get.variant c.get.result c.get.ensures.value c.in-Some-get.is in
+    let s : Shape = payload_shape (payload_of c.in-Some.variant.now.value) in
+    let chosen : choice_at c.in_ok-start-in-Enum.number cs ≡ of s = choice_found c.in_ok-start-in-Enum.number c.in-Enum.variants.entries c.in-Some.variant c.get.result c.get.ensures.value c.in-Some.is in
     passes_from (λ x. x) c.payload.result _ (skip r d s) c.args.cursor.now c.variant_number.new.cursor c.payload.new.cursor
-    (named_past r c.args.name.now _ _ _ c.args.depth _ _ _ c.container.result c.in-Some.container _ c.in_ok-enter.ensures.positive c.in_ok-enter.ensures.passes c.container.ensures.found c.in-Some.is c.in-Enum.is
+    (content_as r d at.place at.nodes at.rest.now c.args.container.now _ c.in-Enum.is
     ∙ variant_on r d at.place at.nodes at.rest.now cs c.in_ok-start-in-Enum.start c.in_ok-start-in-Enum.number _ _ _ s c.in_ok-start-in-Enum.ensures.passes chosen)
     c.payload.ensures.passes
 
-pub named-returns-in-None-clause-passes : goal.named-returns-in-None-clause-passes
-named-returns-in-None-clause-passes t c =
+pub content-returns-in-None-clause-passes : goal.content-returns-in-None-clause-passes
+content-returns-in-None-clause-passes t c =
     let r = c.args.registry.now in
-    let d = c.args.depth - 1 in
-    let at = c.enter.new.cursor in
+    let d = c.args.depth in
+    let at = c.args.cursor.now in
     let cs = map choice_of c.in-Enum.variants.entries in
     let none : choice_at c.in_ok-start-in-Enum.number cs ≡ nothing = choice_missing c.in_ok-start-in-Enum.number c.in-Enum.variants.entries c.get.result c.get.ensures.value c.in-None.is in
-    named_past r c.args.name.now _ _ _ c.args.depth _ _ _ c.container.result c.in-Some.container _ c.in_ok-enter.ensures.positive c.in_ok-enter.ensures.passes c.container.ensures.found c.in-Some.is c.in-Enum.is
+    content_as r d at.place at.nodes at.rest.now c.args.container.now _ c.in-Enum.is
     ∙ variant_unknown r d at.place at.nodes at.rest.now cs c.in_ok-start-in-Enum.start c.in_ok-start-in-Enum.number _ _ _ c.in_ok-start-in-Enum.ensures.passes none
 
 pub payload-returns-in-Unit-clause-passes : goal.payload-returns-in-Unit-clause-passes

@@ -1,6 +1,7 @@
-use Rattle.std.proofs.Common.{◌≡◌, ℕ, ◌+◌, ◌-◌, ◌*◌, ◌<◌, ◌^◌, None, length, max, map, drop}
-use Rattle.bcs_registry_formats.specs.Container.{field_shapes, payload_shape}
-use Rattle.bcs_registry_formats.specs.View.{shape_of, formats_shapes, field_of, payload_of}
+use Rattle.std.proofs.Common.{◌≡◌, ℕ, List, ◌+◌, ◌-◌, ◌*◌, ◌<◌, ◌^◌, None, length, max, map, drop}
+use Rattle.bcs_registry_formats.specs.Container.{content, content_at, field_shapes, payload_shape}
+use Rattle.bcs_registry_formats.specs.Shape.{name as name_shape}
+use Rattle.bcs_registry_formats.specs.View.{shape_of, formats_shapes, field_of, payload_of, container_of}
 use Rattle.bcs_registry_formats.specs.WellFormed.{levels, shapes_levels}
 use Rattle.bcs_decode_laws.specs.Reading.{items_here, pairs_here, skipping}
 use Rattle.bcs_decode_cursor.specs.Passing.{key_bytes, Onward, skip}
@@ -32,6 +33,12 @@ decreases-structure l = work l.depth (shapes_levels (field_shapes (map field_of 
 abbrev pub decreases-named : goal.decreases-named
 decreases-named l = work l.depth 0 + 4
 
+abbrev pub decreases-containers : goal.decreases-containers
+decreases-containers l = work l.depth 0 + 4
+
+abbrev pub decreases-content : goal.decreases-content
+decreases-content l = work l.depth 34
+
 abbrev pub decreases-payload : goal.decreases-payload
 decreases-payload l = work l.depth (levels (payload_shape (payload_of l.payload.now))) + 7
 
@@ -41,6 +48,15 @@ invariant-elements-loop l = record {
   onward : Onward l.fn.cursor l.cursor;
   whole : items_here skipping (skip l.registry l.depth (shape_of l.element)) l.count l.fn.cursor.place l.fn.cursor.nodes l.fn.cursor.rest.now
       ≡ items_here skipping (skip l.registry l.depth (shape_of l.element)) (l.count - l.counter) l.cursor.place l.cursor.nodes l.cursor.rest.now;
+}
+
+abbrev pub invariant-containers-loop : goal.invariant-containers-loop
+invariant-containers-loop l = record {
+  room : l.cursor.place + length l.cursor.rest.now < 2 ^ 64;
+  onward : Onward l.initial.cursor l.cursor;
+  whole : (name : List ℕ) → content_at name l.registry ≡ content (container_of l.container)
+      → items_here skipping (skip l.registry l.depth (name_shape name)) l.count l.initial.cursor.place l.initial.cursor.nodes l.initial.cursor.rest.now
+      ≡ items_here skipping (skip l.registry l.depth (name_shape name)) (l.count - l.counter) l.cursor.place l.cursor.nodes l.cursor.rest.now;
 }
 
 abbrev pub invariant-entries-loop : goal.invariant-entries-loop
