@@ -1,5 +1,6 @@
 -- What the verdict on a value that is sound besides its keys says of the value.
-use Rattle.std.proofs.Common.{◌≡◌, ℕ, ◌≤◌, ◌↔◌, Bool, true, false, IsTrue, List, [], sym, subst, ◌∙◌, Result, Ok, Err}
+use Rattle.std.proofs.Common.{◌≡◌, ℕ, ◌≤◌, ◌↔◌, Bool, true, false, IsTrue, List, [], refl, sym, ap, subst, ◌∙◌, Result, Ok, Err}
+use Rattle.std.specs.Result.{is_err}
 use Rattle.std.proofs.lemmas.Bool.{false≢true, iff_false}
 use Rattle.bcs_registry_formats.specs.Shape.{Shape}
 use Rattle.bcs_registry_formats.specs.Container.{Entries, of}
@@ -47,6 +48,24 @@ told_refuses registry limits s t good TooDeep h told = absurd told
 told_refuses registry limits s t good TooManyNodes h told = absurd told
 told_refuses registry limits s t good TooLong h told = absurd told
 told_refuses registry limits s t good OutOfMemory h told = absurd told
+
+-- and where nothing was, whatever the walk told of it, the keys of some map aren't distinct
+pub unwritten_repeats : (registry : Entries) (limits : Bounds) (s : Shape) (t : Tree) → IsSoundBesidesKeys registry limits s t → is_err (written registry t (of s) []) ≡ true
+    → Refuses registry limits s t RepeatedKey
+unwritten_repeats registry limits s t h e = found (written registry t (of s) []) refl e
+  where
+    repeats : (v : Verdict) → Told (distinct t) (plain registry (form_of registry t (of s)) (of s)) v → is_err v ≡ true → distinct t ≡ false
+    repeats (Ok b) told g = absurd (false≢true g)
+    repeats (Err RepeatedKey) told g = told
+    repeats (Err NotOfFormat) told g = absurd told
+    repeats (Err Unsupported) told g = absurd told
+    repeats (Err TooDeep) told g = absurd told
+    repeats (Err TooManyNodes) told g = absurd told
+    repeats (Err TooLong) told g = absurd told
+    repeats (Err OutOfMemory) told g = absurd told
+
+    found : (v : Verdict) → written registry t (of s) [] ≡ v → is_err (written registry t (of s) []) ≡ true → Refuses registry limits s t RepeatedKey
+    found v is g = (h, λ d. false≢true (sym (repeats v (told_at registry limits s t v h is) (sym (ap (λ (x : Verdict). is_err x) is) ∙ g)) ∙ d))
 
 -- and where nothing was, the keys of some map aren't distinct
 pub unwritten_refuses : (registry : Entries) (limits : Bounds) (s : Shape) (t : Tree) (e : EncodeFault) → IsSoundBesidesKeys registry limits s t → written registry t (of s) [] ≡ Err e

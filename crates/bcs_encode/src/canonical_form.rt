@@ -30,11 +30,7 @@ pub fn canonicalise(
     ensures memory { IfErr result (λ e. e ≡ OutOfMemory → IsSoundBesidesKeys registry.now limits.now (shape_of format.now) (tree_of value.now)) }
 {
     check_soundness(registry, format, limits, value)?;
-    let mut work = Workspace {
-        out: Vec::new(alloc),
-        spans: Vec::new(alloc),
-        scratch: Vec::new(alloc),
-    };
+    let mut work = Workspace::new(alloc);
     let mut slot = Value::Unit;
     form(value, format, registry, alloc, &mut work, &mut slot)?;
     Ok(slot)

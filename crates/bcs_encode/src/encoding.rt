@@ -5,7 +5,7 @@ ghost use Rattle.bcs_registry_formats.specs.View.{shape_of};
 ghost use Rattle.bcs_value_tree.specs.View.{tree_of};
 ghost use Rattle.bcs_encode_laws.specs.Encodes.{Encodes};
 ghost use Rattle.bcs_encode_laws.specs.Refused.{IsSoundBesidesKeys, Refuses};
-ghost use Rattle.bcs_encode_laws.specs.declared.fault.EncodeFault.TheVariants.{OutOfMemory};
+ghost use Rattle.bcs_encode_laws.specs.declared.fault.EncodeFault.TheVariants.{OutOfMemory, RepeatedKey};
 
 use crate::soundness::check_soundness;
 use bcs_encode_laws::EncodeFault;
@@ -33,11 +33,20 @@ pub fn encode(
     ensures memory { IfErr result (λ e. e ≡ OutOfMemory → IsSoundBesidesKeys registry.now limits.now (shape_of format.now) (tree_of value.now)) }
 {
     check_soundness(registry, format, limits, value)?;
-    let mut work = Workspace {
-        out: Vec::new(alloc),
-        spans: Vec::new(alloc),
-        scratch: Vec::new(alloc),
-    };
-    push_value(value, format, registry, &mut work)?;
+    let mut work = Workspace::new(alloc);
+    if let Err(fault) = push_value(value, format, registry, &mut work) {
+        return Err(late_fault(fault));
+    }
     Ok(work.out)
+}
+
+/// What the walk's fault means once the value was judged: nothing but equal keys is left, unless memory ran out.
+fn late_fault(fault: EncodeFault) -> EncodeFault
+    ensures memory { fault ≡ OutOfMemory → result ≡ OutOfMemory }
+    ensures others { fault ≢ OutOfMemory → result ≡ RepeatedKey }
+{
+    match fault {
+        EncodeFault::OutOfMemory => EncodeFault::OutOfMemory,
+        _ => EncodeFault::RepeatedKey,
+    }
 }

@@ -2,7 +2,8 @@
 use Rattle.std.proofs.Common.{◌≡◌, ℕ, ◌+◌, ◌-◌, ◌≤◌, Bool, true, false, ◌==◌, List, [], ◌∷◌, ◌++◌, length, map, take, drop, refl, sym, ap, ap₂, ◌∙◌, append_assoc, append-nil, length-append, arith, inl, inr, if◌then◌else◌, Result, Ok, Err}
 use Rattle.std.specs.Prelude.{nat_le, nat_lt, ◌^◌}
 use Rattle.std.specs.List.{flat_map}
-use Rattle.std.proofs.lemmas.Bool.{cases_Bool, le-leb}
+use Rattle.std.specs.Result.{is_err}
+use Rattle.std.proofs.lemmas.Bool.{cases_Bool, le-leb, true≢false}
 use Rattle.std.proofs.Math.Seq.{drop-append_seam, take-append_seam}
 use mir.Val.{bits}
 use Rattle.bcs_num.specs.Uleb.{uleb}
@@ -132,7 +133,7 @@ module _ (registry : Entries) (k v : Shape) where
   own_entries (pair l w ps) =
       chain (written registry l (of k) []) (λ a. chain (written registry w (of v) []) (λ c. chain (own_entries ps) (λ es. Ok ((a, c) ∷ es))))
 
-  entries_own : (ps : Pairs) (es : List Entry) → entries_written registry ps k v es ≡ chain (own_entries ps) (λ fs. Ok (es ++ fs))
+  pub entries_own : (ps : Pairs) (es : List Entry) → entries_written registry ps k v es ≡ chain (own_entries ps) (λ fs. Ok (es ++ fs))
   entries_own no_pairs es = ap (λ (x : List Entry). Ok x) (sym (append-nil es))
   entries_own (pair l w ps) es = first (λ gs. entries_own ps gs) (written registry l (of k) [])
     where
@@ -174,7 +175,7 @@ module _ (registry : Entries) (k v : Shape) where
 
 -- ---- the entries that the spans stand for
 
-part_between : (x y z : List ℕ) → part (x ++ (y ++ z)) (length x) (length x + length y) ≡ y
+pub part_between : (x y z : List ℕ) → part (x ++ (y ++ z)) (length x) (length x + length y) ≡ y
 part_between x y z =
     let low : nat_le (length x) (length x + length y) ≡ true = le-leb (length x) (length x + length y) (omega arith) in
     let high : nat_le (length x + length y) (length (x ++ (y ++ z))) ≡ true =
@@ -269,6 +270,14 @@ unlaid_map registry k v ps n b c ss e count lengthed h =
     let length_is : length_written (pair_count ps) b ≡ Ok c = ap (λ (m : ℕ). length_written m b) count ∙ lengthed in
     ap (λ (u : Verdict). chain u (λ x. chain (entries_written registry ps k v []) (λ es. sorted_entries_written es x))) length_is
     ∙ ap (λ (u : Result (List Entry) EncodeFault). chain u (λ es. sorted_entries_written es c)) (unlaid_entries registry k v ps c ss e h)
+
+pub err_unlaid_map : (registry : Entries) (k v : Shape) (ps : Pairs) (n : ℕ) (b c : List ℕ) (ss : List Span) → pair_count ps ≡ n → length_written n b ≡ Ok c → is_err (entries_laid registry ps k v c ss) ≡ true
+    → is_err (written registry (tree.pairs ps) (of (shape.map k v)) b) ≡ true
+err_unlaid_map registry k v ps n b c ss count lengthed h = found (entries_laid registry ps k v c ss) refl h
+  where
+    found : (x : Lain) → entries_laid registry ps k v c ss ≡ x → is_err x ≡ true → is_err (written registry (tree.pairs ps) (of (shape.map k v)) b) ≡ true
+    found (Ok p) is g = absurd (true≢false (sym g))
+    found (Err e) is g = ap (λ (x : Verdict). is_err x) (unlaid_map registry k v ps n b c ss e count lengthed is)
 
 pub unlengthed_map : (registry : Entries) (k v : Shape) (ps : Pairs) (n : ℕ) (b : List ℕ) (e : EncodeFault) → pair_count ps ≡ n → length_written n b ≡ Err e
     → written registry (tree.pairs ps) (of (shape.map k v)) b ≡ Err e

@@ -1,2 +1,4 @@
 pub mod Laying
 pub mod KeyLaying
+pub mod KeysFirst
+pub mod Writes

@@ -2,6 +2,8 @@
 #![tactic(auto)]
 
 pub mod formed_pairs;
+pub mod key_span;
+pub mod keys_first;
 pub mod span;
 pub mod spanned_pair;
 pub mod spans;

@@ -5,6 +5,7 @@ ghost use Rattle.std.specs.List.Sorted.{IsPermutation, IsSortedByKey};
 ghost use Rattle.std.specs.Ordering.{nat_cmp};
 ghost use Rattle.std.specs.Cmp.Lexicographic.{slice_cmp};
 ghost use Rattle.bcs_encode_laws.specs.Entries.{entry_bytes};
+ghost use Rattle.bcs_encode_spans.specs.KeysFirst.{set_aside};
 ghost use Rattle.bcs_encode_spans.specs.Laying as spec;
 ghost use Rattle.bcs_encode_spans.specs.Laying.{span_entry};
 ghost use Rattle.bcs_encode_parts.specs.Writing.{Tells, sorted_entries_written, has_twins, keys_rise};
@@ -21,7 +22,7 @@ pub fn arrange(work: &mut Workspace, first: usize, start: usize) -> Result<(), E
     ensures tells { Tells result
         (sorted_entries_written (map (span_entry work.old.out.items) (drop first work.old.spans.items)) (take start work.old.out.items))
         work.new.out.items }
-    ensures kept { OnOk result (work.new.spans.items ≡ take first work.old.spans.items) }
+    ensures kept { OnOk result (set_aside work.new ≡ (take first work.old.spans.items, (work.old.keys.items, work.old.key_spans.items))) }
 {
     if rise(&work.spans[first..], &work.out) {
         work.spans.truncate(first);
@@ -36,7 +37,7 @@ fn rearrange(work: &mut Workspace, first: usize, start: usize) -> Result<(), Enc
     ensures tells { Tells result
         (sorted_entries_written (map (span_entry work.old.out.items) (drop first work.old.spans.items)) (take start work.old.out.items))
         work.new.out.items }
-    ensures kept { OnOk result (work.new.spans.items ≡ take first work.old.spans.items) }
+    ensures kept { OnOk result (set_aside work.new ≡ (take first work.old.spans.items, (work.old.keys.items, work.old.key_spans.items))) }
 {
     gather_in_order(&mut work.spans[first..], &work.out, &mut work.scratch)?;
     work.spans.truncate(first);

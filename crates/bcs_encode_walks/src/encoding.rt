@@ -1,18 +1,24 @@
-//! The encoder: one buffer for the output, in which the entries of maps are brought into order.
-ghost use Rattle.std.specs.Prelude.{◌≡◌, OnOk, map};
+//! The encoder: one buffer for the output. Outside keys the keys of a map come into order before its values are
+//! written, and within keys the entries of a map are brought into order where they stand.
+ghost use Rattle.std.specs.Prelude.{◌≡◌, ◌≤◌, ◌<◌, OnOk, drop, length, map};
+ghost use Rattle.std.specs.List.{All};
 ghost use Rattle.bcs_registry_formats.specs.Container.{of, content, field_shapes, payload_shape};
 ghost use Rattle.bcs_registry_formats.specs.Shape.{map as map_shape, name as name_shape, tuple};
 ghost use Rattle.bcs_registry_formats.specs.View.{container_of, field_of, formats_shapes, payload_of, shape_of};
 ghost use Rattle.bcs_value_tree.specs.Tree.{items as items_tree, pairs as pairs_tree};
 ghost use Rattle.bcs_value_tree.specs.View.{entries_pairs, items_trees, tree_of};
+ghost use Rattle.bcs_encode_spans.specs.KeysFirst.{keys_spanned, set_aside, value_at, values_laid};
 ghost use Rattle.bcs_encode_spans.specs.Laying.{entries_laid};
+ghost use Rattle.bcs_encode_spans.specs.Writes.{Writes};
 ghost use Rattle.bcs_encode_parts.specs.Writing as spec;
-ghost use Rattle.bcs_encode_parts.specs.Writing.{Tells};
 
 use bcs_encode_laws::EncodeFault;
 use bcs_encode_parts::number_rows::push_numbers;
 use bcs_encode_parts::pushing::{
     push_byte, push_bytes, push_length, push_number, push_signed, push_unsigned,
+};
+use bcs_encode_spans::keys_first::{
+    begin_keys, drop_keys, end_keys, keep_key, order_keys, push_key,
 };
 use bcs_encode_spans::span::Span;
 use bcs_encode_spans::spans::arrange;
@@ -30,8 +36,8 @@ pub fn push_value(
     registry: &Registry,
     work: &mut Workspace,
 ) -> Result<(), EncodeFault>
-    ensures tells { Tells result (spec.written registry.now (tree_of value.now) (of (shape_of format.now)) work.old.out.items) work.new.out.items }
-    ensures kept { OnOk result (work.new.spans.items ≡ work.old.spans.items) }
+    ensures tells { Writes result (spec.written registry.now (tree_of value.now) (of (shape_of format.now)) work.old.out.items) work.new.out.items }
+    ensures kept { OnOk result (set_aside work.new ≡ set_aside work.old) }
 {
     match (value, format) {
         (_, Format::F32 | Format::F64 | Format::Char) => Err(EncodeFault::NotOfFormat),
@@ -90,8 +96,8 @@ fn push_content(
     registry: &Registry,
     work: &mut Workspace,
 ) -> Result<(), EncodeFault>
-    ensures tells { Tells result (spec.written registry.now (tree_of value.now) (content (container_of container.now)) work.old.out.items) work.new.out.items }
-    ensures kept { OnOk result (work.new.spans.items ≡ work.old.spans.items) }
+    ensures tells { Writes result (spec.written registry.now (tree_of value.now) (content (container_of container.now)) work.old.out.items) work.new.out.items }
+    ensures kept { OnOk result (set_aside work.new ≡ set_aside work.old) }
 {
     match (container, value) {
         (Container::UnitStruct, Value::Unit) => Ok(()),
@@ -121,8 +127,8 @@ fn push_payload(
     registry: &Registry,
     work: &mut Workspace,
 ) -> Result<(), EncodeFault>
-    ensures tells { Tells result (spec.written registry.now (tree_of value.now) (of (payload_shape (payload_of payload.now))) work.old.out.items) work.new.out.items }
-    ensures kept { OnOk result (work.new.spans.items ≡ work.old.spans.items) }
+    ensures tells { Writes result (spec.written registry.now (tree_of value.now) (of (payload_shape (payload_of payload.now))) work.old.out.items) work.new.out.items }
+    ensures kept { OnOk result (set_aside work.new ≡ set_aside work.old) }
 {
     match (payload, value) {
         (VariantFormat::Unit, Value::Unit) => Ok(()),
@@ -145,8 +151,8 @@ fn push_all(
     registry: &Registry,
     work: &mut Workspace,
 ) -> Result<(), EncodeFault>
-    ensures tells { Tells result (spec.items_written registry.now (items_trees items.now) (shape_of element.now) work.old.out.items) work.new.out.items }
-    ensures kept { OnOk result (work.new.spans.items ≡ work.old.spans.items) }
+    ensures tells { Writes result (spec.items_written registry.now (items_trees items.now) (shape_of element.now) work.old.out.items) work.new.out.items }
+    ensures kept { OnOk result (set_aside work.new ≡ set_aside work.old) }
 {
     if let Some(format) = WholeNumber::of(element) {
         return push_numbers(format, items, &mut work.out);
@@ -192,8 +198,8 @@ fn push_each(
     registry: &Registry,
     work: &mut Workspace,
 ) -> Result<(), EncodeFault>
-    ensures tells { Tells result (spec.written registry.now (items_tree (items_trees items.now)) (of (tuple (formats_shapes formats.now))) work.old.out.items) work.new.out.items }
-    ensures kept { OnOk result (work.new.spans.items ≡ work.old.spans.items) }
+    ensures tells { Writes result (spec.written registry.now (items_tree (items_trees items.now)) (of (tuple (formats_shapes formats.now))) work.old.out.items) work.new.out.items }
+    ensures kept { OnOk result (set_aside work.new ≡ set_aside work.old) }
 {
     if items.len() != formats.len() {
         return Err(EncodeFault::NotOfFormat);
@@ -213,8 +219,8 @@ fn push_fields(
     registry: &Registry,
     work: &mut Workspace,
 ) -> Result<(), EncodeFault>
-    ensures tells { Tells result (spec.written registry.now (items_tree (items_trees items.now)) (of (tuple (field_shapes (map field_of fields.now)))) work.old.out.items) work.new.out.items }
-    ensures kept { OnOk result (work.new.spans.items ≡ work.old.spans.items) }
+    ensures tells { Writes result (spec.written registry.now (items_tree (items_trees items.now)) (of (tuple (field_shapes (map field_of fields.now)))) work.old.out.items) work.new.out.items }
+    ensures kept { OnOk result (set_aside work.new ≡ set_aside work.old) }
 {
     if items.len() != fields.len() {
         return Err(EncodeFault::NotOfFormat);
@@ -234,10 +240,32 @@ fn push_map(
     registry: &Registry,
     work: &mut Workspace,
 ) -> Result<(), EncodeFault>
-    ensures tells { Tells result
+    ensures tells { Writes result
         (spec.written registry.now (pairs_tree (entries_pairs pairs.now)) (of (map_shape (shape_of key.now) (shape_of value.now))) work.old.out.items)
         work.new.out.items }
-    ensures kept { OnOk result (work.new.spans.items ≡ work.old.spans.items) }
+    ensures kept { OnOk result (set_aside work.new ≡ set_aside work.old) }
+{
+    if work.is_in_key {
+        push_in_place(pairs, key, value, registry, work)
+    } else {
+        push_by_keys(pairs, key, value, registry, work)
+    }
+}
+
+/// Appends the bytes of a map within a key. Its entries are brought into order where they stand, so where they rise, no
+/// byte is copied for the maps round them.
+#[cycle(encoding)]
+fn push_in_place(
+    pairs: &[(Value, Value)],
+    key: &Format,
+    value: &Format,
+    registry: &Registry,
+    work: &mut Workspace,
+) -> Result<(), EncodeFault>
+    ensures tells { Writes result
+        (spec.written registry.now (pairs_tree (entries_pairs pairs.now)) (of (map_shape (shape_of key.now) (shape_of value.now))) work.old.out.items)
+        work.new.out.items }
+    ensures kept { OnOk result (set_aside work.new ≡ set_aside work.old) }
 {
     push_length(pairs.len(), &mut work.out)?;
     let first = work.spans.len();
@@ -255,9 +283,11 @@ fn lay_entries(
     registry: &Registry,
     work: &mut Workspace,
 ) -> Result<(), EncodeFault>
-    ensures { Tells result
+    ensures laid { Writes result
         (entries_laid registry.now (entries_pairs pairs.now) (shape_of key.now) (shape_of value.now) work.old.out.items work.old.spans.items)
         (work.new.out.items, work.new.spans.items) }
+    ensures keys { OnOk result (work.new.keys.items ≡ work.old.keys.items) }
+    ensures key_spans { OnOk result (work.new.key_spans.items ≡ work.old.key_spans.items) }
 {
     for (k, v) in pairs {
         let start = work.out.len();
@@ -269,6 +299,81 @@ fn lay_entries(
             value: middle,
             end: work.out.len(),
         })?;
+    }
+    Ok(())
+}
+
+/// Appends the bytes of a map outside keys. Its keys are laid apart and brought into order first, so each value is
+/// written once, at its final place.
+#[cycle(encoding)]
+fn push_by_keys(
+    pairs: &[(Value, Value)],
+    key: &Format,
+    value: &Format,
+    registry: &Registry,
+    work: &mut Workspace,
+) -> Result<(), EncodeFault>
+    ensures tells { Writes result
+        (spec.written registry.now (pairs_tree (entries_pairs pairs.now)) (of (map_shape (shape_of key.now) (shape_of value.now))) work.old.out.items)
+        work.new.out.items }
+    ensures kept { OnOk result (set_aside work.new ≡ set_aside work.old) }
+{
+    push_length(pairs.len(), &mut work.out)?;
+    let first = work.key_spans.len();
+    let start = work.keys.len();
+    begin_keys(work);
+    lay_keys(pairs, key, registry, work)?;
+    end_keys(work);
+    if !order_keys(work, first) {
+        return Err(EncodeFault::RepeatedKey);
+    }
+    push_values(pairs, value, first, registry, work)?;
+    drop_keys(work, first, start);
+    Ok(())
+}
+
+/// Appends a map's keys in the order of the pairs, and their spans.
+#[cycle(encoding)]
+fn lay_keys(
+    pairs: &[(Value, Value)],
+    key: &Format,
+    registry: &Registry,
+    work: &mut Workspace,
+) -> Result<(), EncodeFault>
+    ensures laid { Writes result
+        (keys_spanned registry.now (shape_of key.now) (entries_pairs pairs.now) 0 work.old.out.items work.old.key_spans.items)
+        (work.new.out.items, work.new.key_spans.items) }
+    ensures spans { OnOk result (work.new.spans.items ≡ work.old.spans.items) }
+    ensures keys { OnOk result (work.new.keys.items ≡ work.old.keys.items) }
+{
+    for (i, pair) in pairs.iter().enumerate() {
+        let start = work.out.len();
+        push_value(&pair.0, key, registry, work)?;
+        keep_key(work, start, i)?;
+    }
+    Ok(())
+}
+
+/// Appends the keys that the spans from `first` on tell, each with its pair's value.
+#[cycle(encoding)]
+fn push_values(
+    pairs: &[(Value, Value)],
+    value: &Format,
+    first: usize,
+    registry: &Registry,
+    work: &mut Workspace,
+) -> Result<(), EncodeFault>
+    requires first { first ≤ length work.old.key_spans.items }
+    requires in_range { All (λ z. z.index < length pairs.now) (drop first work.old.key_spans.items) }
+    ensures tells { Writes result
+        (values_laid registry.now (shape_of value.now) (value_at pairs.now) work.old.keys.items (drop first work.old.key_spans.items) work.old.out.items)
+        work.new.out.items }
+    ensures kept { OnOk result (set_aside work.new ≡ set_aside work.old) }
+{
+    for at in first..work.key_spans.len() {
+        let span = work.key_spans[at];
+        push_key(work, span)?;
+        push_value(&pairs[span.index].1, value, registry, work)?;
     }
     Ok(())
 }
