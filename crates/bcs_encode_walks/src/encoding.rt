@@ -3,7 +3,7 @@
 ghost use Rattle.std.specs.Prelude.{◌≡◌, ◌≤◌, ◌<◌, OnOk, drop, length, map};
 ghost use Rattle.std.specs.List.{All};
 ghost use Rattle.bcs_registry_formats.specs.Container.{of, content, field_shapes, payload_shape};
-ghost use Rattle.bcs_registry_formats.specs.Shape.{map as map_shape, name as name_shape, tuple};
+ghost use Rattle.bcs_registry_formats.specs.Shape.{map as map_shape, tuple};
 ghost use Rattle.bcs_registry_formats.specs.View.{container_of, field_of, formats_shapes, payload_of, shape_of};
 ghost use Rattle.bcs_value_tree.specs.Tree.{items as items_tree, pairs as pairs_tree};
 ghost use Rattle.bcs_value_tree.specs.View.{entries_pairs, items_trees, tree_of};
@@ -157,34 +157,8 @@ fn push_all(
     if let Some(format) = WholeNumber::of(element) {
         return push_numbers(format, items, &mut work.out);
     }
-    if let Format::TypeName(name) = element {
-        return push_all_named(items, name.as_str(), registry, work);
-    }
     for item in items {
         push_value(item, element, registry, work)?;
-    }
-    Ok(())
-}
-
-/// Appends the bytes of values of one container, which is looked up once.
-#[cycle(encoding)]
-fn push_all_named(
-    items: &[Value],
-    name: &str,
-    registry: &Registry,
-    work: &mut Workspace,
-) -> Result<(), EncodeFault>
-    ensures tells { Tells result (spec.items_written registry.now (items_trees items.now) (name_shape name.now) work.old.out.items) work.new.out.items }
-    ensures kept { OnOk result (work.new.spans.items ≡ work.old.spans.items) }
-{
-    let found = registry.container(name);
-    for item in items {
-        match (item, found) {
-            (Value::Named(inner), Some(container)) => {
-                push_content(inner, container, registry, work)?;
-            }
-            _ => return Err(EncodeFault::NotOfFormat),
-        }
     }
     Ok(())
 }

@@ -1,6 +1,5 @@
 use Rattle.std.proofs.Common.{◌≡◌, map, drop}
 use Rattle.bcs_registry_formats.specs.Container.{field_shapes}
-use Rattle.bcs_registry_formats.specs.Shape.{name as name_shape}
 use Rattle.bcs_registry_formats.specs.View.{field_of, formats_shapes, shape_of}
 use Rattle.bcs_value_tree.specs.View.{entries_pairs, items_trees}
 use Rattle.bcs_encode_spans.specs.KeysFirst.{keys_spanned, set_aside, value_at, values_laid}
@@ -13,13 +12,6 @@ invariant-push_all-loop-item l = record {
   tells : items_written l.registry (items_trees l.items) (shape_of l.element) l.initial.work.out.items
       ≡ items_written l.registry (items_trees (drop l.item-index l.items)) (shape_of l.element) l.work.out.items;
   kept : set_aside l.work ≡ set_aside l.initial.work;
-}
-
-abbrev pub invariant-push_all_named-loop-item : goal.invariant-push_all_named-loop-item
-invariant-push_all_named-loop-item l = record {
-  tells : items_written l.registry (items_trees l.items) (name_shape l.name) l.initial.work.out.items
-      ≡ items_written l.registry (items_trees (drop l.item-index l.items)) (name_shape l.name) l.work.out.items;
-  kept : l.work.spans.items ≡ l.initial.work.spans.items;
 }
 
 abbrev pub invariant-push_each-loop-i : goal.invariant-push_each-loop-i
