@@ -1,8 +1,8 @@
 -- The parsers of values, as they are read from a source.
-use Rattle.std.proofs.Common.{◌≡◌, ℕ, zero, suc, true, ◌-◌, ◌<◌, List, Option, Some, None, take, Ok, Err, Box, Vec, Global, String, string_bytes, refl, ◌∙◌, arith}
+use Rattle.std.proofs.Common.{◌≡◌, ℕ, zero, suc, true, ◌-◌, ◌<◌, List, Option, Some, None, take, Ok, Err, Box, Vec, Global, String, string_bytes, refl, ap, ◌∙◌, arith}
 use Rattle.bcs_registry_formats.specs.Shape as shape
 use Rattle.bcs_registry_formats.specs.Shape.{Shape, Shapes}
-use Rattle.bcs_registry_formats.specs.Container.{Entries, Choice, of, one_of, nothing, choice_at}
+use Rattle.bcs_registry_formats.specs.Container.{Entries, Content, Choice, of, one_of, nothing, content_at, choice_at}
 use Rattle.bcs_registry_formats.specs.View.{shape_of, formats_shapes}
 use Rattle.bcs_registry_formats.specs.Whole.{whole_shape}
 use Rattle.bcs_registry_formats.specs.declared.whole_number.WholeNumber.{WholeNumber}
@@ -15,7 +15,7 @@ use Rattle.bcs_decode_stops.specs.declared.reason.Reason.TheVariants.{TooDeep, U
 use Rattle.bcs_decode_stops.specs.declared.reason.Reason.{Reason}
 use Rattle.bcs_decode_laws.specs.Reading.{Parser, follow, chain, give, fail, fail_here, content_here, choice_here, variant_here, key_here, key_after, node, value_here, shape_here, option_here, items_here, pairs_here, length_here, named_here, building}
 use Rattle.bcs_decode_reader.proofs.Parts.{has_no_parts, IsBare, bare_shape}
-use Rattle.bcs_decode_reader.specs.Sees.{node_here, read, leaf_here, unit_leaf, flag_node, option_value, items_value, row_here, pairs_value, each, tuple_value, enter_here, named_value, content_value, number_node}
+use Rattle.bcs_decode_reader.specs.Sees.{node_here, read, leaf_here, unit_leaf, flag_node, option_value, items_value, row_here, pairs_value, each, tuple_value, enter_here, container_value, named_value, content_value, number_node}
 
 pub enter_none : (d p m : ℕ) (b : List ℕ) → d ≡ 0 → enter_here d p m b ≡ fail_here TooDeep p m b
 unfolding enter_here
@@ -52,7 +52,7 @@ tuple_is registry d ss p zero b = refl
 tuple_is registry d ss p (suc m) b = refl
 
 pub named_is : (registry : Entries) (d : ℕ) (name : List ℕ) (p m : ℕ) (b : List ℕ) → named_here building registry d name p m b ≡ named_value registry d name p m b
-unfolding named_here named_value enter_here node chain give fail_here
+unfolding named_here container_value enter_here node chain give fail_here
 named_is registry zero name p m b = refl
 named_is registry (suc d) name p zero b = refl
 named_is registry (suc d) name p (suc m) b = let e : suc d - 1 ≡ d = omega arith in rw e refl
@@ -96,6 +96,15 @@ module _ (registry : Entries) (d p m : ℕ) (b : List ℕ) where
   unfolding choice_here chain value_here give
   enum_on cs n q l c s t i j r h is on = enum_is registry d cs p m b ∙ rw (h, is, on) refl
 
+  -- a name without a container
+  pub container_missing : (q l : ℕ) (c : List ℕ) → enter_here d p m b ≡ Ok (tt, q, l, c) → container_value registry d nothing p m b ≡ Err (Unsupported, q)
+  unfolding container_value chain content_here fail_here
+  container_missing q l c h = rw h refl
+
+  pub container_stop : (k : Content) (e : Reason) (o : ℕ) → enter_here d p m b ≡ Err (e, o) → container_value registry d k p m b ≡ Err (e, o)
+  unfolding container_value chain
+  container_stop k e o h = rw h refl
+
 -- ---- keys
 
 pub key_stop : (f : Parser Tree) (last : Option (List ℕ)) (p m : ℕ) (b : List ℕ) (e : Reason) (o : ℕ) → f p m b ≡ Err (e, o) → key_here f last p m b ≡ Err (e, o)
@@ -122,6 +131,11 @@ leaf_is registry d (shape.unsupported u) h = refl
 leaf_is registry d shape.text h = refl
 leaf_is registry d shape.bytes h = refl
 leaf_is registry d _ h = absurd cc
+
+-- a name is read as its container
+pub read_container : (registry : Entries) (d : ℕ) (s : Shape) (name : List ℕ) (c : Content) → s ≡ shape.name name → content_at name registry ≡ c → (p m : ℕ) (b : List ℕ) → read registry d s p m b ≡ container_value registry d c p m b
+unfolding value_here shape_here
+read_container registry d s name c is has p m b = rw is (named_is registry d name p m b) ∙ ap (λ (k : Content). container_value registry d k p m b) has
 
 -- a whole number is read as a leaf
 pub read_whole : (registry : Entries) (d : ℕ) (s : Shape) (n : WholeNumber) → s ≡ whole_shape n → read registry d s ≡ leaf_here (whole_shape n)

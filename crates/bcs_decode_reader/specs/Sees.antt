@@ -211,8 +211,12 @@ key_leaf f last = key_here f last
 abbrev pub content_value : Entries → ℕ → Content → Parser Tree
 content_value registry d c = content_here building (named_here building registry d) c
 
-unfoldable pub named_value : Entries → ℕ → List ℕ → Parser Tree
-named_value registry d name = chain (enter_here d) (λ _. chain (content_value registry (d - 1) (content_at name registry)) (λ t. give (tree.named t)))
+-- a container with this content
+unfoldable pub container_value : Entries → ℕ → Content → Parser Tree
+container_value registry d c = chain (enter_here d) (λ _. chain (content_value registry (d - 1) c) (λ t. give (tree.named t)))
+
+abbrev pub named_value : Entries → ℕ → List ℕ → Parser Tree
+named_value registry d name = container_value registry d (content_at name registry)
 
 -- no memory is taken for values of these formats
 abbrev pub takes_no_memory : Shape → Bool

@@ -1,5 +1,7 @@
 -- What a step of a reader does.
 use Rattle.std.specs.Prelude.{◌≡◌, ℕ, ◌+◌, ◌<◌, ◌^◌, Bool, false, List, Option, Result}
+use Rattle.bcs_registry_formats.specs.Container.{Entries, Content, content_at}
+use Rattle.bcs_registry_formats.specs.WellFormed.{IsWellFormed}
 use Rattle.bcs_decode_stops.specs.declared.decode_fault.DecodeFault.{DecodeFault}
 use Rattle.bcs_decode_laws.specs.Reading.{Parser}
 use Rattle.bcs_decode_reader.specs.Sees.{Sees, FailedIfRead, Goes, GoesInMap}
@@ -10,6 +12,12 @@ use Rattle.bcs_decode_stream.specs.declared.reader.Reader.{Reader}
 pub record Ready {S : Type 0} (is_failed : S → Bool) (allowance : S → ℕ) (p : Reader S) : Type 0 where
   pub good : is_failed p.source.now ≡ false
   pub room : p.at.now.place + allowance p.source.now < 2 ^ 64
+
+-- a name has this content in a well-formed registry
+pub record IsKnown (registry : Entries) (c : Content) : Type 0 where
+  pub name : List ℕ
+  pub has : content_at name registry ≡ c
+  pub well_formed : IsWellFormed registry
 
 -- it has the same registry, and goes on with the same source
 pub record IsSame {S : Type 0} (p q : Reader S) : Type 0 where

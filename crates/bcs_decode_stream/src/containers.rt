@@ -1,10 +1,11 @@
 //! What stands in containers, from a source.
 ghost use Rattle.std.specs.Prelude.{◌≡◌, [], map};
-ghost use Rattle.bcs_registry_formats.specs.Container.{content_at, field_shapes, payload_shape};
-ghost use Rattle.bcs_registry_formats.specs.View.{field_of, payload_of};
+ghost use Rattle.bcs_registry_formats.specs.Container as spec;
+ghost use Rattle.bcs_registry_formats.specs.Container.{field_shapes, payload_shape};
+ghost use Rattle.bcs_registry_formats.specs.View.{container_of, field_of, payload_of};
 ghost use Rattle.bcs_value_tree.specs.View.{tree_of, items_trees};
-ghost use Rattle.bcs_decode_reader.specs.Sees.{read, each, tuple_value, content_value, named_value};
-ghost use Rattle.bcs_decode_stream.specs.Reads.{Ready, Reads};
+ghost use Rattle.bcs_decode_reader.specs.Sees.{read, each, tuple_value, container_value, content_value, named_value};
+ghost use Rattle.bcs_decode_stream.specs.Reads.{IsKnown, Ready, Reads};
 
 use crate::reader::Reader;
 use crate::rows::tuple;
@@ -23,7 +24,6 @@ use bcs_value_tree::slot::{keep, wrap_named, wrap_variant};
 /// The container of this name.
 #[inline(never)]
 #[cycle(streaming)]
-#[tactic(auto, unfolding(bcs_decode_laws::specs::Reading::chain, bcs_decode_laws::specs::Reading::give, bcs_decode_reader::specs::Sees::named_value))]
 pub fn named<S: ByteSource>(
     reader: &mut Reader<'_, S>,
     name: &str,
@@ -33,32 +33,51 @@ pub fn named<S: ByteSource>(
     requires ready { Ready S.is_failed S.allowance reader.old }
     ensures reads { Reads S.content S.is_failed S.allowance (λ _. tree_of slot.new) result reader.old (named_value reader.old.registry.now depth name.now) reader.new }
 {
-    enter(reader.source, reader.at, depth)?;
-    content(reader, name, depth - 1, slot)?;
-    wrap_named(reader.alloc, slot)?;
-    Ok(())
-}
-
-/// What stands in the container of this name.
-#[inline(never)]
-#[cycle(streaming)]
-fn content<S: ByteSource>(
-    reader: &mut Reader<'_, S>,
-    name: &str,
-    depth: u32,
-    slot: &mut Value,
-) -> Result<(), DecodeFault>
-    requires ready { Ready S.is_failed S.allowance reader.old }
-    ensures reads { Reads S.content S.is_failed S.allowance (λ _. tree_of slot.new) result reader.old (content_value reader.old.registry.now depth (content_at name.now reader.old.registry.now)) reader.new }
-{
     let registry = reader.registry;
-    let Some(container) = registry.container(name) else {
+    let Some(found) = registry.container(name) else {
+        enter(reader.source, reader.at, depth)?;
         return Err(DecodeFault::Stop(Stop {
             reason: Reason::Unsupported,
             place: reader.at.place,
         }));
     };
-    match container {
+    container(reader, found, depth, slot)
+}
+
+/// A container of the registry.
+#[inline(always)]
+#[cycle(streaming)]
+#[tactic(auto, unfolding(bcs_decode_laws::specs::Reading::chain, bcs_decode_laws::specs::Reading::give, bcs_decode_reader::specs::Sees::container_value))]
+pub fn container<S: ByteSource>(
+    reader: &mut Reader<'_, S>,
+    found: &Container,
+    depth: u32,
+    slot: &mut Value,
+) -> Result<(), DecodeFault>
+    requires ready { Ready S.is_failed S.allowance reader.old }
+    requires known { IsKnown reader.old.registry.now (spec.content (container_of found.now)) }
+    ensures reads { Reads S.content S.is_failed S.allowance (λ _. tree_of slot.new) result reader.old (container_value reader.old.registry.now depth (spec.content (container_of found.now))) reader.new }
+{
+    enter(reader.source, reader.at, depth)?;
+    content(reader, found, depth - 1, slot)?;
+    wrap_named(reader.alloc, slot)?;
+    Ok(())
+}
+
+/// What stands in a container of the registry.
+#[inline(never)]
+#[cycle(streaming)]
+fn content<S: ByteSource>(
+    reader: &mut Reader<'_, S>,
+    found: &Container,
+    depth: u32,
+    slot: &mut Value,
+) -> Result<(), DecodeFault>
+    requires ready { Ready S.is_failed S.allowance reader.old }
+    requires known { IsKnown reader.old.registry.now (spec.content (container_of found.now)) }
+    ensures reads { Reads S.content S.is_failed S.allowance (λ _. tree_of slot.new) result reader.old (content_value reader.old.registry.now depth (spec.content (container_of found.now))) reader.new }
+{
+    match found {
         Container::UnitStruct => put_unit(reader.source, reader.at, slot),
         Container::NewTypeStruct(format) => { value(reader, format, depth, slot) }
         Container::TupleStruct(formats) => { tuple(reader, formats, depth, slot) }

@@ -1,12 +1,15 @@
 //! Values in a row from a source.
 ghost use Rattle.std.specs.Prelude.{◌≡◌, []};
-ghost use Rattle.bcs_registry_formats.specs.View.{shape_of, formats_shapes};
+ghost use Rattle.bcs_registry_formats.specs.Container.{content};
+ghost use Rattle.bcs_registry_formats.specs.View.{container_of, shape_of, formats_shapes};
 ghost use Rattle.bcs_value_tree.specs.View.{tree_of, items_trees};
-ghost use Rattle.bcs_decode_reader.specs.Sees.{read, row_leaf, items_value, each, tuple_value};
-ghost use Rattle.bcs_decode_stream.specs.Reads.{Ready, Reads};
+ghost use Rattle.bcs_decode_reader.specs.Sees.{read, container_value, row_leaf, items_value, each, tuple_value};
+ghost use Rattle.bcs_decode_stream.specs.Reads.{IsKnown, Ready, Reads};
 
+use crate::containers::container;
 use crate::reader::Reader;
 use crate::values::value;
+use bcs_decode_fixed::named_container::named_container;
 use bcs_decode_reader::bytes::begin;
 use bcs_decode_reader::number::row_count;
 use bcs_decode_reader::number_rows::push_numbers;
@@ -14,7 +17,7 @@ use bcs_decode_reader::room::make_room;
 use bcs_decode_reader::slots::finish;
 use bcs_decode_sources::ByteSource;
 use bcs_decode_stops::DecodeFault;
-use bcs_registry::Format;
+use bcs_registry::{Container, Format};
 use bcs_registry_formats::WholeNumber;
 use bcs_value::Value;
 use bcs_value_tree::slot::keep;
@@ -40,7 +43,7 @@ pub fn items<S: ByteSource>(
     finish(read, found, slot)
 }
 
-/// So many values: whole numbers in one loop, and others each read into the slot first.
+/// So many values: whole numbers in one loop, and others each read into the slot first. A container is looked up once.
 #[cycle(streaming)]
 fn row<S: ByteSource>(
     reader: &mut Reader<'_, S>,
@@ -57,8 +60,34 @@ fn row<S: ByteSource>(
     if let Some(format) = WholeNumber::of(element) {
         return push_numbers(format, count, reader.source, reader.at, found);
     }
+    if let Some(container) = named_container(reader.registry, element) {
+        return containers(reader, container, count, depth, slot, found);
+    }
     for _ in 0..count {
         value(reader, element, depth, slot)?;
+        keep(found, slot)?;
+    }
+    Ok(())
+}
+
+/// So many values of a container of the registry.
+#[inline(never)]
+#[cycle(streaming)]
+fn containers<S: ByteSource>(
+    reader: &mut Reader<'_, S>,
+    element: &Container,
+    count: u64,
+    depth: u32,
+    slot: &mut Value,
+    found: &mut Vec<Value>,
+) -> Result<(), DecodeFault>
+    requires ready { Ready S.is_failed S.allowance reader.old }
+    requires known { IsKnown reader.old.registry.now (content (container_of element.now)) }
+    requires empty { found.old.items ≡ [] }
+    ensures reads { Reads S.content S.is_failed S.allowance (λ _. items_trees found.new.items) result reader.old (row_leaf (container_value reader.old.registry.now depth (content (container_of element.now))) count) reader.new }
+{
+    for _ in 0..count {
+        container(reader, element, depth, slot)?;
         keep(found, slot)?;
     }
     Ok(())

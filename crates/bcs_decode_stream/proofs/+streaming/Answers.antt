@@ -10,14 +10,14 @@ use Rattle.bcs_registry_formats.specs.declared.named.Named.{Named}
 use Rattle.bcs_registry_formats.specs.declared.format.Format.{Format}
 use Rattle.bcs_value_tree.specs.View.{tree_of, items_trees}
 use Rattle.bcs_decode_keys.specs.Kept.{last_bytes, key_of}
-use Rattle.bcs_decode_reader.specs.Sees.{rest_of, row_here, node_here, each, unit_leaf, number_node, read, option_value, items_value, pairs_value, tuple_value, named_value, content_value}
+use Rattle.bcs_decode_reader.specs.Sees.{rest_of, row_here, node_here, each, unit_leaf, number_node, read, option_value, items_value, pairs_value, tuple_value, enter_here, container_value, named_value, content_value}
 use Rattle.bcs_decode_laws.specs.Reading.{items_here, building, key_here, chain, give}
 use Rattle.bcs_decode_reader.proofs.Going.{Sees-as, Sees-row, Goes-then, Along-none, Along-then, Along-map, AlongMap-then, AlongMap-value, AlongMap-key, front_length, Halts-then, Halts-after, Along-gave, Refuses-whole, Refuses-judged}
 use Rattle.bcs_decode_keys.proofs.KeptKeys.{Stands-begun, Stands-more, last_kept, same_key}
 use Rattle.bcs_decode_reader.proofs.StreamedKeys.{kept_wrong, kept_right}
 use Rattle.bcs_decode_laws.proofs.LookedUp.{content_found, content_missing, choice_found, choice_missing, levels_in, field_levels_in, formats_next, fields_next}
-use Rattle.bcs_decode_reader.proofs.Streamed.{read_leaf, read_whole, read_Opt, read_Seq, read_TupleArray, read_Map, read_Tuple, read_TypeName, unit_is, read_tuple, content_shape, content_nothing, enum_stop, enum_unknown, enum_refused, enum_on, key_stop}
-use Rattle.bcs_decode_reader.proofs.StreamedRows.{items_none, items_more, items_done, items_refused, each_none, each_more, each_done, each_refused, pairs_none, pairs_more, pairs_done, key_refused, value_refused}
+use Rattle.bcs_decode_reader.proofs.Streamed.{read_leaf, read_whole, read_container, container_missing, container_stop, read_Opt, read_Seq, read_TupleArray, read_Map, read_Tuple, read_TypeName, unit_is, read_tuple, content_shape, enum_stop, enum_unknown, enum_refused, enum_on, key_stop}
+use Rattle.bcs_decode_reader.proofs.StreamedRows.{items_same, items_none, items_more, items_done, items_refused, each_none, each_more, each_done, each_refused, pairs_none, pairs_more, pairs_done, key_refused, value_refused}
 use Rattle.bcs_registry_formats.proofs.Admitted.{content_at-inside, choice_at-inside}
 use Rattle.bcs_decode_stream.proofs.Readers.{again, IsSame-then}
 use Rattle.bcs_decode_stream.proofs.+streaming.Goals as goal
@@ -111,6 +111,22 @@ rows::row-returns-in-Some g t c =
       };
     }
 
+pub rows::row-returns-in-Some-named_container : goal.rows::row-returns-in-Some-named_container
+rows::row-returns-in-Some-named_container g t c =
+    let r = c.args.reader.now.registry.now in
+    let found = c.in-Some-named_container.ensures.found in
+    let k = content (container_of c.in-Some-named_container.container.now) in
+    record {
+      reads = record {
+        sees = (Sees-as (λ _. items_trees c.containers.new.found.items) c.containers.result (g.S.ByteSource.content c.args.reader.now.source.now) c.args.reader.now.at.now (items_here building (read r c.args.depth (shape_of c.args.element.now)) c.args.count) (items_here building (container_value r c.args.depth k) c.args.count) c.containers.new.reader.at.now (g.S.ByteSource.content c.containers.new.reader.source.now)
+            (λ p m b. items_same (read r c.args.depth (shape_of c.args.element.now)) (container_value r c.args.depth k) (read_container r c.args.depth (shape_of c.args.element.now) found.0 k found.1 found.2) c.args.count p m b) c.containers.ensures.reads.sees);
+        failed = search rules;
+        room = search rules;
+        goes = search rules;
+        same = search rules;
+      };
+    }
+
 pub rows::row-returns-in_err-value : goal.rows::row-returns-in_err-value
 rows::row-returns-in_err-value g t c =
     record {
@@ -145,6 +161,45 @@ rows::row-loop-preserved g t c =
 pub rows::row-returns : goal.rows::row-returns
 rows::row-returns g t c =
     record { reads = record { sees = (items_done (read c.args.reader.now.registry.now c.args.depth (shape_of c.args.element.now)) c.args.count c.loop.counter c.loop.found.items (g.S.ByteSource.content c.args.reader.now.source.now) (g.S.ByteSource.content c.loop.reader.source.now) c.args.reader.now.at.now c.loop.reader.at.now c.loop-test.false c.loop.invariant.sees); failed = search rules; room = search rules; goes = search rules; same = search rules } }
+
+pub rows::containers-loop-init : goal.rows::containers-loop-init
+rows::containers-loop-init g t c =
+    record { ready = c.requires.ready; same = again c.args.reader.now; goes = Along-none (g.S.ByteSource.content c.args.reader.now.source.now) c.args.reader.now.at.now; sees = items_none (container_value c.args.reader.now.registry.now c.args.depth (content (container_of c.args.element.now))) c.args.count c.args.found.now.items (g.S.ByteSource.content c.args.reader.now.source.now) c.args.reader.now.at.now c.requires.empty }
+
+pub rows::containers-returns-in_err-container : goal.rows::containers-returns-in_err-container
+rows::containers-returns-in_err-container g t c =
+    record {
+      reads = record {
+        sees = (let p = err_from_is_err_and c.from_residual.result c.from_residual.ensures.1 in
+            rw (p.1, p.2) (items_refused c.in_err-container.field-0.0 (container_value c.args.reader.now.registry.now c.args.depth (content (container_of c.args.element.now))) c.args.count c.loop.counter c.loop.found.items (g.S.ByteSource.content c.args.reader.now.source.now) (g.S.ByteSource.content c.loop.reader.source.now) c.args.reader.now.at.now c.loop.reader.at.now c.loop-test.true c.loop.invariant.sees (rw (← c.loop.invariant.same.registry) c.in_err-container.ensures.reads.sees)));
+        failed = search rules;
+        room = search rules;
+        goes = (let p = err_from_is_err_and c.from_residual.result c.from_residual.ensures.1 in
+            rw (p.1, p.2) (Halts-then c.in_err-container.field-0.0 _ _ _ _ _ _ c.loop.invariant.goes c.in_err-container.ensures.reads.goes));
+        same = search rules;
+      };
+    }
+
+pub rows::containers-returns-in_err-keep : goal.rows::containers-returns-in_err-keep
+rows::containers-returns-in_err-keep g t c =
+    record {
+      reads = record {
+        sees = search rules;
+        failed = search rules;
+        room = search rules;
+        goes = (let p = err_from_is_err_and c.from_residual-in_err-keep.result c.from_residual-in_err-keep.ensures.1 in
+            rw (p.1, p.2) (Along-gave (Along-then c.loop.invariant.goes c.in_ok-container.ensures.reads.goes)));
+        same = search rules;
+      };
+    }
+
+pub rows::containers-loop-preserved : goal.rows::containers-loop-preserved
+rows::containers-loop-preserved g t c =
+    record { ready = record { good = c.in_ok-container.ensures.reads.failed; room = c.in_ok-container.ensures.reads.room }; same = IsSame-then c.loop.invariant.same c.in_ok-container.ensures.reads.same; goes = Along-then c.loop.invariant.goes c.in_ok-container.ensures.reads.goes; sees = rw c.in_ok-keep.ensures.kept (items_more (container_value c.args.reader.now.registry.now c.args.depth (content (container_of c.args.element.now))) c.args.count c.loop.counter c.loop.found.items c.container.new.slot (g.S.ByteSource.content c.args.reader.now.source.now) (g.S.ByteSource.content c.loop.reader.source.now) (g.S.ByteSource.content c.container.new.reader.source.now) c.args.reader.now.at.now c.loop.reader.at.now c.container.new.reader.at.now c.loop-test.true c.loop.invariant.sees (rw (← c.loop.invariant.same.registry) c.in_ok-container.ensures.reads.sees)) }
+
+pub rows::containers-returns : goal.rows::containers-returns
+rows::containers-returns g t c =
+    record { reads = record { sees = (items_done (container_value c.args.reader.now.registry.now c.args.depth (content (container_of c.args.element.now))) c.args.count c.loop.counter c.loop.found.items (g.S.ByteSource.content c.args.reader.now.source.now) (g.S.ByteSource.content c.loop.reader.source.now) c.args.reader.now.at.now c.loop.reader.at.now c.loop-test.false c.loop.invariant.sees); failed = search rules; room = search rules; goes = search rules; same = search rules } }
 
 pub rows::parts-loop-format-init : goal.rows::parts-loop-format-init
 rows::parts-loop-format-init g t c =
@@ -377,17 +432,13 @@ maps::next_key-returns-clause-last g t c =
     let key = same_key c.follow.new.keys.last c.follow.new.at.kept.items (drop c.len-from.result c.value.new.reader.at.now.kept.items) c.in_ok-follow.ensures.last in
     c.in_ok-follow.ensures.last ∙ ap Some (sym key)
 
-pub containers::content-returns-in_default : goal.containers::content-returns-in_default
-containers::content-returns-in_default g t c =
-    record { reads = record { sees = (λ told. ap (λ k. content_value c.args.reader.now.registry.now c.args.depth k c.args.reader.now.at.now.place c.args.reader.now.at.now.nodes (rest_of (g.S.ByteSource.content c.args.reader.now.source.now))) (content_missing c.args.reader.now.registry.now c.args.name.now c.container.result c.container.ensures.found c.in_default.is) ∙ content_nothing c.args.reader.now.registry.now c.args.depth c.args.reader.now.at.now.place c.args.reader.now.at.now.nodes (rest_of (g.S.ByteSource.content c.args.reader.now.source.now))); failed = search rules; room = search rules; goes = search rules; same = search rules } }
-
 pub containers::content-returns-in_err-number-in-Enum : goal.containers::content-returns-in_err-number-in-Enum
 containers::content-returns-in_err-number-in-Enum g t c =
     record {
       reads = record {
         sees = (let p = err_from_is_err_and c.from_residual.result c.from_residual.ensures.1 in
-            let is = content_found c.args.reader.now.registry.now c.args.name.now c.container.result c.in-Some.container c.container.ensures.found c.in-Some.is ∙ ap (λ k. content (container_of k)) c.in-Enum.is in
-            rw (p.1, p.2) (Refuses-whole c.in_err-number-in-Enum.field-0.0 (g.S.ByteSource.content c.args.reader.now.source.now) (g.S.ByteSource.content c.args.reader.now.source.now) c.args.reader.now.at.now c.args.reader.now.at.now (content_value c.args.reader.now.registry.now c.args.depth (content_at c.args.name.now c.args.reader.now.registry.now)) number_node (λ told. told) (λ e o told stop. ap (λ k. content_value c.args.reader.now.registry.now c.args.depth k c.args.reader.now.at.now.place c.args.reader.now.at.now.nodes (rest_of (g.S.ByteSource.content c.args.reader.now.source.now))) is ∙ enum_stop c.args.reader.now.registry.now c.args.depth c.args.reader.now.at.now.place c.args.reader.now.at.now.nodes (rest_of (g.S.ByteSource.content c.args.reader.now.source.now)) (map choice_of c.in-Enum.variants.entries) e o stop) c.in_err-number-in-Enum.ensures.sees));
+            let is = ap (λ k. content (container_of k)) c.in-Enum.is in
+            rw (p.1, p.2) (Refuses-whole c.in_err-number-in-Enum.field-0.0 (g.S.ByteSource.content c.args.reader.now.source.now) (g.S.ByteSource.content c.args.reader.now.source.now) c.args.reader.now.at.now c.args.reader.now.at.now (content_value c.args.reader.now.registry.now c.args.depth (content (container_of c.args.found.now))) number_node (λ told. told) (λ e o told stop. ap (λ k. content_value c.args.reader.now.registry.now c.args.depth k c.args.reader.now.at.now.place c.args.reader.now.at.now.nodes (rest_of (g.S.ByteSource.content c.args.reader.now.source.now))) is ∙ enum_stop c.args.reader.now.registry.now c.args.depth c.args.reader.now.at.now.place c.args.reader.now.at.now.nodes (rest_of (g.S.ByteSource.content c.args.reader.now.source.now)) (map choice_of c.in-Enum.variants.entries) e o stop) c.in_err-number-in-Enum.ensures.sees));
         failed = search rules;
         room = search rules;
         goes = search rules;
@@ -395,12 +446,12 @@ containers::content-returns-in_err-number-in-Enum g t c =
       };
     }
 
-pub containers::content-returns-in_default-get : goal.containers::content-returns-in_default-get
-containers::content-returns-in_default-get g t c =
+pub containers::content-returns-in_default : goal.containers::content-returns-in_default
+containers::content-returns-in_default g t c =
     record {
       reads = record {
-        sees = (let is = content_found c.args.reader.now.registry.now c.args.name.now c.container.result c.in-Some.container c.container.ensures.found c.in-Some.is ∙ ap (λ k. content (container_of k)) c.in-Enum.is in
-            λ told. ap (λ k. content_value c.args.reader.now.registry.now c.args.depth k c.args.reader.now.at.now.place c.args.reader.now.at.now.nodes (rest_of (g.S.ByteSource.content c.args.reader.now.source.now))) is ∙ enum_unknown c.args.reader.now.registry.now c.args.depth c.args.reader.now.at.now.place c.args.reader.now.at.now.nodes (rest_of (g.S.ByteSource.content c.args.reader.now.source.now)) (map choice_of c.in-Enum.variants.entries) c.in_ok-number-in-Enum.number _ _ _ (c.in_ok-number-in-Enum.ensures.sees told).0 (choice_missing c.in_ok-number-in-Enum.number c.in-Enum.variants.entries c.get.result c.get.ensures.value c.in_default-get.is));
+        sees = (let is = ap (λ k. content (container_of k)) c.in-Enum.is in
+            λ told. ap (λ k. content_value c.args.reader.now.registry.now c.args.depth k c.args.reader.now.at.now.place c.args.reader.now.at.now.nodes (rest_of (g.S.ByteSource.content c.args.reader.now.source.now))) is ∙ enum_unknown c.args.reader.now.registry.now c.args.depth c.args.reader.now.at.now.place c.args.reader.now.at.now.nodes (rest_of (g.S.ByteSource.content c.args.reader.now.source.now)) (map choice_of c.in-Enum.variants.entries) c.in_ok-number-in-Enum.number _ _ _ (c.in_ok-number-in-Enum.ensures.sees told).0 (choice_missing c.in_ok-number-in-Enum.number c.in-Enum.variants.entries c.get.result c.get.ensures.value c.in_default.is));
         failed = search rules;
         room = search rules;
         goes = search rules;
@@ -413,9 +464,9 @@ containers::content-returns-in_err-payload-in-Enum g t c =
     record {
       reads = record {
         sees = (let p = err_from_is_err_and c.from_residual-in_err-payload-in-Enum.result c.from_residual-in_err-payload-in-Enum.ensures.1 in
-            let is = content_found c.args.reader.now.registry.now c.args.name.now c.container.result c.in-Some.container c.container.ensures.found c.in-Some.is ∙ ap (λ k. content (container_of k)) c.in-Enum.is in
-            let chosen : choice_at c.in_ok-number-in-Enum.number (map choice_of c.in-Enum.variants.entries) ≡ of (payload_shape (payload_of c.in-Some-get.variant.now.value)) = choice_found c.in_ok-number-in-Enum.number c.in-Enum.variants.entries c.in-Some-get.variant c.get.result c.get.ensures.value c.in-Some-get.is in
-            rw (p.1, p.2) (Refuses-whole c.in_err-payload-in-Enum.field-0.0 (g.S.ByteSource.content c.args.reader.now.source.now) (g.S.ByteSource.content c.variant_number.new.source) c.args.reader.now.at.now c.variant_number.new.at (content_value c.args.reader.now.registry.now c.args.depth (content_at c.args.name.now c.args.reader.now.registry.now)) (read c.args.reader.now.registry.now c.args.depth (payload_shape (payload_of c.in-Some-get.variant.now.value))) (λ told. (c.in_ok-number-in-Enum.ensures.sees told).1) (λ e o told stop. ap (λ k. content_value c.args.reader.now.registry.now c.args.depth k c.args.reader.now.at.now.place c.args.reader.now.at.now.nodes (rest_of (g.S.ByteSource.content c.args.reader.now.source.now))) is ∙ enum_refused c.args.reader.now.registry.now c.args.depth c.args.reader.now.at.now.place c.args.reader.now.at.now.nodes (rest_of (g.S.ByteSource.content c.args.reader.now.source.now)) (map choice_of c.in-Enum.variants.entries) c.in_ok-number-in-Enum.number _ _ _ (payload_shape (payload_of c.in-Some-get.variant.now.value)) e o (c.in_ok-number-in-Enum.ensures.sees told).0 chosen stop) c.in_err-payload-in-Enum.ensures.reads.sees));
+            let is = ap (λ k. content (container_of k)) c.in-Enum.is in
+            let chosen : choice_at c.in_ok-number-in-Enum.number (map choice_of c.in-Enum.variants.entries) ≡ of (payload_shape (payload_of c.in-Some.variant.now.value)) = choice_found c.in_ok-number-in-Enum.number c.in-Enum.variants.entries c.in-Some.variant c.get.result c.get.ensures.value c.in-Some.is in
+            rw (p.1, p.2) (Refuses-whole c.in_err-payload-in-Enum.field-0.0 (g.S.ByteSource.content c.args.reader.now.source.now) (g.S.ByteSource.content c.variant_number.new.source) c.args.reader.now.at.now c.variant_number.new.at (content_value c.args.reader.now.registry.now c.args.depth (content (container_of c.args.found.now))) (read c.args.reader.now.registry.now c.args.depth (payload_shape (payload_of c.in-Some.variant.now.value))) (λ told. (c.in_ok-number-in-Enum.ensures.sees told).1) (λ e o told stop. ap (λ k. content_value c.args.reader.now.registry.now c.args.depth k c.args.reader.now.at.now.place c.args.reader.now.at.now.nodes (rest_of (g.S.ByteSource.content c.args.reader.now.source.now))) is ∙ enum_refused c.args.reader.now.registry.now c.args.depth c.args.reader.now.at.now.place c.args.reader.now.at.now.nodes (rest_of (g.S.ByteSource.content c.args.reader.now.source.now)) (map choice_of c.in-Enum.variants.entries) c.in_ok-number-in-Enum.number _ _ _ (payload_shape (payload_of c.in-Some.variant.now.value)) e o (c.in_ok-number-in-Enum.ensures.sees told).0 chosen stop) c.in_err-payload-in-Enum.ensures.reads.sees));
         failed = search rules;
         room = search rules;
         goes = search rules;
@@ -427,8 +478,8 @@ pub containers::content-returns-in-UnitStruct : goal.containers::content-returns
 containers::content-returns-in-UnitStruct g t c =
     record {
       reads = record {
-        sees = (let is = content_found c.args.reader.now.registry.now c.args.name.now c.container.result c.in-Some.container c.container.ensures.found c.in-Some.is ∙ ap (λ k. content (container_of k)) c.in-UnitStruct.is in
-            Sees-as (λ _. tree_of c.put_unit.new.slot) c.put_unit.result (g.S.ByteSource.content c.args.reader.now.source.now) c.args.reader.now.at.now (content_value c.args.reader.now.registry.now c.args.depth (content_at c.args.name.now c.args.reader.now.registry.now)) unit_leaf c.put_unit.new.at (g.S.ByteSource.content c.put_unit.new.source)
+        sees = (let is = ap (λ k. content (container_of k)) c.in-UnitStruct.is in
+            Sees-as (λ _. tree_of c.put_unit.new.slot) c.put_unit.result (g.S.ByteSource.content c.args.reader.now.source.now) c.args.reader.now.at.now (content_value c.args.reader.now.registry.now c.args.depth (content (container_of c.args.found.now))) unit_leaf c.put_unit.new.at (g.S.ByteSource.content c.put_unit.new.source)
             (λ p m b. ap (λ k. content_value c.args.reader.now.registry.now c.args.depth k p m b) is ∙ content_shape c.args.reader.now.registry.now c.args.depth p m b _ ∙ unit_is c.args.reader.now.registry.now c.args.depth p m b) (c.put_unit.ensures.sees));
         failed = search rules;
         room = search rules;
@@ -441,8 +492,8 @@ pub containers::content-returns-in-NewTypeStruct : goal.containers::content-retu
 containers::content-returns-in-NewTypeStruct g t c =
     record {
       reads = record {
-        sees = (let is = content_found c.args.reader.now.registry.now c.args.name.now c.container.result c.in-Some.container c.container.ensures.found c.in-Some.is ∙ ap (λ k. content (container_of k)) c.in-NewTypeStruct.is in
-            Sees-as (λ _. tree_of c.value.new.slot) c.value.result (g.S.ByteSource.content c.args.reader.now.source.now) c.args.reader.now.at.now (content_value c.args.reader.now.registry.now c.args.depth (content_at c.args.name.now c.args.reader.now.registry.now)) (read c.args.reader.now.registry.now c.args.depth (shape_of c.in-NewTypeStruct.format)) c.value.new.reader.at.now (g.S.ByteSource.content c.value.new.reader.source.now)
+        sees = (let is = ap (λ k. content (container_of k)) c.in-NewTypeStruct.is in
+            Sees-as (λ _. tree_of c.value.new.slot) c.value.result (g.S.ByteSource.content c.args.reader.now.source.now) c.args.reader.now.at.now (content_value c.args.reader.now.registry.now c.args.depth (content (container_of c.args.found.now))) (read c.args.reader.now.registry.now c.args.depth (shape_of c.in-NewTypeStruct.format)) c.value.new.reader.at.now (g.S.ByteSource.content c.value.new.reader.source.now)
             (λ p m b. ap (λ k. content_value c.args.reader.now.registry.now c.args.depth k p m b) is ∙ content_shape c.args.reader.now.registry.now c.args.depth p m b _) (c.value.ensures.reads.sees));
         failed = search rules;
         room = search rules;
@@ -455,8 +506,8 @@ pub containers::content-returns-in-TupleStruct : goal.containers::content-return
 containers::content-returns-in-TupleStruct g t c =
     record {
       reads = record {
-        sees = (let is = content_found c.args.reader.now.registry.now c.args.name.now c.container.result c.in-Some.container c.container.ensures.found c.in-Some.is ∙ ap (λ k. content (container_of k)) c.in-TupleStruct.is in
-            Sees-as (λ _. tree_of c.tuple.new.slot) c.tuple.result (g.S.ByteSource.content c.args.reader.now.source.now) c.args.reader.now.at.now (content_value c.args.reader.now.registry.now c.args.depth (content_at c.args.name.now c.args.reader.now.registry.now)) (tuple_value c.args.reader.now.registry.now c.args.depth (formats_shapes c.in-TupleStruct.formats.items)) c.tuple.new.reader.at.now (g.S.ByteSource.content c.tuple.new.reader.source.now)
+        sees = (let is = ap (λ k. content (container_of k)) c.in-TupleStruct.is in
+            Sees-as (λ _. tree_of c.tuple.new.slot) c.tuple.result (g.S.ByteSource.content c.args.reader.now.source.now) c.args.reader.now.at.now (content_value c.args.reader.now.registry.now c.args.depth (content (container_of c.args.found.now))) (tuple_value c.args.reader.now.registry.now c.args.depth (formats_shapes c.in-TupleStruct.formats.items)) c.tuple.new.reader.at.now (g.S.ByteSource.content c.tuple.new.reader.source.now)
             (λ p m b. ap (λ k. content_value c.args.reader.now.registry.now c.args.depth k p m b) is ∙ content_shape c.args.reader.now.registry.now c.args.depth p m b _ ∙ read_tuple c.args.reader.now.registry.now c.args.depth p m b _) (rw (← c.deref.ensures.value) c.tuple.ensures.reads.sees));
         failed = search rules;
         room = search rules;
@@ -469,8 +520,8 @@ pub containers::content-returns-in-Struct : goal.containers::content-returns-in-
 containers::content-returns-in-Struct g t c =
     record {
       reads = record {
-        sees = (let is = content_found c.args.reader.now.registry.now c.args.name.now c.container.result c.in-Some.container c.container.ensures.found c.in-Some.is ∙ ap (λ k. content (container_of k)) c.in-Struct.is in
-            Sees-as (λ _. tree_of c.structure.new.slot) c.structure.result (g.S.ByteSource.content c.args.reader.now.source.now) c.args.reader.now.at.now (content_value c.args.reader.now.registry.now c.args.depth (content_at c.args.name.now c.args.reader.now.registry.now)) (tuple_value c.args.reader.now.registry.now c.args.depth (fields_shapes c.in-Struct.fields.items)) c.structure.new.reader.at.now (g.S.ByteSource.content c.structure.new.reader.source.now)
+        sees = (let is = ap (λ k. content (container_of k)) c.in-Struct.is in
+            Sees-as (λ _. tree_of c.structure.new.slot) c.structure.result (g.S.ByteSource.content c.args.reader.now.source.now) c.args.reader.now.at.now (content_value c.args.reader.now.registry.now c.args.depth (content (container_of c.args.found.now))) (tuple_value c.args.reader.now.registry.now c.args.depth (fields_shapes c.in-Struct.fields.items)) c.structure.new.reader.at.now (g.S.ByteSource.content c.structure.new.reader.source.now)
             (λ p m b. ap (λ k. content_value c.args.reader.now.registry.now c.args.depth k p m b) is ∙ content_shape c.args.reader.now.registry.now c.args.depth p m b _ ∙ read_tuple c.args.reader.now.registry.now c.args.depth p m b _) (rw (← c.deref-in-Struct.ensures.value) c.structure.ensures.reads.sees));
         failed = search rules;
         room = search rules;
@@ -483,9 +534,9 @@ pub containers::content-returns-in_ok-wrap_variant-in-Enum : goal.containers::co
 containers::content-returns-in_ok-wrap_variant-in-Enum g t c =
     record {
       reads = record {
-        sees = (let is = content_found c.args.reader.now.registry.now c.args.name.now c.container.result c.in-Some.container c.container.ensures.found c.in-Some.is ∙ ap (λ k. content (container_of k)) c.in-Enum.is in
-            let chosen : choice_at c.in_ok-number-in-Enum.number (map choice_of c.in-Enum.variants.entries) ≡ of (payload_shape (payload_of c.in-Some-get.variant.now.value)) = choice_found c.in_ok-number-in-Enum.number c.in-Enum.variants.entries c.in-Some-get.variant c.get.result c.get.ensures.value c.in-Some-get.is in
-            λ told. (let number = c.in_ok-number-in-Enum.ensures.sees told in let part = c.in_ok-payload-in-Enum.ensures.reads.sees number.1 in (ap (λ k. content_value c.args.reader.now.registry.now c.args.depth k c.args.reader.now.at.now.place c.args.reader.now.at.now.nodes (rest_of (g.S.ByteSource.content c.args.reader.now.source.now))) is ∙ enum_on c.args.reader.now.registry.now c.args.depth c.args.reader.now.at.now.place c.args.reader.now.at.now.nodes (rest_of (g.S.ByteSource.content c.args.reader.now.source.now)) (map choice_of c.in-Enum.variants.entries) c.in_ok-number-in-Enum.number _ _ _ (payload_shape (payload_of c.in-Some-get.variant.now.value)) _ _ _ _ number.0 chosen part.0 ∙ rw (sym c.in_ok-wrap_variant-in-Enum.ensures.wrapped) refl, part.1)));
+        sees = (let is = ap (λ k. content (container_of k)) c.in-Enum.is in
+            let chosen : choice_at c.in_ok-number-in-Enum.number (map choice_of c.in-Enum.variants.entries) ≡ of (payload_shape (payload_of c.in-Some.variant.now.value)) = choice_found c.in_ok-number-in-Enum.number c.in-Enum.variants.entries c.in-Some.variant c.get.result c.get.ensures.value c.in-Some.is in
+            λ told. (let number = c.in_ok-number-in-Enum.ensures.sees told in let part = c.in_ok-payload-in-Enum.ensures.reads.sees number.1 in (ap (λ k. content_value c.args.reader.now.registry.now c.args.depth k c.args.reader.now.at.now.place c.args.reader.now.at.now.nodes (rest_of (g.S.ByteSource.content c.args.reader.now.source.now))) is ∙ enum_on c.args.reader.now.registry.now c.args.depth c.args.reader.now.at.now.place c.args.reader.now.at.now.nodes (rest_of (g.S.ByteSource.content c.args.reader.now.source.now)) (map choice_of c.in-Enum.variants.entries) c.in_ok-number-in-Enum.number _ _ _ (payload_shape (payload_of c.in-Some.variant.now.value)) _ _ _ _ number.0 chosen part.0 ∙ rw (sym c.in_ok-wrap_variant-in-Enum.ensures.wrapped) refl, part.1)));
         failed = search rules;
         room = search rules;
         goes = (Along-then c.in_ok-number-in-Enum.ensures.goes c.in_ok-payload-in-Enum.ensures.reads.goes);
@@ -535,37 +586,76 @@ containers::payload-returns-in-Struct g t c =
 pub containers::content-value-requires : goal.containers::content-value-requires
 containers::content-value-requires g t c κs within =
     let s : Shape = shape_of c.in-NewTypeStruct.format in
-    let is : content_at c.args.name.now c.args.reader.now.registry.now ≡ of s = content_found c.args.reader.now.registry.now c.args.name.now c.container.result c.in-Some.container c.container.ensures.found c.in-Some.is ∙ ap (λ k. content (container_of k)) c.in-NewTypeStruct.is in
-    let low : levels s ≤ 33 = (content_at-inside c.args.reader.now.registry.now c.container.ensures.well_formed c.args.name.now s is).1 in
+    let is : content_at c.requires.known.name c.args.reader.now.registry.now ≡ of s = c.requires.known.has ∙ ap (λ k. content (container_of k)) c.in-NewTypeStruct.is in
+    let low : levels s ≤ 33 = (content_at-inside c.args.reader.now.registry.now c.requires.known.well_formed c.requires.known.name s is).1 in
     (omega (arith, low), (within, record { good = search rules; room = search rules }))
 
 pub containers::content-tuple-requires : goal.containers::content-tuple-requires
 containers::content-tuple-requires g t c κs within =
     let ss = formats_shapes c.in-TupleStruct.formats.items in
-    let is : content_at c.args.name.now c.args.reader.now.registry.now ≡ of (tuple_shape ss) = content_found c.args.reader.now.registry.now c.args.name.now c.container.result c.in-Some.container c.container.ensures.found c.in-Some.is ∙ ap (λ k. content (container_of k)) c.in-TupleStruct.is in
-    let low : suc (shapes_levels ss) ≤ 33 = (content_at-inside c.args.reader.now.registry.now c.container.ensures.well_formed c.args.name.now (tuple_shape ss) is).1 in
+    let is : content_at c.requires.known.name c.args.reader.now.registry.now ≡ of (tuple_shape ss) = c.requires.known.has ∙ ap (λ k. content (container_of k)) c.in-TupleStruct.is in
+    let low : suc (shapes_levels ss) ≤ 33 = (content_at-inside c.args.reader.now.registry.now c.requires.known.well_formed c.requires.known.name (tuple_shape ss) is).1 in
     let same : shapes_levels (formats_shapes c.deref.result.now) ≡ shapes_levels ss = ap (λ fs. shapes_levels (formats_shapes fs)) c.deref.ensures.value in
     (omega (arith, low, same), (within, record { good = search rules; room = search rules }))
 
 pub containers::content-structure-requires : goal.containers::content-structure-requires
 containers::content-structure-requires g t c κs within =
     let ss = fields_shapes c.in-Struct.fields.items in
-    let is : content_at c.args.name.now c.args.reader.now.registry.now ≡ of (tuple_shape ss) = content_found c.args.reader.now.registry.now c.args.name.now c.container.result c.in-Some.container c.container.ensures.found c.in-Some.is ∙ ap (λ k. content (container_of k)) c.in-Struct.is in
-    let low : suc (shapes_levels ss) ≤ 33 = (content_at-inside c.args.reader.now.registry.now c.container.ensures.well_formed c.args.name.now (tuple_shape ss) is).1 in
+    let is : content_at c.requires.known.name c.args.reader.now.registry.now ≡ of (tuple_shape ss) = c.requires.known.has ∙ ap (λ k. content (container_of k)) c.in-Struct.is in
+    let low : suc (shapes_levels ss) ≤ 33 = (content_at-inside c.args.reader.now.registry.now c.requires.known.well_formed c.requires.known.name (tuple_shape ss) is).1 in
     let same : shapes_levels (fields_shapes c.deref-in-Struct.result.now) ≡ shapes_levels ss = ap (λ fs. shapes_levels (fields_shapes fs)) c.deref-in-Struct.ensures.value in
     (omega (arith, low, same), (within, record { good = search rules; room = search rules }))
 
 pub containers::content-payload-requires : goal.containers::content-payload-requires
 containers::content-payload-requires g t c κs within =
-    let s : Shape = (payload_shape (payload_of c.in-Some-get.variant.now.value)) in
-    let is : content_at c.args.name.now c.args.reader.now.registry.now ≡ one_of (map choice_of c.in-Enum.variants.entries) = content_found c.args.reader.now.registry.now c.args.name.now c.container.result c.in-Some.container c.container.ensures.found c.in-Some.is ∙ ap (λ k. content (container_of k)) c.in-Enum.is in
-    let chosen : choice_at c.in_ok-number-in-Enum.number (map choice_of c.in-Enum.variants.entries) ≡ of (payload_shape (payload_of c.in-Some-get.variant.now.value)) = choice_found c.in_ok-number-in-Enum.number c.in-Enum.variants.entries c.in-Some-get.variant c.get.result c.get.ensures.value c.in-Some-get.is in
-    let low : levels s ≤ 33 = (choice_at-inside c.args.reader.now.registry.now c.container.ensures.well_formed c.args.name.now (map choice_of c.in-Enum.variants.entries) is c.in_ok-number-in-Enum.number s chosen).1 in
+    let s : Shape = (payload_shape (payload_of c.in-Some.variant.now.value)) in
+    let is : content_at c.requires.known.name c.args.reader.now.registry.now ≡ one_of (map choice_of c.in-Enum.variants.entries) = c.requires.known.has ∙ ap (λ k. content (container_of k)) c.in-Enum.is in
+    let chosen : choice_at c.in_ok-number-in-Enum.number (map choice_of c.in-Enum.variants.entries) ≡ of (payload_shape (payload_of c.in-Some.variant.now.value)) = choice_found c.in_ok-number-in-Enum.number c.in-Enum.variants.entries c.in-Some.variant c.get.result c.get.ensures.value c.in-Some.is in
+    let low : levels s ≤ 33 = (choice_at-inside c.args.reader.now.registry.now c.requires.known.well_formed c.requires.known.name (map choice_of c.in-Enum.variants.entries) is c.in_ok-number-in-Enum.number s chosen).1 in
     (omega (arith, low), (within, record { good = c.in_ok-number-in-Enum.ensures.failed; room = c.in_ok-number-in-Enum.ensures.room }))
 
-pub containers::named-returns : goal.containers::named-returns
-unfolding chain give named_value
-containers::named-returns g t c =
+pub containers::named-container-requires-2 : goal.containers::named-container-requires-2
+containers::named-container-requires-2 g t c κs within =
+    let r = c.args.reader.now.registry.now in (
+      omega arith,
+      (within, (record { good = search rules; room = search rules }, record { name = c.args.name.now; has = content_found r c.args.name.now c.container.result c.in-Some.found c.container.ensures.found c.in-Some.is; well_formed = c.container.ensures.well_formed })),
+    )
+
+pub containers::named-returns-in_err-enter : goal.containers::named-returns-in_err-enter
+containers::named-returns-in_err-enter g t c =
+    let r = c.args.reader.now.registry.now in
+    let p = err_from_is_err_and c.from_residual.result c.from_residual.ensures.1 in
+    let from = g.S.ByteSource.content c.args.reader.now.source.now in
+    record {
+      reads = record {
+        sees = (rw (p.1, p.2) (Refuses-whole c.in_err-enter.field-0.0 from from c.args.reader.now.at.now c.args.reader.now.at.now (container_value r c.args.depth (content_at c.args.name.now r)) (enter_here c.args.depth) (λ told. told)
+            (λ e o told stop. container_stop r c.args.depth c.args.reader.now.at.now.place c.args.reader.now.at.now.nodes (rest_of from) (content_at c.args.name.now r) e o stop) c.in_err-enter.ensures.sees));
+        failed = search rules;
+        room = search rules;
+        goes = search rules;
+        same = search rules;
+      };
+    }
+
+pub containers::named-returns-in_default : goal.containers::named-returns-in_default
+containers::named-returns-in_default g t c =
+    let r = c.args.reader.now.registry.now in
+    let at = c.args.reader.now.at.now in
+    let from = g.S.ByteSource.content c.args.reader.now.source.now in
+    record {
+      reads = record {
+        sees = (λ told. ap (λ k. container_value r c.args.depth k at.place at.nodes (rest_of from)) (content_missing r c.args.name.now c.container.result c.container.ensures.found c.in_default.is)
+            ∙ container_missing r c.args.depth at.place at.nodes (rest_of from) _ _ _ (c.in_ok-enter.ensures.sees told).0);
+        failed = search rules;
+        room = search rules;
+        goes = (c.in_ok-enter.ensures.goes.gone, omega arith);
+        same = search rules;
+      };
+    }
+
+pub containers::container-returns : goal.containers::container-returns
+unfolding chain give container_value
+containers::container-returns g t c =
     record { reads = record { sees = (grind (arith, common_steps)); failed = search rules; room = search rules; goes = (Along-then c.in_ok-enter.ensures.goes c.in_ok-content.ensures.reads.goes); same = search rules } }
 
 pub maps::pairs-returns-in-Ok : goal.maps::pairs-returns-in-Ok

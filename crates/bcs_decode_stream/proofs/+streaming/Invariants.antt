@@ -1,9 +1,9 @@
 use Rattle.std.proofs.Common.{◌≡◌, ℕ, ◌+◌, ◌*◌, max, length, map, drop}
-use Rattle.bcs_registry_formats.specs.Container.{field_shapes, payload_shape}
-use Rattle.bcs_registry_formats.specs.View.{shape_of, formats_shapes, field_of, payload_of}
+use Rattle.bcs_registry_formats.specs.Container.{content, field_shapes, payload_shape}
+use Rattle.bcs_registry_formats.specs.View.{shape_of, formats_shapes, field_of, payload_of, container_of}
 use Rattle.bcs_registry_formats.specs.WellFormed.{levels, shapes_levels}
 use Rattle.bcs_decode_keys.specs.Kept.{Stands, last_bytes}
-use Rattle.bcs_decode_reader.specs.Sees.{Along, AlongMap, read}
+use Rattle.bcs_decode_reader.specs.Sees.{Along, AlongMap, container_value, read}
 use Rattle.bcs_decode_reader.proofs.StreamedRows.{ItemsSoFar, EachSoFar, PairsSoFar}
 use Rattle.bcs_decode_stream.specs.Reads.{Ready, IsSame}
 use Rattle.bcs_decode_stream.proofs.+streaming.Given as goal
@@ -39,6 +39,12 @@ decreases-containers::each_field g l = work l.depth (shapes_levels (field_shapes
 abbrev pub decreases-containers::named : goal.decreases-containers::named
 decreases-containers::named g l = work l.depth 0 + 3
 
+abbrev pub decreases-containers::container : goal.decreases-containers::container
+decreases-containers::container g l = work l.depth 0 + 2
+
+abbrev pub decreases-rows::containers : goal.decreases-rows::containers
+decreases-rows::containers g l = work l.depth 0 + 4
+
 abbrev pub decreases-containers::content : goal.decreases-containers::content
 decreases-containers::content g l = work l.depth 34
 
@@ -60,6 +66,14 @@ invariant-rows::row-loop g l = record {
   same : IsSame l.initial.reader l.reader;
   goes : Along (g.S.ByteSource.content l.initial.reader.source.now) l.initial.reader.at.now (g.S.ByteSource.content l.reader.source.now) l.reader.at.now;
   sees : ItemsSoFar (read l.initial.reader.registry.now l.depth (shape_of l.element)) l.count l.counter l.found.items (g.S.ByteSource.content l.initial.reader.source.now) (g.S.ByteSource.content l.reader.source.now) l.initial.reader.at.now l.reader.at.now;
+}
+
+abbrev pub invariant-rows::containers-loop : goal.invariant-rows::containers-loop
+invariant-rows::containers-loop g l = record {
+  ready : Ready g.S.ByteSource.is_failed g.S.ByteSource.allowance l.reader;
+  same : IsSame l.initial.reader l.reader;
+  goes : Along (g.S.ByteSource.content l.initial.reader.source.now) l.initial.reader.at.now (g.S.ByteSource.content l.reader.source.now) l.reader.at.now;
+  sees : ItemsSoFar (container_value l.initial.reader.registry.now l.depth (content (container_of l.element))) l.count l.counter l.found.items (g.S.ByteSource.content l.initial.reader.source.now) (g.S.ByteSource.content l.reader.source.now) l.initial.reader.at.now l.reader.at.now;
 }
 
 abbrev pub invariant-rows::parts-loop-format : goal.invariant-rows::parts-loop-format
