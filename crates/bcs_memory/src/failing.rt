@@ -26,10 +26,10 @@ pub(crate) fn ask(alloc: Global, row: &Row, tally: &mut Tally) -> Result<(), Tol
         tally.note("decode_all", whole_told(alloc, &accepted, done));
     }
     let work = jobs::job(alloc, Command::Encode, row.registry, "", row.format)?;
-    for done in 0..=row.input.len() {
-        tally.note("run", read_told(alloc, &work, row.input, done));
+    for done in 0..=row.input.len().saturating_add(1) {
+        tally.note("run", read_told(alloc, &work, row, done));
     }
-    for done in 0..=row.answer.len() {
+    for done in 0..=row.answer.len().saturating_add(1) {
         tally.note("run", put_told(alloc, &work, row, done));
     }
     Ok(())
@@ -92,19 +92,26 @@ fn decoded_told(answer: Result<Value, DecodeFault>, value: &Value, is_whole: boo
     }
 }
 
-// The input gives so many bytes, and then fails: at its end at the latest.
-fn read_told(alloc: Global, work: &Work, input: &str, done: usize) -> Told {
-    let mut source = PieceSource::new(input.as_bytes(), 1, Some((done as u64).saturating_add(1)));
+// The input gives so many bytes, and then fails: at its end at the latest. Behind its end it isn't read.
+fn read_told(alloc: Global, work: &Work, row: &Row, done: usize) -> Told {
+    let input = row.input.as_bytes();
+    let mut source = PieceSource::new(input, 1, Some((done as u64).saturating_add(1)));
     let mut out = PieceSink::<256>::new(1, None);
     let Outcome { status, note } = run(alloc, work, &mut source, &mut out);
+    if done > input.len() {
+        return Told::of(status == 0 && jobs::is_line(out.taken(), row.answer));
+    }
     Told::of(status == 4 && note == "fault: read" && out.taken().is_empty())
 }
 
-// The output takes so many bytes of the line, and then fails: at the line's end at the latest.
+// The output takes so many bytes of the line, and then fails: at the line's end at the latest. Nothing is put behind it.
 fn put_told(alloc: Global, work: &Work, row: &Row, done: usize) -> Told {
     let mut source = SliceSource::new(row.input.as_bytes());
     let mut out = PieceSink::<256>::new(1, Some((done as u64).saturating_add(1)));
     let Outcome { status, note } = run(alloc, work, &mut source, &mut out);
+    if done > row.answer.len() {
+        return Told::of(status == 0 && jobs::is_line(out.taken(), row.answer));
+    }
     let is_front = row.answer.as_bytes().get(..done) == Some(out.taken());
     Told::of(status == 4 && note == "fault: write" && is_front)
 }
