@@ -10,7 +10,7 @@ use bcs_decode::pieces::PieceSource;
 use bcs_decode::{ByteSource, DecodeFault, SliceSource, decode_all, decode_from};
 use bcs_encode::pieces::PieceSink;
 use bcs_encode::{ByteSink, WriteFault, write};
-use bcs_tool::{Command, Outcome, Work, run};
+use bcs_tool::{Command, Work, run};
 use bcs_value::{Value, same};
 use std::alloc::Global;
 
@@ -38,13 +38,13 @@ fn ask_of_calls(alloc: Global, accepted: &Accepted, tally: &mut Tally) {
 // The commands on the value of a text, and on its bytes.
 fn ask_of_jobs(alloc: Global, row: &Row, tally: &mut Tally) -> Result<(), Told> {
     let work = jobs::job(alloc, Command::Encode, row.registry, "", row.format)?;
-    ask_of_job(alloc, &work, row.input, row.answer, tally);
+    ask_of_job(alloc, &work, [row.input, row.answer], 0, tally);
     let work = jobs::job(alloc, Command::Decode, row.registry, "", row.format)?;
-    ask_of_job(alloc, &work, row.answer, row.more, tally);
+    ask_of_job(alloc, &work, [row.answer, row.more], 0, tally);
     let work = jobs::job(alloc, Command::Normalise, row.registry, "", row.format)?;
-    ask_of_job(alloc, &work, row.input, row.more, tally);
+    ask_of_job(alloc, &work, [row.input, row.more], 0, tally);
     let work = jobs::job(alloc, Command::Same, row.registry, row.input, row.format)?;
-    ask_of_job(alloc, &work, row.input, "equal", tally);
+    ask_of_job(alloc, &work, [row.input, "equal"], 0, tally);
     Ok(())
 }
 
@@ -54,16 +54,17 @@ fn ask_refused(alloc: Global, command: Command, row: &Row, tally: &mut Tally) ->
     work.limits = Asked::read(alloc, row, row.format, row.more)?.limits;
     let mut line = String::from_str(alloc, "refused: ")?;
     line.push_str(row.answer)?;
-    ask_of_job(alloc, &work, row.input, line.as_str(), tally);
+    ask_of_job(alloc, &work, [row.input, line.as_str()], 2, tally);
     Ok(())
 }
 
-fn ask_of_job(alloc: Global, work: &Work, input: &str, line: &str, tally: &mut Tally) {
-    for done in 0..=input.len() {
-        tally.note("run", read_told(alloc, work, input, done));
+// A job's input and the line that is put for it, with the status.
+fn ask_of_job(alloc: Global, work: &Work, texts: [&str; 2], status: u8, tally: &mut Tally) {
+    for done in 0..=texts[0].len().saturating_add(1) {
+        tally.note("run", read_told(alloc, work, texts, status, done));
     }
-    for done in 0..=line.len() {
-        tally.note("run", put_told(alloc, work, [input, line], done));
+    for done in 0..=texts[1].len().saturating_add(1) {
+        tally.note("run", put_told(alloc, work, texts, status, done));
     }
 }
 
@@ -124,19 +125,31 @@ fn decoded_told(answer: Result<Value, DecodeFault>, value: &Value, is_whole: boo
     }
 }
 
-// The input gives so many bytes, and then fails: at its end at the latest.
-fn read_told(alloc: Global, work: &Work, input: &str, done: usize) -> Told {
+// The input gives so many bytes, and then fails: at its end at the latest. Behind its end it isn't read.
+fn read_told(
+    alloc: Global,
+    work: &Work,
+    [input, line]: [&str; 2],
+    status: u8,
+    done: usize,
+) -> Told {
     let mut source = PieceSource::new(input.as_bytes(), 1, Some((done as u64).saturating_add(1)));
     let mut out = PieceSink::<256>::new(1, None);
-    let Outcome { status, note } = run(alloc, work, &mut source, &mut out);
-    Told::of(status == 4 && note == "fault: read" && out.taken().is_empty())
+    let outcome = run(alloc, work, &mut source, &mut out);
+    if done > input.len() {
+        return Told::of(outcome.status == status && jobs::is_line(out.taken(), line));
+    }
+    Told::of(outcome.status == 4 && outcome.note == "fault: read" && out.taken().is_empty())
 }
 
-// The output takes so many bytes of the line, and then fails: at the line's end at the latest.
-fn put_told(alloc: Global, work: &Work, [input, line]: [&str; 2], done: usize) -> Told {
+// The output takes so many bytes of the line, and then fails: at the line's end at the latest. Nothing is put behind it.
+fn put_told(alloc: Global, work: &Work, [input, line]: [&str; 2], status: u8, done: usize) -> Told {
     let mut source = SliceSource::new(input.as_bytes());
     let mut out = PieceSink::<256>::new(1, Some((done as u64).saturating_add(1)));
-    let Outcome { status, note } = run(alloc, work, &mut source, &mut out);
+    let outcome = run(alloc, work, &mut source, &mut out);
+    if done > line.len() {
+        return Told::of(outcome.status == status && jobs::is_line(out.taken(), line));
+    }
     let is_front = line.as_bytes().get(..done) == Some(out.taken());
-    Told::of(status == 4 && note == "fault: write" && is_front)
+    Told::of(outcome.status == 4 && outcome.note == "fault: write" && is_front)
 }

@@ -55,7 +55,7 @@ pub(crate) fn ask(
 }
 
 /// A line of this text: a refusal's line has `refused: ` before it.
-fn is_line(put: &[u8], text: &str) -> bool {
+pub(crate) fn is_line(put: &[u8], text: &str) -> bool {
     let Ok(put) = str::from_utf8(put) else {
         return false;
     };

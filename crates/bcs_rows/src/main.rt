@@ -4,6 +4,7 @@
 mod changes;
 mod encodings;
 mod jobs;
+mod likeness;
 mod lines;
 mod numbers;
 mod pairs;

@@ -3,7 +3,9 @@
 use crate::row_fault::RowFault;
 use crate::setting::Setting;
 use crate::words::unrolled;
-use crate::{encodings, jobs, lines, numbers, parts, registries, texts, values, verdicts};
+use crate::{
+    encodings, jobs, likeness, lines, numbers, parts, registries, texts, values, verdicts,
+};
 use std::alloc::{AllocError, Global};
 
 /// The answer to a row, or why there is none.
@@ -44,6 +46,7 @@ fn answered(
         "verdict" | "scan" | "changes" => verdicts::answer(alloc, setting, question, words),
         "part" => parts::answer(alloc, setting, words),
         "values" | "fits" => values::answer(alloc, setting, question, words),
+        "alike" | "size" => likeness::answer(alloc, setting, question, words),
         "encode" | "form" => encodings::answer(alloc, setting, question, words),
         "json" | "text" | "same" | "pairs" => texts::answer(alloc, setting, question, words),
         "line" | "usage" | "help" => lines::answer(alloc, question, words),

@@ -16,10 +16,6 @@ pub(crate) fn map<const N: usize>(
     Ok(Value::Pairs(Vec::from_array(alloc, entries)?))
 }
 
-pub(crate) fn text(alloc: Global, text: &str) -> Result<Value, AllocError> {
-    Ok(Value::Text(String::from_str(alloc, text)?))
-}
-
 pub(crate) fn named(alloc: Global, value: Value) -> Result<Value, AllocError> {
     Ok(Value::Named(Box::new(alloc, value)?))
 }

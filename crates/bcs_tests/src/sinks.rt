@@ -3,31 +3,45 @@ use bcs_encode::pieces::PieceSink;
 use bcs_encode::{ByteSink, SinkFailed, WriteSink};
 use std::io;
 use std::io::{ErrorKind, Write};
+use std::process::Abort;
 use std::test::Fail;
 
-#[test]
-fn piece_sink_fails_from_the_chosen_call_on(rt: HostRuntime) -> Result<(), Fail> {
-    for (fail_at, taken) in [(1, ""), (2, "a"), (3, "aa"), (4, "aaa")] {
-        let mut sink = PieceSink::<8>::new(1, Some(fail_at));
-        for call in 1..fail_at {
-            assert_eq!(rt; sink.put(b"ab"), Ok(1), "call {call} before {fail_at}");
-            assert!(rt; !sink.failed(), "call {call} before {fail_at}");
-        }
-        for piece in ["ab", "", "c"] {
-            assert_eq!(rt;
-                sink.put(piece.as_bytes()),
-                Err(SinkFailed),
-                "from call {fail_at} on"
-            );
-            assert!(rt; sink.failed(), "from call {fail_at} on");
-        }
-        assert_eq!(rt; sink.taken(), taken.as_bytes(), "after call {fail_at}");
+// A call is answered so, and then the sink has taken this.
+fn answers<const N: usize>(
+    rt: &impl Abort,
+    sink: &mut PieceSink<N>,
+    piece: &str,
+    answer: Result<usize, SinkFailed>,
+    taken: &str,
+) {
+    assert!(rt; sink.put(piece.as_bytes()) == answer);
+    assert!(rt; sink.failed() == answer.is_err());
+    assert!(rt; sink.taken() == taken.as_bytes());
+}
+
+// The sink takes a byte of `ab` a call, and fails from the call behind these on.
+fn fails_behind(rt: &impl Abort, taken: &[&str]) {
+    let fail_at = (taken.len() as u64).saturating_add(1);
+    let mut sink = PieceSink::<8>::new(1, Some(fail_at));
+    let mut last = "";
+    for taken in taken {
+        answers(rt, &mut sink, "ab", Ok(1), taken);
+        last = taken;
     }
-    Ok(())
+    for piece in ["ab", "", "c"] {
+        answers(rt, &mut sink, piece, Err(SinkFailed), last);
+    }
 }
 
 #[test]
-fn piece_sink_is_full_at_its_array(rt: HostRuntime) -> Result<(), Fail> {
+fn piece_sink_fails_from_the_chosen_call_on(rt: HostRuntime) {
+    for calls in [[].as_slice(), &["a"], &["a", "aa"], &["a", "aa", "aaa"]] {
+        fails_behind(&rt, calls);
+    }
+}
+
+#[test]
+fn piece_sink_is_full_at_its_array(rt: HostRuntime) {
     let mut sink = PieceSink::<4>::new(3, None);
     for (piece, answer, taken) in [
         ("abcde", Ok(3), "abc"),
@@ -37,11 +51,8 @@ fn piece_sink_is_full_at_its_array(rt: HostRuntime) -> Result<(), Fail> {
         ("e", Err(SinkFailed), "abcd"),
         ("", Err(SinkFailed), "abcd"),
     ] {
-        assert_eq!(rt; sink.put(piece.as_bytes()), answer, "{piece} to {taken}");
-        assert_eq!(rt; sink.failed(), answer.is_err(), "{piece} to {taken}");
-        assert_eq!(rt; sink.taken(), taken.as_bytes(), "{piece}");
+        answers(&rt, &mut sink, piece, answer, taken);
     }
-    Ok(())
 }
 
 #[test]

@@ -6,31 +6,38 @@ use std::io::{ErrorKind, Read};
 use std::process::Abort;
 use std::test::Fail;
 
-#[test]
-fn piece_source_fails_from_the_chosen_call_on(rt: HostRuntime) -> Result<(), Fail> {
-    for fail_at in 1..6 {
-        let mut source = PieceSource::new(b"abc", 1, Some(fail_at));
-        let mut buf = [0u8; 8];
-        // The fourth call and the fifth meet the end of the content.
-        for call in 1..fail_at {
-            let answer = source.next(&mut buf);
-            assert_eq!(rt;
-                answer,
-                Ok(usize::from(call < 4)),
-                "call {call} before {fail_at}"
-            );
-            assert!(rt; !source.failed(), "call {call} before {fail_at}");
-        }
-        let given = source.given();
-        assert_eq!(rt; given, (fail_at - 1).min(3), "before call {fail_at}");
-        for room in [8, 0, 1] {
-            let answer = source.next(&mut buf[..room]);
-            assert_eq!(rt; answer, Err(SourceFailed), "from call {fail_at} on");
-            assert!(rt; source.failed(), "from call {fail_at} on");
-            assert_eq!(rt; source.given(), given, "from call {fail_at} on");
-        }
+// A call with room for so many bytes, of at most eight, is answered so.
+fn answers(
+    rt: &impl Abort,
+    source: &mut PieceSource<'_>,
+    room: usize,
+    answer: Result<usize, SourceFailed>,
+) {
+    let mut buf = [0u8; 8];
+    assert!(rt; room <= 8);
+    assert!(rt; source.next(&mut buf[..room]) == answer);
+    assert!(rt; source.failed() == answer.is_err());
+}
+
+// The source gives a byte a call, and fails from this call on. The fourth and the fifth meet the end of the content.
+fn fails_from(rt: &impl Abort, fail_at: u64) {
+    let mut source = PieceSource::new(b"abc", 1, Some(fail_at));
+    for call in 1..fail_at {
+        answers(rt, &mut source, 8, Ok(usize::from(call < 4)));
     }
-    Ok(())
+    let given = fail_at.saturating_sub(1).min(3);
+    assert!(rt; source.given() == given);
+    for room in [8, 0, 1] {
+        answers(rt, &mut source, room, Err(SourceFailed));
+        assert!(rt; source.given() == given);
+    }
+}
+
+#[test]
+fn piece_source_fails_from_the_chosen_call_on(rt: HostRuntime) {
+    for fail_at in 1..6 {
+        fails_from(&rt, fail_at);
+    }
 }
 
 // Where there is room for so many bytes, of at most four, the source gives these.

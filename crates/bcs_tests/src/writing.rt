@@ -65,18 +65,6 @@ fn pieces_before_the_failure_are_put(rt: HostRuntime) -> Result<(), Fail> {
     )
 }
 
-#[test]
-fn a_byte_before_the_failure_is_put(rt: HostRuntime) -> Result<(), Fail> {
-    let failing = Failing {
-        piece: 1,
-        fail_at: 2,
-        fault: WriteFault::Write { written: 1 },
-        is_called: true,
-        taken: b"\xcc",
-    };
-    fails(&rt, r#""I16""#, &Value::Signed(-4660), &failing)
-}
-
 // The sink is not called where the value is refused.
 #[test]
 fn a_refused_value_fails_before_a_put(rt: HostRuntime) -> Result<(), Fail> {

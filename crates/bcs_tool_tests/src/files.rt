@@ -1,5 +1,5 @@
 //! Files that are named, and the work of jobs.
-use bcs_tool::{Command, FileFault, Job, TakeFault, Work, read_named, read_work};
+use bcs_tool::{Command, FileFault, Job, Work, read_named, read_work};
 use bcs_value::Limits;
 use std::alloc::{AllocError, Global};
 use std::fs;
@@ -53,27 +53,5 @@ fn works_of_jobs(rt: HostRuntime) -> Result<(), Fail> {
         assert!(rt; file.as_deref() == Some("I"));
     }
     fs::remove_file(&rt, "bcs_tool_second.test")?;
-    Ok(())
-}
-
-#[test]
-fn messages_and_notes(rt: HostRuntime) -> Result<(), Fail> {
-    for (fault, name, note) in [
-        (FileFault::Open, "Open", "fault: open"),
-        (FileFault::Take(TakeFault::Read), "Read", "fault: read"),
-        (
-            FileFault::Take(TakeFault::TooLarge),
-            "TooLarge",
-            "fault: too large",
-        ),
-        (
-            FileFault::Take(TakeFault::OutOfMemory),
-            "OutOfMemory",
-            "fault: memory",
-        ),
-    ] {
-        assert_eq!(rt; format!(in rt.alloc(); "{fault}")?.as_str(), name);
-        assert_eq!(rt; fault.note(), note);
-    }
     Ok(())
 }

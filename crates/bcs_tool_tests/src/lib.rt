@@ -10,6 +10,6 @@ mod failures;
 #[cfg(test)]
 mod files;
 #[cfg(test)]
-mod lines;
+mod messages;
 #[cfg(test)]
 mod whole_contents;

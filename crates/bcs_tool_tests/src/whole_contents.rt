@@ -71,15 +71,3 @@ fn pieces_put(rt: HostRuntime) {
         assert_eq!(rt; out.failed(), !is_whole, "{put}");
     }
 }
-
-#[test]
-fn messages(rt: HostRuntime) -> Result<(), Fail> {
-    for (fault, name) in [
-        (TakeFault::Read, "Read"),
-        (TakeFault::TooLarge, "TooLarge"),
-        (TakeFault::OutOfMemory, "OutOfMemory"),
-    ] {
-        assert_eq!(rt; format!(in rt.alloc(); "{fault}")?.as_str(), name);
-    }
-    Ok(())
-}
