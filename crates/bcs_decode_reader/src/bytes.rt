@@ -30,6 +30,7 @@ pub fn begin<S: ByteSource>(source: &S, at: &mut At) -> Result<(), DecodeFault>
 }
 
 /// Fills the buffer with the next bytes.
+#[inline(always)]
 #[tactic(auto, unfolding(bcs_decode_laws::specs::Reading::bytes_here))]
 pub fn read_exact<S: ByteSource>(
     source: &mut S,
@@ -89,6 +90,7 @@ pub fn byte<S: ByteSource>(source: &mut S, at: &mut At) -> Result<u8, DecodeFaul
 }
 
 /// As many bytes as the array has.
+#[inline(always)]
 pub fn array<S: ByteSource, const N: usize>(
     source: &mut S,
     at: &mut At,

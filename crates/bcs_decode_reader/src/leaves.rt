@@ -1,4 +1,5 @@
-//! Values that have no parts, each built in the caller's slot.
+//! Values that have no parts, each built in the caller's slot. Those that `leaf` alone reads are part of it, so that a width is
+//! known where its bytes are taken.
 ghost use Rattle.std.specs.Prelude.{◌≡◌, ℕ, ◌+◌, ◌<◌, ◌^◌, false, IsErr};
 ghost use Rattle.bcs_value_tree.specs.Tree.{unit as no_value};
 ghost use Rattle.bcs_num.specs.Le.{width_of};
@@ -54,6 +55,7 @@ pub fn flag_node<S: ByteSource>(source: &mut S, at: &mut At) -> Result<bool, Dec
 }
 
 /// An unsigned number.
+#[inline(always)]
 #[tactic(auto, unfolding(bcs_decode_laws::specs::Reading::chain, bcs_decode_laws::specs::Reading::give, bcs_decode_laws::specs::Reading::unsigned_here))]
 pub fn unsigned<S: ByteSource>(
     width: Width,
@@ -78,6 +80,7 @@ pub fn unsigned<S: ByteSource>(
 }
 
 /// A signed number.
+#[inline(always)]
 #[tactic(auto, unfolding(bcs_decode_laws::specs::Reading::chain, bcs_decode_laws::specs::Reading::give, bcs_decode_laws::specs::Reading::signed_here))]
 pub fn signed<S: ByteSource>(width: Width, source: &mut S, at: &mut At) -> Result<i128, DecodeFault>
     requires good { S.is_failed source.old ≡ false }
@@ -119,7 +122,7 @@ pub fn put_unit<S: ByteSource>(
 }
 
 /// A truth value.
-#[inline(never)]
+#[inline(always)]
 #[tactic(auto, using(crate::proofs::Chains::node_is, crate::proofs::ValueViews::tree_truth), unfolding(bcs_decode_laws::specs::Reading::chain, bcs_decode_laws::specs::Reading::give, bcs_decode_laws::specs::Reading::fail_here))]
 pub fn put_truth<S: ByteSource>(
     source: &mut S,
@@ -141,7 +144,7 @@ pub fn put_truth<S: ByteSource>(
 }
 
 /// An unsigned number.
-#[inline(never)]
+#[inline(always)]
 #[tactic(auto, using(crate::proofs::Chains::node_is, crate::proofs::ValueViews::tree_unsigned), unfolding(bcs_decode_laws::specs::Reading::chain, bcs_decode_laws::specs::Reading::give, bcs_decode_laws::specs::Reading::fail_here))]
 pub fn put_unsigned<S: ByteSource>(
     width: Width,
@@ -164,7 +167,7 @@ pub fn put_unsigned<S: ByteSource>(
 }
 
 /// A signed number.
-#[inline(never)]
+#[inline(always)]
 #[tactic(auto, using(crate::proofs::Chains::node_is, crate::proofs::ValueViews::tree_signed), unfolding(bcs_decode_laws::specs::Reading::chain, bcs_decode_laws::specs::Reading::give, bcs_decode_laws::specs::Reading::fail_here))]
 pub fn put_signed<S: ByteSource>(
     width: Width,
@@ -187,7 +190,7 @@ pub fn put_signed<S: ByteSource>(
 }
 
 /// A text.
-#[inline(never)]
+#[inline(always)]
 #[tactic(auto, using(crate::proofs::Chains::node_is, crate::proofs::ValueViews::tree_text), unfolding(bcs_decode_laws::specs::Reading::chain, bcs_decode_laws::specs::Reading::give, bcs_decode_laws::specs::Reading::fail_here))]
 pub fn put_text<S: ByteSource>(
     alloc: Global,
@@ -210,7 +213,7 @@ pub fn put_text<S: ByteSource>(
 }
 
 /// A byte string.
-#[inline(never)]
+#[inline(always)]
 #[tactic(auto, using(crate::proofs::Chains::node_is, crate::proofs::ValueViews::tree_bytes), unfolding(bcs_decode_laws::specs::Reading::chain, bcs_decode_laws::specs::Reading::give, bcs_decode_laws::specs::Reading::fail_here))]
 pub fn put_bytes<S: ByteSource>(
     alloc: Global,

@@ -60,6 +60,9 @@ fn row<S: ByteSource>(
     if let Some(format) = WholeNumber::of(element) {
         return push_numbers(format, count, reader.source, reader.at, found);
     }
+    if count == 0 {
+        return Ok(());
+    }
     if let Some(container) = named_container(reader.registry, element) {
         return containers(reader, container, count, depth, slot, found);
     }

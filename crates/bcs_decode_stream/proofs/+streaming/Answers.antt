@@ -111,6 +111,21 @@ rows::row-returns-in-Some g t c =
       };
     }
 
+pub rows::row-returns-then-count-eq0 : goal.rows::row-returns-then-count-eq0
+rows::row-returns-then-count-eq0 g t c =
+    let f = read c.args.reader.now.registry.now c.args.depth (shape_of c.args.element.now) in
+    let from = g.S.ByteSource.content c.args.reader.now.source.now in
+    let at = c.args.reader.now.at.now in
+    record {
+      reads = record {
+        sees = items_done f c.args.count 0 c.args.found.now.items from from at at (omega (arith, c.if-count-eq0.true)) (items_none f c.args.count c.args.found.now.items from at c.requires.empty);
+        failed = search rules;
+        room = search rules;
+        goes = (Along-none from at);
+        same = search rules;
+      };
+    }
+
 pub rows::row-returns-in-Some-named_container : goal.rows::row-returns-in-Some-named_container
 rows::row-returns-in-Some-named_container g t c =
     let r = c.args.reader.now.registry.now in
