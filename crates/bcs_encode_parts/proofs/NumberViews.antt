@@ -2,7 +2,9 @@
 use Rattle.std.proofs.Common.{◌≡◌, ℕ, ◌<◌, List, [], ◌∷◌, refl, ap, ◌∙◌, Ok, Err}
 use Rattle.std.specs.Int.{Width, w8}
 use Rattle.bcs_num.proofs.LeLaws.{le-w8}
+use Rattle.bcs_num.proofs.UlebLaws.{uleb-low}
 use Rattle.bcs_num.specs.Le.{le}
+use Rattle.bcs_num.specs.Uleb.{uleb}
 use Rattle.bcs_registry_formats.specs.Container.{Entries, of}
 use Rattle.bcs_registry_formats.specs.Shape as shape
 use Rattle.bcs_registry_formats.specs.Shape.{Shape}
@@ -16,6 +18,10 @@ use Rattle.bcs_encode_parts.specs.Writing.{Verdict, chain, written, items_writte
 -- a number of one byte is its byte
 pub one_byte : (n : ℕ) → n < 256 → le w8 n ≡ n ∷ []
 one_byte n small = le-w8 n small
+
+-- and so is a length below 128
+pub low_number : (n : ℕ) → n < 128 → uleb n ≡ n ∷ []
+low_number n small = uleb-low n small
 
 -- a number looks up no container
 unsigned_anywhere : (r q : Entries) (w : Width) (t : Tree) (b : List ℕ) → written r t (of (shape.unsigned w)) b ≡ written q t (of (shape.unsigned w)) b

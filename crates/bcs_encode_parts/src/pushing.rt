@@ -19,10 +19,15 @@ pub fn push_byte(byte: u8, out: &mut Vec<u8>) -> Result<(), EncodeFault>
     Ok(())
 }
 
-/// Appends a number by ULEB128.
+/// Appends a number by ULEB128. Most lengths and variant numbers are one byte.
+#[tactic(auto, using(crate::proofs::NumberViews::low_number))]
 pub fn push_number(number: u32, out: &mut Vec<u8>) -> Result<(), EncodeFault>
     ensures { Tells result (Ok (out.old.items ++ uleb number)) out.new.items }
 {
+    if number < 128 {
+        out.push(number as u8)?;
+        return Ok(());
+    }
     let mut bytes = [0; 5];
     let len = put_uleb(number, &mut bytes);
     out.extend_from_slice(&bytes[..len])?;
