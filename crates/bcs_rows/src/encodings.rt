@@ -22,10 +22,20 @@ pub(crate) fn answer(
         return Err(RowFault::NotUnderstood);
     };
     let asked = Question::read(alloc, &setting.registry, format, limits)?;
+    of_value(alloc, question, &asked, value)
+}
+
+fn of_value(
+    alloc: Global,
+    question: &str,
+    asked: &Question,
+    value: &str,
+) -> Result<String, RowFault> {
     let value = value_of(alloc, value)?;
-    match question {
-        "encode" => encoded(alloc, &asked, &value),
-        _ => formed(alloc, &asked, &value),
+    if question == "encode" {
+        encoded(alloc, asked, &value)
+    } else {
+        formed(alloc, asked, &value)
     }
 }
 

@@ -17,22 +17,43 @@ pub(crate) fn answer(
     words: &[&str],
 ) -> Result<String, RowFault> {
     match (question, words) {
-        ("json", [format, text, limits @ ..]) => {
+        ("json" | "text", [format, input, limits @ ..]) => {
             let asked = Question::read(alloc, &setting.registry, format, limits)?;
-            meant(alloc, &asked, &bytes(alloc, text)?)
+            of_input(alloc, question, &asked, input)
         }
-        ("text", [format, input, limits @ ..]) => {
-            let asked = Question::read(alloc, &setting.registry, format, limits)?;
-            shown(alloc, &asked, &bytes(alloc, input)?)
-        }
-        ("same", [format, one, other]) => {
+        ("same" | "pairs", [format, texts @ ..]) => {
             let asked = Question::read(alloc, &setting.registry, format, &[])?;
-            compared(alloc, &asked, one.as_bytes(), other.as_bytes())
+            of_texts(alloc, question, &asked, texts)
         }
-        ("pairs", [format, texts @ ..]) => {
-            let asked = Question::read(alloc, &setting.registry, format, &[])?;
-            paired(alloc, &asked, texts)
-        }
+        _ => Err(RowFault::NotUnderstood),
+    }
+}
+
+// What a text means, or what bytes are shown as.
+fn of_input(
+    alloc: Global,
+    question: &str,
+    asked: &Question,
+    input: &str,
+) -> Result<String, RowFault> {
+    let input = bytes(alloc, input)?;
+    if question == "json" {
+        meant(alloc, asked, &input)
+    } else {
+        shown(alloc, asked, &input)
+    }
+}
+
+// How two texts compare, or any two of many.
+fn of_texts(
+    alloc: Global,
+    question: &str,
+    asked: &Question,
+    texts: &[&str],
+) -> Result<String, RowFault> {
+    match (question, texts) {
+        ("same", [one, other]) => compared(alloc, asked, one.as_bytes(), other.as_bytes()),
+        ("pairs", texts) => paired(alloc, asked, texts),
         _ => Err(RowFault::NotUnderstood),
     }
 }

@@ -55,11 +55,21 @@ pub(crate) fn verdict(
     if of_slice(alloc, question, bytes)? != verdict {
         return Err(RowFault::Disagreement("decode_slice"));
     }
+    agree_however(alloc, question, bytes, verdict)?;
+    Ok(verdict)
+}
+
+// Pieces of 1, 2 and 3 bytes, and the whole.
+fn agree_however(
+    alloc: Global,
+    question: &Question,
+    bytes: &[u8],
+    verdict: Result<usize, Stop>,
+) -> Result<(), RowFault> {
     agree_in_pieces(alloc, question, bytes, 1, verdict)?;
     agree_in_pieces(alloc, question, bytes, 2, verdict)?;
     agree_in_pieces(alloc, question, bytes, 3, verdict)?;
-    agree_in_pieces(alloc, question, bytes, 65536, verdict)?;
-    Ok(verdict)
+    agree_in_pieces(alloc, question, bytes, 65536, verdict)
 }
 
 fn scanned(question: &Question, bytes: &[u8]) -> Result<Result<usize, Stop>, RowFault> {
