@@ -98,14 +98,15 @@ fn put_in_order(spans: &mut [KeySpan], bytes: &[u8]) -> bool
     !have_equal_neighbours(spans, bytes)
 }
 
+/// Whether the keys' bytes rise from each span to the next.
 fn rise(spans: &[KeySpan], bytes: &[u8]) -> bool
     ensures { result ≡ keys_rise (map (lone_key_at bytes.now) spans.now) }
 {
     for i in 1..spans.len() {
         let before = spans[i - 1];
         let span = spans[i];
-        let key = part(bytes, before.start, before.end);
-        if !key.cmp(part(bytes, span.start, span.end)).is_lt() {
+        let order = part(bytes, before.start, before.end).cmp(part(bytes, span.start, span.end));
+        if !order.is_lt() {
             return false;
         }
     }
