@@ -83,7 +83,7 @@ text_tokens d h = ap tokens (sym (print-outline d)) ∙ tokens-print (json_token
 -- ---- its depth
 
 mutual
-  outline_depth : (d : Data) → tree.depth (outline d) ≤ depth d
+  pub outline_depth : (d : Data) → tree.depth (outline d) ≤ depth d
   outline_depth null = omega arith
   outline_depth (boolean b) = omega arith
   outline_depth (number n) = omega arith
@@ -105,7 +105,7 @@ abbrev cmp : List ℕ → List ℕ → Ordering
 cmp = slice_cmp nat_cmp
 
 -- the members, put in one after another
-abbrev put_all : Members → Members → Members
+abbrev pub put_all : Members → Members → Members
 put_all no_members found = found
 put_all (member k d ms) found = put_all ms (put k d found)
 
@@ -118,14 +118,14 @@ stays_first l e (member k d ms) found above =
     ∙ stays_first l e ms (put k d found) above.1
 
 -- members whose names rise are the same again
-put_again : (ms : Members) → NamesRise ms → put_all ms no_members ≡ ms
+pub put_again : (ms : Members) → NamesRise ms → put_all ms no_members ≡ ms
 unfolding IsStrictlySortedBy
 put_again no_members h = refl
 put_again (member k d ms) h = stays_first k d ms no_members h.0 ∙ ap (member k d) (put_again ms h.1)
 
 -- ---- its value
 
-number_back : (n : Num) → IsNum n → number_of (number_text n) ≡ Some n
+pub number_back : (n : Num) → IsNum n → number_of (number_text n) ≡ Some n
 number_back (unsigned n) h = number_of-decimal n h
 number_back (negative (pos n)) h = absurd h
 number_back (negative (negsuc n)) h = number_of-negative n h

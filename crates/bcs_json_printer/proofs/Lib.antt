@@ -2,4 +2,6 @@ pub mod ShownViews
 pub mod DistinctFields
 pub mod ShownDepths
 pub mod PrintedRows
-pub mod ShownFloats
+pub mod Places
+pub mod WrittenRows
+pub mod ShownBack

@@ -1,6 +1,7 @@
-//! The JSON of values and its text, each a walk over a value.
+//! The JSON of values as text, and how deep it nests, each a walk over a value.
 #![tactic(auto)]
 
+mod field_order;
 pub mod nesting;
-pub mod printing;
 pub mod texts;
+mod writing;

@@ -8,9 +8,10 @@ ghost use Rattle.bcs_json_laws.specs.JsonContent.{of};
 ghost use Rattle.bcs_json_laws.specs.Shown.{shown};
 ghost use Rattle.bcs_json_laws.specs.Texts.{IsReadAs, IsTextOf, nesting_limit};
 
-use crate::printing::into_json;
+use crate::writing::write_value;
 use bcs_registry::{Format, Registry};
 use bcs_value_tree::Value;
+use json::Writer;
 use std::alloc::{AllocError, Global};
 
 /// The text of a value of the format, whose JSON nests within the limit. It is read as that JSON again. Fails only for
@@ -26,5 +27,8 @@ pub fn show(
     ensures text { IfOk result (λ s. IsTextOf registry.now (shape_of format.now) (tree_of value) (string_bytes s)) }
     ensures reads_back { IfOk result (λ s. IsReadAs (string_bytes s) (shown registry.now (tree_of value) (of (shape_of format.now)))) }
 {
-    into_json(value, format, registry, alloc)?.to_string(alloc)
+    registry.recall();
+    let mut out = Writer::new(Vec::new(alloc));
+    write_value(&value, format, registry, alloc, &mut out)?;
+    Ok(unsafe { String::from_utf8_unchecked(out.into_inner()) })
 }

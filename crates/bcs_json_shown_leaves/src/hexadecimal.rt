@@ -1,33 +1,34 @@
 //! Bytes as a string of lower-case hexadecimal digits.
-ghost use Rattle.std.specs.Prelude.{◌≡◌, ◌∷◌, [], true, IfOk};
+ghost use Rattle.std.specs.Prelude.{◌≡◌, ◌∷◌, [], true, IfOk, OnOk};
 ghost use Rattle.hex.specs.Hex.{encode_lower};
 ghost use Rattle.serde_json.specs.Data.{string};
-ghost use Rattle.serde_json.specs.View.{view};
 ghost use Rattle.bcs_value_tree.specs.Tree.{no_trees, tree};
 ghost use Rattle.bcs_value_tree.specs.View.{items_trees, tree_of};
 ghost use Rattle.bcs_value_laws.specs.Fits.{are_bytes};
 ghost use Rattle.bcs_json_laws.specs.Bytes.{trees_bytes};
+ghost use Rattle.bcs_json_shown_leaves.specs.Adds.{Adds, tokens_of};
 
 use bcs_value_tree::Value;
-use serde_json::Value as Json;
+use json::Writer;
 use std::alloc::{AllocError, Global};
 
 /// The bytes as a string of two digits each.
 #[inline(never)]
-pub fn bytes_json(alloc: Global, bytes: &[u8]) -> Result<Json, AllocError>
-    ensures { IfOk result (λ v. view v ≡ string (encode_lower bytes.now)) }
+pub fn put_bytes(bytes: &[u8], alloc: Global, out: &mut Writer) -> Result<(), AllocError>
+    ensures { OnOk result (Adds out.old out.new (tokens_of (string (encode_lower bytes.now)))) }
 {
-    Ok(Json::String(hex::encode(alloc, bytes)?))
+    let digits = hex::encode(alloc, bytes)?;
+    out.string(digits.as_str())
 }
 
 /// A list of whole numbers that are bytes, as a string of two digits each.
 #[inline(never)]
-pub fn byte_list_json(alloc: Global, items: &[Value]) -> Result<Json, AllocError>
+pub fn put_byte_list(items: &[Value], alloc: Global, out: &mut Writer) -> Result<(), AllocError>
     requires bytes { are_bytes (trees_bytes (items_trees items.now)) ≡ true }
-    ensures { IfOk result (λ v. view v ≡ string (encode_lower (trees_bytes (items_trees items.now)))) }
+    ensures { OnOk result (Adds out.old out.new (tokens_of (string (encode_lower (trees_bytes (items_trees items.now)))))) }
 {
     let bytes = bytes_of(alloc, items)?;
-    bytes_json(alloc, bytes.as_slice())
+    put_bytes(bytes.as_slice(), alloc, out)
 }
 
 /// The bytes that the values are.

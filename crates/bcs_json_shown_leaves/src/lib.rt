@@ -1,4 +1,4 @@
-//! The JSON of values without parts, and the small pieces of which the JSON of the others is made.
+//! Writing the JSON of values without parts, and the pieces of which the JSON of the others is made.
 #![tactic(auto)]
 
 pub mod hexadecimal;

@@ -1,26 +1,72 @@
-//! Objects with one member, and arrays of two.
-ghost use Rattle.std.specs.Prelude.{◌≡◌, IfOk};
-ghost use Rattle.bcs_registry_text.specs.Shown.{single};
-ghost use Rattle.serde_json.specs.Data.{array, item, no_items};
-ghost use Rattle.serde_json.specs.View.{view};
+//! Texts, truth values and `null`, and the brackets and names round the parts of a value.
+ghost use Rattle.std.specs.Prelude.{◌∷◌, [], OnOk};
+ghost use Rattle.json.specs.Token.{begin_array, begin_object, end_array, end_object, key};
+ghost use Rattle.serde_json.specs.Data.{boolean, null, string};
+ghost use Rattle.bcs_json_shown_leaves.specs.Adds.{Adds, tokens_of};
 
-use serde_json::{Map, Value, json};
-use std::alloc::{AllocError, Global};
+use json::Writer;
+use std::alloc::AllocError;
 
-/// An object with one member.
+/// `null`.
 #[inline(never)]
-pub fn single_member(alloc: Global, name: &str, value: Value) -> Result<Value, AllocError>
-    ensures { IfOk result (λ v. view v ≡ single name.now (view value)) }
+pub fn put_null(out: &mut Writer) -> Result<(), AllocError>
+    ensures { OnOk result (Adds out.old out.new (tokens_of null)) }
 {
-    let mut members = Map::new(alloc);
-    serde_json::put(&mut members, alloc, name, value)?;
-    Ok(Value::Object(members))
+    out.null()
 }
 
-/// A map's entry: an array of the key and the value.
+/// `true` or `false`.
 #[inline(never)]
-pub fn entry_json(alloc: Global, key: Value, value: Value) -> Result<Value, AllocError>
-    ensures { IfOk result (λ v. view v ≡ array (item (view key) (item (view value) no_items))) }
+pub fn put_truth(truth: bool, out: &mut Writer) -> Result<(), AllocError>
+    ensures { OnOk result (Adds out.old out.new (tokens_of (boolean truth))) }
 {
-    json!(in alloc; [key, value])
+    out.boolean(truth)
+}
+
+/// A string.
+#[inline(never)]
+pub fn put_text(text: &str, out: &mut Writer) -> Result<(), AllocError>
+    ensures { OnOk result (Adds out.old out.new (tokens_of (string text.now))) }
+{
+    out.string(text)
+}
+
+/// The bracket that opens an array.
+#[inline(never)]
+pub fn open_array(out: &mut Writer) -> Result<(), AllocError>
+    ensures { OnOk result (Adds out.old out.new (begin_array ∷ [])) }
+{
+    out.begin_array()
+}
+
+/// The bracket that closes an array.
+#[inline(never)]
+pub fn close_array(out: &mut Writer) -> Result<(), AllocError>
+    ensures { OnOk result (Adds out.old out.new (end_array ∷ [])) }
+{
+    out.end_array()
+}
+
+/// The brace that opens an object.
+#[inline(never)]
+pub fn open_object(out: &mut Writer) -> Result<(), AllocError>
+    ensures { OnOk result (Adds out.old out.new (begin_object ∷ [])) }
+{
+    out.begin_object()
+}
+
+/// The name of a member, whose value has to follow.
+#[inline(never)]
+pub fn put_name(name: &str, out: &mut Writer) -> Result<(), AllocError>
+    ensures { OnOk result (Adds out.old out.new (key name.now ∷ [])) }
+{
+    out.key(name)
+}
+
+/// The brace that closes an object.
+#[inline(never)]
+pub fn close_object(out: &mut Writer) -> Result<(), AllocError>
+    ensures { OnOk result (Adds out.old out.new (end_object ∷ [])) }
+{
+    out.end_object()
 }

@@ -1,0 +1,62 @@
+-- The members of an object by the places of its fields.
+use Rattle.std.proofs.Common.{◌≡◌, ◌∙◌, ◌<◌, ◌+◌, ℕ, zero, suc, List, [], ◌∷◌, length, get_or, drop, map, String, Global, Ordering, Less, Equal, Greater, string_bytes, string_cmp, refl, sym, ap, arith}
+use Rattle.std.specs.BTreeMap.{insert_entry}
+use Rattle.std.specs.Ordering.{match_ordering}
+use Rattle.std.proofs.lemmas.List.{drop_more}
+use Rattle.serde_json.specs.Data.{Data, null, put}
+use Rattle.bcs_registry_formats.specs.Container.{Entries}
+use Rattle.bcs_registry_formats.specs.View.{shape_of, field_of}
+use Rattle.bcs_registry_formats.specs.declared.format.Format.{Format}
+use Rattle.bcs_registry_formats.specs.declared.named.Named.{Named}
+use Rattle.bcs_value_tree.specs.View.{tree_of, items_trees}
+use Rattle.bcs_value_tree.specs.declared.value.Value.{Value}
+use Rattle.bcs_json_laws.specs.JsonContent.{of}
+use Rattle.bcs_json_laws.specs.Shown.{shown, shown_fields}
+use Rattle.bcs_json_printer.specs.Places.{name_of, placed, put_from}
+
+abbrev Entry : Type 0
+Entry = String Global × ℕ
+
+placed-match_ordering : (at : ℕ → Data) (o : Ordering) (a b c : List Entry) → placed at (match_ordering o a b c) ≡ match_ordering o (placed at a) (placed at b) (placed at c)
+placed-match_ordering at Less a b c = refl
+placed-match_ordering at Equal a b c = refl
+placed-match_ordering at Greater a b c = refl
+
+pub placed-insert_entry : (at : ℕ → Data) (es : List Entry) (k : String Global) (n : ℕ) → placed at (insert_entry string_cmp es k n) ≡ put (string_bytes k) (at n) (placed at es)
+placed-insert_entry at [] k n = refl
+placed-insert_entry at (e ∷ es) k n = placed-match_ordering at (string_cmp k e.0) _ _ _ ∙ rw (placed-insert_entry at es k n)
+
+-- one field before those that have their places
+pub put_from_more : (at : ℕ → Data) (fs : List (Named Format)) (n : ℕ) (f : Named Format) → n < length fs → f ≡ get_or fs n f
+    → put (name_of f) (at n) (put_from at (n + 1) (map name_of (drop (n + 1) fs))) ≡ put_from at n (map name_of (drop n fs))
+put_from_more at fs n f h e =
+    let here = drop_more fs n f h ∙ ap (λ (g : Named Format). g ∷ drop (n + 1) fs) (sym e) in
+    rw here (ap (λ m. put (name_of f) (at n) (put_from at m (map name_of (drop (n + 1) fs)))) (omega arith))
+
+-- what is shown at a place
+abbrev pub shown_at : Entries → List Value → List (Named Format) → ℕ → Data
+shown_at r [] fs n = null
+shown_at r (x ∷ xs) [] n = null
+shown_at r (x ∷ xs) (f ∷ fs) zero = shown r (tree_of x) (of (shape_of f.value))
+shown_at r (x ∷ xs) (f ∷ fs) (suc n) = shown_at r xs fs n
+
+pub shown_at-is : (r : Entries) (xs : List Value) (fs : List (Named Format)) (n : ℕ) (x : Value) (f : Named Format) → n < length xs → n < length fs → x ≡ get_or xs n x → f ≡ get_or fs n f
+    → shown_at r xs fs n ≡ shown r (tree_of x) (of (shape_of f.value))
+shown_at-is r [] fs n x f h g is found = absurd (omega arith)
+shown_at-is r (y ∷ xs) [] n x f h g is found = absurd (omega arith)
+shown_at-is r (y ∷ xs) (e ∷ fs) zero x f h g is found = rw (is, found) refl
+shown_at-is r (y ∷ xs) (e ∷ fs) (suc n) x f h g is found = shown_at-is r xs fs n x f (omega arith) (omega arith) is found
+
+put_from-shift : (at later : ℕ → Data) → ((n : ℕ) → at (suc n) ≡ later n) → (n : ℕ) (ks : List (List ℕ)) → put_from at (suc n) ks ≡ put_from later n ks
+put_from-shift at later same n [] = refl
+put_from-shift at later same n (k ∷ ks) = rw (same n, put_from-shift at later same (suc n) ks) refl
+
+-- the fields of a struct, put by their places
+pub shown_fields-places : (r : Entries) (xs : List Value) (fs : List (Named Format)) → length xs ≡ length fs
+    → put_from (shown_at r xs fs) 0 (map name_of fs) ≡ shown_fields r (items_trees xs) (map field_of fs)
+shown_fields-places r [] [] h = refl
+shown_fields-places r [] (f ∷ fs) h = absurd (omega arith)
+shown_fields-places r (x ∷ xs) [] h = absurd (omega arith)
+shown_fields-places r (x ∷ xs) (f ∷ fs) h =
+    ap (put (name_of f) (shown r (tree_of x) (of (shape_of f.value))))
+    (put_from-shift (shown_at r (x ∷ xs) (f ∷ fs)) (shown_at r xs fs) (λ n. refl) 0 (map name_of fs) ∙ shown_fields-places r xs fs (omega arith))

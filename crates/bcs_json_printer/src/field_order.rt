@@ -1,0 +1,28 @@
+//! The fields of a struct by their names, which is the order of an object's members.
+ghost use Rattle.std.specs.Prelude.{◌≡◌, ◌<◌, ℕ, IfOk, length, map};
+ghost use Rattle.std.specs.List.{All};
+ghost use Rattle.std.specs.Map.{values_of};
+ghost use Rattle.serde_json.specs.Data.{Data};
+ghost use Rattle.bcs_json_printer.specs.Places.{name_of, placed, put_from};
+
+use bcs_registry::{Format, Named};
+use std::alloc::{AllocError, Global};
+use std::collections::BTreeMap;
+
+/// The place of each field by its name, in the order of the names' bytes. Of fields with one name the first stays.
+pub(crate) fn places_of(
+    alloc: Global,
+    fields: &[Named<Format>],
+) -> Result<BTreeMap<String, usize>, AllocError>
+    ensures order { IfOk result (λ m. (at : ℕ → Data) → placed at m.entries ≡ put_from at 0 (map name_of fields.now)) }
+    ensures within { IfOk result (λ m. All (λ i. i < length fields.now) (values_of m.entries)) }
+{
+    let mut places = BTreeMap::new(alloc);
+    let mut left = fields.len();
+    while left > 0 {
+        left -= 1;
+        let name = String::from_str(alloc, fields[left].name.as_str())?;
+        drop(places.insert(name, left)?);
+    }
+    Ok(places)
+}

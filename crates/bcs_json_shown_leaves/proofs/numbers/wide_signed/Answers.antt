@@ -1,5 +1,0 @@
-use Rattle.std.proofs.Common.{rules}
-use Rattle.bcs_json_shown_leaves.proofs.numbers.wide_signed.Goals as goal
-
-pub returns : goal.returns
-returns c = search rules
