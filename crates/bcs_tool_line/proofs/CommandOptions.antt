@@ -1,5 +1,5 @@
 -- Where clap finds no fault in the words, the options of the command that they name write limits.
-use Rattle.std.proofs.Common.{◌≡◌, ◌∙◌, ap, subst, sym, refl, true, false, true≢false, cond, not, ◌&&◌, Bool, ℕ, List, [], ◌∷◌, Option, Some, None, IfSome, codes, drop, pos, slice_get, find, option_map}
+use Rattle.std.proofs.Common.{◌≡◌, ◌∙◌, ap, subst, sym, refl, true, false, true≢false, cond, not, Bool, ℕ, List, [], ◌∷◌, Option, Some, None, IfSome, codes, drop, pos, slice_get, find, option_map}
 use Rattle.std.specs.List.{list_all}
 use Rattle.std.specs.Option.{option_map_or}
 use Rattle.std.specs.Str.{bytes_eq}

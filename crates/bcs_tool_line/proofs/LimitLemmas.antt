@@ -1,7 +1,6 @@
 -- The limits that the options of a command line write.
-use Rattle.std.proofs.Common.{◌≡◌, ◌≤◌, ◌<◌, ◌^◌, ◌∙◌, ◌==◌, ap, subst, sym, refl, arith, true, false, true≢false, cond, ◌&&◌, Bool, ℕ, List, [], ◌∷◌, drop, length, Option, Some, None, IfSome, Result, Ok, Err, codes, pos, find}
-use Rattle.std.specs.Prelude.{option_and_then, option_map, slice_get, unwrap_or}
-use Rattle.std.specs.List.{list_all}
+use Rattle.std.proofs.Common.{◌≡◌, ◌≤◌, ◌<◌, ◌^◌, ◌∙◌, ◌==◌, ap, subst, sym, refl, arith, true, false, cond, Bool, ℕ, List, [], ◌∷◌, drop, Option, Some, None, Result, Ok, Err, pos, find}
+use Rattle.std.specs.Prelude.{option_and_then, unwrap_or}
 use Rattle.std.specs.Str.{bytes_eq}
 use Rattle.std.specs.Str.Parse.{IsNumeral, ParsesUnsigned, digits_value, starts_with_minus, without_leading_plus}
 use Rattle.std.proofs.lemmas.Bool.{ne_eqb}
@@ -10,7 +9,6 @@ use Rattle.std.proofs.lemmas.Int.{ints}
 use Rattle.clap.specs.Lexer.{without_minus}
 use Rattle.clap.specs.Matches.{ReadsOne, one_text}
 use Rattle.clap.specs.Values.{IsSignedIn}
-use Rattle.clap.specs.ValueTests.{accepts}
 use Rattle.clap.specs.Walk.{Row, Text, one_of, row_text, rows_of}
 use Rattle.clap.specs.declared.builder.value_parser.ValueParser.TheVariants.{Signed}
 use Rattle.clap.specs.declared.parser.matches.Found.{Found}

@@ -18,9 +18,10 @@ use std::alloc::Global;
 /// command's. Options may stand anywhere after it. A word that begins with `-` is an option, unless
 /// it is `-` alone or stands after the word `--`.
 ///
-/// `Help` answers `--help`, `-h` and `help`, and `--version` and `-V`. `Usage` answers other words that no command takes: no
-/// command, another one, a word too few or too many, an option that the command doesn't have or
-/// that is given twice. Words that a command takes are refused only where memory runs out.
+/// `Help` answers `--help`, `-h` and `help`, and `--version` and `-V`. `Usage` answers other words
+/// that no command takes: no command, another one, a word too few or too many, an option that the
+/// command doesn't have or that is given twice. Words that a command takes are refused only where
+/// memory runs out.
 pub fn line(alloc: Global, words: &[String]) -> Result<Job, LineFault>
     ensures job { IfOk result (IsJobOf (texts_of words.now)) }
     ensures taken { IfOk result (λ _. fault_of bcs_app (texts_of words.now) ≡ []) }

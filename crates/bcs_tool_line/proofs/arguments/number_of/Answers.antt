@@ -1,4 +1,4 @@
-use Rattle.std.proofs.Common.{◌∙◌, ap, arith, subst, sym, unwrap_or, ℕ}
+use Rattle.std.proofs.Common.{arith, subst, sym, ℕ}
 use Rattle.std.specs.Str.Parse.{ExplainsUnsignedError, HasUnsignedDigitsIfOk, ParsesUnsigned}
 use Rattle.clap.specs.Words.{found_of, one_of, rows_of}
 use Rattle.bcs_tool_line.specs.Jobs.{WritesLimit}
