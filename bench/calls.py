@@ -43,7 +43,7 @@ def main():
         format, source = (folder / f"{name}.format").read_text(), folder / f"{name}.json"
         none = seconds([program, "scan", "0", registry, format], source)
         taken = [seconds([program, call, str(COUNT), registry, format], source) - none for call in CALLS]
-        cells = [f"{call / COUNT * 1e3:.1f}" for call in taken]
+        cells = [f"{max(call, 0) / COUNT * 1e3:.1f}" for call in taken]
         told = plain_calls(plain[0], registry, format, source) if plain else ""
         print(f"| {name} | " + " | ".join(cells) + f" | {told} |", flush=True)
 

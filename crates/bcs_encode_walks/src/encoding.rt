@@ -1,9 +1,9 @@
 //! The encoder: one buffer for the output. Outside keys the keys of a map come into order before its values are
 //! written, and within keys the entries of a map are brought into order where they stand.
-ghost use Rattle.std.specs.Prelude.{◌≡◌, ◌≤◌, ◌<◌, OnOk, drop, length, map};
+ghost use Rattle.std.specs.Prelude.{◌≡◌, ℕ, List, ◌≤◌, ◌<◌, OnOk, drop, length, map};
 ghost use Rattle.std.specs.List.{All};
-ghost use Rattle.bcs_registry_formats.specs.Container.{of, content, field_shapes, payload_shape};
-ghost use Rattle.bcs_registry_formats.specs.Shape.{map as map_shape, tuple};
+ghost use Rattle.bcs_registry_formats.specs.Container.{of, content, content_at, field_shapes, payload_shape};
+ghost use Rattle.bcs_registry_formats.specs.Shape.{map as map_shape, name as name_shape, tuple};
 ghost use Rattle.bcs_registry_formats.specs.View.{container_of, field_of, formats_shapes, payload_of, shape_of};
 ghost use Rattle.bcs_value_tree.specs.Tree.{items as items_tree, pairs as pairs_tree};
 ghost use Rattle.bcs_value_tree.specs.View.{entries_pairs, items_trees, tree_of};
@@ -157,8 +157,35 @@ fn push_all(
     if let Some(format) = WholeNumber::of(element) {
         return push_numbers(format, items, &mut work.out);
     }
+    if let Format::TypeName(name) = element {
+        if let Some(container) = registry.container(name.as_str()) {
+            return push_contents(items, element, container, registry, work);
+        }
+    }
     for item in items {
         push_value(item, element, registry, work)?;
+    }
+    Ok(())
+}
+
+/// Appends the bytes of elements of one container, which was looked up once for all of them.
+#[cycle(encoding)]
+fn push_contents(
+    items: &[Value],
+    element: &Format,
+    container: &Container,
+    registry: &Registry,
+    work: &mut Workspace,
+) -> Result<(), EncodeFault>
+    requires { (name : List ℕ) × (shape_of element.now ≡ name_shape name) × (content_at name registry.now ≡ content (container_of container.now)) }
+    ensures tells { Writes result (spec.items_written registry.now (items_trees items.now) (shape_of element.now) work.old.out.items) work.new.out.items }
+    ensures kept { OnOk result (set_aside work.new ≡ set_aside work.old) }
+{
+    for item in items {
+        match item {
+            Value::Named(inner) => push_content(inner, container, registry, work)?,
+            _ => push_value(item, element, registry, work)?,
+        }
     }
     Ok(())
 }

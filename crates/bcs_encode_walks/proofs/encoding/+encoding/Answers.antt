@@ -4,15 +4,16 @@ use Rattle.bcs_encode_parts.proofs.WritingViews.{array_refused, array_written, l
 use Rattle.std.specs.Result.{is_err}
 use Rattle.std.specs.List.{All}
 use Rattle.std.proofs.lemmas.List.Sorted.{All-permutation}
-use Rattle.bcs_value_tree.specs.Tree.{pair_count}
+use Rattle.bcs_value_tree.specs.Tree.{Tree, named as named_tree, pair_count}
 use Rattle.bcs_encode_parts.specs.Writing.{Verdict, chain, written, items_written, each_written}
 use Rattle.bcs_encode_spans.specs.KeysFirst.{Ordered, key_span, set_aside, value_at, values_laid, keys_spanned}
 use Rattle.bcs_encode_spans.specs.Laying.{entries_laid, part, span}
 use Rattle.bcs_encode_spans.specs.declared.span.Span.{Span}
 use Rattle.bcs_encode_spans.specs.declared.key_span.KeySpan.{KeySpan}
 use Rattle.bcs_encode_spans.proofs.KeysFirstLaws.{keys_keep, map_without_keys, map_with_twins, map_by_keys, in_range_at, values_next}
-use Rattle.bcs_registry_formats.specs.Container.{of, field_shapes}
-use Rattle.bcs_registry_formats.specs.View.{shape_of, field_of, formats_shapes}
+use Rattle.bcs_registry_formats.specs.Shape.{Shape}
+use Rattle.bcs_registry_formats.specs.Container.{Content, of, content, field_shapes}
+use Rattle.bcs_registry_formats.specs.View.{container_of, shape_of, field_of, formats_shapes}
 use Rattle.bcs_registry_formats.specs.declared.format.Format.{Format}
 use Rattle.bcs_registry_formats.specs.declared.named.Named.{Named}
 use Rattle.bcs_value_tree.specs.declared.value.Value.{Value, the_lemmas}
@@ -25,6 +26,7 @@ use Rattle.bcs_encode_spans.proofs.LayingLaws.{laid_keeps, laid_map, laid_whole,
 use borrow.Author.Rules.{get_or_read}
 use Rattle.bcs_encode_spans.proofs.WritesLaws.{tells_writes, writes_along, chain_err, next}
 use Rattle.bcs_encode_walks.proofs.encoding.+encoding.Goals as goal
+use Rattle.bcs_encode_walks.proofs.encoding.+encoding.Goals.{push_contents-in-Named+in_ok-push_content-in-Named, push_contents-in_default+in_ok-push_value-in_default}
 
 pub push_value-returns-in_err-push_length-in-Items-Seq-clause-tells : goal.push_value-returns-in_err-push_length-in-Items-Seq-clause-tells
 push_value-returns-in_err-push_length-in-Items-Seq-clause-tells t c =
@@ -142,6 +144,66 @@ push_all-returns-in_err-push_value-clause-tells t c =
     (l.invariant.tells ∙ ap (λ (vs : List Value). items_written c.args.registry.now (items_trees vs) (shape_of c.args.element.now) l.work.out.items) more)
     ∙ chain_err (written c.args.registry.now (tree_of c.item-item.result) (of (shape_of c.args.element.now)) l.work.out.items)
     (items_written c.args.registry.now (items_trees (drop (l.item-index + 1) c.args.items.now)) (shape_of c.args.element.now)) (search rules))
+
+pub push_contents-returns-in_err-push_content-in-Named-clause-tells : goal.push_contents-returns-in_err-push_content-in-Named-clause-tells
+push_contents-returns-in_err-push_content-in-Named-clause-tells t c =
+    let p = err_from_is_err_and c.from_residual.result c.from_residual.ensures.1 in
+    let l = c.loop-item in
+    let r = c.args.registry.now in
+    let s = shape_of c.args.element.now in
+    let v = c.item-item.result in
+    let more : drop l.item-index c.args.items.now ≡ v ∷ drop (l.item-index + 1) c.args.items.now = next c.args.items.now l.item-index v (search rules) c.item-item.is in
+    let seen : tree_of v ≡ named_tree (tree_of c.deref.result.now) = ap (λ (y : Value). tree_of y) c.in-Named.is ∙ search (rules, the_lemmas) in
+    let opened : written r (tree_of v) (of s) l.work.out.items ≡ written r (tree_of c.deref.result.now) (content (container_of c.args.container.now)) l.work.out.items =
+    ap (λ (y : Tree). written r y (of s) l.work.out.items) seen
+    ∙ ap (λ (y : Shape). written r (named_tree (tree_of c.deref.result.now)) (of y) l.work.out.items) c.requires.1
+    ∙ ap (λ (y : Content). written r (tree_of c.deref.result.now) y l.work.out.items) c.requires.2 in
+    rw p.1 (λ m. ap (λ (w : Verdict). is_err w)
+    (l.invariant.tells ∙ ap (λ (vs : List Value). items_written r (items_trees vs) s l.work.out.items) more)
+    ∙ chain_err (written r (tree_of v) (of s) l.work.out.items)
+    (items_written r (items_trees (drop (l.item-index + 1) c.args.items.now)) s) (ap (λ (w : Verdict). is_err w) opened ∙ search rules))
+
+pub push_contents-returns-in_err-push_value-in_default : goal.push_contents-returns-in_err-push_value-in_default
+push_contents-returns-in_err-push_value-in_default t c =
+    let p = err_from_is_err_and c.from_residual-in_err-push_value-in_default.result c.from_residual-in_err-push_value-in_default.ensures.1 in
+    let l = c.loop-item in
+    let r = c.args.registry.now in
+    let s = shape_of c.args.element.now in
+    let v = c.item-item.result in
+    let more : drop l.item-index c.args.items.now ≡ v ∷ drop (l.item-index + 1) c.args.items.now = next c.args.items.now l.item-index v (search rules) c.item-item.is in
+    record {
+      tells = rw p.1 (λ m. ap (λ (w : Verdict). is_err w)
+          (l.invariant.tells ∙ ap (λ (vs : List Value). items_written r (items_trees vs) s l.work.out.items) more)
+          ∙ chain_err (written r (tree_of v) (of s) l.work.out.items)
+          (items_written r (items_trees (drop (l.item-index + 1) c.args.items.now)) s) (search rules));
+      kept = rw p.1 tt;
+    }
+
+pub push_contents-loop-item-preserved : goal.push_contents-loop-item-preserved
+push_contents-loop-item-preserved t c =
+    let l = c.loop-item in
+    let r = c.args.registry.now in
+    let s = shape_of c.args.element.now in
+    let v = c.item-item.result in
+    let more : drop l.item-index c.args.items.now ≡ v ∷ drop (l.item-index + 1) c.args.items.now = next c.args.items.now l.item-index v (search rules) c.item-item.is in
+    let rest = items_written r (items_trees (drop (l.item-index + 1) c.args.items.now)) s in
+    let on : items_written r (items_trees c.args.items.now) s c.args.work.now.out.items ≡ chain (written r (tree_of v) (of s) l.work.out.items) rest =
+    l.invariant.tells ∙ ap (λ (vs : List Value). items_written r (items_trees vs) s l.work.out.items) more in
+    elim c.match-item.branch [
+      | push_contents-in-Named+in_ok-push_content-in-Named w ↦
+          let seen : tree_of v ≡ named_tree (tree_of w.deref.result.now) = ap (λ (y : Value). tree_of y) w.in-Named.is ∙ search (rules, the_lemmas) in
+          let opened : written r (tree_of v) (of s) l.work.out.items ≡ written r (tree_of w.deref.result.now) (content (container_of c.args.container.now)) l.work.out.items =
+          ap (λ (y : Tree). written r y (of s) l.work.out.items) seen
+          ∙ ap (λ (y : Shape). written r (named_tree (tree_of w.deref.result.now)) (of y) l.work.out.items) c.requires.1
+          ∙ ap (λ (y : Content). written r (tree_of w.deref.result.now) y l.work.out.items) c.requires.2 in
+          let done : written r (tree_of w.deref.result.now) (content (container_of c.args.container.now)) l.work.out.items ≡ Ok w.push_content.new.work.out.items = search rules in
+          let kept : set_aside w.push_content.new.work ≡ set_aside c.args.work.now = search rules in
+          rw w.work-is record { tells = on ∙ ap (λ (u : Verdict). chain u rest) (opened ∙ done); kept = kept }
+      | push_contents-in_default+in_ok-push_value-in_default w ↦
+          let done : written r (tree_of v) (of s) l.work.out.items ≡ Ok w.push_value.new.work.out.items = search rules in
+          let kept : set_aside w.push_value.new.work ≡ set_aside c.args.work.now = search rules in
+          rw w.work-is record { tells = on ∙ ap (λ (u : Verdict). chain u rest) done; kept = kept }
+    ]
 
 pub push_each-returns-in_err-push_value-clause-tells : goal.push_each-returns-in_err-push_value-clause-tells
 push_each-returns-in_err-push_value-clause-tells t c =

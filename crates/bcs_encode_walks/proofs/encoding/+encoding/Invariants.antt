@@ -14,6 +14,13 @@ invariant-push_all-loop-item l = record {
   kept : set_aside l.work ≡ set_aside l.initial.work;
 }
 
+abbrev pub invariant-push_contents-loop-item : goal.invariant-push_contents-loop-item
+invariant-push_contents-loop-item l = record {
+  tells : items_written l.registry (items_trees l.items) (shape_of l.element) l.initial.work.out.items
+      ≡ items_written l.registry (items_trees (drop l.item-index l.items)) (shape_of l.element) l.work.out.items;
+  kept : set_aside l.work ≡ set_aside l.initial.work;
+}
+
 abbrev pub invariant-push_each-loop-i : goal.invariant-push_each-loop-i
 invariant-push_each-loop-i l = record {
   tells : each_written l.registry (items_trees l.items) (formats_shapes l.formats) l.initial.work.out.items
