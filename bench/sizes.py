@@ -27,6 +27,12 @@ def chain(content):
     return '{"L":{"NEWTYPESTRUCT":' + content + "}}"
 
 
+def newtypes(count):
+    """So many containers, each of which holds the next one. They don't show in JSON."""
+    inner = [f'"C{number}":{{"NEWTYPESTRUCT":{{"TYPENAME":"C{number + 1}"}}}}' for number in range(count - 1)]
+    return "{" + ",".join(inner + [f'"C{count - 1}":{{"NEWTYPESTRUCT":"U8"}}']) + "}"
+
+
 def cases():
     """The name of each case, its words, and a maker of its input."""
     yield "registry, 256 MiB of one name", ["check", "@"], lambda: b'{"' + b"a" * (LIMIT - 17) + b'":"UNITSTRUCT"}'
@@ -39,6 +45,11 @@ def cases():
     yield "text, a word of a million variants", ["encode", variants(1_000_000).decode(), "E"], lambda: b'"V999999"'
     yield "text, an object of a million members", ["encode", fields(1_000_000).decode(), "S"], lambda: members(1_000_000)
     yield "text, nesting 100", ["encode", "{}", nested('"U8"', 32)], lambda: b"[" * 100 + b"]" * 100
+    inner = newtypes(500)
+    yield "text, 500 containers in one another", ["encode", inner, "C0"], lambda: b"7"
+    yield "text, 500 containers in one another, to its text", ["normalise", inner, "C0"], lambda: b"7"
+    yield "text, one container too many", ["encode", newtypes(501), "C0"], lambda: b"7"
+    yield "hexadecimal, 500 containers in one another", ["decode", inner, "C0"], lambda: b"07"
     yield "hexadecimal, 256 MiB of one byte string", ["decode", "{}", '"BYTES"'], lambda: b"f8ffff3f" + b"00" * (128 * MIB - 8)
     yield "bytes, 200 MB of one text", ["decode", "--raw", "{}", '"STR"'], lambda: uleb(200_000_000) + b"a" * 200_000_000
     yield "bytes, 256 MiB of one byte string", ["decode", "--raw", "{}", '"BYTES"'], lambda: uleb(LIMIT - 4) + b"a" * (LIMIT - 4)
