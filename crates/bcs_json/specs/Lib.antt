@@ -6,6 +6,7 @@ pub use Rattle.bcs_json_laws.specs.Look
 pub use Rattle.bcs_json_laws.specs.Numbers
 pub use Rattle.bcs_json_laws.specs.Bytes
 pub use Rattle.bcs_json_laws.specs.Spells
+pub use Rattle.bcs_json_laws.specs.ArraySpells
 pub use Rattle.bcs_json_laws.specs.Refuses
 pub use Rattle.bcs_json_laws.specs.Shown
 pub use Rattle.bcs_json_laws.specs.Texts

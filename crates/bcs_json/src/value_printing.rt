@@ -1,5 +1,7 @@
 //! Texts of values.
-ghost use Rattle.std.specs.Prelude.{◌≢◌, IfErr, IfOk, string_bytes};
+ghost use Rattle.std.specs.Prelude.{◌≡◌, ◌≢◌, IfErr, IfOk, OnOk, string_bytes};
+ghost use Rattle.bcs_encode_laws.specs.Refused.{IsSoundBesidesKeys};
+ghost use Rattle.bcs_encode_laws.specs.Sound.{IsSound};
 ghost use Rattle.bcs_encode_laws.specs.declared.fault.EncodeFault.TheVariants.{OutOfMemory};
 ghost use Rattle.bcs_registry_formats.specs.View.{shape_of};
 ghost use Rattle.bcs_value_tree.specs.View.{tree_of};
@@ -26,8 +28,10 @@ pub fn print_value(
     limits: &Limits,
     value: &Value,
 ) -> Result<String, PrintFault>
+    ensures sound { OnOk result (IsSound registry.now limits.now (shape_of format.now) (tree_of value.now)) }
     ensures prints { IfOk result (λ s. Prints registry.now limits.now (shape_of format.now) (tree_of value.now) (string_bytes s)) }
     ensures fault { IfErr result (λ e. e ≢ Encode OutOfMemory → PrintRefuses registry.now limits.now (shape_of format.now) (tree_of value.now) e) }
+    ensures memory { IfErr result (λ e. e ≡ Encode OutOfMemory → IsSoundBesidesKeys registry.now limits.now (shape_of format.now) (tree_of value.now)) }
 {
     registry.recall();
     let form = canonicalise(alloc, registry, format, limits, value)?;

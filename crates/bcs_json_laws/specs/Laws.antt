@@ -7,6 +7,7 @@ use Rattle.bcs_registry_formats.specs.Shape.{Shape}
 use Rattle.bcs_registry_formats.specs.Grows.{Grows}
 use Rattle.bcs_registry_formats.specs.Ranges.{IsOrderly}
 use Rattle.bcs_registry_formats.specs.WellFormed.{IsWellFormed}
+use Rattle.bcs_registry_text.specs.Text.{WritesRegistry}
 use Rattle.bcs_value_laws.specs.Fits.{Fits}
 use Rattle.bcs_value_laws.specs.Limits.{Bounds}
 use Rattle.bcs_value_laws.specs.Same.{Same}
@@ -115,3 +116,8 @@ NormalTextIsStable = (registry : Entries) (limits : Bounds) (s : Shape) (text ou
 abbrev pub ShownBytesComeBack : Type 0
 ShownBytesComeBack = (registry : Entries) (limits : Bounds) (s : Shape) (bytes text again : List ℕ)
     → ShowsBytes registry limits s bytes text → HasBytes registry limits s text bytes × (HasBytes registry limits s text again → again ≡ bytes)
+
+-- what a text denotes has a normal text, at a well-formed registry that a text writes down
+abbrev pub SomeNormalText : Type 0
+SomeNormalText = (written : List ℕ) (registry : Entries) (limits : Bounds) (s : Shape) → WritesRegistry written registry → IsWellFormed registry
+    → (text : List ℕ) (t : Tree) → Denotes registry limits s text t → (out : List ℕ) × Normalises registry limits s text out

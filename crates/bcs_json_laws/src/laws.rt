@@ -1,5 +1,5 @@
 //! What holds of spellings and texts, whatever the code: each law is the contract of a function that does nothing.
-ghost use Rattle.bcs_json_laws.specs.Laws.{ArraySpellingStillSpells, DenotedIsNotRefused, DenotesOnce, EqualValuesEqualBytes, GrowthKeepsDenoting, GrowthKeepsShowing, GrowthKeepsSpelling, NormalTextIsStable, OneTree, OneVerdict, ShownBytesComeBack, ShownIsLowest, ShownIsReadBack, SpelledFits, TextDenotesOrIsRefused};
+ghost use Rattle.bcs_json_laws.specs.Laws.{ArraySpellingStillSpells, DenotedIsNotRefused, DenotesOnce, EqualValuesEqualBytes, GrowthKeepsDenoting, GrowthKeepsShowing, GrowthKeepsSpelling, NormalTextIsStable, OneTree, OneVerdict, ShownBytesComeBack, ShownIsLowest, ShownIsReadBack, SomeNormalText, SpelledFits, TextDenotesOrIsRefused};
 
 /// JSON spells at most one tree.
 pub fn one_tree()
@@ -49,6 +49,11 @@ pub fn equal_values_equal_bytes()
 /// Normalising a normal text gives the same text.
 pub fn normal_text_is_stable()
     ensures { NormalTextIsStable }
+{}
+
+/// What a text denotes has a normal text, at a well-formed registry that a text writes down.
+pub fn some_normal_text()
+    ensures { SomeNormalText }
 {}
 
 /// The bytes of the text of bytes are these bytes.
