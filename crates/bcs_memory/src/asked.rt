@@ -15,11 +15,17 @@ pub(crate) struct Asked {
 }
 
 impl Asked {
-    /// What a row is about. `nodes` is the limit of nodes, or empty for the standard limits.
-    pub(crate) fn read(alloc: Global, row: &Row, format: &str, nodes: &str) -> Result<Asked, Told> {
+    /// What a row is about. `limits` is the limit of nodes, behind that of containers and a `/` where it isn't 500; it
+    /// is empty for the standard limits.
+    pub(crate) fn read(
+        alloc: Global,
+        row: &Row,
+        format: &str,
+        limits: &str,
+    ) -> Result<Asked, Told> {
         let registry = made(alloc, Registry::read(alloc, row.registry.as_bytes()))?;
         let format = made(alloc, registry.read_format(alloc, format.as_bytes()))?;
-        match limits_of(nodes) {
+        match limits_of(limits) {
             Some(limits) => Ok(Asked {
                 registry,
                 format,
@@ -30,10 +36,12 @@ impl Asked {
     }
 }
 
-fn limits_of(nodes: &str) -> Option<Limits> {
-    if nodes.is_empty() {
-        Some(Limits::standard())
-    } else {
-        Limits::new(500, nodes.parse::<u32>().ok()?)
+fn limits_of(limits: &str) -> Option<Limits> {
+    if limits.is_empty() {
+        return Some(Limits::standard());
+    }
+    match limits.split_once('/') {
+        Some((depth, nodes)) => Limits::new(depth.parse::<u32>().ok()?, nodes.parse::<u32>().ok()?),
+        None => Limits::new(500, limits.parse::<u32>().ok()?),
     }
 }

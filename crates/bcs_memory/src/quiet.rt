@@ -3,6 +3,7 @@
 use crate::accepted::{Accepted, value_of};
 use crate::asked::Asked;
 use crate::parts;
+use crate::refused_values::refusing;
 use crate::row::Row;
 use crate::tally::Tally;
 use crate::told::{Told, bytes_of};
@@ -10,6 +11,7 @@ use bcs_decode::pieces::PieceSource;
 use bcs_decode::{DecodeFault, decode_all, decode_from, decode_slice};
 use bcs_encode::pieces::PieceSink;
 use bcs_encode::{EncodeFault, WriteFault, canonicalise, encode, encode_by_entries, write};
+use bcs_json::{PrintFault, print_value};
 use bcs_value::Value;
 use std::alloc::Global;
 
@@ -18,7 +20,7 @@ pub(crate) fn ask(alloc: Global, row: &Row, is_asked: bool, tally: &mut Tally) -
     match row.question {
         "scalar" => ask_of_scalar(alloc, row, is_asked, tally),
         "bytes" | "early" => ask_of_stop(alloc, row, is_asked, tally),
-        "other" => ask_of_fault(alloc, row, is_asked, tally),
+        "other" | "limited" => ask_of_fault(alloc, row, is_asked, tally),
         "part" => parts::ask_quietly(alloc, row, is_asked, tally),
         _ => Ok(()),
     }
@@ -88,7 +90,7 @@ fn source_faults(alloc: Global, asked: &Asked, bytes: &[u8]) -> [Option<DecodeFa
 // What needs no memory is told before any is asked for.
 fn ask_of_fault(alloc: Global, row: &Row, is_asked: bool, tally: &mut Tally) -> Result<(), Told> {
     let asked = Asked::read(alloc, row, row.format, "")?;
-    let other = Asked::read(alloc, row, row.more, "")?;
+    let other = refusing(alloc, row)?;
     let value = value_of(alloc, &asked, row.input)?;
     if is_asked {
         let faults = encoder_faults(alloc, &other, &value);
@@ -104,7 +106,7 @@ fn is_early(fault: &Option<EncodeFault>) -> bool {
     }
 }
 
-fn encoder_faults(alloc: Global, asked: &Asked, value: &Value) -> [Option<EncodeFault>; 4] {
+fn encoder_faults(alloc: Global, asked: &Asked, value: &Value) -> [Option<EncodeFault>; 5] {
     let Asked {
         registry,
         format,
@@ -115,10 +117,15 @@ fn encoder_faults(alloc: Global, asked: &Asked, value: &Value) -> [Option<Encode
         Err(WriteFault::Encode(fault)) => Some(fault),
         _ => None,
     };
+    let printed = match print_value(alloc, registry, format, limits, value) {
+        Err(PrintFault::Encode(fault)) => Some(fault),
+        _ => None,
+    };
     [
         encode(alloc, registry, format, limits, value).err(),
         encode_by_entries(alloc, registry, format, limits, value).err(),
         canonicalise(alloc, registry, format, limits, value).err(),
         written,
+        printed,
     ]
 }

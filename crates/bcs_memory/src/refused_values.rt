@@ -10,7 +10,8 @@ use crate::{encoders, texts};
 use bcs_value::Value;
 use std::alloc::Global;
 
-/// A row `other` asks at another format than the value's, and `twice` of a map that has its first entry twice.
+/// A row `other` asks at another format than the value's, `limited` within limits that the value exceeds, and `twice` of
+/// a map that has its first entry twice.
 pub(crate) fn ask(alloc: Global, row: &Row, tally: &mut Tally) -> Result<(), Told> {
     let asked = Asked::read(alloc, row, row.format, "")?;
     let value = value_of(alloc, &asked, row.input)?;
@@ -18,10 +19,19 @@ pub(crate) fn ask(alloc: Global, row: &Row, tally: &mut Tally) -> Result<(), Tol
         let value = with_first_twice(alloc, value)?;
         ask_at(alloc, &asked, &value, row.answer, tally);
     } else {
-        let other = Asked::read(alloc, row, row.more, "")?;
+        let other = refusing(alloc, row)?;
         ask_at(alloc, &other, &value, row.answer, tally);
     }
     Ok(())
+}
+
+/// The format and the limits at which a row `other` or `limited` asks, which refuse its value.
+pub(crate) fn refusing(alloc: Global, row: &Row) -> Result<Asked, Told> {
+    if row.question == "limited" {
+        Asked::read(alloc, row, row.format, row.more)
+    } else {
+        Asked::read(alloc, row, row.more, "")
+    }
 }
 
 fn ask_at(alloc: Global, asked: &Asked, value: &Value, fault: &str, tally: &mut Tally) {

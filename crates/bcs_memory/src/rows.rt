@@ -29,7 +29,7 @@ fn answers(alloc: Global, row: &Row, tally: &mut Tally) -> Result<(), Told> {
         "text" => refused_texts::ask(alloc, row, tally),
         "bytes" | "early" | "whole" | "shown" => refused_bytes::ask(alloc, row, tally),
         "part" | "path" => parts::ask(alloc, row, tally),
-        "other" | "twice" => refused_values::ask(alloc, row, tally),
+        "other" | "limited" | "twice" => refused_values::ask(alloc, row, tally),
         "registry" | "format" => registries::ask_refused(alloc, row, tally),
         "check" => registries::ask_printed(alloc, row, tally),
         "grows" => registries::ask_grown(alloc, row, tally),
