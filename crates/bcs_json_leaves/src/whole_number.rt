@@ -1,5 +1,5 @@
 //! Reading a whole number of a width from a JSON value.
-ghost use Rattle.std.specs.Prelude.{◌≡◌, ◌↔◌, ℕ, ℤ, pos, Some, None, IfSome, IfOk, IfErr, IsTrue};
+ghost use Rattle.std.specs.Prelude.{◌≡◌, ℕ, ℤ, pos, Some, None, IfSome, IfOk, IfErr};
 ghost use Rattle.serde_json.specs.Find.{as_integer};
 ghost use Rattle.serde_json.specs.View.{number_view, view};
 ghost use Rattle.bcs_num.specs.Le.{width_of, IsUnsigned, IsSigned};
@@ -48,7 +48,11 @@ fn unsigned_in(width: Width, number: &Number) -> Option<u128>
     let Ok(n) = u128::try_from(whole) else {
         return None;
     };
-    if is_unsigned(width, n) { Some(n) } else { None }
+    if width.holds_unsigned(n) {
+        Some(n)
+    } else {
+        None
+    }
 }
 
 // The number, where it is held as a whole number and is in the signed range.
@@ -59,33 +63,9 @@ fn signed_in(width: Width, number: &Number) -> Option<i128>
         → ¬ IsSigned (width_of width) z }
 {
     let held = number.as_i128()?;
-    if is_signed(width, held) {
+    if width.holds_signed(held) {
         Some(held)
     } else {
         None
-    }
-}
-
-fn is_unsigned(width: Width, n: u128) -> bool
-    ensures { IsTrue result ↔ IsUnsigned (width_of width) n }
-{
-    match width {
-        Width::W1 => u8::try_from(n).is_ok(),
-        Width::W2 => u16::try_from(n).is_ok(),
-        Width::W4 => u32::try_from(n).is_ok(),
-        Width::W8 => u64::try_from(n).is_ok(),
-        Width::W16 => true,
-    }
-}
-
-fn is_signed(width: Width, n: i128) -> bool
-    ensures { IsTrue result ↔ IsSigned (width_of width) n }
-{
-    match width {
-        Width::W1 => i8::try_from(n).is_ok(),
-        Width::W2 => i16::try_from(n).is_ok(),
-        Width::W4 => i32::try_from(n).is_ok(),
-        Width::W8 => i64::try_from(n).is_ok(),
-        Width::W16 => true,
     }
 }
