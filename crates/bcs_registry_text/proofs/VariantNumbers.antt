@@ -1,19 +1,10 @@
 -- Plain decimal texts of numbers that fit 32 bits.
-use Rattle.std.proofs.Common.{◌≡◌, ◌<◌, ◌^◌, ◌&&◌, ◌∙◌, ℕ, List, Bool, true, false, bytes_eq, nat_lt, decimal, ap, arith, refl, sym}
+use Rattle.std.proofs.Common.{◌≡◌, ◌<◌, ◌^◌, ◌∙◌, ℕ, true, bytes_eq, nat_lt, decimal, ap, arith, refl, sym}
 use Rattle.std.proofs.lemmas.Bool.Decides.{Decides-ltb}
 use Rattle.std.proofs.lemmas.Fmt.{decimal_is_IsNumeral}
 use Rattle.std.proofs.lemmas.Slice.Eq.{bytes_eq-Decides}
 use Rattle.std.specs.Str.Parse.{digits_value}
 use Rattle.bcs_registry_text.specs.Shaped.{is_variant_number}
-
--- the text of no such number
-pub no_number : (name : List ℕ) → ((n : ℕ) → n < 2 ^ 32 → name ≡ decimal n → ⊥) → is_variant_number name ≡ false
-no_number name none = at (bytes_eq name (decimal (digits_value 10 name))) (nat_lt (digits_value 10 name) (2 ^ 32)) refl refl
-  where
-    at : (same small : Bool) → bytes_eq name (decimal (digits_value 10 name)) ≡ same → nat_lt (digits_value 10 name) (2 ^ 32) ≡ small → (same && small) ≡ false
-    at true true is fits = absurd (none (digits_value 10 name) ((Decides-ltb (digits_value 10 name) (2 ^ 32)).0 fits) ((bytes_eq-Decides name (decimal (digits_value 10 name))).0 is))
-    at true false is fits = refl
-    at false small is fits = refl
 
 pub a_number : (n : ℕ) → n < 2 ^ 32 → is_variant_number (decimal n) ≡ true
 a_number n small =
