@@ -31,27 +31,8 @@ pub fn decode_from<S: ByteSource>(
     ensures read { IsErrOf result DecodeFault.Read ↔ S.is_failed source.new ≡ true }
     ensures memory { takes_no_memory (shape_of format.now) ≡ true → result ≢ Err DecodeFault.OutOfMemory }
 {
-    decode_known(alloc, registry, format, limits, 0, source)
-}
-
-/// The same of a source of which so many bytes are known to come. Vectors begin with room for what that may hold.
-pub(crate) fn decode_known<S: ByteSource>(
-    alloc: Global,
-    registry: &Registry,
-    format: &Format,
-    limits: &Limits,
-    known: u64,
-    source: &mut S,
-) -> Result<Value, DecodeFault>
-    requires known { AreKnown known (S.content source.old) }
-    ensures told { DecodesFrom registry.now limits.now (shape_of format.now) (S.content source.old) (S.content source.new) result }
-    ensures read { IsErrOf result DecodeFault.Read ↔ S.is_failed source.new ≡ true }
-    ensures memory { takes_no_memory (shape_of format.now) ≡ true → result ≢ Err DecodeFault.OutOfMemory }
-{
-    match front(alloc, registry, format, limits, known, source) {
-        Ok((value, _)) => Ok(value),
-        Err(fault) => Err(fault),
-    }
+    let (value, _) = front(alloc, registry, format, limits, 0, source)?;
+    Ok(value)
 }
 
 /// The canonical value that all of the source's content is. A byte after the value is taken, and refused as
@@ -81,8 +62,9 @@ pub fn decode_all<S: ByteSource>(
     }
 }
 
-// The value at the front, and how many bytes it has.
-fn front<S: ByteSource>(
+/// The value at the front, and how many bytes it has, of a source of which so many bytes are known to come. Vectors begin
+/// with room for what that may hold.
+pub(crate) fn front<S: ByteSource>(
     alloc: Global,
     registry: &Registry,
     format: &Format,

@@ -11,7 +11,7 @@ ghost use Rattle.bcs_decode_laws.specs.Accepting.{IsDecoded};
 ghost use Rattle.bcs_decode_laws.specs.Stopping.{Stops};
 ghost use Rattle.bcs_decode_stops.specs.declared.reason.Reason.{Reason};
 
-use crate::decoding::decode_known;
+use crate::decoding::front;
 use crate::from_slice::scan;
 use bcs_decode_sources::SliceSource;
 use bcs_decode_stops::DecodeFault;
@@ -39,8 +39,8 @@ pub fn decode_slice(
     match scan(registry, format, limits, bytes) {
         Ok(length) => {
             let mut source = SliceSource::new(bytes);
-            match decode_known(alloc, registry, format, limits, length as u64, &mut source) {
-                Ok(value) => Ok((value, length)),
+            match front(alloc, registry, format, limits, length as u64, &mut source) {
+                Ok((value, _)) => Ok((value, length)),
                 Err(fault) => Err(fault),
             }
         }
@@ -61,7 +61,7 @@ pub fn decode_encoded(
     ensures { IfOk result (λ v. IsDecoded registry.now limits.now (shape_of format.now) bytes.now (tree_of v)) }
 {
     let mut source = SliceSource::new(bytes);
-    match decode_known(
+    match front(
         alloc,
         registry,
         format,
@@ -69,7 +69,7 @@ pub fn decode_encoded(
         bytes.len() as u64,
         &mut source,
     ) {
-        Ok(value) => Ok(value),
+        Ok((value, _)) => Ok(value),
         Err(DecodeFault::OutOfMemory) => Err(AllocError),
         Err(DecodeFault::Stop(_)) => unreachable!(),
         Err(DecodeFault::Read) => unreachable!(),

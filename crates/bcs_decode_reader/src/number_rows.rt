@@ -1,5 +1,5 @@
 //! Lists of whole numbers from a source, in one loop.
-ghost use Rattle.std.specs.Prelude.{◌≡◌, ℕ, ◌+◌, ◌*◌, ◌<◌, ◌≤◌, ◌^◌, ◌++◌, ◌⊎◌, [], false, length, map, take, OnOk, IfSome, None};
+ghost use Rattle.std.specs.Prelude.{◌≡◌, ℕ, ◌+◌, ◌-◌, ◌*◌, ◌<◌, ◌≤◌, ◌^◌, ◌++◌, ◌⊎◌, [], false, length, map, take, min, vec_capacity, OnOk, IfSome, None};
 ghost use Rattle.bcs_num.specs.Le.{width_of};
 ghost use Rattle.bcs_registry_formats.specs.Whole.{whole_len, whole_shape};
 ghost use Rattle.bcs_value_tree.specs.View.{items_trees, tree_of};
@@ -31,6 +31,7 @@ pub fn push_numbers<S: ByteSource>(
     requires good { S.is_failed source.old ≡ false }
     requires room { at.old.place + S.allowance source.old < 2 ^ 64 }
     requires empty { found.old.items ≡ [] }
+    requires reserved { vec_capacity found.old ≡ min count (at.old.known - at.old.place) }
     ensures sees { Sees (λ _. items_trees found.new.items) result (S.content source.old) at.old (row_leaf (leaf_here (whole_shape format)) count) at.new (S.content source.new) }
     ensures failed { FailedIfRead result (S.is_failed source.new) }
     ensures room { at.new.place + S.allowance source.new < 2 ^ 64 }

@@ -1,5 +1,5 @@
 //! What stands in containers, from a source.
-ghost use Rattle.std.specs.Prelude.{◌≡◌, [], map};
+ghost use Rattle.std.specs.Prelude.{◌≡◌, ◌-◌, [], length, map, min, vec_capacity};
 ghost use Rattle.bcs_registry_formats.specs.Container as spec;
 ghost use Rattle.bcs_registry_formats.specs.Container.{field_shapes, payload_shape};
 ghost use Rattle.bcs_registry_formats.specs.View.{container_of, field_of, payload_of};
@@ -149,6 +149,7 @@ fn each_field<S: ByteSource>(
 ) -> Result<(), DecodeFault>
     requires ready { Ready S.is_failed S.allowance reader.old }
     requires empty { found.old.items ≡ [] }
+    requires reserved { vec_capacity found.old ≡ min (length fields.now) (reader.old.at.now.known - reader.old.at.now.place) }
     ensures reads { Reads S.content S.is_failed S.allowance (λ _. items_trees found.new.items) result reader.old (each reader.old.registry.now depth (field_shapes (map field_of fields.now))) reader.new }
 {
     for field in fields {

@@ -1,5 +1,5 @@
 //! Maps from a source.
-ghost use Rattle.std.specs.Prelude.{◌≡◌, [], length, Some, IfOk};
+ghost use Rattle.std.specs.Prelude.{◌≡◌, ◌-◌, [], length, min, vec_capacity, Some, IfOk};
 ghost use Rattle.bcs_registry_formats.specs.View.{shape_of};
 ghost use Rattle.bcs_value_tree.specs.View.{tree_of, entries_pairs};
 ghost use Rattle.bcs_decode_keys.specs.Kept.{Stands, last_bytes, key_of};
@@ -58,6 +58,7 @@ fn each_entry<S: ByteSource>(
 ) -> Result<(), DecodeFault>
     requires ready { Ready S.is_failed S.allowance reader.old }
     requires empty { entries.old.found.items ≡ [] }
+    requires reserved { vec_capacity entries.old.found ≡ min entries.old.count (reader.old.at.now.known - reader.old.at.now.place) }
     ensures reads { Reads S.content S.is_failed S.allowance (λ _. entries_pairs entries.new.found.items) result reader.old (entries_leaf (read reader.old.registry.now depth (shape_of key.now)) (read reader.old.registry.now depth (shape_of part.now)) entries.old.count) reader.new }
 {
     let count = entries.count;

@@ -1,5 +1,5 @@
 //! Values in a row from a source.
-ghost use Rattle.std.specs.Prelude.{◌≡◌, []};
+ghost use Rattle.std.specs.Prelude.{◌≡◌, ◌-◌, [], length, min, vec_capacity};
 ghost use Rattle.bcs_registry_formats.specs.Container.{content};
 ghost use Rattle.bcs_registry_formats.specs.View.{container_of, shape_of, formats_shapes};
 ghost use Rattle.bcs_value_tree.specs.View.{tree_of, items_trees};
@@ -55,6 +55,7 @@ fn row<S: ByteSource>(
 ) -> Result<(), DecodeFault>
     requires ready { Ready S.is_failed S.allowance reader.old }
     requires empty { found.old.items ≡ [] }
+    requires reserved { vec_capacity found.old ≡ min count (reader.old.at.now.known - reader.old.at.now.place) }
     ensures reads { Reads S.content S.is_failed S.allowance (λ _. items_trees found.new.items) result reader.old (row_leaf (read reader.old.registry.now depth (shape_of element.now)) count) reader.new }
 {
     if let Some(format) = WholeNumber::of(element) {
@@ -87,6 +88,7 @@ fn containers<S: ByteSource>(
     requires ready { Ready S.is_failed S.allowance reader.old }
     requires known { IsKnown reader.old.registry.now (content (container_of element.now)) }
     requires empty { found.old.items ≡ [] }
+    requires reserved { vec_capacity found.old ≡ min count (reader.old.at.now.known - reader.old.at.now.place) }
     ensures reads { Reads S.content S.is_failed S.allowance (λ _. items_trees found.new.items) result reader.old (row_leaf (container_value reader.old.registry.now depth (content (container_of element.now))) count) reader.new }
 {
     for _ in 0..count {
@@ -127,6 +129,7 @@ fn parts<S: ByteSource>(
 ) -> Result<(), DecodeFault>
     requires ready { Ready S.is_failed S.allowance reader.old }
     requires empty { found.old.items ≡ [] }
+    requires reserved { vec_capacity found.old ≡ min (length formats.now) (reader.old.at.now.known - reader.old.at.now.place) }
     ensures reads { Reads S.content S.is_failed S.allowance (λ _. items_trees found.new.items) result reader.old (each reader.old.registry.now depth (formats_shapes formats.now)) reader.new }
 {
     for format in formats {

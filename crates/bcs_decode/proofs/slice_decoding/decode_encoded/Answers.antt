@@ -1,9 +1,11 @@
 use Rattle.std.proofs.Common.{ℕ, List, Some, Ok, Err, subst, arith}
 use Rattle.std.proofs.lemmas.List.{get_or_default}
 use Rattle.bcs_registry_formats.specs.View.{shape_of}
+use Rattle.bcs_value_tree.specs.declared.value.Value.{Value}
 use Rattle.bcs_decode_laws.specs.Exact.{AreBytes}
 use Rattle.bcs_decode_stops.specs.declared.decode_fault.DecodeFault.{DecodeFault}
-use Rattle.bcs_decode.specs.Whole.{DecodesFrom}
+use Rattle.bcs_decode.specs.Whole.{DecodesFrom, DecodesFront}
+use Rattle.bcs_decode.proofs.Wholes.{front_value}
 use Rattle.bcs_decode.proofs.Slices.{encoded_value, encoded_never_stops}
 use Rattle.bcs_decode.proofs.slice_decoding.decode_encoded.Goals as goal
 
@@ -14,8 +16,8 @@ unreachable-requires c =
     let s = shape_of c.args.format.now in
     let b = c.args.bytes.now in
     let bytes : AreBytes b = λ k d lt. (let same = get_or_default b k d 0 lt in omega (arith, same, c.type_inv.bytes k)) in
-    let told = subst (λ (x : List ℕ). DecodesFrom r l s (Some x) (Some c.decode_known.new.source) (Err c.in-Err-Stop.field-0)) c.new-source.ensures c.in-Err-Stop.ensures.told in
-    encoded_never_stops r l s b (Some c.decode_known.new.source) bytes c.requires c.in-Err-Stop.field-0-0 (subst (λ (x : DecodeFault). DecodesFrom r l s (Some b) (Some c.decode_known.new.source) (Err x)) c.in-Err-Stop.field-0-is told)
+    let told = subst (λ (x : List ℕ). DecodesFrom r l s (Some x) (Some c.front.new.source) (Err c.in-Err-Stop.field-0)) c.new-source.ensures c.in-Err-Stop.ensures.told in
+    encoded_never_stops r l s b (Some c.front.new.source) bytes c.requires c.in-Err-Stop.field-0-0 (subst (λ (x : DecodeFault). DecodesFrom r l s (Some b) (Some c.front.new.source) (Err x)) c.in-Err-Stop.field-0-is told)
 
 pub returns-in-Ok : goal.returns-in-Ok
 returns-in-Ok c =
@@ -24,5 +26,6 @@ returns-in-Ok c =
     let s = shape_of c.args.format.now in
     let b = c.args.bytes.now in
     let bytes : AreBytes b = λ k d lt. (let same = get_or_default b k d 0 lt in omega (arith, same, c.type_inv.bytes k)) in
-    let told = subst (λ (x : List ℕ). DecodesFrom r l s (Some x) (Some c.decode_known.new.source) (Ok c.in-Ok.value)) c.new-source.ensures c.in-Ok.ensures.told in
-    encoded_value r l s b (Some c.decode_known.new.source) bytes c.requires c.in-Ok.value told
+    let found : Value × ℕ = (c.in-Ok.value, c.in-Ok.field-0-1) in
+    let told = subst (λ (x : List ℕ). DecodesFront r l s (Some x) (Some c.front.new.source) (Ok found)) c.new-source.ensures c.in-Ok.ensures.told in
+    encoded_value r l s b (Some c.front.new.source) bytes c.requires c.in-Ok.value (front_value r l s (Some b) (Some c.front.new.source) found told)

@@ -6,27 +6,27 @@ use Rattle.bcs_decode.specs.Whole.{DecodesFrom}
 use Rattle.bcs_decode.proofs.Slices.{refused_slice}
 use Rattle.bcs_decode.proofs.slice_decoding.decode_slice.Goals as goal
 
-pub returns-in-Ok-decode_known-clause-stopped : goal.returns-in-Ok-decode_known-clause-stopped
-returns-in-Ok-decode_known-clause-stopped c = λ e o bad. absurd (let h = c.in-Ok.ensures.stopped e o bad in cc)
+pub returns-in-Ok-front-clause-stopped : goal.returns-in-Ok-front-clause-stopped
+returns-in-Ok-front-clause-stopped c = λ e o bad. absurd (let h = c.in-Ok.ensures.stopped e o bad in cc)
 
-pub returns-in-Err-decode_known-clause-decodes : goal.returns-in-Err-decode_known-clause-decodes
-returns-in-Err-decode_known-clause-decodes c =
+pub returns-in-Err-front-clause-decodes : goal.returns-in-Err-front-clause-decodes
+returns-in-Err-front-clause-decodes c =
     let r = c.args.registry.now in
     let l = c.args.limits.now in
     let s = shape_of c.args.format.now in
     let b = c.args.bytes.now in
     let bytes : AreBytes b = λ k d lt. (let same = get_or_default b k d 0 lt in omega (arith, same, c.type_inv.bytes k)) in
-    let told = subst (λ (x : List ℕ). DecodesFrom r l s (Some x) (Some c.decode_known.new.source) (Err c.in-Err-decode_known.fault)) c.new-source.ensures c.in-Err-decode_known.ensures.told in
-    refused_slice r l s b (Some c.decode_known.new.source) c.in-Err-decode_known.fault bytes told (λ read. (let h = c.in-Err-decode_known.ensures.read.0 (ap Err read) in cc)) (c.in-Ok.length, c.in-Ok.ensures.found.0, c.in-Ok.ensures.found.1)
+    let told = subst (λ (x : List ℕ). DecodesFrom r l s (Some x) (Some c.front.new.source) (Err c.in-Err-front.fault)) c.new-source.ensures c.in-Err-front.ensures.told in
+    refused_slice r l s b (Some c.front.new.source) c.in-Err-front.fault bytes told (λ read. (let h = c.in-Err-front.ensures.read.0 (ap Err read) in cc)) (c.in-Ok.length, c.in-Ok.ensures.found.0, c.in-Ok.ensures.found.1)
 
-pub returns-in-Err-decode_known-clause-stopped : goal.returns-in-Err-decode_known-clause-stopped
-returns-in-Err-decode_known-clause-stopped c = λ e o bad. absurd (let h = c.in-Ok.ensures.stopped e o bad in cc)
+pub returns-in-Err-front-clause-stopped : goal.returns-in-Err-front-clause-stopped
+returns-in-Err-front-clause-stopped c = λ e o bad. absurd (let h = c.in-Ok.ensures.stopped e o bad in cc)
 
-pub returns-in-Ok-decode_known-clause-memory : goal.returns-in-Ok-decode_known-clause-memory
-returns-in-Ok-decode_known-clause-memory c = search rules
+pub returns-in-Ok-front-clause-memory : goal.returns-in-Ok-front-clause-memory
+returns-in-Ok-front-clause-memory c = search rules
 
-pub returns-in-Err-decode_known-clause-memory : goal.returns-in-Err-decode_known-clause-memory
-returns-in-Err-decode_known-clause-memory c = search rules
+pub returns-in-Err-front-clause-memory : goal.returns-in-Err-front-clause-memory
+returns-in-Err-front-clause-memory c = search rules
 
 pub returns-in-Err-clause-decodes : goal.returns-in-Err-clause-decodes
 returns-in-Err-clause-decodes c = search rules
