@@ -96,6 +96,10 @@ has_file_answer job work file name content bytes output status is some answers =
     let Q : Option (String Global) → Type 0 = λ f. IsContent (input_of f content) bytes in
     (work, bytes, subst P is.input is, subst Q (sym some ∙ is.input) tt, answers)
 
+-- the work is one of the job's, with the name of its file
+pub is_work : (job : Job) (work : Work) (file : Option (String Global)) → IsWorkOf job work file → IsWorkOf job work job.file
+is_work job work file is = let P : Option (String Global) → Type 0 = λ f. IsWorkOf job work f in subst P is.input is
+
 -- such a job names a file
 pub names_file : (job : Job) (work : Work) (file : Option (String Global)) (name : String Global) → IsWorkOf job work file → file ≡ Some name → ReadsNoFile job → ⊥
 names_file job work file name is some no_file = true≢false (ap is_some (sym some ∙ (is.input ∙ no_file.1)))
@@ -141,6 +145,7 @@ module _ {S O : Type 0} (content : S → Option (List ℕ)) (has_stopped : S →
         answered = λ below. absurd (omega (arith, is, below));
         noted = λ _. subst P (sym note) (is_note f);
         apart = λ _. refl;
+        untouched = λ _. refl;
         unopened = λ e. (λ no_file. differ (codes "fault: memory") (codes "fault: open") refl (sym (memory no_file) ∙ e), refl, refl);
         read = λ e. (refl, λ no_file. absurd (differ (codes "fault: memory") (codes "fault: read") refl (sym (memory no_file) ∙ e)));
         too_large = λ e. (refl, λ no_file. absurd (differ (codes "fault: memory") (codes "fault: too large") refl (sym (memory no_file) ∙ e)));

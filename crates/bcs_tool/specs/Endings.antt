@@ -11,6 +11,7 @@ use Rattle.bcs_tool_files.specs.declared.work.Outcome.{Outcome}
 use Rattle.bcs_tool_files.specs.declared.work.Work.{Work}
 use Rattle.bcs_tool.specs.Answers.{Answers, IsContent, IsFaultNote, line_of}
 use Rattle.bcs_tool.specs.Input.{IsUnhurt}
+use Rattle.bcs_tool.specs.Judging.{ReadsInput}
 
 -- ---- one stream
 
@@ -71,6 +72,8 @@ module _ {S O : Type 0} (content : S → Option (List ℕ)) (has_stopped : S →
         × ((output : List ℕ) × HasAnswer job (content input) outcome.status output × sink.Took taken is_failed out out' output)
     pub noted : outcome.status ≡ 4 → IsNote outcome.note.now
     pub apart : job.file ≢ None → input' ≡ input
+    -- the input is read only where the work that the files make of the job reads one
+    pub untouched : ((work : Work) → IsWorkOf job work job.file → ¬ ReadsInput work) → input' ≡ input
     pub unopened : outcome.note.now ≡ codes "fault: open" → (¬ ReadsNoFile job) × (input' ≡ input) × (out' ≡ out)
     pub read : outcome.note.now ≡ codes "fault: read" → (out' ≡ out) × (ReadsNoFile job → has_stopped input' ≡ true)
     pub too_large : outcome.note.now ≡ codes "fault: too large" → (out' ≡ out)

@@ -29,9 +29,9 @@ abbrev pub is_registry_text : List ℕ → Bool
 is_registry_text [] = false
 is_registry_text (c ∷ cs) = c == 123
 
--- bytes that were read for a word: the word itself where it is the text
+-- bytes that were read for a word: the word itself where it is the text, and else those of a file within the size
 abbrev pub IsTextOf : List ℕ → List ℕ → Type 0
-IsTextOf word text = is_registry_text word ≡ true → text ≡ word
+IsTextOf word text = (is_registry_text word ≡ true → text ≡ word) × (is_registry_text word ≡ false → length text ≤ size_limit)
 
 -- bytes that were read for the second word of a command: none where the command has none
 abbrev pub IsSecondOf : Command → List ℕ → List ℕ → Type 0

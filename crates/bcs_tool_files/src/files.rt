@@ -72,6 +72,7 @@ pub fn read_work<R: Files + AllocGlobal>(
 // The text of a registry: the word itself, or the content of the file that it names.
 fn read_registry<R: Files + AllocGlobal>(rt: &R, word: &str) -> Result<Vec<u8>, FileFault>
     ensures text { is_registry_text word.now ≡ true → IfOk result (λ v. v.items ≡ word.now) }
+    ensures within { is_registry_text word.now ≡ false → IfOk result (λ v. vec_len v ≤ size_limit) }
     ensures good { is_registry_text word.now ≡ true → IsOkUnless result (FileFault.Take TakeFault.OutOfMemory) }
 {
     if is_registry_text(word) {

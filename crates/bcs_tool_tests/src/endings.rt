@@ -1,5 +1,6 @@
 //! How command lines end: what the standard output and the standard error are told, and the status.
-use bcs_decode::pieces::PieceSource;
+use bcs_decode::ByteSource;
+use bcs_decode::pieces::{PieceSource, RepeatSource};
 use bcs_encode::pieces::PieceSink;
 use bcs_tool::respond;
 use std::alloc::{AllocError, Global};
@@ -35,12 +36,22 @@ fn ends(
     fails: [Option<u64>; 3],
     ending: Ending,
 ) -> Result<(), Fail> {
+    let mut input = PieceSource::new(b"-4660", 5, fails[0]);
+    ends_over(rt, &mut input, [fails[1], fails[2]], ending)
+}
+
+// The command line ends so over this input, where the output and the errors fail from these calls on.
+fn ends_over(
+    rt: &(impl Abort + AllocGlobal + Files),
+    input: &mut impl ByteSource,
+    fails: [Option<u64>; 2],
+    ending: Ending,
+) -> Result<(), Fail> {
     let (words, status, out, errors) = ending;
     let words = words_of(rt.alloc(), words)?;
-    let mut input = PieceSource::new(b"-4660", 5, fails[0]);
-    let mut told_out = PieceSink::<4000>::new(4000, fails[1]);
-    let mut told_errors = PieceSink::<4000>::new(4000, fails[2]);
-    let answer = respond(rt, &words, &mut input, &mut told_out, &mut told_errors);
+    let mut told_out = PieceSink::<4000>::new(4000, fails[0]);
+    let mut told_errors = PieceSink::<4000>::new(4000, fails[1]);
+    let answer = respond(rt, &words, input, &mut told_out, &mut told_errors);
     assert!(rt; answer == status, "{out}{errors}");
     assert!(rt; is_told(told_out.taken(), out), "{out}{errors}");
     assert!(rt; is_told(told_errors.taken(), errors), "{out}{errors}");
@@ -114,8 +125,49 @@ fn streams_that_fail(rt: HostRuntime) -> Result<(), Fail> {
     Ok(())
 }
 
+// Words of each command that are refused, so that the input is never looked at.
+const REFUSED: [Ending; 8] = [
+    (&["check", "{"], 2, "refused: NotJson\n", ""),
+    (&["grows", "{}", "{"], 2, "refused: NotJson\n", ""),
+    (&["encode", "{}", "N"], 2, "refused: UnknownName\n", ""),
+    (&["decode", "{}", "N"], 2, "refused: UnknownName\n", ""),
+    (&["normalise", "{}", "N"], 2, "refused: UnknownName\n", ""),
+    (
+        &["same", "{}", "N", "first.test"],
+        2,
+        "refused: UnknownName\n",
+        "",
+    ),
+    (&["part", "{}", "\"U8\"", "01"], 2, "refused: BadPath\n", ""),
+    (&["frobnicate"], 3, "", "error: .."),
+];
+
+#[test]
+fn refused_words_over_an_input_that_fails(rt: HostRuntime) -> Result<(), Fail> {
+    fs::write(&rt, "first.test", b"7".as_slice())?;
+    for ending in REFUSED {
+        let mut input = PieceSource::new(b"-4660", 5, Some(1));
+        ends_over(&rt, &mut input, [None; 2], ending)?;
+        assert!(rt; !input.failed());
+    }
+    fs::remove_file(&rt, "first.test")?;
+    Ok(())
+}
+
+#[test]
+fn refused_words_over_an_endless_input(rt: HostRuntime) -> Result<(), Fail> {
+    fs::write(&rt, "first.test", b"7".as_slice())?;
+    let mut input = RepeatSource::new(b' ');
+    for ending in REFUSED {
+        ends_over(&rt, &mut input, [None; 2], ending)?;
+    }
+    assert!(rt; input.given() == 0);
+    fs::remove_file(&rt, "first.test")?;
+    Ok(())
+}
+
 // `large.test` has a byte too many, `.` is a folder, and `no.test` isn't there.
-const FILES: [Ending; 9] = [
+const FILES: [Ending; 11] = [
     (
         &["grows", "large.test", "no.test"],
         4,
@@ -138,6 +190,18 @@ const FILES: [Ending; 9] = [
         4,
         "",
         "fault: open\n",
+    ),
+    (
+        &["decode", ".", "\"U8\"", "no.test"],
+        4,
+        "",
+        "fault: read\n",
+    ),
+    (
+        &["decode", "large.test", "\"U8\"", "no.test"],
+        4,
+        "",
+        "fault: too large\n",
     ),
     (
         &["decode", "{}", "\"U8\"", "large.test"],

@@ -1,6 +1,6 @@
 use Rattle.std.proofs.Common.{◌∙◌, inl, inr, refl, sym}
 use Rattle.bcs_tool_files.specs.declared.file_fault.FileFault.TheVariants.{Open}
-use Rattle.bcs_tool.proofs.EndingLemmas.{has_answer, has_file_answer, names_file, no_answer, opens_none}
+use Rattle.bcs_tool.proofs.EndingLemmas.{has_answer, has_file_answer, is_work, names_file, no_answer, opens_none}
 use Rattle.bcs_tool.proofs.responding.perform.Goals as goal
 
 pub returns-in-Err : goal.returns-in-Err
@@ -21,6 +21,7 @@ returns-in_default g c =
           (a.0, (a.1.1, has_answer c.args.job c.in-Ok.read.0 c.in-Ok.read.1 content a.1.0 a.1.1 c.run.result.status work c.in_default.is a.1.2 a.1.3, a.1.4));
       noted = λ four. inr (e.noted four);
       apart = λ named. absurd (named (sym work.input ∙ c.in_default.is));
+      untouched = λ refused. e.untouched (refused c.in-Ok.read.0 (is_work c.args.job c.in-Ok.read.0 c.in-Ok.read.1 work));
       unopened = λ is. absurd (opens_none c.run.result e.status (λ below. (e.answered below).0) e.noted is);
       read = λ is.
           let r = e.read is in (r.2, λ _. r.1);
@@ -46,6 +47,7 @@ returns-in-Ok-open g c =
           (a.0, (a.1.1, has_file_answer c.args.job c.in-Ok.read.0 c.in-Ok.read.1 c.in-Some.name content a.1.0 a.1.1 c.run-in-Ok-open.result.status work c.in-Some.is a.1.3, a.1.4));
       noted = λ four. inr (e.noted four);
       apart = λ _. refl;
+      untouched = λ _. refl;
       unopened = λ is. absurd (opens_none c.run-in-Ok-open.result e.status (λ below. (e.answered below).0) e.noted is);
       read = λ is. ((e.read is).2, λ no_file. absurd (named no_file));
       too_large = λ is. ((e.too_large is).2, λ no_file. absurd (named no_file));
