@@ -3,5 +3,7 @@ pub mod DistinctFields
 pub mod ShownDepths
 pub mod PrintedRows
 pub mod Places
-pub mod WrittenRows
+pub mod SentRows
 pub mod ShownBack
+pub mod SentTexts
+pub mod Whole

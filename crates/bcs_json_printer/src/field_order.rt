@@ -6,6 +6,7 @@ ghost use Rattle.serde_json.specs.Data.{Data};
 ghost use Rattle.bcs_json_printer.specs.Places.{name_of, placed, put_from};
 
 use bcs_registry::{Format, Named};
+use serde::Serializer;
 use std::alloc::{AllocError, Global};
 use std::collections::BTreeMap;
 
@@ -25,4 +26,20 @@ pub(crate) fn places_of(
         drop(places.insert(name, left)?);
     }
     Ok(places)
+}
+
+/// The same for a serializer. Want of memory is told by `custom`, the one maker of a serializer's errors.
+#[inline(never)]
+pub(crate) fn sent_places<S: Serializer>(
+    alloc: Global,
+    fields: &[Named<Format>],
+    out: &S,
+) -> Result<BTreeMap<String, usize>, S::Error>
+    ensures order { IfOk result (λ m. (at : ℕ → Data) → placed at m.entries ≡ put_from at 0 (map name_of fields.now)) }
+    ensures within { IfOk result (λ m. All (λ i. i < length fields.now) (values_of m.entries)) }
+{
+    match places_of(alloc, fields) {
+        Ok(places) => Ok(places),
+        Err(_) => Err(out.custom("out of memory")),
+    }
 }

@@ -2,6 +2,9 @@
 #![tactic(auto)]
 
 mod field_order;
+mod leaves;
 pub mod nesting;
+mod shown;
 pub mod texts;
-mod writing;
+
+pub use shown::Shown;

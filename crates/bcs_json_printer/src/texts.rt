@@ -8,14 +8,12 @@ ghost use Rattle.bcs_json_laws.specs.JsonContent.{of};
 ghost use Rattle.bcs_json_laws.specs.Shown.{shown};
 ghost use Rattle.bcs_json_laws.specs.Texts.{IsReadAs, IsTextOf, nesting_limit};
 
-use crate::writing::write_value;
+use crate::shown::Shown;
 use bcs_registry::{Format, Registry};
 use bcs_value_tree::Value;
-use json::Writer;
 use std::alloc::{AllocError, Global};
 
-/// The text of a value of the format, whose JSON nests within the limit. It is read as that JSON again. Fails only for
-/// want of memory.
+/// The text of a value of the format, whose JSON nests within the limit. It is read as that JSON again.
 pub fn show(
     value: Value,
     format: &Format,
@@ -28,7 +26,12 @@ pub fn show(
     ensures reads_back { IfOk result (λ s. IsReadAs (string_bytes s) (shown registry.now (tree_of value) (of (shape_of format.now)))) }
 {
     registry.recall();
-    let mut out = Writer::new(Vec::new(alloc));
-    write_value(&value, format, registry, alloc, &mut out)?;
-    Ok(unsafe { String::from_utf8_unchecked(out.into_inner()) })
+    let shown = Shown {
+        value: &value,
+        format,
+        registry,
+        alloc,
+    };
+    // No clause of `serde_json` says so, but it fails here for want of memory alone: see the README.
+    serde_json::to_string(alloc, &shown).map_err(|_| AllocError)
 }

@@ -1,0 +1,79 @@
+-- Rows that are sent one part after another.
+use Rattle.std.proofs.Common.{◌≡◌, ◌∙◌, ◌<◌, ◌≤◌, ◌+◌, ℕ, zero, suc, List, [], ◌∷◌, ◌++◌, length, get_or, drop, map, true, false, true≢false, String, Global, string_bytes, refl, sym, ap, append_assoc, arith, subst}
+use Rattle.std.proofs.lemmas.Bool.{and_parts}
+use Rattle.std.proofs.lemmas.List.{drop_more}
+use Rattle.std.specs.List.{All}
+use Rattle.std.specs.Map.{values_of}
+use Rattle.serde_json.specs.Data.{Data}
+use Rattle.serde_json.specs.Events.{items_len, members_len}
+use Rattle.bcs_registry_formats.specs.Container.{Entries, field_shapes, of as at_format}
+use Rattle.bcs_registry_formats.specs.Shape.{Shape}
+use Rattle.bcs_registry_formats.specs.View.{field_of, formats_shapes, shape_of}
+use Rattle.bcs_registry_formats.specs.declared.format.Format.{Format}
+use Rattle.bcs_registry_formats.specs.declared.named.Named.{Named}
+use Rattle.bcs_value_laws.specs.Fits.{each_fits, fits, pairs_fit}
+use Rattle.bcs_value_tree.specs.Tree.{nodes, pairs_nodes, trees_nodes}
+use Rattle.bcs_value_tree.specs.View.{entries_pairs, items_trees, tree_of}
+use Rattle.bcs_value_tree.specs.declared.value.Value.{Value}
+use Rattle.bcs_json_laws.specs.JsonContent.{of}
+use Rattle.bcs_json_laws.specs.Shown.{shown, shown_all, shown_each, shown_pairs}
+use Rattle.bcs_json_printer.specs.Places.{placed}
+use Rattle.bcs_json_printer.proofs.PrintedRows.{pairs_here}
+
+-- a part of a row has no more nodes than the row
+pub part_nodes : (xs : List Value) (i : ℕ) (x : Value) → i < length xs → x ≡ get_or xs i x → nodes (tree_of x) ≤ trees_nodes (items_trees xs)
+part_nodes [] i x h is = absurd (omega arith)
+part_nodes (y ∷ xs) zero x h is = let own = ap (λ (v : Value). nodes (tree_of v)) is in omega (arith, own)
+part_nodes (y ∷ xs) (suc i) x h is = omega (arith, part_nodes xs i x (omega arith) is)
+
+pub entry_nodes : (ps : List (Value × Value)) (i : ℕ) (p : Value × Value) → i < length ps → p ≡ get_or ps i p
+    → (nodes (tree_of p.0) ≤ pairs_nodes (entries_pairs ps)) × (nodes (tree_of p.1) ≤ pairs_nodes (entries_pairs ps))
+entry_nodes [] i p h is = absurd (omega arith)
+entry_nodes (q ∷ ps) zero p h is =
+    let key = ap (λ (e : Value × Value). nodes (tree_of e.0)) is in
+    let value = ap (λ (e : Value × Value). nodes (tree_of e.1)) is in
+    (omega (arith, key), omega (arith, value))
+entry_nodes (q ∷ ps) (suc i) p h is = let rest = entry_nodes ps i p (omega arith) is in (omega (arith, rest.0), omega (arith, rest.1))
+
+-- how many parts a row shows
+pub all_len : (r : Entries) (xs : List Value) (s : Shape) → items_len (shown_all r (items_trees xs) s) ≡ length xs
+all_len r [] s = refl
+all_len r (x ∷ xs) s = ap suc (all_len r xs s)
+
+pub each_len : (r : Entries) (xs : List Value) (fs : List Format) → each_fits false r (items_trees xs) (formats_shapes fs) ≡ true → items_len (shown_each r (items_trees xs) (formats_shapes fs)) ≡ length xs
+each_len r [] [] h = refl
+each_len r [] (f ∷ fs) h = absurd (true≢false (sym h))
+each_len r (x ∷ xs) [] h = absurd (true≢false (sym h))
+each_len r (x ∷ xs) (f ∷ fs) h = ap suc (each_len r xs fs (and_parts _ _ h).1)
+
+pub pairs_len : (r : Entries) (ps : List (Value × Value)) (k v : Shape) → items_len (shown_pairs r (entries_pairs ps) k v) ≡ length ps
+pairs_len r [] k v = refl
+pairs_len r (p ∷ ps) k v = ap suc (pairs_len r ps k v)
+
+pub placed_len : (at : ℕ → Data) (es : List (String Global × ℕ)) → members_len (placed at es) ≡ length es
+placed_len at [] = refl
+placed_len at (e ∷ es) = ap suc (placed_len at es)
+
+module _ (r : Entries) where
+  -- a field's value is of the field's format
+  pub field_fits : (xs : List Value) (fs : List (Named Format)) (n : ℕ) (x : Value) (f : Named Format) → n < length xs → n < length fs → x ≡ get_or xs n x → f ≡ get_or fs n f
+      → each_fits false r (items_trees xs) (field_shapes (map field_of fs)) ≡ true → fits false r (tree_of x) (at_format (shape_of f.value)) ≡ true
+  field_fits [] fs n x f h g is found fit = absurd (omega arith)
+  field_fits (y ∷ xs) [] n x f h g is found fit = absurd (omega arith)
+  field_fits (y ∷ xs) (e ∷ fs) zero x f h g is found fit = rw (is, found) ((and_parts _ _ fit).0)
+  field_fits (y ∷ xs) (e ∷ fs) (suc n) x f h g is found fit = field_fits xs fs n x f (omega arith) (omega arith) is found (and_parts _ _ fit).1
+
+-- the entry that comes next is of its formats
+pub entry_fits : (r : Entries) (ps : List (Value × Value)) (i : ℕ) (p : Value × Value) (k v : Shape) → i < length ps → p ≡ get_or ps i p → pairs_fit false r (entries_pairs (drop i ps)) k v ≡ true
+    → (fits false r (tree_of p.0) (at_format k) ≡ true) × (fits false r (tree_of p.1) (at_format v) ≡ true)
+entry_fits r ps i p k v h is fit =
+    let here = drop_more ps i p h ∙ ap (λ (y : Value × Value). y ∷ drop (i + 1) ps) (sym is) in
+    let all = pairs_here r (drop i ps) p (drop (i + 1) ps) k v here fit in
+    (all.0, all.1)
+
+-- the place that comes next, and those after it
+pub next_within : (es : List (String Global × ℕ)) (e : String Global × ℕ) (rest : List (String Global × ℕ)) (n : ℕ) → es ≡ e ∷ rest → All (λ i. i < n) (values_of es)
+    → (e.1 < n) × All (λ i. i < n) (values_of rest)
+next_within es e rest n is h =
+    let all : All (λ i. i < n) (e.1 ∷ values_of rest) = subst (λ (xs : List (String Global × ℕ)). All (λ i. i < n) (values_of xs)) is h in
+    (all 0 0 (omega arith), λ k d lt. all (suc k) d (omega arith))

@@ -1,0 +1,70 @@
+use Rattle.std.proofs.Common.{◌≡◌, ◌+◌, ◌*◌, ◌++◌, ◌<◌, false, true, drop, length}
+use Rattle.std.specs.List.{All}
+use Rattle.std.specs.Map.{values_of}
+use Rattle.serde.specs.Event.{Log}
+use Rattle.serde_json.specs.Events.{SendsItems, SendsMembers}
+use Rattle.bcs_registry_formats.specs.View.{formats_shapes, shape_of}
+use Rattle.bcs_value_laws.specs.Fits.{all_fit, each_fits, pairs_fit}
+use Rattle.bcs_value_tree.specs.Tree.{nodes, pairs_nodes, trees_nodes}
+use Rattle.bcs_value_tree.specs.View.{entries_pairs, items_trees, tree_of}
+use Rattle.bcs_json_laws.specs.Shown.{shown_all, shown_each, shown_pairs}
+use Rattle.bcs_json_printer.specs.Places.{placed}
+use Rattle.bcs_json_printer.proofs.Places.{shown_at}
+use Rattle.bcs_json_printer.proofs.shown.+sending.Given as goal
+
+-- a value's nodes, and below it those of its parts
+abbrev pub decreases-send_value : goal.decreases-send_value
+decreases-send_value g l = 3 * nodes (tree_of l.value.now)
+
+abbrev pub decreases-send_content : goal.decreases-send_content
+decreases-send_content g l = 3 * nodes (tree_of l.value.now) + 1
+
+abbrev pub decreases-send_variant : goal.decreases-send_variant
+decreases-send_variant g l = 3 * nodes (tree_of l.value.now) + 2
+
+abbrev pub decreases-send_payload : goal.decreases-send_payload
+decreases-send_payload g l = 3 * nodes (tree_of l.value.now) + 1
+
+abbrev pub decreases-send_list : goal.decreases-send_list
+decreases-send_list g l = 3 * trees_nodes (items_trees l.items.now) + 2
+
+abbrev pub decreases-send_all : goal.decreases-send_all
+decreases-send_all g l = 3 * trees_nodes (items_trees l.items.now) + 1
+
+abbrev pub decreases-send_each : goal.decreases-send_each
+decreases-send_each g l = 3 * trees_nodes (items_trees l.items.now) + 1
+
+abbrev pub decreases-send_fields : goal.decreases-send_fields
+decreases-send_fields g l = 3 * trees_nodes (items_trees l.items.now) + 1
+
+abbrev pub decreases-send_pairs : goal.decreases-send_pairs
+decreases-send_pairs g l = 3 * pairs_nodes (entries_pairs l.pairs.now) + 1
+
+-- whatever ends it well from here ends it well from the start
+abbrev pub invariant-send_all-loop-item : goal.invariant-send_all-loop-item
+invariant-send_all-loop-item g l = record {
+  whole : (end : Log) → SendsItems (shown_all l.registry (items_trees (drop l.item-index l.items)) (shape_of l.element)) (g.S.Serializer.written l.out) end
+      → SendsItems (shown_all l.registry (items_trees l.items) (shape_of l.element)) (g.S.Serializer.written l.initial.out) end;
+  fits : all_fit false l.registry (items_trees (drop l.item-index l.items)) (shape_of l.element) ≡ true;
+}
+
+abbrev pub invariant-send_each-loop-i : goal.invariant-send_each-loop-i
+invariant-send_each-loop-i g l = record {
+  whole : (end : Log) → SendsItems (shown_each l.registry (items_trees (drop l.i l.items)) (formats_shapes (drop l.i l.formats))) (g.S.Serializer.written l.out) end
+      → SendsItems (shown_each l.registry (items_trees l.items) (formats_shapes l.formats)) (g.S.Serializer.written l.initial.out) end;
+  fits : each_fits false l.registry (items_trees (drop l.i l.items)) (formats_shapes (drop l.i l.formats)) ≡ true;
+}
+
+abbrev pub invariant-send_pairs-loop-k : goal.invariant-send_pairs-loop-k
+invariant-send_pairs-loop-k g l = record {
+  whole : (end : Log) → SendsItems (shown_pairs l.registry (entries_pairs (drop l.k-index l.pairs)) (shape_of l.key) (shape_of l.value)) (g.S.Serializer.written l.out) end
+      → SendsItems (shown_pairs l.registry (entries_pairs l.pairs) (shape_of l.key) (shape_of l.value)) (g.S.Serializer.written l.initial.out) end;
+  fits : pairs_fit false l.registry (entries_pairs (drop l.k-index l.pairs)) (shape_of l.key) (shape_of l.value) ≡ true;
+}
+
+abbrev pub invariant-send_fields-loop-name : goal.invariant-send_fields-loop-name
+invariant-send_fields-loop-name g l = record {
+  whole : (end : Log) → SendsMembers (placed (shown_at l.registry l.items l.fields) l.name-iterator) (g.S.Serializer.written l.out) end
+      → SendsMembers (placed (shown_at l.registry l.items l.fields) l.initial.name-iterator) (g.S.Serializer.written l.initial.out) end;
+  within : All (λ i. i < length l.fields) (values_of l.name-iterator);
+}

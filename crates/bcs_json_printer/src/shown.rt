@@ -1,0 +1,313 @@
+//! A value with its format, as it is printed: a serializer is sent its JSON, front to back, with no JSON made in between.
+ghost use Rattle.std.specs.Prelude.{◌≡◌, IsTrue, OnOk, false, Some, if◌then◌else◌, map, string_bytes};
+ghost use Rattle.hex.specs.Hex.{encode_lower};
+ghost use Rattle.serde_json.specs.Data.{array, null, object, string};
+ghost use Rattle.serde_json.specs.Events.{SendsValue};
+ghost use Rattle.bcs_registry_formats.specs.Container.{content, field_shapes, of as at_format, payload_shape};
+ghost use Rattle.bcs_registry_formats.specs.View.{container_of, field_of, formats_shapes, payload_of, shape_of};
+ghost use Rattle.bcs_value_laws.specs.Fits.{Fits, all_fit, each_fits, fits, pairs_fit};
+ghost use Rattle.bcs_value_tree.specs.View.{entries_pairs, items_trees, tree_of};
+ghost use Rattle.bcs_json_laws.specs.Bytes.{is_byte, trees_bytes};
+ghost use Rattle.bcs_json_laws.specs.JsonContent.{json_content, of, payload_content};
+ghost use Rattle.bcs_json_laws.specs.Shown.{shown, shown_all, shown_choice, shown_each, shown_fields, shown_pairs};
+
+use crate::field_order::sent_places;
+use crate::leaves::{
+    close_map, close_seq, open_map, open_seq, send_byte_list, send_bytes, send_name,
+    send_narrow_signed, send_narrow_unsigned, send_null, send_text, send_truth, send_wide_signed,
+    send_wide_unsigned,
+};
+use bcs_registry::{Container, Format, Named, Registry, VariantFormat};
+use bcs_value_tree::Value;
+use serde::{Described, Serialize, Serializer};
+use std::alloc::Global;
+
+/// A value of the format, which is sent to a serializer as its JSON.
+#[derive(Clone, Copy)]
+pub struct Shown<'a> {
+    pub value: &'a Value,
+    pub format: &'a Format,
+    pub registry: &'a Registry,
+    pub alloc: Global,
+    pub ghost fits: { Fits registry.now (shape_of format.now) (tree_of value.now) },
+}
+
+impl Described for Shown<'_> {
+    ghost writes = { λ s. SendsValue (shown s.registry.now (tree_of s.value.now) (of (shape_of s.format.now))) };
+}
+
+impl Serialize for Shown<'_> {
+    fn serialize<S: Serializer>(&self, out: &mut S) -> Result<(), S::Error> {
+        send_value(self.value, self.format, self.registry, self.alloc, out)
+    }
+}
+
+/// Sends the JSON of a value of the format.
+#[cycle(sending)]
+fn send_value<S: Serializer>(
+    value: &Value,
+    format: &Format,
+    registry: &Registry,
+    alloc: Global,
+    out: &mut S,
+) -> Result<(), S::Error>
+    requires fits { Fits registry.now (shape_of format.now) (tree_of value.now) }
+    ensures { OnOk result (SendsValue (shown registry.now (tree_of value.now) (of (shape_of format.now))) (S.written out.old) (S.written out.new)) }
+{
+    match (value, format) {
+        (Value::Bool(truth), Format::Bool) => send_truth(*truth, out),
+        (Value::Unsigned(number), Format::U8 | Format::U16 | Format::U32) => {
+            send_narrow_unsigned(*number, out)
+        }
+        (Value::Unsigned(number), Format::U64 | Format::U128) => send_wide_unsigned(*number, out),
+        (Value::Signed(number), Format::I8 | Format::I16 | Format::I32) => {
+            send_narrow_signed(*number, out)
+        }
+        (Value::Signed(number), Format::I64 | Format::I128) => send_wide_signed(*number, out),
+        (Value::Text(text), Format::Str) => send_text(text.as_str(), out),
+        (Value::Bytes(bytes), Format::Bytes) => send_bytes(bytes.as_slice(), alloc, out),
+        (Value::Present(inner), Format::Opt(content)) => {
+            open_map(1, out)?;
+            send_name("some", out)?;
+            send_value(inner, content, registry, alloc, out)?;
+            close_map(out)
+        }
+        (Value::Items(items), Format::Seq(element)) => {
+            send_list(items, element, registry, alloc, out)
+        }
+        (Value::Items(items), Format::TupleArray(element, _)) => {
+            send_list(items, element, registry, alloc, out)
+        }
+        (Value::Items(items), Format::Tuple(formats)) => {
+            send_each(items, formats, registry, alloc, out)
+        }
+        (Value::Pairs(pairs), Format::Map(key, content)) => {
+            send_pairs(pairs, key, content, registry, alloc, out)
+        }
+        (Value::Named(inner), Format::TypeName(name)) => match registry.container(name.as_str()) {
+            Some(container) => send_content(inner, container, registry, alloc, out),
+            None => send_nothing(value, format, registry, out),
+        },
+        _ => send_nothing(value, format, registry, out),
+    }
+}
+
+/// Sends the JSON of what stands in a container.
+#[cycle(sending)]
+fn send_content<S: Serializer>(
+    value: &Value,
+    container: &Container,
+    registry: &Registry,
+    alloc: Global,
+    out: &mut S,
+) -> Result<(), S::Error>
+    requires fits { IsTrue (fits false registry.now (tree_of value.now) (content (container_of container.now))) }
+    ensures { OnOk result (SendsValue (shown registry.now (tree_of value.now) (json_content (container_of container.now))) (S.written out.old) (S.written out.new)) }
+{
+    match (container, value) {
+        (Container::NewTypeStruct(format), _) => send_value(value, format, registry, alloc, out),
+        (Container::TupleStruct(formats), Value::Items(items)) => {
+            send_each(items, formats, registry, alloc, out)
+        }
+        (Container::Struct(fields), Value::Items(items)) => {
+            send_fields(items, fields, registry, alloc, out)
+        }
+        (Container::Enum(variants), Value::Variant(number, inner)) => match variants.get(number) {
+            Some(variant) => send_variant(inner, variant, registry, alloc, out),
+            None => send_null(out),
+        },
+        _ => send_nothing_in(value, container, registry, out),
+    }
+}
+
+/// Sends the JSON of a variant: its name alone, or an object with what it carries.
+#[cycle(sending)]
+fn send_variant<S: Serializer>(
+    value: &Value,
+    variant: &Named<VariantFormat>,
+    registry: &Registry,
+    alloc: Global,
+    out: &mut S,
+) -> Result<(), S::Error>
+    requires fits { IsTrue (fits false registry.now (tree_of value.now) (at_format (payload_shape (payload_of variant.now.value)))) }
+    ensures { OnOk result (SendsValue (shown_choice (shown registry.now (tree_of value.now))
+        (Some (string_bytes variant.now.name, payload_of variant.now.value))) (S.written out.old) (S.written out.new)) }
+{
+    let name = variant.name.as_str();
+    if matches!(variant.value, VariantFormat::Unit) {
+        return send_text(name, out);
+    }
+    open_map(1, out)?;
+    send_name(name, out)?;
+    send_payload(value, &variant.value, registry, alloc, out)?;
+    close_map(out)
+}
+
+/// Sends the JSON of what a variant carries.
+#[cycle(sending)]
+fn send_payload<S: Serializer>(
+    value: &Value,
+    payload: &VariantFormat,
+    registry: &Registry,
+    alloc: Global,
+    out: &mut S,
+) -> Result<(), S::Error>
+    requires fits { IsTrue (fits false registry.now (tree_of value.now) (at_format (payload_shape (payload_of payload.now)))) }
+    ensures { OnOk result (SendsValue (shown registry.now (tree_of value.now) (payload_content (payload_of payload.now))) (S.written out.old) (S.written out.new)) }
+{
+    match (payload, value) {
+        (VariantFormat::NewType(format), _) => send_value(value, format, registry, alloc, out),
+        (VariantFormat::Tuple(formats), Value::Items(items)) => {
+            send_each(items, formats, registry, alloc, out)
+        }
+        (VariantFormat::Struct(fields), Value::Items(items)) => {
+            send_fields(items, fields, registry, alloc, out)
+        }
+        _ => send_nothing_of(value, payload, registry, out),
+    }
+}
+
+/// Sends the JSON of a list or an array: of bytes it is a string.
+#[cycle(sending)]
+fn send_list<S: Serializer>(
+    items: &[Value],
+    element: &Format,
+    registry: &Registry,
+    alloc: Global,
+    out: &mut S,
+) -> Result<(), S::Error>
+    requires fits { IsTrue (all_fit false registry.now (items_trees items.now) (shape_of element.now)) }
+    ensures { OnOk result (SendsValue (if is_byte (shape_of element.now)
+        then string (encode_lower (trees_bytes (items_trees items.now)))
+        else array (shown_all registry.now (items_trees items.now) (shape_of element.now))) (S.written out.old) (S.written out.new)) }
+{
+    if matches!(element, Format::U8) {
+        return send_byte_list(items, alloc, out);
+    }
+    send_all(items, element, registry, alloc, out)
+}
+
+/// Sends the elements of one format, as an array.
+#[cycle(sending)]
+fn send_all<S: Serializer>(
+    items: &[Value],
+    element: &Format,
+    registry: &Registry,
+    alloc: Global,
+    out: &mut S,
+) -> Result<(), S::Error>
+    requires fits { IsTrue (all_fit false registry.now (items_trees items.now) (shape_of element.now)) }
+    ensures { OnOk result (SendsValue (array (shown_all registry.now (items_trees items.now) (shape_of element.now))) (S.written out.old) (S.written out.new)) }
+{
+    open_seq(items.len(), out)?;
+    for item in items {
+        send_value(item, element, registry, alloc, out)?;
+    }
+    close_seq(out)
+}
+
+/// Sends the elements of a tuple, as an array.
+#[cycle(sending)]
+fn send_each<S: Serializer>(
+    items: &[Value],
+    formats: &[Format],
+    registry: &Registry,
+    alloc: Global,
+    out: &mut S,
+) -> Result<(), S::Error>
+    requires fits { IsTrue (each_fits false registry.now (items_trees items.now) (formats_shapes formats.now)) }
+    ensures { OnOk result (SendsValue (array (shown_each registry.now (items_trees items.now) (formats_shapes formats.now))) (S.written out.old) (S.written out.new)) }
+{
+    open_seq(items.len(), out)?;
+    for (i, item) in items.iter().enumerate() {
+        send_value(item, &formats[i], registry, alloc, out)?;
+    }
+    close_seq(out)
+}
+
+/// Sends the fields of a struct, as an object, in the order of their names' bytes.
+#[cycle(sending)]
+fn send_fields<S: Serializer>(
+    items: &[Value],
+    fields: &[Named<Format>],
+    registry: &Registry,
+    alloc: Global,
+    out: &mut S,
+) -> Result<(), S::Error>
+    requires fits { IsTrue (each_fits false registry.now (items_trees items.now) (field_shapes (map field_of fields.now))) }
+    ensures { OnOk result (SendsValue (object (shown_fields registry.now (items_trees items.now) (map field_of fields.now))) (S.written out.old) (S.written out.new)) }
+{
+    let places = sent_places(alloc, fields, out)?;
+    open_map(places.len(), out)?;
+    for (name, place) in places.iter() {
+        let i = *place;
+        send_name(name.as_str(), out)?;
+        send_value(&items[i], &fields[i].value, registry, alloc, out)?;
+    }
+    close_map(out)
+}
+
+/// Sends the entries of a map in their order, as an array of arrays.
+#[cycle(sending)]
+fn send_pairs<S: Serializer>(
+    pairs: &[(Value, Value)],
+    key: &Format,
+    value: &Format,
+    registry: &Registry,
+    alloc: Global,
+    out: &mut S,
+) -> Result<(), S::Error>
+    requires fits { IsTrue (pairs_fit false registry.now (entries_pairs pairs.now) (shape_of key.now) (shape_of value.now)) }
+    ensures { OnOk result (SendsValue (array (shown_pairs registry.now (entries_pairs pairs.now) (shape_of key.now) (shape_of value.now))) (S.written out.old) (S.written out.new)) }
+{
+    open_seq(pairs.len(), out)?;
+    for (k, v) in pairs {
+        open_seq(2, out)?;
+        send_value(k, key, registry, alloc, out)?;
+        send_value(v, value, registry, alloc, out)?;
+        close_seq(out)?;
+    }
+    close_seq(out)
+}
+
+/// A value that is shown as `null` at its format.
+fn send_nothing<S: Serializer>(
+    value: &Value,
+    format: &Format,
+    registry: &Registry,
+    out: &mut S,
+) -> Result<(), S::Error>
+    requires nothing { shown registry.now (tree_of value.now) (of (shape_of format.now)) ≡ null }
+    ensures { OnOk result (SendsValue (shown registry.now (tree_of value.now) (of (shape_of format.now)))
+        (S.written out.old) (S.written out.new)) }
+{
+    send_null(out)
+}
+
+/// The same of what stands in a container.
+fn send_nothing_in<S: Serializer>(
+    value: &Value,
+    container: &Container,
+    registry: &Registry,
+    out: &mut S,
+) -> Result<(), S::Error>
+    requires nothing { shown registry.now (tree_of value.now) (json_content (container_of container.now)) ≡ null }
+    ensures { OnOk result (SendsValue (shown registry.now (tree_of value.now) (json_content (container_of container.now)))
+        (S.written out.old) (S.written out.new)) }
+{
+    send_null(out)
+}
+
+/// The same of what a variant carries.
+fn send_nothing_of<S: Serializer>(
+    value: &Value,
+    payload: &VariantFormat,
+    registry: &Registry,
+    out: &mut S,
+) -> Result<(), S::Error>
+    requires nothing { shown registry.now (tree_of value.now) (payload_content (payload_of payload.now)) ≡ null }
+    ensures { OnOk result (SendsValue (shown registry.now (tree_of value.now) (payload_content (payload_of payload.now)))
+        (S.written out.old) (S.written out.new)) }
+{
+    send_null(out)
+}

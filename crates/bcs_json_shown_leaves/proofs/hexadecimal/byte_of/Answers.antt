@@ -1,6 +1,0 @@
-use Rattle.std.proofs.Common.{rules}
-use Rattle.bcs_value_tree.specs.declared.value.Value.{the_lemmas}
-use Rattle.bcs_json_shown_leaves.proofs.hexadecimal.byte_of.Goals as goal
-
-pub returns-in-Unsigned : goal.returns-in-Unsigned
-returns-in-Unsigned c = search (rules, the_lemmas)
