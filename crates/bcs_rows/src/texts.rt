@@ -5,8 +5,9 @@ use crate::question::Question;
 use crate::row_fault::RowFault;
 use crate::setting::Setting;
 use crate::words::{bytes, word_of};
+use bcs_decode::decode_slice;
 use bcs_json::{
-    FromFault, JsonFault, compare, from_bcs, normalise, print_value, read_value, to_bcs,
+    FromFault, JsonFault, PrintFault, compare, from_bcs, normalise, print_value, read_value, to_bcs,
 };
 use std::alloc::Global;
 
@@ -190,7 +191,29 @@ fn shown(alloc: Global, question: &Question, bytes: &[u8]) -> Result<String, Row
         Err(FromFault::Stop(stop)) => {
             Ok(format!(in alloc; "{} at {}", stop.reason, stop.place)?)
         }
+        Err(FromFault::TooNested) if !is_too_nested(alloc, question, bytes) => {
+            Err(RowFault::Disagreement("print_value"))
+        }
         Err(fault) => Ok(format!(in alloc; "{fault}")?),
+    }
+}
+
+// The value of the bytes isn't printed either.
+fn is_too_nested(alloc: Global, question: &Question, bytes: &[u8]) -> bool {
+    let Question {
+        registry,
+        format,
+        limits,
+    } = question;
+    if !registry.admits(format) {
+        return false;
+    }
+    match decode_slice(alloc, registry, format, limits, bytes) {
+        Ok((value, _)) => matches!(
+            print_value(alloc, registry, format, limits, &value),
+            Err(PrintFault::TooNested)
+        ),
+        Err(_) => false,
     }
 }
 
