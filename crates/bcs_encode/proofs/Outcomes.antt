@@ -8,16 +8,13 @@ use Rattle.bcs_value_tree.specs.Tree.{Tree, depth, nodes}
 use Rattle.bcs_value_laws.specs.Fits.{Fits}
 use Rattle.bcs_value_laws.specs.Limits.{Bounds}
 use Rattle.bcs_value_laws.specs.Same.{distinct}
-use Rattle.bcs_encode_laws.specs.Encodes.{Encodes, IsForm}
+use Rattle.bcs_encode_laws.specs.Encodes.{Encodes}
 use Rattle.bcs_encode_laws.specs.Plain.{plain}
 use Rattle.bcs_encode_laws.specs.Refused.{IsSoundBesidesKeys, Refuses}
-use Rattle.bcs_encode_laws.specs.Sound.{IsSound}
 use Rattle.bcs_encode_parts.specs.Writing.{Verdict, written}
 use Rattle.bcs_encode_laws.specs.declared.fault.EncodeFault.{EncodeFault}
 use Rattle.bcs_encode_laws.specs.declared.fault.EncodeFault.TheVariants.{NotOfFormat, Unsupported, TooDeep, TooManyNodes, TooLong, RepeatedKey, OutOfMemory}
-use Rattle.bcs_encode_parts.specs.Forming.{canonicalised}
 use Rattle.bcs_encode_laws.specs.FormOf.{form_of}
-use Rattle.bcs_encode_parts.proofs.CanonicalLaws.{canonicalised_told}
 use Rattle.bcs_encode_laws.proofs.FormLaws.{form_of_is_form}
 use Rattle.bcs_encode_parts.proofs.WritingLaws.{Told, written_told}
 
@@ -72,27 +69,6 @@ pub unwritten_refuses : (registry : Entries) (limits : Bounds) (s : Shape) (t : 
     → Refuses registry limits s t e
 unwritten_refuses registry limits s t e h is =
     told_refuses registry limits s t (plain registry (form_of registry t (of s)) (of s)) e h (told_at registry limits s t (Err e) h is)
-
-form_told : (registry : Entries) (limits : Bounds) (s : Shape) (t : Tree) (v : Result Tree EncodeFault) → IsSoundBesidesKeys registry limits s t → canonicalised registry t (of s) ≡ v
-    → Told (distinct t) (form_of registry t (of s)) v
-form_told registry limits s t v h e = subst (Told (distinct t) (form_of registry t (of s))) e (canonicalised_told registry t (of s) h.fit h.lengths)
-
--- what was brought into canonical form is sound, and the form is the canonical one
-pub formed_sound : (registry : Entries) (limits : Bounds) (s : Shape) (t u : Tree) → IsSoundBesidesKeys registry limits s t → canonicalised registry t (of s) ≡ Ok u
-    → IsSound registry limits s t
-formed_sound registry limits s t u h e =
-    record { fit = h.fit; distinct = (form_told registry limits s t (Ok u) h e).0; depth_holds = h.depth_holds; nodes_hold = h.nodes_hold; lengths = h.lengths }
-
-pub formed_form : (registry : Entries) (limits : Bounds) (s : Shape) (t u : Tree) → IsSoundBesidesKeys registry limits s t → canonicalised registry t (of s) ≡ Ok u
-    → IsForm registry (of s) t u
-formed_form registry limits s t u h e =
-    let k = form_told registry limits s t (Ok u) h e in
-    subst (IsForm registry (of s) t) (sym k.1) (form_of_is_form registry (of s) t h.fit k.0)
-
--- and where nothing was, the keys of some map aren't distinct
-pub unformed_refuses : (registry : Entries) (limits : Bounds) (s : Shape) (t : Tree) (e : EncodeFault) → IsSoundBesidesKeys registry limits s t → canonicalised registry t (of s) ≡ Err e
-    → Refuses registry limits s t e
-unformed_refuses registry limits s t e h is = told_refuses registry limits s t (form_of registry t (of s)) e h (form_told registry limits s t (Err e) h is)
 
 -- a value that isn't sound besides its keys, though it fits within the limits, has a length that doesn't hold
 pub too_long : (registry : Entries) (limits : Bounds) (s : Shape) (t : Tree) (b : Bool) → IsTrue b ↔ IsSoundBesidesKeys registry limits s t → b ≡ false

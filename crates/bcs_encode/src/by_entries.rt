@@ -9,7 +9,7 @@ ghost use Rattle.bcs_encode_laws.specs.declared.fault.EncodeFault.TheVariants.{O
 
 use crate::soundness::check_soundness;
 use bcs_encode_laws::EncodeFault;
-use bcs_encode_walks::by_entries::push_value;
+use bcs_encode_plain::by_entries::push_value;
 use bcs_registry::{Format, Registry};
 use bcs_value::{Limits, Value};
 use std::alloc::Global;

@@ -8,15 +8,14 @@ ghost use Rattle.bcs_encode_laws.specs.Refused.{IsSoundBesidesKeys, Refuses};
 ghost use Rattle.bcs_encode_laws.specs.Sound.{IsSound};
 ghost use Rattle.bcs_encode_laws.specs.declared.fault.EncodeFault.TheVariants.{OutOfMemory};
 
-use crate::soundness::check_soundness;
+use crate::encoding::encode;
+use bcs_decode::decode_encoded;
 use bcs_encode_laws::EncodeFault;
-use bcs_encode_spans::workspace::Workspace;
-use bcs_encode_walks::forming::form;
 use bcs_registry::{Format, Registry};
 use bcs_value::{Limits, Value};
 use std::alloc::Global;
 
-/// The equal value whose pairs stand in canonical order. It is refused as by `encode`.
+/// The equal value whose pairs stand in canonical order: what its encoding is decoded to. It is refused as by `encode`.
 pub fn canonicalise(
     alloc: Global,
     registry: &Registry,
@@ -29,9 +28,7 @@ pub fn canonicalise(
     ensures fault { IfErr result (λ e. e ≢ OutOfMemory → Refuses registry.now limits.now (shape_of format.now) (tree_of value.now) e) }
     ensures memory { IfErr result (λ e. e ≡ OutOfMemory → IsSoundBesidesKeys registry.now limits.now (shape_of format.now) (tree_of value.now)) }
 {
-    check_soundness(registry, format, limits, value)?;
-    let mut work = Workspace::new(alloc);
-    let mut slot = Value::Unit;
-    form(value, format, registry, alloc, &mut work, &mut slot)?;
-    Ok(slot)
+    let bytes = encode(alloc, registry, format, limits, value)?;
+    let form = decode_encoded(alloc, registry, format, limits, &bytes)?;
+    Ok(form)
 }

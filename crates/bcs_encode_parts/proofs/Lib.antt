@@ -1,10 +1,5 @@
 pub mod EntryArranging
 pub mod NumberViews
-pub mod NumberForms
 pub mod WritingViews
 pub mod WalkViews
 pub mod WritingLaws
-pub mod FormingLaws
-pub mod MapOrdering
-pub mod CanonicalLaws
-pub mod CanonicalViews

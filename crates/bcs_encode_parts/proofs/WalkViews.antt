@@ -80,6 +80,3 @@ at_list walk v f vs element e g = rw (e, g, tree_of_items vs, shape_of_seq eleme
 pub at_array : {A : Type 0} (walk : Tree → Content → A) (v : Value) (f : Format) (vs : Vec Value Global) (element : Box Format Global) (size : ℕ)
     → v ≡ Items vs → f ≡ TupleArray element size → walk (tree_of v) (of (shape_of f)) ≡ walk (tree.items (items_trees vs.items)) (of (array (shape_of element.value) size))
 at_array walk v f vs element size e g = rw (e, g, tree_of_items vs, shape_of_array element size) refl
-
-pub at_bytes : {A : Type 0} (walk : Tree → A) (v : Value) (b : Vec ℕ Global) → v ≡ Bytes b → walk (tree_of v) ≡ walk (tree.bytes b.items)
-at_bytes walk v b e = rw (e, tree_of_bytes b) refl

@@ -113,10 +113,3 @@ no_variant_written r v k vs n inner o b e f found none =
     at_enum (λ t c. written r t c b) v k vs n inner e f
     ∙ ap (λ c. written r (tree_of inner.value) c (b ++ uleb n)) (choice-missing n vs.entries o found none)
     ∙ nothing_written r (tree_of inner.value) (b ++ uleb n)
-
--- the pairs of a map, as a slice
-pub pairs_written : (r : Entries) (ps : List (Value × Value)) (k v : Shape) (b : List ℕ)
-    → written r (tree.pairs (entries_pairs ps)) (of (map_shape k v)) b
-    ≡ chain (length_written (length ps) b) (λ c. chain (entries_written r (entries_pairs ps) k v []) (λ es. sorted_entries_written es c))
-pairs_written r ps k v b =
-    ap (λ (n : ℕ). chain (length_written n b) (λ c. chain (entries_written r (entries_pairs ps) k v []) (λ es. sorted_entries_written es c))) (count_pairs ps)

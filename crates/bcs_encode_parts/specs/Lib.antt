@@ -1,3 +1,1 @@
 pub mod Writing
-pub mod EntryView
-pub mod Forming

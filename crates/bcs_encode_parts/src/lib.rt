@@ -1,7 +1,5 @@
-//! Parts of the encoders: numbers, lengths and strings in bytes, and the entries of a map in order.
+//! Parts of the encoders: numbers, lengths and strings in bytes.
 #![tactic(auto)]
 
-pub mod arranging;
-pub mod entry_bytes;
 pub mod number_rows;
 pub mod pushing;

@@ -1,19 +1,15 @@
-//! Lists of plain numbers: their bytes, for which room is asked once, by the list's length, and their forms.
+//! Lists of plain numbers: their bytes, for which room is asked once, by the list's length.
 ghost use Rattle.std.specs.Prelude.{◌≡◌, ◌+◌, ◌*◌, ◌<◌, ◌≤◌, [], length, vec_capacity, vec_len, IsErrOf, OnOk};
-ghost use Rattle.bcs_registry_formats.specs.Container.{Entries, of};
+ghost use Rattle.bcs_registry_formats.specs.Container.{of};
 ghost use Rattle.bcs_registry_formats.specs.Whole.{whole_len, whole_shape};
-ghost use Rattle.bcs_value_tree.specs.Tree.{items as items_tree};
-ghost use Rattle.bcs_value_tree.specs.View.{items_trees, tree_of, trees_of};
-ghost use Rattle.bcs_encode_parts.specs.Forming.{items_canonicalised, items_formed, row};
-ghost use Rattle.bcs_encode_parts.specs.Writing.{Tells, chain, items_written, written};
+ghost use Rattle.bcs_value_tree.specs.View.{items_trees, tree_of};
+ghost use Rattle.bcs_encode_parts.specs.Writing.{Tells, items_written, written};
 
 use crate::pushing::{push_signed, push_unsigned};
 use bcs_encode_laws::EncodeFault;
 use bcs_num::Width;
 use bcs_registry_formats::WholeNumber;
 use bcs_value_tree::Value;
-use bcs_value_tree::slot::put_items;
-use std::alloc::Global;
 
 /// Appends the bytes of a list's numbers. A number looks up no container, so the clause names a registry without any.
 /// No memory is asked for where the vector has room for the bytes.
@@ -74,43 +70,4 @@ fn push_plain(format: WholeNumber, value: &Value, out: &mut Vec<u8>) -> Result<(
         (Value::Signed(number), WholeNumber::Signed(width)) => push_signed(width, *number, out),
         _ => Err(EncodeFault::NotOfFormat),
     }
-}
-
-/// Leaves the form of a list's numbers in the slot, which are the numbers themselves.
-#[inline(never)]
-pub fn form_numbers(
-    format: WholeNumber,
-    items: &[Value],
-    alloc: Global,
-    slot: &mut Value,
-) -> Result<(), EncodeFault>
-    ensures { Tells result (chain (items_canonicalised [] (items_trees items.now) (whole_shape format) []) row) (tree_of slot.new) }
-{
-    let mut forms = Vec::with_capacity(alloc, items.len())?;
-    for item in items {
-        let form = match (item, format) {
-            (Value::Unsigned(number), WholeNumber::Unsigned(_)) => Value::Unsigned(*number),
-            (Value::Signed(number), WholeNumber::Signed(_)) => Value::Signed(*number),
-            _ => return Err(EncodeFault::NotOfFormat),
-        };
-        forms.push(form)?;
-    }
-    put_items(slot, forms);
-    Ok(())
-}
-
-/// The same of numbers in a key, whose bytes are appended.
-#[inline(never)]
-pub fn form_key_numbers(
-    format: WholeNumber,
-    items: &[Value],
-    alloc: Global,
-    out: &mut Vec<u8>,
-    slot: &mut Value,
-) -> Result<(), EncodeFault>
-    ensures tells { Tells result (items_written [] (items_trees items.now) (whole_shape format) out.old.items) out.new.items }
-    ensures formed { OnOk result ((r : Entries) → tree_of slot.new ≡ items_tree (trees_of (items_formed r (items_trees items.now) (whole_shape format) []))) }
-{
-    push_numbers(format, items, out)?;
-    form_numbers(format, items, alloc, slot)
 }

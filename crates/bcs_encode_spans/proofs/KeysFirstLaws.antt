@@ -16,7 +16,6 @@ use Rattle.bcs_value_tree.specs.Tree.{Tree, Pairs, no_pairs, pair, pair_count}
 use Rattle.bcs_encode_laws.specs.Entries.{Entry, entry_bytes, EntriesRiseFrom, EntriesRise, HasTwins}
 use Rattle.bcs_encode_laws.specs.declared.fault.EncodeFault.{EncodeFault}
 use Rattle.bcs_encode_parts.specs.Writing.{Verdict, chain, length_written, sorted_entries_written, written, entries_written}
-use Rattle.bcs_encode_parts.specs.Forming.{bytes_of}
 use Rattle.bcs_encode_parts.proofs.EntryArranging.{sorted_written, twins_written}
 use Rattle.bcs_encode_spans.specs.Laying.{part}
 use Rattle.bcs_encode_spans.specs.KeysFirst.{Ordered, key_span, lone_key_at, value_at, keys_spanned, values_laid}
@@ -27,6 +26,11 @@ use Rattle.bcs_value_tree.specs.declared.value.Value.{Value}
 use Rattle.bcs_encode_spans.specs.Writes.{Writes}
 use Rattle.bcs_encode_spans.specs.declared.key_span.KeySpan.{KeySpan}
 use Rattle.bcs_encode_spans.proofs.LayingLaws.{after, written_behind, own_entries, entries_own, part_between}
+
+-- what was written, or nothing where nothing was
+abbrev bytes_of : Verdict → List ℕ
+bytes_of (Ok b) = b
+bytes_of (Err e) = []
 
 -- ---- the keys
 

@@ -1,4 +1,3 @@
 pub mod Laying
-pub mod KeyLaying
 pub mod KeysFirst
 pub mod Writes

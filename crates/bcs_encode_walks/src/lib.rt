@@ -1,7 +1,4 @@
-//! The encoders, each a walk over a value.
+//! The encoder's walk over a value.
 #![tactic(auto)]
 
-pub mod by_entries;
 pub mod encoding;
-pub mod forming;
-pub mod key_forming;
