@@ -1,5 +1,5 @@
 #!/usr/bin/env python3
-"""Times library calls on the inputs of the benchmark: calls.py INPUTS CALLS [PLAIN]. CALLS is the program `bcs_calls`.
+"""Times library calls on the inputs of the benchmark: calls.py INPUTS CALLS [PLAIN]. CALLS is the program `bench_calls`.
 Prints the milliseconds of processor time that a call takes: of so many calls in one run, less those of none."""
 
 import os

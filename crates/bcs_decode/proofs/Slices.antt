@@ -2,18 +2,18 @@
 use Rattle.std.proofs.Common.{◌≡◌, ℕ, List, length, Option, Some, Ok, Err, refl, subst}
 use Rattle.bcs_registry_formats.specs.Shape.{Shape}
 use Rattle.bcs_registry_formats.specs.Container.{Entries}
-use Rattle.bcs_value_laws.specs.Limits.{Bounds}
+use Rattle.bcs_value_spec.specs.Limits.{Bounds}
 use Rattle.bcs_value_tree.specs.Tree.{Tree}
 use Rattle.bcs_value_tree.specs.View.{tree_of}
 use Rattle.bcs_value_tree.specs.declared.value.Value.{Value}
-use Rattle.bcs_encode_laws.specs.Encodes.{Encodes}
-use Rattle.bcs_decode_stops.specs.declared.decode_fault.DecodeFault.{DecodeFault}
-use Rattle.bcs_decode_stops.specs.declared.decode_fault.DecodeFault.TheVariants.{Stop, Read, OutOfMemory}
-use Rattle.bcs_decode_stops.specs.declared.stop.Stop as stop
-use Rattle.bcs_decode_laws.specs.Accepting.{Accepts, IsDecoded}
-use Rattle.bcs_decode_laws.specs.Exact.{AreBytes}
-use Rattle.bcs_decode_laws.proofs.Encoded.{encoded_is_accepted_is, is_decoded}
-use Rattle.bcs_decode_laws.proofs.Verdicts.{accepts_once_is, no_two_verdicts_are}
+use Rattle.bcs_encode_spec.specs.Encodes.{Encodes}
+use Rattle.bcs_decode_spec.specs.declared.decode_fault.DecodeFault.{DecodeFault}
+use Rattle.bcs_decode_spec.specs.declared.decode_fault.DecodeFault.TheVariants.{Stop, Read, OutOfMemory}
+use Rattle.bcs_decode_spec.specs.declared.stop.Stop as stop
+use Rattle.bcs_decode_spec.specs.Accepting.{Accepts, IsDecoded}
+use Rattle.bcs_decode_spec.specs.Exact.{AreBytes}
+use Rattle.bcs_decode_spec.proofs.Encoded.{encoded_is_accepted_is, is_decoded}
+use Rattle.bcs_decode_spec.proofs.Verdicts.{accepts_once_is, no_two_verdicts_are}
 use Rattle.bcs_decode.specs.Sliced.{DecodesSlice}
 use Rattle.bcs_decode.specs.Whole.{DecodesFrom}
 

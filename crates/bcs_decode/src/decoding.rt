@@ -2,14 +2,14 @@
 ghost use Rattle.std.specs.Prelude.{◌≡◌, ◌≢◌, ◌↔◌, true, Err, IsErrOf};
 ghost use Rattle.bcs_registry_formats.specs.View.{shape_of};
 ghost use Rattle.bcs_registry_formats.specs.WellFormed.{Admits};
-ghost use Rattle.bcs_decode_reader.specs.Sees.{takes_no_memory};
+ghost use Rattle.bcs_decode_source_steps.specs.Sees.{takes_no_memory};
 ghost use Rattle.bcs_decode.specs.Whole.{AreKnown, DecodesAll, DecodesFrom, DecodesFront};
 
-use bcs_decode_keys::at::At;
-use bcs_decode_sources::ByteSource;
-use bcs_decode_stops::{DecodeFault, Reason, Stop};
-use bcs_decode_stream::reader::Reader;
-use bcs_decode_stream::values::value;
+use bcs_decode_source_steps::at::At;
+use bcs_decode_source_walk::reader::Reader;
+use bcs_decode_source_walk::values::value;
+use bcs_decode_spec::{DecodeFault, Reason, Stop};
+use bcs_io::ByteSource;
 use bcs_registry::{Format, Registry};
 use bcs_value::{Limits, Value};
 use std::alloc::Global;

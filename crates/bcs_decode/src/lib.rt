@@ -6,10 +6,9 @@ mod from_slice;
 mod slice_decoding;
 mod slice_parts;
 
-pub use bcs_decode_laws::laws;
 pub use bcs_decode_parts::{Part, Step, laws as part_laws};
-pub use bcs_decode_sources::{ByteSource, ReadSource, SliceSource, SourceFailed, pieces};
-pub use bcs_decode_stops::{DecodeFault, Reason, Stop};
+pub use bcs_decode_spec::{DecodeFault, Reason, Stop, laws};
+pub use bcs_io::{ByteSource, ReadSource, SliceSource, SourceFailed, pieces};
 pub use decoding::{decode_all, decode_from};
 pub use from_slice::scan;
 pub use slice_decoding::{decode_encoded, decode_slice};

@@ -4,9 +4,9 @@ ghost use Rattle.bcs_registry_formats.specs.Container.{of};
 ghost use Rattle.bcs_registry_formats.specs.View.{shape_of};
 ghost use Rattle.bcs_registry_formats.specs.WellFormed.{Admits};
 ghost use Rattle.bcs_value_tree.specs.Tree.{Tree};
-ghost use Rattle.bcs_decode_stops.specs.declared.reason.Reason.{Reason};
-ghost use Rattle.bcs_decode_laws.specs.Accepting.{Accepts};
-ghost use Rattle.bcs_decode_laws.specs.Stopping.{Stops};
+ghost use Rattle.bcs_decode_spec.specs.declared.reason.Reason.{Reason};
+ghost use Rattle.bcs_decode_spec.specs.Accepting.{Accepts};
+ghost use Rattle.bcs_decode_spec.specs.Stopping.{Stops};
 ghost use Rattle.bcs_decode_parts.specs.Parts.{part_at};
 ghost use Rattle.bcs_decode_parts.specs.Steps.{GivesPart, step_of};
 
@@ -14,7 +14,7 @@ use crate::from_slice::scan;
 use bcs_decode_parts::ahead::Ahead;
 use bcs_decode_parts::walking::walk;
 use bcs_decode_parts::{Part, Step};
-use bcs_decode_stops::Stop;
+use bcs_decode_spec::Stop;
 use bcs_registry::{Format, Registry};
 use bcs_value::Limits;
 

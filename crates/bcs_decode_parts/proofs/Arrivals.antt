@@ -3,8 +3,8 @@ use Rattle.std.proofs.Common.{◌≡◌, ℕ, ◌≤◌, List, ◌++◌, length,
 use Rattle.std.proofs.lemmas.List.{length-append}
 use Rattle.bcs_registry_formats.specs.Container.{Entries, Content}
 use Rattle.bcs_value_tree.specs.Tree.{Tree, nodes}
-use Rattle.bcs_encode_laws.specs.Plain.{plain}
-use Rattle.bcs_decode_laws.specs.Accepting.{IsDecodable}
+use Rattle.bcs_encode_spec.specs.Plain.{plain}
+use Rattle.bcs_decode_spec.specs.Accepting.{IsDecodable}
 use Rattle.bcs_decode_parts.specs.Parts.{Step, Part, part_after}
 use Rattle.bcs_decode_parts.specs.declared.ahead.Ahead.{Ahead}
 use Rattle.bcs_decode_parts.specs.declared.here.Reached.{Reached}

@@ -6,7 +6,7 @@ use Rattle.bcs_registry_formats.specs.Container.{field_shapes}
 use Rattle.bcs_registry_formats.specs.View.{shape_of, formats_shapes, field_of}
 use Rattle.bcs_registry_formats.specs.declared.format.Format.{Format}
 use Rattle.bcs_registry_formats.specs.declared.named.Named.{Named}
-use Rattle.bcs_decode_laws.proofs.LookedUp.{formats_next, fields_next}
+use Rattle.bcs_decode_spec.proofs.LookedUp.{formats_next, fields_next}
 use Rattle.bcs_decode_parts.proofs.Rows.{shapes_joined, shapes_count}
 
 formats_joined : (fs gs : List Format) → formats_shapes (fs ++ gs) ≡ shapes_joined (formats_shapes fs) (formats_shapes gs)

@@ -7,11 +7,11 @@ use Rattle.bcs_registry_formats.specs.Shape.{Shape}
 use Rattle.bcs_registry_formats.specs.Container.{Entries, Content, Choice, of, one_of, nothing, content_at, choice_at}
 use Rattle.bcs_value_tree.specs.Tree as tree
 use Rattle.bcs_value_tree.specs.Tree.{Tree, nodes}
-use Rattle.bcs_value_laws.specs.Fits.{fits}
-use Rattle.bcs_value_laws.proofs.VariantFits.{number_fits, payload_fits}
-use Rattle.bcs_encode_laws.specs.Plain.{plain}
-use Rattle.bcs_decode_laws.specs.Accepting.{IsDecodable}
-use Rattle.bcs_decode_laws.proofs.Decodable.{decodable}
+use Rattle.bcs_value_spec.specs.Fits.{fits}
+use Rattle.bcs_value_spec.proofs.VariantFits.{number_fits, payload_fits}
+use Rattle.bcs_encode_spec.specs.Plain.{plain}
+use Rattle.bcs_decode_spec.specs.Accepting.{IsDecodable}
+use Rattle.bcs_decode_spec.proofs.Decodable.{decodable}
 use Rattle.bcs_decode_parts.specs.Parts.{inner, step_at}
 use Rattle.bcs_decode_parts.specs.declared.ahead.Ahead.{Ahead}
 use Rattle.bcs_decode_parts.specs.declared.here.Reached.{Reached}

@@ -7,9 +7,9 @@ use Rattle.bcs_num.specs.Uleb.{uleb}
 use Rattle.bcs_registry_formats.specs.Shape.{Shape}
 use Rattle.bcs_registry_formats.specs.Container.{Entries, of}
 use Rattle.bcs_value_tree.specs.Tree.{Tree, Pairs, no_pairs, pair, pair_count}
-use Rattle.bcs_encode_laws.specs.Plain.{plain, plain_pairs}
-use Rattle.bcs_encode_laws.specs.Canonical.{Below, Rises, RisesFrom}
-use Rattle.bcs_encode_laws.proofs.BelowLaws.{Below-irrefl, Below-trans}
+use Rattle.bcs_encode_spec.specs.Plain.{plain, plain_pairs}
+use Rattle.bcs_encode_spec.specs.Canonical.{Below, Rises, RisesFrom}
+use Rattle.bcs_encode_spec.proofs.BelowLaws.{Below-irrefl, Below-trans}
 use Rattle.bcs_decode_parts.specs.Parts.{part_after, value_of}
 use Rattle.bcs_decode_parts.specs.PartLaws.{joined, KeyLeadsToOne}
 

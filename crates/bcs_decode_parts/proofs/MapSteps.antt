@@ -8,11 +8,11 @@ use Rattle.bcs_registry_formats.specs.Shape.{Shape}
 use Rattle.bcs_registry_formats.specs.Container.{Entries, of}
 use Rattle.bcs_value_tree.specs.Tree as tree
 use Rattle.bcs_value_tree.specs.Tree.{Tree, Pairs, no_pairs, pair, pair_count, nodes, pairs_nodes}
-use Rattle.bcs_encode_laws.specs.Plain.{plain, plain_pairs}
-use Rattle.bcs_encode_laws.specs.Lengths.{length_limit, pairs_hold}
-use Rattle.bcs_decode_laws.specs.Accepting.{IsDecodable}
-use Rattle.bcs_decode_laws.specs.Stopping.{AllRise}
-use Rattle.bcs_decode_laws.proofs.Decodable.{are_pairs}
+use Rattle.bcs_encode_spec.specs.Plain.{plain, plain_pairs}
+use Rattle.bcs_encode_spec.specs.Lengths.{length_limit, pairs_hold}
+use Rattle.bcs_decode_spec.specs.Accepting.{IsDecodable}
+use Rattle.bcs_decode_spec.specs.Stopping.{AllRise}
+use Rattle.bcs_decode_spec.proofs.Decodable.{are_pairs}
 use Rattle.bcs_decode_parts.specs.Parts.{key, value_of, step_at}
 use Rattle.bcs_decode_parts.specs.declared.ahead.Ahead.{Ahead}
 use Rattle.bcs_decode_parts.specs.declared.here.Reached.{Reached}

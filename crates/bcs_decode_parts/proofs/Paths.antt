@@ -3,7 +3,7 @@ use Rattle.std.proofs.Common.{◌≡◌, ℕ, ◌+◌, ◌<◌, List, [], ◌∷
 use Rattle.std.proofs.lemmas.List.{length-append, drop_more, take_at, drop_at, drop-drop}
 use Rattle.bcs_registry_formats.specs.Container.{Entries, Content}
 use Rattle.bcs_value_tree.specs.Tree.{Tree}
-use Rattle.bcs_encode_laws.specs.Plain.{plain}
+use Rattle.bcs_encode_spec.specs.Plain.{plain}
 use Rattle.bcs_decode_parts.specs.Parts as parts
 use Rattle.bcs_decode_parts.specs.Parts.{part_after, part_onward, step_at, part_at}
 use Rattle.bcs_decode_parts.specs.declared.ahead.Ahead.{Ahead}

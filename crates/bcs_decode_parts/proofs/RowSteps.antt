@@ -7,13 +7,13 @@ use Rattle.bcs_registry_formats.specs.Shape.{Shape, Shapes}
 use Rattle.bcs_registry_formats.specs.Container.{Entries, Content, of}
 use Rattle.bcs_value_tree.specs.Tree as tree
 use Rattle.bcs_value_tree.specs.Tree.{Tree, Trees, no_trees, tree, count, nodes, trees_nodes}
-use Rattle.bcs_value_laws.specs.Fits.{all_fit}
-use Rattle.bcs_value_laws.proofs.Equivalence.{nat-same}
-use Rattle.bcs_encode_laws.specs.Plain.{plain, plain_items, plain_each}
-use Rattle.bcs_encode_laws.specs.Lengths.{length_limit, all_hold}
-use Rattle.bcs_decode_laws.specs.Accepting.{IsDecodable}
-use Rattle.bcs_decode_laws.specs.Stopping.{AllAre}
-use Rattle.bcs_decode_laws.proofs.Decodable.{decodable, are_items, items_are}
+use Rattle.bcs_value_spec.specs.Fits.{all_fit}
+use Rattle.bcs_value_spec.proofs.Equivalence.{nat-same}
+use Rattle.bcs_encode_spec.specs.Plain.{plain, plain_items, plain_each}
+use Rattle.bcs_encode_spec.specs.Lengths.{length_limit, all_hold}
+use Rattle.bcs_decode_spec.specs.Accepting.{IsDecodable}
+use Rattle.bcs_decode_spec.specs.Stopping.{AllAre}
+use Rattle.bcs_decode_spec.proofs.Decodable.{decodable, are_items, items_are}
 use Rattle.bcs_decode_parts.specs.Parts.{item, part_after, item_of, item_in, step_at}
 use Rattle.bcs_decode_parts.specs.declared.ahead.Ahead.{Ahead}
 use Rattle.bcs_decode_parts.specs.declared.here.Reached.{Reached}

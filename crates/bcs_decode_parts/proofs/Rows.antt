@@ -5,10 +5,10 @@ use Rattle.std.proofs.lemmas.List.{length-append}
 use Rattle.bcs_registry_formats.specs.Shape.{Shape, Shapes, no_shapes, shape}
 use Rattle.bcs_registry_formats.specs.Container.{Entries, of}
 use Rattle.bcs_value_tree.specs.Tree.{Tree, Trees, no_trees, tree, count, nodes, trees_nodes}
-use Rattle.bcs_encode_laws.specs.Plain.{plain, plain_items, plain_each}
-use Rattle.bcs_decode_laws.specs.Accepting.{IsDecodable}
-use Rattle.bcs_decode_laws.specs.Stopping.{AllAre}
-use Rattle.bcs_decode_laws.proofs.Decodable.{EachIs, each_is, is_each}
+use Rattle.bcs_encode_spec.specs.Plain.{plain, plain_items, plain_each}
+use Rattle.bcs_decode_spec.specs.Accepting.{IsDecodable}
+use Rattle.bcs_decode_spec.specs.Stopping.{AllAre}
+use Rattle.bcs_decode_spec.proofs.Decodable.{EachIs, each_is, is_each}
 use Rattle.bcs_decode_parts.specs.Parts.{part_after, item_of, item_in}
 
 -- as one row

@@ -5,17 +5,17 @@ use Rattle.bcs_registry_formats.specs.Shape as shape
 use Rattle.bcs_registry_formats.specs.Shape.{Shape}
 use Rattle.bcs_registry_formats.specs.Container.{Entries, of}
 use Rattle.bcs_value_tree.specs.Tree.{Tree, nodes}
-use Rattle.bcs_value_laws.specs.Limits.{Bounds}
-use Rattle.bcs_encode_laws.specs.Plain.{plain}
-use Rattle.bcs_decode_stops.specs.declared.reason.Reason.{Reason}
-use Rattle.bcs_decode_laws.specs.Accepting.{Accepts}
-use Rattle.bcs_decode_laws.specs.Reading.{Parser, Read, items_here, shape_here, value_here, node, chain, skipping}
-use Rattle.bcs_decode_laws.proofs.Combine.{parts}
-use Rattle.bcs_decode_laws.proofs.Decodable.{decodable}
-use Rattle.bcs_decode_laws.proofs.Verdicts.{accepts_skips}
-use Rattle.bcs_decode_cursor.specs.Passing.{skip}
-use Rattle.bcs_decode_cursor.specs.declared.cursor.Cursor.{Cursor}
-use Rattle.bcs_decode_cursor.proofs.Passings.{bare}
+use Rattle.bcs_value_spec.specs.Limits.{Bounds}
+use Rattle.bcs_encode_spec.specs.Plain.{plain}
+use Rattle.bcs_decode_spec.specs.declared.reason.Reason.{Reason}
+use Rattle.bcs_decode_spec.specs.Accepting.{Accepts}
+use Rattle.bcs_decode_spec.specs.Reading.{Parser, Read, items_here, shape_here, value_here, node, chain, skipping}
+use Rattle.bcs_decode_spec.proofs.Combine.{parts}
+use Rattle.bcs_decode_spec.proofs.Decodable.{decodable}
+use Rattle.bcs_decode_spec.proofs.Verdicts.{accepts_skips}
+use Rattle.bcs_decode_slice_steps.specs.Passing.{skip}
+use Rattle.bcs_decode_slice_steps.specs.declared.cursor.Cursor.{Cursor}
+use Rattle.bcs_decode_slice_steps.proofs.Passings.{bare}
 use Rattle.bcs_decode_parts.specs.declared.ahead.Ahead.{Ahead}
 use Rattle.bcs_decode_parts.specs.Fronts.{Fronts}
 

@@ -5,8 +5,8 @@ use Rattle.bcs_registry_formats.specs.Container.{Entries, Content, of, nothing, 
 use Rattle.bcs_registry_formats.specs.View.{payload_of}
 use Rattle.bcs_registry_formats.specs.declared.variant_format.VariantFormat.{VariantFormat}
 use Rattle.bcs_value_tree.specs.Tree.{Tree, nodes}
-use Rattle.bcs_encode_laws.specs.Plain.{plain}
-use Rattle.bcs_decode_laws.specs.Accepting.{IsDecodable}
+use Rattle.bcs_encode_spec.specs.Plain.{plain}
+use Rattle.bcs_decode_spec.specs.Accepting.{IsDecodable}
 use Rattle.bcs_decode_parts.specs.declared.ahead.Ahead.{Ahead}
 use Rattle.bcs_decode_parts.specs.declared.here.Reached.{Reached}
 use Rattle.bcs_decode_parts.specs.Here.{content_of}

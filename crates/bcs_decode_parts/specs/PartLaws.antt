@@ -6,9 +6,9 @@ use Rattle.bcs_registry_formats.specs.Container.{Entries, Content, of}
 use Rattle.bcs_registry_formats.specs.Grows.{Grows}
 use Rattle.bcs_value_tree.specs.Tree as tree
 use Rattle.bcs_value_tree.specs.Tree.{Tree, Pairs, no_pairs, pair, pair_count}
-use Rattle.bcs_value_laws.specs.Fits.{fits}
-use Rattle.bcs_encode_laws.specs.Plain.{plain, plain_pairs}
-use Rattle.bcs_encode_laws.specs.Canonical.{IsCanonical}
+use Rattle.bcs_value_spec.specs.Fits.{fits}
+use Rattle.bcs_encode_spec.specs.Plain.{plain, plain_pairs}
+use Rattle.bcs_encode_spec.specs.Canonical.{IsCanonical}
 use Rattle.bcs_decode_parts.specs.Parts.{Step, key, Part, step_at, part_at, Stands}
 
 -- a part's bytes stand in those of the whole, at its place

@@ -7,7 +7,7 @@ use Rattle.bcs_registry_formats.specs.Shape.{Shape, Shapes, no_shapes, shape}
 use Rattle.bcs_registry_formats.specs.Container.{Entries, Content, of, one_of, content_at, choice_at}
 use Rattle.bcs_value_tree.specs.Tree as tree
 use Rattle.bcs_value_tree.specs.Tree.{Tree, Trees, no_trees, tree, Pairs, no_pairs, pair, count, pair_count}
-use Rattle.bcs_encode_laws.specs.Plain.{plain}
+use Rattle.bcs_encode_spec.specs.Plain.{plain}
 
 -- a step, without the memory that a `Step` borrows
 pub data Step : Type 0 where

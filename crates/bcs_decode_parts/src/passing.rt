@@ -10,8 +10,8 @@ ghost use Rattle.bcs_decode_parts.specs.Here.{content_of};
 use crate::ahead::Ahead;
 use crate::here::{Here, Reached};
 use crate::variants::chosen;
-use bcs_decode_cursor::cursor::Cursor;
-use bcs_decode_scan::scanning::{elements, payload, structure, tuple, value};
+use bcs_decode_slice_steps::cursor::Cursor;
+use bcs_decode_slice_walk::scanning::{elements, payload, structure, tuple, value};
 use bcs_registry::{Format, Named, Registry, VariantFormat};
 
 fn over<'a>(ahead: &Ahead<'a>) -> Cursor<'a>

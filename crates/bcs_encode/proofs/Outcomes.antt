@@ -5,18 +5,18 @@ use Rattle.std.proofs.lemmas.Bool.{false≢true, iff_false}
 use Rattle.bcs_registry_formats.specs.Shape.{Shape}
 use Rattle.bcs_registry_formats.specs.Container.{Entries, of}
 use Rattle.bcs_value_tree.specs.Tree.{Tree, depth, nodes}
-use Rattle.bcs_value_laws.specs.Fits.{Fits}
-use Rattle.bcs_value_laws.specs.Limits.{Bounds}
-use Rattle.bcs_value_laws.specs.Same.{distinct}
-use Rattle.bcs_encode_laws.specs.Encodes.{Encodes}
-use Rattle.bcs_encode_laws.specs.Plain.{plain}
-use Rattle.bcs_encode_laws.specs.Refused.{IsSoundBesidesKeys, Refuses}
-use Rattle.bcs_encode_parts.specs.Writing.{Verdict, written}
-use Rattle.bcs_encode_laws.specs.declared.fault.EncodeFault.{EncodeFault}
-use Rattle.bcs_encode_laws.specs.declared.fault.EncodeFault.TheVariants.{NotOfFormat, Unsupported, TooDeep, TooManyNodes, TooLong, RepeatedKey, OutOfMemory}
-use Rattle.bcs_encode_laws.specs.FormOf.{form_of}
-use Rattle.bcs_encode_laws.proofs.FormLaws.{form_of_is_form}
-use Rattle.bcs_encode_parts.proofs.WritingLaws.{Told, written_told}
+use Rattle.bcs_value_spec.specs.Fits.{Fits}
+use Rattle.bcs_value_spec.specs.Limits.{Bounds}
+use Rattle.bcs_value_spec.specs.Same.{distinct}
+use Rattle.bcs_encode_spec.specs.Encodes.{Encodes}
+use Rattle.bcs_encode_spec.specs.Plain.{plain}
+use Rattle.bcs_encode_spec.specs.Refused.{IsSoundBesidesKeys, Refuses}
+use Rattle.bcs_encode_steps.specs.Writing.{Verdict, written}
+use Rattle.bcs_encode_spec.specs.declared.fault.EncodeFault.{EncodeFault}
+use Rattle.bcs_encode_spec.specs.declared.fault.EncodeFault.TheVariants.{NotOfFormat, Unsupported, TooDeep, TooManyNodes, TooLong, RepeatedKey, OutOfMemory}
+use Rattle.bcs_encode_spec.specs.FormOf.{form_of}
+use Rattle.bcs_encode_spec.proofs.FormLaws.{form_of_is_form}
+use Rattle.bcs_encode_steps.proofs.WritingLaws.{Told, written_told}
 
 told_at : (registry : Entries) (limits : Bounds) (s : Shape) (t : Tree) (v : Verdict) → IsSoundBesidesKeys registry limits s t → written registry t (of s) [] ≡ v
     → Told (distinct t) (plain registry (form_of registry t (of s)) (of s)) v

@@ -3,13 +3,13 @@ ghost use Rattle.std.specs.Prelude.{◌≡◌, ◌≢◌, IfErr, IfOk};
 ghost use Rattle.bcs_registry_formats.specs.Container.{of};
 ghost use Rattle.bcs_registry_formats.specs.View.{shape_of};
 ghost use Rattle.bcs_value_tree.specs.View.{tree_of};
-ghost use Rattle.bcs_encode_laws.specs.Encodes.{Encodes};
-ghost use Rattle.bcs_encode_laws.specs.Refused.{IsSoundBesidesKeys, Refuses};
-ghost use Rattle.bcs_encode_laws.specs.declared.fault.EncodeFault.TheVariants.{OutOfMemory};
+ghost use Rattle.bcs_encode_spec.specs.Encodes.{Encodes};
+ghost use Rattle.bcs_encode_spec.specs.Refused.{IsSoundBesidesKeys, Refuses};
+ghost use Rattle.bcs_encode_spec.specs.declared.fault.EncodeFault.TheVariants.{OutOfMemory};
 
 use crate::soundness::check_soundness;
-use bcs_encode_laws::EncodeFault;
 use bcs_encode_plain::by_entries::push_value;
+use bcs_encode_spec::EncodeFault;
 use bcs_registry::{Format, Registry};
 use bcs_value::{Limits, Value};
 use std::alloc::Global;

@@ -7,8 +7,8 @@ mod encoding;
 mod soundness;
 mod writing;
 
-pub use bcs_encode_laws::{EncodeFault, WriteFault, laws};
-pub use bcs_encode_sinks::{ByteSink, SinkFailed, WriteSink, pieces};
+pub use bcs_encode_spec::{EncodeFault, WriteFault, laws};
+pub use bcs_io::{ByteSink, SinkFailed, WriteSink, pieces};
 pub use by_entries::encode_by_entries;
 pub use canonical_form::canonicalise;
 pub use encoding::encode;

@@ -2,10 +2,10 @@
 ghost use Rattle.std.specs.Prelude.{◌≡◌, IfErr, OnOk};
 ghost use Rattle.bcs_registry_formats.specs.View.{shape_of};
 ghost use Rattle.bcs_value_tree.specs.View.{tree_of};
-ghost use Rattle.bcs_encode_laws.specs.Refused.{IsSoundBesidesKeys, Refuses};
+ghost use Rattle.bcs_encode_spec.specs.Refused.{IsSoundBesidesKeys, Refuses};
 
-use bcs_encode_judging::is_sound;
-use bcs_encode_laws::EncodeFault;
+use bcs_encode_spec::EncodeFault;
+use bcs_encode_walk::is_sound;
 use bcs_registry::{Format, Registry};
 use bcs_value::{Limits, Value, depth, fits_loosely, has_format, nodes};
 

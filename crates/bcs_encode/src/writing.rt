@@ -2,12 +2,12 @@
 ghost use Rattle.std.specs.Prelude.{◌<◌, IfErr, OnOk, length, take};
 ghost use Rattle.bcs_registry_formats.specs.View.{shape_of};
 ghost use Rattle.bcs_value_tree.specs.View.{tree_of};
-ghost use Rattle.bcs_encode_sinks.specs.Taking.{Lost, Took};
+ghost use Rattle.bcs_io.specs.Taking.{Lost, Took};
 ghost use Rattle.bcs_encode.specs.Wrote.{Wrote};
 
 use crate::encoding::encode;
-use bcs_encode_laws::WriteFault;
-use bcs_encode_sinks::{ByteSink, SinkFailed};
+use bcs_encode_spec::WriteFault;
+use bcs_io::{ByteSink, SinkFailed};
 use bcs_registry::{Format, Registry};
 use bcs_value::{Limits, Value};
 use std::alloc::Global;

@@ -4,12 +4,12 @@ ghost use Rattle.std.specs.List.{flat_map};
 ghost use Rattle.std.specs.List.Sorted.{IsPermutation, IsSortedByKey};
 ghost use Rattle.std.specs.Ordering.{nat_cmp};
 ghost use Rattle.std.specs.Cmp.Lexicographic.{slice_cmp};
-ghost use Rattle.bcs_encode_laws.specs.Entries as spec;
+ghost use Rattle.bcs_encode_spec.specs.Entries as spec;
 ghost use Rattle.bcs_encode_plain.specs.EntryView.{entry_of};
-ghost use Rattle.bcs_encode_parts.specs.Writing.{Tells, sorted_entries_written, has_twins};
+ghost use Rattle.bcs_encode_steps.specs.Writing.{Tells, sorted_entries_written, has_twins};
 
 use crate::entry_bytes::EntryBytes;
-use bcs_encode_laws::EncodeFault;
+use bcs_encode_spec::EncodeFault;
 use std::alloc::AllocError;
 
 /// Appends the entries by rising keys, or refuses two with one key.

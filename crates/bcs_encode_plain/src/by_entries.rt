@@ -6,13 +6,13 @@ ghost use Rattle.bcs_registry_formats.specs.View.{container_of, field_of, format
 ghost use Rattle.bcs_value_tree.specs.Tree.{items as items_tree};
 ghost use Rattle.bcs_value_tree.specs.View.{entries_pairs, items_trees, tree_of};
 ghost use Rattle.bcs_encode_plain.specs.EntryView.{entry_of};
-ghost use Rattle.bcs_encode_parts.specs.Writing as spec;
-ghost use Rattle.bcs_encode_parts.specs.Writing.{Tells};
+ghost use Rattle.bcs_encode_steps.specs.Writing as spec;
+ghost use Rattle.bcs_encode_steps.specs.Writing.{Tells};
 
-use bcs_encode_laws::EncodeFault;
 use crate::arranging::push_in_order;
 use crate::entry_bytes::EntryBytes;
-use bcs_encode_parts::pushing::{
+use bcs_encode_spec::EncodeFault;
+use bcs_encode_steps::pushing::{
     push_byte, push_bytes, push_length, push_number, push_signed, push_unsigned,
 };
 use bcs_num::Width;
@@ -153,7 +153,7 @@ fn push_all(
 
 /// Appends the bytes of the elements of a tuple.
 #[cycle(by_entries)]
-#[tactic(auto, using(bcs_encode_parts::proofs::WalkViews::count_items, bcs_encode_parts::proofs::WritingViews::count_formats))]
+#[tactic(auto, using(bcs_encode_steps::proofs::WalkViews::count_items, bcs_encode_steps::proofs::WritingViews::count_formats))]
 fn push_each(
     items: &[Value],
     formats: &[Format],
@@ -174,7 +174,7 @@ fn push_each(
 
 /// Appends the bytes of the fields of a struct.
 #[cycle(by_entries)]
-#[tactic(auto, using(bcs_encode_parts::proofs::WalkViews::count_items, bcs_encode_parts::proofs::WritingViews::count_fields))]
+#[tactic(auto, using(bcs_encode_steps::proofs::WalkViews::count_items, bcs_encode_steps::proofs::WritingViews::count_fields))]
 fn push_fields(
     items: &[Value],
     fields: &[Named<Format>],

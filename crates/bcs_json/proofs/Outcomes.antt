@@ -6,28 +6,28 @@ use Rattle.bcs_registry_formats.specs.Container as container
 use Rattle.bcs_registry_formats.specs.Ranges.{IsOrderly}
 use Rattle.bcs_registry_formats.specs.Shape.{Shape}
 use Rattle.bcs_registry_formats.specs.WellFormed.{IsWellFormed}
-use Rattle.bcs_value_laws.specs.Limits.{Bounds}
-use Rattle.bcs_value_laws.specs.Same.{Same}
+use Rattle.bcs_value_spec.specs.Limits.{Bounds}
+use Rattle.bcs_value_spec.specs.Same.{Same}
 use Rattle.bcs_value_tree.specs.Tree.{Tree}
 use Rattle.bcs_value_tree.specs.View.{tree_of}
 use Rattle.bcs_value_tree.specs.declared.value.Value.{Value}
-use Rattle.bcs_encode_laws.proofs.FormLaws.{bytes_decide_same}
-use Rattle.bcs_encode_laws.specs.Encodes.{IsForm}
-use Rattle.bcs_encode_laws.specs.Refused as encode
-use Rattle.bcs_encode_laws.specs.Sound.{IsSound}
-use Rattle.bcs_encode_laws.specs.declared.fault.EncodeFault.{EncodeFault}
-use Rattle.bcs_encode_laws.specs.declared.fault.EncodeFault.TheVariants as encode_fault
-use Rattle.bcs_decode_laws.specs.Accepting.{IsDecoded}
-use Rattle.bcs_json_faults.specs.Causes.{fault_of_value}
-use Rattle.bcs_json_faults.specs.declared.json_fault.JsonFault.{JsonFault}
-use Rattle.bcs_json_faults.specs.declared.json_fault.JsonFault.TheVariants.{OutOfMemory}
-use Rattle.bcs_json_laws.specs.Headline.{HasBytes, Compares, Normalises}
-use Rattle.bcs_json_laws.specs.JsonContent.{of}
-use Rattle.bcs_json_laws.specs.Reading.{Tells, read_data}
-use Rattle.bcs_json_laws.specs.Shown.{shown}
-use Rattle.bcs_json_laws.specs.Texts.{nesting_limit, IsReadAs, SpelledBy, RefusesText, IsTextOf}
-use Rattle.bcs_json_laws.proofs.Printed.{shown_denotes, form_is_sound, form_nests}
-use Rattle.bcs_json_laws.proofs.TextOutcomes.{read_is_spelled, stop_is_refusal, refused_value}
+use Rattle.bcs_encode_spec.proofs.FormLaws.{bytes_decide_same}
+use Rattle.bcs_encode_spec.specs.Encodes.{IsForm}
+use Rattle.bcs_encode_spec.specs.Refused as encode
+use Rattle.bcs_encode_spec.specs.Sound.{IsSound}
+use Rattle.bcs_encode_spec.specs.declared.fault.EncodeFault.{EncodeFault}
+use Rattle.bcs_encode_spec.specs.declared.fault.EncodeFault.TheVariants as encode_fault
+use Rattle.bcs_decode_spec.specs.Accepting.{IsDecoded}
+use Rattle.bcs_json_spec.specs.Causes.{fault_of_value}
+use Rattle.bcs_json_spec.specs.declared.json_fault.JsonFault.{JsonFault}
+use Rattle.bcs_json_spec.specs.declared.json_fault.JsonFault.TheVariants.{OutOfMemory}
+use Rattle.bcs_json_spec.specs.Headline.{HasBytes, Compares, Normalises}
+use Rattle.bcs_json_spec.specs.JsonContent.{of}
+use Rattle.bcs_json_spec.specs.Reading.{Tells, read_data}
+use Rattle.bcs_json_spec.specs.Shown.{shown}
+use Rattle.bcs_json_spec.specs.Texts.{nesting_limit, IsReadAs, SpelledBy, RefusesText, IsTextOf}
+use Rattle.bcs_json_spec.proofs.Printed.{shown_denotes, form_is_sound, form_nests}
+use Rattle.bcs_json_spec.proofs.TextOutcomes.{read_is_spelled, stop_is_refusal, refused_value}
 use Rattle.bcs_json.specs.Printing.{Prints}
 
 module _ (registry : Entries) (limits : Bounds) (s : Shape) (text : List ℕ) where

@@ -4,14 +4,14 @@ use Rattle.serde_json.specs.Data.{depth}
 use Rattle.bcs_registry_formats.specs.Container.{Entries}
 use Rattle.bcs_registry_formats.specs.Container as container
 use Rattle.bcs_registry_formats.specs.Shape.{Shape}
-use Rattle.bcs_value_laws.specs.Limits.{Bounds}
+use Rattle.bcs_value_spec.specs.Limits.{Bounds}
 use Rattle.bcs_value_tree.specs.Tree.{Tree}
-use Rattle.bcs_encode_laws.specs.Encodes.{IsForm}
-use Rattle.bcs_encode_laws.specs.Refused as encode
-use Rattle.bcs_encode_laws.specs.Sound.{IsSound}
-use Rattle.bcs_json_laws.specs.JsonContent.{of}
-use Rattle.bcs_json_laws.specs.Shown.{shown}
-use Rattle.bcs_json_laws.specs.Texts.{nesting_limit, Denotes, IsTextOf}
+use Rattle.bcs_encode_spec.specs.Encodes.{IsForm}
+use Rattle.bcs_encode_spec.specs.Refused as encode
+use Rattle.bcs_encode_spec.specs.Sound.{IsSound}
+use Rattle.bcs_json_spec.specs.JsonContent.{of}
+use Rattle.bcs_json_spec.specs.Shown.{shown}
+use Rattle.bcs_json_spec.specs.Texts.{nesting_limit, Denotes, IsTextOf}
 use Rattle.bcs_json.specs.declared.print_fault.PrintFault.{PrintFault}
 use Rattle.bcs_json.specs.declared.print_fault.PrintFault.TheVariants.{Encode, TooNested}
 

@@ -4,16 +4,16 @@ use Rattle.std.specs.declared.alloc.Global.{Global}
 use Rattle.serde_json.specs.Data.{depth}
 use Rattle.bcs_registry_formats.specs.Container.{Entries}
 use Rattle.bcs_registry_formats.specs.Shape.{Shape}
-use Rattle.bcs_value_laws.specs.Limits.{Bounds}
+use Rattle.bcs_value_spec.specs.Limits.{Bounds}
 use Rattle.bcs_value_tree.specs.Tree.{Tree}
 use Rattle.bcs_value_tree.specs.View.{tree_of}
 use Rattle.bcs_value_tree.specs.declared.value.Value.{Value}
-use Rattle.bcs_decode_laws.specs.Accepting.{Accepts}
-use Rattle.bcs_decode_laws.specs.Stopping.{StopsAll}
-use Rattle.bcs_json_laws.specs.Headline.{ShowsBytes}
-use Rattle.bcs_json_laws.specs.JsonContent.{of}
-use Rattle.bcs_json_laws.specs.Shown.{shown}
-use Rattle.bcs_json_laws.specs.Texts.{nesting_limit}
+use Rattle.bcs_decode_spec.specs.Accepting.{Accepts}
+use Rattle.bcs_decode_spec.specs.Stopping.{StopsAll}
+use Rattle.bcs_json_spec.specs.Headline.{ShowsBytes}
+use Rattle.bcs_json_spec.specs.JsonContent.{of}
+use Rattle.bcs_json_spec.specs.Shown.{shown}
+use Rattle.bcs_json_spec.specs.Texts.{nesting_limit}
 use Rattle.bcs_json.specs.declared.from_fault.FromFault.{FromFault}
 use Rattle.bcs_json.specs.declared.from_fault.FromFault.TheVariants.{Stop, TooNested, OutOfMemory}
 

@@ -3,13 +3,13 @@ ghost use Rattle.std.specs.Prelude.{◌≡◌, ◌≢◌, IfErr, IfOk};
 ghost use Rattle.bcs_registry_formats.specs.View.{shape_of};
 ghost use Rattle.bcs_value_tree.specs.Tree.{Tree};
 ghost use Rattle.bcs_value_tree.specs.View.{tree_of};
-ghost use Rattle.bcs_encode_laws.specs.Encodes.{Encodes};
-ghost use Rattle.bcs_json_laws.specs.Texts.{Denotes, RefusesText};
-ghost use Rattle.bcs_json_faults.specs.declared.json_fault.JsonFault.TheVariants.{OutOfMemory};
+ghost use Rattle.bcs_encode_spec.specs.Encodes.{Encodes};
+ghost use Rattle.bcs_json_spec.specs.Texts.{Denotes, RefusesText};
+ghost use Rattle.bcs_json_spec.specs.declared.json_fault.JsonFault.TheVariants.{OutOfMemory};
 
 use crate::spelling::spelled;
 use bcs_encode::encode;
-use bcs_json_faults::JsonFault;
+use bcs_json_spec::JsonFault;
 use bcs_registry::{Format, Registry};
 use bcs_value::{Limits, Value};
 use std::alloc::Global;

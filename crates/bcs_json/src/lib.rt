@@ -12,8 +12,8 @@ mod text_of_bytes;
 mod value_printing;
 mod value_reading;
 
-pub use bcs_json_faults::JsonFault;
-pub use bcs_json_laws::laws;
+pub use bcs_json_printer::Shown;
+pub use bcs_json_spec::{JsonFault, laws};
 pub use bytes::to_bcs;
 pub use comparing::compare;
 pub use from_fault::FromFault;

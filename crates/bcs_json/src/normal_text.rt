@@ -2,14 +2,14 @@
 ghost use Rattle.std.specs.Prelude.{◌≡◌, ◌≢◌, IfErr, IfOk, string_bytes};
 ghost use Rattle.bcs_registry_formats.specs.View.{shape_of};
 ghost use Rattle.bcs_value_tree.specs.Tree.{Tree};
-ghost use Rattle.bcs_json_laws.specs.Headline.{Normalises};
-ghost use Rattle.bcs_json_laws.specs.Texts.{Denotes, RefusesText};
-ghost use Rattle.bcs_json_faults.specs.declared.json_fault.JsonFault.TheVariants.{OutOfMemory};
+ghost use Rattle.bcs_json_spec.specs.Headline.{Normalises};
+ghost use Rattle.bcs_json_spec.specs.Texts.{Denotes, RefusesText};
+ghost use Rattle.bcs_json_spec.specs.declared.json_fault.JsonFault.TheVariants.{OutOfMemory};
 
 use crate::bytes::to_bcs;
 use bcs_decode::decode_encoded;
-use bcs_json_faults::JsonFault;
 use bcs_json_printer::texts::show;
+use bcs_json_spec::JsonFault;
 use bcs_registry::{Format, Registry};
 use bcs_value::Limits;
 use std::alloc::Global;

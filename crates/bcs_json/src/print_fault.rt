@@ -28,7 +28,7 @@ impl From<EncodeFault> for PrintFault {
 
 impl From<AllocError> for PrintFault {
     ghost use Rattle.std.specs.Prelude.{◌≡◌};
-    ghost use Rattle.bcs_encode_laws.specs.declared.fault.EncodeFault.TheVariants.{OutOfMemory};
+    ghost use Rattle.bcs_encode_spec.specs.declared.fault.EncodeFault.TheVariants.{OutOfMemory};
     ghost use Rattle.bcs_json.specs.declared.print_fault.PrintFault.TheVariants.{Encode};
 
     ghost from_gives = { λ _ result. result ≡ Encode OutOfMemory };

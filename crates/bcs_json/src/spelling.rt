@@ -2,11 +2,11 @@
 ghost use Rattle.std.specs.Prelude.{◌≢◌, IfErr, IfOk};
 ghost use Rattle.bcs_registry_formats.specs.View.{shape_of};
 ghost use Rattle.bcs_value_tree.specs.View.{tree_of};
-ghost use Rattle.bcs_json_laws.specs.Texts.{SpelledBy, RefusesText};
-ghost use Rattle.bcs_json_faults.specs.declared.json_fault.JsonFault.TheVariants.{OutOfMemory};
+ghost use Rattle.bcs_json_spec.specs.Texts.{SpelledBy, RefusesText};
+ghost use Rattle.bcs_json_spec.specs.declared.json_fault.JsonFault.TheVariants.{OutOfMemory};
 
-use bcs_json_faults::JsonFault;
 use bcs_json_reader::reading::read;
+use bcs_json_spec::JsonFault;
 use bcs_json_text::{NESTING_LIMIT, nests_within, read_json};
 use bcs_registry::{Format, Registry};
 use bcs_value::{Limits, Value};

@@ -1,8 +1,8 @@
 //! Texts of values.
 ghost use Rattle.std.specs.Prelude.{◌≡◌, ◌≢◌, IfErr, IfOk, OnOk, string_bytes};
-ghost use Rattle.bcs_encode_laws.specs.Refused.{IsSoundBesidesKeys};
-ghost use Rattle.bcs_encode_laws.specs.Sound.{IsSound};
-ghost use Rattle.bcs_encode_laws.specs.declared.fault.EncodeFault.TheVariants.{OutOfMemory};
+ghost use Rattle.bcs_encode_spec.specs.Refused.{IsSoundBesidesKeys};
+ghost use Rattle.bcs_encode_spec.specs.Sound.{IsSound};
+ghost use Rattle.bcs_encode_spec.specs.declared.fault.EncodeFault.TheVariants.{OutOfMemory};
 ghost use Rattle.bcs_registry_formats.specs.View.{shape_of};
 ghost use Rattle.bcs_value_tree.specs.View.{tree_of};
 ghost use Rattle.bcs_json.specs.Printing.{Prints, PrintRefuses};

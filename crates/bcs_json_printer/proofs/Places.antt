@@ -10,8 +10,8 @@ use Rattle.bcs_registry_formats.specs.declared.format.Format.{Format}
 use Rattle.bcs_registry_formats.specs.declared.named.Named.{Named}
 use Rattle.bcs_value_tree.specs.View.{tree_of, items_trees}
 use Rattle.bcs_value_tree.specs.declared.value.Value.{Value}
-use Rattle.bcs_json_laws.specs.JsonContent.{of}
-use Rattle.bcs_json_laws.specs.Shown.{shown, shown_fields}
+use Rattle.bcs_json_spec.specs.JsonContent.{of}
+use Rattle.bcs_json_spec.specs.Shown.{shown, shown_fields}
 use Rattle.bcs_json_printer.specs.Places.{name_of, placed, put_from}
 
 abbrev Entry : Type 0

@@ -11,12 +11,12 @@ use Rattle.bcs_registry_formats.specs.Shape.{Shape}
 use Rattle.bcs_registry_formats.specs.View.{field_of, formats_shapes, shape_of}
 use Rattle.bcs_registry_formats.specs.declared.format.Format.{Format}
 use Rattle.bcs_registry_formats.specs.declared.named.Named.{Named}
-use Rattle.bcs_value_laws.specs.Fits.{each_fits, fits, pairs_fit}
+use Rattle.bcs_value_spec.specs.Fits.{each_fits, fits, pairs_fit}
 use Rattle.bcs_value_tree.specs.Tree.{nodes, pairs_nodes, trees_nodes}
 use Rattle.bcs_value_tree.specs.View.{entries_pairs, items_trees, tree_of}
 use Rattle.bcs_value_tree.specs.declared.value.Value.{Value}
-use Rattle.bcs_json_laws.specs.JsonContent.{of}
-use Rattle.bcs_json_laws.specs.Shown.{shown, shown_all, shown_each, shown_pairs}
+use Rattle.bcs_json_spec.specs.JsonContent.{of}
+use Rattle.bcs_json_spec.specs.Shown.{shown, shown_all, shown_each, shown_pairs}
 use Rattle.bcs_json_printer.specs.Places.{placed}
 use Rattle.bcs_json_printer.proofs.PrintedRows.{pairs_here}
 

@@ -19,8 +19,8 @@ use Rattle.bcs_registry_formats.specs.declared.named.Named.{Named}
 use Rattle.bcs_value_tree.specs.Tree.{Tree, Trees, no_trees, tree}
 use Rattle.bcs_value_tree.specs.View.{tree_of, items_trees}
 use Rattle.bcs_value_tree.specs.declared.value.Value.{Value}
-use Rattle.bcs_json_laws.specs.JsonContent.{of}
-use Rattle.bcs_json_laws.specs.Shown.{shown, shown_fields}
+use Rattle.bcs_json_spec.specs.JsonContent.{of}
+use Rattle.bcs_json_spec.specs.Shown.{shown, shown_fields}
 
 abbrev pub names : List Field → List (List ℕ)
 names fs = map (λ f. f.0) fs

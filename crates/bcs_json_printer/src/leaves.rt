@@ -10,8 +10,8 @@ ghost use Rattle.serde_json.specs.Events.{SendsValue};
 ghost use Rattle.serde_json.specs.Find.{of_integer};
 ghost use Rattle.bcs_value_tree.specs.Tree.{no_trees, tree};
 ghost use Rattle.bcs_value_tree.specs.View.{items_trees, tree_of};
-ghost use Rattle.bcs_value_laws.specs.Fits.{are_bytes};
-ghost use Rattle.bcs_json_laws.specs.Bytes.{trees_bytes};
+ghost use Rattle.bcs_value_spec.specs.Fits.{are_bytes};
+ghost use Rattle.bcs_json_spec.specs.Bytes.{trees_bytes};
 
 use bcs_value_tree::Value;
 use itoa::Buffer;

@@ -5,9 +5,9 @@ ghost use Rattle.serde_json.specs.Data.{array, depth, items_depth, members_depth
 ghost use Rattle.bcs_registry_formats.specs.View.{container_of, field_of, formats_shapes, payload_of, shape_of};
 ghost use Rattle.bcs_registry_formats.specs.WellFormed.{are_distinct, container_names, payload_names};
 ghost use Rattle.bcs_value_tree.specs.View.{entries_pairs, items_trees, tree_of};
-ghost use Rattle.bcs_json_laws.specs.Bytes.{is_byte};
-ghost use Rattle.bcs_json_laws.specs.JsonContent.{json_content, of};
-ghost use Rattle.bcs_json_laws.specs.Shown.{shown, shown_all, shown_choice, shown_each, shown_fields, shown_pairs};
+ghost use Rattle.bcs_json_spec.specs.Bytes.{is_byte};
+ghost use Rattle.bcs_json_spec.specs.JsonContent.{json_content, of};
+ghost use Rattle.bcs_json_spec.specs.Shown.{shown, shown_all, shown_choice, shown_each, shown_fields, shown_pairs};
 
 use bcs_registry::{Container, Format, Named, Registry, VariantFormat};
 use bcs_value_tree::Value;

@@ -5,11 +5,11 @@ ghost use Rattle.serde_json.specs.Data.{array, null, object, string};
 ghost use Rattle.serde_json.specs.Events.{SendsValue};
 ghost use Rattle.bcs_registry_formats.specs.Container.{content, field_shapes, of as at_format, payload_shape};
 ghost use Rattle.bcs_registry_formats.specs.View.{container_of, field_of, formats_shapes, payload_of, shape_of};
-ghost use Rattle.bcs_value_laws.specs.Fits.{Fits, all_fit, each_fits, fits, pairs_fit};
+ghost use Rattle.bcs_value_spec.specs.Fits.{Fits, all_fit, each_fits, fits, pairs_fit};
 ghost use Rattle.bcs_value_tree.specs.View.{entries_pairs, items_trees, tree_of};
-ghost use Rattle.bcs_json_laws.specs.Bytes.{is_byte, trees_bytes};
-ghost use Rattle.bcs_json_laws.specs.JsonContent.{json_content, of, payload_content};
-ghost use Rattle.bcs_json_laws.specs.Shown.{shown, shown_all, shown_choice, shown_each, shown_fields, shown_pairs};
+ghost use Rattle.bcs_json_spec.specs.Bytes.{is_byte, trees_bytes};
+ghost use Rattle.bcs_json_spec.specs.JsonContent.{json_content, of, payload_content};
+ghost use Rattle.bcs_json_spec.specs.Shown.{shown, shown_all, shown_choice, shown_each, shown_fields, shown_pairs};
 
 use crate::field_order::sent_places;
 use crate::leaves::{

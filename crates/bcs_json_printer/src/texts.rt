@@ -2,11 +2,11 @@
 ghost use Rattle.std.specs.Prelude.{◌≤◌, IfOk, string_bytes};
 ghost use Rattle.serde_json.specs.Data.{depth};
 ghost use Rattle.bcs_registry_formats.specs.View.{shape_of};
-ghost use Rattle.bcs_value_laws.specs.Fits.{Fits};
+ghost use Rattle.bcs_value_spec.specs.Fits.{Fits};
 ghost use Rattle.bcs_value_tree.specs.View.{tree_of};
-ghost use Rattle.bcs_json_laws.specs.JsonContent.{of};
-ghost use Rattle.bcs_json_laws.specs.Shown.{shown};
-ghost use Rattle.bcs_json_laws.specs.Texts.{IsReadAs, IsTextOf, nesting_limit};
+ghost use Rattle.bcs_json_spec.specs.JsonContent.{of};
+ghost use Rattle.bcs_json_spec.specs.Shown.{shown};
+ghost use Rattle.bcs_json_spec.specs.Texts.{IsReadAs, IsTextOf, nesting_limit};
 
 use crate::shown::Shown;
 use bcs_registry::{Format, Registry};

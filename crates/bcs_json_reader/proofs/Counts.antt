@@ -11,12 +11,12 @@ use Rattle.bcs_value_tree.specs.Tree.{Tree, Trees, items}
 use Rattle.bcs_value_tree.specs.View.{tree_of, items_trees}
 use Rattle.bcs_value_tree.specs.declared.value.Value as value
 use Rattle.bcs_value_tree.specs.declared.value.Value.{Value, the_lemmas}
-use Rattle.bcs_json_faults.specs.declared.json_fault.JsonFault.{JsonFault}
-use Rattle.bcs_json_faults.specs.declared.json_fault.JsonFault.TheVariants.{BadShape}
-use Rattle.bcs_json_laws.specs.Look.{item_count, shape_count}
-use Rattle.bcs_json_laws.specs.Reading.{Read, follow, read_all, read_array, read_map, read_tuple, read_shape, read_each}
-use Rattle.bcs_json_laws.proofs.Exact.{when_true, when_false}
-use Rattle.bcs_json_leaves.proofs.OtherCounts.{count_items}
+use Rattle.bcs_json_spec.specs.declared.json_fault.JsonFault.{JsonFault}
+use Rattle.bcs_json_spec.specs.declared.json_fault.JsonFault.TheVariants.{BadShape}
+use Rattle.bcs_json_spec.specs.Look.{item_count, shape_count}
+use Rattle.bcs_json_spec.specs.Reading.{Read, follow, read_all, read_array, read_map, read_tuple, read_shape, read_each}
+use Rattle.bcs_json_spec.proofs.Exact.{when_true, when_false}
+use Rattle.bcs_json_reader_steps.proofs.OtherCounts.{count_items}
 
 count_formats : (fs : List Format) → shape_count (formats_shapes fs) ≡ length fs
 count_formats [] = refl

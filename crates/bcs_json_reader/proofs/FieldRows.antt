@@ -8,11 +8,11 @@ use Rattle.bcs_registry_formats.specs.declared.named.Named.{Named}
 use Rattle.bcs_value_tree.specs.Tree.{Tree, Trees}
 use Rattle.bcs_value_tree.specs.View.{tree_of, items_trees}
 use Rattle.bcs_value_tree.specs.declared.value.Value.{Value}
-use Rattle.bcs_json_laws.specs.Look.{without}
-use Rattle.bcs_json_laws.specs.Reading.{Read, follow, read_shape, read_member, read_fields}
-use Rattle.bcs_json_faults.specs.declared.json_fault.JsonFault.{JsonFault}
-use Rattle.bcs_json_faults.specs.declared.json_fault.JsonFault.TheVariants.{UnknownField, MissingField}
-use Rattle.bcs_json_leaves.proofs.Joined.{joined, joined-none}
+use Rattle.bcs_json_spec.specs.Look.{without}
+use Rattle.bcs_json_spec.specs.Reading.{Read, follow, read_shape, read_member, read_fields}
+use Rattle.bcs_json_spec.specs.declared.json_fault.JsonFault.{JsonFault}
+use Rattle.bcs_json_spec.specs.declared.json_fault.JsonFault.TheVariants.{UnknownField, MissingField}
+use Rattle.bcs_json_reader_steps.proofs.Joined.{joined, joined-none}
 use Rattle.bcs_json_reader.proofs.Rows.{row_more, row_fault}
 
 module _ (named : List ℕ → Data → Read Tree) (x : Named Format) (fs gs : List (Named Format)) (here : gs ≡ x ∷ fs) (ms : Members) (vs : List Value) where

@@ -9,10 +9,10 @@ use Rattle.bcs_registry_formats.specs.declared.format.Format as format
 use Rattle.bcs_registry_formats.specs.declared.format.Format.{Format}
 use Rattle.bcs_registry_formats.specs.declared.named.Named.{Named}
 use Rattle.bcs_value_tree.specs.Tree.{Tree}
-use Rattle.bcs_json_faults.specs.declared.json_fault.JsonFault.{JsonFault}
-use Rattle.bcs_json_laws.specs.Bytes.{is_byte}
-use Rattle.bcs_json_laws.specs.JsonContent.{of}
-use Rattle.bcs_json_laws.specs.Reading.{Read, Tells, read_data, read_option, read_seq, read_map, read_array}
+use Rattle.bcs_json_spec.specs.declared.json_fault.JsonFault.{JsonFault}
+use Rattle.bcs_json_spec.specs.Bytes.{is_byte}
+use Rattle.bcs_json_spec.specs.JsonContent.{of}
+use Rattle.bcs_json_spec.specs.Reading.{Read, Tells, read_data, read_option, read_seq, read_map, read_array}
 
 -- what tells one reading tells an equal one
 pub tells_as : {X A : Type 0} (v : X → A) (r : Result X JsonFault) (x y : Read A) → x ≡ y → Tells v r y → Tells v r x

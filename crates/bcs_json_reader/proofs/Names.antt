@@ -9,8 +9,8 @@ use Rattle.bcs_registry_formats.specs.View.{container_of}
 use Rattle.bcs_registry_formats.specs.WellFormed.{IsWellFormed, levels, shapes_levels}
 use Rattle.bcs_registry_formats.specs.declared.container.Container as declared
 use Rattle.bcs_registry_formats.proofs.Admitted.{content_at-inside, choice_at-inside}
-use Rattle.bcs_json_laws.proofs.Fitting.{called_numbered}
-use Rattle.bcs_json_names.proofs.Called.{differ}
+use Rattle.bcs_json_spec.proofs.Fitting.{called_numbered}
+use Rattle.bcs_json_reader_steps.proofs.Called.{differ}
 
 -- what was found is this container
 pub container_found : (registry : Entries) (name : List ℕ) (c k : declared.Container) → container_at name registry ≡ Some (container_of c) → c ≡ k

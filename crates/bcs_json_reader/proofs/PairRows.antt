@@ -6,8 +6,8 @@ use Rattle.serde_json.specs.declared.value.Value.{Value as Json}
 use Rattle.bcs_value_tree.specs.Tree.{Tree, Pairs, no_pairs, pair}
 use Rattle.bcs_value_tree.specs.View.{tree_of, entries_pairs}
 use Rattle.bcs_value_tree.specs.declared.value.Value.{Value}
-use Rattle.bcs_json_faults.specs.declared.json_fault.JsonFault.{JsonFault}
-use Rattle.bcs_json_laws.specs.Reading.{Read, follow, read_pair, read_pairs}
+use Rattle.bcs_json_spec.specs.declared.json_fault.JsonFault.{JsonFault}
+use Rattle.bcs_json_spec.specs.Reading.{Read, follow, read_pair, read_pairs}
 
 abbrev pub joined_pairs : List (Value × Value) → Pairs → Pairs
 joined_pairs [] ps = ps

@@ -12,5 +12,5 @@ pub use Rattle.bcs_json_text.specs.Json
 pub use Rattle.bcs_registry_text.specs.Shown
 pub use Rattle.bcs_registry_text.specs.Text
 pub use Rattle.bcs_registry_text.specs.Shaped
-pub use Rattle.bcs_registry_laws.specs.Faults
-pub use Rattle.bcs_registry_laws.specs.TextLaws
+pub use Rattle.bcs_registry_spec.specs.Faults
+pub use Rattle.bcs_registry_spec.specs.TextLaws

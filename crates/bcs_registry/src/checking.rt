@@ -7,9 +7,9 @@ ghost use Rattle.bcs_registry_formats.specs.WellFormed.{IsWellFormed};
 
 use crate::registry::Registry;
 use bcs_registry_formats::distinct::have_distinct_names;
+use bcs_registry_formats::naming::numbers_by_name;
 use bcs_registry_formats::rule::{Rule, all_keep};
 use bcs_registry_formats::{Container, RegistryFault};
-use bcs_registry_names::naming::numbers_by_name;
 use std::alloc::Global;
 use std::collections::BTreeMap;
 

@@ -10,5 +10,5 @@ mod registry;
 pub use bcs_registry_formats::{
     Container, Format, GrowthFault, Named, RegistryFault, VariantFormat,
 };
-pub use bcs_registry_laws::laws;
+pub use bcs_registry_spec::laws;
 pub use registry::Registry;

@@ -1,7 +1,7 @@
 //! Registries and formats from JSON texts.
 ghost use Rattle.std.specs.Prelude.{◌≡◌, ◌≢◌, IfErr, IfOk};
 ghost use Rattle.serde_json.specs.View.{view};
-ghost use Rattle.bcs_registry_laws.specs.Faults.{IsLeastFault, IsLeastFormatFault};
+ghost use Rattle.bcs_registry_spec.specs.Faults.{IsLeastFault, IsLeastFormatFault};
 ghost use Rattle.bcs_registry_formats.specs.Ranges.{IsOrderly};
 ghost use Rattle.bcs_registry_text.specs.Parts.{IsLeastFaultBy};
 ghost use Rattle.bcs_registry_text.specs.Shaped.{is_format, is_registry};

@@ -6,11 +6,10 @@ ghost use Rattle.bcs_registry_text.specs.Shown.{shown};
 ghost use Rattle.bcs_registry_text.specs.Text.{WritesRegistry};
 ghost use Rattle.bcs_registry_formats.specs.View.{container_of, entries_of};
 ghost use Rattle.bcs_registry_formats.specs.WellFormed.{IsWellFormed};
-ghost use Rattle.bcs_registry_names.specs.Names.{FindsNumbers};
+ghost use Rattle.bcs_registry_formats.specs.Names.{FindsNumbers};
 ghost use Rattle.serde_json.specs.Written.{compact_text};
 
-use bcs_registry_formats::Container;
-use bcs_registry_names::VariantNumbers;
+use bcs_registry_formats::{Container, VariantNumbers};
 use bcs_registry_text::printing::registry_value;
 use std::alloc::{AllocError, Global};
 use std::collections::BTreeMap;
@@ -31,7 +30,7 @@ impl Model for Registry {
     ghost use Rattle.bcs_registry_formats.specs.Ranges.{IsOrderly};
     ghost use Rattle.bcs_registry_formats.specs.View.{entries_of};
     ghost use Rattle.bcs_registry_formats.specs.WellFormed.{IsWellFormed};
-    ghost use Rattle.bcs_registry_names.specs.Names.{FindsNumbers};
+    ghost use Rattle.bcs_registry_formats.specs.Names.{FindsNumbers};
     ghost use Rattle.std.specs.Coded.{codes};
     ghost use Rattle.bcs_registry.specs.Codes.{shape_coded, shapes_coded};
 

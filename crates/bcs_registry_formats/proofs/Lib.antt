@@ -10,3 +10,4 @@ pub mod Rising
 pub mod Ranges
 pub mod Admitted
 pub mod GrowthLaws
+pub mod Gathering

@@ -11,3 +11,4 @@ pub mod Grows
 pub mod Order
 pub mod Ranges
 pub mod Laws
+pub mod Names

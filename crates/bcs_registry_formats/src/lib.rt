@@ -1,4 +1,4 @@
-//! Formats and containers (serde-reflection), what is well-formed, and what growth is.
+//! Formats and containers (serde-reflection), the numbers of variants, what is well-formed, and what growth is.
 #![tactic(auto)]
 
 mod container;
@@ -11,9 +11,11 @@ mod growth_fault;
 pub mod known;
 pub mod levels;
 mod named;
+pub mod naming;
 mod out_of_memory;
 pub mod rule;
 mod variant_format;
+mod variant_numbers;
 mod whole_number;
 
 pub use container::Container;
@@ -22,4 +24,5 @@ pub use format::Format;
 pub use growth_fault::GrowthFault;
 pub use named::Named;
 pub use variant_format::VariantFormat;
+pub use variant_numbers::VariantNumbers;
 pub use whole_number::WholeNumber;

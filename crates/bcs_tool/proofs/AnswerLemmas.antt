@@ -3,18 +3,18 @@ use Rattle.std.proofs.Common.{◌≡◌, ◌≢◌, ◌≤◌, ◌<◌, ◌⊎�
 use Rattle.bcs_registry_formats.specs.Container.{Entries}
 use Rattle.bcs_registry_formats.specs.Shape.{Shape}
 use Rattle.bcs_value_tree.specs.Tree.{Tree}
-use Rattle.bcs_json_faults.specs.declared.json_fault.JsonFault.{JsonFault}
+use Rattle.bcs_json_spec.specs.declared.json_fault.JsonFault.{JsonFault}
 use Rattle.serde_json.specs.Data.{depth}
-use Rattle.bcs_value_laws.specs.Limits.{Bounds}
-use Rattle.bcs_decode_stops.specs.declared.stop.Stop.{Stop}
-use Rattle.bcs_decode_laws.specs.Accepting.{Accepts}
-use Rattle.bcs_decode_laws.specs.Stopping.{StopsAll}
+use Rattle.bcs_value_spec.specs.Limits.{Bounds}
+use Rattle.bcs_decode_spec.specs.declared.stop.Stop.{Stop}
+use Rattle.bcs_decode_spec.specs.Accepting.{Accepts}
+use Rattle.bcs_decode_spec.specs.Stopping.{StopsAll}
 use Rattle.bcs_json.specs.Showing.{Shows}
 use Rattle.bcs_json.specs.declared.from_fault.FromFault.{FromFault}
 use Rattle.bcs_json.specs.declared.from_fault.FromFault.TheVariants as from
-use Rattle.bcs_json_laws.specs.JsonContent.{of}
-use Rattle.bcs_json_laws.specs.Shown.{shown}
-use Rattle.bcs_json_laws.specs.Texts.{Denotes, RefusesText, nesting_limit}
+use Rattle.bcs_json_spec.specs.JsonContent.{of}
+use Rattle.bcs_json_spec.specs.Shown.{shown}
+use Rattle.bcs_json_spec.specs.Texts.{Denotes, RefusesText, nesting_limit}
 use Rattle.hex.specs.Hex.{decode_of}
 use Rattle.hex.specs.declared.error.FromHexError.{FromHexError}
 use Rattle.hex.specs.declared.error.FromHexError.TheVariants.{OutOfMemory}

@@ -7,8 +7,8 @@ use Rattle.std.proofs.lemmas.Slice.Eq.{bytes_eq-Decides}
 use Rattle.std.specs.Prelude.{OnOk, OnErr}
 use Rattle.std.proofs.Math.Seq.{take-append-add}
 use Rattle.std.proofs.lemmas.List.{take-append-le}
-use Rattle.bcs_encode_sinks.specs.Taking.{Took, Lost}
-use Rattle.bcs_encode_sinks.proofs.TakingLemmas.{Lost-then, Took-then}
+use Rattle.bcs_io.specs.Taking.{Took, Lost}
+use Rattle.bcs_io.proofs.TakingLemmas.{Lost-then, Took-then}
 use Rattle.bcs_tool_line.specs.declared.job.Job.{Job}
 use Rattle.bcs_tool_line.specs.declared.line_fault.LineFault.{LineFault}
 use Rattle.bcs_tool_line.specs.declared.line_fault.LineFault.TheVariants.{Usage, Help, OutOfMemory}

@@ -8,26 +8,26 @@ use Rattle.bcs_registry_formats.specs.Container as container
 use Rattle.bcs_registry_formats.specs.Grows.{Grows}
 use Rattle.bcs_registry_formats.specs.Ranges.{IsOrderly}
 use Rattle.bcs_registry_formats.specs.Shape.{Shape}
-use Rattle.bcs_value_laws.proofs.Equivalence.{same-refl}
+use Rattle.bcs_value_spec.proofs.Equivalence.{same-refl}
 use Rattle.bcs_value_tree.specs.Tree.{Tree}
-use Rattle.bcs_value_laws.specs.Same.{Same}
-use Rattle.bcs_encode_laws.proofs.FormLaws.{bytes_decide_same, forms_same}
-use Rattle.bcs_encode_laws.specs.Encodes.{Encodes, IsForm}
-use Rattle.bcs_encode_laws.specs.Plain.{plain}
-use Rattle.bcs_decode_laws.specs.Accepting.{Accepts}
-use Rattle.bcs_decode_laws.specs.Stopping.{Stops, StopsAll}
-use Rattle.bcs_decode_laws.proofs.Verdicts.{accepts_once_is, no_two_verdicts_are, no_two_verdicts_of_all_are, stops_all_once_is, stops_once_is}
+use Rattle.bcs_value_spec.specs.Same.{Same}
+use Rattle.bcs_encode_spec.proofs.FormLaws.{bytes_decide_same, forms_same}
+use Rattle.bcs_encode_spec.specs.Encodes.{Encodes, IsForm}
+use Rattle.bcs_encode_spec.specs.Plain.{plain}
+use Rattle.bcs_decode_spec.specs.Accepting.{Accepts}
+use Rattle.bcs_decode_spec.specs.Stopping.{Stops, StopsAll}
+use Rattle.bcs_decode_spec.proofs.Verdicts.{accepts_once_is, no_two_verdicts_are, no_two_verdicts_of_all_are, stops_all_once_is, stops_once_is}
 use Rattle.bcs_decode_parts.specs.Parts.{Step, Part, part_at}
-use Rattle.bcs_decode_stops.specs.declared.reason.Reason.{Reason}
-use Rattle.bcs_json_faults.specs.declared.json_fault.JsonFault.{JsonFault}
-use Rattle.bcs_json_laws.specs.Headline.{Compares, HasBytes, Normalises, ShowsBytes}
-use Rattle.bcs_json_laws.specs.JsonContent.{of}
-use Rattle.bcs_json_laws.specs.Shown.{shown}
-use Rattle.bcs_json_laws.specs.Texts.{Denotes, RefusesText, nesting_limit}
-use Rattle.bcs_json_laws.proofs.Lowest.{shown_is_lowest}
-use Rattle.bcs_json_laws.proofs.OneAnswer as text
-use Rattle.bcs_json_laws.proofs.TextLaws.{denoted_is_not_refused, denotes_once}
-use Rattle.bcs_registry_laws.proofs.OneText.{same_registry}
+use Rattle.bcs_decode_spec.specs.declared.reason.Reason.{Reason}
+use Rattle.bcs_json_spec.specs.declared.json_fault.JsonFault.{JsonFault}
+use Rattle.bcs_json_spec.specs.Headline.{Compares, HasBytes, Normalises, ShowsBytes}
+use Rattle.bcs_json_spec.specs.JsonContent.{of}
+use Rattle.bcs_json_spec.specs.Shown.{shown}
+use Rattle.bcs_json_spec.specs.Texts.{Denotes, RefusesText, nesting_limit}
+use Rattle.bcs_json_spec.proofs.Lowest.{shown_is_lowest}
+use Rattle.bcs_json_spec.proofs.OneAnswer as text
+use Rattle.bcs_json_spec.proofs.TextLaws.{denoted_is_not_refused, denotes_once}
+use Rattle.bcs_registry_spec.proofs.OneText.{same_registry}
 use Rattle.bcs_tool_path.specs.Path.{SpellsPath}
 use Rattle.bcs_tool_path.proofs.Parts.{one_path}
 use Rattle.bcs_tool_files.specs.declared.work.Work.{Work}

@@ -10,9 +10,9 @@ use Rattle.bcs_registry_formats.specs.Shape.{Shape}
 use Rattle.bcs_registry_formats.specs.declared.fault.RegistryFault.{RegistryFault}
 use Rattle.bcs_registry_formats.specs.declared.growth_fault.GrowthFault.{GrowthFault}
 use Rattle.bcs_registry_formats.proofs.FirstFaults.{fault_exactly, ok_exactly}
-use Rattle.bcs_registry_laws.specs.Faults.{IsLeastFault}
-use Rattle.bcs_registry_laws.proofs.OneFault.{one_fault, one_format_fault}
-use Rattle.bcs_registry_laws.proofs.OneText.{same_format, same_registry}
+use Rattle.bcs_registry_spec.specs.Faults.{IsLeastFault}
+use Rattle.bcs_registry_spec.proofs.OneFault.{one_fault, one_format_fault}
+use Rattle.bcs_registry_spec.proofs.OneText.{same_format, same_registry}
 use Rattle.bcs_decode_parts.specs.Parts.{Step}
 use Rattle.bcs_tool_path.specs.Path.{SpellsPath}
 use Rattle.bcs_tool_files.specs.declared.work.Work.{Work}

@@ -3,7 +3,7 @@ use Rattle.std.proofs.Common.{◌≡◌, ℕ, List, Option, Some, None, refl, st
 use Rattle.bcs_registry_formats.specs.Container.{Entries, of}
 use Rattle.bcs_registry_formats.specs.Shape.{Shape}
 use Rattle.bcs_value_tree.specs.Tree.{Tree}
-use Rattle.bcs_decode_laws.specs.Accepting.{Accepts}
+use Rattle.bcs_decode_spec.specs.Accepting.{Accepts}
 use Rattle.bcs_decode_parts.specs.Parts.{Step, Part, part_at}
 use Rattle.bcs_decode_parts.specs.Steps.{GivesPart}
 use Rattle.bcs_decode_parts.specs.declared.part.Part as handed

@@ -7,18 +7,18 @@ use Rattle.bcs_registry_formats.specs.Container as container
 use Rattle.bcs_registry_formats.specs.Container.{Entries}
 use Rattle.bcs_registry_formats.specs.Shape.{Shape}
 use Rattle.bcs_value_tree.specs.Tree.{Tree}
-use Rattle.bcs_decode_laws.proofs.Verdicts.{some_verdict_is, some_verdict_of_all_is}
-use Rattle.bcs_decode_laws.specs.Accepting.{Accepts}
-use Rattle.bcs_decode_laws.specs.Exact.{AreBytes}
+use Rattle.bcs_decode_spec.proofs.Verdicts.{some_verdict_is, some_verdict_of_all_is}
+use Rattle.bcs_decode_spec.specs.Accepting.{Accepts}
+use Rattle.bcs_decode_spec.specs.Exact.{AreBytes}
 use Rattle.bcs_decode_parts.specs.Parts.{Part, Step, part_at}
 use Rattle.bcs_json.proofs.Outcomes.{compares}
-use Rattle.bcs_json_laws.specs.Headline.{Compares}
-use Rattle.bcs_json_laws.specs.JsonContent.{of}
-use Rattle.bcs_json_laws.specs.Shown.{shown}
-use Rattle.bcs_json_laws.specs.Texts.{Denotes, RefusesText, nesting_limit}
-use Rattle.bcs_json_laws.proofs.OneAnswer.{text_denotes_or_is_refused}
-use Rattle.bcs_json_laws.proofs.SomeText.{some_bytes, some_normal_text, some_shown_text}
-use Rattle.bcs_json_faults.specs.declared.json_fault.JsonFault.{JsonFault}
+use Rattle.bcs_json_spec.specs.Headline.{Compares}
+use Rattle.bcs_json_spec.specs.JsonContent.{of}
+use Rattle.bcs_json_spec.specs.Shown.{shown}
+use Rattle.bcs_json_spec.specs.Texts.{Denotes, RefusesText, nesting_limit}
+use Rattle.bcs_json_spec.proofs.OneAnswer.{text_denotes_or_is_refused}
+use Rattle.bcs_json_spec.proofs.SomeText.{some_bytes, some_normal_text, some_shown_text}
+use Rattle.bcs_json_spec.specs.declared.json_fault.JsonFault.{JsonFault}
 use Rattle.bcs_tool.specs.AnswerLaws.{SomeAnswer}
 use Rattle.bcs_tool.specs.Answers.{Answers, IsAsked, checked, decoded, different, encoded, equal, first_refused, found, front_stopped, grown, no_bytes, normalised, nowhere, refused, refused_early, second_refused, stopped, too_nested}
 use Rattle.bcs_tool.specs.Input.{Gives}

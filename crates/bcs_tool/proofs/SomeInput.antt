@@ -4,8 +4,8 @@ use Rattle.std.proofs.lemmas.List.Elements.{All-from_get_or}
 use Rattle.hex.proofs.HexLemmas.{decode_of-ok}
 use Rattle.hex.specs.Hex.{decode_of}
 use Rattle.hex.specs.declared.error.FromHexError.{FromHexError}
-use Rattle.bcs_decode_laws.specs.Exact.{AreBytes}
-use Rattle.bcs_json_laws.specs.Bytes.{IsHexOf}
+use Rattle.bcs_decode_spec.specs.Exact.{AreBytes}
+use Rattle.bcs_json_spec.specs.Bytes.{IsHexOf}
 use Rattle.bcs_tool.specs.Input.{Gives, without_blanks}
 
 -- digits are those of some bytes, or of none

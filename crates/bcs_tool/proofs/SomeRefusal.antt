@@ -9,8 +9,8 @@ use Rattle.bcs_registry_formats.specs.declared.fault.RegistryFault.{RegistryFaul
 use Rattle.bcs_registry_formats.specs.declared.fault.RegistryFault.TheVariants.{UnknownName}
 use Rattle.bcs_registry_formats.specs.declared.growth_fault.GrowthFault.{GrowthFault}
 use Rattle.bcs_registry_formats.proofs.FirstFaults.{fault_exactly, ok_exactly}
-use Rattle.bcs_registry_laws.specs.Faults.{IsLeastFault}
-use Rattle.bcs_registry_laws.proofs.OrFault.{format_or_fault, registry_or_fault}
+use Rattle.bcs_registry_spec.specs.Faults.{IsLeastFault}
+use Rattle.bcs_registry_spec.proofs.OrFault.{format_or_fault, registry_or_fault}
 use Rattle.bcs_tool.specs.Judging.{IsFormat, IsRegistry, RefusesFormat, RefusesFormatted, is_json_word}
 use Rattle.bcs_tool.specs.declared.job_fault.JobFault.{JobFault}
 use Rattle.bcs_tool.specs.declared.job_fault.JobFault.TheVariants.{Registry}

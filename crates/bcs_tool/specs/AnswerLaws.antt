@@ -1,6 +1,6 @@
 -- What holds of the program's answers, whatever the job and the input are.
 use Rattle.std.specs.Prelude.{◌≡◌, ◌≤◌, ℕ, List, length}
-use Rattle.bcs_decode_laws.specs.Exact.{AreBytes}
+use Rattle.bcs_decode_spec.specs.Exact.{AreBytes}
 use Rattle.bcs_tool.specs.Answers.{Answers}
 use Rattle.bcs_tool_files.specs.Files.{size_limit}
 use Rattle.bcs_tool_files.specs.declared.work.Work.{Work}

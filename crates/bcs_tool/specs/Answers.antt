@@ -8,18 +8,18 @@ use Rattle.bcs_registry_formats.specs.Container.{Entries}
 use Rattle.bcs_registry_formats.specs.Grows.{Grows}
 use Rattle.bcs_registry_formats.specs.Shape.{Shape}
 use Rattle.bcs_value_tree.specs.Tree.{Tree}
-use Rattle.bcs_encode_laws.specs.Plain.{plain}
-use Rattle.bcs_decode_stops.specs.Stop.{reason_name}
-use Rattle.bcs_decode_stops.specs.declared.reason.Reason.{Reason}
-use Rattle.bcs_decode_laws.specs.Accepting.{Accepts}
-use Rattle.bcs_decode_laws.specs.Stopping.{Stops, StopsAll}
+use Rattle.bcs_encode_spec.specs.Plain.{plain}
+use Rattle.bcs_decode_spec.specs.Stop.{reason_name}
+use Rattle.bcs_decode_spec.specs.declared.reason.Reason.{Reason}
+use Rattle.bcs_decode_spec.specs.Accepting.{Accepts}
+use Rattle.bcs_decode_spec.specs.Stopping.{Stops, StopsAll}
 use Rattle.bcs_decode_parts.specs.Parts.{Step, Part, part_at}
-use Rattle.bcs_json_laws.specs.Headline.{Compares, HasBytes, Normalises, ShowsBytes}
-use Rattle.bcs_json_laws.specs.JsonContent.{of}
-use Rattle.bcs_json_laws.specs.Shown.{shown}
-use Rattle.bcs_json_laws.specs.Texts.{Denotes, RefusesText, nesting_limit}
-use Rattle.bcs_json_faults.specs.declared.json_fault.JsonFault.{JsonFault}
-use Rattle.bcs_json_faults.specs.declared.json_fault.JsonFault.TheVariants.{NotJson, TooNested, Unsupported, BadShape, BadNumber, BadHex, UnknownField, MissingField, UnknownVariant, TooDeep, TooManyNodes, TooLong, RepeatedKey, OutOfMemory}
+use Rattle.bcs_json_spec.specs.Headline.{Compares, HasBytes, Normalises, ShowsBytes}
+use Rattle.bcs_json_spec.specs.JsonContent.{of}
+use Rattle.bcs_json_spec.specs.Shown.{shown}
+use Rattle.bcs_json_spec.specs.Texts.{Denotes, RefusesText, nesting_limit}
+use Rattle.bcs_json_spec.specs.declared.json_fault.JsonFault.{JsonFault}
+use Rattle.bcs_json_spec.specs.declared.json_fault.JsonFault.TheVariants.{NotJson, TooNested, Unsupported, BadShape, BadNumber, BadHex, UnknownField, MissingField, UnknownVariant, TooDeep, TooManyNodes, TooLong, RepeatedKey, OutOfMemory}
 use Rattle.bcs_tool_path.specs.Path.{SpellsPath}
 use Rattle.bcs_tool_files.specs.Files.{size_limit}
 use Rattle.bcs_tool.specs.Input as given

@@ -1,8 +1,8 @@
 -- How the program ends: what the standard output and the standard error are told, and its status.
 use Rattle.std.specs.Prelude.{◌≡◌, ◌≢◌, ◌⊎◌, ◌<◌, ◌+◌, ℕ, List, [], Bool, true, Option, Some, None, String, codes, length, take, string_bytes}
 use Rattle.std.specs.declared.alloc.Global.{Global}
-use Rattle.bcs_encode_sinks.specs.Taking as sink
-use Rattle.bcs_decode_sources.specs.Taking as source
+use Rattle.bcs_io.specs.Taking as sink
+use Rattle.bcs_io.specs.Giving as source
 use Rattle.bcs_tool_line.specs.declared.job.Job.{Job}
 use Rattle.bcs_tool_line.specs.declared.line_fault.LineFault.{LineFault}
 use Rattle.bcs_tool_line.specs.declared.line_fault.LineFault.TheVariants.{Usage, Help, OutOfMemory}

@@ -1,8 +1,8 @@
 -- What the bytes of an input stand for, and what is left of it.
 use Rattle.std.specs.Prelude.{◌≡◌, ◌⊎◌, ◌≤◌, ◌-◌, ◌==◌, ◌||◌, ℕ, List, Bool, Option, true, false, drop, length, take}
 use Rattle.std.specs.List.{prefix_len, suffix_len}
-use Rattle.bcs_decode_sources.specs.Taking.{Took}
-use Rattle.bcs_json_laws.specs.Bytes.{IsHexOf}
+use Rattle.bcs_io.specs.Giving.{Took}
+use Rattle.bcs_json_spec.specs.Bytes.{IsHexOf}
 use Rattle.bcs_tool_files.specs.Files.{size_limit}
 
 -- a space, a tab, a line feed or a carriage return

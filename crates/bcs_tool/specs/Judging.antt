@@ -1,7 +1,7 @@
 -- What is judged of a job before its input is read: its registries, then the format, and then the path.
 use Rattle.std.specs.Prelude.{◌≡◌, ◌⊎◌, ◌==◌, ◌||◌, ℕ, List, [], ◌∷◌, None, Bool, true, false, codes, is_some, string_bytes}
 use Rattle.bcs_registry_formats.specs.Container.{Entries, container_at}
-use Rattle.bcs_registry_laws.specs.Faults.{IsLeastFault, IsLeastFormatFault}
+use Rattle.bcs_registry_spec.specs.Faults.{IsLeastFault, IsLeastFormatFault}
 use Rattle.bcs_registry_formats.specs.Grows.{IsFirstGrowthFault}
 use Rattle.bcs_registry_formats.specs.Shape.{Shape, name}
 use Rattle.bcs_registry_text.specs.Text.{WritesRegistry, WritesFormat}

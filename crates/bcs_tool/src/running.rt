@@ -1,7 +1,7 @@
 //! A job, its input and its output.
 ghost use Rattle.std.specs.Prelude.{◌≡◌, ◌⊎◌, ◌<◌, ◌+◌, ℕ, List, length, take, true, Err, IfOk, codes};
-ghost use Rattle.bcs_encode_sinks.specs.Taking as sink;
-ghost use Rattle.bcs_decode_sources.specs.Taking as source;
+ghost use Rattle.bcs_io.specs.Taking as sink;
+ghost use Rattle.bcs_io.specs.Giving as source;
 ghost use Rattle.bcs_tool.specs.Answers.{Answers, IsContent, IsFaultNote};
 ghost use Rattle.bcs_tool.specs.Input.{IsUnhurt};
 ghost use Rattle.bcs_tool_files.specs.Files.{size_limit};

@@ -1,7 +1,7 @@
 //! The files that a job names.
 ghost use Rattle.std.specs.Prelude.{◌≡◌, ◌≢◌, ◌≤◌, ◌+◌, ℕ, List, Err, false, true, length, vec_len, IfOk, IsOkUnless};
 ghost use Rattle.std.specs.Io.KnownBytes.{IsAtEnd};
-ghost use Rattle.bcs_decode_sources.specs.Taking.{Took, Lost};
+ghost use Rattle.bcs_io.specs.Giving.{Took, Lost};
 ghost use Rattle.bcs_tool_files.specs.Files.{size_limit};
 ghost use Rattle.bcs_tool_files.specs.Files.{IsWorkOf, NamesNoFile, is_registry_text};
 
@@ -9,7 +9,7 @@ use crate::file_fault::FileFault;
 use crate::limits::SIZE_LIMIT;
 use crate::taking::{TakeFault, take_all};
 use crate::work::Work;
-use bcs_decode_sources::{ByteSource, ReadSource};
+use bcs_io::{ByteSource, ReadSource};
 use bcs_tool_line::{Command, Job};
 use std::alloc::{AllocError, Global};
 use std::fs::File;

@@ -1,8 +1,8 @@
 //! Putting a whole piece into a sink.
 ghost use Rattle.std.specs.Prelude.{◌<◌, ℕ, length, take, OnOk, OnErr};
-ghost use Rattle.bcs_encode_sinks.specs.Taking.{Took, Lost};
+ghost use Rattle.bcs_io.specs.Taking.{Took, Lost};
 
-use bcs_encode_sinks::{ByteSink, SinkFailed};
+use bcs_io::{ByteSink, SinkFailed};
 
 /// Puts the whole piece. Where the sink fails, it took less than the whole: a part from the front.
 pub fn put_all<K: ByteSink>(piece: &[u8], out: &mut K) -> Result<(), SinkFailed>

@@ -1,10 +1,10 @@
 //! Taking the whole content of a source.
 ghost use Rattle.std.specs.Prelude.{◌≡◌, ◌+◌, ◌≤◌, ℕ, List, false, length, vec_len, IfOk, Err};
 ghost use Rattle.std.specs.Io.KnownBytes.{IsAtEnd};
-ghost use Rattle.bcs_decode_sources.specs.Taking.{Took, Lost};
+ghost use Rattle.bcs_io.specs.Giving.{Took, Lost};
 ghost use Rattle.bcs_tool_files.specs.Files.{take_note};
 
-use bcs_decode_sources::ByteSource;
+use bcs_io::ByteSource;
 use std::alloc::Global;
 use thiserror::Error;
 

@@ -10,7 +10,7 @@ use Rattle.clap.specs.declared.builder.value_parser.ValueParser.{ValueParser}
 use Rattle.clap.specs.declared.builder.value_parser.ValueParser.TheVariants.{Signed}
 use Rattle.clap.specs.declared.parser.matches.ArgMatches.{ArgMatches}
 use Rattle.clap.proofs.WalkLemmas.{both}
-use Rattle.bcs_value_laws.specs.Limits.{Bounds}
+use Rattle.bcs_value_spec.specs.Limits.{Bounds}
 use Rattle.bcs_tool_words.specs.CommandLine.{bcs_app}
 use Rattle.bcs_tool_words.proofs.Subcommands.{none_left}
 use Rattle.bcs_tool_words.proofs.Values.{AreRows, AreRules, IsRule, level_keeps}

@@ -4,7 +4,7 @@ use Rattle.std.specs.Str.{bytes_eq}
 use Rattle.std.specs.Str.Parse.{IsNumeral, digits_value, without_leading_plus}
 use Rattle.std.specs.Option.{option_or}
 use Rattle.clap.specs.Words.{Row, Text, first_of, one_of, subcommand_of}
-use Rattle.bcs_value_laws.specs.Limits.{Bounds}
+use Rattle.bcs_value_spec.specs.Limits.{Bounds}
 use Rattle.bcs_tool_words.specs.CommandLine.{bcs_app}
 use Rattle.bcs_tool_line.specs.declared.command.Command.{Command}
 use Rattle.bcs_tool_line.specs.declared.command.Command.TheVariants.{Check, Grows, Encode, Decode, Normalise, Same, Part}

@@ -1,7 +1,7 @@
 //! The job of a command's words, as clap found them.
 ghost use Rattle.std.specs.Prelude.{◌≡◌, ℕ, IfOk, option_map, string_bytes};
 ghost use Rattle.clap.specs.Words.{found_of, one_of, rows_of};
-ghost use Rattle.bcs_value_laws.specs.Limits.{Bounds};
+ghost use Rattle.bcs_value_spec.specs.Limits.{Bounds};
 ghost use Rattle.bcs_tool_line.specs.Jobs.{IsJob, WritesLimit, WritesLimits, text_or_empty};
 
 use crate::command::Command;

@@ -1,7 +1,7 @@
 pub use Rattle.bcs_value_tree.specs.Tree
 pub use Rattle.bcs_value_tree.specs.View
-pub use Rattle.bcs_value_laws.specs.Fits
-pub use Rattle.bcs_value_laws.specs.Same
-pub use Rattle.bcs_value_laws.specs.Limits
-pub use Rattle.bcs_value_laws.specs.Words
-pub use Rattle.bcs_value_laws.specs.Laws
+pub use Rattle.bcs_value_spec.specs.Fits
+pub use Rattle.bcs_value_spec.specs.Same
+pub use Rattle.bcs_value_spec.specs.Limits
+pub use Rattle.bcs_value_spec.specs.Words
+pub use Rattle.bcs_value_spec.specs.Laws

@@ -2,7 +2,7 @@
 ghost use Rattle.std.specs.Prelude.{◌≡◌, false, true};
 ghost use Rattle.bcs_registry_formats.specs.Container.{of};
 ghost use Rattle.bcs_registry_formats.specs.View.{shape_of};
-ghost use Rattle.bcs_value_laws.specs.Fits as spec;
+ghost use Rattle.bcs_value_spec.specs.Fits as spec;
 ghost use Rattle.bcs_value_tree.specs.View.{tree_of};
 
 use bcs_registry::{Format, Registry};

@@ -1,6 +1,6 @@
 //! Whether two values are the same, a map being a finite map.
 ghost use Rattle.std.specs.Prelude.{◌≡◌};
-ghost use Rattle.bcs_value_laws.specs.Same as spec;
+ghost use Rattle.bcs_value_spec.specs.Same as spec;
 ghost use Rattle.bcs_value_tree.specs.View.{tree_of};
 
 use bcs_value_measures::sameness;

@@ -2,11 +2,11 @@
 use Rattle.std.proofs.Common.{◌≡◌, ℕ, List, [], ◌∷◌, length, suc, ◌≤◌, Bool, true, false, true≢false, cond, ◌⊎◌, ◌&&◌, ◌||◌, refl, sym, ap, ◌∙◌, inl, inr, arith}
 use Rattle.std.proofs.lemmas.Bool.{and_parts, and_from, or_cases, or_left, or_right}
 use Rattle.bcs_value_tree.specs.Tree.{Tree, Pairs, no_pairs, pair, pair_count}
-use Rattle.bcs_value_laws.specs.Same.{same, is_within, has_pair, all_pairs}
+use Rattle.bcs_value_spec.specs.Same.{same, is_within, has_pair, all_pairs}
 use Rattle.bcs_value_measures.specs.Twins.{has_twins}
 use Rattle.bcs_value_tree.specs.View.{entries_pairs}
 use Rattle.bcs_value_tree.specs.declared.value.Value.{Value}
-use Rattle.bcs_value_laws.proofs.Equivalence.{same-refl, same-sym, same-trans, covers}
+use Rattle.bcs_value_spec.proofs.Equivalence.{same-refl, same-sym, same-trans, covers}
 
 abbrev twins : Tree → Tree → Tree → Tree → Bool
 twins k v l w = same k l && same v w

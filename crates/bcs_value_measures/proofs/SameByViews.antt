@@ -1,7 +1,7 @@
 -- What `same` needs of the views: lists of unlike length, and pairs one after another.
 use Rattle.std.proofs.Common.{◌≡◌, ℕ, ◌+◌, ◌<◌, List, [], ◌∷◌, length, drop, get_or, Vec, Global, true, false, ◌&&◌, refl, ap, ◌∙◌, subst, arith}
 use Rattle.std.proofs.lemmas.List.{drop_more}
-use Rattle.bcs_value_laws.specs.Same.{same, all_same, any_pair, all_pairs, is_within, has_pair}
+use Rattle.bcs_value_spec.specs.Same.{same, all_same, any_pair, all_pairs, is_within, has_pair}
 use Rattle.bcs_value_tree.specs.View.{tree_of, items_trees, entries_pairs}
 use Rattle.bcs_value_tree.specs.declared.value.Value.{Value, Pairs}
 use Rattle.bcs_value_tree.proofs.Views.{and_false, tree_of_pairs}

@@ -3,7 +3,7 @@ ghost use Rattle.std.specs.Prelude.{◌≡◌, false, true, map};
 ghost use Rattle.bcs_registry_formats.specs.Container.{of, content, field_shapes, payload_shape};
 ghost use Rattle.bcs_registry_formats.specs.Shape.{array};
 ghost use Rattle.bcs_registry_formats.specs.View.{container_of, field_of, formats_shapes, payload_of, shape_of};
-ghost use Rattle.bcs_value_laws.specs.Fits as spec;
+ghost use Rattle.bcs_value_spec.specs.Fits as spec;
 ghost use Rattle.bcs_value_tree.specs.Tree.{items as items_tree};
 ghost use Rattle.bcs_value_tree.specs.View.{entries_pairs, items_trees, tree_of};
 
@@ -111,7 +111,7 @@ fn all_fit(items: &[Value], format: &Format, registry: &Registry, loose: bool) -
 }
 
 #[cycle(fits)]
-#[tactic(auto, using(bcs_value_laws::proofs::FitsByViews::count_items))]
+#[tactic(auto, using(bcs_value_spec::proofs::FitsByViews::count_items))]
 fn array_fits(items: &[Value], format: &Format, size: u64, registry: &Registry, loose: bool) -> bool
     ensures { result ≡ spec.fits loose registry.now (items_tree (items_trees items.now)) (of (array (shape_of format.now) size)) }
 {

@@ -1,6 +1,6 @@
 //! Whether two values are the same, a map being a finite map.
 ghost use Rattle.std.specs.Prelude.{◌≡◌, ◌&&◌, drop};
-ghost use Rattle.bcs_value_laws.specs.Same as spec;
+ghost use Rattle.bcs_value_spec.specs.Same as spec;
 ghost use Rattle.bcs_value_measures.specs.Twins.{has_twins as spec_twins};
 ghost use Rattle.bcs_value_tree.specs.View.{entries_pairs, items_trees, tree_of};
 

@@ -9,12 +9,12 @@ use Rattle.bcs_registry_formats.specs.View.{shape_of, formats_shapes, field_of, 
 use Rattle.bcs_registry_formats.specs.WellFormed.{levels, shapes_levels}
 use Rattle.bcs_value_tree.specs.View.{tree_of}
 use Rattle.bcs_value_tree.specs.declared.value.Value.{Value}
-use Rattle.bcs_json_laws.specs.Bytes.{is_byte}
-use Rattle.bcs_json_laws.specs.JsonContent.{of}
-use Rattle.bcs_json_laws.specs.Look.{without}
-use Rattle.bcs_json_laws.specs.Reading.{follow, read_data, read_all, read_each, read_pairs, read_fields, read_named}
-use Rattle.bcs_json_leaves.specs.Kinds.{list_json}
-use Rattle.bcs_json_leaves.proofs.Joined.{joined}
+use Rattle.bcs_json_spec.specs.Bytes.{is_byte}
+use Rattle.bcs_json_spec.specs.JsonContent.{of}
+use Rattle.bcs_json_spec.specs.Look.{without}
+use Rattle.bcs_json_spec.specs.Reading.{follow, read_data, read_all, read_each, read_pairs, read_fields, read_named}
+use Rattle.bcs_json_reader_steps.specs.Kinds.{list_json}
+use Rattle.bcs_json_reader_steps.proofs.Joined.{joined}
 use Rattle.bcs_json_reader.proofs.Counts.{items_read, items_fault, tuple_refused, tuple_row, array_other, array_row, map_other}
 use Rattle.bcs_json_reader.proofs.FieldRows.{field_more, field_fault, field_missing, fields_done, member_left}
 use Rattle.bcs_json_reader.proofs.Formats.{tells_as, option_read, seq_read, array_read, map_read, levels_here, field_levels_here}

@@ -2,8 +2,8 @@ use Rattle.std.proofs.Common.{ℕ, List, Some, Ok, Err, subst, arith}
 use Rattle.std.proofs.lemmas.List.{get_or_default}
 use Rattle.bcs_registry_formats.specs.View.{shape_of}
 use Rattle.bcs_value_tree.specs.declared.value.Value.{Value}
-use Rattle.bcs_decode_laws.specs.Exact.{AreBytes}
-use Rattle.bcs_decode_stops.specs.declared.decode_fault.DecodeFault.{DecodeFault}
+use Rattle.bcs_decode_spec.specs.Exact.{AreBytes}
+use Rattle.bcs_decode_spec.specs.declared.decode_fault.DecodeFault.{DecodeFault}
 use Rattle.bcs_decode.specs.Whole.{DecodesFrom, DecodesFront}
 use Rattle.bcs_decode.proofs.Wholes.{front_value}
 use Rattle.bcs_decode.proofs.Slices.{encoded_value, encoded_never_stops}

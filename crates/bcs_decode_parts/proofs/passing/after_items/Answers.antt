@@ -1,6 +1,6 @@
 use Rattle.bcs_registry_formats.specs.View.{shape_of}
-use Rattle.bcs_decode_cursor.specs.Passing.{skip}
-use Rattle.bcs_decode_laws.specs.Reading.{items_here, skipping}
+use Rattle.bcs_decode_slice_steps.specs.Passing.{skip}
+use Rattle.bcs_decode_spec.specs.Reading.{items_here, skipping}
 use Rattle.bcs_decode_parts.proofs.Skips.{row_skipped, passed, stuck}
 use Rattle.bcs_decode_parts.proofs.passing.after_items.Goals as goal
 

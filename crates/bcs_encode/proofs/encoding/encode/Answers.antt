@@ -1,8 +1,8 @@
 use Rattle.std.proofs.Common.{◌≡◌, sym, subst, rules}
 use Rattle.bcs_registry_formats.specs.View.{shape_of}
 use Rattle.bcs_value_tree.specs.View.{tree_of}
-use Rattle.bcs_encode_laws.specs.Refused.{Refuses}
-use Rattle.bcs_encode_laws.specs.declared.fault.EncodeFault.TheVariants.{OutOfMemory}
+use Rattle.bcs_encode_spec.specs.Refused.{Refuses}
+use Rattle.bcs_encode_spec.specs.declared.fault.EncodeFault.TheVariants.{OutOfMemory}
 use Rattle.bcs_encode.proofs.Outcomes.{written_encodes, unwritten_repeats}
 use Rattle.bcs_encode.proofs.encoding.encode.Goals as goal
 

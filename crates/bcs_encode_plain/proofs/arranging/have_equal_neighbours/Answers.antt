@@ -1,7 +1,7 @@
 use Rattle.std.proofs.Common.{◌-◌, ◌∙◌, arith, map, drop, sym, length-drop}
 use Rattle.std.proofs.lemmas.List.{length-map}
 use Rattle.bcs_encode_plain.specs.EntryView.{entry_of}
-use Rattle.bcs_encode_parts.proofs.EntryArranging.{few_no_twins}
+use Rattle.bcs_encode_steps.proofs.EntryArranging.{few_no_twins}
 use Rattle.bcs_encode_plain.proofs.arranging.have_equal_neighbours.Goals as goal
 
 pub returns : goal.returns

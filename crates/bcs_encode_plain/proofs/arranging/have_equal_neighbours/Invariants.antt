@@ -1,6 +1,6 @@
 use Rattle.std.proofs.Common.{◌≡◌, ◌-◌, map, drop}
 use Rattle.bcs_encode_plain.specs.EntryView.{entry_of}
-use Rattle.bcs_encode_parts.specs.Writing.{has_twins}
+use Rattle.bcs_encode_steps.specs.Writing.{has_twins}
 use Rattle.bcs_encode_plain.proofs.arranging.have_equal_neighbours.Given as goal
 
 abbrev pub invariant-loop-i : goal.invariant-loop-i

@@ -1,6 +1,6 @@
 use Rattle.std.proofs.Common.{◌≡◌, ◌++◌, map, drop}
 use Rattle.std.specs.List.{flat_map}
-use Rattle.bcs_encode_laws.specs.Entries.{entry_bytes}
+use Rattle.bcs_encode_spec.specs.Entries.{entry_bytes}
 use Rattle.bcs_encode_plain.specs.EntryView.{entry_of}
 use Rattle.bcs_encode_plain.proofs.arranging.push_entries.Given as goal
 

@@ -1,7 +1,7 @@
 use Rattle.std.proofs.Common.{rules}
 use Rattle.bcs_encode_plain.specs.EntryView.{entry_of}
-use Rattle.bcs_encode_parts.proofs.EntryArranging.{repeated_written, distinct_written}
-use Rattle.bcs_encode_parts.proofs.WritingViews.{tells_along}
+use Rattle.bcs_encode_steps.proofs.EntryArranging.{repeated_written, distinct_written}
+use Rattle.bcs_encode_steps.proofs.WritingViews.{tells_along}
 use Rattle.bcs_encode_plain.proofs.arranging.push_in_order.Goals as goal
 
 pub returns-then-have_equal_neighbours : goal.returns-then-have_equal_neighbours

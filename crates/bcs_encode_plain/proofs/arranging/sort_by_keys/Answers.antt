@@ -1,6 +1,6 @@
 use Rattle.std.proofs.Common.{rules}
 use Rattle.std.proofs.lemmas.Result.{on_ok_weaker}
-use Rattle.bcs_encode_laws.proofs.Sorting.{sorted_by_bytes}
+use Rattle.bcs_encode_spec.proofs.Sorting.{sorted_by_bytes}
 use Rattle.bcs_encode_plain.proofs.arranging.sort_by_keys.Goals as goal
 
 pub returns-clause-sorted : goal.returns-clause-sorted

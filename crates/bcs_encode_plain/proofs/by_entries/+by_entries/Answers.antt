@@ -1,6 +1,6 @@
 use Rattle.std.proofs.Common.{◌∙◌, arith, rules}
 use Rattle.std.proofs.lemmas.Grind.{common_steps}
-use Rattle.bcs_encode_parts.proofs.WritingViews.{tells_along, array_refused, array_written, list_written, tuple_written, fields_written, map_written, variant_written, no_variant_written}
+use Rattle.bcs_encode_steps.proofs.WritingViews.{tells_along, array_refused, array_written, list_written, tuple_written, fields_written, map_written, variant_written, no_variant_written}
 use Rattle.bcs_encode_plain.proofs.by_entries.+by_entries.Goals as goal
 
 pub push_value-returns-in_err-push_length-in-Items-Seq : goal.push_value-returns-in_err-push_length-in-Items-Seq

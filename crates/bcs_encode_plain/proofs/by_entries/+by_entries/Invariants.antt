@@ -3,7 +3,7 @@ use Rattle.bcs_registry_formats.specs.Container.{field_shapes}
 use Rattle.bcs_registry_formats.specs.View.{field_of, formats_shapes, shape_of}
 use Rattle.bcs_value_tree.specs.View.{entries_pairs, items_trees}
 use Rattle.bcs_encode_plain.specs.EntryView.{entry_of}
-use Rattle.bcs_encode_parts.specs.Writing.{items_written, each_written, entries_written}
+use Rattle.bcs_encode_steps.specs.Writing.{items_written, each_written, entries_written}
 use Rattle.bcs_encode_plain.proofs.by_entries.+by_entries.Given as goal
 
 abbrev pub invariant-push_all-loop-item : goal.invariant-push_all-loop-item

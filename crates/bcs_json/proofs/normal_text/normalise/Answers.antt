@@ -1,7 +1,7 @@
 use Rattle.std.proofs.Common.{List, ℕ, string_bytes, subst}
 use Rattle.bcs_registry_formats.specs.View.{shape_of}
 use Rattle.bcs_value_tree.specs.View.{tree_of}
-use Rattle.bcs_decode_laws.specs.Accepting.{IsDecoded}
+use Rattle.bcs_decode_spec.specs.Accepting.{IsDecoded}
 use Rattle.bcs_json.proofs.Outcomes.{decoded_nests, normalises}
 use Rattle.bcs_json.proofs.normal_text.normalise.Goals as goal
 

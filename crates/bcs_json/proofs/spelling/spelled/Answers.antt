@@ -2,8 +2,8 @@ use Rattle.std.proofs.Common.{subst, rules}
 use Rattle.serde_json.specs.View.{view}
 use Rattle.bcs_registry_formats.specs.View.{shape_of}
 use Rattle.bcs_value_tree.specs.View.{tree_of}
-use Rattle.bcs_json_laws.specs.JsonContent.{of}
-use Rattle.bcs_json_laws.specs.Reading.{Tells, read_data}
+use Rattle.bcs_json_spec.specs.JsonContent.{of}
+use Rattle.bcs_json_spec.specs.Reading.{Tells, read_data}
 use Rattle.bcs_json.proofs.Outcomes.{told_value, told_fault}
 use Rattle.bcs_json.proofs.spelling.spelled.Goals as goal
 

@@ -6,8 +6,8 @@ use Rattle.bcs_registry_formats.specs.View.{container_of, choice_of}
 use Rattle.bcs_registry_formats.specs.WellFormed.{are_distinct, container_names}
 use Rattle.bcs_value_tree.specs.View.{tree_of}
 use Rattle.bcs_value_tree.specs.declared.value.Value.{the_lemmas}
-use Rattle.bcs_json_laws.specs.JsonContent.{json_content, of}
-use Rattle.bcs_json_laws.specs.Shown.{shown, shown_choice}
+use Rattle.bcs_json_spec.specs.JsonContent.{json_content, of}
+use Rattle.bcs_json_spec.specs.Shown.{shown, shown_choice}
 use Rattle.bcs_json_printer.proofs.ShownViews.{at_map, at_enum, at_struct, choice_named, choice-found, choice-missing}
 use Rattle.bcs_json_printer.proofs.DistinctFields.{container_distinct, payload_distinct}
 use Rattle.bcs_json_printer.proofs.ShownDepths.{le_zero, field_more, distinct_more}

@@ -10,12 +10,12 @@ use Rattle.bcs_registry_formats.specs.Container.{content, payload_shape, of as a
 use Rattle.bcs_registry_formats.specs.View.{container_of, field_of, formats_shapes, payload_of, shape_of}
 use Rattle.bcs_registry_formats.specs.declared.format.Format.{Format}
 use Rattle.bcs_registry_formats.specs.declared.named.Named.{Named}
-use Rattle.bcs_value_laws.specs.Fits.{all_fit, fits}
+use Rattle.bcs_value_spec.specs.Fits.{all_fit, fits}
 use Rattle.bcs_value_tree.specs.Tree.{nodes}
 use Rattle.bcs_value_tree.specs.View.{entries_pairs, items_trees, tree_of}
 use Rattle.bcs_value_tree.specs.declared.value.Value.{Value}
-use Rattle.bcs_json_laws.specs.JsonContent.{json_content, of}
-use Rattle.bcs_json_laws.specs.Shown.{shown, shown_all, shown_choice, shown_each, shown_fields, shown_pairs}
+use Rattle.bcs_json_spec.specs.JsonContent.{json_content, of}
+use Rattle.bcs_json_spec.specs.Shown.{shown, shown_all, shown_choice, shown_each, shown_fields, shown_pairs}
 use Rattle.bcs_json_printer.specs.Places.{placed}
 use Rattle.bcs_json_printer.proofs.ShownViews.{at_enum, at_map, at_option, choice_named, choice-found, choice-missing, payload_fits}
 use Rattle.bcs_json_printer.proofs.PrintedRows.{all_here, bytes_listed, each_here, each_long, fields_long, pairs_here, shape_of_byte}

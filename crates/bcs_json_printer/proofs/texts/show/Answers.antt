@@ -7,9 +7,9 @@ use Rattle.serde_json.specs.Written.{compact_text}
 use Rattle.serde_json.proofs.FreeTexts.{text_of_value}
 use Rattle.bcs_registry_formats.specs.View.{shape_of}
 use Rattle.bcs_value_tree.specs.View.{tree_of}
-use Rattle.bcs_json_laws.specs.JsonContent.{of}
-use Rattle.bcs_json_laws.specs.Shown.{shown}
-use Rattle.bcs_json_laws.specs.Texts.{IsReadAs}
+use Rattle.bcs_json_spec.specs.JsonContent.{of}
+use Rattle.bcs_json_spec.specs.Shown.{shown}
+use Rattle.bcs_json_spec.specs.Texts.{IsReadAs}
 use Rattle.bcs_json_printer.proofs.SentTexts.{tokens_of_value}
 use Rattle.bcs_json_printer.proofs.ShownBack.{shown_back, tokens_back}
 use Rattle.bcs_json_printer.proofs.Whole.{shown_whole}

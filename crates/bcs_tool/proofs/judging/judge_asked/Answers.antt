@@ -1,6 +1,6 @@
 use Rattle.std.proofs.Common.{Err, ap, inl, inr, subst, sym}
 use Rattle.bcs_registry_formats.specs.View.{shape_of}
-use Rattle.bcs_registry_laws.specs.Faults.{IsLeastFault}
+use Rattle.bcs_registry_spec.specs.Faults.{IsLeastFault}
 use Rattle.bcs_tool_line.specs.declared.command.Command.{Command}
 use Rattle.bcs_tool.specs.Judging.{IsFormat, IsRegistry, RefusesAt, RefusesEarly, RefusesFormat}
 use Rattle.bcs_tool.specs.declared.job_fault.JobFault.TheVariants.{BadPath, Registry}

@@ -1,5 +1,5 @@
 use Rattle.std.proofs.Common.{List, subst, ℕ}
-use Rattle.bcs_encode_sinks.specs.Taking.{Took}
+use Rattle.bcs_io.specs.Taking.{Took}
 use Rattle.bcs_tool.proofs.AnswerLemmas.{status_below}
 use Rattle.bcs_tool.proofs.running.put_answer.Goals as goal
 

@@ -2,8 +2,8 @@ use Rattle.std.proofs.lemmas.Grind.{common_steps}
 use Rattle.std.proofs.Common.{◌≡◌, ◌∙◌, ◌+◌, ◌-◌, ◌++◌, arith, take, drop, length, length-drop, ℕ, List, ap, sym, subst, rules}
 use Rattle.std.proofs.Math.Seq.{take-add}
 use Rattle.std.proofs.lemmas.List.{take_all}
-use Rattle.bcs_encode_sinks.specs.Taking.{Took}
-use Rattle.bcs_encode_sinks.proofs.TakingLemmas.{Took-then}
+use Rattle.bcs_io.specs.Taking.{Took}
+use Rattle.bcs_io.proofs.TakingLemmas.{Took-then}
 use Rattle.bcs_tool_files.proofs.putting.put_all.Goals as goal
 
 -- what was taken before, and the front of the rest of the piece that was taken now

@@ -1,5 +1,5 @@
 use Rattle.std.proofs.Common.{length, ◌-◌, ◌≤◌, take}
-use Rattle.bcs_encode_sinks.specs.Taking.{Took}
+use Rattle.bcs_io.specs.Taking.{Took}
 use Rattle.bcs_tool_files.proofs.putting.put_all.Given as goal
 
 abbrev pub invariant-loop-at : goal.invariant-loop-at

@@ -1,6 +1,6 @@
 use Rattle.std.proofs.Common.{◌+◌, ◌++◌, ◌∙◌, arith, take}
 use Rattle.std.proofs.lemmas.List.{length-append, length-take}
-use Rattle.bcs_decode_sources.proofs.TakingLemmas.{Took-then}
+use Rattle.bcs_io.proofs.GivingLemmas.{Took-then}
 use Rattle.bcs_tool_files.proofs.taking.take_all.Goals as goal
 
 -- what was given before, and one byte more than may still come

@@ -1,5 +1,5 @@
 use Rattle.std.proofs.Common.{length, ◌≤◌}
-use Rattle.bcs_decode_sources.specs.Taking.{Took}
+use Rattle.bcs_io.specs.Giving.{Took}
 use Rattle.bcs_tool_files.proofs.taking.take_all.Given as goal
 
 abbrev pub invariant-loop-count : goal.invariant-loop-count

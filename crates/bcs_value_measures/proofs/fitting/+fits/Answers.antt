@@ -1,5 +1,5 @@
 use Rattle.std.proofs.Common.{sym, arith}
-use Rattle.bcs_value_laws.proofs.FitsByViews.{each_fits-unlike, fields_fit-unlike, fits-found, fits-missing, fits-map, fits-text, fits-bytes}
+use Rattle.bcs_value_spec.proofs.FitsByViews.{each_fits-unlike, fields_fit-unlike, fits-found, fits-missing, fits-map, fits-text, fits-bytes}
 use Rattle.bcs_value_measures.proofs.fitting.+fits.Goals as goal
 
 pub each_fits-returns-then-items-formats : goal.each_fits-returns-then-items-formats

@@ -1,7 +1,7 @@
 use Rattle.std.proofs.Common.{◌≡◌, map, drop}
 use Rattle.bcs_registry_formats.specs.Container.{field_shapes}
 use Rattle.bcs_registry_formats.specs.View.{field_of, formats_shapes, shape_of}
-use Rattle.bcs_value_laws.specs.Fits as spec
+use Rattle.bcs_value_spec.specs.Fits as spec
 use Rattle.bcs_value_tree.specs.View.{entries_pairs, items_trees}
 use Rattle.bcs_value_measures.proofs.fitting.+fits.Given as goal
 

@@ -1,5 +1,5 @@
 use Rattle.std.proofs.Common.{sym}
-use Rattle.bcs_value_laws.proofs.FitsByViews.{bytes_are}
+use Rattle.bcs_value_spec.proofs.FitsByViews.{bytes_are}
 use Rattle.bcs_value_measures.proofs.fitting.are_bytes.Goals as goal
 
 pub returns : goal.returns

@@ -1,7 +1,7 @@
 use Rattle.std.proofs.Common.{◌≡◌, true, sym, ◌∙◌}
 use Rattle.std.proofs.lemmas.Bool.{and_from}
 use Rattle.std.proofs.lemmas.List.{at_drop_all}
-use Rattle.bcs_value_laws.specs.Same.{is_within}
+use Rattle.bcs_value_spec.specs.Same.{is_within}
 use Rattle.bcs_value_tree.specs.View.{entries_pairs}
 use Rattle.bcs_value_measures.proofs.Classes.{within_full}
 use Rattle.bcs_value_measures.proofs.SameByViews.{all_same-unlike, is_within-step, same-Pairs}

@@ -1,5 +1,5 @@
 use Rattle.std.proofs.Common.{◌≡◌, drop, ◌&&◌}
-use Rattle.bcs_value_laws.specs.Same.{same, all_same, any_pair, all_pairs, is_within, has_pair}
+use Rattle.bcs_value_spec.specs.Same.{same, all_same, any_pair, all_pairs, is_within, has_pair}
 use Rattle.bcs_value_measures.specs.Twins.{has_twins}
 use Rattle.bcs_value_tree.specs.View.{tree_of, items_trees, entries_pairs}
 use Rattle.bcs_value_measures.proofs.sameness.+same.Given as goal

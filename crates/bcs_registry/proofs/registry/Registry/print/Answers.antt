@@ -10,7 +10,7 @@ use Rattle.bcs_registry_text.specs.Text.{IsRegistryText, WritesRegistry}
 use Rattle.bcs_registry_formats.specs.View.{entries_of}
 use Rattle.bcs_registry.proofs.ShownDepth.{depth-shown}
 use Rattle.bcs_registry.proofs.ShownFloats.{no_float-shown}
-use Rattle.bcs_registry_laws.proofs.OneText.{same_registry}
+use Rattle.bcs_registry_spec.proofs.OneText.{same_registry}
 use Rattle.bcs_registry.proofs.registry.Registry.print.Goals as goal
 
 pub returns-clause-text : goal.returns-clause-text

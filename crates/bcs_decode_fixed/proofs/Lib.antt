@@ -1,5 +1,0 @@
-pub mod PassingParts
-pub mod PassingNames
-pub mod WholeRows
-pub mod Reaching
-pub mod FixedParts

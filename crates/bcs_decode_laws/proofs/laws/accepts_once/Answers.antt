@@ -1,5 +1,0 @@
-use Rattle.bcs_decode_laws.proofs.Verdicts.{accepts_once_is}
-use Rattle.bcs_decode_laws.proofs.laws.accepts_once.Goals as goal
-
-pub returns : goal.returns
-returns c = accepts_once_is

@@ -1,5 +1,0 @@
-use Rattle.bcs_decode_laws.proofs.Encoded.{encoded_is_accepted_is}
-use Rattle.bcs_decode_laws.proofs.laws.encoded_is_accepted.Goals as goal
-
-pub returns : goal.returns
-returns c = encoded_is_accepted_is

@@ -1,5 +1,0 @@
-use Rattle.bcs_decode_laws.proofs.Encoded.{exact_decoding_is}
-use Rattle.bcs_decode_laws.proofs.laws.exact_decoding.Goals as goal
-
-pub returns : goal.returns
-returns c = exact_decoding_is

@@ -1,5 +1,0 @@
-use Rattle.bcs_decode_laws.proofs.Growing.{keeps_accepting}
-use Rattle.bcs_decode_laws.proofs.laws.growth_keeps_accepting.Goals as goal
-
-pub returns : goal.returns
-returns c = keeps_accepting

@@ -1,5 +1,0 @@
-use Rattle.bcs_decode_laws.proofs.Verdicts.{no_two_verdicts_are}
-use Rattle.bcs_decode_laws.proofs.laws.no_two_verdicts.Goals as goal
-
-pub returns : goal.returns
-returns c = no_two_verdicts_are

@@ -1,5 +1,0 @@
-use Rattle.bcs_decode_laws.proofs.Verdicts.{some_verdict_of_all_is}
-use Rattle.bcs_decode_laws.proofs.laws.some_verdict_of_all.Goals as goal
-
-pub returns : goal.returns
-returns c = some_verdict_of_all_is

@@ -1,5 +1,0 @@
-use Rattle.bcs_decode_laws.proofs.Verdicts.{stops_all_once_is}
-use Rattle.bcs_decode_laws.proofs.laws.stops_all_once.Goals as goal
-
-pub returns : goal.returns
-returns c = stops_all_once_is

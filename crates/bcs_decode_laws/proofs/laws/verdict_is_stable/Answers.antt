@@ -1,5 +1,0 @@
-use Rattle.bcs_decode_laws.proofs.Steady.{verdict_is_stable_is}
-use Rattle.bcs_decode_laws.proofs.laws.verdict_is_stable.Goals as goal
-
-pub returns : goal.returns
-returns c = verdict_is_stable_is

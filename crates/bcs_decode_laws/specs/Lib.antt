@@ -1,5 +1,0 @@
-pub mod Accepting
-pub mod Stopping
-pub mod Reading
-pub mod Exact
-pub mod Laws

@@ -1,0 +1,7 @@
+pub mod Passings
+pub mod Steps
+pub mod PassingParts
+pub mod PassingNames
+pub mod WholeRows
+pub mod Reaching
+pub mod FixedParts

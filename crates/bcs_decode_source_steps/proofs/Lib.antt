@@ -1,0 +1,10 @@
+pub mod Blocks
+pub mod Chains
+pub mod Going
+pub mod NumberRows
+pub mod Streamed
+pub mod StreamedKeys
+pub mod StreamedRows
+pub mod ValueViews
+pub mod Parts
+pub mod KeptKeys

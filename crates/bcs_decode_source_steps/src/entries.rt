@@ -1,0 +1,43 @@
+//! The entries of a map that is being read.
+ghost use Rattle.std.specs.Prelude.{◌≡◌, ◌-◌, [], min, vec_capacity, IfOk};
+ghost use Rattle.bcs_value_tree.specs.Tree.{pairs};
+ghost use Rattle.bcs_value_tree.specs.View.{tree_of, entries_pairs};
+
+use crate::at::At;
+use crate::room::make_room;
+use bcs_value_tree::Value;
+use bcs_value_tree::slot::put_pairs;
+use std::alloc::{AllocError, Global};
+
+/// Entries that were read, and the key whose value is to come. They stand on the heap, so that a level of maps takes little
+/// of the stack.
+#[derive(Drop)]
+pub struct Entries {
+    pub found: Vec<(Value, Value)>,
+    pub key: Value,
+    /// How many entries the map has.
+    pub count: u64,
+}
+
+impl Entries {
+    /// No entries, with room for so many, but for no more than bytes are known to come.
+    #[inline(never)]
+    pub fn with_room(alloc: Global, at: &At, count: u64) -> Result<Box<Entries>, AllocError>
+        ensures count { IfOk result (λ e. e.value.count ≡ count) }
+        ensures empty { IfOk result (λ e. e.value.found.items ≡ []) }
+        ensures room { IfOk result (λ e. vec_capacity e.value.found ≡ min count (at.now.known - at.now.place)) }
+    {
+        let mut found = Vec::new(alloc);
+        make_room(alloc, &mut found, at, count)?;
+        let key = Value::Unit;
+        Ok(Box::new(alloc, Entries { found, key, count })?)
+    }
+}
+
+/// Puts the entries into the slot.
+#[inline(never)]
+pub fn put_entries(slot: &mut Value, entries: Box<Entries>)
+    ensures { tree_of slot.new ≡ pairs (entries_pairs entries.value.found.items) }
+{
+    put_pairs(slot, Box::into_inner(entries).found);
+}

@@ -1,3 +1,0 @@
-pub mod TakingLemmas
-pub mod Repeating
-pub mod Filled

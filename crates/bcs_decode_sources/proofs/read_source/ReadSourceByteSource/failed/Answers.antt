@@ -1,5 +1,0 @@
-use Rattle.std.proofs.Common.{rules}
-use Rattle.bcs_decode_sources.proofs.read_source.ReadSourceByteSource.failed.Goals as goal
-
-pub returns : goal.returns
-returns g c = search rules

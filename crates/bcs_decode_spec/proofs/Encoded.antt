@@ -1,0 +1,58 @@
+-- What is accepted is what is encoded.
+use Rattle.std.proofs.Common.{◌≡◌, ℕ, List, length, sym, subst, ◌∙◌, arith}
+use Rattle.std.proofs.lemmas.List.{take_all}
+use Rattle.bcs_registry_formats.specs.Container.{Entries, of}
+use Rattle.bcs_registry_formats.specs.Shape.{Shape}
+use Rattle.bcs_value_tree.specs.Tree.{Tree}
+use Rattle.bcs_value_spec.specs.Limits.{Bounds}
+use Rattle.bcs_value_spec.specs.Same.{Same}
+use Rattle.bcs_value_spec.proofs.Equivalence.{same-refl}
+use Rattle.bcs_encode_spec.proofs.FormLaws.{has_one_form}
+use Rattle.bcs_encode_spec.specs.Sound.{IsSoundAt}
+use Rattle.bcs_decode_spec.specs.Accepting.{Accepts, IsDecoded}
+use Rattle.bcs_decode_spec.specs.Stopping.{StopsAll}
+use Rattle.bcs_decode_spec.specs.declared.reason.Reason.{Reason}
+use Rattle.bcs_encode_spec.specs.Encodes.{Encodes}
+use Rattle.bcs_decode_spec.specs.Laws.{AcceptedIsEncoded, EncodedIsAccepted, ExactDecoding}
+use Rattle.bcs_decode_spec.proofs.Verdicts.{accepts_once_is, no_two_verdicts_of_all_are}
+
+pub accepted_is_encoded_is : AcceptedIsEncoded
+accepted_is_encoded_is = λ registry limits s b c h. record {
+  sound = h.sound;
+  form = c;
+  is_form = record { fit = h.sound.fit; canonical = h.canonical; is_same = same-refl c };
+  bytes = sym h.is ∙ take_all (length b) b (omega arith);
+}
+
+pub encoded_is_accepted_is : EncodedIsAccepted
+encoded_is_accepted_is = λ registry limits s v b h. (
+  h.form,
+  h.is_form.is_same,
+  (let one = has_one_form registry (of s) v h.sound.fit h.sound.distinct in record {
+    sound = subst (λ (t : Tree). IsSoundAt registry limits (of s) t) (sym (one.1.only h.form h.is_form)) (one.1.sound limits h.sound);
+    canonical = h.is_form.canonical;
+    within = omega arith;
+    is = take_all (length b) b (omega arith) ∙ sym h.bytes;
+  }),
+)
+
+pub is_decoded : (registry : Entries) (limits : Bounds) (s : Shape) (b : List ℕ) (c : Tree) → Accepts registry limits s b (length b) c → IsDecoded registry limits s b c
+is_decoded registry limits s b c a = record {
+  accepted = a;
+  encoded = accepted_is_encoded_is registry limits s b c a;
+  only = λ v h.
+      (let form = encoded_is_accepted_is registry limits s v b h in
+      subst (Same v) (accepts_once_is registry limits s b (length b) (length b) form.0 c form.2 a).1 form.1);
+}
+
+pub exact_decoding_is : ExactDecoding
+exact_decoding_is = λ registry limits s b. (
+  (λ h. (let form = encoded_is_accepted_is registry limits s h.0 b h.1 in (form.0, form.2)), λ h. (h.0, accepted_is_encoded_is registry limits s b h.0 h.1)),
+  is_decoded registry limits s b,
+)
+
+-- what stops is no value's encoding
+pub no_encoding_stops : (registry : Entries) (limits : Bounds) (s : Shape) (b : List ℕ) (e : Reason) (o : ℕ) → StopsAll registry limits s b e o → (v : Tree) → Encodes registry limits s v b → ⊥
+no_encoding_stops registry limits s b e o k v h =
+    let form = encoded_is_accepted_is registry limits s v b h in
+    no_two_verdicts_of_all_are registry limits s b form.0 e o form.2 k

@@ -1,0 +1,26 @@
+-- What was gone past is the one verdict.
+use Rattle.std.proofs.Common.{◌≡◌, ℕ, ◌-◌, List, drop, Ok, Err, sym, ◌∙◌}
+use Rattle.bcs_registry_formats.specs.Shape.{Shape}
+use Rattle.bcs_registry_formats.specs.Container.{Entries}
+use Rattle.bcs_value_tree.specs.Tree.{Tree, nodes}
+use Rattle.bcs_value_spec.specs.Limits.{Bounds}
+use Rattle.bcs_decode_spec.specs.declared.reason.Reason.{Reason}
+use Rattle.bcs_decode_spec.specs.Accepting.{Accepts}
+use Rattle.bcs_decode_spec.specs.Reading.{skip_value}
+use Rattle.bcs_decode_spec.specs.Stopping.{Stops}
+use Rattle.bcs_decode_spec.proofs.Combine.{parts, fault_parts}
+use Rattle.bcs_decode_spec.proofs.Verdicts.{accepts_skips, stops_skips}
+
+module _ (registry : Entries) (limits : Bounds) (s : Shape) (b : List ℕ) where
+  pub found_only : (q l : ℕ) (r : List ℕ) → skip_value registry limits s b ≡ Ok (tt, q, l, r) → (n : ℕ) (c : Tree) → Accepts registry limits s b n c → q ≡ n
+  found_only q l r h n c good =
+      (parts {A = Unit {0}} tt tt q n l (limits.nodes - nodes c) r (drop n b) (sym h ∙ accepts_skips registry limits s b n c good)).1
+
+  pub found_never : (q l : ℕ) (r : List ℕ) → skip_value registry limits s b ≡ Ok (tt, q, l, r) → (e : Reason) (o : ℕ) → Stops registry limits s b e o → ⊥
+  found_never q l r h e o bad = let same = sym h ∙ stops_skips registry limits s b e o bad in cc
+
+  pub stopped_never : (e : Reason) (o : ℕ) → skip_value registry limits s b ≡ Err (e, o) → (n : ℕ) (c : Tree) → Accepts registry limits s b n c → ⊥
+  stopped_never e o h n c good = let same = sym h ∙ accepts_skips registry limits s b n c good in cc
+
+  pub stopped_only : (d : Reason) (p : ℕ) → skip_value registry limits s b ≡ Err (d, p) → (e : Reason) (o : ℕ) → Stops registry limits s b e o → (d ≡ e) × (p ≡ o)
+  stopped_only d p h e o bad = fault_parts {A = Unit {0}} (skip_value registry limits s b) d e p o h (stops_skips registry limits s b e o bad)

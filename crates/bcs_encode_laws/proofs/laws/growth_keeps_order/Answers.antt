@@ -1,5 +1,0 @@
-use Rattle.bcs_encode_laws.proofs.Growth.{keeps_order}
-use Rattle.bcs_encode_laws.proofs.laws.growth_keeps_order.Goals as goal
-
-pub returns : goal.returns
-returns c = keeps_order

@@ -1,5 +1,0 @@
-pub mod EntryArranging
-pub mod NumberViews
-pub mod WritingViews
-pub mod WalkViews
-pub mod WritingLaws

@@ -1,4 +1,0 @@
-pub mod Taking
-pub mod WriteSink
-pub mod PieceSink
-pub mod Calls

@@ -1,3 +1,0 @@
-pub mod LayingLaws
-pub mod KeysFirstLaws
-pub mod WritesLaws

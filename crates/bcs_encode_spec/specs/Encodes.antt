@@ -1,0 +1,24 @@
+-- The bytes of a value.
+use Rattle.std.specs.Prelude.{◌≡◌, ℕ, List, IsTrue, false}
+use Rattle.bcs_registry_formats.specs.Container.{Entries, Content, of}
+use Rattle.bcs_registry_formats.specs.Shape.{Shape}
+use Rattle.bcs_value_tree.specs.Tree.{Tree}
+use Rattle.bcs_value_spec.specs.Fits.{fits}
+use Rattle.bcs_value_spec.specs.Same.{Same}
+use Rattle.bcs_value_spec.specs.Limits.{Bounds}
+use Rattle.bcs_encode_spec.specs.Canonical.{IsCanonical}
+use Rattle.bcs_encode_spec.specs.Plain.{plain}
+use Rattle.bcs_encode_spec.specs.Sound.{IsSound}
+
+-- c is a canonical form of t: it is the same value, and in each of its maps the keys' bytes rise
+pub record IsForm (registry : Entries) (f : Content) (t c : Tree) : Type 0 where
+  pub fit : IsTrue (fits false registry c f)
+  pub canonical : IsCanonical registry c f
+  pub is_same : Same t c
+
+-- t is sound, and b is the bytes of a canonical form of it: some rising arrangement of each map exists
+pub record Encodes (registry : Entries) (limits : Bounds) (s : Shape) (t : Tree) (b : List ℕ) : Type 0 where
+  pub sound : IsSound registry limits s t
+  pub form : Tree
+  pub is_form : IsForm registry (of s) t form
+  pub bytes : plain registry form (of s) ≡ b

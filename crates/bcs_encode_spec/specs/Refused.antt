@@ -1,0 +1,33 @@
+-- When a value has no encoding.
+use Rattle.std.specs.Prelude.{◌≤◌, ◌<◌, IsTrue}
+use Rattle.bcs_registry_formats.specs.Container.{Entries, of}
+use Rattle.bcs_registry_formats.specs.Shape.{Shape}
+use Rattle.bcs_value_tree.specs.Tree.{Tree, depth, nodes}
+use Rattle.bcs_value_spec.specs.Fits.{Fits, FitsLoosely}
+use Rattle.bcs_value_spec.specs.Same.{HasDistinctKeys}
+use Rattle.bcs_value_spec.specs.Limits.{Bounds}
+use Rattle.bcs_encode_spec.specs.Lengths.{length_limit, lengths_hold}
+use Rattle.bcs_encode_spec.specs.declared.fault.EncodeFault.{EncodeFault}
+use Rattle.bcs_encode_spec.specs.declared.fault.EncodeFault.TheVariants.{NotOfFormat, Unsupported, TooDeep, TooManyNodes, TooLong, RepeatedKey, OutOfMemory}
+
+-- all of its lengths are at most the greatest length
+abbrev pub LengthsHold : Entries → Shape → Tree → Type 0
+LengthsHold registry s t = IsTrue (lengths_hold length_limit registry t (of s))
+
+-- what a sound value is, but for the keys of its maps
+pub record IsSoundBesidesKeys (registry : Entries) (limits : Bounds) (s : Shape) (t : Tree) : Type 0 where
+  pub fit : Fits registry s t
+  pub depth_holds : depth t ≤ limits.depth
+  pub nodes_hold : nodes t ≤ limits.nodes
+  pub lengths : LengthsHold registry s t
+
+-- the value is refused for this reason: each speaks where no earlier one does
+abbrev pub Refuses : Entries → Bounds → Shape → Tree → EncodeFault → Type 0
+Refuses registry limits s t NotOfFormat = ¬ FitsLoosely registry s t
+Refuses registry limits s t Unsupported = FitsLoosely registry s t × (¬ Fits registry s t)
+Refuses registry limits s t TooDeep = Fits registry s t × (limits.depth < depth t)
+Refuses registry limits s t TooManyNodes = Fits registry s t × (depth t ≤ limits.depth) × (limits.nodes < nodes t)
+Refuses registry limits s t TooLong =
+    Fits registry s t × (depth t ≤ limits.depth) × (nodes t ≤ limits.nodes) × (¬ LengthsHold registry s t)
+Refuses registry limits s t RepeatedKey = IsSoundBesidesKeys registry limits s t × (¬ HasDistinctKeys t)
+Refuses registry limits s t OutOfMemory = ⊥

@@ -1,0 +1,15 @@
+use Rattle.std.proofs.lemmas.Grind.{common_steps}
+use Rattle.std.proofs.Common.{◌-◌, ◌∙◌, arith, map, drop, sym, length-drop}
+use Rattle.std.proofs.lemmas.List.{length-map}
+use Rattle.bcs_encode_steps.specs.Laying.{span_entry}
+use Rattle.bcs_encode_steps.proofs.EntryArranging.{few_rise}
+use Rattle.bcs_encode_steps.proofs.spans.rise.Goals as goal
+
+pub returns : goal.returns
+returns c =
+    sym (c.loop-i.invariant
+    ∙ few_rise (map (span_entry c.args.bytes.now) (drop (c.loop-i.i - 1) c.args.spans.now))
+    (omega (arith, length-map (drop (c.loop-i.i - 1) c.args.spans.now) (span_entry c.args.bytes.now), length-drop (c.loop-i.i - 1) c.args.spans.now)))
+
+pub returns-then-not-is_lt : goal.returns-then-not-is_lt
+returns-then-not-is_lt c = grind (arith, common_steps)

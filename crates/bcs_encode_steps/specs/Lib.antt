@@ -1,0 +1,4 @@
+pub mod Writing
+pub mod Laying
+pub mod KeysFirst
+pub mod Writes

@@ -1,0 +1,221 @@
+-- What the walk needs of the views, shape by shape.
+use Rattle.std.proofs.Common.{◌≡◌, ℕ, ℤ, suc, ◌+◌, ◌^◌, ◌<◌, ◌≤◌, nat_lt, Bool, false, ◌&&◌, List, [], ◌∷◌, length, map, Vec, BTreeMap, Box, Bor, Global, if◌then◌else◌, Option, Some, None, refl, sym, ap, ◌∙◌, arith, rules, le-leb, lt-ltb}
+use Rattle.std.proofs.lemmas.Bool.{and_parts, and_from}
+use Rattle.std.specs.Ordering.{nat_cmp}
+use Rattle.std.specs.Map.{lookup}
+use Rattle.std.specs.Option.{option_and_then, option_copied}
+use Rattle.std.specs.BTreeMap.{is_at}
+use Rattle.std.specs.Int.{Width}
+use Rattle.bcs_registry_formats.specs.Container.{Entries, Content, of, nothing, content, field_shapes, payload_shape, choice_at}
+use Rattle.bcs_registry_formats.specs.Shape as shape
+use Rattle.bcs_registry_formats.specs.Shape.{Shape, tuple}
+use Rattle.bcs_registry_formats.specs.View.{shape_of, formats_shapes, field_of, payload_of, choice_of, container_of}
+use Rattle.bcs_registry_formats.specs.Whole.{whole_shape}
+use Rattle.bcs_registry_formats.specs.declared.format.Format.{Format, Map, Seq, Tuple, TupleArray, the_lemmas as format_lemmas}
+use Rattle.bcs_registry_formats.specs.declared.named.Named.{Named}
+use Rattle.bcs_registry_formats.specs.declared.variant_format.VariantFormat.{VariantFormat}
+use Rattle.bcs_registry_formats.specs.declared.variant_format.VariantFormat.TheVariants as variant_format
+use Rattle.bcs_registry_formats.specs.declared.container.Container as declared
+use Rattle.bcs_registry_formats.specs.declared.container.Container.TheVariants.{Enum, Struct, TupleStruct}
+use Rattle.bcs_registry_formats.specs.declared.whole_number.WholeNumber.{WholeNumber}
+use Rattle.bcs_registry_formats.specs.declared.whole_number.WholeNumber.TheVariants.{Unsigned, Signed}
+use Rattle.bcs_value_tree.specs.Tree as tree
+use Rattle.bcs_value_tree.specs.Tree.{Tree, Trees, no_trees, tree, count, pair_count}
+use Rattle.bcs_value_tree.specs.View.{tree_of, items_trees, entries_pairs}
+use Rattle.bcs_value_tree.specs.declared.value.Value as value
+use Rattle.bcs_value_tree.specs.declared.value.Value.{Value, Items, Pairs, Variant, the_lemmas}
+use Rattle.bcs_value_spec.specs.Fits.{fits, all_fit}
+use Rattle.bcs_encode_spec.specs.Lengths.{length_limit}
+use Rattle.bcs_encode_steps.proofs.WalkViews.{count_items, count_pairs, at_array, at_enum, at_list, at_map, choice-found, choice-missing}
+use Rattle.bcs_encode_walk.specs.Judging.{less, leaf, judged, all_judged, each_judged, pairs_judged}
+use Rattle.bcs_encode_walk.proofs.Options.{then_some, then_is, then_none, if_some, if_is, if_none, less_some, less_is, leaf_some, leaf_is, alike}
+
+tree_of_items : (vs : Vec Value Global) → tree_of (Items vs) ≡ tree.items (items_trees vs.items)
+tree_of_items vs = search (rules, the_lemmas)
+
+tree_of_unsigned : (n : ℕ) → tree_of (value.Unsigned n) ≡ tree.unsigned n
+tree_of_unsigned n = search (rules, the_lemmas)
+
+tree_of_signed : (z : ℤ) → tree_of (value.Signed z) ≡ tree.signed z
+tree_of_signed z = search (rules, the_lemmas)
+
+shape_of_tuple : (fs : Vec Format Global) → shape_of (Tuple fs) ≡ tuple (formats_shapes fs.items)
+shape_of_tuple fs = search (rules, format_lemmas)
+
+pub nothing_judged : (r : Entries) (t : Tree) (d n : ℕ) → judged r t nothing d n ≡ None
+nothing_judged r tree.unit d n = refl
+nothing_judged r (tree.truth b) d n = refl
+nothing_judged r (tree.unsigned m) d n = refl
+nothing_judged r (tree.signed z) d n = refl
+nothing_judged r (tree.text s) d n = refl
+nothing_judged r (tree.bytes s) d n = refl
+nothing_judged r tree.absent d n = refl
+nothing_judged r (tree.present t) d n = refl
+nothing_judged r (tree.items ts) d n = refl
+nothing_judged r (tree.variant m t) d n = refl
+nothing_judged r (tree.pairs ps) d n = refl
+nothing_judged r (tree.named t) d n = refl
+
+-- rows of unlike length
+pub each_unlike : (r : Entries) (vs : List Value) (fs : List Format) (d n : ℕ) → (length vs ≡ length fs → ⊥) → each_judged r (items_trees vs) (formats_shapes fs) d n ≡ None
+each_unlike r [] [] d n h = absurd (h refl)
+each_unlike r [] (f ∷ fs) d n h = refl
+each_unlike r (v ∷ vs) [] d n h = refl
+each_unlike r (v ∷ vs) (f ∷ fs) d n h =
+    then_none (each_judged r (items_trees vs) (formats_shapes fs) d) (judged r (tree_of v) (of (shape_of f)) d n) (λ m. each_unlike r vs fs d m (λ e. h (omega (arith, e))))
+
+pub fields_unlike : (r : Entries) (vs : List Value) (fs : List (Named Format)) (d n : ℕ) → (length vs ≡ length fs → ⊥) → each_judged r (items_trees vs) (field_shapes (map field_of fs)) d n ≡ None
+fields_unlike r [] [] d n h = absurd (h refl)
+fields_unlike r [] (f ∷ fs) d n h = refl
+fields_unlike r (v ∷ vs) [] d n h = refl
+fields_unlike r (v ∷ vs) (f ∷ fs) d n h =
+    then_none (each_judged r (items_trees vs) (field_shapes (map field_of fs)) d) (judged r (tree_of v) (of (shape_of f.value)) d n) (λ m. fields_unlike r vs fs d m (λ e. h (omega (arith, e))))
+
+-- what a function of trees answers at a number's value
+pub at_unsigned : {A : Type 0} (walk : Tree → A) (v : Value) (n : ℕ) → v ≡ value.Unsigned n → walk (tree.unsigned n) ≡ walk (tree_of v)
+at_unsigned walk v n e = rw (e, tree_of_unsigned n) refl
+
+pub at_signed : {A : Type 0} (walk : Tree → A) (v : Value) (z : ℤ) → v ≡ value.Signed z → walk (tree.signed z) ≡ walk (tree_of v)
+at_signed walk v z e = rw (e, tree_of_signed z) refl
+
+-- what a function of trees and contents answers at the parts of a value, as slices, is what it answers at the value
+pub by_list : {A : Type 0} (walk : Tree → Content → A) (v : Value) (f : Format) (vs : Vec Value Global) (element : Box Format Global) (us : List Value) (g : Format)
+    → v ≡ Items vs → f ≡ Seq element → us ≡ vs.items → g ≡ element.value
+    → walk (tree.items (items_trees us)) (of (shape.seq (shape_of g))) ≡ walk (tree_of v) (of (shape_of f))
+by_list walk v f vs element us g e h i j = rw (i, j) (sym (at_list walk v f vs element e h))
+
+pub by_array : {A : Type 0} (walk : Tree → Content → A) (v : Value) (f : Format) (vs : Vec Value Global) (element : Box Format Global) (size : ℕ) (us : List Value) (g : Format)
+    → v ≡ Items vs → f ≡ TupleArray element size → us ≡ vs.items → g ≡ element.value
+    → walk (tree.items (items_trees us)) (of (shape.array (shape_of g) size)) ≡ walk (tree_of v) (of (shape_of f))
+by_array walk v f vs element size us g e h i j = rw (i, j) (sym (at_array walk v f vs element size e h))
+
+pub by_map : {A : Type 0} (walk : Tree → Content → A) (v : Value) (f : Format) (ps : Vec (Value × Value) Global) (key value : Box Format Global)
+    (qs : List (Value × Value)) (g k : Format)
+    → v ≡ Pairs ps → f ≡ Map key value → qs ≡ ps.items → g ≡ key.value → k ≡ value.value
+    → walk (tree.pairs (entries_pairs qs)) (of (shape.map (shape_of g) (shape_of k))) ≡ walk (tree_of v) (of (shape_of f))
+by_map walk v f ps key value qs g k e h i j l = rw (i, j, l) (sym (at_map walk v f ps key value e h))
+
+pub by_tuple : {A : Type 0} (walk : Tree → Content → A) (v : Value) (f : Format) (vs : Vec Value Global) (fs : Vec Format Global) (us : List Value) (gs : List Format)
+    → v ≡ Items vs → f ≡ Tuple fs → us ≡ vs.items → gs ≡ fs.items
+    → walk (tree.items (items_trees us)) (of (tuple (formats_shapes gs))) ≡ walk (tree_of v) (of (shape_of f))
+by_tuple walk v f vs fs us gs e h i j = rw (e, h, i, j, tree_of_items vs, shape_of_tuple fs) refl
+
+pub by_tuple_struct : {A : Type 0} (walk : Tree → Content → A) (v : Value) (k : declared.Container) (vs : Vec Value Global) (fs : Vec Format Global) (us : List Value) (gs : List Format)
+    → k ≡ TupleStruct fs → v ≡ Items vs → us ≡ vs.items → gs ≡ fs.items
+    → walk (tree.items (items_trees us)) (of (tuple (formats_shapes gs))) ≡ walk (tree_of v) (content (container_of k))
+by_tuple_struct walk v k vs fs us gs h e i j = rw (e, h, i, j, tree_of_items vs) refl
+
+pub by_struct : {A : Type 0} (walk : Tree → Content → A) (v : Value) (k : declared.Container) (vs : Vec Value Global) (fs : Vec (Named Format) Global)
+    (us : List Value) (gs : List (Named Format))
+    → k ≡ Struct fs → v ≡ Items vs → us ≡ vs.items → gs ≡ fs.items
+    → walk (tree.items (items_trees us)) (of (tuple (field_shapes (map field_of gs)))) ≡ walk (tree_of v) (content (container_of k))
+by_struct walk v k vs fs us gs h e i j = rw (e, h, i, j, tree_of_items vs) refl
+
+pub by_tuple_payload : {A : Type 0} (walk : Tree → Content → A) (v : Value) (k : VariantFormat) (vs : Vec Value Global) (fs : Vec Format Global) (us : List Value) (gs : List Format)
+    → k ≡ variant_format.Tuple fs → v ≡ Items vs → us ≡ vs.items → gs ≡ fs.items
+    → walk (tree.items (items_trees us)) (of (tuple (formats_shapes gs))) ≡ walk (tree_of v) (of (payload_shape (payload_of k)))
+by_tuple_payload walk v k vs fs us gs h e i j = rw (e, h, i, j, tree_of_items vs) refl
+
+pub by_struct_payload : {A : Type 0} (walk : Tree → Content → A) (v : Value) (k : VariantFormat) (vs : Vec Value Global) (fs : Vec (Named Format) Global)
+    (us : List Value) (gs : List (Named Format))
+    → k ≡ variant_format.Struct fs → v ≡ Items vs → us ≡ vs.items → gs ≡ fs.items
+    → walk (tree.items (items_trees us)) (of (tuple (field_shapes (map field_of gs)))) ≡ walk (tree_of v) (of (payload_shape (payload_of k)))
+by_struct_payload walk v k vs fs us gs h e i j = rw (e, h, i, j, tree_of_items vs) refl
+
+-- a list, and a map, that are short enough
+pub list_judged : (r : Entries) (vs : List Value) (s : Shape) (d n left : ℕ) → length vs ≤ length_limit → less 1 n ≡ Some left
+    → judged r (tree.items (items_trees vs)) (of (shape.seq s)) d n ≡ all_judged r (items_trees vs) s d left
+list_judged r vs s d n left short taken =
+    ap (λ (b : Bool). if b then option_and_then (all_judged r (items_trees vs) s d) (less 1 n) else None)
+    (le-leb (count (items_trees vs)) length_limit (omega (arith, short, count_items vs)))
+    ∙ ap (option_and_then (all_judged r (items_trees vs) s d)) taken
+
+pub map_judged : (r : Entries) (ps : List (Value × Value)) (k v : Shape) (d n left : ℕ) → length ps ≤ length_limit → less 1 n ≡ Some left
+    → judged r (tree.pairs (entries_pairs ps)) (of (shape.map k v)) d n ≡ pairs_judged r (entries_pairs ps) k v d left
+map_judged r ps k v d n left short taken =
+    ap (λ (b : Bool). if b then option_and_then (pairs_judged r (entries_pairs ps) k v d) (less 1 n) else None)
+    (le-leb (pair_count (entries_pairs ps)) length_limit (omega (arith, short, count_pairs ps)))
+    ∙ ap (option_and_then (pairs_judged r (entries_pairs ps) k v d)) taken
+
+-- a variant that the enum has, and one that it hasn't
+pub variant_judged : (r : Entries) (v : Value) (k : declared.Container) (vs : BTreeMap ℕ (Named VariantFormat)) (number : ℕ) (inner : Box Value Global)
+    (x : Bor (Named VariantFormat)) (o : Option (Bor (Named VariantFormat))) (d n left : ℕ)
+    → number < 2 ^ 32 → k ≡ Enum vs → v ≡ Variant number inner → option_copied o ≡ lookup (is_at (nat_cmp number)) vs.entries → o ≡ Some x → less 1 n ≡ Some left
+    → judged r (tree_of v) (content (container_of k)) d n ≡ judged r (tree_of inner.value) (of (payload_shape (payload_of x.now.value))) d left
+variant_judged r v k vs number inner x o d n left low e f found some taken =
+    at_enum (λ t c. judged r t c d n) v k vs number inner e f
+    ∙ ap (λ (b : Bool). if b then option_and_then (judged r (tree_of inner.value) (choice_at number (map choice_of vs.entries)) d) (less 1 n) else None) (lt-ltb number (2 ^ 32) low)
+    ∙ ap (option_and_then (judged r (tree_of inner.value) (choice_at number (map choice_of vs.entries)) d)) taken
+    ∙ ap (λ c. judged r (tree_of inner.value) c d left) (choice-found number vs.entries x o found some)
+
+pub no_variant_judged : (r : Entries) (v : Value) (k : declared.Container) (vs : BTreeMap ℕ (Named VariantFormat)) (number : ℕ) (inner : Box Value Global)
+    (o : Option (Bor (Named VariantFormat))) (d n : ℕ)
+    → k ≡ Enum vs → v ≡ Variant number inner → option_copied o ≡ lookup (is_at (nat_cmp number)) vs.entries → o ≡ None
+    → judged r (tree_of v) (content (container_of k)) d n ≡ None
+no_variant_judged r v k vs number inner o d n e f found none =
+    at_enum (λ t c. judged r t c d n) v k vs number inner e f
+    ∙ ap (λ c. if nat_lt number (2 ^ 32) then option_and_then (judged r (tree_of inner.value) c d) (less 1 n) else None) (choice-missing number vs.entries o found none)
+    ∙ if_none (nat_lt number (2 ^ 32)) _ (then_none (judged r (tree_of inner.value) nothing d) (less 1 n) (λ m. nothing_judged r (tree_of inner.value) d m))
+
+-- a number is one node, and looks up no container
+unsigned_judged : (r : Entries) (w : Width) (t : Tree) (d n : ℕ) → judged r t (of (shape.unsigned w)) d n ≡ leaf (fits false [] t (of (shape.unsigned w))) n
+unsigned_judged r w tree.unit d n = refl
+unsigned_judged r w (tree.truth b) d n = refl
+unsigned_judged r w (tree.unsigned m) d n = refl
+unsigned_judged r w (tree.signed z) d n = refl
+unsigned_judged r w (tree.text s) d n = refl
+unsigned_judged r w (tree.bytes s) d n = refl
+unsigned_judged r w tree.absent d n = refl
+unsigned_judged r w (tree.present t) d n = refl
+unsigned_judged r w (tree.items ts) d n = refl
+unsigned_judged r w (tree.variant m t) d n = refl
+unsigned_judged r w (tree.pairs ps) d n = refl
+unsigned_judged r w (tree.named t) d n = refl
+
+signed_judged : (r : Entries) (w : Width) (t : Tree) (d n : ℕ) → judged r t (of (shape.signed w)) d n ≡ leaf (fits false [] t (of (shape.signed w))) n
+signed_judged r w tree.unit d n = refl
+signed_judged r w (tree.truth b) d n = refl
+signed_judged r w (tree.unsigned m) d n = refl
+signed_judged r w (tree.signed z) d n = refl
+signed_judged r w (tree.text s) d n = refl
+signed_judged r w (tree.bytes s) d n = refl
+signed_judged r w tree.absent d n = refl
+signed_judged r w (tree.present t) d n = refl
+signed_judged r w (tree.items ts) d n = refl
+signed_judged r w (tree.variant m t) d n = refl
+signed_judged r w (tree.pairs ps) d n = refl
+signed_judged r w (tree.named t) d n = refl
+
+number_judged : (r : Entries) (w : WholeNumber) (t : Tree) (d n : ℕ) → judged r t (of (whole_shape w)) d n ≡ leaf (fits false [] t (of (whole_shape w))) n
+number_judged r (Unsigned w) t d n = unsigned_judged r _ t d n
+number_judged r (Signed w) t d n = signed_judged r _ t d n
+
+-- what is taken one by one is taken at once
+leaf_more : (f : ℕ → Option ℕ) (b c : Bool) (k n : ℕ) → ((x : ℕ) → f x ≡ (if c then less k x else None))
+    → option_and_then f (leaf b n) ≡ (if b && c then less (suc k) n else None)
+leaf_more f b c k n h = alike (option_and_then f (leaf b n)) (if b && c then less (suc k) n else None)
+    (λ m is.
+    let p = then_some f (leaf b n) m is in
+    let a = leaf_some b n p.0 p.1 in
+    let q = if_some c (less k p.0) m (sym (h p.0) ∙ p.2) in
+    if_is (b && c) (less (suc k) n) m (and_from b c a.0 q.0) (less_is (suc k) n m (omega (arith, a.1, less_some k p.0 m q.1))))
+    (λ m is.
+    let p = if_some (b && c) (less (suc k) n) m is in
+    let q = and_parts b c p.0 in
+    then_is f (leaf b n) (k + m) m (leaf_is b n (k + m) q.0 (omega (arith, less_some (suc k) n m p.1)))
+    (h (k + m) ∙ if_is c (less k (k + m)) m q.1 (less_is k (k + m) m refl)))
+
+numbers_judged : (r : Entries) (w : WholeNumber) (s : Shape) (ts : Trees) (d n : ℕ) → s ≡ whole_shape w
+    → all_judged r ts s d n ≡ (if all_fit false [] ts (whole_shape w) then less (count ts) n else None)
+numbers_judged r w s no_trees d n e = sym (less_is 0 n n (omega arith))
+numbers_judged r w s (tree t ts) d n e =
+    ap (λ (x : Shape). option_and_then (all_judged r ts s d) (judged r t (of x) d n)) e
+    ∙ ap (option_and_then (all_judged r ts s d)) (number_judged r w t d n)
+    ∙ leaf_more (all_judged r ts s d) (fits false [] t (of (whole_shape w))) (all_fit false [] ts (whole_shape w)) (count ts) n (λ x. numbers_judged r w s ts d x e)
+
+-- a row of numbers is judged at once
+pub row_judged : (r : Entries) (w : WholeNumber) (s : Shape) (vs : List Value) (d n : ℕ) → s ≡ whole_shape w
+    → all_judged r (items_trees vs) s d n ≡ (if all_fit false [] (items_trees vs) (whole_shape w) then less (length vs) n else None)
+row_judged r w s vs d n e =
+    numbers_judged r w s (items_trees vs) d n e
+    ∙ ap (λ (k : ℕ). if all_fit false [] (items_trees vs) (whole_shape w) then less k n else None) (count_items vs)

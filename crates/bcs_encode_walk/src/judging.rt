@@ -1,0 +1,287 @@
+//! The walk. Each of its functions is told how many more containers may be opened and how many more nodes may come, and
+//! answers how many nodes may come after that, or `None` at the first part that isn't sound.
+ghost use Rattle.std.specs.Prelude.{◌≡◌, map, string_bytes};
+ghost use Rattle.bcs_registry_formats.specs.Container.{of, content, field_shapes, payload_shape};
+ghost use Rattle.bcs_registry_formats.specs.Shape.{array, map as map_shape, name as name_shape, seq, tuple};
+ghost use Rattle.bcs_registry_formats.specs.View.{container_of, field_of, formats_shapes, payload_of, shape_of};
+ghost use Rattle.bcs_value_tree.specs.Tree.{items as items_tree, named as named_tree, pairs as pairs_tree};
+ghost use Rattle.bcs_value_tree.specs.View.{entries_pairs, items_trees, tree_of};
+ghost use Rattle.bcs_encode_walk.specs.Judging as spec;
+
+use crate::leaves::{judge_bytes, judge_signed, judge_text, judge_unsigned, take};
+use crate::number_rows::judge_numbers;
+use bcs_encode_steps::pushing::LENGTH_LIMIT;
+use bcs_registry::{Container, Format, Named, Registry, VariantFormat};
+use bcs_registry_formats::WholeNumber;
+use bcs_value::Value;
+
+/// Judges a value of a format.
+#[cycle(judging)]
+pub fn judge_value(
+    value: &Value,
+    format: &Format,
+    registry: &Registry,
+    depth: u64,
+    nodes: u64,
+) -> Option<u64>
+    ensures { result ≡ spec.judged registry.now (tree_of value.now) (of (shape_of format.now)) depth nodes }
+{
+    match (value, format) {
+        (Value::Unit, Format::Unit) => take(1, nodes),
+        (Value::Bool(_), Format::Bool) => take(1, nodes),
+        (Value::Unsigned(number), _) => judge_unsigned(number, format, nodes),
+        (Value::Signed(number), _) => judge_signed(number, format, nodes),
+        (Value::Text(text), Format::Str) => judge_text(text.as_str(), nodes),
+        (Value::Bytes(bytes), Format::Bytes) => judge_bytes(bytes, nodes),
+        (Value::Absent, Format::Opt(_)) => take(1, nodes),
+        (Value::Present(inner), Format::Opt(content)) => {
+            judge_value(inner, content, registry, depth, take(1, nodes)?)
+        }
+        (Value::Items(items), Format::Seq(element)) => {
+            judge_list(items, element, registry, depth, nodes)
+        }
+        (Value::Items(items), Format::Tuple(formats)) => {
+            judge_each(items, formats, registry, depth, nodes)
+        }
+        (Value::Items(items), Format::TupleArray(element, size)) => {
+            judge_array(items, element, *size, registry, depth, nodes)
+        }
+        (Value::Pairs(pairs), Format::Map(key, value)) => {
+            judge_map(pairs, key, value, registry, depth, nodes)
+        }
+        (Value::Named(inner), Format::TypeName(name)) => {
+            judge_named(inner, name.as_str(), registry, depth, nodes)
+        }
+        _ => None,
+    }
+}
+
+/// Judges the value of a container.
+#[cycle(judging)]
+fn judge_named(
+    inner: &Value,
+    name: &str,
+    registry: &Registry,
+    depth: u64,
+    nodes: u64,
+) -> Option<u64>
+    ensures { result ≡ spec.judged registry.now (named_tree (tree_of inner.now)) (of (name_shape name.now)) depth nodes }
+{
+    let depth = take(1, depth)?;
+    let nodes = take(1, nodes)?;
+    match registry.container(name) {
+        Some(container) => judge_content(inner, container, registry, depth, nodes),
+        None => None,
+    }
+}
+
+/// Judges what stands in a container.
+#[cycle(judging)]
+fn judge_content(
+    value: &Value,
+    container: &Container,
+    registry: &Registry,
+    depth: u64,
+    nodes: u64,
+) -> Option<u64>
+    ensures { result ≡ spec.judged registry.now (tree_of value.now) (content (container_of container.now)) depth nodes }
+{
+    match (container, value) {
+        (Container::UnitStruct, Value::Unit) => take(1, nodes),
+        (Container::NewTypeStruct(format), _) => judge_value(value, format, registry, depth, nodes),
+        (Container::TupleStruct(formats), Value::Items(items)) => {
+            judge_each(items, formats, registry, depth, nodes)
+        }
+        (Container::Struct(fields), Value::Items(items)) => {
+            judge_fields(items, fields, registry, depth, nodes)
+        }
+        (Container::Enum(variants), Value::Variant(number, inner)) => {
+            let number = *number;
+            let nodes = take(1, nodes)?;
+            match variants.get(&number) {
+                Some(variant) => judge_payload(inner, &variant.value, registry, depth, nodes),
+                None => None,
+            }
+        }
+        _ => None,
+    }
+}
+
+/// Judges what a variant carries.
+#[cycle(judging)]
+fn judge_payload(
+    value: &Value,
+    payload: &VariantFormat,
+    registry: &Registry,
+    depth: u64,
+    nodes: u64,
+) -> Option<u64>
+    ensures { result ≡ spec.judged registry.now (tree_of value.now) (of (payload_shape (payload_of payload.now))) depth nodes }
+{
+    match (payload, value) {
+        (VariantFormat::Unit, Value::Unit) => take(1, nodes),
+        (VariantFormat::NewType(format), _) => judge_value(value, format, registry, depth, nodes),
+        (VariantFormat::Tuple(formats), Value::Items(items)) => {
+            judge_each(items, formats, registry, depth, nodes)
+        }
+        (VariantFormat::Struct(fields), Value::Items(items)) => {
+            judge_fields(items, fields, registry, depth, nodes)
+        }
+        _ => None,
+    }
+}
+
+/// Judges a list.
+#[cycle(judging)]
+#[tactic(auto, using(bcs_encode_steps::proofs::WalkViews::count_items))]
+fn judge_list(
+    items: &[Value],
+    element: &Format,
+    registry: &Registry,
+    depth: u64,
+    nodes: u64,
+) -> Option<u64>
+    ensures { result ≡ spec.judged registry.now (items_tree (items_trees items.now)) (of (seq (shape_of element.now))) depth nodes }
+{
+    if items.len() > LENGTH_LIMIT {
+        return None;
+    }
+    judge_all(items, element, registry, depth, take(1, nodes)?)
+}
+
+/// Judges an array.
+#[cycle(judging)]
+#[tactic(auto, using(bcs_encode_steps::proofs::WalkViews::count_items))]
+fn judge_array(
+    items: &[Value],
+    element: &Format,
+    size: u64,
+    registry: &Registry,
+    depth: u64,
+    nodes: u64,
+) -> Option<u64>
+    ensures { result ≡ spec.judged registry.now (items_tree (items_trees items.now)) (of (array (shape_of element.now) size)) depth nodes }
+{
+    if items.len() as u64 != size {
+        return None;
+    }
+    judge_all(items, element, registry, depth, take(1, nodes)?)
+}
+
+/// Judges elements of one format.
+#[cycle(judging)]
+fn judge_all(
+    items: &[Value],
+    element: &Format,
+    registry: &Registry,
+    depth: u64,
+    nodes: u64,
+) -> Option<u64>
+    ensures { result ≡ spec.all_judged registry.now (items_trees items.now) (shape_of element.now) depth nodes }
+{
+    if let Some(format) = WholeNumber::of(element) {
+        return judge_numbers(format, items, nodes);
+    }
+    if let Format::TypeName(name) = element {
+        return judge_all_named(items, name.as_str(), registry, depth, nodes);
+    }
+    let mut left = nodes;
+    for item in items {
+        left = judge_value(item, element, registry, depth, left)?;
+    }
+    Some(left)
+}
+
+/// Judges values of one container, which is looked up once.
+#[cycle(judging)]
+fn judge_all_named(
+    items: &[Value],
+    name: &str,
+    registry: &Registry,
+    depth: u64,
+    nodes: u64,
+) -> Option<u64>
+    ensures { result ≡ spec.all_judged registry.now (items_trees items.now) (name_shape name.now) depth nodes }
+{
+    let found = registry.container(name);
+    let mut left = nodes;
+    for item in items {
+        left = match (item, found) {
+            (Value::Named(inner), Some(container)) => judge_content(
+                inner,
+                container,
+                registry,
+                take(1, depth)?,
+                take(1, left)?,
+            )?,
+            _ => return None,
+        };
+    }
+    Some(left)
+}
+
+/// Judges a tuple.
+#[cycle(judging)]
+fn judge_each(
+    items: &[Value],
+    formats: &[Format],
+    registry: &Registry,
+    depth: u64,
+    nodes: u64,
+) -> Option<u64>
+    ensures { result ≡ spec.judged registry.now (items_tree (items_trees items.now)) (of (tuple (formats_shapes formats.now))) depth nodes }
+{
+    if items.len() != formats.len() {
+        return None;
+    }
+    let mut left = take(1, nodes)?;
+    for (i, item) in items.iter().enumerate() {
+        left = judge_value(item, &formats[i], registry, depth, left)?;
+    }
+    Some(left)
+}
+
+/// Judges the fields of a struct.
+#[cycle(judging)]
+fn judge_fields(
+    items: &[Value],
+    fields: &[Named<Format>],
+    registry: &Registry,
+    depth: u64,
+    nodes: u64,
+) -> Option<u64>
+    ensures { result ≡ spec.judged registry.now (items_tree (items_trees items.now)) (of (tuple (field_shapes (map field_of fields.now)))) depth nodes }
+{
+    if items.len() != fields.len() {
+        return None;
+    }
+    let mut left = take(1, nodes)?;
+    for (i, item) in items.iter().enumerate() {
+        left = judge_value(item, &fields[i].value, registry, depth, left)?;
+    }
+    Some(left)
+}
+
+/// Judges a map, but for whether its keys differ.
+#[cycle(judging)]
+#[tactic(auto, using(bcs_encode_steps::proofs::WalkViews::count_pairs))]
+fn judge_map(
+    pairs: &[(Value, Value)],
+    key: &Format,
+    value: &Format,
+    registry: &Registry,
+    depth: u64,
+    nodes: u64,
+) -> Option<u64>
+    ensures { result ≡ spec.judged registry.now (pairs_tree (entries_pairs pairs.now)) (of (map_shape (shape_of key.now) (shape_of value.now))) depth nodes }
+{
+    if pairs.len() > LENGTH_LIMIT {
+        return None;
+    }
+    let mut left = take(1, nodes)?;
+    for (k, v) in pairs {
+        left = judge_value(k, key, registry, depth, left)?;
+        left = judge_value(v, value, registry, depth, left)?;
+    }
+    Some(left)
+}

@@ -1,4 +1,0 @@
-//! The encoder's walk over a value.
-#![tactic(auto)]
-
-pub mod encoding;

@@ -1,0 +1,4 @@
+pub mod TakingLemmas
+pub mod GivingLemmas
+pub mod Repeating
+pub mod Filled

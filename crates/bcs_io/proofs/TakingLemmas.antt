@@ -1,0 +1,21 @@
+-- Bytes that a sink took in several calls.
+use Rattle.std.proofs.Common.{ℕ, Bool, List, [], ◌++◌, Option, refl, ◌∙◌}
+use Rattle.std.proofs.KnownBytes.{Appends-nil, Appends-trans}
+use Rattle.bcs_io.specs.Taking.{Took, Lost}
+
+module _ {K : Type 0} (taken : K → Option (List ℕ)) (is_failed : K → Bool) where
+  -- no call takes nothing
+  pub Took-nothing : (a : K) → Took taken is_failed a a []
+  Took-nothing a = record { appended = Appends-nil (taken a); kept = refl }
+
+  pub Took-then : (a b c : K) (xs ys : List ℕ) → Took taken is_failed a b xs → Took taken is_failed b c ys → Took taken is_failed a c (xs ++ ys)
+  Took-then a b c xs ys p q = record {
+    appended = Appends-trans (taken a) (taken b) (taken c) xs ys p.appended q.appended;
+    kept = q.kept ∙ p.kept;
+  }
+
+  pub Lost-then : (a b c : K) (xs ys : List ℕ) → Took taken is_failed a b xs → Lost taken is_failed b c ys → Lost taken is_failed a c (xs ++ ys)
+  Lost-then a b c xs ys p q = record {
+    appended = Appends-trans (taken a) (taken b) (taken c) xs ys p.appended q.appended;
+    after = q.after;
+  }

@@ -1,0 +1,12 @@
+use Rattle.std.proofs.lemmas.Grind.{common_steps}
+use Rattle.std.proofs.Common.{rules, arith}
+use Rattle.bcs_io.proofs.slice_source.SliceSourceByteSource.next.Goals as goal
+
+pub returns-clause-count : goal.returns-clause-count
+returns-clause-count c = search rules
+
+pub returns-clause-rest : goal.returns-clause-rest
+returns-clause-rest c = search rules
+
+pub returns-clause-gives : goal.returns-clause-gives
+returns-clause-gives c = grind (arith, common_steps)

@@ -1,0 +1,9 @@
+pub mod Taking
+pub mod WriteSink
+pub mod PieceSink
+pub mod Calls
+pub mod Giving
+pub mod ReadSource
+pub mod PieceSource
+pub mod RepeatSource
+pub mod Filling

@@ -1,5 +1,0 @@
-use Rattle.bcs_json_laws.proofs.TextLaws as law
-use Rattle.bcs_json_laws.proofs.laws.denotes_once.Goals as goal
-
-pub returns : goal.returns
-returns c = law.denotes_once

@@ -1,5 +1,0 @@
-use Rattle.bcs_json_laws.proofs.Headline as law
-use Rattle.bcs_json_laws.proofs.laws.equal_values_equal_bytes.Goals as goal
-
-pub returns : goal.returns
-returns c = law.equal_values_equal_bytes

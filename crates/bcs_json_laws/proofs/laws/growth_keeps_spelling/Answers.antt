@@ -1,5 +1,0 @@
-use Rattle.bcs_json_laws.proofs.GrownSpelling as law
-use Rattle.bcs_json_laws.proofs.laws.growth_keeps_spelling.Goals as goal
-
-pub returns : goal.returns
-returns c = law.growth_keeps_spelling

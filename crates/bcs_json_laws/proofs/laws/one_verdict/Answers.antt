@@ -1,5 +1,0 @@
-use Rattle.bcs_json_laws.proofs.Verdict as law
-use Rattle.bcs_json_laws.proofs.laws.one_verdict.Goals as goal
-
-pub returns : goal.returns
-returns c = law.one_verdict

@@ -1,5 +1,0 @@
-use Rattle.bcs_json_laws.proofs.SomeText as law
-use Rattle.bcs_json_laws.proofs.laws.some_normal_text.Goals as goal
-
-pub returns : goal.returns
-returns c = law.some_normal_text

@@ -1,5 +1,0 @@
-use Rattle.bcs_json_laws.proofs.Fitting as law
-use Rattle.bcs_json_laws.proofs.laws.spelled_fits.Goals as goal
-
-pub returns : goal.returns
-returns c = law.spelled_fits

@@ -1,0 +1,180 @@
+-- What is shown of a value can be written: its compact text is read as just that.
+use Rattle.std.proofs.Common.{◌≡◌, ◌∙◌, ℕ, suc, ℤ, pos, negsuc, ◌^◌, ◌<◌, ◌==◌, ◌&&◌, List, [], ◌∷◌, Bool, true, false, cond, if◌then◌else◌, Some, Ok, Ordering, Less, Equal, Greater, IsUtf8, arith, codes, decimal, nat_cmp, nat_lt, refl, ap, sym, subst}
+use Rattle.std.proofs.lemmas.Bool.{false≢true}
+use Rattle.std.proofs.lemmas.Bool.Decides.{Decides-ltb}
+use Rattle.std.proofs.lemmas.Cmp.{nat_list_cmp_total}
+use Rattle.std.proofs.lemmas.Fmt.{IsAscii-decimal_wide}
+use Rattle.std.proofs.lemmas.Str.{IsUtf8-append, IsUtf8-from_ascii, IsUtf8-from_is_utf8}
+use Rattle.std.proofs.lemmas.Str.Ascii.{IsAscii-from_all}
+use Rattle.std.specs.Cmp.Lexicographic.{slice_cmp}
+use Rattle.std.specs.Fmt.{signed_decimal}
+use Rattle.std.specs.Int.{Width, w8, w16, w32, w64, w128}
+use Rattle.std.specs.List.Sorted.{IsStrictlySortedBy}
+use Rattle.std.specs.Option.{option_map_or}
+use Rattle.std.specs.Ordering.{match_ordering}
+use Rattle.hex.specs.Hex.{decode_of, encode_lower, is_hex_digit}
+use Rattle.hex.proofs.HexLemmas.{decode_of-encode_lower, decode_of-ok}
+use Rattle.json.proofs.Printed.Utf8.{IsUtf8-are_ascii}
+use Rattle.serde_json.specs.Data.{Data, number, unsigned as whole, string, Members, no_members, member, put}
+use Rattle.serde_json.specs.Find.{of_integer}
+use Rattle.bcs_num.specs.Le.{holds_signed, holds_unsigned}
+use Rattle.bcs_registry_formats.specs.Container as container
+use Rattle.bcs_registry_formats.specs.Container.{Choice, Entries, Field, Payload, choice_numbered, content_at, field_shapes, newtype, payload_shape, tuple}
+use Rattle.bcs_registry_formats.specs.Shape as shape
+use Rattle.bcs_registry_formats.specs.Shape.{Shape, Shapes, no_shapes, shape}
+use Rattle.bcs_registry_text.specs.Shown.{single}
+use Rattle.bcs_registry_text.proofs.RisingMembers.{NamesRise, names_put, names_of, sorted_inserted}
+use Rattle.bcs_value_spec.specs.Fits.{all_fit, are_bytes, each_fits, fits, pairs_fit}
+use Rattle.bcs_value_tree.specs.Tree as tree
+use Rattle.bcs_value_tree.specs.Tree.{Pairs, Tree, Trees, count, no_pairs, no_trees, pair, tree}
+use Rattle.bcs_json_spec.specs.Bytes.{is_byte, trees_bytes}
+use Rattle.bcs_json_spec.specs.JsonContent.{JsonContent, fields, json_content_at, of, one_of, payload_content, unnamed}
+use Rattle.bcs_json_spec.specs.Shown.{is_wide, shown, shown_all, shown_choice, shown_each, shown_fields, shown_pairs}
+use Rattle.bcs_json_spec.proofs.Fitting.{and_left, and_right, unnamed_at, unnamed_payload}
+use Rattle.bcs_json_spec.proofs.ReadBack.{are_bytes_is, bytes_again}
+use Rattle.bcs_json_spec.proofs.Utf8Names.{ChoiceNames, EachHasNames, FieldNames, HasNames, content_names, payload_names}
+use Rattle.bcs_json_spec.proofs.WrittenBack.{IsWritable, ItemsWritable, MembersWritable}
+
+-- ---- numbers and bytes
+
+digits_utf8 : (n : ℕ) → n < 2 ^ 128 → IsUtf8 (decimal n)
+digits_utf8 n h = IsUtf8-from_ascii (decimal n) (IsAscii-decimal_wide n (omega (arith, h)))
+
+-- a number of a width, or its text
+unsigned_writable : (w : Width) (n : ℕ) → holds_unsigned w n ≡ true → IsWritable (if is_wide w then string (decimal n) else number (whole n))
+unsigned_writable w8 n h = let small = (Decides-ltb n (2 ^ 8)).0 h in omega (arith, small)
+unsigned_writable w16 n h = let small = (Decides-ltb n (2 ^ 16)).0 h in omega (arith, small)
+unsigned_writable w32 n h = let small = (Decides-ltb n (2 ^ 32)).0 h in omega (arith, small)
+unsigned_writable w64 n h = let small = (Decides-ltb n (2 ^ 64)).0 h in digits_utf8 n (omega (arith, small))
+unsigned_writable w128 n h = digits_utf8 n ((Decides-ltb n (2 ^ 128)).0 h)
+
+signed_writable : (w : Width) (z : ℤ) → holds_signed w z ≡ true → IsWritable (if is_wide w then string (signed_decimal z) else number (of_integer z))
+signed_writable w8 (pos n) h = let small = (Decides-ltb n (2 ^ 7)).0 h in omega (arith, small)
+signed_writable w8 (negsuc n) h = let small = (Decides-ltb n (2 ^ 7)).0 h in omega (arith, small)
+signed_writable w16 (pos n) h = let small = (Decides-ltb n (2 ^ 15)).0 h in omega (arith, small)
+signed_writable w16 (negsuc n) h = let small = (Decides-ltb n (2 ^ 15)).0 h in omega (arith, small)
+signed_writable w32 (pos n) h = let small = (Decides-ltb n (2 ^ 31)).0 h in omega (arith, small)
+signed_writable w32 (negsuc n) h = let small = (Decides-ltb n (2 ^ 31)).0 h in omega (arith, small)
+signed_writable w64 (pos n) h = let small = (Decides-ltb n (2 ^ 63)).0 h in digits_utf8 n (omega (arith, small))
+signed_writable w64 (negsuc n) h =
+    let small = (Decides-ltb n (2 ^ 63)).0 h in
+    IsUtf8-append (45 ∷ []) (decimal (suc n)) (IsUtf8-are_ascii (45 ∷ []) refl) (digits_utf8 (suc n) (omega (arith, small)))
+signed_writable w128 (pos n) h = let small = (Decides-ltb n (2 ^ 127)).0 h in digits_utf8 n (omega (arith, small))
+signed_writable w128 (negsuc n) h =
+    let small = (Decides-ltb n (2 ^ 127)).0 h in
+    IsUtf8-append (45 ∷ []) (decimal (suc n)) (IsUtf8-are_ascii (45 ∷ []) refl) (digits_utf8 (suc n) (omega (arith, small)))
+
+digit_is_ascii : (c : ℕ) → is_hex_digit c ≡ true → c < 128
+digit_is_ascii c h = grind (arith)
+
+hex_text : (s b : List ℕ) → decode_of s ≡ Ok b → IsUtf8 s
+hex_text s b is = IsUtf8-from_ascii s (IsAscii-from_all s (λ k d within. digit_is_ascii _ ((decode_of-ok s b is).1 k d within)))
+
+-- the digits of bytes
+hex_utf8 : (b : List ℕ) → are_bytes b ≡ true → IsUtf8 (encode_lower b)
+hex_utf8 b h = hex_text (encode_lower b) b (decode_of-encode_lower b (are_bytes_is b h))
+
+-- ---- members
+
+put_either : (r : Ordering) (a b c : Members) → MembersWritable a → MembersWritable b → MembersWritable c → MembersWritable (match_ordering r a b c)
+put_either Less a b c h i j = h
+put_either Equal a b c h i j = i
+put_either Greater a b c h i j = j
+
+put_members : (k : List ℕ) (d : Data) (ms : Members) → IsUtf8 k → IsWritable d → MembersWritable ms → MembersWritable (put k d ms)
+put_members k d no_members name here h = (name, here, tt)
+put_members k d (member l e ms) name here h =
+    put_either (slice_cmp nat_cmp k l) _ _ _ (name, here, h) (h.0, here, h.2) (h.0, h.1, put_members k d ms name here h.2)
+
+put_writable : (k : List ℕ) (d : Data) (ms : Members) → IsUtf8 k → IsWritable d → NamesRise ms × MembersWritable ms → NamesRise (put k d ms) × MembersWritable (put k d ms)
+put_writable k d ms name here h = (
+  subst (λ (ks : List (List ℕ)). IsStrictlySortedBy (slice_cmp nat_cmp) ks) (sym (names_put k d ms)) (sorted_inserted (slice_cmp nat_cmp) nat_list_cmp_total k (names_of ms) h.0),
+  put_members k d ms name here h.1,
+)
+
+no_names : NamesRise no_members × MembersWritable no_members
+unfolding IsStrictlySortedBy
+no_names = (tt, tt)
+
+single_writable : (k : List ℕ) (d : Data) → IsUtf8 k → IsWritable d → IsWritable (single k d)
+single_writable k d name here = put_writable k d no_members name here no_names
+
+-- ---- variants
+
+-- a variant's name alone, or an object with what it carries
+choice_writable : (show : JsonContent → Data) (name : List ℕ) (p : Payload) → IsUtf8 name → IsWritable (show (payload_content p)) → IsWritable (shown_choice show (Some (name, p)))
+choice_writable show name container.unit h k = h
+choice_writable show name (newtype s) h k = single_writable name (show (of s)) h k
+choice_writable show name (tuple ss) h k = single_writable name (show (of (shape.tuple ss))) h k
+choice_writable show name (container.fields fs) h k = single_writable name (show (fields fs)) h k
+
+module _ (registry : Entries) (t : Tree) (show : JsonContent → Data) (each : (f : JsonContent) → HasNames f → fits false registry t (unnamed f) ≡ true → IsWritable (show f)) where
+  numbered_writable : (n : ℕ) (cs : List Choice) → ChoiceNames cs → fits false registry t (option_map_or (λ c. container.of (payload_shape c.1)) (choice_numbered n cs) container.nothing) ≡ true
+      → IsWritable (shown_choice show (choice_numbered n cs))
+  numbered_writable n [] names h = tt
+  numbered_writable n (c ∷ cs) names h = at (c.0 == n) (numbered_writable n cs names.2) h
+    where
+      at : (b : Bool) → (fits false registry t (option_map_or (λ c. container.of (payload_shape c.1)) (choice_numbered n cs) container.nothing) ≡ true → IsWritable (shown_choice show (choice_numbered n cs)))
+          → fits false registry t (option_map_or (λ c. container.of (payload_shape c.1)) (cond b (Some c.1) (choice_numbered n cs)) container.nothing) ≡ true
+          → IsWritable (shown_choice show (cond b (Some c.1) (choice_numbered n cs)))
+      at true later h =
+          choice_writable show c.1.0 c.1.1 names.0
+          (each (payload_content c.1.1) (payload_names c.1.1 names.1) (ap (fits false registry t) (unnamed_payload c.1.1) ∙ h))
+      at false later h = later h
+
+-- ---- trees
+
+either_writable : (b : Bool) (c d : Data) → (b ≡ true → IsWritable c) → IsWritable d → IsWritable (if b then c else d)
+either_writable true c d h k = h refl
+either_writable false c d h k = k
+
+byte_text : (registry : Entries) (s : Shape) (ts : Trees) → all_fit false registry ts s ≡ true → is_byte s ≡ true → IsUtf8 (encode_lower (trees_bytes ts))
+byte_text registry (shape.unsigned w8) ts h is = hex_utf8 (trees_bytes ts) (bytes_again registry ts h).1
+byte_text registry _ ts h is = absurd (false≢true is)
+
+module _ (registry : Entries) (names : EachHasNames registry) where
+  mutual
+    writable : (t : Tree) (f : JsonContent) → HasNames f → fits false registry t (unnamed f) ≡ true → IsWritable (shown registry t f)
+    writable (tree.truth b) (of shape.truth) n h = tt
+    writable (tree.unsigned m) (of (shape.unsigned w)) n h = unsigned_writable w m h
+    writable (tree.signed z) (of (shape.signed w)) n h = signed_writable w z h
+    writable (tree.text s) (of shape.text) n h = IsUtf8-from_is_utf8 s h
+    writable (tree.bytes b) (of shape.bytes) n h = hex_utf8 b h
+    writable (tree.present t) (of (shape.option s)) n h = single_writable (codes "some") (shown registry t (of s)) (IsUtf8-are_ascii (codes "some") refl) (writable t (of s) tt h)
+    writable (tree.items ts) (of (shape.seq s)) n h = either_writable (is_byte s) _ _ (byte_text registry s ts h) (all_writable ts s h)
+    writable (tree.items ts) (of (shape.tuple ss)) n h = each_writable ts ss h
+    writable (tree.items ts) (of (shape.array s k)) n h =
+        let fit = and_right (count ts == k) _ h in
+        either_writable (is_byte s) _ _ (byte_text registry s ts fit) (all_writable ts s fit)
+    writable (tree.items ts) (fields fs) n h = fields_writable ts fs n h
+    writable (tree.pairs ps) (of (shape.map k v)) n h = pairs_writable ps k v h
+    writable (tree.variant m t) (one_of cs) n h = numbered_writable registry t (shown registry t) (writable t) m cs n (and_right (nat_lt m (2 ^ 32)) _ h)
+    writable (tree.named t) (of (shape.name k)) n h =
+        writable t (json_content_at k registry) (content_names k registry names) (ap (fits false registry t) (unnamed_at k registry) ∙ h)
+    writable _ _ n h = tt
+
+    all_writable : (ts : Trees) (s : Shape) → all_fit false registry ts s ≡ true → ItemsWritable (shown_all registry ts s)
+    all_writable no_trees s h = tt
+    all_writable (tree t ts) s h = (writable t (of s) tt (and_left _ _ h), all_writable ts s (and_right (fits false registry t (container.of s)) _ h))
+
+    each_writable : (ts : Trees) (ss : Shapes) → each_fits false registry ts ss ≡ true → ItemsWritable (shown_each registry ts ss)
+    each_writable (tree t ts) (shape s ss) h = (writable t (of s) tt (and_left _ _ h), each_writable ts ss (and_right (fits false registry t (container.of s)) _ h))
+    each_writable _ _ h = tt
+
+    pairs_writable : (ps : Pairs) (k v : Shape) → pairs_fit false registry ps k v ≡ true → ItemsWritable (shown_pairs registry ps k v)
+    pairs_writable no_pairs k v h = tt
+    pairs_writable (pair l w ps) k v h =
+        let here = and_left (fits false registry l (container.of k) && fits false registry w (container.of v)) _ h in (
+          (writable l (of k) tt (and_left _ _ here), (writable w (of v) tt (and_right (fits false registry l (container.of k)) _ here), tt)),
+          pairs_writable ps k v (and_right (fits false registry l (container.of k) && fits false registry w (container.of v)) _ h),
+        )
+
+    fields_writable : (ts : Trees) (fs : List Field) → FieldNames fs → each_fits false registry ts (field_shapes fs) ≡ true → NamesRise (shown_fields registry ts fs) × MembersWritable (shown_fields registry ts fs)
+    fields_writable (tree t ts) (f ∷ fs) n h =
+        put_writable f.0 (shown registry t (of f.1)) (shown_fields registry ts fs) n.0 (writable t (of f.1) tt (and_left _ _ h))
+        (fields_writable ts fs n.1 (and_right (fits false registry t (container.of f.1)) _ h))
+    fields_writable _ _ n h = no_names
+
+  -- what is shown of a value of the format
+  pub shown_writable : (s : Shape) (t : Tree) → fits false registry t (container.of s) ≡ true → IsWritable (shown registry t (of s))
+  shown_writable s t h = writable t (of s) tt h

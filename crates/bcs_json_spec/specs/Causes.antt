@@ -1,0 +1,21 @@
+-- What a fault of reading a text, or of encoding what it spells, is called as a fault of JSON.
+use Rattle.bcs_json_text.specs.declared.json_text.TextFault.{TextFault}
+use Rattle.bcs_json_text.specs.declared.json_text.TextFault.TheVariants as text
+use Rattle.bcs_encode_spec.specs.declared.fault.EncodeFault.{EncodeFault}
+use Rattle.bcs_encode_spec.specs.declared.fault.EncodeFault.TheVariants as encode
+use Rattle.bcs_json_spec.specs.declared.json_fault.JsonFault.{JsonFault}
+use Rattle.bcs_json_spec.specs.declared.json_fault.JsonFault.TheVariants.{NotJson, BadShape, Unsupported, TooDeep, TooManyNodes, TooLong, RepeatedKey, OutOfMemory}
+
+abbrev pub fault_of_text : TextFault → JsonFault
+fault_of_text text.NotJson = NotJson
+fault_of_text text.OutOfMemory = OutOfMemory
+
+-- what is spelled at a format is a value of it, so the first never comes
+abbrev pub fault_of_value : EncodeFault → JsonFault
+fault_of_value encode.NotOfFormat = BadShape
+fault_of_value encode.Unsupported = Unsupported
+fault_of_value encode.TooDeep = TooDeep
+fault_of_value encode.TooManyNodes = TooManyNodes
+fault_of_value encode.TooLong = TooLong
+fault_of_value encode.RepeatedKey = RepeatedKey
+fault_of_value encode.OutOfMemory = OutOfMemory

@@ -1,0 +1,46 @@
+-- What the calls over texts and bytes answer: a normal text, a text's bytes beside another's, the text of bytes.
+use Rattle.std.specs.Prelude.{◌≡◌, ◌↔◌, ℕ, List, length, Bool, IsTrue}
+use Rattle.bcs_registry_formats.specs.Container.{Entries}
+use Rattle.bcs_registry_formats.specs.Container as container
+use Rattle.bcs_registry_formats.specs.Shape.{Shape}
+use Rattle.bcs_value_spec.specs.Limits.{Bounds}
+use Rattle.bcs_value_spec.specs.Same.{Same}
+use Rattle.bcs_value_tree.specs.Tree.{Tree}
+use Rattle.bcs_encode_spec.specs.Encodes.{IsForm, Encodes}
+use Rattle.bcs_decode_spec.specs.Accepting.{Accepts}
+use Rattle.bcs_json_spec.specs.Texts.{Denotes, IsTextOf}
+
+-- the text denotes a value, and these are its bytes
+pub record HasBytes (registry : Entries) (limits : Bounds) (s : Shape) (text bytes : List ℕ) : Type 0 where
+  pub value : Tree
+  pub denoted : Denotes registry limits s text value
+  pub encoded : Encodes registry limits s value bytes
+
+-- the texts denote values; the answer is whether these are the same, and whether their bytes are equal
+pub record Compares (registry : Entries) (limits : Bounds) (s : Shape) (first second : List ℕ) (answer : Bool) : Type 0 where
+  pub one : Tree
+  pub one_denoted : Denotes registry limits s first one
+  pub other : Tree
+  pub other_denoted : Denotes registry limits s second other
+  pub same : IsTrue answer ↔ Same one other
+  pub one_bytes : List ℕ
+  pub one_encoded : Encodes registry limits s one one_bytes
+  pub other_bytes : List ℕ
+  pub other_encoded : Encodes registry limits s other other_bytes
+  pub equal : IsTrue answer ↔ (one_bytes ≡ other_bytes)
+
+-- out is the text of the canonical form of what the text denotes, and denotes this form
+pub record Normalises (registry : Entries) (limits : Bounds) (s : Shape) (text out : List ℕ) : Type 0 where
+  pub value : Tree
+  pub denoted : Denotes registry limits s text value
+  pub form : Tree
+  pub is_form : IsForm registry (container.of s) value form
+  pub is : IsTextOf registry s form out
+  pub again : Denotes registry limits s out form
+
+-- the text is that of the one value whose bytes are the whole input, and denotes it
+pub record ShowsBytes (registry : Entries) (limits : Bounds) (s : Shape) (bytes text : List ℕ) : Type 0 where
+  pub value : Tree
+  pub accepted : Accepts registry limits s bytes (length bytes) value
+  pub is : IsTextOf registry s value text
+  pub denoted : Denotes registry limits s text value

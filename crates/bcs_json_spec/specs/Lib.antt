@@ -1,0 +1,13 @@
+pub mod JsonContent
+pub mod Look
+pub mod Numbers
+pub mod Bytes
+pub mod Spells
+pub mod Refuses
+pub mod Reading
+pub mod Shown
+pub mod Texts
+pub mod Headline
+pub mod Laws
+pub mod ArraySpells
+pub mod Causes

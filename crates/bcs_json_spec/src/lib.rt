@@ -1,0 +1,9 @@
+//! What JSON texts mean, why a text denotes no value, and what holds of that: definitions and laws.
+#![tactic(auto)]
+
+mod causes;
+mod json_fault;
+pub mod laws;
+mod out_of_memory;
+
+pub use json_fault::JsonFault;
