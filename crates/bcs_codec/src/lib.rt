@@ -1,0 +1,21 @@
+//! Binary Canonical Serialization (BCS) over serde-reflection registries: the one library to depend on. It hands on the
+//! public types, calls, limits and faults of all layers, and has none of its own.
+#![tactic(auto)]
+
+pub use bcs_decode::{
+    DecodeFault, Part, Reason, Step, Stop, decode_all, decode_encoded, decode_from, decode_slice,
+    part, scan,
+};
+pub use bcs_encode::{EncodeFault, WriteFault, canonicalise, encode, encode_by_entries, write};
+pub use bcs_io::{
+    ByteSink, ByteSource, ReadSource, SinkFailed, SliceSource, SourceFailed, WriteSink, pieces,
+};
+pub use bcs_json::{
+    FromFault, JsonFault, PrintFault, Shown, compare, from_bcs, normalise, print_value, read_value,
+    to_bcs,
+};
+pub use bcs_num::{NumFault, Width};
+pub use bcs_registry::{
+    Container, Format, GrowthFault, Named, Registry, RegistryFault, VariantFormat,
+};
+pub use bcs_value::{Limits, Value, depth, fits_loosely, has_format, nodes, same};
