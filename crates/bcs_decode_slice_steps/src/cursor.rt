@@ -4,10 +4,7 @@ ghost use Rattle.bcs_decode_spec.specs.Reading.{number_here, length_here, bytes_
 ghost use Rattle.bcs_decode_slice_steps.specs.Passing.{Passes, Onward, node_here};
 
 use bcs_decode_spec::{Reason, Stop};
-use bcs_num::{NumFault, take_uleb};
-
-/// The greatest length of a list, a map, a text or a byte string.
-pub const LENGTH_LIMIT: u32 = 2147483647;
+use bcs_num::{LENGTH_LIMIT, NumFault, take_uleb};
 
 /// What is left of a slice.
 #[derive(Drop)]
@@ -96,7 +93,7 @@ pub fn length(cursor: &mut Cursor) -> Result<u32, Stop>
 {
     let start = cursor.place;
     let length = number(cursor)?;
-    if length > LENGTH_LIMIT {
+    if length as usize > LENGTH_LIMIT {
         return Err(Stop {
             reason: Reason::LengthTooLarge,
             place: start,

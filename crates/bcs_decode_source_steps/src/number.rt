@@ -5,9 +5,9 @@ ghost use Rattle.bcs_decode_source_steps.specs.Sees.{Sees, FailedIfRead, Goes, t
 
 use crate::at::At;
 use crate::bytes::{begin, byte};
-use bcs_decode_slice_steps::cursor::LENGTH_LIMIT;
 use bcs_decode_spec::{DecodeFault, Reason, Stop};
 use bcs_io::ByteSource;
+use bcs_num::LENGTH_LIMIT;
 
 /// A number.
 #[tactic(auto, using(crate::proofs::Chains::number_is))]
@@ -73,7 +73,7 @@ pub fn length<S: ByteSource>(source: &mut S, at: &mut At) -> Result<u32, DecodeF
 {
     let start = at.place;
     let length = number(source, at)?;
-    if length > LENGTH_LIMIT {
+    if length as usize > LENGTH_LIMIT {
         return Err(DecodeFault::Stop(Stop {
             reason: Reason::LengthTooLarge,
             place: start,

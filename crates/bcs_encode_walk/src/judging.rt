@@ -10,7 +10,7 @@ ghost use Rattle.bcs_encode_walk.specs.Judging as spec;
 
 use crate::leaves::{judge_bytes, judge_signed, judge_text, judge_unsigned, take};
 use crate::number_rows::judge_numbers;
-use bcs_encode_steps::pushing::LENGTH_LIMIT;
+use bcs_num::LENGTH_LIMIT;
 use bcs_registry::{Container, Format, Named, Registry, VariantFormat};
 use bcs_registry_formats::WholeNumber;
 use bcs_value::Value;

@@ -8,8 +8,7 @@ ghost use Rattle.bcs_value_spec.specs.Fits.{are_bytes};
 ghost use Rattle.bcs_encode_spec.specs.Lengths.{length_limit};
 ghost use Rattle.bcs_encode_walk.specs.Judging.{judged, leaf, less};
 
-use bcs_encode_steps::pushing::LENGTH_LIMIT;
-use bcs_num::Width;
+use bcs_num::{LENGTH_LIMIT, Width};
 use bcs_registry_formats::Format;
 
 /// What is left once so many are taken. `None`: there are fewer.

@@ -8,6 +8,7 @@ pub use Rattle.bcs_json_spec.specs.Bytes
 pub use Rattle.bcs_json_spec.specs.Spells
 pub use Rattle.bcs_json_spec.specs.ArraySpells
 pub use Rattle.bcs_json_spec.specs.Refuses
+pub use Rattle.bcs_json_spec.specs.FaultNames
 pub use Rattle.bcs_json_spec.specs.Shown
 pub use Rattle.bcs_json_spec.specs.Texts
 pub use Rattle.bcs_json_spec.specs.Headline

@@ -11,3 +11,4 @@ pub mod Headline
 pub mod Laws
 pub mod ArraySpells
 pub mod Causes
+pub mod FaultNames

@@ -4,6 +4,9 @@ ghost use Rattle.bcs_num.specs.Uleb.{uleb, IsUnended, IsLongForm, IsTooLarge};
 
 use crate::fault::NumFault;
 
+/// The greatest length of a list, a map, a text or a byte string, by the BCS specification.
+pub const LENGTH_LIMIT: usize = 2147483647;
+
 /// Writes the shortest form of `n` at the front of `out`, and answers how many bytes it has: one
 /// to five.
 pub fn put_uleb(n: u32, out: &mut [u8; 5]) -> usize

@@ -5,6 +5,7 @@ pub use Rattle.bcs_registry_formats.specs.View
 pub use Rattle.bcs_registry_formats.specs.WellFormed
 pub use Rattle.bcs_registry_formats.specs.Breaks
 pub use Rattle.bcs_registry_formats.specs.Grows
+pub use Rattle.bcs_registry_formats.specs.FaultNames
 pub use Rattle.bcs_registry_formats.specs.Order
 pub use Rattle.bcs_registry_formats.specs.Ranges
 pub use Rattle.bcs_registry_formats.specs.Laws

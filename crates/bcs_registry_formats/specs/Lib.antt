@@ -12,3 +12,4 @@ pub mod Order
 pub mod Ranges
 pub mod Laws
 pub mod Names
+pub mod FaultNames

@@ -18,7 +18,8 @@ use Rattle.bcs_json_spec.specs.Texts.{Denotes, RefusesText, nesting_limit}
 use Rattle.hex.specs.Hex.{decode_of}
 use Rattle.hex.specs.declared.error.FromHexError.{FromHexError}
 use Rattle.hex.specs.declared.error.FromHexError.TheVariants.{OutOfMemory}
-use Rattle.bcs_tool.specs.Answers.{Answers, IsAsked, IsContent, checked, decoded, different, encoded, equal, first_refused, found, front_stopped, grown, json_fault_name, no_bytes, normalised, nowhere, refusal_line, refused, refused_early, second_refused, stopped, too_nested}
+use Rattle.bcs_json_spec.specs.FaultNames.{json_fault_name}
+use Rattle.bcs_tool.specs.Answers.{Answers, IsAsked, IsContent, checked, decoded, different, encoded, equal, first_refused, found, front_stopped, grown, no_bytes, normalised, nowhere, refusal_line, refused, refused_early, second_refused, stopped, too_nested}
 use Rattle.bcs_tool.specs.Judging.{Asks, RefusesAt, RefusesFormatted, RefusesPart, works_on_values}
 use Rattle.bcs_tool.specs.declared.job_fault.JobFault.{JobFault}
 use Rattle.bcs_tool.specs.declared.job_fault.JobFault.TheVariants.{BadPath, Growth, Registry}

@@ -35,7 +35,8 @@ use Rattle.bcs_tool_line.specs.declared.command.Command.{Command}
 use Rattle.bcs_tool_line.specs.declared.command.Command.TheVariants.{Check, Encode, Decode, Normalise}
 use Rattle.bcs_tool_line.specs.declared.command.Command.TheVariants as command
 use Rattle.bcs_tool.specs.AnswerLaws.{OneAnswer}
-use Rattle.bcs_tool.specs.Answers.{Answers, IsAsked, count_line, json_fault_name, line_of, printed, printed_none, refusal_line, stop_line}
+use Rattle.bcs_json_spec.specs.FaultNames.{json_fault_name}
+use Rattle.bcs_tool.specs.Answers.{Answers, IsAsked, count_line, line_of, printed, printed_none, refusal_line, stop_line}
 use Rattle.bcs_tool.specs.Answers as answer
 use Rattle.bcs_tool.specs.Input as given
 use Rattle.bcs_tool.specs.Judging.{IsFormat, IsPath, IsRegistry, RefusesAt, RefusesFormatted, job_fault_name}

@@ -15,11 +15,11 @@ use Rattle.bcs_decode_spec.specs.Accepting.{Accepts}
 use Rattle.bcs_decode_spec.specs.Stopping.{Stops, StopsAll}
 use Rattle.bcs_decode_parts.specs.Parts.{Step, Part, part_at}
 use Rattle.bcs_json_spec.specs.Headline.{Compares, HasBytes, Normalises, ShowsBytes}
+use Rattle.bcs_json_spec.specs.FaultNames.{json_fault_name}
 use Rattle.bcs_json_spec.specs.JsonContent.{of}
 use Rattle.bcs_json_spec.specs.Shown.{shown}
 use Rattle.bcs_json_spec.specs.Texts.{Denotes, RefusesText, nesting_limit}
 use Rattle.bcs_json_spec.specs.declared.json_fault.JsonFault.{JsonFault}
-use Rattle.bcs_json_spec.specs.declared.json_fault.JsonFault.TheVariants.{NotJson, TooNested, Unsupported, BadShape, BadNumber, BadHex, UnknownField, MissingField, UnknownVariant, TooDeep, TooManyNodes, TooLong, RepeatedKey, OutOfMemory}
 use Rattle.bcs_tool_path.specs.Path.{SpellsPath}
 use Rattle.bcs_tool_files.specs.Files.{size_limit}
 use Rattle.bcs_tool.specs.Input as given
@@ -28,23 +28,6 @@ use Rattle.bcs_tool_line.specs.declared.command.Command.{Command}
 use Rattle.bcs_tool_line.specs.declared.command.Command.TheVariants as command
 use Rattle.bcs_tool.specs.declared.job_fault.JobFault.{JobFault}
 use Rattle.bcs_tool_files.specs.declared.work.Work.{Work}
-
--- the name that is printed of why a text denotes no value
-abbrev pub json_fault_name : JsonFault → List ℕ
-json_fault_name NotJson = codes "NotJson"
-json_fault_name TooNested = codes "TooNested"
-json_fault_name Unsupported = codes "Unsupported"
-json_fault_name BadShape = codes "BadShape"
-json_fault_name BadNumber = codes "BadNumber"
-json_fault_name BadHex = codes "BadHex"
-json_fault_name UnknownField = codes "UnknownField"
-json_fault_name MissingField = codes "MissingField"
-json_fault_name UnknownVariant = codes "UnknownVariant"
-json_fault_name TooDeep = codes "TooDeep"
-json_fault_name TooManyNodes = codes "TooManyNodes"
-json_fault_name TooLong = codes "TooLong"
-json_fault_name RepeatedKey = codes "RepeatedKey"
-json_fault_name OutOfMemory = codes "OutOfMemory"
 
 -- the text, and a line end
 abbrev pub line_of : List ℕ → List ℕ

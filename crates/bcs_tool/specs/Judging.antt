@@ -2,14 +2,14 @@
 use Rattle.std.specs.Prelude.{◌≡◌, ◌⊎◌, ◌==◌, ◌||◌, ℕ, List, [], ◌∷◌, None, Bool, true, false, codes, is_some, string_bytes}
 use Rattle.bcs_registry_formats.specs.Container.{Entries, container_at}
 use Rattle.bcs_registry_spec.specs.Faults.{IsLeastFault, IsLeastFormatFault}
+use Rattle.bcs_registry_formats.specs.FaultNames.{growth_fault_name, registry_fault_name}
 use Rattle.bcs_registry_formats.specs.Grows.{IsFirstGrowthFault}
 use Rattle.bcs_registry_formats.specs.Shape.{Shape, name}
 use Rattle.bcs_registry_text.specs.Text.{WritesRegistry, WritesFormat}
 use Rattle.bcs_registry_formats.specs.WellFormed.{IsWellFormed, Admits}
 use Rattle.bcs_registry_formats.specs.declared.fault.RegistryFault.{RegistryFault}
-use Rattle.bcs_registry_formats.specs.declared.fault.RegistryFault.TheVariants.{NotJson, BadShape, BadNumber, TooNested, RepeatedName, UnknownName, OutOfMemory}
+use Rattle.bcs_registry_formats.specs.declared.fault.RegistryFault.TheVariants.{UnknownName, OutOfMemory}
 use Rattle.bcs_registry_formats.specs.declared.growth_fault.GrowthFault.{GrowthFault}
-use Rattle.bcs_registry_formats.specs.declared.growth_fault.GrowthFault.TheVariants.{Missing, Changed, VariantMissing, VariantChanged}
 use Rattle.bcs_decode_parts.specs.Parts.{Step}
 use Rattle.bcs_tool_path.specs.Path.{SpellsNoPath, SpellsPath}
 use Rattle.bcs_tool_path.specs.declared.path_fault.PathFault.{PathFault}
@@ -21,21 +21,6 @@ use Rattle.bcs_tool.specs.declared.job_fault.JobFault.TheVariants as job
 use Rattle.bcs_tool_files.specs.declared.work.Work.{Work}
 
 -- ---- the names that are printed
-
-abbrev pub registry_fault_name : RegistryFault → List ℕ
-registry_fault_name NotJson = codes "NotJson"
-registry_fault_name BadShape = codes "BadShape"
-registry_fault_name BadNumber = codes "BadNumber"
-registry_fault_name TooNested = codes "TooNested"
-registry_fault_name RepeatedName = codes "RepeatedName"
-registry_fault_name UnknownName = codes "UnknownName"
-registry_fault_name OutOfMemory = codes "OutOfMemory"
-
-abbrev pub growth_fault_name : GrowthFault → List ℕ
-growth_fault_name Missing = codes "Missing"
-growth_fault_name Changed = codes "Changed"
-growth_fault_name VariantMissing = codes "VariantMissing"
-growth_fault_name VariantChanged = codes "VariantChanged"
 
 abbrev pub job_fault_name : JobFault → List ℕ
 job_fault_name (job.Registry fault) = registry_fault_name fault

@@ -2,7 +2,7 @@
 ghost use Rattle.std.specs.Prelude.{◌≡◌, ◌≢◌, IfOk};
 ghost use Rattle.bcs_registry_formats.specs.declared.fault.RegistryFault.TheVariants.{OutOfMemory};
 ghost use Rattle.bcs_tool.specs.Answers.{refusal_line};
-ghost use Rattle.bcs_tool.specs.Judging.{job_fault_name, growth_fault_name, registry_fault_name};
+ghost use Rattle.bcs_tool.specs.Judging.{job_fault_name};
 
 use crate::answer::{Answer, refused};
 use bcs_registry::{GrowthFault, RegistryFault};
@@ -13,15 +13,13 @@ use thiserror::Error;
 /// Why a job is refused before its input is read. Want of memory is a `Registry` fault, whatever
 /// asked for the memory.
 #[derive(Clone, Copy, Debug, Drop, PartialEq, Eq, Error)]
+#[error("{}", self.name())]
 pub enum JobFault {
     /// A registry's text or FORMAT is refused.
-    #[error("{0}")]
     Registry(RegistryFault),
     /// The newer registry doesn't keep all that the older one has.
-    #[error("{0}")]
     Growth(GrowthFault),
     /// PATH spells no steps.
-    #[error("BadPath")]
     BadPath,
 }
 
@@ -37,40 +35,15 @@ impl JobFault {
         }
     }
 
-    // The name that is printed.
-    fn name(self) -> &'static str
+    /// The fault's name, which is printed.
+    pub fn name(self) -> &'static str
         ensures { result.now ≡ job_fault_name self }
     {
         match self {
-            JobFault::Registry(fault) => registry_name(fault),
-            JobFault::Growth(fault) => growth_name(fault),
+            JobFault::Registry(fault) => fault.name(),
+            JobFault::Growth(fault) => fault.name(),
             JobFault::BadPath => "BadPath",
         }
-    }
-}
-
-fn registry_name(fault: RegistryFault) -> &'static str
-    ensures { result.now ≡ registry_fault_name fault }
-{
-    match fault {
-        RegistryFault::NotJson => "NotJson",
-        RegistryFault::BadShape => "BadShape",
-        RegistryFault::BadNumber => "BadNumber",
-        RegistryFault::TooNested => "TooNested",
-        RegistryFault::RepeatedName => "RepeatedName",
-        RegistryFault::UnknownName => "UnknownName",
-        RegistryFault::OutOfMemory => "OutOfMemory",
-    }
-}
-
-fn growth_name(fault: GrowthFault) -> &'static str
-    ensures { result.now ≡ growth_fault_name fault }
-{
-    match fault {
-        GrowthFault::Missing => "Missing",
-        GrowthFault::Changed => "Changed",
-        GrowthFault::VariantMissing => "VariantMissing",
-        GrowthFault::VariantChanged => "VariantChanged",
     }
 }
 

@@ -1,6 +1,7 @@
 //! Why the text of a value is refused.
 ghost use Rattle.std.specs.Prelude.{◌≡◌, ◌≢◌, IfOk};
-ghost use Rattle.bcs_tool.specs.Answers.{json_fault_name, refusal_line};
+ghost use Rattle.bcs_json_spec.specs.FaultNames.{json_fault_name};
+ghost use Rattle.bcs_tool.specs.Answers.{refusal_line};
 
 use crate::answer::{Answer, refused};
 use bcs_json::JsonFault;
@@ -13,28 +14,6 @@ pub fn refused_text(alloc: Global, fault: JsonFault) -> Result<Answer, AllocErro
 {
     match fault {
         JsonFault::OutOfMemory => Err(AllocError),
-        _ => refused(alloc, name(fault)),
-    }
-}
-
-// The name that is printed.
-fn name(fault: JsonFault) -> &'static str
-    ensures { result.now ≡ json_fault_name fault }
-{
-    match fault {
-        JsonFault::NotJson => "NotJson",
-        JsonFault::TooNested => "TooNested",
-        JsonFault::Unsupported => "Unsupported",
-        JsonFault::BadShape => "BadShape",
-        JsonFault::BadNumber => "BadNumber",
-        JsonFault::BadHex => "BadHex",
-        JsonFault::UnknownField => "UnknownField",
-        JsonFault::MissingField => "MissingField",
-        JsonFault::UnknownVariant => "UnknownVariant",
-        JsonFault::TooDeep => "TooDeep",
-        JsonFault::TooManyNodes => "TooManyNodes",
-        JsonFault::TooLong => "TooLong",
-        JsonFault::RepeatedKey => "RepeatedKey",
-        JsonFault::OutOfMemory => "OutOfMemory",
+        _ => refused(alloc, fault.name()),
     }
 }

@@ -1,7 +1,8 @@
 use Rattle.std.proofs.Common.{inl, refl}
 use Rattle.std.proofs.lemmas.Result.{IfOk-weaker}
 use Rattle.bcs_registry_formats.specs.View.{shape_of}
-use Rattle.bcs_tool.specs.Answers.{encoded, json_fault_name, printed, refusal_line, refused}
+use Rattle.bcs_json_spec.specs.FaultNames.{json_fault_name}
+use Rattle.bcs_tool.specs.Answers.{encoded, printed, refusal_line, refused}
 use Rattle.bcs_tool_line.specs.declared.command.Command.TheVariants.{Encode}
 use Rattle.bcs_tool.proofs.AnswerLemmas.{is_asked, same_answer}
 use Rattle.bcs_tool.proofs.value_answers.answer_encode.Goals as goal

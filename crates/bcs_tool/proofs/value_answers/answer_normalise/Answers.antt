@@ -1,7 +1,8 @@
 use Rattle.std.proofs.Common.{inr, refl, string_bytes}
 use Rattle.std.proofs.lemmas.Result.{IfOk-weaker}
 use Rattle.bcs_registry_formats.specs.View.{shape_of}
-use Rattle.bcs_tool.specs.Answers.{json_fault_name, line_of, normalised, refusal_line, refused}
+use Rattle.bcs_json_spec.specs.FaultNames.{json_fault_name}
+use Rattle.bcs_tool.specs.Answers.{line_of, normalised, refusal_line, refused}
 use Rattle.bcs_tool_line.specs.declared.command.Command.TheVariants.{Normalise}
 use Rattle.bcs_tool.proofs.AnswerLemmas.{is_asked, same_answer}
 use Rattle.bcs_tool.proofs.value_answers.answer_normalise.Goals as goal

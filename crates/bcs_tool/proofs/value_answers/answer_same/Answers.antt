@@ -4,7 +4,8 @@ use Rattle.bcs_registry_formats.specs.View.{shape_of}
 use Rattle.bcs_value_tree.specs.Tree.{Tree}
 use Rattle.bcs_json_spec.specs.Headline.{Compares}
 use Rattle.bcs_json_spec.specs.Texts.{Denotes, RefusesText}
-use Rattle.bcs_tool.specs.Answers.{different, equal, json_fault_name, line_of, refusal_line}
+use Rattle.bcs_json_spec.specs.FaultNames.{json_fault_name}
+use Rattle.bcs_tool.specs.Answers.{different, equal, line_of, refusal_line}
 use Rattle.bcs_tool_line.specs.declared.command.Command.TheVariants.{Same}
 use Rattle.bcs_tool.proofs.AnswerLemmas.{is_asked, refused_texts, same_answer}
 use Rattle.bcs_tool.proofs.value_answers.answer_same.Goals as goal
