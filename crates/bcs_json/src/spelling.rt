@@ -28,5 +28,5 @@ pub(crate) fn spelled(
     if !nests_within(&json, NESTING_LIMIT) {
         return Err(JsonFault::TooNested);
     }
-    read(json, format, registry, limits.depth(), alloc)
+    read(alloc, registry, format, limits.depth(), json)
 }

@@ -28,63 +28,63 @@ use std::collections::BTreeMap;
 /// The container of this name.
 #[cycle(reading)]
 pub(crate) fn read_named(
-    json: Json,
-    name: &str,
-    registry: &Registry,
-    left: u32,
     alloc: Global,
+    registry: &Registry,
+    name: &str,
+    left: u32,
+    json: Json,
 ) -> Result<Value, JsonFault>
     ensures { Tells tree_of result (spec.read_named registry.now left name.now (view json)) }
 {
     let inside = open_container(left)?;
-    let value = read_content(json, name, registry, inside, alloc)?;
+    let value = read_content(alloc, registry, name, inside, json)?;
     Ok(Value::Named(Box::new(alloc, value)?))
 }
 
 /// What stands in the container of this name.
 #[cycle(reading)]
 fn read_content(
-    json: Json,
-    name: &str,
-    registry: &Registry,
-    left: u32,
     alloc: Global,
+    registry: &Registry,
+    name: &str,
+    left: u32,
+    json: Json,
 ) -> Result<Value, JsonFault>
     ensures { Tells tree_of result (read_data registry.now left (json_content_at name.now registry.now) (view json)) }
 {
     match container_called(registry, name)? {
         Container::UnitStruct => read_unit(json),
-        Container::NewTypeStruct(format) => read(json, format, registry, left, alloc),
-        Container::TupleStruct(formats) => read_tuple(json, formats, registry, left, alloc),
-        Container::Struct(fields) => read_struct(json, fields, registry, left, alloc),
-        Container::Enum(variants) => read_enum(json, name, variants, registry, left, alloc),
+        Container::NewTypeStruct(format) => read(alloc, registry, format, left, json),
+        Container::TupleStruct(formats) => read_tuple(alloc, registry, formats, left, json),
+        Container::Struct(fields) => read_struct(alloc, registry, fields, left, json),
+        Container::Enum(variants) => read_enum(alloc, registry, name, variants, left, json),
     }
 }
 
 /// An object of exactly the fields.
 #[cycle(reading)]
 fn read_struct(
-    json: Json,
-    fields: &[Named<Format>],
-    registry: &Registry,
-    left: u32,
     alloc: Global,
+    registry: &Registry,
+    fields: &[Named<Format>],
+    left: u32,
+    json: Json,
 ) -> Result<Value, JsonFault>
     ensures { Tells tree_of result (spec.read_struct (spec.read_named registry.now left) (map field_of fields.now) (view json)) }
 {
     let members = object_of(json)?;
-    Ok(Value::Items(read_fields(members, fields, registry, left, alloc)?))
+    Ok(Value::Items(read_fields(alloc, registry, fields, left, members)?))
 }
 
 /// A unit variant's name, or an object with one member, the variant's name with its payload.
 #[cycle(reading)]
 fn read_enum(
-    json: Json,
+    alloc: Global,
+    registry: &Registry,
     name: &str,
     variants: &BTreeMap<u32, Named<VariantFormat>>,
-    registry: &Registry,
     left: u32,
-    alloc: Global,
+    json: Json,
 ) -> Result<Value, JsonFault>
     requires stands { container_at name.now registry.now ≡ Some (enumeration (map choice_of variants.now.entries)) }
     requires well_formed { IsWellFormed registry.now }
@@ -92,10 +92,10 @@ fn read_enum(
     ensures { Tells tree_of result (spec.read_enum (spec.read_named registry.now left) (map choice_of variants.now.entries) (view json)) }
 {
     match enum_of(json)? {
-        EnumJson::Name(word) => read_word(registry, name, variants, word, alloc),
+        EnumJson::Name(word) => read_word(alloc, registry, name, variants, word),
         EnumJson::Member(word, part) => {
             let (number, variant) = variant_called(registry, name, variants, word.as_str())?;
-            let value = read_payload(part, &variant.value, registry, left, alloc)?;
+            let value = read_payload(alloc, registry, &variant.value, left, part)?;
             Ok(Value::Variant(number, Box::new(alloc, value)?))
         }
     }
@@ -104,18 +104,18 @@ fn read_enum(
 /// What a variant carries.
 #[cycle(reading)]
 fn read_payload(
-    json: Json,
-    payload: &VariantFormat,
-    registry: &Registry,
-    left: u32,
     alloc: Global,
+    registry: &Registry,
+    payload: &VariantFormat,
+    left: u32,
+    json: Json,
 ) -> Result<Value, JsonFault>
     ensures { Tells tree_of result (spec.read_part (spec.read_named registry.now left) (payload_content (payload_of payload.now)) (view json)) }
 {
     match payload {
         VariantFormat::Unit => read_unit(json),
-        VariantFormat::NewType(format) => read(json, format, registry, left, alloc),
-        VariantFormat::Tuple(formats) => read_tuple(json, formats, registry, left, alloc),
-        VariantFormat::Struct(fields) => read_struct(json, fields, registry, left, alloc),
+        VariantFormat::NewType(format) => read(alloc, registry, format, left, json),
+        VariantFormat::Tuple(formats) => read_tuple(alloc, registry, formats, left, json),
+        VariantFormat::Struct(fields) => read_struct(alloc, registry, fields, left, json),
     }
 }

@@ -19,18 +19,18 @@ use std::alloc::Global;
 /// The items in order, each a value of the one format.
 #[cycle(reading)]
 pub(crate) fn read_all(
-    items: Vec<Json>,
-    element: &Format,
-    registry: &Registry,
-    left: u32,
     alloc: Global,
+    registry: &Registry,
+    element: &Format,
+    left: u32,
+    items: Vec<Json>,
 ) -> Result<Vec<Value>, JsonFault>
     ensures { Tells (λ v. items_trees v.items) result
         (spec.read_all (read_data registry.now left (of (shape_of element.now))) (items_view items.items)) }
 {
     let mut found = Vec::with_capacity(alloc, items.len())?;
     for item in items {
-        found.push(read(item, element, registry, left, alloc)?)?;
+        found.push(read(alloc, registry, element, left, item)?)?;
     }
     Ok(found)
 }
@@ -38,11 +38,11 @@ pub(crate) fn read_all(
 /// An item of each format in turn.
 #[cycle(reading)]
 pub(crate) fn read_each(
-    items: Vec<Json>,
-    formats: &[Format],
-    registry: &Registry,
-    left: u32,
     alloc: Global,
+    registry: &Registry,
+    formats: &[Format],
+    left: u32,
+    items: Vec<Json>,
 ) -> Result<Vec<Value>, JsonFault>
     ensures { Tells (λ v. items_trees v.items) result
         (spec.read_each (spec.read_named registry.now left) (formats_shapes formats.now) (items_view items.items)) }
@@ -53,7 +53,7 @@ pub(crate) fn read_each(
         let Some(item) = rest.next() else {
             return Err(JsonFault::BadShape);
         };
-        found.push(read(item, format, registry, left, alloc)?)?;
+        found.push(read(alloc, registry, format, left, item)?)?;
     }
     Ok(found)
 }
@@ -61,12 +61,12 @@ pub(crate) fn read_each(
 /// The items in order, each an array of a key and its value.
 #[cycle(reading)]
 pub(crate) fn read_pairs(
-    items: Vec<Json>,
+    alloc: Global,
+    registry: &Registry,
     key: &Format,
     content: &Format,
-    registry: &Registry,
     left: u32,
-    alloc: Global,
+    items: Vec<Json>,
 ) -> Result<Vec<(Value, Value)>, JsonFault>
     ensures { Tells (λ v. entries_pairs v.items) result
         (spec.read_pairs (read_data registry.now left (of (shape_of key.now))) (read_data registry.now left (of (shape_of content.now))) (items_view items.items)) }
@@ -74,8 +74,8 @@ pub(crate) fn read_pairs(
     let mut found = Vec::with_capacity(alloc, items.len())?;
     for item in items {
         let (first, second) = pair_of(item)?;
-        let name = read(first, key, registry, left, alloc)?;
-        let value = read(second, content, registry, left, alloc)?;
+        let name = read(alloc, registry, key, left, first)?;
+        let value = read(alloc, registry, content, left, second)?;
         found.push((name, value))?;
     }
     Ok(found)
@@ -84,11 +84,11 @@ pub(crate) fn read_pairs(
 /// A value of each field in turn, whose member is taken away. Then no member may be left.
 #[cycle(reading)]
 pub(crate) fn read_fields(
-    members: Map<String, Json>,
-    fields: &[Named<Format>],
-    registry: &Registry,
-    left: u32,
     alloc: Global,
+    registry: &Registry,
+    fields: &[Named<Format>],
+    left: u32,
+    members: Map<String, Json>,
 ) -> Result<Vec<Value>, JsonFault>
     ensures { Tells (λ v. items_trees v.items) result
         (spec.read_fields (spec.read_named registry.now left) (map field_of fields.now) (members_view members.entries)) }
@@ -97,7 +97,7 @@ pub(crate) fn read_fields(
     let mut found = Vec::with_capacity(alloc, fields.len())?;
     for field in fields {
         let member = take_field(&mut members, field.name.as_str())?;
-        found.push(read(member, &field.value, registry, left, alloc)?)?;
+        found.push(read(alloc, registry, &field.value, left, member)?)?;
     }
     no_member_left(&members)?;
     Ok(found)

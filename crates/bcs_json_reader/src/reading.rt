@@ -25,22 +25,22 @@ use std::alloc::Global;
 /// The value that the JSON spells at a format, where so many containers may open.
 #[cycle(reading)]
 pub fn read(
-    json: Json,
-    format: &Format,
-    registry: &Registry,
-    left: u32,
     alloc: Global,
+    registry: &Registry,
+    format: &Format,
+    left: u32,
+    json: Json,
 ) -> Result<Value, JsonFault>
     ensures { Tells tree_of result (read_data registry.now left (of (shape_of format.now)) (view json)) }
 {
     match format {
-        Format::TypeName(name) => read_named(json, name.as_str(), registry, left, alloc),
-        Format::Opt(content) => read_option(json, content, registry, left, alloc),
-        Format::Seq(element) => read_list(json, element, registry, left, alloc),
-        Format::Map(key, content) => read_map(json, key, content, registry, left, alloc),
-        Format::Tuple(formats) => read_tuple(json, formats, registry, left, alloc),
+        Format::TypeName(name) => read_named(alloc, registry, name.as_str(), left, json),
+        Format::Opt(content) => read_option(alloc, registry, content, left, json),
+        Format::Seq(element) => read_list(alloc, registry, element, left, json),
+        Format::Map(key, content) => read_map(alloc, registry, key, content, left, json),
+        Format::Tuple(formats) => read_tuple(alloc, registry, formats, left, json),
         Format::TupleArray(element, size) => {
-            read_array(json, element, *size, registry, left, alloc)
+            read_array(alloc, registry, element, *size, left, json)
         }
         Format::Unit
         | Format::Bool
@@ -58,25 +58,25 @@ pub fn read(
         | Format::F64
         | Format::Char
         | Format::Str
-        | Format::Bytes => read_leaf(json, format, alloc),
+        | Format::Bytes => read_leaf(alloc, format, json),
     }
 }
 
 /// `null`, or an object with the one member `some`.
 #[cycle(reading)]
 fn read_option(
-    json: Json,
-    content: &Format,
-    registry: &Registry,
-    left: u32,
     alloc: Global,
+    registry: &Registry,
+    content: &Format,
+    left: u32,
+    json: Json,
 ) -> Result<Value, JsonFault>
     ensures { Tells tree_of result (spec.read_option (read_data registry.now left (of (shape_of content.now))) (view json)) }
 {
     match option_of(json)? {
         None => Ok(Value::Absent),
         Some(part) => {
-            let value = read(part, content, registry, left, alloc)?;
+            let value = read(alloc, registry, content, left, part)?;
             Ok(Value::Present(Box::new(alloc, value)?))
         }
     }
@@ -85,18 +85,18 @@ fn read_option(
 /// An array, or hexadecimal digits where the elements are bytes.
 #[cycle(reading)]
 fn read_list(
-    json: Json,
-    element: &Format,
-    registry: &Registry,
-    left: u32,
     alloc: Global,
+    registry: &Registry,
+    element: &Format,
+    left: u32,
+    json: Json,
 ) -> Result<Value, JsonFault>
     ensures { Tells tree_of result
         (spec.read_seq (is_byte (shape_of element.now)) (read_data registry.now left (of (shape_of element.now))) (view json)) }
 {
     match list_of(json)? {
         ListJson::Array(items) => {
-            Ok(Value::Items(read_all(items, element, registry, left, alloc)?))
+            Ok(Value::Items(read_all(alloc, registry, element, left, items)?))
         }
         ListJson::Text(text) => Ok(Value::Items(read_byte_text(alloc, element, text)?)),
     }
@@ -105,12 +105,12 @@ fn read_list(
 /// An array of so many elements, or so many bytes by hexadecimal digits.
 #[cycle(reading)]
 fn read_array(
-    json: Json,
+    alloc: Global,
+    registry: &Registry,
     element: &Format,
     size: u64,
-    registry: &Registry,
     left: u32,
-    alloc: Global,
+    json: Json,
 ) -> Result<Value, JsonFault>
     ensures { Tells tree_of result
         (spec.read_array (is_byte (shape_of element.now)) size (read_data registry.now left (of (shape_of element.now))) (view json)) }
@@ -118,7 +118,7 @@ fn read_array(
     match list_of(json)? {
         ListJson::Array(items) => {
             exactly(items.len(), size)?;
-            Ok(Value::Items(read_all(items, element, registry, left, alloc)?))
+            Ok(Value::Items(read_all(alloc, registry, element, left, items)?))
         }
         ListJson::Text(text) => Ok(Value::Items(read_byte_array(alloc, element, size, text)?)),
     }
@@ -127,31 +127,31 @@ fn read_array(
 /// An array of a value of each format.
 #[cycle(reading)]
 pub(crate) fn read_tuple(
-    json: Json,
-    formats: &[Format],
-    registry: &Registry,
-    left: u32,
     alloc: Global,
+    registry: &Registry,
+    formats: &[Format],
+    left: u32,
+    json: Json,
 ) -> Result<Value, JsonFault>
     ensures { Tells tree_of result (read_data registry.now left (of (tuple_shape (formats_shapes formats.now))) (view json)) }
 {
     let items = array_of_exactly(json, formats.len() as u64)?;
-    Ok(Value::Items(read_each(items, formats, registry, left, alloc)?))
+    Ok(Value::Items(read_each(alloc, registry, formats, left, items)?))
 }
 
 /// An array of keys with their values.
 #[cycle(reading)]
 fn read_map(
-    json: Json,
+    alloc: Global,
+    registry: &Registry,
     key: &Format,
     content: &Format,
-    registry: &Registry,
     left: u32,
-    alloc: Global,
+    json: Json,
 ) -> Result<Value, JsonFault>
     ensures { Tells tree_of result
         (spec.read_map (read_data registry.now left (of (shape_of key.now))) (read_data registry.now left (of (shape_of content.now))) (view json)) }
 {
     let items = array_of(json)?;
-    Ok(Value::Pairs(read_pairs(items, key, content, registry, left, alloc)?))
+    Ok(Value::Pairs(read_pairs(alloc, registry, key, content, left, items)?))
 }

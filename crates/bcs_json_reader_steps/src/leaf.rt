@@ -16,7 +16,7 @@ use std::alloc::Global;
 
 /// A value of a format that has no parts. `Unsupported`: the format has no values, or has parts, and is read elsewhere.
 #[inline(never)]
-pub fn read_leaf(json: Json, format: &Format, alloc: Global) -> Result<Value, JsonFault>
+pub fn read_leaf(alloc: Global, format: &Format, json: Json) -> Result<Value, JsonFault>
     ensures { Tells tree_of result (spec.read_leaf (shape_of format.now) (view json)) }
 {
     match format {

@@ -36,11 +36,11 @@ pub fn variant_called<'a>(
 /// name. `BadShape`: it has one that carries something.
 #[inline(never)]
 pub fn read_word(
+    alloc: Global,
     registry: &Registry,
     name: &str,
     variants: &BTreeMap<u32, Named<VariantFormat>>,
     word: String,
-    alloc: Global,
 ) -> Result<Value, JsonFault>
     requires stands { container_at name.now registry.now ≡ Some (enumeration (map choice_of variants.now.entries)) }
     requires orderly { IsOrderly registry.now }
