@@ -2,7 +2,7 @@
 #![tactic(auto)]
 
 mod decoding;
-mod from_slice;
+mod scanning;
 mod slice_decoding;
 mod slice_parts;
 
@@ -10,6 +10,6 @@ pub use bcs_decode_parts::{Part, Step, laws as part_laws};
 pub use bcs_decode_spec::{DecodeFault, Reason, Stop, laws};
 pub use bcs_io::{ByteSource, ReadSource, SliceSource, SourceFailed, pieces};
 pub use decoding::{decode_all, decode_from};
-pub use from_slice::scan;
+pub use scanning::scan;
 pub use slice_decoding::{decode_encoded, decode_slice};
 pub use slice_parts::part;

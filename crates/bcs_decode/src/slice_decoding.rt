@@ -12,7 +12,7 @@ ghost use Rattle.bcs_decode_spec.specs.Stopping.{Stops};
 ghost use Rattle.bcs_decode_spec.specs.declared.reason.Reason.{Reason};
 
 use crate::decoding::front;
-use crate::from_slice::scan;
+use crate::scanning::scan;
 use bcs_decode_spec::DecodeFault;
 use bcs_io::SliceSource;
 use bcs_registry::{Format, Registry};

@@ -10,7 +10,7 @@ ghost use Rattle.bcs_decode_spec.specs.Stopping.{Stops};
 ghost use Rattle.bcs_decode_parts.specs.Parts.{part_at};
 ghost use Rattle.bcs_decode_parts.specs.Steps.{GivesPart, step_of};
 
-use crate::from_slice::scan;
+use crate::scanning::scan;
 use bcs_decode_parts::ahead::Ahead;
 use bcs_decode_parts::walking::walk;
 use bcs_decode_parts::{Part, Step};

@@ -6,7 +6,7 @@ ghost use Rattle.bcs_json_spec.specs.Texts.{Denotes, RefusesText};
 ghost use Rattle.bcs_value_tree.specs.Tree.{Tree};
 ghost use Rattle.bcs_json_spec.specs.declared.json_fault.JsonFault.TheVariants.{OutOfMemory};
 
-use crate::bytes::to_bcs;
+use crate::encoding::to_bcs;
 use bcs_json_spec::JsonFault;
 use bcs_registry::{Format, Registry};
 use bcs_value::Limits;

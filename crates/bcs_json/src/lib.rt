@@ -1,24 +1,24 @@
 //! What JSON texts mean: the value that a text denotes, the text of each value, and bytes in place of either.
 #![tactic(auto)]
 
-mod bytes;
+mod encoding;
 mod comparing;
 mod denoting;
 mod from_fault;
-mod normal_text;
+mod normalising;
 mod print_fault;
 mod spelling;
-mod text_of_bytes;
-mod value_printing;
-mod value_reading;
+mod decoding;
+mod printing;
+mod reading;
 
 pub use bcs_json_printer::Shown;
 pub use bcs_json_spec::{JsonFault, laws};
-pub use bytes::to_bcs;
+pub use encoding::to_bcs;
 pub use comparing::compare;
 pub use from_fault::FromFault;
-pub use normal_text::normalise;
+pub use normalising::normalise;
 pub use print_fault::PrintFault;
-pub use text_of_bytes::from_bcs;
-pub use value_printing::print_value;
-pub use value_reading::read_value;
+pub use decoding::from_bcs;
+pub use printing::print_value;
+pub use reading::read_value;

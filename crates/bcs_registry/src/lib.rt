@@ -3,7 +3,7 @@
 
 mod admitting;
 mod checking;
-mod growth;
+mod growing;
 mod reading;
 mod registry;
 

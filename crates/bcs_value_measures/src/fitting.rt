@@ -13,7 +13,7 @@ use bcs_value_tree::Value;
 
 /// Whether the value is one of the format. Where `loose`, any value stands at `F32`, `F64` and `CHAR`.
 #[cycle(fits)]
-pub fn fits(registry: &Registry, format: &Format, loose: bool, value: &Value) -> bool
+pub fn fits(value: &Value, format: &Format, registry: &Registry, loose: bool) -> bool
     ensures { result ≡ spec.fits loose registry.now (tree_of value.now) (of (shape_of format.now)) }
 {
     match (value, format) {
@@ -33,17 +33,17 @@ pub fn fits(registry: &Registry, format: &Format, loose: bool, value: &Value) ->
         (Value::Text(_), Format::Str) => true,
         (Value::Bytes(bytes), Format::Bytes) => are_bytes(bytes),
         (Value::Absent, Format::Opt(_)) => true,
-        (Value::Present(inner), Format::Opt(content)) => fits(registry, content, loose, inner),
-        (Value::Items(items), Format::Seq(element)) => all_fit(registry, element, loose, items),
-        (Value::Items(items), Format::Tuple(formats)) => each_fits(registry, formats, loose, items),
+        (Value::Present(inner), Format::Opt(content)) => fits(inner, content, registry, loose),
+        (Value::Items(items), Format::Seq(element)) => all_fit(items, element, registry, loose),
+        (Value::Items(items), Format::Tuple(formats)) => each_fits(items, formats, registry, loose),
         (Value::Items(items), Format::TupleArray(element, size)) => array_fits(
-            registry, element, *size, loose, items,
+            items, element, *size, registry, loose,
         ),
         (Value::Pairs(pairs), Format::Map(key, value)) => pairs_fit(
-            registry, key, value, loose, pairs,
+            pairs, key, value, registry, loose,
         ),
         (Value::Named(inner), Format::TypeName(name)) => match registry.container(name.as_str()) {
-            Some(container) => fills(registry, container, loose, inner),
+            Some(container) => fills(inner, container, registry, loose),
             None => false,
         },
         _ => false,
@@ -58,22 +58,22 @@ fn are_bytes(bytes: &[u8]) -> bool
 }
 
 #[cycle(fits)]
-fn fills(registry: &Registry, container: &Container, loose: bool, value: &Value) -> bool
+fn fills(value: &Value, container: &Container, registry: &Registry, loose: bool) -> bool
     ensures { result ≡ spec.fits loose registry.now (tree_of value.now) (content (container_of container.now)) }
 {
     match (container, value) {
         (Container::UnitStruct, Value::Unit) => true,
-        (Container::NewTypeStruct(format), _) => fits(registry, format, loose, value),
+        (Container::NewTypeStruct(format), _) => fits(value, format, registry, loose),
         (Container::TupleStruct(formats), Value::Items(items)) => each_fits(
-            registry, formats, loose, items,
+            items, formats, registry, loose,
         ),
         (Container::Struct(fields), Value::Items(items)) => fields_fit(
-            registry, fields, loose, items,
+            items, fields, registry, loose,
         ),
         (Container::Enum(variants), Value::Variant(number, inner)) => {
             let number = *number;
             match variants.get(&number) {
-                Some(variant) => pays(registry, &variant.value, loose, inner),
+                Some(variant) => pays(inner, &variant.value, registry, loose),
                 None => false,
             }
         }
@@ -82,28 +82,28 @@ fn fills(registry: &Registry, container: &Container, loose: bool, value: &Value)
 }
 
 #[cycle(fits)]
-fn pays(registry: &Registry, payload: &VariantFormat, loose: bool, value: &Value) -> bool
+fn pays(value: &Value, payload: &VariantFormat, registry: &Registry, loose: bool) -> bool
     ensures { result ≡ spec.fits loose registry.now (tree_of value.now) (of (payload_shape (payload_of payload.now))) }
 {
     match (payload, value) {
         (VariantFormat::Unit, Value::Unit) => true,
-        (VariantFormat::NewType(format), _) => fits(registry, format, loose, value),
+        (VariantFormat::NewType(format), _) => fits(value, format, registry, loose),
         (VariantFormat::Tuple(formats), Value::Items(items)) => each_fits(
-            registry, formats, loose, items,
+            items, formats, registry, loose,
         ),
         (VariantFormat::Struct(fields), Value::Items(items)) => fields_fit(
-            registry, fields, loose, items,
+            items, fields, registry, loose,
         ),
         _ => false,
     }
 }
 
 #[cycle(fits)]
-fn all_fit(registry: &Registry, format: &Format, loose: bool, items: &[Value]) -> bool
+fn all_fit(items: &[Value], format: &Format, registry: &Registry, loose: bool) -> bool
     ensures { result ≡ spec.all_fit loose registry.now (items_trees items.now) (shape_of format.now) }
 {
     for item in items {
-        if !fits(registry, format, loose, item) {
+        if !fits(item, format, registry, loose) {
             return false;
         }
     }
@@ -112,21 +112,21 @@ fn all_fit(registry: &Registry, format: &Format, loose: bool, items: &[Value]) -
 
 #[cycle(fits)]
 #[tactic(auto, using(bcs_value_spec::proofs::FitsByViews::count_items))]
-fn array_fits(registry: &Registry, format: &Format, size: u64, loose: bool, items: &[Value]) -> bool
+fn array_fits(items: &[Value], format: &Format, size: u64, registry: &Registry, loose: bool) -> bool
     ensures { result ≡ spec.fits loose registry.now (items_tree (items_trees items.now)) (of (array (shape_of format.now) size)) }
 {
-    items.len() as u64 == size && all_fit(registry, format, loose, items)
+    items.len() as u64 == size && all_fit(items, format, registry, loose)
 }
 
 #[cycle(fits)]
-fn each_fits(registry: &Registry, formats: &[Format], loose: bool, items: &[Value]) -> bool
+fn each_fits(items: &[Value], formats: &[Format], registry: &Registry, loose: bool) -> bool
     ensures { result ≡ spec.each_fits loose registry.now (items_trees items.now) (formats_shapes formats.now) }
 {
     if items.len() != formats.len() {
         return false;
     }
     for (i, item) in items.iter().enumerate() {
-        if !fits(registry, &formats[i], loose, item) {
+        if !fits(item, &formats[i], registry, loose) {
             return false;
         }
     }
@@ -134,14 +134,14 @@ fn each_fits(registry: &Registry, formats: &[Format], loose: bool, items: &[Valu
 }
 
 #[cycle(fits)]
-fn fields_fit(registry: &Registry, fields: &[Named<Format>], loose: bool, items: &[Value]) -> bool
+fn fields_fit(items: &[Value], fields: &[Named<Format>], registry: &Registry, loose: bool) -> bool
     ensures { result ≡ spec.each_fits loose registry.now (items_trees items.now) (field_shapes (map field_of fields.now)) }
 {
     if items.len() != fields.len() {
         return false;
     }
     for (i, item) in items.iter().enumerate() {
-        if !fits(registry, &fields[i].value, loose, item) {
+        if !fits(item, &fields[i].value, registry, loose) {
             return false;
         }
     }
@@ -150,16 +150,16 @@ fn fields_fit(registry: &Registry, fields: &[Named<Format>], loose: bool, items:
 
 #[cycle(fits)]
 fn pairs_fit(
-    registry: &Registry,
+    pairs: &[(Value, Value)],
     key: &Format,
     value: &Format,
+    registry: &Registry,
     loose: bool,
-    pairs: &[(Value, Value)],
 ) -> bool
     ensures { result ≡ spec.pairs_fit loose registry.now (entries_pairs pairs.now) (shape_of key.now) (shape_of value.now) }
 {
     for (k, v) in pairs {
-        if !(fits(registry, key, loose, k) && fits(registry, value, loose, v)) {
+        if !(fits(k, key, registry, loose) && fits(v, value, registry, loose)) {
             return false;
         }
     }

@@ -2,7 +2,7 @@ use Rattle.std.proofs.Common.{string_bytes}
 use Rattle.bcs_registry_formats.specs.View.{shape_of}
 use Rattle.bcs_value_tree.specs.View.{tree_of}
 use Rattle.bcs_json_spec.proofs.Printed.{shown_denotes}
-use Rattle.bcs_json.proofs.text_of_bytes.from_bcs.Goals as goal
+use Rattle.bcs_json.proofs.decoding.from_bcs.Goals as goal
 
 pub returns : goal.returns
 returns c = record {

@@ -6,7 +6,7 @@ ghost use Rattle.bcs_json_spec.specs.Headline.{Normalises};
 ghost use Rattle.bcs_json_spec.specs.Texts.{Denotes, RefusesText};
 ghost use Rattle.bcs_json_spec.specs.declared.json_fault.JsonFault.TheVariants.{OutOfMemory};
 
-use crate::bytes::to_bcs;
+use crate::encoding::to_bcs;
 use bcs_decode::decode_encoded;
 use bcs_json_printer::texts::show;
 use bcs_json_spec::JsonFault;

@@ -7,7 +7,7 @@ use Rattle.bcs_decode_spec.specs.Exact.{AreBytes}
 use Rattle.bcs_decode_spec.specs.Reading.{value_here, skipping}
 use Rattle.bcs_decode_spec.proofs.Scanned.{found_only, found_never, stopped_never, stopped_only}
 use Rattle.bcs_decode_spec.proofs.Verdicts.{skips_accepts, skips_stops}
-use Rattle.bcs_decode.proofs.from_slice.scan.Goals as goal
+use Rattle.bcs_decode.proofs.scanning.scan.Goals as goal
 
 pub returns-clause-found : goal.returns-clause-found
 returns-clause-found c =

@@ -3,7 +3,7 @@ use Rattle.bcs_registry_formats.specs.View.{shape_of}
 use Rattle.bcs_value_tree.specs.View.{tree_of}
 use Rattle.bcs_decode_spec.specs.Accepting.{IsDecoded}
 use Rattle.bcs_json.proofs.Outcomes.{decoded_nests, normalises}
-use Rattle.bcs_json.proofs.normal_text.normalise.Goals as goal
+use Rattle.bcs_json.proofs.normalising.normalise.Goals as goal
 
 pub decode_encoded-requires : goal.decode_encoded-requires
 decode_encoded-requires c = rw c.deref.ensures.value (c.in_ok-bytes.ensures.bytes.value, c.in_ok-bytes.ensures.bytes.encoded)

@@ -2,7 +2,7 @@ use Rattle.std.proofs.Common.{string_bytes}
 use Rattle.bcs_registry_formats.specs.View.{shape_of}
 use Rattle.bcs_value_tree.specs.View.{tree_of}
 use Rattle.bcs_json.proofs.Outcomes.{prints}
-use Rattle.bcs_json.proofs.value_printing.print_value.Goals as goal
+use Rattle.bcs_json.proofs.printing.print_value.Goals as goal
 
 pub returns-clause-prints : goal.returns-clause-prints
 returns-clause-prints c =
