@@ -14,12 +14,12 @@ use bcs_value_tree::Value;
 pub fn has_format(registry: &Registry, format: &Format, value: &Value) -> bool
     ensures { result ≡ spec.fits false registry.now (tree_of value.now) (of (shape_of format.now)) }
 {
-    fits(value, format, registry, false)
+    fits(value, registry, format, false)
 }
 
 /// Whether the value would be one of the format, if every value stood at `F32`, `F64` and `CHAR`.
 pub fn fits_loosely(registry: &Registry, format: &Format, value: &Value) -> bool
     ensures { result ≡ spec.fits true registry.now (tree_of value.now) (of (shape_of format.now)) }
 {
-    fits(value, format, registry, true)
+    fits(value, registry, format, true)
 }

@@ -13,7 +13,7 @@ use bcs_value_tree::Value;
 
 /// Whether the value is one of the format. Where `loose`, any value stands at `F32`, `F64` and `CHAR`.
 #[cycle(fits)]
-pub fn fits(value: &Value, format: &Format, registry: &Registry, loose: bool) -> bool
+pub fn fits(value: &Value, registry: &Registry, format: &Format, loose: bool) -> bool
     ensures { result ≡ spec.fits loose registry.now (tree_of value.now) (of (shape_of format.now)) }
 {
     match (value, format) {
@@ -33,17 +33,17 @@ pub fn fits(value: &Value, format: &Format, registry: &Registry, loose: bool) ->
         (Value::Text(_), Format::Str) => true,
         (Value::Bytes(bytes), Format::Bytes) => are_bytes(bytes),
         (Value::Absent, Format::Opt(_)) => true,
-        (Value::Present(inner), Format::Opt(content)) => fits(inner, content, registry, loose),
-        (Value::Items(items), Format::Seq(element)) => all_fit(items, element, registry, loose),
-        (Value::Items(items), Format::Tuple(formats)) => each_fits(items, formats, registry, loose),
+        (Value::Present(inner), Format::Opt(content)) => fits(inner, registry, content, loose),
+        (Value::Items(items), Format::Seq(element)) => all_fit(items, registry, element, loose),
+        (Value::Items(items), Format::Tuple(formats)) => each_fits(items, registry, formats, loose),
         (Value::Items(items), Format::TupleArray(element, size)) => array_fits(
-            items, element, *size, registry, loose,
+            items, registry, element, *size, loose,
         ),
         (Value::Pairs(pairs), Format::Map(key, value)) => pairs_fit(
-            pairs, key, value, registry, loose,
+            pairs, registry, key, value, loose,
         ),
         (Value::Named(inner), Format::TypeName(name)) => match registry.container(name.as_str()) {
-            Some(container) => fills(inner, container, registry, loose),
+            Some(container) => fills(inner, registry, container, loose),
             None => false,
         },
         _ => false,
@@ -58,22 +58,22 @@ fn are_bytes(bytes: &[u8]) -> bool
 }
 
 #[cycle(fits)]
-fn fills(value: &Value, container: &Container, registry: &Registry, loose: bool) -> bool
+fn fills(value: &Value, registry: &Registry, container: &Container, loose: bool) -> bool
     ensures { result ≡ spec.fits loose registry.now (tree_of value.now) (content (container_of container.now)) }
 {
     match (container, value) {
         (Container::UnitStruct, Value::Unit) => true,
-        (Container::NewTypeStruct(format), _) => fits(value, format, registry, loose),
+        (Container::NewTypeStruct(format), _) => fits(value, registry, format, loose),
         (Container::TupleStruct(formats), Value::Items(items)) => each_fits(
-            items, formats, registry, loose,
+            items, registry, formats, loose,
         ),
         (Container::Struct(fields), Value::Items(items)) => fields_fit(
-            items, fields, registry, loose,
+            items, registry, fields, loose,
         ),
         (Container::Enum(variants), Value::Variant(number, inner)) => {
             let number = *number;
             match variants.get(&number) {
-                Some(variant) => pays(inner, &variant.value, registry, loose),
+                Some(variant) => pays(inner, registry, &variant.value, loose),
                 None => false,
             }
         }
@@ -82,28 +82,28 @@ fn fills(value: &Value, container: &Container, registry: &Registry, loose: bool)
 }
 
 #[cycle(fits)]
-fn pays(value: &Value, payload: &VariantFormat, registry: &Registry, loose: bool) -> bool
+fn pays(value: &Value, registry: &Registry, payload: &VariantFormat, loose: bool) -> bool
     ensures { result ≡ spec.fits loose registry.now (tree_of value.now) (of (payload_shape (payload_of payload.now))) }
 {
     match (payload, value) {
         (VariantFormat::Unit, Value::Unit) => true,
-        (VariantFormat::NewType(format), _) => fits(value, format, registry, loose),
+        (VariantFormat::NewType(format), _) => fits(value, registry, format, loose),
         (VariantFormat::Tuple(formats), Value::Items(items)) => each_fits(
-            items, formats, registry, loose,
+            items, registry, formats, loose,
         ),
         (VariantFormat::Struct(fields), Value::Items(items)) => fields_fit(
-            items, fields, registry, loose,
+            items, registry, fields, loose,
         ),
         _ => false,
     }
 }
 
 #[cycle(fits)]
-fn all_fit(items: &[Value], format: &Format, registry: &Registry, loose: bool) -> bool
+fn all_fit(items: &[Value], registry: &Registry, format: &Format, loose: bool) -> bool
     ensures { result ≡ spec.all_fit loose registry.now (items_trees items.now) (shape_of format.now) }
 {
     for item in items {
-        if !fits(item, format, registry, loose) {
+        if !fits(item, registry, format, loose) {
             return false;
         }
     }
@@ -112,21 +112,21 @@ fn all_fit(items: &[Value], format: &Format, registry: &Registry, loose: bool) -
 
 #[cycle(fits)]
 #[tactic(auto, using(bcs_value_spec::proofs::FitsByViews::count_items))]
-fn array_fits(items: &[Value], format: &Format, size: u64, registry: &Registry, loose: bool) -> bool
+fn array_fits(items: &[Value], registry: &Registry, format: &Format, size: u64, loose: bool) -> bool
     ensures { result ≡ spec.fits loose registry.now (items_tree (items_trees items.now)) (of (array (shape_of format.now) size)) }
 {
-    items.len() as u64 == size && all_fit(items, format, registry, loose)
+    items.len() as u64 == size && all_fit(items, registry, format, loose)
 }
 
 #[cycle(fits)]
-fn each_fits(items: &[Value], formats: &[Format], registry: &Registry, loose: bool) -> bool
+fn each_fits(items: &[Value], registry: &Registry, formats: &[Format], loose: bool) -> bool
     ensures { result ≡ spec.each_fits loose registry.now (items_trees items.now) (formats_shapes formats.now) }
 {
     if items.len() != formats.len() {
         return false;
     }
     for (i, item) in items.iter().enumerate() {
-        if !fits(item, &formats[i], registry, loose) {
+        if !fits(item, registry, &formats[i], loose) {
             return false;
         }
     }
@@ -134,14 +134,14 @@ fn each_fits(items: &[Value], formats: &[Format], registry: &Registry, loose: bo
 }
 
 #[cycle(fits)]
-fn fields_fit(items: &[Value], fields: &[Named<Format>], registry: &Registry, loose: bool) -> bool
+fn fields_fit(items: &[Value], registry: &Registry, fields: &[Named<Format>], loose: bool) -> bool
     ensures { result ≡ spec.each_fits loose registry.now (items_trees items.now) (field_shapes (map field_of fields.now)) }
 {
     if items.len() != fields.len() {
         return false;
     }
     for (i, item) in items.iter().enumerate() {
-        if !fits(item, &fields[i].value, registry, loose) {
+        if !fits(item, registry, &fields[i].value, loose) {
             return false;
         }
     }
@@ -151,15 +151,15 @@ fn fields_fit(items: &[Value], fields: &[Named<Format>], registry: &Registry, lo
 #[cycle(fits)]
 fn pairs_fit(
     pairs: &[(Value, Value)],
+    registry: &Registry,
     key: &Format,
     value: &Format,
-    registry: &Registry,
     loose: bool,
 ) -> bool
     ensures { result ≡ spec.pairs_fit loose registry.now (entries_pairs pairs.now) (shape_of key.now) (shape_of value.now) }
 {
     for (k, v) in pairs {
-        if !(fits(k, key, registry, loose) && fits(v, value, registry, loose)) {
+        if !(fits(k, registry, key, loose) && fits(v, registry, value, loose)) {
             return false;
         }
     }
