@@ -28,6 +28,6 @@ pub fn encode_by_entries(
 {
     check_soundness(registry, format, limits, value)?;
     let mut out = Vec::new(alloc);
-    push_value(value, format, registry, alloc, &mut out)?;
+    push_value(value, alloc, registry, format, &mut out)?;
     Ok(out)
 }

@@ -34,7 +34,7 @@ pub fn encode(
 {
     check_soundness(registry, format, limits, value)?;
     let mut work = Workspace::new(alloc);
-    if let Err(fault) = push_value(value, format, registry, &mut work) {
+    if let Err(fault) = push_value(value, registry, format, &mut work) {
         return Err(late_fault(fault));
     }
     Ok(work.out)

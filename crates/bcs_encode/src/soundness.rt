@@ -19,7 +19,7 @@ pub(crate) fn check_soundness(
     ensures sound { OnOk result (IsSoundBesidesKeys registry.now limits.now (shape_of format.now) (tree_of value.now)) }
     ensures fault { IfErr result (λ e. Refuses registry.now limits.now (shape_of format.now) (tree_of value.now) e) }
 {
-    if is_sound(value, format, registry, limits) {
+    if is_sound(registry, format, limits, value) {
         return Ok(());
     }
     if !has_format(registry, format, value) {

@@ -24,9 +24,9 @@ use std::alloc::Global;
 #[cycle(by_entries)]
 pub fn push_value(
     value: &Value,
-    format: &Format,
-    registry: &Registry,
     alloc: Global,
+    registry: &Registry,
+    format: &Format,
     out: &mut Vec<u8>,
 ) -> Result<(), EncodeFault>
     ensures { Tells result (spec.written registry.now (tree_of value.now) (of (shape_of format.now)) out.old.items) out.new.items }
@@ -50,29 +50,29 @@ pub fn push_value(
         (Value::Absent, Format::Opt(_)) => push_byte(0, out),
         (Value::Present(inner), Format::Opt(content)) => {
             push_byte(1, out)?;
-            push_value(inner, content, registry, alloc, out)
+            push_value(inner, alloc, registry, content, out)
         }
         (Value::Items(items), Format::Seq(element)) => {
             push_length(items.len(), out)?;
-            push_all(items, element, registry, alloc, out)
+            push_all(items, alloc, registry, element, out)
         }
         (Value::Items(items), Format::Tuple(formats)) => {
-            push_each(items, formats, registry, alloc, out)
+            push_each(items, alloc, registry, formats, out)
         }
         (Value::Items(items), Format::TupleArray(element, size)) => {
             if items.len() as u64 != *size {
                 return Err(EncodeFault::NotOfFormat);
             }
-            push_all(items, element, registry, alloc, out)
+            push_all(items, alloc, registry, element, out)
         }
         (Value::Pairs(pairs), Format::Map(key, value)) => {
             push_length(pairs.len(), out)?;
             let mut entries = Vec::new(alloc);
-            collect_entries(pairs, key, value, registry, alloc, &mut entries)?;
+            collect_entries(pairs, alloc, registry, key, value, &mut entries)?;
             push_in_order(entries, out)
         }
         (Value::Named(inner), Format::TypeName(name)) => match registry.container(name.as_str()) {
-            Some(container) => push_content(inner, container, registry, alloc, out),
+            Some(container) => push_content(inner, alloc, registry, container, out),
             None => Err(EncodeFault::NotOfFormat),
         },
         _ => Err(EncodeFault::NotOfFormat),
@@ -83,26 +83,26 @@ pub fn push_value(
 #[cycle(by_entries)]
 fn push_content(
     value: &Value,
-    container: &Container,
-    registry: &Registry,
     alloc: Global,
+    registry: &Registry,
+    container: &Container,
     out: &mut Vec<u8>,
 ) -> Result<(), EncodeFault>
     ensures { Tells result (spec.written registry.now (tree_of value.now) (content (container_of container.now)) out.old.items) out.new.items }
 {
     match (container, value) {
         (Container::UnitStruct, Value::Unit) => Ok(()),
-        (Container::NewTypeStruct(format), _) => push_value(value, format, registry, alloc, out),
+        (Container::NewTypeStruct(format), _) => push_value(value, alloc, registry, format, out),
         (Container::TupleStruct(formats), Value::Items(items)) => {
-            push_each(items, formats, registry, alloc, out)
+            push_each(items, alloc, registry, formats, out)
         }
         (Container::Struct(fields), Value::Items(items)) => {
-            push_fields(items, fields, registry, alloc, out)
+            push_fields(items, alloc, registry, fields, out)
         }
         (Container::Enum(variants), Value::Variant(number, inner)) => {
             push_number(*number, out)?;
             match variants.get(number) {
-                Some(variant) => push_payload(inner, &variant.value, registry, alloc, out),
+                Some(variant) => push_payload(inner, alloc, registry, &variant.value, out),
                 None => Err(EncodeFault::NotOfFormat),
             }
         }
@@ -114,21 +114,21 @@ fn push_content(
 #[cycle(by_entries)]
 fn push_payload(
     value: &Value,
-    payload: &VariantFormat,
-    registry: &Registry,
     alloc: Global,
+    registry: &Registry,
+    payload: &VariantFormat,
     out: &mut Vec<u8>,
 ) -> Result<(), EncodeFault>
     ensures { Tells result (spec.written registry.now (tree_of value.now) (of (payload_shape (payload_of payload.now))) out.old.items) out.new.items }
 {
     match (payload, value) {
         (VariantFormat::Unit, Value::Unit) => Ok(()),
-        (VariantFormat::NewType(format), _) => push_value(value, format, registry, alloc, out),
+        (VariantFormat::NewType(format), _) => push_value(value, alloc, registry, format, out),
         (VariantFormat::Tuple(formats), Value::Items(items)) => {
-            push_each(items, formats, registry, alloc, out)
+            push_each(items, alloc, registry, formats, out)
         }
         (VariantFormat::Struct(fields), Value::Items(items)) => {
-            push_fields(items, fields, registry, alloc, out)
+            push_fields(items, alloc, registry, fields, out)
         }
         _ => Err(EncodeFault::NotOfFormat),
     }
@@ -138,15 +138,15 @@ fn push_payload(
 #[cycle(by_entries)]
 fn push_all(
     items: &[Value],
-    element: &Format,
-    registry: &Registry,
     alloc: Global,
+    registry: &Registry,
+    element: &Format,
     out: &mut Vec<u8>,
 ) -> Result<(), EncodeFault>
     ensures { Tells result (spec.items_written registry.now (items_trees items.now) (shape_of element.now) out.old.items) out.new.items }
 {
     for item in items {
-        push_value(item, element, registry, alloc, out)?;
+        push_value(item, alloc, registry, element, out)?;
     }
     Ok(())
 }
@@ -156,9 +156,9 @@ fn push_all(
 #[tactic(auto, using(bcs_encode_steps::proofs::WalkViews::count_items, bcs_encode_steps::proofs::WritingViews::count_formats))]
 fn push_each(
     items: &[Value],
-    formats: &[Format],
-    registry: &Registry,
     alloc: Global,
+    registry: &Registry,
+    formats: &[Format],
     out: &mut Vec<u8>,
 ) -> Result<(), EncodeFault>
     ensures { Tells result (spec.written registry.now (items_tree (items_trees items.now)) (of (tuple (formats_shapes formats.now))) out.old.items) out.new.items }
@@ -167,7 +167,7 @@ fn push_each(
         return Err(EncodeFault::NotOfFormat);
     }
     for (i, item) in items.iter().enumerate() {
-        push_value(item, &formats[i], registry, alloc, out)?;
+        push_value(item, alloc, registry, &formats[i], out)?;
     }
     Ok(())
 }
@@ -177,9 +177,9 @@ fn push_each(
 #[tactic(auto, using(bcs_encode_steps::proofs::WalkViews::count_items, bcs_encode_steps::proofs::WritingViews::count_fields))]
 fn push_fields(
     items: &[Value],
-    fields: &[Named<Format>],
-    registry: &Registry,
     alloc: Global,
+    registry: &Registry,
+    fields: &[Named<Format>],
     out: &mut Vec<u8>,
 ) -> Result<(), EncodeFault>
     ensures { Tells result (spec.written registry.now (items_tree (items_trees items.now)) (of (tuple (field_shapes (map field_of fields.now)))) out.old.items) out.new.items }
@@ -188,7 +188,7 @@ fn push_fields(
         return Err(EncodeFault::NotOfFormat);
     }
     for (i, item) in items.iter().enumerate() {
-        push_value(item, &fields[i].value, registry, alloc, out)?;
+        push_value(item, alloc, registry, &fields[i].value, out)?;
     }
     Ok(())
 }
@@ -197,10 +197,10 @@ fn push_fields(
 #[cycle(by_entries)]
 fn collect_entries(
     pairs: &[(Value, Value)],
+    alloc: Global,
+    registry: &Registry,
     key: &Format,
     value: &Format,
-    registry: &Registry,
-    alloc: Global,
     entries: &mut Vec<EntryBytes>,
 ) -> Result<(), EncodeFault>
     ensures { Tells result
@@ -209,9 +209,9 @@ fn collect_entries(
 {
     for (k, v) in pairs {
         let mut key_bytes = Vec::new(alloc);
-        push_value(k, key, registry, alloc, &mut key_bytes)?;
+        push_value(k, alloc, registry, key, &mut key_bytes)?;
         let mut value_bytes = Vec::new(alloc);
-        push_value(v, value, registry, alloc, &mut value_bytes)?;
+        push_value(v, alloc, registry, value, &mut value_bytes)?;
         entries.push(EntryBytes {
             key: key_bytes,
             value: value_bytes,

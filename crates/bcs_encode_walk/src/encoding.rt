@@ -32,8 +32,8 @@ use bcs_value::Value;
 #[cycle(encoding)]
 pub fn push_value(
     value: &Value,
-    format: &Format,
     registry: &Registry,
+    format: &Format,
     work: &mut Workspace,
 ) -> Result<(), EncodeFault>
     ensures tells { Writes result (spec.written registry.now (tree_of value.now) (of (shape_of format.now)) work.old.out.items) work.new.out.items }
@@ -62,26 +62,26 @@ pub fn push_value(
         (Value::Absent, Format::Opt(_)) => push_byte(0, &mut work.out),
         (Value::Present(inner), Format::Opt(content)) => {
             push_byte(1, &mut work.out)?;
-            push_value(inner, content, registry, work)
+            push_value(inner, registry, content, work)
         }
         (Value::Items(items), Format::Seq(element)) => {
             push_length(items.len(), &mut work.out)?;
-            push_all(items, element, registry, work)
+            push_all(items, registry, element, work)
         }
         (Value::Items(items), Format::Tuple(formats)) => {
-            push_each(items, formats, registry, work)
+            push_each(items, registry, formats, work)
         }
         (Value::Items(items), Format::TupleArray(element, size)) => {
             if items.len() as u64 != *size {
                 return Err(EncodeFault::NotOfFormat);
             }
-            push_all(items, element, registry, work)
+            push_all(items, registry, element, work)
         }
         (Value::Pairs(pairs), Format::Map(key, value)) => {
-            push_map(pairs, key, value, registry, work)
+            push_map(pairs, registry, key, value, work)
         }
         (Value::Named(inner), Format::TypeName(name)) => match registry.container(name.as_str()) {
-            Some(container) => push_content(inner, container, registry, work),
+            Some(container) => push_content(inner, registry, container, work),
             None => Err(EncodeFault::NotOfFormat),
         },
         _ => Err(EncodeFault::NotOfFormat),
@@ -92,8 +92,8 @@ pub fn push_value(
 #[cycle(encoding)]
 fn push_content(
     value: &Value,
-    container: &Container,
     registry: &Registry,
+    container: &Container,
     work: &mut Workspace,
 ) -> Result<(), EncodeFault>
     ensures tells { Writes result (spec.written registry.now (tree_of value.now) (content (container_of container.now)) work.old.out.items) work.new.out.items }
@@ -101,17 +101,17 @@ fn push_content(
 {
     match (container, value) {
         (Container::UnitStruct, Value::Unit) => Ok(()),
-        (Container::NewTypeStruct(format), _) => push_value(value, format, registry, work),
+        (Container::NewTypeStruct(format), _) => push_value(value, registry, format, work),
         (Container::TupleStruct(formats), Value::Items(items)) => {
-            push_each(items, formats, registry, work)
+            push_each(items, registry, formats, work)
         }
         (Container::Struct(fields), Value::Items(items)) => {
-            push_fields(items, fields, registry, work)
+            push_fields(items, registry, fields, work)
         }
         (Container::Enum(variants), Value::Variant(number, inner)) => {
             push_number(*number, &mut work.out)?;
             match variants.get(number) {
-                Some(variant) => push_payload(inner, &variant.value, registry, work),
+                Some(variant) => push_payload(inner, registry, &variant.value, work),
                 None => Err(EncodeFault::NotOfFormat),
             }
         }
@@ -123,8 +123,8 @@ fn push_content(
 #[cycle(encoding)]
 fn push_payload(
     value: &Value,
-    payload: &VariantFormat,
     registry: &Registry,
+    payload: &VariantFormat,
     work: &mut Workspace,
 ) -> Result<(), EncodeFault>
     ensures tells { Writes result (spec.written registry.now (tree_of value.now) (of (payload_shape (payload_of payload.now))) work.old.out.items) work.new.out.items }
@@ -132,12 +132,12 @@ fn push_payload(
 {
     match (payload, value) {
         (VariantFormat::Unit, Value::Unit) => Ok(()),
-        (VariantFormat::NewType(format), _) => push_value(value, format, registry, work),
+        (VariantFormat::NewType(format), _) => push_value(value, registry, format, work),
         (VariantFormat::Tuple(formats), Value::Items(items)) => {
-            push_each(items, formats, registry, work)
+            push_each(items, registry, formats, work)
         }
         (VariantFormat::Struct(fields), Value::Items(items)) => {
-            push_fields(items, fields, registry, work)
+            push_fields(items, registry, fields, work)
         }
         _ => Err(EncodeFault::NotOfFormat),
     }
@@ -147,8 +147,8 @@ fn push_payload(
 #[cycle(encoding)]
 fn push_all(
     items: &[Value],
-    element: &Format,
     registry: &Registry,
+    element: &Format,
     work: &mut Workspace,
 ) -> Result<(), EncodeFault>
     ensures tells { Writes result (spec.items_written registry.now (items_trees items.now) (shape_of element.now) work.old.out.items) work.new.out.items }
@@ -159,11 +159,11 @@ fn push_all(
     }
     if let Format::TypeName(name) = element {
         if let Some(container) = registry.container(name.as_str()) {
-            return push_contents(items, element, container, registry, work);
+            return push_contents(items, registry, element, container, work);
         }
     }
     for item in items {
-        push_value(item, element, registry, work)?;
+        push_value(item, registry, element, work)?;
     }
     Ok(())
 }
@@ -172,9 +172,9 @@ fn push_all(
 #[cycle(encoding)]
 fn push_contents(
     items: &[Value],
+    registry: &Registry,
     element: &Format,
     container: &Container,
-    registry: &Registry,
     work: &mut Workspace,
 ) -> Result<(), EncodeFault>
     requires { (name : List ℕ) × (shape_of element.now ≡ name_shape name) × (content_at name registry.now ≡ content (container_of container.now)) }
@@ -183,8 +183,8 @@ fn push_contents(
 {
     for item in items {
         match item {
-            Value::Named(inner) => push_content(inner, container, registry, work)?,
-            _ => push_value(item, element, registry, work)?,
+            Value::Named(inner) => push_content(inner, registry, container, work)?,
+            _ => push_value(item, registry, element, work)?,
         }
     }
     Ok(())
@@ -195,8 +195,8 @@ fn push_contents(
 #[tactic(auto, using(bcs_encode_steps::proofs::WalkViews::count_items, bcs_encode_steps::proofs::WritingViews::count_formats))]
 fn push_each(
     items: &[Value],
-    formats: &[Format],
     registry: &Registry,
+    formats: &[Format],
     work: &mut Workspace,
 ) -> Result<(), EncodeFault>
     ensures tells { Writes result (spec.written registry.now (items_tree (items_trees items.now)) (of (tuple (formats_shapes formats.now))) work.old.out.items) work.new.out.items }
@@ -206,7 +206,7 @@ fn push_each(
         return Err(EncodeFault::NotOfFormat);
     }
     for (i, item) in items.iter().enumerate() {
-        push_value(item, &formats[i], registry, work)?;
+        push_value(item, registry, &formats[i], work)?;
     }
     Ok(())
 }
@@ -216,8 +216,8 @@ fn push_each(
 #[tactic(auto, using(bcs_encode_steps::proofs::WalkViews::count_items, bcs_encode_steps::proofs::WritingViews::count_fields))]
 fn push_fields(
     items: &[Value],
-    fields: &[Named<Format>],
     registry: &Registry,
+    fields: &[Named<Format>],
     work: &mut Workspace,
 ) -> Result<(), EncodeFault>
     ensures tells { Writes result (spec.written registry.now (items_tree (items_trees items.now)) (of (tuple (field_shapes (map field_of fields.now)))) work.old.out.items) work.new.out.items }
@@ -227,7 +227,7 @@ fn push_fields(
         return Err(EncodeFault::NotOfFormat);
     }
     for (i, item) in items.iter().enumerate() {
-        push_value(item, &fields[i].value, registry, work)?;
+        push_value(item, registry, &fields[i].value, work)?;
     }
     Ok(())
 }
@@ -236,9 +236,9 @@ fn push_fields(
 #[cycle(encoding)]
 fn push_map(
     pairs: &[(Value, Value)],
+    registry: &Registry,
     key: &Format,
     value: &Format,
-    registry: &Registry,
     work: &mut Workspace,
 ) -> Result<(), EncodeFault>
     ensures tells { Writes result
@@ -247,9 +247,9 @@ fn push_map(
     ensures kept { OnOk result (set_aside work.new ≡ set_aside work.old) }
 {
     if work.is_in_key {
-        push_in_place(pairs, key, value, registry, work)
+        push_in_place(pairs, registry, key, value, work)
     } else {
-        push_by_keys(pairs, key, value, registry, work)
+        push_by_keys(pairs, registry, key, value, work)
     }
 }
 
@@ -258,9 +258,9 @@ fn push_map(
 #[cycle(encoding)]
 fn push_in_place(
     pairs: &[(Value, Value)],
+    registry: &Registry,
     key: &Format,
     value: &Format,
-    registry: &Registry,
     work: &mut Workspace,
 ) -> Result<(), EncodeFault>
     ensures tells { Writes result
@@ -271,7 +271,7 @@ fn push_in_place(
     push_length(pairs.len(), &mut work.out)?;
     let first = work.spans.len();
     let start = work.out.len();
-    lay_entries(pairs, key, value, registry, work)?;
+    lay_entries(pairs, registry, key, value, work)?;
     arrange(work, first, start)
 }
 
@@ -279,9 +279,9 @@ fn push_in_place(
 #[cycle(encoding)]
 fn lay_entries(
     pairs: &[(Value, Value)],
+    registry: &Registry,
     key: &Format,
     value: &Format,
-    registry: &Registry,
     work: &mut Workspace,
 ) -> Result<(), EncodeFault>
     ensures laid { Writes result
@@ -292,9 +292,9 @@ fn lay_entries(
 {
     for (k, v) in pairs {
         let start = work.out.len();
-        push_value(k, key, registry, work)?;
+        push_value(k, registry, key, work)?;
         let middle = work.out.len();
-        push_value(v, value, registry, work)?;
+        push_value(v, registry, value, work)?;
         work.spans.push(Span {
             key: start,
             value: middle,
@@ -309,9 +309,9 @@ fn lay_entries(
 #[cycle(encoding)]
 fn push_by_keys(
     pairs: &[(Value, Value)],
+    registry: &Registry,
     key: &Format,
     value: &Format,
-    registry: &Registry,
     work: &mut Workspace,
 ) -> Result<(), EncodeFault>
     ensures tells { Writes result
@@ -323,12 +323,12 @@ fn push_by_keys(
     let first = work.key_spans.len();
     let start = work.keys.len();
     begin_keys(work);
-    lay_keys(pairs, key, registry, work)?;
+    lay_keys(pairs, registry, key, work)?;
     end_keys(work);
     if !order_keys(work, first) {
         return Err(EncodeFault::RepeatedKey);
     }
-    push_values(pairs, value, first, registry, work)?;
+    push_values(pairs, registry, value, first, work)?;
     drop_keys(work, first, start);
     Ok(())
 }
@@ -337,8 +337,8 @@ fn push_by_keys(
 #[cycle(encoding)]
 fn lay_keys(
     pairs: &[(Value, Value)],
-    key: &Format,
     registry: &Registry,
+    key: &Format,
     work: &mut Workspace,
 ) -> Result<(), EncodeFault>
     ensures laid { Writes result
@@ -349,7 +349,7 @@ fn lay_keys(
 {
     for (i, pair) in pairs.iter().enumerate() {
         let start = work.out.len();
-        push_value(&pair.0, key, registry, work)?;
+        push_value(&pair.0, registry, key, work)?;
         keep_key(work, start, i)?;
     }
     Ok(())
@@ -359,9 +359,9 @@ fn lay_keys(
 #[cycle(encoding)]
 fn push_values(
     pairs: &[(Value, Value)],
+    registry: &Registry,
     value: &Format,
     first: usize,
-    registry: &Registry,
     work: &mut Workspace,
 ) -> Result<(), EncodeFault>
     requires first { first ≤ length work.old.key_spans.items }
@@ -374,7 +374,7 @@ fn push_values(
     for at in first..work.key_spans.len() {
         let span = work.key_spans[at];
         push_key(work, span)?;
-        push_value(&pairs[span.index].1, value, registry, work)?;
+        push_value(&pairs[span.index].1, registry, value, work)?;
     }
     Ok(())
 }

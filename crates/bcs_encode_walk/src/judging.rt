@@ -19,8 +19,8 @@ use bcs_value::Value;
 #[cycle(judging)]
 pub fn judge_value(
     value: &Value,
-    format: &Format,
     registry: &Registry,
+    format: &Format,
     depth: u64,
     nodes: u64,
 ) -> Option<u64>
@@ -29,28 +29,28 @@ pub fn judge_value(
     match (value, format) {
         (Value::Unit, Format::Unit) => take(1, nodes),
         (Value::Bool(_), Format::Bool) => take(1, nodes),
-        (Value::Unsigned(number), _) => judge_unsigned(number, format, nodes),
-        (Value::Signed(number), _) => judge_signed(number, format, nodes),
-        (Value::Text(text), Format::Str) => judge_text(text.as_str(), nodes),
-        (Value::Bytes(bytes), Format::Bytes) => judge_bytes(bytes, nodes),
+        (Value::Unsigned(number), _) => judge_unsigned(format, nodes, number),
+        (Value::Signed(number), _) => judge_signed(format, nodes, number),
+        (Value::Text(text), Format::Str) => judge_text(nodes, text.as_str()),
+        (Value::Bytes(bytes), Format::Bytes) => judge_bytes(nodes, bytes),
         (Value::Absent, Format::Opt(_)) => take(1, nodes),
         (Value::Present(inner), Format::Opt(content)) => {
-            judge_value(inner, content, registry, depth, take(1, nodes)?)
+            judge_value(inner, registry, content, depth, take(1, nodes)?)
         }
         (Value::Items(items), Format::Seq(element)) => {
-            judge_list(items, element, registry, depth, nodes)
+            judge_list(items, registry, element, depth, nodes)
         }
         (Value::Items(items), Format::Tuple(formats)) => {
-            judge_each(items, formats, registry, depth, nodes)
+            judge_each(items, registry, formats, depth, nodes)
         }
         (Value::Items(items), Format::TupleArray(element, size)) => {
-            judge_array(items, element, *size, registry, depth, nodes)
+            judge_array(items, registry, element, *size, depth, nodes)
         }
         (Value::Pairs(pairs), Format::Map(key, value)) => {
-            judge_map(pairs, key, value, registry, depth, nodes)
+            judge_map(pairs, registry, key, value, depth, nodes)
         }
         (Value::Named(inner), Format::TypeName(name)) => {
-            judge_named(inner, name.as_str(), registry, depth, nodes)
+            judge_named(inner, registry, name.as_str(), depth, nodes)
         }
         _ => None,
     }
@@ -60,8 +60,8 @@ pub fn judge_value(
 #[cycle(judging)]
 fn judge_named(
     inner: &Value,
-    name: &str,
     registry: &Registry,
+    name: &str,
     depth: u64,
     nodes: u64,
 ) -> Option<u64>
@@ -70,7 +70,7 @@ fn judge_named(
     let depth = take(1, depth)?;
     let nodes = take(1, nodes)?;
     match registry.container(name) {
-        Some(container) => judge_content(inner, container, registry, depth, nodes),
+        Some(container) => judge_content(inner, registry, container, depth, nodes),
         None => None,
     }
 }
@@ -79,8 +79,8 @@ fn judge_named(
 #[cycle(judging)]
 fn judge_content(
     value: &Value,
-    container: &Container,
     registry: &Registry,
+    container: &Container,
     depth: u64,
     nodes: u64,
 ) -> Option<u64>
@@ -88,18 +88,18 @@ fn judge_content(
 {
     match (container, value) {
         (Container::UnitStruct, Value::Unit) => take(1, nodes),
-        (Container::NewTypeStruct(format), _) => judge_value(value, format, registry, depth, nodes),
+        (Container::NewTypeStruct(format), _) => judge_value(value, registry, format, depth, nodes),
         (Container::TupleStruct(formats), Value::Items(items)) => {
-            judge_each(items, formats, registry, depth, nodes)
+            judge_each(items, registry, formats, depth, nodes)
         }
         (Container::Struct(fields), Value::Items(items)) => {
-            judge_fields(items, fields, registry, depth, nodes)
+            judge_fields(items, registry, fields, depth, nodes)
         }
         (Container::Enum(variants), Value::Variant(number, inner)) => {
             let number = *number;
             let nodes = take(1, nodes)?;
             match variants.get(&number) {
-                Some(variant) => judge_payload(inner, &variant.value, registry, depth, nodes),
+                Some(variant) => judge_payload(inner, registry, &variant.value, depth, nodes),
                 None => None,
             }
         }
@@ -111,8 +111,8 @@ fn judge_content(
 #[cycle(judging)]
 fn judge_payload(
     value: &Value,
-    payload: &VariantFormat,
     registry: &Registry,
+    payload: &VariantFormat,
     depth: u64,
     nodes: u64,
 ) -> Option<u64>
@@ -120,12 +120,12 @@ fn judge_payload(
 {
     match (payload, value) {
         (VariantFormat::Unit, Value::Unit) => take(1, nodes),
-        (VariantFormat::NewType(format), _) => judge_value(value, format, registry, depth, nodes),
+        (VariantFormat::NewType(format), _) => judge_value(value, registry, format, depth, nodes),
         (VariantFormat::Tuple(formats), Value::Items(items)) => {
-            judge_each(items, formats, registry, depth, nodes)
+            judge_each(items, registry, formats, depth, nodes)
         }
         (VariantFormat::Struct(fields), Value::Items(items)) => {
-            judge_fields(items, fields, registry, depth, nodes)
+            judge_fields(items, registry, fields, depth, nodes)
         }
         _ => None,
     }
@@ -136,8 +136,8 @@ fn judge_payload(
 #[tactic(auto, using(bcs_encode_steps::proofs::WalkViews::count_items))]
 fn judge_list(
     items: &[Value],
-    element: &Format,
     registry: &Registry,
+    element: &Format,
     depth: u64,
     nodes: u64,
 ) -> Option<u64>
@@ -146,7 +146,7 @@ fn judge_list(
     if items.len() > LENGTH_LIMIT {
         return None;
     }
-    judge_all(items, element, registry, depth, take(1, nodes)?)
+    judge_all(items, registry, element, depth, take(1, nodes)?)
 }
 
 /// Judges an array.
@@ -154,9 +154,9 @@ fn judge_list(
 #[tactic(auto, using(bcs_encode_steps::proofs::WalkViews::count_items))]
 fn judge_array(
     items: &[Value],
+    registry: &Registry,
     element: &Format,
     size: u64,
-    registry: &Registry,
     depth: u64,
     nodes: u64,
 ) -> Option<u64>
@@ -165,29 +165,29 @@ fn judge_array(
     if items.len() as u64 != size {
         return None;
     }
-    judge_all(items, element, registry, depth, take(1, nodes)?)
+    judge_all(items, registry, element, depth, take(1, nodes)?)
 }
 
 /// Judges elements of one format.
 #[cycle(judging)]
 fn judge_all(
     items: &[Value],
-    element: &Format,
     registry: &Registry,
+    element: &Format,
     depth: u64,
     nodes: u64,
 ) -> Option<u64>
     ensures { result ≡ spec.all_judged registry.now (items_trees items.now) (shape_of element.now) depth nodes }
 {
     if let Some(format) = WholeNumber::of(element) {
-        return judge_numbers(format, items, nodes);
+        return judge_numbers(format, nodes, items);
     }
     if let Format::TypeName(name) = element {
-        return judge_all_named(items, name.as_str(), registry, depth, nodes);
+        return judge_all_named(items, registry, name.as_str(), depth, nodes);
     }
     let mut left = nodes;
     for item in items {
-        left = judge_value(item, element, registry, depth, left)?;
+        left = judge_value(item, registry, element, depth, left)?;
     }
     Some(left)
 }
@@ -196,8 +196,8 @@ fn judge_all(
 #[cycle(judging)]
 fn judge_all_named(
     items: &[Value],
-    name: &str,
     registry: &Registry,
+    name: &str,
     depth: u64,
     nodes: u64,
 ) -> Option<u64>
@@ -209,8 +209,8 @@ fn judge_all_named(
         left = match (item, found) {
             (Value::Named(inner), Some(container)) => judge_content(
                 inner,
-                container,
                 registry,
+                container,
                 take(1, depth)?,
                 take(1, left)?,
             )?,
@@ -224,8 +224,8 @@ fn judge_all_named(
 #[cycle(judging)]
 fn judge_each(
     items: &[Value],
-    formats: &[Format],
     registry: &Registry,
+    formats: &[Format],
     depth: u64,
     nodes: u64,
 ) -> Option<u64>
@@ -236,7 +236,7 @@ fn judge_each(
     }
     let mut left = take(1, nodes)?;
     for (i, item) in items.iter().enumerate() {
-        left = judge_value(item, &formats[i], registry, depth, left)?;
+        left = judge_value(item, registry, &formats[i], depth, left)?;
     }
     Some(left)
 }
@@ -245,8 +245,8 @@ fn judge_each(
 #[cycle(judging)]
 fn judge_fields(
     items: &[Value],
-    fields: &[Named<Format>],
     registry: &Registry,
+    fields: &[Named<Format>],
     depth: u64,
     nodes: u64,
 ) -> Option<u64>
@@ -257,7 +257,7 @@ fn judge_fields(
     }
     let mut left = take(1, nodes)?;
     for (i, item) in items.iter().enumerate() {
-        left = judge_value(item, &fields[i].value, registry, depth, left)?;
+        left = judge_value(item, registry, &fields[i].value, depth, left)?;
     }
     Some(left)
 }
@@ -267,9 +267,9 @@ fn judge_fields(
 #[tactic(auto, using(bcs_encode_steps::proofs::WalkViews::count_pairs))]
 fn judge_map(
     pairs: &[(Value, Value)],
+    registry: &Registry,
     key: &Format,
     value: &Format,
-    registry: &Registry,
     depth: u64,
     nodes: u64,
 ) -> Option<u64>
@@ -280,8 +280,8 @@ fn judge_map(
     }
     let mut left = take(1, nodes)?;
     for (k, v) in pairs {
-        left = judge_value(k, key, registry, depth, left)?;
-        left = judge_value(v, value, registry, depth, left)?;
+        left = judge_value(k, registry, key, depth, left)?;
+        left = judge_value(v, registry, value, depth, left)?;
     }
     Some(left)
 }

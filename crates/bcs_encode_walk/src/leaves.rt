@@ -21,7 +21,7 @@ pub fn take(count: u64, from: u64) -> Option<u64>
 
 /// How many nodes may come after a value without parts, where it is good.
 #[inline(always)]
-pub fn judge_leaf(good: bool, nodes: u64) -> Option<u64>
+pub fn judge_leaf(nodes: u64, good: bool) -> Option<u64>
     ensures { result ≡ leaf good nodes }
 {
     if good { take(1, nodes) } else { None }
@@ -29,31 +29,31 @@ pub fn judge_leaf(good: bool, nodes: u64) -> Option<u64>
 
 /// The same of a text, which is good where it is short enough.
 #[inline(always)]
-pub fn judge_text(text: &str, nodes: u64) -> Option<u64>
+pub fn judge_text(nodes: u64, text: &str) -> Option<u64>
     ensures { result ≡ leaf (is_utf8 text.now && nat_le (length text.now) length_limit) nodes }
 {
-    judge_leaf(text.len() <= LENGTH_LIMIT, nodes)
+    judge_leaf(nodes, text.len() <= LENGTH_LIMIT)
 }
 
 /// The same of a byte string.
 #[inline(always)]
-pub fn judge_bytes(bytes: &[u8], nodes: u64) -> Option<u64>
+pub fn judge_bytes(nodes: u64, bytes: &[u8]) -> Option<u64>
     ensures { result ≡ leaf (are_bytes bytes.now && nat_le (length bytes.now) length_limit) nodes }
 {
-    judge_leaf(bytes.len() <= LENGTH_LIMIT, nodes)
+    judge_leaf(nodes, bytes.len() <= LENGTH_LIMIT)
 }
 
 /// The same of an unsigned number at a format, whichever it is.
 #[inline(always)]
-pub fn judge_unsigned(number: &u128, format: &Format, nodes: u64) -> Option<u64>
+pub fn judge_unsigned(format: &Format, nodes: u64, number: &u128) -> Option<u64>
     ensures { (r : Entries) (depth : ℕ) → result ≡ judged r (unsigned number.now) (of (shape_of format.now)) depth nodes }
 {
     match format {
-        Format::U8 => judge_leaf(Width::W1.holds_unsigned(*number), nodes),
-        Format::U16 => judge_leaf(Width::W2.holds_unsigned(*number), nodes),
-        Format::U32 => judge_leaf(Width::W4.holds_unsigned(*number), nodes),
-        Format::U64 => judge_leaf(Width::W8.holds_unsigned(*number), nodes),
-        Format::U128 => judge_leaf(Width::W16.holds_unsigned(*number), nodes),
+        Format::U8 => judge_leaf(nodes, Width::W1.holds_unsigned(*number)),
+        Format::U16 => judge_leaf(nodes, Width::W2.holds_unsigned(*number)),
+        Format::U32 => judge_leaf(nodes, Width::W4.holds_unsigned(*number)),
+        Format::U64 => judge_leaf(nodes, Width::W8.holds_unsigned(*number)),
+        Format::U128 => judge_leaf(nodes, Width::W16.holds_unsigned(*number)),
         Format::Unit
         | Format::Bool
         | Format::I8
@@ -77,15 +77,15 @@ pub fn judge_unsigned(number: &u128, format: &Format, nodes: u64) -> Option<u64>
 
 /// The same of a signed number.
 #[inline(always)]
-pub fn judge_signed(number: &i128, format: &Format, nodes: u64) -> Option<u64>
+pub fn judge_signed(format: &Format, nodes: u64, number: &i128) -> Option<u64>
     ensures { (r : Entries) (depth : ℕ) → result ≡ judged r (signed number.now) (of (shape_of format.now)) depth nodes }
 {
     match format {
-        Format::I8 => judge_leaf(Width::W1.holds_signed(*number), nodes),
-        Format::I16 => judge_leaf(Width::W2.holds_signed(*number), nodes),
-        Format::I32 => judge_leaf(Width::W4.holds_signed(*number), nodes),
-        Format::I64 => judge_leaf(Width::W8.holds_signed(*number), nodes),
-        Format::I128 => judge_leaf(Width::W16.holds_signed(*number), nodes),
+        Format::I8 => judge_leaf(nodes, Width::W1.holds_signed(*number)),
+        Format::I16 => judge_leaf(nodes, Width::W2.holds_signed(*number)),
+        Format::I32 => judge_leaf(nodes, Width::W4.holds_signed(*number)),
+        Format::I64 => judge_leaf(nodes, Width::W8.holds_signed(*number)),
+        Format::I128 => judge_leaf(nodes, Width::W16.holds_signed(*number)),
         Format::Unit
         | Format::Bool
         | Format::U8

@@ -13,7 +13,7 @@ use bcs_value_tree::Value;
 
 /// How many nodes may come after a list's numbers, where they are all in range. A number looks up no container, so the
 /// clause names a registry without any.
-pub fn judge_numbers(format: WholeNumber, items: &[Value], nodes: u64) -> Option<u64>
+pub fn judge_numbers(format: WholeNumber, nodes: u64, items: &[Value]) -> Option<u64>
     ensures { result ≡ (if all_fit false [] (items_trees items.now) (whole_shape format) then less (length items.now) nodes else None) }
 {
     if are_numbers(format, items) {

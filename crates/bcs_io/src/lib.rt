@@ -3,12 +3,14 @@
 
 pub mod filling;
 pub mod pieces;
+mod putting;
 mod read_source;
 mod sink;
 mod slice_source;
 mod source;
 mod write_sink;
 
+pub use putting::put_all;
 pub use read_source::ReadSource;
 pub use sink::{ByteSink, SinkFailed};
 pub use slice_source::SliceSource;

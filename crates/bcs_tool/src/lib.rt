@@ -18,8 +18,9 @@ mod value_answers;
 
 pub use bcs_decode::{ByteSource, ReadSource};
 pub use bcs_encode::{ByteSink, WriteSink};
+pub use bcs_io::put_all;
 pub use bcs_tool_files::{
-    FileFault, Outcome, TakeFault, Work, put_all, read_named, read_opened, read_work, take_all,
+    FileFault, Outcome, TakeFault, Work, read_named, read_opened, read_work, take_all,
 };
 pub use bcs_tool_line::{Command, Job, LineFault, line};
 pub use entry::{program, words_of};

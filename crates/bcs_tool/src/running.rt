@@ -11,7 +11,8 @@ use crate::answering::answer;
 use crate::run_fault::RunFault;
 use bcs_decode::ByteSource;
 use bcs_encode::ByteSink;
-use bcs_tool_files::{Outcome, TakeFault, Work, put_all};
+use bcs_io::put_all;
+use bcs_tool_files::{Outcome, TakeFault, Work};
 use std::alloc::Global;
 
 /// Puts the answer to a job and its input. The whole answer is made before its first byte is put.

@@ -4,7 +4,8 @@ ghost use Rattle.bcs_tool.specs.Endings.{Told, TellsFault, TellsOutcome};
 
 use crate::running::failed;
 use bcs_encode::ByteSink;
-use bcs_tool_files::{Outcome, put_all};
+use bcs_io::put_all;
+use bcs_tool_files::Outcome;
 use bcs_tool_line::LineFault;
 
 /// Tells why the words are no job, or what they ask for, and gives the status.

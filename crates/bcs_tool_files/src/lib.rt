@@ -4,12 +4,10 @@
 mod file_fault;
 mod files;
 pub mod limits;
-mod putting;
 mod taking;
 mod work;
 
 pub use file_fault::FileFault;
 pub use files::{read_named, read_opened, read_work};
-pub use putting::put_all;
 pub use taking::{TakeFault, take_all};
 pub use work::{Outcome, Work};

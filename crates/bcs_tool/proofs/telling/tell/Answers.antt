@@ -5,6 +5,6 @@ use Rattle.bcs_tool.proofs.telling.tell.Goals as goal
 
 pub returns : goal.returns
 returns g c =
-    let P : List ℕ → Type 0 = λ text. Told g.E.ByteSink.taken g.E.ByteSink.is_failed c.args.errors.now c.put_all.new.out text in
+    let P : List ℕ → Type 0 = λ text. Told g.E.ByteSink.taken g.E.ByteSink.is_failed c.args.errors.now c.put_all.new.sink text in
     subst P c.as_bytes.ensures.value
     (is_told g.E.ByteSink.taken g.E.ByteSink.is_failed c.put_all.result _ _ _ c.put_all.ensures.whole c.put_all.ensures.part)

@@ -4,7 +4,7 @@ use Rattle.std.proofs.Math.Seq.{take-add}
 use Rattle.std.proofs.lemmas.List.{take_all}
 use Rattle.bcs_io.specs.Taking.{Took}
 use Rattle.bcs_io.proofs.TakingLemmas.{Took-then}
-use Rattle.bcs_encode.proofs.writing.put_pieces.Goals as goal
+use Rattle.bcs_io.proofs.putting.put_all.Goals as goal
 
 -- what was taken before, and the front of the rest of the piece that was taken now
 pub loop-at-preserved : goal.loop-at-preserved
