@@ -1,13 +1,13 @@
-use Rattle.std.proofs.Common.{◌≡◌, ◌∙◌, ◌+◌, ◌∷◌, [], ℕ, List, String, Global, Some, false, map, drop, length, codes, string_bytes, sym, ap, refl, subst, arith, rules}
+use Rattle.std.proofs.Common.{◌≡◌, ◌∙◌, ◌+◌, ◌∷◌, [], ℕ, List, String, Global, Some, false, drop, length, sym, ap, subst, arith, rules}
 use Rattle.std.proofs.lemmas.Grind.{common_steps}
 use Rattle.std.proofs.lemmas.List.{drop_all, drop_more}
 use Rattle.std.proofs.lemmas.Result.{on_ok_weaker}
 use Rattle.serde.specs.Event.{Logs, field_key, map_begins, seq_begins}
 use Rattle.serde.specs.declared.name.Case.TheVariants.{AsIs}
-use Rattle.serde_json.specs.Data.{Data, Members, array, null, object}
+use Rattle.serde_json.specs.Data.{array, null, object}
 use Rattle.serde_json.specs.Events.{SendsItems, SendsMembers, SendsValue}
 use Rattle.bcs_registry_formats.specs.Container.{content, payload_shape, of as at_format}
-use Rattle.bcs_registry_formats.specs.View.{container_of, field_of, formats_shapes, payload_of, shape_of}
+use Rattle.bcs_registry_formats.specs.View.{container_of, formats_shapes, payload_of, shape_of}
 use Rattle.bcs_registry_formats.specs.declared.format.Format.{Format}
 use Rattle.bcs_registry_formats.specs.declared.named.Named.{Named}
 use Rattle.bcs_value_spec.specs.Fits.{all_fit, fits}
@@ -15,7 +15,7 @@ use Rattle.bcs_value_tree.specs.Tree.{nodes}
 use Rattle.bcs_value_tree.specs.View.{entries_pairs, items_trees, tree_of}
 use Rattle.bcs_value_tree.specs.declared.value.Value.{Value}
 use Rattle.bcs_json_spec.specs.JsonContent.{json_content, of}
-use Rattle.bcs_json_spec.specs.Shown.{shown, shown_all, shown_choice, shown_each, shown_fields, shown_pairs}
+use Rattle.bcs_json_spec.specs.Shown.{shown, shown_all, shown_choice, shown_each, shown_pairs}
 use Rattle.bcs_json_printer.specs.Places.{placed}
 use Rattle.bcs_json_printer.proofs.ShownViews.{at_enum, at_map, at_option, choice_named, choice-found, choice-missing, payload_fits}
 use Rattle.bcs_json_printer.proofs.PrintedRows.{all_here, bytes_listed, each_here, each_long, fields_long, pairs_here, shape_of_byte}
