@@ -32,7 +32,7 @@ pub fn from_bcs(
     if !shown_nests_within(&value, format, registry, NESTING_LIMIT) {
         return Err(FromFault::TooNested);
     }
-    let text = show(value, format, registry, alloc)?;
+    let text = show(alloc, registry, format, value)?;
     Ok(text)
 }
 

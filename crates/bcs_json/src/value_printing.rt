@@ -38,6 +38,6 @@ pub fn print_value(
     if !shown_nests_within(&form, format, registry, NESTING_LIMIT) {
         return Err(PrintFault::TooNested);
     }
-    let text = show(form, format, registry, alloc)?;
+    let text = show(alloc, registry, format, form)?;
     Ok(text)
 }

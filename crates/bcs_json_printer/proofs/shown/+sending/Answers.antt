@@ -189,9 +189,9 @@ pub send_value-returns-in-Pairs-Map : goal.send_value-returns-in-Pairs-Map
 send_value-returns-in-Pairs-Map g t c =
     let m = c.in-Pairs-Map in
     let at = at_map (λ t s. shown c.args.registry.now t (of s)) c.args.value.now c.args.format.now m.pairs m.key m.content m.is-0 m.is-1 in
-    let same : array (shown_pairs c.args.registry.now (entries_pairs c.deref-in-Pairs-Map.result.now) (shape_of c.deref-in-Pairs-Map-2.result.now) (shape_of c.deref-in-Pairs-Map-3.result.now))
+    let same : array (shown_pairs c.args.registry.now (entries_pairs c.deref-in-Pairs-Map-3.result.now) (shape_of c.deref-in-Pairs-Map.result.now) (shape_of c.deref-in-Pairs-Map-2.result.now))
     ≡ shown c.args.registry.now (tree_of c.args.value.now) (of (shape_of c.args.format.now)) =
-    rw (c.deref-in-Pairs-Map.ensures.value, c.deref-in-Pairs-Map-2.ensures, c.deref-in-Pairs-Map-3.ensures) (sym at) in
+    rw (c.deref-in-Pairs-Map-3.ensures.value, c.deref-in-Pairs-Map.ensures, c.deref-in-Pairs-Map-2.ensures) (sym at) in
     on_ok_weaker c.send_pairs.result (subst (λ d. SendsValue d (g.S.Serializer.written c.args.out.now) (g.S.Serializer.written c.send_pairs.new.out)) same) c.send_pairs.ensures
 
 -- ---- options
@@ -202,7 +202,7 @@ send_value-returns-in_ok-send_value-in-Present-Opt g t c =
     let r = c.args.registry.now in
     let d = shown r (tree_of m.inner.value) (of (shape_of m.content.value)) in
     let at = at_option (λ t s. shown r t (of s)) c.args.value.now c.args.format.now m.inner m.content m.is-0 m.is-1 in
-    let inner : shown r (tree_of c.deref.result.now) (of (shape_of c.deref-in-Present-Opt.result.now)) ≡ d = search rules in
+    let inner : shown r (tree_of c.deref-in-Present-Opt.result.now) (of (shape_of c.deref.result.now)) ≡ d = search rules in
     let opened = g.S.Serializer.written c.open_map.new.out in
     let named = g.S.Serializer.written c.send_name.new.out in
     let valued = g.S.Serializer.written c.send_value.new.out in
