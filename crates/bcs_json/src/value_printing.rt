@@ -35,7 +35,7 @@ pub fn print_value(
 {
     registry.recall();
     let form = canonicalise(alloc, registry, format, limits, value)?;
-    if !shown_nests_within(&form, format, registry, NESTING_LIMIT) {
+    if !shown_nests_within(registry, format, NESTING_LIMIT, &form) {
         return Err(PrintFault::TooNested);
     }
     let text = show(alloc, registry, format, form)?;
