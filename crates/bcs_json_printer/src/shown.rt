@@ -1,5 +1,5 @@
 //! A value with its format, as it is printed: a serializer is sent its JSON, front to back, with no JSON made in between.
-ghost use Rattle.std.specs.Prelude.{◌≡◌, IsTrue, OnOk, false, Some, if◌then◌else◌, map, string_bytes};
+ghost use Rattle.std.specs.Prelude.{◌≡◌, IfSome, IsTrue, OnOk, false, is_some, Some, if◌then◌else◌, map, string_bytes};
 ghost use Rattle.hex.specs.Hex.{encode_lower};
 ghost use Rattle.serde_json.specs.Data.{array, null, object, string};
 ghost use Rattle.serde_json.specs.Events.{SendsValue};
@@ -18,6 +18,7 @@ use crate::leaves::{
     send_wide_unsigned,
 };
 use bcs_registry::{Container, Format, Named, Registry, VariantFormat};
+use bcs_value::has_format;
 use bcs_value_tree::Value;
 use serde::{Described, Serialize, Serializer};
 use std::alloc::Global;
@@ -30,6 +31,32 @@ pub struct Shown<'a> {
     pub registry: &'a Registry,
     pub alloc: Global,
     pub ghost fits: { Fits registry.now (shape_of format.now) (tree_of value.now) },
+}
+
+impl<'a> Shown<'a> {
+    /// The value as it is shown at the format, to be put into a JSON of your own. `None` exactly if the value isn't one
+    /// of the format.
+    pub fn new(
+        alloc: Global,
+        registry: &'a Registry,
+        format: &'a Format,
+        value: &'a Value,
+    ) -> Option<Shown<'a>>
+        ensures judges { is_some result ≡ fits false registry.now (tree_of value.now) (at_format (shape_of format.now)) }
+        ensures holds { IfSome result (λ s.
+            (s.registry.now ≡ registry.now) × (s.format.now ≡ format.now) × (s.value.now ≡ value.now)) }
+    {
+        if has_format(registry, format, value) {
+            Some(Shown {
+                value,
+                format,
+                registry,
+                alloc,
+            })
+        } else {
+            None
+        }
+    }
 }
 
 impl Described for Shown<'_> {
