@@ -113,7 +113,7 @@ fn send_value<S: Serializer>(
         }
         (Value::Named(inner), Format::TypeName(name)) => match registry.container(name.as_str()) {
             Some(container) => send_content(alloc, registry, container, inner, out),
-            None => send_nothing(registry, format, value, out),
+            None => send_null(out),
         },
         _ => send_nothing(registry, format, value, out),
     }
@@ -143,7 +143,7 @@ fn send_content<S: Serializer>(
             Some(variant) => send_variant(alloc, registry, variant, inner, out),
             None => send_null(out),
         },
-        _ => send_nothing_in(registry, container, value, out),
+        _ => send_null(out),
     }
 }
 
@@ -190,7 +190,7 @@ fn send_payload<S: Serializer>(
         (VariantFormat::Struct(fields), Value::Items(items)) => {
             send_fields(alloc, registry, fields, items, out)
         }
-        _ => send_nothing_of(registry, payload, value, out),
+        _ => send_null(out),
     }
 }
 
@@ -297,7 +297,8 @@ fn send_pairs<S: Serializer>(
     close_seq(out)
 }
 
-/// A value that is shown as `null` at its format.
+/// Sends `null`, where that is what is shown of the value. It says so as an equation, by which the arm of
+/// [`send_value`] that has no case of its own is proved.
 fn send_nothing<S: Serializer>(
     registry: &Registry,
     format: &Format,
@@ -306,34 +307,6 @@ fn send_nothing<S: Serializer>(
 ) -> Result<(), S::Error>
     requires nothing { shown registry.now (tree_of value.now) (of (shape_of format.now)) ≡ null }
     ensures { OnOk result (SendsValue (shown registry.now (tree_of value.now) (of (shape_of format.now)))
-        (S.written out.old) (S.written out.new)) }
-{
-    send_null(out)
-}
-
-/// The same of what stands in a container.
-fn send_nothing_in<S: Serializer>(
-    registry: &Registry,
-    container: &Container,
-    value: &Value,
-    out: &mut S,
-) -> Result<(), S::Error>
-    requires nothing { shown registry.now (tree_of value.now) (json_content (container_of container.now)) ≡ null }
-    ensures { OnOk result (SendsValue (shown registry.now (tree_of value.now) (json_content (container_of container.now)))
-        (S.written out.old) (S.written out.new)) }
-{
-    send_null(out)
-}
-
-/// The same of what a variant carries.
-fn send_nothing_of<S: Serializer>(
-    registry: &Registry,
-    payload: &VariantFormat,
-    value: &Value,
-    out: &mut S,
-) -> Result<(), S::Error>
-    requires nothing { shown registry.now (tree_of value.now) (payload_content (payload_of payload.now)) ≡ null }
-    ensures { OnOk result (SendsValue (shown registry.now (tree_of value.now) (payload_content (payload_of payload.now)))
         (S.written out.old) (S.written out.new)) }
 {
     send_null(out)
