@@ -29,10 +29,10 @@ pub fn from_bcs(
 {
     registry.recall();
     let value = whole_value(alloc, registry, format, limits, bytes)?;
-    if !shown_nests_within(&value, format, registry, NESTING_LIMIT) {
+    if !shown_nests_within(registry, format, NESTING_LIMIT, &value) {
         return Err(FromFault::TooNested);
     }
-    let text = show(value, format, registry, alloc)?;
+    let text = show(alloc, registry, format, value)?;
     Ok(text)
 }
 

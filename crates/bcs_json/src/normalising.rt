@@ -31,6 +31,6 @@ pub fn normalise(
     let bytes = to_bcs(alloc, registry, format, limits, text)?;
     let form = decode_encoded(alloc, registry, format, limits, &bytes)?;
     drop(bytes);
-    let out = show(form, format, registry, alloc)?;
+    let out = show(alloc, registry, format, form)?;
     Ok(out)
 }

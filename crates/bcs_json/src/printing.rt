@@ -35,9 +35,9 @@ pub fn print_value(
 {
     registry.recall();
     let form = canonicalise(alloc, registry, format, limits, value)?;
-    if !shown_nests_within(&form, format, registry, NESTING_LIMIT) {
+    if !shown_nests_within(registry, format, NESTING_LIMIT, &form) {
         return Err(PrintFault::TooNested);
     }
-    let text = show(form, format, registry, alloc)?;
+    let text = show(alloc, registry, format, form)?;
     Ok(text)
 }

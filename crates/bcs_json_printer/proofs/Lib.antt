@@ -5,5 +5,3 @@ pub mod PrintedRows
 pub mod Places
 pub mod SentRows
 pub mod ShownBack
-pub mod SentTexts
-pub mod Whole

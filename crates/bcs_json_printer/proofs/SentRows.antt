@@ -1,5 +1,5 @@
 -- Rows that are sent one part after another.
-use Rattle.std.proofs.Common.{◌≡◌, ◌∙◌, ◌<◌, ◌≤◌, ◌+◌, ℕ, zero, suc, List, [], ◌∷◌, ◌++◌, length, get_or, drop, map, true, false, true≢false, String, Global, string_bytes, refl, sym, ap, append_assoc, arith, subst}
+use Rattle.std.proofs.Common.{◌≡◌, ◌∙◌, ◌<◌, ◌≤◌, ◌+◌, ℕ, zero, suc, List, [], ◌∷◌, length, get_or, drop, map, true, false, true≢false, String, Global, refl, sym, ap, arith, subst}
 use Rattle.std.proofs.lemmas.Bool.{and_parts}
 use Rattle.std.proofs.lemmas.List.{drop_more}
 use Rattle.std.specs.List.{All}
@@ -15,8 +15,7 @@ use Rattle.bcs_value_spec.specs.Fits.{each_fits, fits, pairs_fit}
 use Rattle.bcs_value_tree.specs.Tree.{nodes, pairs_nodes, trees_nodes}
 use Rattle.bcs_value_tree.specs.View.{entries_pairs, items_trees, tree_of}
 use Rattle.bcs_value_tree.specs.declared.value.Value.{Value}
-use Rattle.bcs_json_spec.specs.JsonContent.{of}
-use Rattle.bcs_json_spec.specs.Shown.{shown, shown_all, shown_each, shown_pairs}
+use Rattle.bcs_json_spec.specs.Shown.{shown_all, shown_each, shown_pairs}
 use Rattle.bcs_json_printer.specs.Places.{placed}
 use Rattle.bcs_json_printer.proofs.PrintedRows.{pairs_here}
 

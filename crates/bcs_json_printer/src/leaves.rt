@@ -86,8 +86,8 @@ pub(crate) fn send_wide_signed<S: Serializer>(number: i128, out: &mut S) -> Resu
 /// serializer's errors.
 #[inline(never)]
 pub(crate) fn send_bytes<S: Serializer>(
-    bytes: &[u8],
     alloc: Global,
+    bytes: &[u8],
     out: &mut S,
 ) -> Result<(), S::Error>
     ensures { OnOk result (SendsValue (string (encode_lower bytes.now)) (S.written out.old) (S.written out.new)) }
@@ -101,8 +101,8 @@ pub(crate) fn send_bytes<S: Serializer>(
 /// A list of whole numbers that are bytes, as a string of two digits each.
 #[inline(never)]
 pub(crate) fn send_byte_list<S: Serializer>(
-    items: &[Value],
     alloc: Global,
+    items: &[Value],
     out: &mut S,
 ) -> Result<(), S::Error>
     requires bytes { are_bytes (trees_bytes (items_trees items.now)) ≡ true }
@@ -110,7 +110,7 @@ pub(crate) fn send_byte_list<S: Serializer>(
         (S.written out.old) (S.written out.new)) }
 {
     match bytes_of(alloc, items) {
-        Ok(bytes) => send_bytes(bytes.as_slice(), alloc, out),
+        Ok(bytes) => send_bytes(alloc, bytes.as_slice(), out),
         Err(_) => Err(out.custom("out of memory")),
     }
 }

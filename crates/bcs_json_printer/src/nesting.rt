@@ -15,27 +15,27 @@ use bcs_value_tree::Value;
 /// Whether arrays and objects nest at most `limit` deep in the JSON of the value. The walk goes as deep as they may,
 /// and as containers do.
 #[cycle(nesting)]
-pub fn shown_nests_within(value: &Value, format: &Format, registry: &Registry, limit: u32) -> bool
+pub fn shown_nests_within(registry: &Registry, format: &Format, limit: u32, value: &Value) -> bool
     ensures { result ≡ nat_le (depth (shown registry.now (tree_of value.now) (of (shape_of format.now)))) limit }
 {
     match (value, format) {
         (Value::Present(inner), Format::Opt(content)) => {
-            0 < limit && shown_nests_within(inner, content, registry, limit - 1)
+            0 < limit && shown_nests_within(registry, content, limit - 1, inner)
         }
         (Value::Items(items), Format::Seq(element)) => {
-            list_nests_within(items, element, registry, limit)
+            list_nests_within(registry, element, limit, items)
         }
         (Value::Items(items), Format::TupleArray(element, _)) => {
-            list_nests_within(items, element, registry, limit)
+            list_nests_within(registry, element, limit, items)
         }
         (Value::Items(items), Format::Tuple(formats)) => {
-            0 < limit && each_nests_within(items, formats, registry, limit - 1)
+            0 < limit && each_nests_within(registry, formats, limit - 1, items)
         }
         (Value::Pairs(pairs), Format::Map(key, value)) => {
-            0 < limit && pairs_nest_within(pairs, key, value, registry, limit - 1)
+            0 < limit && pairs_nest_within(registry, key, value, limit - 1, pairs)
         }
         (Value::Named(inner), Format::TypeName(name)) => match registry.container(name.as_str()) {
-            Some(container) => content_nests_within(inner, container, registry, limit),
+            Some(container) => content_nests_within(registry, container, limit, inner),
             None => true,
         },
         (
@@ -56,24 +56,24 @@ pub fn shown_nests_within(value: &Value, format: &Format, registry: &Registry, l
 /// The same of what stands in a container.
 #[cycle(nesting)]
 fn content_nests_within(
-    value: &Value,
-    container: &Container,
     registry: &Registry,
+    container: &Container,
     limit: u32,
+    value: &Value,
 ) -> bool
     requires distinct { list_all are_distinct (container_names (container_of container.now)) ≡ true }
     ensures { result ≡ nat_le (depth (shown registry.now (tree_of value.now) (json_content (container_of container.now)))) limit }
 {
     match (container, value) {
-        (Container::NewTypeStruct(format), _) => shown_nests_within(value, format, registry, limit),
+        (Container::NewTypeStruct(format), _) => shown_nests_within(registry, format, limit, value),
         (Container::TupleStruct(formats), Value::Items(items)) => {
-            0 < limit && each_nests_within(items, formats, registry, limit - 1)
+            0 < limit && each_nests_within(registry, formats, limit - 1, items)
         }
         (Container::Struct(fields), Value::Items(items)) => {
-            0 < limit && fields_nest_within(items, fields, registry, limit - 1)
+            0 < limit && fields_nest_within(registry, fields, limit - 1, items)
         }
         (Container::Enum(variants), Value::Variant(number, inner)) => match variants.get(number) {
-            Some(variant) => variant_nests_within(inner, variant, registry, limit),
+            Some(variant) => variant_nests_within(registry, variant, limit, inner),
             None => true,
         },
         _ => true,
@@ -83,10 +83,10 @@ fn content_nests_within(
 /// The same of a variant: its name alone doesn't nest, and an object with what it carries does.
 #[cycle(nesting)]
 fn variant_nests_within(
-    value: &Value,
-    variant: &Named<VariantFormat>,
     registry: &Registry,
+    variant: &Named<VariantFormat>,
     limit: u32,
+    value: &Value,
 ) -> bool
     requires distinct { list_all are_distinct (payload_names (payload_of variant.now.value)) ≡ true }
     ensures { result ≡ nat_le (depth (shown_choice (shown registry.now (tree_of value.now))
@@ -95,13 +95,13 @@ fn variant_nests_within(
     match (&variant.value, value) {
         (VariantFormat::Unit, _) => true,
         (VariantFormat::NewType(format), _) => {
-            0 < limit && shown_nests_within(value, format, registry, limit - 1)
+            0 < limit && shown_nests_within(registry, format, limit - 1, value)
         }
         (VariantFormat::Tuple(formats), Value::Items(items)) => {
-            1 < limit && each_nests_within(items, formats, registry, limit - 2)
+            1 < limit && each_nests_within(registry, formats, limit - 2, items)
         }
         (VariantFormat::Struct(fields), Value::Items(items)) => {
-            1 < limit && fields_nest_within(items, fields, registry, limit - 2)
+            1 < limit && fields_nest_within(registry, fields, limit - 2, items)
         }
         _ => 0 < limit,
     }
@@ -109,23 +109,23 @@ fn variant_nests_within(
 
 /// The same of a list or an array: bytes are a string.
 #[cycle(nesting)]
-fn list_nests_within(items: &[Value], element: &Format, registry: &Registry, limit: u32) -> bool
+fn list_nests_within(registry: &Registry, element: &Format, limit: u32, items: &[Value]) -> bool
     ensures { result ≡ (is_byte (shape_of element.now)
         || nat_le (depth (array (shown_all registry.now (items_trees items.now) (shape_of element.now)))) limit) }
 {
     if matches!(element, Format::U8) {
         return true;
     }
-    0 < limit && all_nest_within(items, element, registry, limit - 1)
+    0 < limit && all_nest_within(registry, element, limit - 1, items)
 }
 
 /// Whether each element of one format nests at most `limit` deep.
 #[cycle(nesting)]
-fn all_nest_within(items: &[Value], element: &Format, registry: &Registry, limit: u32) -> bool
+fn all_nest_within(registry: &Registry, element: &Format, limit: u32, items: &[Value]) -> bool
     ensures { result ≡ nat_le (items_depth (shown_all registry.now (items_trees items.now) (shape_of element.now))) limit }
 {
     for item in items {
-        if !shown_nests_within(item, element, registry, limit) {
+        if !shown_nests_within(registry, element, limit, item) {
             return false;
         }
     }
@@ -134,14 +134,14 @@ fn all_nest_within(items: &[Value], element: &Format, registry: &Registry, limit
 
 /// The same of the elements of a tuple.
 #[cycle(nesting)]
-fn each_nests_within(items: &[Value], formats: &[Format], registry: &Registry, limit: u32) -> bool
+fn each_nests_within(registry: &Registry, formats: &[Format], limit: u32, items: &[Value]) -> bool
     ensures { result ≡ nat_le (items_depth (shown_each registry.now (items_trees items.now) (formats_shapes formats.now))) limit }
 {
     for (i, item) in items.iter().enumerate() {
         if i >= formats.len() {
             return true;
         }
-        if !shown_nests_within(item, &formats[i], registry, limit) {
+        if !shown_nests_within(registry, &formats[i], limit, item) {
             return false;
         }
     }
@@ -151,10 +151,10 @@ fn each_nests_within(items: &[Value], formats: &[Format], registry: &Registry, l
 /// The same of the fields of a struct, whose names differ.
 #[cycle(nesting)]
 fn fields_nest_within(
-    items: &[Value],
-    fields: &[Named<Format>],
     registry: &Registry,
+    fields: &[Named<Format>],
     limit: u32,
+    items: &[Value],
 ) -> bool
     requires distinct { are_distinct (map (λ f. f.0) (map field_of fields.now)) ≡ true }
     ensures { result ≡ nat_le (members_depth (shown_fields registry.now (items_trees items.now) (map field_of fields.now))) limit }
@@ -163,7 +163,7 @@ fn fields_nest_within(
         if i >= fields.len() {
             return true;
         }
-        if !shown_nests_within(item, &fields[i].value, registry, limit) {
+        if !shown_nests_within(registry, &fields[i].value, limit, item) {
             return false;
         }
     }
@@ -173,18 +173,18 @@ fn fields_nest_within(
 /// The same of a map's entries, each of which is an array.
 #[cycle(nesting)]
 fn pairs_nest_within(
-    pairs: &[(Value, Value)],
+    registry: &Registry,
     key: &Format,
     value: &Format,
-    registry: &Registry,
     limit: u32,
+    pairs: &[(Value, Value)],
 ) -> bool
     ensures { result ≡ nat_le (items_depth (shown_pairs registry.now (entries_pairs pairs.now) (shape_of key.now) (shape_of value.now))) limit }
 {
     for (k, v) in pairs {
         if limit == 0
-            || !shown_nests_within(k, key, registry, limit - 1)
-            || !shown_nests_within(v, value, registry, limit - 1)
+            || !shown_nests_within(registry, key, limit - 1, k)
+            || !shown_nests_within(registry, value, limit - 1, v)
         {
             return false;
         }

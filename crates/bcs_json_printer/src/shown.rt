@@ -1,5 +1,5 @@
 //! A value with its format, as it is printed: a serializer is sent its JSON, front to back, with no JSON made in between.
-ghost use Rattle.std.specs.Prelude.{◌≡◌, IsTrue, OnOk, false, Some, if◌then◌else◌, map, string_bytes};
+ghost use Rattle.std.specs.Prelude.{◌≡◌, IfSome, IsTrue, OnOk, false, is_some, Some, if◌then◌else◌, map, string_bytes};
 ghost use Rattle.hex.specs.Hex.{encode_lower};
 ghost use Rattle.serde_json.specs.Data.{array, null, object, string};
 ghost use Rattle.serde_json.specs.Events.{SendsValue};
@@ -18,6 +18,7 @@ use crate::leaves::{
     send_wide_unsigned,
 };
 use bcs_registry::{Container, Format, Named, Registry, VariantFormat};
+use bcs_value::has_format;
 use bcs_value_tree::Value;
 use serde::{Described, Serialize, Serializer};
 use std::alloc::Global;
@@ -32,23 +33,49 @@ pub struct Shown<'a> {
     pub ghost fits: { Fits registry.now (shape_of format.now) (tree_of value.now) },
 }
 
+impl<'a> Shown<'a> {
+    /// The value as it is shown at the format, to be put into a JSON of your own. `None` exactly if the value isn't one
+    /// of the format.
+    pub fn new(
+        alloc: Global,
+        registry: &'a Registry,
+        format: &'a Format,
+        value: &'a Value,
+    ) -> Option<Shown<'a>>
+        ensures judges { is_some result ≡ fits false registry.now (tree_of value.now) (at_format (shape_of format.now)) }
+        ensures holds { IfSome result (λ s.
+            (s.registry.now ≡ registry.now) × (s.format.now ≡ format.now) × (s.value.now ≡ value.now)) }
+    {
+        if has_format(registry, format, value) {
+            Some(Shown {
+                value,
+                format,
+                registry,
+                alloc,
+            })
+        } else {
+            None
+        }
+    }
+}
+
 impl Described for Shown<'_> {
     ghost writes = { λ s. SendsValue (shown s.registry.now (tree_of s.value.now) (of (shape_of s.format.now))) };
 }
 
 impl Serialize for Shown<'_> {
     fn serialize<S: Serializer>(&self, out: &mut S) -> Result<(), S::Error> {
-        send_value(self.value, self.format, self.registry, self.alloc, out)
+        send_value(self.alloc, self.registry, self.format, self.value, out)
     }
 }
 
 /// Sends the JSON of a value of the format.
 #[cycle(sending)]
 fn send_value<S: Serializer>(
-    value: &Value,
-    format: &Format,
-    registry: &Registry,
     alloc: Global,
+    registry: &Registry,
+    format: &Format,
+    value: &Value,
     out: &mut S,
 ) -> Result<(), S::Error>
     requires fits { Fits registry.now (shape_of format.now) (tree_of value.now) }
@@ -65,68 +92,68 @@ fn send_value<S: Serializer>(
         }
         (Value::Signed(number), Format::I64 | Format::I128) => send_wide_signed(*number, out),
         (Value::Text(text), Format::Str) => send_text(text.as_str(), out),
-        (Value::Bytes(bytes), Format::Bytes) => send_bytes(bytes.as_slice(), alloc, out),
+        (Value::Bytes(bytes), Format::Bytes) => send_bytes(alloc, bytes.as_slice(), out),
         (Value::Present(inner), Format::Opt(content)) => {
             open_map(1, out)?;
             send_name("some", out)?;
-            send_value(inner, content, registry, alloc, out)?;
+            send_value(alloc, registry, content, inner, out)?;
             close_map(out)
         }
         (Value::Items(items), Format::Seq(element)) => {
-            send_list(items, element, registry, alloc, out)
+            send_list(alloc, registry, element, items, out)
         }
         (Value::Items(items), Format::TupleArray(element, _)) => {
-            send_list(items, element, registry, alloc, out)
+            send_list(alloc, registry, element, items, out)
         }
         (Value::Items(items), Format::Tuple(formats)) => {
-            send_each(items, formats, registry, alloc, out)
+            send_each(alloc, registry, formats, items, out)
         }
         (Value::Pairs(pairs), Format::Map(key, content)) => {
-            send_pairs(pairs, key, content, registry, alloc, out)
+            send_pairs(alloc, registry, key, content, pairs, out)
         }
         (Value::Named(inner), Format::TypeName(name)) => match registry.container(name.as_str()) {
-            Some(container) => send_content(inner, container, registry, alloc, out),
-            None => send_nothing(value, format, registry, out),
+            Some(container) => send_content(alloc, registry, container, inner, out),
+            None => send_null(out),
         },
-        _ => send_nothing(value, format, registry, out),
+        _ => send_nothing(registry, format, value, out),
     }
 }
 
 /// Sends the JSON of what stands in a container.
 #[cycle(sending)]
 fn send_content<S: Serializer>(
-    value: &Value,
-    container: &Container,
-    registry: &Registry,
     alloc: Global,
+    registry: &Registry,
+    container: &Container,
+    value: &Value,
     out: &mut S,
 ) -> Result<(), S::Error>
     requires fits { IsTrue (fits false registry.now (tree_of value.now) (content (container_of container.now))) }
     ensures { OnOk result (SendsValue (shown registry.now (tree_of value.now) (json_content (container_of container.now))) (S.written out.old) (S.written out.new)) }
 {
     match (container, value) {
-        (Container::NewTypeStruct(format), _) => send_value(value, format, registry, alloc, out),
+        (Container::NewTypeStruct(format), _) => send_value(alloc, registry, format, value, out),
         (Container::TupleStruct(formats), Value::Items(items)) => {
-            send_each(items, formats, registry, alloc, out)
+            send_each(alloc, registry, formats, items, out)
         }
         (Container::Struct(fields), Value::Items(items)) => {
-            send_fields(items, fields, registry, alloc, out)
+            send_fields(alloc, registry, fields, items, out)
         }
         (Container::Enum(variants), Value::Variant(number, inner)) => match variants.get(number) {
-            Some(variant) => send_variant(inner, variant, registry, alloc, out),
+            Some(variant) => send_variant(alloc, registry, variant, inner, out),
             None => send_null(out),
         },
-        _ => send_nothing_in(value, container, registry, out),
+        _ => send_null(out),
     }
 }
 
 /// Sends the JSON of a variant: its name alone, or an object with what it carries.
 #[cycle(sending)]
 fn send_variant<S: Serializer>(
-    value: &Value,
-    variant: &Named<VariantFormat>,
-    registry: &Registry,
     alloc: Global,
+    registry: &Registry,
+    variant: &Named<VariantFormat>,
+    value: &Value,
     out: &mut S,
 ) -> Result<(), S::Error>
     requires fits { IsTrue (fits false registry.now (tree_of value.now) (at_format (payload_shape (payload_of variant.now.value)))) }
@@ -139,41 +166,41 @@ fn send_variant<S: Serializer>(
     }
     open_map(1, out)?;
     send_name(name, out)?;
-    send_payload(value, &variant.value, registry, alloc, out)?;
+    send_payload(alloc, registry, &variant.value, value, out)?;
     close_map(out)
 }
 
 /// Sends the JSON of what a variant carries.
 #[cycle(sending)]
 fn send_payload<S: Serializer>(
-    value: &Value,
-    payload: &VariantFormat,
-    registry: &Registry,
     alloc: Global,
+    registry: &Registry,
+    payload: &VariantFormat,
+    value: &Value,
     out: &mut S,
 ) -> Result<(), S::Error>
     requires fits { IsTrue (fits false registry.now (tree_of value.now) (at_format (payload_shape (payload_of payload.now)))) }
     ensures { OnOk result (SendsValue (shown registry.now (tree_of value.now) (payload_content (payload_of payload.now))) (S.written out.old) (S.written out.new)) }
 {
     match (payload, value) {
-        (VariantFormat::NewType(format), _) => send_value(value, format, registry, alloc, out),
+        (VariantFormat::NewType(format), _) => send_value(alloc, registry, format, value, out),
         (VariantFormat::Tuple(formats), Value::Items(items)) => {
-            send_each(items, formats, registry, alloc, out)
+            send_each(alloc, registry, formats, items, out)
         }
         (VariantFormat::Struct(fields), Value::Items(items)) => {
-            send_fields(items, fields, registry, alloc, out)
+            send_fields(alloc, registry, fields, items, out)
         }
-        _ => send_nothing_of(value, payload, registry, out),
+        _ => send_null(out),
     }
 }
 
 /// Sends the JSON of a list or an array: of bytes it is a string.
 #[cycle(sending)]
 fn send_list<S: Serializer>(
-    items: &[Value],
-    element: &Format,
-    registry: &Registry,
     alloc: Global,
+    registry: &Registry,
+    element: &Format,
+    items: &[Value],
     out: &mut S,
 ) -> Result<(), S::Error>
     requires fits { IsTrue (all_fit false registry.now (items_trees items.now) (shape_of element.now)) }
@@ -182,18 +209,18 @@ fn send_list<S: Serializer>(
         else array (shown_all registry.now (items_trees items.now) (shape_of element.now))) (S.written out.old) (S.written out.new)) }
 {
     if matches!(element, Format::U8) {
-        return send_byte_list(items, alloc, out);
+        return send_byte_list(alloc, items, out);
     }
-    send_all(items, element, registry, alloc, out)
+    send_all(alloc, registry, element, items, out)
 }
 
 /// Sends the elements of one format, as an array.
 #[cycle(sending)]
 fn send_all<S: Serializer>(
-    items: &[Value],
-    element: &Format,
-    registry: &Registry,
     alloc: Global,
+    registry: &Registry,
+    element: &Format,
+    items: &[Value],
     out: &mut S,
 ) -> Result<(), S::Error>
     requires fits { IsTrue (all_fit false registry.now (items_trees items.now) (shape_of element.now)) }
@@ -201,7 +228,7 @@ fn send_all<S: Serializer>(
 {
     open_seq(items.len(), out)?;
     for item in items {
-        send_value(item, element, registry, alloc, out)?;
+        send_value(alloc, registry, element, item, out)?;
     }
     close_seq(out)
 }
@@ -209,10 +236,10 @@ fn send_all<S: Serializer>(
 /// Sends the elements of a tuple, as an array.
 #[cycle(sending)]
 fn send_each<S: Serializer>(
-    items: &[Value],
-    formats: &[Format],
-    registry: &Registry,
     alloc: Global,
+    registry: &Registry,
+    formats: &[Format],
+    items: &[Value],
     out: &mut S,
 ) -> Result<(), S::Error>
     requires fits { IsTrue (each_fits false registry.now (items_trees items.now) (formats_shapes formats.now)) }
@@ -220,7 +247,7 @@ fn send_each<S: Serializer>(
 {
     open_seq(items.len(), out)?;
     for (i, item) in items.iter().enumerate() {
-        send_value(item, &formats[i], registry, alloc, out)?;
+        send_value(alloc, registry, &formats[i], item, out)?;
     }
     close_seq(out)
 }
@@ -228,10 +255,10 @@ fn send_each<S: Serializer>(
 /// Sends the fields of a struct, as an object, in the order of their names' bytes.
 #[cycle(sending)]
 fn send_fields<S: Serializer>(
-    items: &[Value],
-    fields: &[Named<Format>],
-    registry: &Registry,
     alloc: Global,
+    registry: &Registry,
+    fields: &[Named<Format>],
+    items: &[Value],
     out: &mut S,
 ) -> Result<(), S::Error>
     requires fits { IsTrue (each_fits false registry.now (items_trees items.now) (field_shapes (map field_of fields.now))) }
@@ -242,7 +269,7 @@ fn send_fields<S: Serializer>(
     for (name, place) in places.iter() {
         let i = *place;
         send_name(name.as_str(), out)?;
-        send_value(&items[i], &fields[i].value, registry, alloc, out)?;
+        send_value(alloc, registry, &fields[i].value, &items[i], out)?;
     }
     close_map(out)
 }
@@ -250,11 +277,11 @@ fn send_fields<S: Serializer>(
 /// Sends the entries of a map in their order, as an array of arrays.
 #[cycle(sending)]
 fn send_pairs<S: Serializer>(
-    pairs: &[(Value, Value)],
+    alloc: Global,
+    registry: &Registry,
     key: &Format,
     value: &Format,
-    registry: &Registry,
-    alloc: Global,
+    pairs: &[(Value, Value)],
     out: &mut S,
 ) -> Result<(), S::Error>
     requires fits { IsTrue (pairs_fit false registry.now (entries_pairs pairs.now) (shape_of key.now) (shape_of value.now)) }
@@ -263,50 +290,23 @@ fn send_pairs<S: Serializer>(
     open_seq(pairs.len(), out)?;
     for (k, v) in pairs {
         open_seq(2, out)?;
-        send_value(k, key, registry, alloc, out)?;
-        send_value(v, value, registry, alloc, out)?;
+        send_value(alloc, registry, key, k, out)?;
+        send_value(alloc, registry, value, v, out)?;
         close_seq(out)?;
     }
     close_seq(out)
 }
 
-/// A value that is shown as `null` at its format.
+/// Sends `null`, where that is what is shown of the value. It says so as an equation, by which the arm of
+/// [`send_value`] that has no case of its own is proved.
 fn send_nothing<S: Serializer>(
-    value: &Value,
-    format: &Format,
     registry: &Registry,
+    format: &Format,
+    value: &Value,
     out: &mut S,
 ) -> Result<(), S::Error>
     requires nothing { shown registry.now (tree_of value.now) (of (shape_of format.now)) ≡ null }
     ensures { OnOk result (SendsValue (shown registry.now (tree_of value.now) (of (shape_of format.now)))
-        (S.written out.old) (S.written out.new)) }
-{
-    send_null(out)
-}
-
-/// The same of what stands in a container.
-fn send_nothing_in<S: Serializer>(
-    value: &Value,
-    container: &Container,
-    registry: &Registry,
-    out: &mut S,
-) -> Result<(), S::Error>
-    requires nothing { shown registry.now (tree_of value.now) (json_content (container_of container.now)) ≡ null }
-    ensures { OnOk result (SendsValue (shown registry.now (tree_of value.now) (json_content (container_of container.now)))
-        (S.written out.old) (S.written out.new)) }
-{
-    send_null(out)
-}
-
-/// The same of what a variant carries.
-fn send_nothing_of<S: Serializer>(
-    value: &Value,
-    payload: &VariantFormat,
-    registry: &Registry,
-    out: &mut S,
-) -> Result<(), S::Error>
-    requires nothing { shown registry.now (tree_of value.now) (payload_content (payload_of payload.now)) ≡ null }
-    ensures { OnOk result (SendsValue (shown registry.now (tree_of value.now) (payload_content (payload_of payload.now)))
         (S.written out.old) (S.written out.new)) }
 {
     send_null(out)

@@ -15,10 +15,10 @@ use std::alloc::{AllocError, Global};
 
 /// The text of a value of the format, whose JSON nests within the limit. It is read as that JSON again.
 pub fn show(
-    value: Value,
-    format: &Format,
-    registry: &Registry,
     alloc: Global,
+    registry: &Registry,
+    format: &Format,
+    value: Value,
 ) -> Result<String, AllocError>
     requires fits { Fits registry.now (shape_of format.now) (tree_of value) }
     requires nests { depth (shown registry.now (tree_of value) (of (shape_of format.now))) ≤ nesting_limit }

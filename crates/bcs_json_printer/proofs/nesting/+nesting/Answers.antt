@@ -11,7 +11,27 @@ use Rattle.bcs_json_spec.specs.Shown.{shown, shown_choice}
 use Rattle.bcs_json_printer.proofs.ShownViews.{at_map, at_enum, at_struct, choice_named, choice-found, choice-missing}
 use Rattle.bcs_json_printer.proofs.DistinctFields.{container_distinct, payload_distinct}
 use Rattle.bcs_json_printer.proofs.ShownDepths.{le_zero, field_more, distinct_more}
+use Rattle.bcs_json_printer.proofs.SentRows.{entry_nodes, part_nodes}
 use Rattle.bcs_json_printer.proofs.nesting.+nesting.Goals as goal
+
+-- ---- the parts of a row are smaller than the row
+
+pub all_nest_within-shown_nests_within-requires : goal.all_nest_within-shown_nests_within-requires
+all_nest_within-shown_nests_within-requires t c = (omega (arith, part_nodes c.args.items.now c.loop-item.item-index c.item-item.result (omega arith) c.item-item.is), tt)
+
+pub each_nests_within-shown_nests_within-requires : goal.each_nests_within-shown_nests_within-requires
+each_nests_within-shown_nests_within-requires t c = (omega (arith, part_nodes c.args.items.now c.loop-i.i c.index-items-i.result (omega arith) c.index-items-i.is), tt)
+
+pub fields_nest_within-shown_nests_within-requires : goal.fields_nest_within-shown_nests_within-requires
+fields_nest_within-shown_nests_within-requires t c = (omega (arith, part_nodes c.args.items.now c.loop-i.i c.index-items-i.result (omega arith) c.index-items-i.is), tt)
+
+pub pairs_nest_within-shown_nests_within-requires : goal.pairs_nest_within-shown_nests_within-requires
+pairs_nest_within-shown_nests_within-requires t c = (omega (arith, (entry_nodes c.args.pairs.now c.loop-k.k-index c.loop-k-item.result (omega arith) c.loop-k-item.is).0), tt)
+
+pub pairs_nest_within-shown_nests_within-requires-else-not-shown_nests_within : goal.pairs_nest_within-shown_nests_within-requires-else-not-shown_nests_within
+pairs_nest_within-shown_nests_within-requires-else-not-shown_nests_within t c = (omega (arith, (entry_nodes c.args.pairs.now c.loop-k.k-index c.loop-k-item.result (omega arith) c.loop-k-item.is).1), tt)
+
+-- ---- what is shown
 
 pub content_nests_within-variant_nests_within-requires : goal.content_nests_within-variant_nests_within-requires
 content_nests_within-variant_nests_within-requires t c =

@@ -1,10 +1,36 @@
-use Rattle.std.proofs.Common.{◌≡◌, true, map, drop, nat_le}
+use Rattle.std.proofs.Common.{◌≡◌, ◌+◌, ◌*◌, true, map, drop, nat_le}
 use Rattle.serde_json.specs.Data.{items_depth, members_depth}
 use Rattle.bcs_registry_formats.specs.View.{field_of, formats_shapes, shape_of}
 use Rattle.bcs_registry_formats.specs.WellFormed.{are_distinct}
-use Rattle.bcs_value_tree.specs.View.{entries_pairs, items_trees}
+use Rattle.bcs_value_tree.specs.Tree.{nodes, pairs_nodes, trees_nodes}
+use Rattle.bcs_value_tree.specs.View.{entries_pairs, items_trees, tree_of}
 use Rattle.bcs_json_spec.specs.Shown.{shown_all, shown_each, shown_fields, shown_pairs}
 use Rattle.bcs_json_printer.proofs.nesting.+nesting.Given as goal
+
+-- a value's nodes, and below it those of its parts
+abbrev pub decreases-shown_nests_within : goal.decreases-shown_nests_within
+decreases-shown_nests_within l = 3 * nodes (tree_of l.value.now)
+
+abbrev pub decreases-content_nests_within : goal.decreases-content_nests_within
+decreases-content_nests_within l = 3 * nodes (tree_of l.value.now) + 1
+
+abbrev pub decreases-variant_nests_within : goal.decreases-variant_nests_within
+decreases-variant_nests_within l = 3 * nodes (tree_of l.value.now) + 2
+
+abbrev pub decreases-list_nests_within : goal.decreases-list_nests_within
+decreases-list_nests_within l = 3 * trees_nodes (items_trees l.items.now) + 2
+
+abbrev pub decreases-all_nest_within : goal.decreases-all_nest_within
+decreases-all_nest_within l = 3 * trees_nodes (items_trees l.items.now) + 1
+
+abbrev pub decreases-each_nests_within : goal.decreases-each_nests_within
+decreases-each_nests_within l = 3 * trees_nodes (items_trees l.items.now) + 1
+
+abbrev pub decreases-fields_nest_within : goal.decreases-fields_nest_within
+decreases-fields_nest_within l = 3 * trees_nodes (items_trees l.items.now) + 1
+
+abbrev pub decreases-pairs_nest_within : goal.decreases-pairs_nest_within
+decreases-pairs_nest_within l = 3 * pairs_nodes (entries_pairs l.pairs.now) + 1
 
 -- what is left decides
 abbrev pub invariant-all_nest_within-loop-item : goal.invariant-all_nest_within-loop-item

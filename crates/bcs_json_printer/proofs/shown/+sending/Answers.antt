@@ -1,13 +1,13 @@
-use Rattle.std.proofs.Common.{◌≡◌, ◌∙◌, ◌+◌, ◌∷◌, [], ℕ, List, String, Global, Some, false, map, drop, length, codes, string_bytes, sym, ap, refl, subst, arith, rules}
+use Rattle.std.proofs.Common.{◌≡◌, ◌∙◌, ◌+◌, ◌∷◌, [], ℕ, List, String, Global, Some, false, drop, length, sym, ap, subst, arith, rules}
 use Rattle.std.proofs.lemmas.Grind.{common_steps}
 use Rattle.std.proofs.lemmas.List.{drop_all, drop_more}
 use Rattle.std.proofs.lemmas.Result.{on_ok_weaker}
 use Rattle.serde.specs.Event.{Logs, field_key, map_begins, seq_begins}
 use Rattle.serde.specs.declared.name.Case.TheVariants.{AsIs}
-use Rattle.serde_json.specs.Data.{Data, Members, array, null, object}
+use Rattle.serde_json.specs.Data.{array, null, object}
 use Rattle.serde_json.specs.Events.{SendsItems, SendsMembers, SendsValue}
 use Rattle.bcs_registry_formats.specs.Container.{content, payload_shape, of as at_format}
-use Rattle.bcs_registry_formats.specs.View.{container_of, field_of, formats_shapes, payload_of, shape_of}
+use Rattle.bcs_registry_formats.specs.View.{container_of, formats_shapes, payload_of, shape_of}
 use Rattle.bcs_registry_formats.specs.declared.format.Format.{Format}
 use Rattle.bcs_registry_formats.specs.declared.named.Named.{Named}
 use Rattle.bcs_value_spec.specs.Fits.{all_fit, fits}
@@ -15,7 +15,7 @@ use Rattle.bcs_value_tree.specs.Tree.{nodes}
 use Rattle.bcs_value_tree.specs.View.{entries_pairs, items_trees, tree_of}
 use Rattle.bcs_value_tree.specs.declared.value.Value.{Value}
 use Rattle.bcs_json_spec.specs.JsonContent.{json_content, of}
-use Rattle.bcs_json_spec.specs.Shown.{shown, shown_all, shown_choice, shown_each, shown_fields, shown_pairs}
+use Rattle.bcs_json_spec.specs.Shown.{shown, shown_all, shown_choice, shown_each, shown_pairs}
 use Rattle.bcs_json_printer.specs.Places.{placed}
 use Rattle.bcs_json_printer.proofs.ShownViews.{at_enum, at_map, at_option, choice_named, choice-found, choice-missing, payload_fits}
 use Rattle.bcs_json_printer.proofs.PrintedRows.{all_here, bytes_listed, each_here, each_long, fields_long, pairs_here, shape_of_byte}
@@ -189,9 +189,9 @@ pub send_value-returns-in-Pairs-Map : goal.send_value-returns-in-Pairs-Map
 send_value-returns-in-Pairs-Map g t c =
     let m = c.in-Pairs-Map in
     let at = at_map (λ t s. shown c.args.registry.now t (of s)) c.args.value.now c.args.format.now m.pairs m.key m.content m.is-0 m.is-1 in
-    let same : array (shown_pairs c.args.registry.now (entries_pairs c.deref-in-Pairs-Map.result.now) (shape_of c.deref-in-Pairs-Map-2.result.now) (shape_of c.deref-in-Pairs-Map-3.result.now))
+    let same : array (shown_pairs c.args.registry.now (entries_pairs c.deref-in-Pairs-Map-3.result.now) (shape_of c.deref-in-Pairs-Map.result.now) (shape_of c.deref-in-Pairs-Map-2.result.now))
     ≡ shown c.args.registry.now (tree_of c.args.value.now) (of (shape_of c.args.format.now)) =
-    rw (c.deref-in-Pairs-Map.ensures.value, c.deref-in-Pairs-Map-2.ensures, c.deref-in-Pairs-Map-3.ensures) (sym at) in
+    rw (c.deref-in-Pairs-Map-3.ensures.value, c.deref-in-Pairs-Map.ensures, c.deref-in-Pairs-Map-2.ensures) (sym at) in
     on_ok_weaker c.send_pairs.result (subst (λ d. SendsValue d (g.S.Serializer.written c.args.out.now) (g.S.Serializer.written c.send_pairs.new.out)) same) c.send_pairs.ensures
 
 -- ---- options
@@ -202,7 +202,7 @@ send_value-returns-in_ok-send_value-in-Present-Opt g t c =
     let r = c.args.registry.now in
     let d = shown r (tree_of m.inner.value) (of (shape_of m.content.value)) in
     let at = at_option (λ t s. shown r t (of s)) c.args.value.now c.args.format.now m.inner m.content m.is-0 m.is-1 in
-    let inner : shown r (tree_of c.deref.result.now) (of (shape_of c.deref-in-Present-Opt.result.now)) ≡ d = search rules in
+    let inner : shown r (tree_of c.deref-in-Present-Opt.result.now) (of (shape_of c.deref.result.now)) ≡ d = search rules in
     let opened = g.S.Serializer.written c.open_map.new.out in
     let named = g.S.Serializer.written c.send_name.new.out in
     let valued = g.S.Serializer.written c.send_value.new.out in

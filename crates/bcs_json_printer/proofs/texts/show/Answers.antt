@@ -1,35 +1,31 @@
-use Rattle.std.proofs.Common.{◌≡◌, ◌∙◌, ◌≤◌, IfOk, arith, string_bytes, rules}
+use Rattle.std.proofs.Common.{◌≡◌, ◌∙◌, ◌≤◌, IfOk, ap, arith, string_bytes, rules}
 use Rattle.std.proofs.lemmas.Result.{IfOk-weaker}
 use Rattle.std.proofs.lemmas.Str.{IsUtf8-string_bytes}
 use Rattle.serde_json.specs.Data.{depth}
-use Rattle.serde_json.specs.Read.{max_depth}
+use Rattle.serde_json.specs.Read.{max_depth, read}
 use Rattle.serde_json.specs.Written.{compact_text}
-use Rattle.serde_json.proofs.FreeTexts.{text_of_value}
 use Rattle.bcs_registry_formats.specs.View.{shape_of}
 use Rattle.bcs_value_tree.specs.View.{tree_of}
 use Rattle.bcs_json_spec.specs.JsonContent.{of}
 use Rattle.bcs_json_spec.specs.Shown.{shown}
 use Rattle.bcs_json_spec.specs.Texts.{IsReadAs}
-use Rattle.bcs_json_printer.proofs.SentTexts.{tokens_of_value}
-use Rattle.bcs_json_printer.proofs.ShownBack.{shown_back, tokens_back}
-use Rattle.bcs_json_printer.proofs.Whole.{shown_whole}
+use Rattle.bcs_json_printer.proofs.ShownBack.{read_back, shown_back, text_back}
 use Rattle.bcs_json_printer.proofs.texts.show.Goals as goal
 
 pub returns-clause-text : goal.returns-clause-text
 returns-clause-text c =
     let d = shown c.args.registry.now (tree_of c.args.value) (of (shape_of c.args.format.now)) in
-    let whole = shown_whole c.args.registry.now (tree_of c.args.value) (of (shape_of c.args.format.now)) in
+    let back = shown_back c.args.registry.now (shape_of c.args.format.now) (tree_of c.args.value) c.requires.fits in
     let same : IfOk c.to_string.result (λ s. string_bytes s ≡ compact_text d) =
-    IfOk-weaker c.to_string.result _ _ (λ s e. text_of_value d e.0 (string_bytes s) e.1 e.2 whole) c.to_string.ensures.events in
+    IfOk-weaker c.to_string.result _ _ (λ s e. text_back d e.0 (string_bytes s) back e.1 e.2) c.to_string.ensures.events in
     search (rules, same)
 
 pub returns-clause-reads_back : goal.returns-clause-reads_back
 returns-clause-reads_back c =
     let d = shown c.args.registry.now (tree_of c.args.value) (of (shape_of c.args.format.now)) in
-    let whole = shown_whole c.args.registry.now (tree_of c.args.value) (of (shape_of c.args.format.now)) in
     let nests = c.requires.nests in
     let shallow : depth d ≤ max_depth = omega (arith, nests) in
     let back = shown_back c.args.registry.now (shape_of c.args.format.now) (tree_of c.args.value) c.requires.fits in
-    let read : IfOk c.to_string.result (λ s. IsReadAs (string_bytes s) d) =
-    IfOk-weaker c.to_string.result _ _ (λ s e. ((IsUtf8-string_bytes s, tokens_back d (string_bytes s) back shallow (tokens_of_value d e.0 (string_bytes s) e.1 e.2 whole)), nests)) c.to_string.ensures.events in
-    search (rules, read)
+    let reads : IfOk c.to_string.result (λ s. IsReadAs (string_bytes s) d) =
+    IfOk-weaker c.to_string.result _ _ (λ s e. ((IsUtf8-string_bytes s, ap read (text_back d e.0 (string_bytes s) back e.1 e.2) ∙ read_back d back shallow), nests)) c.to_string.ensures.events in
+    search (rules, reads)

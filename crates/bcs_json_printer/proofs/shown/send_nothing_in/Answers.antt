@@ -1,7 +1,0 @@
-use Rattle.std.proofs.Common.{sym, subst}
-use Rattle.std.proofs.lemmas.Result.{on_ok_weaker}
-use Rattle.serde_json.specs.Events.{SendsValue}
-use Rattle.bcs_json_printer.proofs.shown.send_nothing_in.Goals as goal
-
-pub returns : goal.returns
-returns g c = on_ok_weaker c.send_null.result (subst (λ d. SendsValue d (g.S.Serializer.written c.args.out.now) (g.S.Serializer.written c.send_null.new.out)) (sym c.requires.nothing)) c.send_null.ensures
