@@ -1,0 +1,3 @@
+pub mod HeldAt
+pub mod Cutting
+pub mod WorkedRows

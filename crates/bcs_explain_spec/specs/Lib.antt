@@ -1,0 +1,5 @@
+pub mod Way
+pub mod Piece
+pub mod Held
+pub mod Pieces
+pub mod Laws

@@ -1,0 +1,7 @@
+//! What holds of pieces: laws that a proof may cite. No call does anything.
+ghost use Rattle.bcs_explain_spec.specs.Laws.{PiecesCutTheBytes};
+
+/// One after another, the pieces' bytes are the value's. Each stands where the one before it ends, and none is empty.
+pub fn pieces_cut_the_bytes()
+    ensures { PiecesCutTheBytes }
+{}
