@@ -2,4 +2,5 @@ pub mod Way
 pub mod Piece
 pub mod Held
 pub mod Pieces
+pub mod Telling
 pub mod Laws
