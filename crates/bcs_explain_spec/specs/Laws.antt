@@ -1,0 +1,22 @@
+-- What holds of pieces, whatever the registry, the limits and the format are.
+use Rattle.std.specs.Prelude.{◌≡◌, ℕ, List, []}
+use Rattle.bcs_registry_formats.specs.Shape.{Shape}
+use Rattle.bcs_registry_formats.specs.Container.{Entries}
+use Rattle.bcs_value_tree.specs.Tree.{Tree}
+use Rattle.bcs_value_spec.specs.Limits.{Bounds}
+use Rattle.bcs_encode_spec.specs.Plain.{plain}
+use Rattle.bcs_decode_spec.specs.Accepting.{Accepts}
+use Rattle.bcs_explain_spec.specs.Way.{Way}
+use Rattle.bcs_explain_spec.specs.Piece.{Cut}
+use Rattle.bcs_explain_spec.specs.Held.{Held, of, unnamed}
+use Rattle.bcs_explain_spec.specs.Pieces.{pieces}
+use Rattle.bcs_explain_spec.specs.Telling.{tell}
+
+-- the pieces of a value cut its bytes
+abbrev pub PiecesCutTheBytes : Type 0
+PiecesCutTheBytes = (registry : Entries) (way : Way) (p : ℕ) (t : Tree) (h : Held) → Cut p (plain registry t (unnamed h)) (pieces registry way p t h)
+
+-- at bytes that begin with a value, what is told are its pieces
+abbrev pub ToldAtAnEncoding : Type 0
+ToldAtAnEncoding = (registry : Entries) (limits : Bounds) (s : Shape) (b : List ℕ) (n : ℕ) (c : Tree)
+    → Accepts registry limits s b n c → tell registry limits.depth s [] 0 limits.nodes b ≡ pieces registry [] 0 c (of s)

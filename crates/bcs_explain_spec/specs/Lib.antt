@@ -1,0 +1,6 @@
+pub mod Way
+pub mod Piece
+pub mod Held
+pub mod Pieces
+pub mod Telling
+pub mod Laws
