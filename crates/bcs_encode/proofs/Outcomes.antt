@@ -1,5 +1,5 @@
 -- What the verdict on a value that is sound besides its keys says of the value.
-use Rattle.std.proofs.Common.{◌≡◌, ℕ, ◌≤◌, ◌↔◌, Bool, true, false, IsTrue, List, [], refl, sym, ap, subst, ◌∙◌, Result, Ok, Err}
+use Rattle.std.proofs.Common.{◌≡◌, ℕ, ◌≤◌, ◌↔◌, Bool, true, false, IsTrue, List, [], refl, sym, ap, subst, ◌∙◌, Ok, Err}
 use Rattle.std.specs.Result.{is_err}
 use Rattle.std.proofs.lemmas.Bool.{false≢true, iff_false}
 use Rattle.bcs_registry_formats.specs.Shape.{Shape}

@@ -1,5 +1,5 @@
 //! Whether a value has an encoding, but for the keys of its maps.
-ghost use Rattle.std.specs.Prelude.{◌≡◌, IfErr, OnOk};
+ghost use Rattle.std.specs.Prelude.{IfErr, OnOk};
 ghost use Rattle.bcs_registry_formats.specs.View.{shape_of};
 ghost use Rattle.bcs_value_tree.specs.View.{tree_of};
 ghost use Rattle.bcs_encode_spec.specs.Refused.{IsSoundBesidesKeys, Refuses};

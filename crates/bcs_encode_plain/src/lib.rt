@@ -1,6 +1,5 @@
-//! The plain encoder: a walk that gives each entry of a map bytes of its own, and sorts them.
+//! The plain encoder: a walk that lays the entries of each map apart, and appends them in order.
 #![tactic(auto)]
 
-mod arranging;
 pub mod by_entries;
-mod entry_bytes;
+mod laid_entries;

@@ -3,7 +3,9 @@ use Rattle.std.proofs.Common.{◌≡◌, ℕ, ◌+◌, ◌-◌, ◌≤◌, Bool,
 use Rattle.std.specs.Prelude.{nat_le, nat_lt, ◌^◌}
 use Rattle.std.specs.List.{flat_map}
 use Rattle.std.specs.Result.{is_err}
+use Rattle.std.specs.List.Sorted.{IsPermutation}
 use Rattle.std.proofs.lemmas.Bool.{cases_Bool, le-leb, true≢false}
+use Rattle.std.proofs.lemmas.List.Sorted.{IsPermutation-map}
 use Rattle.std.proofs.Math.Seq.{drop-append_seam, take-append_seam}
 use mir.Val.{bits}
 use Rattle.bcs_num.specs.Uleb.{uleb}
@@ -14,12 +16,14 @@ use Rattle.bcs_value_tree.specs.Tree as tree
 use Rattle.bcs_value_tree.specs.Tree.{Tree, Trees, no_trees, tree, Pairs, no_pairs, pair, count, pair_count}
 use Rattle.bcs_num.specs.Le.{holds_signed}
 use Rattle.bcs_encode_spec.specs.Lengths.{length_limit}
-use Rattle.bcs_encode_spec.specs.Entries.{Entry, entry_bytes}
+use Rattle.bcs_encode_spec.specs.Entries.{Entry, entry_bytes, EntriesRiseFrom, EntriesRise, HasTwins}
 use Rattle.bcs_encode_steps.specs.Writing.{Verdict, chain, length_written, in_order, has_twins, sorted_entries_written, shape_count, written, items_written, each_written, entries_written}
+use Rattle.bcs_encode_steps.specs.KeysFirst.{Ordered, lone_key_at}
 use Rattle.bcs_encode_steps.specs.Laying.{part, span_entry, span, entries_laid}
+use Rattle.bcs_encode_steps.proofs.EntryArranging.{sorted_written, twins_written}
 use Rattle.bcs_encode_steps.specs.declared.span.Span.{Span}
 use Rattle.bcs_encode_spec.specs.declared.fault.EncodeFault.{EncodeFault}
-use Rattle.bcs_encode_spec.specs.declared.fault.EncodeFault.TheVariants.{NotOfFormat}
+use Rattle.bcs_encode_spec.specs.declared.fault.EncodeFault.TheVariants.{NotOfFormat, RepeatedKey}
 
 -- ---- what was there before stays in front
 
@@ -201,6 +205,37 @@ spans_entries (e ∷ es) b =
     ap₂ (λ (x : List ℕ) (i : ℕ). map (span_entry x) (spans_from i es)) by_rest (sym n) ∙ spans_entries es ((b ++ e.0) ++ e.1) in
     ap₂ (λ (z : Entry) (zs : List Entry). z ∷ zs) (ap₂ (λ (x y : List ℕ). (x, y)) key value) others
 
+-- ---- the order of keys, with the values beside them
+
+module _ (bytes : List ℕ) (value : Span → List ℕ) where
+  abbrev valued : Span → Entry
+  valued z = (part bytes z.start z.end, value z)
+
+  rise_from_with : (c : List ℕ) (zs : List Span) → EntriesRiseFrom c (map (lone_key_at bytes) zs) → EntriesRiseFrom c (map valued zs)
+  rise_from_with c [] h = tt
+  rise_from_with c (z ∷ zs) h = (h.0, rise_from_with (part bytes z.start z.end) zs h.1)
+
+  pub rise_with : (zs : List Span) → EntriesRise (map (lone_key_at bytes) zs) → EntriesRise (map valued zs)
+  rise_with [] h = tt
+  rise_with (z ∷ zs) h = rise_from_with (part bytes z.start z.end) zs h
+
+  pub twins_with : (zs : List Span) → HasTwins (map (lone_key_at bytes) zs) → HasTwins (map valued zs)
+  twins_with [] h = absurd h
+  twins_with (z ∷ []) h = absurd h
+  twins_with (z ∷ y ∷ zs) (inl is) = inl is
+  twins_with (z ∷ y ∷ zs) (inr more) = inr (twins_with (y ∷ zs) more)
+
+-- what is written of spans that were brought into order
+module _ (bytes b : List ℕ) (xs ys : List Span) (moved : IsPermutation xs ys) where
+  entries_move : IsPermutation (map (span_entry bytes) xs) (map (span_entry bytes) ys)
+  entries_move = IsPermutation-map (span_entry bytes) xs ys moved
+
+  pub ordered_written : Ordered true bytes ys → sorted_entries_written (map (span_entry bytes) xs) b ≡ Ok (b ++ flat_map entry_bytes (map (span_entry bytes) ys))
+  ordered_written up = sorted_written _ _ b entries_move (rise_with bytes (λ z. part bytes z.end z.value) ys up)
+
+  pub repeated_refused : Ordered false bytes ys → sorted_entries_written (map (span_entry bytes) xs) b ≡ Err RepeatedKey
+  repeated_refused twins = twins_written _ _ b entries_move (twins_with bytes (λ z. part bytes z.end z.value) ys twins)
+
 -- what was laid: some entries, which are those of the pairs
 record LaidEntries (registry : Entries) (k v : Shape) (ps : Pairs) (b d : List ℕ) (ss us : List Span) : Type 0 where
   es : List Entry
@@ -217,7 +252,7 @@ laid_entries registry k v ps b d ss us h = found (own_entries registry k v ps) (
         record { es = es; own = own; bytes = sym (ap (λ (q : List ℕ × List Span). q.0) p); spans = sym (ap (λ (q : List ℕ × List Span). q.1) p) }
     found (Err e) own is = absurd cc
 
-unlaid_entries : (registry : Entries) (k v : Shape) (ps : Pairs) (b : List ℕ) (ss : List Span) (e : EncodeFault) → entries_laid registry ps k v b ss ≡ Err e → entries_written registry ps k v [] ≡ Err e
+pub unlaid_entries : (registry : Entries) (k v : Shape) (ps : Pairs) (b : List ℕ) (ss : List Span) (e : EncodeFault) → entries_laid registry ps k v b ss ≡ Err e → entries_written registry ps k v [] ≡ Err e
 unlaid_entries registry k v ps b ss e h = found (own_entries registry k v ps) (entries_own registry k v ps []) (sym (laid_own registry k v ps b ss) ∙ h)
   where
     found : (u : Result (List Entry) EncodeFault) → entries_written registry ps k v [] ≡ chain u (λ fs. Ok fs) → chain u (lain b ss) ≡ Err e → entries_written registry ps k v [] ≡ Err e
@@ -243,6 +278,13 @@ laid registry k v ps b d ss us l =
       entries = ap₂ (λ (x : List ℕ) (y : List Span). map (span_entry x) y) l.bytes spans_are ∙ spans_entries l.es b;
       before = ap (take (length b)) l.bytes ∙ take-append_seam b (flat_map entry_bytes l.es);
     }
+
+-- entries that were laid apart
+pub entries_apart : (registry : Entries) (k v : Shape) (ps : Pairs) (d : List ℕ) (us : List Span) → entries_laid registry ps k v [] [] ≡ Ok (d, us)
+    → entries_written registry ps k v [] ≡ Ok (map (span_entry d) us)
+entries_apart registry k v ps d us h =
+    let l = laid_entries registry k v ps [] d [] us h in
+    l.own ∙ ap (λ (es : List Entry). Ok es) (sym (laid registry k v ps [] d [] us l).entries)
 
 -- the bytes are what stood before, and then those of the spans in turn
 pub laid_whole : (registry : Entries) (k v : Shape) (ps : Pairs) (b d : List ℕ) (ss us : List Span) → entries_laid registry ps k v b ss ≡ Ok (d, us)

@@ -16,8 +16,8 @@ use Rattle.bcs_registry_formats.proofs.Lookup.{find-choice}
 use Rattle.bcs_value_tree.specs.Tree as tree
 use Rattle.bcs_value_tree.specs.Tree.{Tree, count, pair_count}
 use Rattle.bcs_value_tree.specs.View.{tree_of, items_trees, entries_pairs}
-use Rattle.bcs_value_tree.specs.declared.value.Value.{Value, Bytes, Items, Pairs, Variant, the_lemmas}
-use Rattle.bcs_value_tree.proofs.Views.{tree_of_bytes, tree_of_pairs, tree_of_variant}
+use Rattle.bcs_value_tree.specs.declared.value.Value.{Value, Items, Pairs, Variant, the_lemmas}
+use Rattle.bcs_value_tree.proofs.Views.{tree_of_pairs, tree_of_variant}
 
 pub count_items : (vs : List Value) → count (items_trees vs) ≡ length vs
 count_items [] = refl

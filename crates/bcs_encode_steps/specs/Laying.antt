@@ -13,10 +13,10 @@ abbrev pub part : List ℕ → ℕ → ℕ → List ℕ
 part bytes from to = if nat_le from to && nat_le to (length bytes) then slice_range bytes from to else []
 
 abbrev pub span_entry : List ℕ → Span → Entry
-span_entry bytes s = (part bytes s.key s.value, part bytes s.value s.end)
+span_entry bytes s = (part bytes s.start s.end, part bytes s.end s.value)
 
 abbrev pub span : ℕ → ℕ → ℕ → Span
-span from middle to = record { key = from; value = middle; end = to }
+span from to value = record { start = from; end = to; value = value }
 
 -- the buffer and the spans, after the entries of these pairs
 abbrev pub entries_laid : Entries → Pairs → Shape → Shape → List ℕ → List Span → Result (List ℕ × List Span) EncodeFault

@@ -1,16 +1,12 @@
 //! The keys of a map outside keys, which are laid and brought into order before any of its values is written. So each
 //! value is written at its final place.
-ghost use Rattle.std.specs.Prelude.{◌≡◌, ◌≤◌, ◌++◌, ◌∷◌, [], OnOk, drop, length, map, take};
-ghost use Rattle.std.specs.List.Sorted.{IsPermutation, IsSortedByKey};
-ghost use Rattle.std.specs.Ordering.{nat_cmp};
-ghost use Rattle.std.specs.Cmp.Lexicographic.{slice_cmp};
-ghost use Rattle.bcs_encode_steps.specs.Writing.{has_twins, keys_rise};
-ghost use Rattle.bcs_encode_steps.specs.KeysFirst as spec;
-ghost use Rattle.bcs_encode_steps.specs.KeysFirst.{Ordered, lone_key_at, set_aside};
-ghost use Rattle.bcs_encode_steps.specs.Laying.{part as spec_part};
+ghost use Rattle.std.specs.Prelude.{◌≡◌, ◌≤◌, ◌++◌, ◌∷◌, [], OnOk, drop, length, take};
+ghost use Rattle.std.specs.List.Sorted.{IsPermutation};
+ghost use Rattle.bcs_encode_steps.specs.KeysFirst.{Ordered, set_aside};
+ghost use Rattle.bcs_encode_steps.specs.Laying as spec;
 
-use crate::key_span::KeySpan;
-use crate::spans::part;
+use crate::key_order::{rise, sort};
+use crate::span::{Span, part};
 use crate::workspace::Workspace;
 use std::alloc::AllocError;
 use std::mem::swap;
@@ -43,16 +39,20 @@ pub fn keep_key(work: &mut Workspace, start: usize, index: usize) -> Result<(), 
     ensures keys { OnOk result (work.new.keys.items ≡ work.old.keys.items) }
     ensures spans { OnOk result (work.new.spans.items ≡ work.old.spans.items) }
     ensures key_spans { OnOk result (work.new.key_spans.items
-        ≡ work.old.key_spans.items ++ spec.key_span start (length work.old.out.items) index ∷ []) }
+        ≡ work.old.key_spans.items ++ spec.span start (length work.old.out.items) index ∷ []) }
 {
     let end = work.out.len();
-    work.key_spans.push(KeySpan { start, end, index })?;
+    work.key_spans.push(Span {
+        start,
+        end,
+        value: index,
+    })?;
     Ok(())
 }
 
 /// Appends a key's bytes to the output.
-pub fn push_key(work: &mut Workspace, span: KeySpan) -> Result<(), AllocError>
-    ensures out { OnOk result (work.new.out.items ≡ work.old.out.items ++ spec_part work.old.keys.items span.start span.end) }
+pub fn push_key(work: &mut Workspace, span: Span) -> Result<(), AllocError>
+    ensures out { OnOk result (work.new.out.items ≡ work.old.out.items ++ spec.part work.old.keys.items span.start span.end) }
     ensures kept { OnOk result (set_aside work.new ≡ set_aside work.old) }
 {
     work.out
@@ -87,49 +87,9 @@ pub fn order_keys(work: &mut Workspace, first: usize) -> bool
 }
 
 /// The same of the spans alone.
-fn put_in_order(spans: &mut [KeySpan], bytes: &[u8]) -> bool
+fn put_in_order(spans: &mut [Span], bytes: &[u8]) -> bool
     ensures moved { IsPermutation spans.old spans.new }
     ensures order { Ordered result bytes.now spans.new }
 {
-    if rise(spans, bytes) {
-        return true;
-    }
-    sort_by_keys(spans, bytes);
-    !have_equal_neighbours(spans, bytes)
-}
-
-/// Whether the keys' bytes rise from each span to the next.
-fn rise(spans: &[KeySpan], bytes: &[u8]) -> bool
-    ensures { result ≡ keys_rise (map (lone_key_at bytes.now) spans.now) }
-{
-    for i in 1..spans.len() {
-        let before = spans[i - 1];
-        let span = spans[i];
-        let order = part(bytes, before.start, before.end).cmp(part(bytes, span.start, span.end));
-        if !order.is_lt() {
-            return false;
-        }
-    }
-    true
-}
-
-fn sort_by_keys(spans: &mut [KeySpan], bytes: &[u8])
-    ensures permutation { IsPermutation spans.old spans.new }
-    ensures sorted { IsSortedByKey (λ z. spec_part bytes.now z.start z.end) (slice_cmp nat_cmp) spans.new }
-{
-    spans.sort_unstable_by(|a, b| { part(bytes, a.start, a.end).cmp(part(bytes, b.start, b.end)) });
-}
-
-/// Whether two keys that stand next to each other are the same.
-fn have_equal_neighbours(spans: &[KeySpan], bytes: &[u8]) -> bool
-    ensures { result ≡ has_twins (map (lone_key_at bytes.now) spans.now) }
-{
-    for i in 1..spans.len() {
-        let before = spans[i - 1];
-        let span = spans[i];
-        if part(bytes, before.start, before.end) == part(bytes, span.start, span.end) {
-            return true;
-        }
-    }
-    false
+    rise(spans, bytes) || sort(spans, bytes)
 }

@@ -1,9 +1,23 @@
-//! Where an entry of a map stands in the output.
+//! Where an entry of a map stands in a buffer.
+ghost use Rattle.std.specs.Prelude.{◌≡◌};
+ghost use Rattle.bcs_encode_steps.specs.Laying as spec;
 
-/// The places of an entry's bytes: its key from `key` to `value`, and its value from there to `end`.
+/// The places of a key's bytes, from `start` to `end`, and what tells its value: the place where the value ends, which
+/// begins where the key ends, or the index of the pair, where keys are laid alone.
 #[derive(Clone, Copy)]
 pub struct Span {
-    pub key: usize,
-    pub value: usize,
+    pub start: usize,
     pub end: usize,
+    pub value: usize,
+}
+
+/// The bytes from one place to another, or none where there is no such part.
+pub(crate) fn part(bytes: &[u8], from: usize, to: usize) -> &[u8]
+    ensures { result.now ≡ spec.part bytes.now from to }
+{
+    if from <= to && to <= bytes.len() {
+        &bytes[from..to]
+    } else {
+        &[]
+    }
 }

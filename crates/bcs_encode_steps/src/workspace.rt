@@ -1,7 +1,6 @@
 //! The memory that one call of the encoder works in.
 ghost use Rattle.std.specs.Prelude.{◌≡◌, []};
 
-use crate::key_span::KeySpan;
 use crate::span::Span;
 use std::alloc::Global;
 
@@ -16,7 +15,7 @@ pub struct Workspace {
     pub spans: Vec<Span>,
     pub scratch: Vec<u8>,
     pub keys: Vec<u8>,
-    pub key_spans: Vec<KeySpan>,
+    pub key_spans: Vec<Span>,
     pub is_in_key: bool,
 }
 

@@ -296,9 +296,9 @@ fn lay_entries(
         let middle = work.out.len();
         push_value(v, registry, value, work)?;
         work.spans.push(Span {
-            key: start,
-            value: middle,
-            end: work.out.len(),
+            start,
+            end: middle,
+            value: work.out.len(),
         })?;
     }
     Ok(())
@@ -365,7 +365,7 @@ fn push_values(
     work: &mut Workspace,
 ) -> Result<(), EncodeFault>
     requires first { first ≤ length work.old.key_spans.items }
-    requires in_range { All (λ z. z.index < length pairs.now) (drop first work.old.key_spans.items) }
+    requires in_range { All (λ z. z.value < length pairs.now) (drop first work.old.key_spans.items) }
     ensures tells { Writes result
         (values_laid registry.now (shape_of value.now) (value_at pairs.now) work.old.keys.items (drop first work.old.key_spans.items) work.old.out.items)
         work.new.out.items }
@@ -374,7 +374,7 @@ fn push_values(
     for at in first..work.key_spans.len() {
         let span = work.key_spans[at];
         push_key(work, span)?;
-        push_value(&pairs[span.index].1, registry, value, work)?;
+        push_value(&pairs[span.value].1, registry, value, work)?;
     }
     Ok(())
 }

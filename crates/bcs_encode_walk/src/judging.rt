@@ -1,6 +1,6 @@
 //! The walk. Each of its functions is told how many more containers may be opened and how many more nodes may come, and
 //! answers how many nodes may come after that, or `None` at the first part that isn't sound.
-ghost use Rattle.std.specs.Prelude.{◌≡◌, map, string_bytes};
+ghost use Rattle.std.specs.Prelude.{◌≡◌, map};
 ghost use Rattle.bcs_registry_formats.specs.Container.{of, content, field_shapes, payload_shape};
 ghost use Rattle.bcs_registry_formats.specs.Shape.{array, map as map_shape, name as name_shape, seq, tuple};
 ghost use Rattle.bcs_registry_formats.specs.View.{container_of, field_of, formats_shapes, payload_of, shape_of};

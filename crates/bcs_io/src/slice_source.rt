@@ -1,5 +1,5 @@
 //! A slice as a source.
-ghost use Rattle.std.specs.Prelude.{◌≡◌, ℕ, ◌+◌, ◌-◌, ◌<◌, ◌^◌, ◌++◌, Bool, true, false, List, Option, Some, Ok, length, min, take, drop, IfOk};
+ghost use Rattle.std.specs.Prelude.{◌≡◌, ℕ, ◌-◌, ◌<◌, false, List, Some, Ok, length, min, drop, IfOk};
 ghost use Rattle.std.specs.Io.Iter.{u64_saturate};
 ghost use Rattle.std.proofs.Common.{arith};
 ghost use Rattle.bcs_io.specs.Giving.{Gives};

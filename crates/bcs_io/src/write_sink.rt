@@ -1,5 +1,5 @@
 //! A writer as a sink.
-ghost use Rattle.std.specs.Prelude.{◌≡◌, ◌<◌, Bool, true, false, List, Option, length};
+ghost use Rattle.std.specs.Prelude.{◌≡◌, ◌<◌, true, false};
 ghost use Rattle.bcs_io.specs.Taking.{Takes};
 
 use crate::sink::{ByteSink, SinkFailed};

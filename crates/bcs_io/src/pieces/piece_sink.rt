@@ -1,5 +1,5 @@
 //! A sink that takes a piece a call.
-ghost use Rattle.std.specs.Prelude.{◌≡◌, ℕ, ◌+◌, ◌-◌, ◌<◌, ◌≤◌, ◌↔◌, ◌++◌, Bool, true, false, List, [], Some, Option, length, take, min, IsErr, IfOk, OnErr};
+ghost use Rattle.std.specs.Prelude.{◌≡◌, ◌+◌, ◌-◌, ◌<◌, ◌≤◌, ◌↔◌, true, false, [], Some, Option, take, min, IsErr, IfOk, OnErr};
 ghost use Rattle.bcs_io.specs.PieceSink.{State, Fails, share, after_taking, after_failing};
 ghost use Rattle.bcs_io.specs.Calls.{one_fewer};
 ghost use Rattle.bcs_io.specs.Taking.{Takes};

@@ -1,5 +1,5 @@
 //! A source that gives a piece a call.
-ghost use Rattle.std.specs.Prelude.{◌≡◌, ℕ, ◌+◌, ◌-◌, ◌<◌, ◌≤◌, ◌↔◌, ◌^◌, Bool, true, false, List, Some, Option, length, min, drop, IsErr, IfOk, OnErr};
+ghost use Rattle.std.specs.Prelude.{◌≡◌, ◌+◌, ◌-◌, ◌<◌, ◌≤◌, ◌↔◌, ◌^◌, true, false, Some, Option, length, min, IsErr, IfOk, OnErr};
 ghost use Rattle.std.proofs.Common.{arith};
 ghost use Rattle.bcs_io.specs.Calls.{one_fewer};
 ghost use Rattle.bcs_io.specs.PieceSource.{State, Fails, allowance_of, share, after_giving, after_failing};

@@ -1,5 +1,5 @@
 //! A source of one byte.
-ghost use Rattle.std.specs.Prelude.{◌≡◌, ℕ, ◌+◌, ◌-◌, ◌<◌, ◌≤◌, ◌^◌, Bool, true, false, List, Some, Ok, Option, length, min, replicate, IfOk};
+ghost use Rattle.std.specs.Prelude.{◌≡◌, ◌+◌, ◌-◌, ◌<◌, false, Some, Ok, length, min, IfOk};
 ghost use Rattle.std.proofs.Common.{arith};
 ghost use Rattle.bcs_io.specs.RepeatSource.{State, rest, allowance_of};
 ghost use Rattle.bcs_io.specs.Giving.{Gives};

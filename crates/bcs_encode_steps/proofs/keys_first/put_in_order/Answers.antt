@@ -1,18 +1,9 @@
-use Rattle.std.proofs.Common.{◌∙◌, Bool, not, map, sym, subst, inl, inr}
-use Rattle.bcs_encode_spec.proofs.Sorting.{rise_or_twins}
-use Rattle.bcs_encode_steps.proofs.EntryArranging.{keys_rise_up, rising_no_twins, twins_found}
+use Rattle.std.proofs.Common.{◌∙◌, Bool, map, subst, sym}
 use Rattle.bcs_encode_steps.specs.KeysFirst.{Ordered, lone_key_at}
+use Rattle.bcs_encode_steps.proofs.EntryArranging.{keys_rise_up}
 use Rattle.bcs_encode_steps.proofs.keys_first.put_in_order.Goals as goal
 
 pub returns-then-rise-clause-order : goal.returns-then-rise-clause-order
 returns-then-rise-clause-order c =
-    keys_rise_up (map (lone_key_at c.args.bytes.now) c.args.spans.now) (sym c.rise.ensures ∙ c.if-rise.true)
-
-pub returns-clause-order : goal.returns-clause-order
-returns-clause-order c =
-    let zs = c.sort_by_keys.new.spans in
-    let b = c.args.bytes.now in
-    elim (rise_or_twins (lone_key_at b) zs c.sort_by_keys.ensures.sorted) [
-      | inl rises ↦ subst (λ (x : Bool). Ordered (not x) b zs) (sym (c.have_equal_neighbours.ensures ∙ rising_no_twins (map (lone_key_at b) zs) rises)) rises
-      | inr twins ↦ subst (λ (x : Bool). Ordered (not x) b zs) (sym (c.have_equal_neighbours.ensures ∙ twins_found (map (lone_key_at b) zs) twins)) twins
-    ]
+    subst (λ (x : Bool). Ordered x c.args.bytes.now c.args.spans.now) (sym c.if-rise.true)
+    (keys_rise_up (map (lone_key_at c.args.bytes.now) c.args.spans.now) (sym c.rise.ensures ∙ c.if-rise.true))

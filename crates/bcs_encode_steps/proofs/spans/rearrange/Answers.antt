@@ -4,8 +4,8 @@ use Rattle.bcs_encode_steps.proofs.LayingLaws.{arranged}
 use Rattle.bcs_encode_steps.proofs.WritingViews.{tells_along}
 use Rattle.bcs_encode_steps.proofs.spans.rearrange.Goals as goal
 
-pub returns-in_err-gather_in_order-clause-tells : goal.returns-in_err-gather_in_order-clause-tells
-returns-in_err-gather_in_order-clause-tells c =
+pub returns-in_err-push_in_order-clause-tells : goal.returns-in_err-push_in_order-clause-tells
+returns-in_err-push_in_order-clause-tells c =
     let w = c.args.work.now in
     let m = c.deref_mut.result.now in
     tells_along c.from_residual.result _ _ w.out.items
@@ -17,6 +17,6 @@ pub returns-clause-tells : goal.returns-clause-tells
 returns-clause-tells c =
     let w = c.args.work.now in
     let m = c.deref_mut.result.now in
-    arranged (take c.args.start w.out.items) w.out.items _ (drop c.args.first w.spans.items) _ (Ok c.gather_in_order.new.scratch.items) c.deref.ensures.value
+    arranged (take c.args.start w.out.items) w.out.items _ (drop c.args.first w.spans.items) _ (Ok c.push_in_order.new.out.items) c.deref.ensures.value
     (take_all (length m - c.args.first) (drop c.args.first m) (omega (arith, length-drop c.args.first m)) ∙ ap (drop c.args.first) c.deref_mut.ensures.value) (search rules)
     ∙ search rules

@@ -6,10 +6,9 @@ use Rattle.std.specs.List.{All}
 use Rattle.std.proofs.lemmas.List.Sorted.{All-permutation}
 use Rattle.bcs_value_tree.specs.Tree.{Tree, named as named_tree, pair_count}
 use Rattle.bcs_encode_steps.specs.Writing.{Verdict, chain, written, items_written, each_written}
-use Rattle.bcs_encode_steps.specs.KeysFirst.{Ordered, key_span, set_aside, value_at, values_laid, keys_spanned}
+use Rattle.bcs_encode_steps.specs.KeysFirst.{Ordered, set_aside, value_at, values_laid, keys_spanned}
 use Rattle.bcs_encode_steps.specs.Laying.{entries_laid, part, span}
 use Rattle.bcs_encode_steps.specs.declared.span.Span.{Span}
-use Rattle.bcs_encode_steps.specs.declared.key_span.KeySpan.{KeySpan}
 use Rattle.bcs_encode_steps.proofs.KeysFirstLaws.{keys_keep, map_without_keys, map_with_twins, map_by_keys, in_range_at, values_next}
 use Rattle.bcs_registry_formats.specs.Shape.{Shape}
 use Rattle.bcs_registry_formats.specs.Container.{Content, of, content, field_shapes}
@@ -109,8 +108,8 @@ push_in_place-returns-clause-kept t c =
     let spans : take c.len-first.result c.lay_entries.new.work.spans.items ≡ c.args.work.now.spans.items = ap (λ (n : ℕ). take n c.lay_entries.new.work.spans.items) first ∙ keeps.1 in
     on_ok_weaker c.arrange.result
     (λ h. h
-    ∙ ap₂ (λ (x : List Span) (y : List ℕ × List KeySpan). (x, y)) spans
-    (ap₂ (λ (x : List ℕ) (y : List KeySpan). (x, y)) c.in_ok-lay_entries.ensures.keys c.in_ok-lay_entries.ensures.key_spans))
+    ∙ ap₂ (λ (x : List Span) (y : List ℕ × List Span). (x, y)) spans
+    (ap₂ (λ (x : List ℕ) (y : List Span). (x, y)) c.in_ok-lay_entries.ensures.keys c.in_ok-lay_entries.ensures.key_spans))
     c.arrange.ensures.kept
 
 pub push_all-returns-in-Some-clause-tells : goal.push_all-returns-in-Some-clause-tells
@@ -278,10 +277,10 @@ lay_keys-returns-in_err-push_value-clause-laid t c =
     let k = shape_of c.args.key.now in
     let q = c.index-pairs-i.result in
     let more : drop l.i c.args.pairs.now ≡ q ∷ drop (l.i + 1) c.args.pairs.now = next c.args.pairs.now l.i q (search rules) c.index-pairs-i.is in
-    rw p.1 (λ m. ap (λ (x : Result (List ℕ × List KeySpan) EncodeFault). is_err x)
+    rw p.1 (λ m. ap (λ (x : Result (List ℕ × List Span) EncodeFault). is_err x)
     (l.invariant.laid ∙ ap (λ (ps : List (Value × Value)). keys_spanned r k (entries_pairs ps) l.i l.work.out.items l.work.key_spans.items) more)
     ∙ chain_err (written r (tree_of q.0) (of k) l.work.out.items)
-    (λ x. keys_spanned r k (entries_pairs (drop (l.i + 1) c.args.pairs.now)) (l.i + 1) x (l.work.key_spans.items ++ (key_span (length l.work.out.items) (length x) l.i ∷ []))) (search rules))
+    (λ x. keys_spanned r k (entries_pairs (drop (l.i + 1) c.args.pairs.now)) (l.i + 1) x (l.work.key_spans.items ++ (span (length l.work.out.items) (length x) l.i ∷ []))) (search rules))
 
 pub push_by_keys-order_keys-requires : goal.push_by_keys-order_keys-requires
 push_by_keys-order_keys-requires t c =
@@ -291,7 +290,7 @@ push_by_keys-order_keys-requires t c =
     let first : c.len-first.result ≡ length c.begin_keys.new.work.key_spans.items = search rules in
     let spans : c.end_keys.new.work.key_spans.items ≡ c.lay_keys.new.work.key_spans.items = c.end_keys.ensures.key_spans in
     let kept = keys_keep r k (entries_pairs c.args.pairs.now) c.begin_keys.new.work.out.items c.lay_keys.new.work.out.items c.begin_keys.new.work.key_spans.items c.lay_keys.new.work.key_spans.items laid in
-    omega (arith, first, kept.first, ap (λ (zs : List KeySpan). length zs) spans)
+    omega (arith, first, kept.first, ap (λ (zs : List Span). length zs) spans)
 
 pub push_by_keys-push_values-requires : goal.push_by_keys-push_values-requires
 push_by_keys-push_values-requires t c =
@@ -303,12 +302,12 @@ push_by_keys-push_values-requires t c =
     let kept = keys_keep r k (entries_pairs c.args.pairs.now) c.begin_keys.new.work.out.items c.lay_keys.new.work.out.items c.begin_keys.new.work.key_spans.items c.lay_keys.new.work.key_spans.items laid in
     let n : pair_count (entries_pairs c.args.pairs.now) ≡ length c.args.pairs.now = count_pairs c.args.pairs.now in
     let above : drop (length c.begin_keys.new.work.key_spans.items) c.lay_keys.new.work.key_spans.items ≡ drop c.len-first.result c.end_keys.new.work.key_spans.items =
-    ap₂ (λ (m : ℕ) (zs : List KeySpan). drop m zs) (sym first) (sym spans) in
-    let low : All (λ z. z.index < length c.args.pairs.now) (drop c.len-first.result c.end_keys.new.work.key_spans.items) =
-    subst (λ (zs : List KeySpan). All (λ z. z.index < length c.args.pairs.now) zs) above
-    (subst (λ (m : ℕ). All (λ z. z.index < m) (drop (length c.begin_keys.new.work.key_spans.items) c.lay_keys.new.work.key_spans.items)) n kept.in_range) in (
+    ap₂ (λ (m : ℕ) (zs : List Span). drop m zs) (sym first) (sym spans) in
+    let low : All (λ z. z.value < length c.args.pairs.now) (drop c.len-first.result c.end_keys.new.work.key_spans.items) =
+    subst (λ (zs : List Span). All (λ z. z.value < length c.args.pairs.now) zs) above
+    (subst (λ (m : ℕ). All (λ z. z.value < m) (drop (length c.begin_keys.new.work.key_spans.items) c.lay_keys.new.work.key_spans.items)) n kept.in_range) in (
       search rules,
-      (c.order_keys.ensures.first, All-permutation (λ z. z.index < length c.args.pairs.now) _ _ c.order_keys.ensures.moved low),
+      (c.order_keys.ensures.first, All-permutation (λ z. z.value < length c.args.pairs.now) _ _ c.order_keys.ensures.moved low),
     )
 
 pub push_by_keys-returns-then-not-order_keys-clause-tells : goal.push_by_keys-returns-then-not-order_keys-clause-tells
@@ -374,38 +373,38 @@ push_by_keys-returns-clause-kept t c =
     let after : set_aside c.push_values.new.work ≡ set_aside c.order_keys.new.work = c.in_ok-push_values.ensures.kept in
     let start : c.len-start.result ≡ length c.begin_keys.new.work.out.items = search rules in
     let s : c.drop_keys.new.work.spans.items ≡ c.args.work.now.spans.items =
-    c.drop_keys.ensures.spans ∙ ap (λ (q : List Span × (List ℕ × List KeySpan)). q.0) after ∙ c.order_keys.ensures.spans ∙ c.end_keys.ensures.spans ∙ c.in_ok-lay_keys.ensures.spans ∙ c.begin_keys.ensures.spans in
+    c.drop_keys.ensures.spans ∙ ap (λ (q : List Span × (List ℕ × List Span)). q.0) after ∙ c.order_keys.ensures.spans ∙ c.end_keys.ensures.spans ∙ c.in_ok-lay_keys.ensures.spans ∙ c.begin_keys.ensures.spans in
     let bytes : c.drop_keys.new.work.keys.items ≡ c.args.work.now.keys.items =
     c.drop_keys.ensures.keys
-    ∙ ap₂ (λ (n : ℕ) (x : List ℕ). take n x) start (ap (λ (q : List Span × (List ℕ × List KeySpan)). q.1.0) after ∙ c.order_keys.ensures.keys ∙ c.end_keys.ensures.keys)
+    ∙ ap₂ (λ (n : ℕ) (x : List ℕ). take n x) start (ap (λ (q : List Span × (List ℕ × List Span)). q.1.0) after ∙ c.order_keys.ensures.keys ∙ c.end_keys.ensures.keys)
     ∙ kept.bytes ∙ c.begin_keys.ensures.out in
     let z : c.drop_keys.new.work.key_spans.items ≡ c.args.work.now.key_spans.items =
     c.drop_keys.ensures.key_spans
-    ∙ ap (λ (q : List Span × (List ℕ × List KeySpan)). take c.len-first.result q.1.1) after
+    ∙ ap (λ (q : List Span × (List ℕ × List Span)). take c.len-first.result q.1.1) after
     ∙ c.order_keys.ensures.before
-    ∙ ap₂ (λ (n : ℕ) (zs : List KeySpan). take n zs) first spans
+    ∙ ap₂ (λ (n : ℕ) (zs : List Span). take n zs) first spans
     ∙ kept.spans ∙ c.begin_keys.ensures.key_spans in
-    ap₂ (λ (x : List Span) (y : List ℕ × List KeySpan). (x, y)) s (ap₂ (λ (x : List ℕ) (y : List KeySpan). (x, y)) bytes z)
+    ap₂ (λ (x : List Span) (y : List ℕ × List Span). (x, y)) s (ap₂ (λ (x : List ℕ) (y : List Span). (x, y)) bytes z)
 
 pub push_values-loop-at-preserved : goal.push_values-loop-at-preserved
 push_values-loop-at-preserved t c =
     let l = c.loop-at in
     let z = c.index-span.result.now in
     let us = c.args.work.now.key_spans.items in
-    let same : l.work.key_spans.items ≡ us = ap (λ (q : List Span × (List ℕ × List KeySpan)). q.1.1) l.invariant.kept in
+    let same : l.work.key_spans.items ≡ us = ap (λ (q : List Span × (List ℕ × List Span)). q.1.1) l.invariant.kept in
     let end : c.len-at-end.result ≡ length us = search rules in
     let to : l.at < length us = omega (arith, end, c.loop-at-test.true) in
     let here : z ≡ get_or l.work.key_spans.items l.at z = search rules in
-    let is : z ≡ get_or us l.at z = here ∙ ap (λ (zs : List KeySpan). get_or zs l.at z) same in
-    let low : z.index < length c.args.pairs.now = in_range_at (length c.args.pairs.now) c.args.first l.at us z c.requires.in_range (omega (arith, l.auto.at)) to is in
+    let is : z ≡ get_or us l.at z = here ∙ ap (λ (zs : List Span). get_or zs l.at z) same in
+    let low : z.value < length c.args.pairs.now = in_range_at (length c.args.pairs.now) c.args.first l.at us z c.requires.in_range (omega (arith, l.auto.at)) to is in
     let q = c.index-pairs-span.result in
     let r = c.args.registry.now in
     let v = shape_of c.args.value.now in
     let keys = c.args.work.now.keys.items in
     let b : List ℕ = l.work.out.items ++ part keys z.start z.end in
     let out : c.push_key.new.work.out.items ≡ b =
-    c.in_ok-push_key.ensures.out ∙ ap (λ (o : List Span × (List ℕ × List KeySpan)). l.work.out.items ++ part o.1.0 z.start z.end) l.invariant.kept in
-    let same_value : written r (tree_of q.1) (of v) b ≡ written r (tree_of (get_or c.args.pairs.now z.index q).1) (of v) c.push_key.new.work.out.items =
+    c.in_ok-push_key.ensures.out ∙ ap (λ (o : List Span × (List ℕ × List Span)). l.work.out.items ++ part o.1.0 z.start z.end) l.invariant.kept in
+    let same_value : written r (tree_of q.1) (of v) b ≡ written r (tree_of (get_or c.args.pairs.now z.value q).1) (of v) c.push_key.new.work.out.items =
     ap₂ (λ (p : Value × Value) (x : List ℕ). written r (tree_of p.1) (of v) x) c.index-pairs-span.is (sym out) in
     let more = values_next r v c.args.pairs.now keys us l.at z q l.work.out.items to is low c.index-pairs-span.is in
     record {
@@ -418,20 +417,20 @@ push_values-returns-in_err-push_value-clause-tells t c =
     let l = c.loop-at in
     let z = c.index-span.result.now in
     let us = c.args.work.now.key_spans.items in
-    let same : l.work.key_spans.items ≡ us = ap (λ (q : List Span × (List ℕ × List KeySpan)). q.1.1) l.invariant.kept in
+    let same : l.work.key_spans.items ≡ us = ap (λ (q : List Span × (List ℕ × List Span)). q.1.1) l.invariant.kept in
     let end : c.len-at-end.result ≡ length us = search rules in
     let to : l.at < length us = omega (arith, end, c.loop-at-test.true) in
     let here : z ≡ get_or l.work.key_spans.items l.at z = search rules in
-    let is : z ≡ get_or us l.at z = here ∙ ap (λ (zs : List KeySpan). get_or zs l.at z) same in
-    let low : z.index < length c.args.pairs.now = in_range_at (length c.args.pairs.now) c.args.first l.at us z c.requires.in_range (omega (arith, l.auto.at)) to is in
+    let is : z ≡ get_or us l.at z = here ∙ ap (λ (zs : List Span). get_or zs l.at z) same in
+    let low : z.value < length c.args.pairs.now = in_range_at (length c.args.pairs.now) c.args.first l.at us z c.requires.in_range (omega (arith, l.auto.at)) to is in
     let q = c.index-pairs-span.result in
     let r = c.args.registry.now in
     let v = shape_of c.args.value.now in
     let keys = c.args.work.now.keys.items in
     let b : List ℕ = l.work.out.items ++ part keys z.start z.end in
     let out : c.push_key.new.work.out.items ≡ b =
-    c.in_ok-push_key.ensures.out ∙ ap (λ (o : List Span × (List ℕ × List KeySpan)). l.work.out.items ++ part o.1.0 z.start z.end) l.invariant.kept in
-    let same_value : written r (tree_of q.1) (of v) b ≡ written r (tree_of (get_or c.args.pairs.now z.index q).1) (of v) c.push_key.new.work.out.items =
+    c.in_ok-push_key.ensures.out ∙ ap (λ (o : List Span × (List ℕ × List Span)). l.work.out.items ++ part o.1.0 z.start z.end) l.invariant.kept in
+    let same_value : written r (tree_of q.1) (of v) b ≡ written r (tree_of (get_or c.args.pairs.now z.value q).1) (of v) c.push_key.new.work.out.items =
     ap₂ (λ (p : Value × Value) (x : List ℕ). written r (tree_of p.1) (of v) x) c.index-pairs-span.is (sym out) in
     let more = values_next r v c.args.pairs.now keys us l.at z q l.work.out.items to is low c.index-pairs-span.is in
     let p = err_from_is_err_and c.from_residual-in_err-push_value.result c.from_residual-in_err-push_value.ensures.1 in
@@ -441,30 +440,30 @@ push_values-returns-in_err-push_value-clause-tells t c =
 
 pub push_values-bounds-pairs-span : goal.push_values-bounds-pairs-span
 push_values-bounds-pairs-span t c =
-    let same : c.loop-at.work.key_spans.items ≡ c.args.work.now.key_spans.items = ap (λ (q : List Span × (List ℕ × List KeySpan)). q.1.1) c.loop-at.invariant.kept in
+    let same : c.loop-at.work.key_spans.items ≡ c.args.work.now.key_spans.items = ap (λ (q : List Span × (List ℕ × List Span)). q.1.1) c.loop-at.invariant.kept in
     let end : c.len-at-end.result ≡ length c.args.work.now.key_spans.items = search rules in
     let here : c.index-span.result.now ≡ get_or c.loop-at.work.key_spans.items c.loop-at.at c.index-span.result.now = search rules in
-    let low : c.index-span.result.now.index < length c.args.pairs.now =
+    let low : c.index-span.result.now.value < length c.args.pairs.now =
     in_range_at (length c.args.pairs.now) c.args.first c.loop-at.at c.args.work.now.key_spans.items c.index-span.result.now c.requires.in_range (omega (arith, c.loop-at.auto.at))
-    (omega (arith, end, c.loop-at-test.true)) (here ∙ ap (λ (zs : List KeySpan). get_or zs c.loop-at.at c.index-span.result.now) same) in
+    (omega (arith, end, c.loop-at-test.true)) (here ∙ ap (λ (zs : List Span). get_or zs c.loop-at.at c.index-span.result.now) same) in
     low
 
 pub push_values-push_value-requires : goal.push_values-push_value-requires
 push_values-push_value-requires t c =
-    let same : c.loop-at.work.key_spans.items ≡ c.args.work.now.key_spans.items = ap (λ (q : List Span × (List ℕ × List KeySpan)). q.1.1) c.loop-at.invariant.kept in
+    let same : c.loop-at.work.key_spans.items ≡ c.args.work.now.key_spans.items = ap (λ (q : List Span × (List ℕ × List Span)). q.1.1) c.loop-at.invariant.kept in
     let end : c.len-at-end.result ≡ length c.args.work.now.key_spans.items = search rules in
     let here : c.index-span.result.now ≡ get_or c.loop-at.work.key_spans.items c.loop-at.at c.index-span.result.now = search rules in
-    let low : c.index-span.result.now.index < length c.args.pairs.now =
+    let low : c.index-span.result.now.value < length c.args.pairs.now =
     in_range_at (length c.args.pairs.now) c.args.first c.loop-at.at c.args.work.now.key_spans.items c.index-span.result.now c.requires.in_range (omega (arith, c.loop-at.auto.at))
-    (omega (arith, end, c.loop-at-test.true)) (here ∙ ap (λ (zs : List KeySpan). get_or zs c.loop-at.at c.index-span.result.now) same) in
+    (omega (arith, end, c.loop-at-test.true)) (here ∙ ap (λ (zs : List Span). get_or zs c.loop-at.at c.index-span.result.now) same) in
     (search (rules, the_lemmas, get_or_read, low), tt)
 
 pub push_values-offset_bounds-pairs-span : goal.push_values-offset_bounds-pairs-span
 push_values-offset_bounds-pairs-span t c =
-    let same : c.loop-at.work.key_spans.items ≡ c.args.work.now.key_spans.items = ap (λ (q : List Span × (List ℕ × List KeySpan)). q.1.1) c.loop-at.invariant.kept in
+    let same : c.loop-at.work.key_spans.items ≡ c.args.work.now.key_spans.items = ap (λ (q : List Span × (List ℕ × List Span)). q.1.1) c.loop-at.invariant.kept in
     let end : c.len-at-end.result ≡ length c.args.work.now.key_spans.items = search rules in
     let here : c.index-span.result.now ≡ get_or c.loop-at.work.key_spans.items c.loop-at.at c.index-span.result.now = search rules in
-    let low : c.index-span.result.now.index < length c.args.pairs.now =
+    let low : c.index-span.result.now.value < length c.args.pairs.now =
     in_range_at (length c.args.pairs.now) c.args.first c.loop-at.at c.args.work.now.key_spans.items c.index-span.result.now c.requires.in_range (omega (arith, c.loop-at.auto.at))
-    (omega (arith, end, c.loop-at-test.true)) (here ∙ ap (λ (zs : List KeySpan). get_or zs c.loop-at.at c.index-span.result.now) same) in
+    (omega (arith, end, c.loop-at-test.true)) (here ∙ ap (λ (zs : List Span). get_or zs c.loop-at.at c.index-span.result.now) same) in
     search (rules, low)

@@ -1,7 +1,0 @@
-use Rattle.std.proofs.Common.{◌≡◌, ◌-◌, map, drop}
-use Rattle.bcs_encode_steps.specs.Laying.{span_entry}
-use Rattle.bcs_encode_steps.specs.Writing.{has_twins}
-use Rattle.bcs_encode_steps.proofs.spans.have_equal_neighbours.Given as goal
-
-abbrev pub invariant-loop-i : goal.invariant-loop-i
-invariant-loop-i l = has_twins (map (span_entry l.bytes) l.spans) ≡ has_twins (map (span_entry l.bytes) (drop (l.i - 1) l.spans))
