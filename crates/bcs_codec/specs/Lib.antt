@@ -24,6 +24,8 @@ pub use Rattle.bcs_json.specs.Texts
 pub use Rattle.bcs_json.specs.Headline
 pub use Rattle.bcs_json.specs.Printing
 pub use Rattle.bcs_json.specs.Showing
+pub use Rattle.bcs_json.specs.Shown
+pub use Rattle.bcs_json.specs.JsonContent
 pub use Rattle.bcs_registry.specs.View as RegistryView
 pub use Rattle.bcs_value.specs.View as ValueView
 pub use Rattle.bcs_registry.specs.Laws as RegistryLaws
