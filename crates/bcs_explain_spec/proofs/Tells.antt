@@ -11,6 +11,9 @@ use Rattle.bcs_explain_spec.proofs.Past.{Past}
 pub record Tells (k : Telling) (w : ℕ) (a : List ℕ) (p : ℕ) (xs : List Piece) : Type 0 where
   pub told : (m : ℕ) (c : List ℕ) → k p (w + m) (a ++ c) ≡ xs
 
+pub tells_at : (k : Telling) (w : ℕ) (a : List ℕ) (p : ℕ) (xs : List Piece) → Tells k w a p xs → (m l : ℕ) (b c : List ℕ) → m ≡ w + l → b ≡ a ++ c → k p m b ≡ xs
+tells_at k w a p xs h m l b c i j = ap₂ (λ (n : ℕ) (u : List ℕ). k p n u) i j ∙ h.told l c
+
 pub tells_silent : (w : ℕ) (a : List ℕ) (p : ℕ) → Tells silent w a p []
 unfolding silent
 tells_silent w a p = record { told = λ m c. refl }

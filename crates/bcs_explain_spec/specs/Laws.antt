@@ -5,12 +5,15 @@ use Rattle.bcs_registry_formats.specs.Container.{Entries}
 use Rattle.bcs_value_tree.specs.Tree.{Tree}
 use Rattle.bcs_value_spec.specs.Limits.{Bounds}
 use Rattle.bcs_encode_spec.specs.Plain.{plain}
+use Rattle.bcs_decode_spec.specs.declared.reason.Reason.{Reason}
 use Rattle.bcs_decode_spec.specs.Accepting.{Accepts}
+use Rattle.bcs_decode_spec.specs.Stopping.{Stops}
 use Rattle.bcs_explain_spec.specs.Way.{Way}
 use Rattle.bcs_explain_spec.specs.Piece.{Cut}
 use Rattle.bcs_explain_spec.specs.Held.{Held, of, unnamed}
 use Rattle.bcs_explain_spec.specs.Pieces.{pieces}
 use Rattle.bcs_explain_spec.specs.Telling.{tell}
+use Rattle.bcs_explain_spec.specs.Stopped.{stop_pieces}
 
 -- the pieces of a value cut its bytes
 abbrev pub PiecesCutTheBytes : Type 0
@@ -20,3 +23,8 @@ PiecesCutTheBytes = (registry : Entries) (way : Way) (p : ℕ) (t : Tree) (h : H
 abbrev pub ToldAtAnEncoding : Type 0
 ToldAtAnEncoding = (registry : Entries) (limits : Bounds) (s : Shape) (b : List ℕ) (n : ℕ) (c : Tree)
     → Accepts registry limits s b n c → tell registry limits.depth s [] 0 limits.nodes b ≡ pieces registry [] 0 c (of s)
+
+-- where bytes stop, what is told are the pieces that stand before the stop
+abbrev pub ToldAtAStop : Type 0
+ToldAtAStop = (registry : Entries) (limits : Bounds) (s : Shape) (b : List ℕ) (e : Reason) (o : ℕ) (h : Stops registry limits s b e o)
+    → tell registry limits.depth s [] 0 limits.nodes b ≡ stop_pieces registry limits s b e o h

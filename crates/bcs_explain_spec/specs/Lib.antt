@@ -3,4 +3,5 @@ pub mod Piece
 pub mod Held
 pub mod Pieces
 pub mod Telling
+pub mod Stopped
 pub mod Laws

@@ -1,5 +1,5 @@
 //! What holds of pieces: laws that a proof may cite. No call does anything.
-ghost use Rattle.bcs_explain_spec.specs.Laws.{PiecesCutTheBytes, ToldAtAnEncoding};
+ghost use Rattle.bcs_explain_spec.specs.Laws.{PiecesCutTheBytes, ToldAtAStop, ToldAtAnEncoding};
 
 /// One after another, the pieces' bytes are the value's. Each stands where the one before it ends, and none is empty.
 pub fn pieces_cut_the_bytes()
@@ -9,4 +9,9 @@ pub fn pieces_cut_the_bytes()
 /// At bytes that begin with a value, what is told are its pieces, whatever bytes come after it.
 pub fn told_at_an_encoding()
     ensures { ToldAtAnEncoding }
+{}
+
+/// Where bytes stop, what is told are the pieces that stand before the stop.
+pub fn told_at_a_stop()
+    ensures { ToldAtAStop }
 {}
