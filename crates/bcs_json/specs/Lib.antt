@@ -1,5 +1,15 @@
 pub mod Printing
 pub mod Showing
+pub use Rattle.bcs_registry.specs.Container
+pub use Rattle.bcs_registry.specs.Grows
+pub use Rattle.bcs_registry.specs.Ranges
+pub use Rattle.bcs_registry.specs.Shape
+pub use Rattle.bcs_registry.specs.Text
+pub use Rattle.bcs_registry.specs.WellFormed
+pub use Rattle.bcs_value.specs.Fits
+pub use Rattle.bcs_value.specs.Limits
+pub use Rattle.bcs_value.specs.Same
+pub use Rattle.bcs_value.specs.Tree
 pub use Rattle.bcs_json_text.specs.Json
 pub use Rattle.bcs_json_spec.specs.JsonContent
 pub use Rattle.bcs_json_spec.specs.Look
