@@ -2,7 +2,7 @@
 use bcs_decode::pieces::{PieceSource, RepeatSource};
 use bcs_decode::{ByteSource, DecodeFault, Reason, Stop, decode_from};
 use bcs_registry::Registry;
-use bcs_value::Limits;
+use bcs_value::{Limits, Value};
 use std::alloc::AllocGlobal;
 use std::process::Abort;
 use std::test::Fail;
@@ -35,6 +35,24 @@ fn stops_endless(
 fn endless_sources(rt: HostRuntime) -> Result<(), Fail> {
     stops_endless(&rt, r#""BYTES""#, 128, Reason::NumberTooLarge, 0)?;
     stops_endless(&rt, r#"{"TYPENAME":"L"}"#, 1, Reason::TooDeep, 500)
+}
+
+// Nothing is read behind a value's last byte.
+#[test]
+fn a_value_ends_an_endless_source(rt: HostRuntime) -> Result<(), Fail> {
+    let registry = Registry::read(rt.alloc(), b"{}")?;
+    let format = registry.read_format(rt.alloc(), br#""U32""#)?;
+    let mut source = RepeatSource::new(0);
+    let answer = decode_from(
+        rt.alloc(),
+        &registry,
+        &format,
+        &Limits::standard(),
+        &mut source,
+    );
+    assert!(rt; matches!(answer, Ok(Value::Unsigned(0))));
+    assert!(rt; source.given() == 4);
+    Ok(())
 }
 
 // The second call of the source would fail, and isn't made.

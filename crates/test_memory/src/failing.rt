@@ -2,17 +2,17 @@
 
 use crate::accepted::Accepted;
 use crate::asked::Asked;
-use crate::jobs;
 use crate::row::Row;
 use crate::tally::Tally;
 use crate::told::Told;
+use crate::{jobs, parts};
 use bcs_decode::pieces::PieceSource;
 use bcs_decode::{ByteSource, DecodeFault, SliceSource, decode_all, decode_from};
 use bcs_encode::pieces::PieceSink;
 use bcs_encode::{ByteSink, WriteFault, write};
 use bcs_tool::{Command, Work, run};
 use bcs_value::{Value, same};
-use std::alloc::Global;
+use std::alloc::{AllocError, Global};
 
 /// Makes the calls that read or write, once for each read and each write.
 pub(crate) fn ask(alloc: Global, row: &Row, tally: &mut Tally) -> Result<(), Told> {
@@ -23,6 +23,15 @@ pub(crate) fn ask(alloc: Global, row: &Row, tally: &mut Tally) -> Result<(), Tol
         }
         "text" => ask_refused(alloc, Command::Encode, row, tally),
         "bytes" | "early" | "whole" => ask_refused(alloc, Command::Decode, row, tally),
+        "part" => ask_of_part(alloc, row, tally),
+        "check" => {
+            let work = jobs::job(alloc, Command::Check, row.registry, "", "")?;
+            ask_unread(alloc, &work, row.answer, tally)
+        }
+        "grows" => {
+            let work = jobs::job(alloc, Command::Grows, row.registry, row.format, "")?;
+            ask_unread(alloc, &work, row.answer, tally)
+        }
         _ => Ok(()),
     }
 }
@@ -52,10 +61,42 @@ fn ask_of_jobs(alloc: Global, row: &Row, tally: &mut Tally) -> Result<(), Told> 
 fn ask_refused(alloc: Global, command: Command, row: &Row, tally: &mut Tally) -> Result<(), Told> {
     let mut work = jobs::job(alloc, command, row.registry, "", row.format)?;
     work.limits = Asked::read(alloc, row, row.format, row.more)?.limits;
-    let mut line = String::from_str(alloc, "refused: ")?;
-    line.push_str(row.answer)?;
+    let line = line_of(alloc, row.answer)?;
     ask_of_job(alloc, &work, [row.input, line.as_str()], 2, tally);
     Ok(())
+}
+
+// A part, `none` and a stop are put as any other answer.
+fn ask_of_part(alloc: Global, row: &Row, tally: &mut Tally) -> Result<(), Told> {
+    let work = parts::job(alloc, row)?;
+    let line = line_of(alloc, row.answer)?;
+    let status = jobs::status_of(row.answer);
+    ask_of_job(alloc, &work, [row.input, line.as_str()], status, tally);
+    Ok(())
+}
+
+// A job without an input: it reads nothing, so no read can fail, and each of its writes does in turn.
+fn ask_unread(alloc: Global, work: &Work, answer: &str, tally: &mut Tally) -> Result<(), Told> {
+    let line = line_of(alloc, answer)?;
+    let status = jobs::status_of(answer);
+    tally.note("run", unread_told(alloc, work, line.as_str(), status));
+    for done in 0..=line.len().saturating_add(1) {
+        tally.note(
+            "run",
+            put_told(alloc, work, ["", line.as_str()], status, done),
+        );
+    }
+    Ok(())
+}
+
+// The line that is put for an answer.
+fn line_of(alloc: Global, answer: &str) -> Result<String, AllocError> {
+    let mut line = String::new(alloc);
+    if jobs::status_of(answer) == 2 {
+        line.push_str("refused: ")?;
+    }
+    line.push_str(answer)?;
+    Ok(line)
 }
 
 // A job's input and the line that is put for it, with the status.
@@ -140,6 +181,14 @@ fn read_told(
         return Told::of(outcome.status == status && jobs::is_line(out.taken(), line));
     }
     Told::of(outcome.status == 4 && outcome.note == "fault: read" && out.taken().is_empty())
+}
+
+// The first call of the source would fail, and isn't made.
+fn unread_told(alloc: Global, work: &Work, line: &str, status: u8) -> Told {
+    let mut source = PieceSource::new(&[], 1, Some(1));
+    let mut out = PieceSink::<256>::new(1, None);
+    let outcome = run(alloc, work, &mut source, &mut out);
+    Told::of(outcome.status == status && jobs::is_line(out.taken(), line) && !source.failed())
 }
 
 // The output takes so many bytes of the line, and then fails: at the line's end at the latest. Nothing is put behind it.

@@ -54,6 +54,15 @@ pub(crate) fn ask(
     tally.note("run", told);
 }
 
+/// The status of an answer: 2 of a fault's name, which begins with a capital letter, 1 of `none`, and else 0.
+pub(crate) fn status_of(answer: &str) -> u8 {
+    match answer.as_bytes().first() {
+        Some(b'A'..=b'Z') => 2,
+        Some(b'n') => 1,
+        _ => 0,
+    }
+}
+
 /// A line of this text: a refusal's line has `refused: ` before it.
 pub(crate) fn is_line(put: &[u8], text: &str) -> bool {
     let Ok(put) = str::from_utf8(put) else {

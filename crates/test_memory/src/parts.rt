@@ -6,17 +6,23 @@ use crate::row::Row;
 use crate::tally::Tally;
 use crate::told::{Told, bytes_of, made};
 use bcs_decode::{Step, part};
-use bcs_tool::Command;
+use bcs_tool::{Command, Work};
 use bcs_tool_path::{PathStep, read_path, steps_of};
-use std::alloc::Global;
+use std::alloc::{AllocError, Global};
 
 /// Does the job at a row's digits and its path.
 pub(crate) fn ask(alloc: Global, row: &Row, tally: &mut Tally) -> Result<(), Told> {
-    let mut work = jobs::job(alloc, Command::Part, row.registry, "", row.format)?;
-    work.path = String::from_str(alloc, row.more)?;
-    let status = status_of(row.answer);
+    let work = job(alloc, row)?;
+    let status = jobs::status_of(row.answer);
     jobs::ask(alloc, &work, row.input, status, row.answer, tally);
     Ok(())
+}
+
+/// The job at a row's path.
+pub(crate) fn job(alloc: Global, row: &Row) -> Result<Work, AllocError> {
+    let mut work = jobs::job(alloc, Command::Part, row.registry, "", row.format)?;
+    work.path = String::from_str(alloc, row.more)?;
+    Ok(work)
 }
 
 /// Sets a row up, and where `is_asked` makes the library's call, which asks for no memory.
@@ -71,25 +77,16 @@ fn part_given(
         return false;
     }
     match part(registry, format, limits, bytes, steps) {
-        Ok(Some(part)) => status_of(answer) == 0 && part.bytes == wanted,
-        Ok(None) => status_of(answer) == 1,
-        Err(_) => status_of(answer) == 2,
+        Ok(Some(part)) => jobs::status_of(answer) == 0 && part.bytes == wanted,
+        Ok(None) => jobs::status_of(answer) == 1,
+        Err(_) => jobs::status_of(answer) == 2,
     }
 }
 
 // The part's bytes, where the answer is their digits.
 fn part_bytes(alloc: Global, answer: &str) -> Result<Vec<u8>, Told> {
-    match status_of(answer) {
+    match jobs::status_of(answer) {
         0 => bytes_of(alloc, answer),
         _ => Ok(Vec::new(alloc)),
-    }
-}
-
-// The status of an answer: the part's digits, `none`, or a fault's name, which begins with a capital letter.
-fn status_of(answer: &str) -> u8 {
-    match answer.as_bytes().first() {
-        Some(b'A'..=b'Z') => 2,
-        Some(b'n') => 1,
-        _ => 0,
     }
 }

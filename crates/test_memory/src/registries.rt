@@ -49,8 +49,8 @@ pub(crate) fn ask_printed(alloc: Global, row: &Row, tally: &mut Tally) -> Result
 
 /// A row `grows` asks whether the registry grows to another, which stands in the place of the format.
 pub(crate) fn ask_grown(alloc: Global, row: &Row, tally: &mut Tally) -> Result<(), Told> {
-    let status = if row.answer == "grows" { 0 } else { 2 };
     let work = jobs::job(alloc, Command::Grows, row.registry, row.format, "")?;
+    let status = jobs::status_of(row.answer);
     jobs::ask(alloc, &work, "", status, row.answer, tally);
     Ok(())
 }
