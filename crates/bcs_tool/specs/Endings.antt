@@ -43,6 +43,12 @@ module _ {O E : Type 0} (taken : O → Option (List ℕ)) (is_failed : O → Boo
   TellsFault OutOfMemory out out' errors errors' status =
       (status ≡ 4) × (out' ≡ out) × Told told has_failed errors errors' (line_of (codes "fault: memory"))
 
+-- why the system gives no words: one is no UTF-8, or memory ran out
+abbrev pub IsWordsFault : LineFault → Type 0
+IsWordsFault (Usage text) = string_bytes text ≡ line_of (codes "error: a word is no UTF-8")
+IsWordsFault (Help text) = ⊥
+IsWordsFault OutOfMemory = Unit {0}
+
 -- ---- a job
 
 -- no file is read: the registries are texts themselves, there is no A, and the input is the standard one

@@ -1,37 +1,71 @@
 //! The program, as the system starts it.
-ghost use Rattle.std.specs.Prelude.{◌<◌};
+ghost use Rattle.std.specs.Prelude.{◌≡◌, ◌≢◌, ◌⊎◌, ◌<◌, [], IfErr, IfOk};
 ghost use Rattle.std.specs.Process.{exit_status};
+ghost use Rattle.clap.specs.Words.{fault_of};
+ghost use Rattle.bcs_tool_words.specs.CommandLine.{bcs_app, texts_of};
+ghost use Rattle.bcs_tool_line.specs.Jobs.{IsJobOf};
+ghost use Rattle.bcs_tool_line.specs.LineFaults.{IsFaultOf};
+ghost use Rattle.bcs_tool.specs.Endings.{IsWordsFault, Performs, TellsFault, TellsOutcome};
 
 use crate::responding::respond;
 use crate::telling::tell_fault;
-use bcs_decode::ReadSource;
-use bcs_encode::WriteSink;
-use bcs_tool_line::LineFault;
+use bcs_decode::{ByteSource, ReadSource};
+use bcs_encode::{ByteSink, WriteSink};
+use bcs_tool_files::Outcome;
+use bcs_tool_line::{Job, LineFault};
 use std::env;
 use std::env::Env;
 use std::io::ErrorKind;
 use std::process::ExitCode;
+use std::rt::Files;
 
-/// The whole program: its words and its standard input from the system, what it has to tell to the
-/// standard output and the standard error, and its status.
+/// The whole program over the system: its words, its standard streams and its status.
 pub fn program(rt: &HostRuntime) -> ExitCode
     ensures { exit_status result < 5 }
 {
+    let mut input = ReadSource::new(rt.reader());
     let mut out = WriteSink::new(rt.stdout());
     let mut errors = WriteSink::new(rt.stderr());
-    let status = match words_of(rt) {
-        Ok(words) => {
-            let mut input = ReadSource::new(rt.reader());
-            respond(rt, words.as_slice(), &mut input, &mut out, &mut errors)
-        }
-        Err(fault) => tell_fault(&fault, &mut out, &mut errors),
-    };
-    ExitCode::from(status)
+    ExitCode::from(start(rt, words_of(rt), &mut input, &mut out, &mut errors))
+}
+
+/// Does what the words ask for, or tells why there are none, and gives the status.
+pub fn start<R: Files + AllocGlobal, S: ByteSource, O: ByteSink, E: ByteSink>(
+    rt: &R,
+    words: Result<Vec<String>, LineFault>,
+    input: &mut S,
+    out: &mut O,
+    errors: &mut E,
+) -> u8
+    ensures status { result < 5 }
+
+    // Nothing is read or put, and the fault is told.
+    ensures no_words { IfErr words (λ fault. (input.new ≡ input.old)
+        × TellsFault O.taken O.is_failed E.taken E.is_failed fault out.old out.new errors.old errors.new result) }
+
+    // The rest is as `respond` has it.
+    ensures no_job { IfOk words (λ given. fault_of bcs_app (texts_of given.items) ≢ [] → (fault : LineFault)
+        × IsFaultOf (texts_of given.items) fault × (input.new ≡ input.old)
+        × TellsFault O.taken O.is_failed E.taken E.is_failed fault out.old out.new errors.old errors.new result) }
+    ensures job { IfOk words (λ given. fault_of bcs_app (texts_of given.items) ≡ [] →
+        ((input.new ≡ input.old) × TellsFault O.taken O.is_failed E.taken E.is_failed
+        LineFault.OutOfMemory out.old out.new errors.old errors.new result)
+        ⊎ ((job : Job) × (outcome : Outcome) × IsJobOf (texts_of given.items) job
+        × Performs S.content S.is_failed S.allowance O.taken O.is_failed
+        job input.old input.new out.old out.new outcome
+        × TellsOutcome E.taken E.is_failed outcome errors.old errors.new result)) }
+{
+    match words {
+        Ok(words) => respond(rt, words.as_slice(), input, out, errors),
+        Err(fault) => tell_fault(&fault, out, errors),
+    }
 }
 
 /// The words of the command line, of which the first is the program's own name. A word that is no
 /// UTF-8 is `Usage`.
-pub fn words_of<R: Env + AllocGlobal>(rt: &R) -> Result<Vec<String>, LineFault> {
+pub fn words_of<R: Env + AllocGlobal>(rt: &R) -> Result<Vec<String>, LineFault>
+    ensures { IfErr result IsWordsFault }
+{
     match env::args(rt) {
         Ok(words) => Ok(words.collect(rt.alloc())?),
         Err(error) => match error.kind() {

@@ -22,7 +22,7 @@ pub use bcs_tool_files::{
     FileFault, Outcome, TakeFault, Work, put_all, read_named, read_opened, read_work, take_all,
 };
 pub use bcs_tool_line::{Command, Job, LineFault, line};
-pub use entry::{program, words_of};
+pub use entry::{program, start, words_of};
 pub use responding::respond;
 pub use running::run;
 pub use telling::{tell_fault, tell_outcome};

@@ -1,5 +1,8 @@
 //! The words that the system gives.
-use bcs_tool::{LineFault, words_of};
+use bcs_decode::ByteSource;
+use bcs_decode::pieces::PieceSource;
+use bcs_encode::pieces::PieceSink;
+use bcs_tool::{start, words_of};
 use std::env::{Env, FillError};
 use std::test::Fail;
 
@@ -37,14 +40,16 @@ fn words_as_they_stand(rt: HostRuntime) -> Result<(), Fail> {
     Ok(())
 }
 
+// The standard error is told, and nothing is read or put.
 #[test]
 fn a_word_that_is_no_text(rt: HostRuntime) {
     let given = (Given(&[b"bcs", b"\xff"]), rt.alloc());
-    let answer = words_of(&given);
-    assert!(rt;
-        matches!(
-        &answer,
-        Err(LineFault::Usage(text)) if text.as_str() == "error: a word is no UTF-8\n"
-    )
-    );
+    let mut input = PieceSource::new(b"-4660", 5, Some(1));
+    let mut out = PieceSink::<100>::new(100, None);
+    let mut errors = PieceSink::<100>::new(100, None);
+    let status = start(&rt, words_of(&given), &mut input, &mut out, &mut errors);
+    assert!(rt; status == 3);
+    assert!(rt; !input.failed());
+    assert!(rt; out.taken().is_empty());
+    assert!(rt; errors.taken() == b"error: a word is no UTF-8\n".as_slice());
 }

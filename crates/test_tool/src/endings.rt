@@ -58,7 +58,7 @@ fn ends_over(
     Ok(())
 }
 
-const NONE_FAILS: [Ending; 11] = [
+const NONE_FAILS: [Ending; 12] = [
     (&["encode", "{}", "\"I16\""], 0, "cced\n", ""),
     (&["check", "{"], 2, "refused: NotJson\n", ""),
     (&["--help"], 0, "Binary Canonical Serialization..", ""),
@@ -72,6 +72,7 @@ const NONE_FAILS: [Ending; 11] = [
     ),
     (&[], 3, "", "error: .."),
     (&["frobnicate"], 3, "", "error: .."),
+    (&["help", "frobnicate"], 3, "", "error: .."),
     (&["check", "no.test"], 4, "", "fault: open\n"),
     (
         &["encode", "{}", "\"I16\"", "no.test"],
