@@ -9,7 +9,6 @@ use Rattle.bcs_registry_text.specs.Text.{WritesRegistry, WritesFormat}
 use Rattle.bcs_registry_formats.specs.WellFormed.{IsWellFormed, Admits}
 use Rattle.bcs_registry_formats.specs.declared.fault.RegistryFault.{RegistryFault}
 use Rattle.bcs_registry_formats.specs.declared.fault.RegistryFault.TheVariants.{UnknownName, OutOfMemory}
-use Rattle.bcs_registry_formats.specs.declared.growth_fault.GrowthFault.{GrowthFault}
 use Rattle.bcs_decode_parts.specs.Parts.{Step}
 use Rattle.bcs_tool_path.specs.Path.{SpellsNoPath, SpellsPath}
 use Rattle.bcs_tool_path.specs.declared.path_fault.PathFault.{PathFault}
