@@ -4,7 +4,7 @@ use Rattle.std.specs.Prelude.{String, string_bytes}
 use Rattle.std.specs.Str.{bytes_eq}
 use Rattle.std.specs.declared.alloc.Global.{Global}
 use Rattle.std.proofs.lemmas.Slice.Eq.{bytes_eq-Decides}
-use Rattle.std.specs.Prelude.{OnOk, OnErr}
+use Rattle.std.specs.Prelude.{IfErr, OnOk}
 use Rattle.std.proofs.Math.Seq.{take-append-add}
 use Rattle.std.proofs.lemmas.List.{take-append-le}
 use Rattle.bcs_io.specs.Taking.{Took, Lost}
@@ -23,10 +23,10 @@ use Rattle.bcs_tool.specs.Endings.{HasAnswer, IsNote, Performs, PutFront, ReadsN
 
 module _ {K : Type 0} (taken : K → Option (List ℕ)) (is_failed : K → Bool) where
   -- a text that is put, or else in part
-  pub is_told : {A B : Type 0} (r : Result A B) (old new : K) (text : List ℕ)
-      → OnOk r (Took taken is_failed old new text) → OnErr r (PutFront taken is_failed old new text) → Told taken is_failed old new text
+  pub is_told : {A : Type 0} (r : Result A ℕ) (old new : K) (text : List ℕ)
+      → OnOk r (Took taken is_failed old new text) → IfErr r (λ n. (n < length text) × Lost taken is_failed old new (take n text)) → Told taken is_failed old new text
   is_told (Ok a) old new text whole part = inl whole
-  is_told (Err e) old new text whole part = inr part
+  is_told (Err n) old new text whole part = inr (n, part.0, part.1)
 
   -- a front of a text is one of the text with more behind it
   pub front_of_more : (old new : K) (xs ys : List ℕ) → PutFront taken is_failed old new xs → PutFront taken is_failed old new (xs ++ ys)

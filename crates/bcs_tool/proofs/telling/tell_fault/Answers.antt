@@ -14,7 +14,7 @@ returns-in-Err g c =
     let P : List ℕ → Type 0 = λ text. PutFront g.O.ByteSink.taken g.O.ByteSink.is_failed c.args.out.now c.put_all.new.sink text in
     cut_help g.O.ByteSink.taken g.O.ByteSink.is_failed g.E.ByteSink.taken g.E.ByteSink.is_failed c.args.fault.now c.in-Help.text
     c.args.out.now c.put_all.new.sink c.failed.result c.args.errors.now c.tell_outcome.new.errors c.tell_outcome.result
-    c.in-Help.is (subst P c.as_bytes.ensures.value c.in-Err.ensures.part) c.tell_outcome.ensures c.failed.ensures.status c.failed.ensures.note
+    c.in-Help.is (subst P c.as_bytes.ensures.value (_, c.in-Err.ensures.part.0, c.in-Err.ensures.part.1)) c.tell_outcome.ensures c.failed.ensures.status c.failed.ensures.note
 
 pub returns-in-OutOfMemory : goal.returns-in-OutOfMemory
 returns-in-OutOfMemory g c =

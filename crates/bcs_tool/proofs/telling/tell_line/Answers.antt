@@ -14,4 +14,4 @@ pub returns-in-Err : goal.returns-in-Err
 returns-in-Err g c =
     let P : List ℕ → Type 0 = λ text. Told g.E.ByteSink.taken g.E.ByteSink.is_failed c.args.errors.now c.put_all.new.sink (line_of text) in
     subst P c.as_bytes.ensures.value
-    (inr (front_of_more g.E.ByteSink.taken g.E.ByteSink.is_failed _ _ c.as_bytes.result.now (10 ∷ []) c.in-Err.ensures.part))
+    (inr (front_of_more g.E.ByteSink.taken g.E.ByteSink.is_failed _ _ c.as_bytes.result.now (10 ∷ []) (_, c.in-Err.ensures.part.0, c.in-Err.ensures.part.1)))
