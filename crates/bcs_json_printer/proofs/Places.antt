@@ -1,8 +1,7 @@
 -- The members of an object by the places of its fields.
-use Rattle.std.proofs.Common.{◌≡◌, ◌∙◌, ◌<◌, ◌+◌, ℕ, zero, suc, List, [], ◌∷◌, length, get_or, drop, map, String, Global, Ordering, Less, Equal, Greater, string_bytes, string_cmp, refl, sym, ap, arith}
+use Rattle.std.proofs.Common.{◌≡◌, ◌∙◌, ◌<◌, ◌+◌, ℕ, zero, suc, List, [], ◌∷◌, length, get_or, drop, map, String, Global, Ordering, Less, Equal, Greater, string_bytes, string_cmp, refl, ap, arith}
 use Rattle.std.specs.BTreeMap.{insert_entry}
 use Rattle.std.specs.Ordering.{match_ordering}
-use Rattle.std.proofs.lemmas.List.{drop_more}
 use Rattle.serde_json.specs.Data.{Data, null, put}
 use Rattle.bcs_registry_formats.specs.Container.{Entries}
 use Rattle.bcs_registry_formats.specs.View.{shape_of, field_of}
@@ -13,6 +12,7 @@ use Rattle.bcs_value_tree.specs.declared.value.Value.{Value}
 use Rattle.bcs_json_spec.specs.JsonContent.{of}
 use Rattle.bcs_json_spec.specs.Shown.{shown, shown_fields}
 use Rattle.bcs_json_printer.specs.Places.{name_of, placed, put_from}
+use Rattle.bcs_json_printer.proofs.PrintedRows.{left_at}
 
 abbrev Entry : Type 0
 Entry = String Global × ℕ
@@ -30,7 +30,7 @@ placed-insert_entry at (e ∷ es) k n = placed-match_ordering at (string_cmp k e
 pub put_from_more : (at : ℕ → Data) (fs : List (Named Format)) (n : ℕ) (f : Named Format) → n < length fs → f ≡ get_or fs n f
     → put (name_of f) (at n) (put_from at (n + 1) (map name_of (drop (n + 1) fs))) ≡ put_from at n (map name_of (drop n fs))
 put_from_more at fs n f h e =
-    let here = drop_more fs n f h ∙ ap (λ (g : Named Format). g ∷ drop (n + 1) fs) (sym e) in
+    let here = left_at fs n f h e in
     rw here (ap (λ m. put (name_of f) (at n) (put_from at m (map name_of (drop (n + 1) fs)))) (omega arith))
 
 -- what is shown at a place

@@ -1,7 +1,6 @@
 -- Rows that are sent one part after another.
-use Rattle.std.proofs.Common.{◌≡◌, ◌∙◌, ◌<◌, ◌≤◌, ◌+◌, ℕ, zero, suc, List, [], ◌∷◌, length, get_or, drop, map, true, false, true≢false, String, Global, refl, sym, ap, arith, subst}
+use Rattle.std.proofs.Common.{◌≡◌, ◌<◌, ◌≤◌, ℕ, zero, suc, List, [], ◌∷◌, length, get_or, map, true, false, true≢false, String, Global, refl, sym, ap, arith, subst}
 use Rattle.std.proofs.lemmas.Bool.{and_parts}
-use Rattle.std.proofs.lemmas.List.{drop_more}
 use Rattle.std.specs.List.{All}
 use Rattle.std.specs.Map.{values_of}
 use Rattle.serde_json.specs.Data.{Data}
@@ -11,13 +10,12 @@ use Rattle.bcs_registry_formats.specs.Shape.{Shape}
 use Rattle.bcs_registry_formats.specs.View.{field_of, formats_shapes, shape_of}
 use Rattle.bcs_registry_formats.specs.declared.format.Format.{Format}
 use Rattle.bcs_registry_formats.specs.declared.named.Named.{Named}
-use Rattle.bcs_value_spec.specs.Fits.{each_fits, fits, pairs_fit}
+use Rattle.bcs_value_spec.specs.Fits.{each_fits, fits}
 use Rattle.bcs_value_tree.specs.Tree.{nodes, pairs_nodes, trees_nodes}
 use Rattle.bcs_value_tree.specs.View.{entries_pairs, items_trees, tree_of}
 use Rattle.bcs_value_tree.specs.declared.value.Value.{Value}
 use Rattle.bcs_json_spec.specs.Shown.{shown_all, shown_each, shown_pairs}
 use Rattle.bcs_json_printer.specs.Places.{placed}
-use Rattle.bcs_json_printer.proofs.PrintedRows.{pairs_here}
 
 -- a part of a row has no more nodes than the row
 pub part_nodes : (xs : List Value) (i : ℕ) (x : Value) → i < length xs → x ≡ get_or xs i x → nodes (tree_of x) ≤ trees_nodes (items_trees xs)
@@ -61,14 +59,6 @@ module _ (r : Entries) where
   field_fits (y ∷ xs) [] n x f h g is found fit = absurd (omega arith)
   field_fits (y ∷ xs) (e ∷ fs) zero x f h g is found fit = rw (is, found) ((and_parts _ _ fit).0)
   field_fits (y ∷ xs) (e ∷ fs) (suc n) x f h g is found fit = field_fits xs fs n x f (omega arith) (omega arith) is found (and_parts _ _ fit).1
-
--- the entry that comes next is of its formats
-pub entry_fits : (r : Entries) (ps : List (Value × Value)) (i : ℕ) (p : Value × Value) (k v : Shape) → i < length ps → p ≡ get_or ps i p → pairs_fit false r (entries_pairs (drop i ps)) k v ≡ true
-    → (fits false r (tree_of p.0) (at_format k) ≡ true) × (fits false r (tree_of p.1) (at_format v) ≡ true)
-entry_fits r ps i p k v h is fit =
-    let here = drop_more ps i p h ∙ ap (λ (y : Value × Value). y ∷ drop (i + 1) ps) (sym is) in
-    let all = pairs_here r (drop i ps) p (drop (i + 1) ps) k v here fit in
-    (all.0, all.1)
 
 -- the place that comes next, and those after it
 pub next_within : (es : List (String Global × ℕ)) (e : String Global × ℕ) (rest : List (String Global × ℕ)) (n : ℕ) → es ≡ e ∷ rest → All (λ i. i < n) (values_of es)

@@ -2,7 +2,6 @@
 use Rattle.std.proofs.Common.{◌≡◌, ◌∙◌, ◌<◌, ◌+◌, ℕ, max, nat_le, List, [], ◌∷◌, length, get_or, drop, map, Some, None, Bool, true, false, not, ◌&&◌, ◌||◌, Ordering, Less, Equal, Greater, true≢false, refl, sym, ap, arith}
 use Rattle.std.proofs.lemmas.Bool.{and_parts}
 use Rattle.std.proofs.lemmas.Grind.{common_steps}
-use Rattle.std.proofs.lemmas.List.{drop_more}
 use Rattle.std.proofs.lemmas.Slice.Eq.{bytes_eq-Decides}
 use Rattle.std.specs.Cmp.Lexicographic.{slice_cmp}
 use Rattle.std.specs.List.{list_any}
@@ -21,6 +20,7 @@ use Rattle.bcs_value_tree.specs.View.{tree_of, items_trees}
 use Rattle.bcs_value_tree.specs.declared.value.Value.{Value}
 use Rattle.bcs_json_spec.specs.JsonContent.{of}
 use Rattle.bcs_json_spec.specs.Shown.{shown, shown_fields}
+use Rattle.bcs_json_printer.proofs.PrintedRows.{left_at}
 
 abbrev pub names : List Field → List (List ℕ)
 names fs = map (λ f. f.0) fs
@@ -74,11 +74,11 @@ module _ (registry : Entries) where
       ≡ (nat_le (depth (shown registry (tree_of x) (of (shape_of f.value)))) limit
       && nat_le (members_depth (shown_fields registry (items_trees (drop (i + 1) xs)) (map field_of (drop (i + 1) fs)))) limit)
   field_more xs fs i x f limit h g is found distinct =
-      let here = drop_more xs i x h ∙ ap (λ y. y ∷ drop (i + 1) xs) (sym is) in
-      let there = drop_more fs i f g ∙ ap (λ y. y ∷ drop (i + 1) fs) (sym found) in
+      let here = left_at xs i x h is in
+      let there = left_at fs i f g found in
       rw (here, there) (first_field (tree_of x) (items_trees (drop (i + 1) xs)) (field_of f) (map field_of (drop (i + 1) fs)) limit (ap (λ ys. are_distinct (names (map field_of ys))) (sym there) ∙ distinct))
 
 pub distinct_more : (fs : List (Named Format)) (i : ℕ) (f : Named Format) → i < length fs → f ≡ get_or fs i f → are_distinct (names (map field_of (drop i fs))) ≡ true → are_distinct (names (map field_of (drop (i + 1) fs))) ≡ true
 distinct_more fs i f g found distinct =
-    let there = drop_more fs i f g ∙ ap (λ y. y ∷ drop (i + 1) fs) (sym found) in
+    let there = left_at fs i f g found in
     (and_parts _ _ (ap (λ ys. are_distinct (names (map field_of ys))) (sym there) ∙ distinct)).1

@@ -1,4 +1,6 @@
-//! Values without parts, and the brackets and names round the parts of a value, as a serializer is sent them.
+//! Values without parts, and the brackets and names round the parts of a value, as a serializer is sent them. Each is a
+//! function of its own, also where it hands on one call: so the serializer's code stays out of the frame that the walk
+//! needs for each level, and an edit turns what is sent outside the walk's cycle, where that is cheap to refuse.
 ghost use Rattle.std.specs.Prelude.{◌≡◌, ◌<◌, ◌^◌, ◌∷◌, [], FitsSigned, IfOk, OnOk, Some, decimal, true};
 ghost use Rattle.std.specs.Fmt.{signed_decimal};
 ghost use Rattle.std.specs.Int.{w64};

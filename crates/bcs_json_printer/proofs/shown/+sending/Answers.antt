@@ -1,6 +1,6 @@
 use Rattle.std.proofs.Common.{◌≡◌, ◌∙◌, ◌+◌, ◌∷◌, [], ℕ, List, String, Global, Some, false, drop, length, sym, ap, subst, arith, rules}
 use Rattle.std.proofs.lemmas.Grind.{common_steps}
-use Rattle.std.proofs.lemmas.List.{drop_all, drop_more}
+use Rattle.std.proofs.lemmas.List.{drop_all}
 use Rattle.std.proofs.lemmas.Result.{on_ok_weaker}
 use Rattle.serde.specs.Event.{Logs, field_key, map_begins, seq_begins}
 use Rattle.serde.specs.declared.name.Case.TheVariants.{AsIs}
@@ -18,9 +18,9 @@ use Rattle.bcs_json_spec.specs.JsonContent.{json_content, of}
 use Rattle.bcs_json_spec.specs.Shown.{shown, shown_all, shown_choice, shown_each, shown_pairs}
 use Rattle.bcs_json_printer.specs.Places.{placed}
 use Rattle.bcs_json_printer.proofs.ShownViews.{at_enum, at_map, at_option, choice_named, choice-found, choice-missing, payload_fits}
-use Rattle.bcs_json_printer.proofs.PrintedRows.{all_here, bytes_listed, each_here, each_long, fields_long, pairs_here, shape_of_byte}
+use Rattle.bcs_json_printer.proofs.PrintedRows.{all_here, bytes_listed, each_here, each_long, fields_long, left_at, pairs_here, shape_of_byte}
 use Rattle.bcs_json_printer.proofs.Places.{shown_at, shown_at-is, shown_fields-places}
-use Rattle.bcs_json_printer.proofs.SentRows.{all_len, each_len, entry_fits, entry_nodes, field_fits, next_within, pairs_len, part_nodes, placed_len}
+use Rattle.bcs_json_printer.proofs.SentRows.{all_len, each_len, entry_nodes, field_fits, next_within, pairs_len, part_nodes, placed_len}
 use Rattle.bcs_json_printer.proofs.shown.+sending.Goals as goal
 use Rattle.bcs_json_printer.proofs.shown.+sending.Goals.{send_list-in-U8, send_list-in_default}
 
@@ -30,11 +30,9 @@ pub send_all-send_value-requires : goal.send_all-send_value-requires
 send_all-send_value-requires g t c κs within =
     let l = c.loop-item in
     let xs = c.args.items.now in
-    let x = c.item-item.result in
-    let left = drop (l.item-index + 1) xs in
-    let here : drop l.item-index xs ≡ x ∷ left = drop_more xs l.item-index x (omega arith) ∙ ap (λ (y : Value). y ∷ left) (sym c.item-item.is) in (
+    let x = c.item-item.result in (
       omega (arith, part_nodes xs l.item-index x (omega arith) c.item-item.is),
-      (within.0, (within.1, (all_here c.args.registry.now (drop l.item-index xs) x left (shape_of c.args.element.now) here l.invariant.fits).0)),
+      (within.0, (within.1, (all_here c.args.registry.now xs l.item-index x (shape_of c.args.element.now) (omega arith) c.item-item.is l.invariant.fits).0)),
     )
 
 pub send_all-loop-item-preserved : goal.send_all-loop-item-preserved
@@ -43,13 +41,11 @@ send_all-loop-item-preserved g t c =
     let r = c.args.registry.now in
     let s = shape_of c.args.element.now in
     let xs = c.args.items.now in
-    let x = c.item-item.result in
-    let left = drop (l.item-index + 1) xs in
-    let here : drop l.item-index xs ≡ x ∷ left = drop_more xs l.item-index x (omega arith) ∙ ap (λ (y : Value). y ∷ left) (sym c.item-item.is) in record {
+    let x = c.item-item.result in record {
       whole = λ end e. l.invariant.whole end
-          (subst (λ (ys : List Value). SendsItems (shown_all r (items_trees ys) s) (g.S.Serializer.written l.out) end) (sym here)
+          (subst (λ (ys : List Value). SendsItems (shown_all r (items_trees ys) s) (g.S.Serializer.written l.out) end) (sym (left_at xs l.item-index x (omega arith) c.item-item.is))
           (g.S.Serializer.written c.send_value.new.out, c.in_ok-send_value.ensures, e));
-      fits = (all_here r (drop l.item-index xs) x left s here l.invariant.fits).1;
+      fits = (all_here r xs l.item-index x s (omega arith) c.item-item.is l.invariant.fits).1;
     }
 
 pub send_all-returns : goal.send_all-returns
@@ -87,9 +83,7 @@ send_each-send_value-requires g t c κs within =
     let fs = c.args.formats.now in
     let x = c.index-items-i.result in
     let f = c.index-formats-i.result in
-    let here : drop l.i xs ≡ x ∷ drop (l.i + 1) xs = drop_more xs l.i x (omega arith) ∙ ap (λ (y : Value). y ∷ drop (l.i + 1) xs) (sym c.index-items-i.is) in
-    let there : drop l.i fs ≡ f ∷ drop (l.i + 1) fs = drop_more fs l.i f (each_long c.args.registry.now (drop l.i xs) x (drop (l.i + 1) xs) fs l.i here l.invariant.fits) ∙ ap (λ (y : Format). y ∷ drop (l.i + 1) fs) (sym c.index-formats-i.is) in
-    (omega (arith, part_nodes xs l.i x (omega arith) c.index-items-i.is), (within.0, (within.1, (each_here c.args.registry.now (drop l.i xs) x (drop (l.i + 1) xs) (drop l.i fs) f (drop (l.i + 1) fs) here there l.invariant.fits).0)))
+    (omega (arith, part_nodes xs l.i x (omega arith) c.index-items-i.is), (within.0, (within.1, (each_here c.args.registry.now xs l.i x fs f (omega arith) c.index-items-i.is c.index-formats-i.is l.invariant.fits).0)))
 
 pub send_each-loop-i-preserved : goal.send_each-loop-i-preserved
 send_each-loop-i-preserved g t c =
@@ -100,13 +94,13 @@ send_each-loop-i-preserved g t c =
     let x = c.index-items-i.result in
     let f = c.index-formats-i.result in
     let out = g.S.Serializer.written l.out in
-    let here : drop l.i xs ≡ x ∷ drop (l.i + 1) xs = drop_more xs l.i x (omega arith) ∙ ap (λ (y : Value). y ∷ drop (l.i + 1) xs) (sym c.index-items-i.is) in
-    let there : drop l.i fs ≡ f ∷ drop (l.i + 1) fs = drop_more fs l.i f (each_long c.args.registry.now (drop l.i xs) x (drop (l.i + 1) xs) fs l.i here l.invariant.fits) ∙ ap (λ (y : Format). y ∷ drop (l.i + 1) fs) (sym c.index-formats-i.is) in record {
+    let here = left_at xs l.i x (omega arith) c.index-items-i.is in
+    let there = left_at fs l.i f (each_long r xs l.i x fs (omega arith) c.index-items-i.is l.invariant.fits) c.index-formats-i.is in record {
       whole = λ end e. l.invariant.whole end
           (subst (λ (ys : List Value). SendsItems (shown_each r (items_trees ys) (formats_shapes (drop l.i fs))) out end) (sym here)
           (subst (λ (gs : List Format). SendsItems (shown_each r (items_trees (x ∷ drop (l.i + 1) xs)) (formats_shapes gs)) out end) (sym there)
           (g.S.Serializer.written c.send_value.new.out, c.in_ok-send_value.ensures, e)));
-      fits = (each_here r (drop l.i xs) x (drop (l.i + 1) xs) (drop l.i fs) f (drop (l.i + 1) fs) here there l.invariant.fits).1;
+      fits = (each_here r xs l.i x fs f (omega arith) c.index-items-i.is c.index-formats-i.is l.invariant.fits).1;
     }
 
 pub send_each-returns : goal.send_each-returns
@@ -132,14 +126,14 @@ send_pairs-send_value-requires g t c κs within =
     let l = c.loop-k in
     let p = c.loop-k-item.result in
     let few = entry_nodes c.args.pairs.now l.k-index p (omega arith) c.loop-k-item.is in
-    (omega (arith, few.0), (within.0, (within.1, (entry_fits c.args.registry.now c.args.pairs.now l.k-index p (shape_of c.args.key.now) (shape_of c.args.value.now) (omega arith) c.loop-k-item.is l.invariant.fits).0)))
+    (omega (arith, few.0), (within.0, (within.1, (pairs_here c.args.registry.now c.args.pairs.now l.k-index p (shape_of c.args.key.now) (shape_of c.args.value.now) (omega arith) c.loop-k-item.is l.invariant.fits).0)))
 
 pub send_pairs-send_value-requires-in-loop-k : goal.send_pairs-send_value-requires-in-loop-k
 send_pairs-send_value-requires-in-loop-k g t c κs within =
     let l = c.loop-k in
     let p = c.loop-k-item.result in
     let few = entry_nodes c.args.pairs.now l.k-index p (omega arith) c.loop-k-item.is in
-    (omega (arith, few.1), (within.0, (within.1, (entry_fits c.args.registry.now c.args.pairs.now l.k-index p (shape_of c.args.key.now) (shape_of c.args.value.now) (omega arith) c.loop-k-item.is l.invariant.fits).1)))
+    (omega (arith, few.1), (within.0, (within.1, (pairs_here c.args.registry.now c.args.pairs.now l.k-index p (shape_of c.args.key.now) (shape_of c.args.value.now) (omega arith) c.loop-k-item.is l.invariant.fits).1)))
 
 pub send_pairs-loop-k-preserved : goal.send_pairs-loop-k-preserved
 send_pairs-loop-k-preserved g t c =
@@ -149,8 +143,7 @@ send_pairs-loop-k-preserved g t c =
     let v = shape_of c.args.value.now in
     let ps = c.args.pairs.now in
     let p = c.loop-k-item.result in
-    let left = drop (l.k-index + 1) ps in
-    let here : drop l.k-index ps ≡ p ∷ left = drop_more ps l.k-index p (omega arith) ∙ ap (λ (y : Value × Value). y ∷ left) (sym c.loop-k-item.is) in
+    let here = left_at ps l.k-index p (omega arith) c.loop-k-item.is in
     let opened = g.S.Serializer.written c.open_seq-in-loop-k.new.out in
     let named = g.S.Serializer.written c.send_value.new.out in
     let valued = g.S.Serializer.written c.send_value-in-loop-k.new.out in
@@ -158,7 +151,7 @@ send_pairs-loop-k-preserved g t c =
       whole = λ end e. l.invariant.whole end
           (subst (λ (ys : List (Value × Value)). SendsItems (shown_pairs r (entries_pairs ys) k v) (g.S.Serializer.written l.out) end) (sym here)
           (closed, (opened, c.in_ok-open_seq-2.ensures, (named, c.in_ok-send_value.ensures, (valued, c.in_ok-send_value-2.ensures, c.in_ok-close_seq.ensures))), e));
-      fits = (pairs_here r (drop l.k-index ps) p left k v here l.invariant.fits).2;
+      fits = (pairs_here r ps l.k-index p k v (omega arith) c.loop-k-item.is l.invariant.fits).2;
     }
 
 pub send_pairs-returns : goal.send_pairs-returns
