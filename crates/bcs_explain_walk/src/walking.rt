@@ -23,6 +23,21 @@ use bcs_explain_steps::listener::{Counted, Listener, Meaning};
 use bcs_explain_steps::trail::{Step, Trail, below};
 use bcs_registry::{Container, Format, Named, Registry, VariantFormat};
 
+/// So many values of one format.
+#[derive(Clone, Copy)]
+struct Row<'r> {
+    element: &'r Format,
+    count: u64,
+}
+
+/// So many entries, whose keys are of one format and whose values are of another.
+#[derive(Clone, Copy)]
+struct EntryRow<'r> {
+    key: &'r Format,
+    content: &'r Format,
+    count: u32,
+}
+
 /// Goes past a value of the format, inside which so many containers may open.
 #[cycle(walking)]
 pub fn value<'r, 'a, T: Listener>(
@@ -74,49 +89,53 @@ pub fn value<'r, 'a, T: Listener>(
         }
         Format::Seq(element) => {
             let count = tell_count(cursor, Counted::List, trail, out)?;
-            row(
-                registry,
+            let row = Row {
                 element,
-                u64::from(count),
-                depth,
-                cursor,
-                trail,
-                out,
-            )
+                count: u64::from(count),
+            };
+            items(registry, row, depth, cursor, trail, out)
         }
         Format::Map(key, content) => {
             let count = tell_count(cursor, Counted::Map, trail, out)?;
-            entries(registry, key, content, count, depth, cursor, trail, out)
+            let row = EntryRow {
+                key,
+                content,
+                count,
+            };
+            entries(registry, row, depth, cursor, trail, out)
         }
         Format::Tuple(formats) => tuple(registry, formats, depth, cursor, trail, out),
         Format::TupleArray(element, size) => {
             node(cursor)?;
-            row(registry, element, *size, depth, cursor, trail, out)
+            let row = Row {
+                element,
+                count: *size,
+            };
+            items(registry, row, depth, cursor, trail, out)
         }
     }
 }
 
 /// So many values of one format, as one piece where they are `U8`.
 #[cycle(walking)]
-fn row<'r, 'a, T: Listener>(
+fn items<'r, 'a, T: Listener>(
     registry: &'r Registry,
-    element: &'r Format,
-    count: u64,
+    row: Row<'r>,
     depth: u32,
     cursor: &mut Cursor<'a>,
     trail: &Trail<'_, 'r, 'a>,
     out: &mut T,
 ) -> Result<(), Stop>
     requires room { cursor.old.place + length cursor.old.rest.now < 2 ^ 64 }
-    ensures passes { Passes (λ x. x) result (items_here skipping (skip registry.now depth (shape_of element.now)) count) cursor.old cursor.new }
+    ensures passes { Passes (λ x. x) result (items_here skipping (skip registry.now depth (shape_of row.entry.element.now)) row.entry.count) cursor.old cursor.new }
     ensures onward { Onward cursor.old cursor.new }
     ensures hears { Hears T.heard T.has_lost out.old out.new
-        (tell_row (is_octet_shape (shape_of element.now)) (skip registry.now depth (shape_of element.now)) (λ w. told registry.now depth (shape_of element.now) w) (way_of trail.now) count cursor.old.place cursor.old.nodes cursor.old.rest.now) }
+        (tell_row (is_octet_shape (shape_of row.entry.element.now)) (skip registry.now depth (shape_of row.entry.element.now)) (λ w. told registry.now depth (shape_of row.entry.element.now) w) (way_of trail.now) row.entry.count cursor.old.place cursor.old.nodes cursor.old.rest.now) }
 {
-    if is_octet(element) {
-        tell_octets(cursor, count, trail, out)
+    if is_octet(row.element) {
+        tell_octets(cursor, row.count, trail, out)
     } else {
-        elements(registry, element, count, depth, cursor, trail, out)
+        elements(registry, row, depth, cursor, trail, out)
     }
 }
 
@@ -124,23 +143,22 @@ fn row<'r, 'a, T: Listener>(
 #[cycle(walking)]
 fn elements<'r, 'a, T: Listener>(
     registry: &'r Registry,
-    element: &'r Format,
-    count: u64,
+    row: Row<'r>,
     depth: u32,
     cursor: &mut Cursor<'a>,
     trail: &Trail<'_, 'r, 'a>,
     out: &mut T,
 ) -> Result<(), Stop>
     requires room { cursor.old.place + length cursor.old.rest.now < 2 ^ 64 }
-    ensures passes { Passes (λ x. x) result (items_here skipping (skip registry.now depth (shape_of element.now)) count) cursor.old cursor.new }
+    ensures passes { Passes (λ x. x) result (items_here skipping (skip registry.now depth (shape_of row.entry.element.now)) row.entry.count) cursor.old cursor.new }
     ensures onward { Onward cursor.old cursor.new }
     ensures hears { Hears T.heard T.has_lost out.old out.new
-        (tell_items (skip registry.now depth (shape_of element.now)) (λ w. told registry.now depth (shape_of element.now) w) (way_of trail.now) 0 count cursor.old.place cursor.old.nodes cursor.old.rest.now) }
+        (tell_items (skip registry.now depth (shape_of row.entry.element.now)) (λ w. told registry.now depth (shape_of row.entry.element.now) w) (way_of trail.now) 0 row.entry.count cursor.old.place cursor.old.nodes cursor.old.rest.now) }
 {
-    for i in 0..count {
+    for i in 0..row.count {
         value(
             registry,
-            element,
+            row.element,
             depth,
             cursor,
             &below(&*trail, Step::Item(i)),
@@ -154,26 +172,24 @@ fn elements<'r, 'a, T: Listener>(
 #[cycle(walking)]
 fn entries<'r, 'a, T: Listener>(
     registry: &'r Registry,
-    key: &'r Format,
-    content: &'r Format,
-    count: u32,
+    row: EntryRow<'r>,
     depth: u32,
     cursor: &mut Cursor<'a>,
     trail: &Trail<'_, 'r, 'a>,
     out: &mut T,
 ) -> Result<(), Stop>
     requires room { cursor.old.place + length cursor.old.rest.now < 2 ^ 64 }
-    ensures passes { Passes (λ x. x) result (pairs_here skipping (skip registry.now depth (shape_of key.now)) (skip registry.now depth (shape_of content.now)) None count) cursor.old cursor.new }
+    ensures passes { Passes (λ x. x) result (pairs_here skipping (skip registry.now depth (shape_of row.entry.key.now)) (skip registry.now depth (shape_of row.entry.content.now)) None row.entry.count) cursor.old cursor.new }
     ensures onward { Onward cursor.old cursor.new }
     ensures hears { Hears T.heard T.has_lost out.old out.new
-        (tell_pairs (skip registry.now depth (shape_of key.now)) (skip registry.now depth (shape_of content.now)) (λ w. told registry.now depth (shape_of key.now) w) (λ w. told registry.now depth (shape_of content.now) w) (way_of trail.now) None 0 count cursor.old.place cursor.old.nodes cursor.old.rest.now) }
+        (tell_pairs (skip registry.now depth (shape_of row.entry.key.now)) (skip registry.now depth (shape_of row.entry.content.now)) (λ w. told registry.now depth (shape_of row.entry.key.now) w) (λ w. told registry.now depth (shape_of row.entry.content.now) w) (way_of trail.now) None 0 row.entry.count cursor.old.place cursor.old.nodes cursor.old.rest.now) }
 {
     let mut last: Option<&'a [u8]> = None;
-    for i in 0..count {
+    for i in 0..row.count {
         let (start, from) = (cursor.place, cursor.rest);
         value(
             registry,
-            key,
+            row.key,
             depth,
             cursor,
             &below(&*trail, Step::Key(i)),
@@ -183,7 +199,7 @@ fn entries<'r, 'a, T: Listener>(
         follows(last, found, start)?;
         value(
             registry,
-            content,
+            row.content,
             depth,
             cursor,
             &below(&*trail, Step::Value(found)),

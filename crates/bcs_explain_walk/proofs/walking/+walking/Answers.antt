@@ -37,12 +37,12 @@ content_as registry d p m b k j is = ap (λ (x : Container). content_past regist
 
 pub elements-loop-i-init : goal.elements-loop-i-init
 elements-loop-i-init g t c =
-    let k : c.args.count - 0 ≡ c.args.count = omega arith in
+    let k : c.args.row.count - 0 ≡ c.args.row.count = omega arith in
     record {
       room = c.requires.room;
       onward = (refl, omega arith);
       whole = rw k refl;
-      heard = λ new h. hears_as g.T.Listener.heard g.T.Listener.has_lost c.args.out.now new _ _ (ap (λ (n : ℕ). tell_items (skip c.args.registry.now c.args.depth (shape_of c.args.element.now)) (λ w. told c.args.registry.now c.args.depth (shape_of c.args.element.now) w) (way_of c.args.trail.now) 0 n c.args.cursor.now.place c.args.cursor.now.nodes c.args.cursor.now.rest.now) k) h;
+      heard = λ new h. hears_as g.T.Listener.heard g.T.Listener.has_lost c.args.out.now new _ _ (ap (λ (n : ℕ). tell_items (skip c.args.registry.now c.args.depth (shape_of c.args.row.element.now)) (λ w. told c.args.registry.now c.args.depth (shape_of c.args.row.element.now) w) (way_of c.args.trail.now) 0 n c.args.cursor.now.place c.args.cursor.now.nodes c.args.cursor.now.rest.now) k) h;
     }
 
 pub elements-value-requires : goal.elements-value-requires
@@ -52,7 +52,7 @@ elements-value-requires g t c κs within =
 pub elements-returns-in_err-value-clause-passes : goal.elements-returns-in_err-value-clause-passes
 elements-returns-in_err-value-clause-passes g t c =
     let p = err_from_is_err_and c.from_residual.result c.from_residual.ensures.1 in
-    rw (p.1, p.2) (c.loop-i.invariant.whole ∙ items_stop (skip c.args.registry.now c.args.depth (shape_of c.args.element.now)) c.args.count c.loop-i.i _ _ _ _ c.loop-i-test.true c.in_err-value.ensures.passes)
+    rw (p.1, p.2) (c.loop-i.invariant.whole ∙ items_stop (skip c.args.registry.now c.args.depth (shape_of c.args.row.element.now)) c.args.row.count c.loop-i.i _ _ _ _ c.loop-i-test.true c.in_err-value.ensures.passes)
 
 pub elements-returns-in_err-value-clause-onward : goal.elements-returns-in_err-value-clause-onward
 elements-returns-in_err-value-clause-onward g t c =
@@ -61,23 +61,23 @@ elements-returns-in_err-value-clause-onward g t c =
 pub elements-returns-in_err-value-clause-hears : goal.elements-returns-in_err-value-clause-hears
 elements-returns-in_err-value-clause-hears g t c =
     c.loop-i.invariant.heard c.value.new.out
-    (hears_as g.T.Listener.heard g.T.Listener.has_lost c.loop-i.out c.value.new.out _ _ (told_items_stop (skip c.args.registry.now c.args.depth (shape_of c.args.element.now)) (λ w. told c.args.registry.now c.args.depth (shape_of c.args.element.now) w) (way_of c.args.trail.now) c.args.count c.loop-i.i _ _ _ _ c.loop-i-test.true c.in_err-value.ensures.passes)
-    (hears_as g.T.Listener.heard g.T.Listener.has_lost c.loop-i.out c.value.new.out _ _ (ap (λ (w : Way). told c.args.registry.now c.args.depth (shape_of c.args.element.now) w c.loop-i.cursor.place c.loop-i.cursor.nodes c.loop-i.cursor.rest.now) c.below.ensures) c.in_err-value.ensures.hears))
+    (hears_as g.T.Listener.heard g.T.Listener.has_lost c.loop-i.out c.value.new.out _ _ (told_items_stop (skip c.args.registry.now c.args.depth (shape_of c.args.row.element.now)) (λ w. told c.args.registry.now c.args.depth (shape_of c.args.row.element.now) w) (way_of c.args.trail.now) c.args.row.count c.loop-i.i _ _ _ _ c.loop-i-test.true c.in_err-value.ensures.passes)
+    (hears_as g.T.Listener.heard g.T.Listener.has_lost c.loop-i.out c.value.new.out _ _ (ap (λ (w : Way). told c.args.registry.now c.args.depth (shape_of c.args.row.element.now) w c.loop-i.cursor.place c.loop-i.cursor.nodes c.loop-i.cursor.rest.now) c.below.ensures) c.in_err-value.ensures.hears))
 
 pub elements-loop-i-preserved : goal.elements-loop-i-preserved
 elements-loop-i-preserved g t c =
     record {
       room = omega (arith, c.loop-i.invariant.room, c.in_ok-value.ensures.onward.0);
       onward = (omega (arith, c.loop-i.invariant.onward.0, c.in_ok-value.ensures.onward.0), omega (arith, c.loop-i.invariant.onward.1, c.in_ok-value.ensures.onward.1));
-      whole = c.loop-i.invariant.whole ∙ items_on (skip c.args.registry.now c.args.depth (shape_of c.args.element.now)) c.args.count c.loop-i.i _ _ _ _ _ _ c.loop-i-test.true c.in_ok-value.ensures.passes;
+      whole = c.loop-i.invariant.whole ∙ items_on (skip c.args.registry.now c.args.depth (shape_of c.args.row.element.now)) c.args.row.count c.loop-i.i _ _ _ _ _ _ c.loop-i-test.true c.in_ok-value.ensures.passes;
       heard = λ new h. c.loop-i.invariant.heard new
-          (hears_as g.T.Listener.heard g.T.Listener.has_lost c.loop-i.out new _ _ (told_items_on (skip c.args.registry.now c.args.depth (shape_of c.args.element.now)) (λ w. told c.args.registry.now c.args.depth (shape_of c.args.element.now) w) (way_of c.args.trail.now) c.args.count c.loop-i.i _ _ _ _ _ _ c.loop-i-test.true c.in_ok-value.ensures.passes)
-          (hears_then g.T.Listener.heard g.T.Listener.has_lost c.loop-i.out c.value.new.out new _ _ (hears_as g.T.Listener.heard g.T.Listener.has_lost c.loop-i.out c.value.new.out _ _ (ap (λ (w : Way). told c.args.registry.now c.args.depth (shape_of c.args.element.now) w c.loop-i.cursor.place c.loop-i.cursor.nodes c.loop-i.cursor.rest.now) c.below.ensures) c.in_ok-value.ensures.hears) h));
+          (hears_as g.T.Listener.heard g.T.Listener.has_lost c.loop-i.out new _ _ (told_items_on (skip c.args.registry.now c.args.depth (shape_of c.args.row.element.now)) (λ w. told c.args.registry.now c.args.depth (shape_of c.args.row.element.now) w) (way_of c.args.trail.now) c.args.row.count c.loop-i.i _ _ _ _ _ _ c.loop-i-test.true c.in_ok-value.ensures.passes)
+          (hears_then g.T.Listener.heard g.T.Listener.has_lost c.loop-i.out c.value.new.out new _ _ (hears_as g.T.Listener.heard g.T.Listener.has_lost c.loop-i.out c.value.new.out _ _ (ap (λ (w : Way). told c.args.registry.now c.args.depth (shape_of c.args.row.element.now) w c.loop-i.cursor.place c.loop-i.cursor.nodes c.loop-i.cursor.rest.now) c.below.ensures) c.in_ok-value.ensures.hears) h));
     }
 
 pub elements-returns-clause-passes : goal.elements-returns-clause-passes
 elements-returns-clause-passes g t c =
-    c.loop-i.invariant.whole ∙ items_end (skip c.args.registry.now c.args.depth (shape_of c.args.element.now)) c.args.count c.loop-i.i _ _ _ c.loop-i-test.false
+    c.loop-i.invariant.whole ∙ items_end (skip c.args.registry.now c.args.depth (shape_of c.args.row.element.now)) c.args.row.count c.loop-i.i _ _ _ c.loop-i-test.false
 
 pub elements-returns-clause-onward : goal.elements-returns-clause-onward
 elements-returns-clause-onward g t c =
@@ -86,7 +86,7 @@ elements-returns-clause-onward g t c =
 pub elements-returns-clause-hears : goal.elements-returns-clause-hears
 elements-returns-clause-hears g t c =
     c.loop-i.invariant.heard c.loop-i.out
-    (hears_as g.T.Listener.heard g.T.Listener.has_lost c.loop-i.out c.loop-i.out [] _ (told_items_end (skip c.args.registry.now c.args.depth (shape_of c.args.element.now)) (λ w. told c.args.registry.now c.args.depth (shape_of c.args.element.now) w) (way_of c.args.trail.now) c.args.count c.loop-i.i _ _ _ c.loop-i-test.false) (hears_nothing g.T.Listener.heard g.T.Listener.has_lost c.loop-i.out))
+    (hears_as g.T.Listener.heard g.T.Listener.has_lost c.loop-i.out c.loop-i.out [] _ (told_items_end (skip c.args.registry.now c.args.depth (shape_of c.args.row.element.now)) (λ w. told c.args.registry.now c.args.depth (shape_of c.args.row.element.now) w) (way_of c.args.trail.now) c.args.row.count c.loop-i.i _ _ _ c.loop-i-test.false) (hears_nothing g.T.Listener.heard g.T.Listener.has_lost c.loop-i.out))
 
 pub tuple-returns-in_err-node-clause-passes : goal.tuple-returns-in_err-node-clause-passes
 tuple-returns-in_err-node-clause-passes g t c =
@@ -358,20 +358,20 @@ value-returns-in_ok-count-in-Seq-clause-passes g t c =
     let at = c.args.cursor.now in
     let on = c.tell_count.new.cursor in
     let n = c.in_ok-count-in-Seq.count in
-    passes_from (λ x. x) c.row.result _ (items_here skipping (skip r d (shape_of c.deref-in-Seq.result.now)) c.from.result) at on c.row.new.cursor
+    passes_from (λ x. x) c.items.result _ (items_here skipping (skip r d (shape_of c.deref-in-Seq.result.now)) c.from.result) at on c.items.new.cursor
     (seq_on r d c.args.format.now at.place at.nodes at.rest.now c.in-Seq.element n on.place on.nodes on.rest.now c.in-Seq.is c.in_ok-count-in-Seq.ensures.passes
     ∙ ap (λ f. items_here skipping (skip r d (shape_of f)) n on.place on.nodes on.rest.now) (sym c.deref-in-Seq.ensures)
     ∙ ap (λ k. items_here skipping (skip r d (shape_of c.deref-in-Seq.result.now)) k on.place on.nodes on.rest.now) (sym c.from.ensures))
-    c.row.ensures.passes
+    c.items.ensures.passes
 
 pub value-returns-in_ok-count-in-Seq-clause-hears : goal.value-returns-in_ok-count-in-Seq-clause-hears
 value-returns-in_ok-count-in-Seq-clause-hears g t c =
     let n = c.in_ok-count-in-Seq.count in
-    hears_as g.T.Listener.heard g.T.Listener.has_lost c.args.out.now c.row.new.out _ _
+    hears_as g.T.Listener.heard g.T.Listener.has_lost c.args.out.now c.items.new.out _ _
     (ap (λ (f : Format). noting (way_of c.args.trail.now) (pieces.counted pieces.elements) counted_here c.args.cursor.now.place c.args.cursor.now.nodes c.args.cursor.now.rest.now ++ tell_row (is_octet (shape_of f)) (skip c.args.registry.now c.args.depth (shape_of f)) (λ w. told c.args.registry.now c.args.depth (shape_of f) w) (way_of c.args.trail.now) n c.tell_count.new.cursor.place c.tell_count.new.cursor.nodes c.tell_count.new.cursor.rest.now) c.deref-in-Seq.ensures
     ∙ told_seq_on c.args.registry.now c.args.depth (way_of c.args.trail.now) c.args.cursor.now.place c.args.cursor.now.nodes c.args.cursor.now.rest.now c.args.format.now c.in-Seq.element n _ _ _ c.in-Seq.is c.in_ok-count-in-Seq.ensures.passes)
-    (hears_then g.T.Listener.heard g.T.Listener.has_lost c.args.out.now c.tell_count.new.out c.row.new.out _ _ c.in_ok-count-in-Seq.ensures.hears
-    (hears_as g.T.Listener.heard g.T.Listener.has_lost c.tell_count.new.out c.row.new.out _ _ (ap (λ (k : ℕ). tell_row (is_octet (shape_of c.deref-in-Seq.result.now)) (skip c.args.registry.now c.args.depth (shape_of c.deref-in-Seq.result.now)) (λ w. told c.args.registry.now c.args.depth (shape_of c.deref-in-Seq.result.now) w) (way_of c.args.trail.now) k c.tell_count.new.cursor.place c.tell_count.new.cursor.nodes c.tell_count.new.cursor.rest.now) c.from.ensures) c.row.ensures.hears))
+    (hears_then g.T.Listener.heard g.T.Listener.has_lost c.args.out.now c.tell_count.new.out c.items.new.out _ _ c.in_ok-count-in-Seq.ensures.hears
+    (hears_as g.T.Listener.heard g.T.Listener.has_lost c.tell_count.new.out c.items.new.out _ _ (ap (λ (k : ℕ). tell_row (is_octet (shape_of c.deref-in-Seq.result.now)) (skip c.args.registry.now c.args.depth (shape_of c.deref-in-Seq.result.now)) (λ w. told c.args.registry.now c.args.depth (shape_of c.deref-in-Seq.result.now) w) (way_of c.args.trail.now) k c.tell_count.new.cursor.place c.tell_count.new.cursor.nodes c.tell_count.new.cursor.rest.now) c.from.ensures) c.items.ensures.hears))
 
 pub value-returns-in_err-node-in-TupleArray-clause-passes : goal.value-returns-in_err-node-in-TupleArray-clause-passes
 value-returns-in_err-node-in-TupleArray-clause-passes g t c =
@@ -389,18 +389,18 @@ value-returns-in_ok-node-in-TupleArray-clause-passes g t c =
     let at = c.args.cursor.now in
     let on = c.node.new.cursor in
     let n = c.in-TupleArray.size in
-    passes_from (λ x. x) c.row-in-TupleArray.result _ (items_here skipping (skip r d (shape_of c.deref-in-TupleArray.result.now)) n) at on c.row-in-TupleArray.new.cursor
+    passes_from (λ x. x) c.items-in-TupleArray.result _ (items_here skipping (skip r d (shape_of c.deref-in-TupleArray.result.now)) n) at on c.items-in-TupleArray.new.cursor
     (array_on r d c.args.format.now at.place at.nodes at.rest.now c.in-TupleArray.element n on.place on.nodes on.rest.now c.in-TupleArray.is c.in_ok-node-in-TupleArray.ensures.passes
     ∙ ap (λ f. items_here skipping (skip r d (shape_of f)) n on.place on.nodes on.rest.now) (sym c.deref-in-TupleArray.ensures))
-    c.row-in-TupleArray.ensures.passes
+    c.items-in-TupleArray.ensures.passes
 
 pub value-returns-in_ok-node-in-TupleArray-clause-hears : goal.value-returns-in_ok-node-in-TupleArray-clause-hears
 value-returns-in_ok-node-in-TupleArray-clause-hears g t c =
     let n = c.in-TupleArray.size in
-    hears_as g.T.Listener.heard g.T.Listener.has_lost c.args.out.now c.row-in-TupleArray.new.out _ _
+    hears_as g.T.Listener.heard g.T.Listener.has_lost c.args.out.now c.items-in-TupleArray.new.out _ _
     (ap (λ (f : Format). tell_row (is_octet (shape_of f)) (skip c.args.registry.now c.args.depth (shape_of f)) (λ w. told c.args.registry.now c.args.depth (shape_of f) w) (way_of c.args.trail.now) n c.node.new.cursor.place c.node.new.cursor.nodes c.node.new.cursor.rest.now) c.deref-in-TupleArray.ensures
     ∙ told_array_on c.args.registry.now c.args.depth (way_of c.args.trail.now) c.args.cursor.now.place c.args.cursor.now.nodes c.args.cursor.now.rest.now c.args.format.now c.in-TupleArray.element n _ _ _ c.in-TupleArray.is c.in_ok-node-in-TupleArray.ensures.passes)
-    c.row-in-TupleArray.ensures.hears
+    c.items-in-TupleArray.ensures.hears
 
 pub content-value-requires : goal.content-value-requires
 content-value-requires g t c κs within =
@@ -548,12 +548,12 @@ content-returns-in-None-clause-hears g t c =
 
 pub entries-loop-i-init : goal.entries-loop-i-init
 entries-loop-i-init g t c =
-    let k : c.args.count - 0 ≡ c.args.count = omega arith in
+    let k : c.args.row.count - 0 ≡ c.args.row.count = omega arith in
     record {
       room = c.requires.room;
       onward = (refl, omega arith);
       whole = rw k refl;
-      heard = λ new h. hears_as g.T.Listener.heard g.T.Listener.has_lost c.args.out.now new _ _ (ap (λ (n : ℕ). tell_pairs (skip c.args.registry.now c.args.depth (shape_of c.args.key.now)) (skip c.args.registry.now c.args.depth (shape_of c.args.content.now)) (λ w. told c.args.registry.now c.args.depth (shape_of c.args.key.now) w) (λ w. told c.args.registry.now c.args.depth (shape_of c.args.content.now) w) (way_of c.args.trail.now) None 0 n c.args.cursor.now.place c.args.cursor.now.nodes c.args.cursor.now.rest.now) k) h;
+      heard = λ new h. hears_as g.T.Listener.heard g.T.Listener.has_lost c.args.out.now new _ _ (ap (λ (n : ℕ). tell_pairs (skip c.args.registry.now c.args.depth (shape_of c.args.row.key.now)) (skip c.args.registry.now c.args.depth (shape_of c.args.row.content.now)) (λ w. told c.args.registry.now c.args.depth (shape_of c.args.row.key.now) w) (λ w. told c.args.registry.now c.args.depth (shape_of c.args.row.content.now) w) (way_of c.args.trail.now) None 0 n c.args.cursor.now.place c.args.cursor.now.nodes c.args.cursor.now.rest.now) k) h;
     }
 
 pub entries-value-requires : goal.entries-value-requires
@@ -563,7 +563,7 @@ entries-value-requires g t c κs within =
 pub entries-returns-in_err-value-clause-passes : goal.entries-returns-in_err-value-clause-passes
 entries-returns-in_err-value-clause-passes g t c =
     let p = err_from_is_err_and c.from_residual.result c.from_residual.ensures.1 in
-    rw (p.1, p.2) (c.loop-i.invariant.whole ∙ pairs_stop_key (skip c.args.registry.now c.args.depth (shape_of c.args.key.now)) (skip c.args.registry.now c.args.depth (shape_of c.args.content.now)) (key_bytes c.loop-i.last) c.args.count c.loop-i.i _ _ _ _ c.loop-i-test.true (key_err (skip c.args.registry.now c.args.depth (shape_of c.args.key.now)) (key_bytes c.loop-i.last) _ _ _ _ c.in_err-value.ensures.passes))
+    rw (p.1, p.2) (c.loop-i.invariant.whole ∙ pairs_stop_key (skip c.args.registry.now c.args.depth (shape_of c.args.row.key.now)) (skip c.args.registry.now c.args.depth (shape_of c.args.row.content.now)) (key_bytes c.loop-i.last) c.args.row.count c.loop-i.i _ _ _ _ c.loop-i-test.true (key_err (skip c.args.registry.now c.args.depth (shape_of c.args.row.key.now)) (key_bytes c.loop-i.last) _ _ _ _ c.in_err-value.ensures.passes))
 
 pub entries-returns-in_err-value-clause-onward : goal.entries-returns-in_err-value-clause-onward
 entries-returns-in_err-value-clause-onward g t c =
@@ -572,12 +572,12 @@ entries-returns-in_err-value-clause-onward g t c =
 pub entries-returns-in_err-value-clause-hears : goal.entries-returns-in_err-value-clause-hears
 entries-returns-in_err-value-clause-hears g t c =
     c.loop-i.invariant.heard c.value.new.out
-    (hears_as g.T.Listener.heard g.T.Listener.has_lost c.loop-i.out c.value.new.out _ _ (told_pairs_stop_key (skip c.args.registry.now c.args.depth (shape_of c.args.key.now)) (skip c.args.registry.now c.args.depth (shape_of c.args.content.now)) (λ w. told c.args.registry.now c.args.depth (shape_of c.args.key.now) w) (λ w. told c.args.registry.now c.args.depth (shape_of c.args.content.now) w) (way_of c.args.trail.now) (key_bytes c.loop-i.last) c.args.count c.loop-i.i _ _ _ _ c.loop-i-test.true (key_err (skip c.args.registry.now c.args.depth (shape_of c.args.key.now)) (key_bytes c.loop-i.last) _ _ _ _ c.in_err-value.ensures.passes)) (hears_as g.T.Listener.heard g.T.Listener.has_lost c.loop-i.out c.value.new.out _ _ (ap (λ (w : Way). told c.args.registry.now c.args.depth (shape_of c.args.key.now) w c.loop-i.cursor.place c.loop-i.cursor.nodes c.loop-i.cursor.rest.now) c.below.ensures) c.in_err-value.ensures.hears))
+    (hears_as g.T.Listener.heard g.T.Listener.has_lost c.loop-i.out c.value.new.out _ _ (told_pairs_stop_key (skip c.args.registry.now c.args.depth (shape_of c.args.row.key.now)) (skip c.args.registry.now c.args.depth (shape_of c.args.row.content.now)) (λ w. told c.args.registry.now c.args.depth (shape_of c.args.row.key.now) w) (λ w. told c.args.registry.now c.args.depth (shape_of c.args.row.content.now) w) (way_of c.args.trail.now) (key_bytes c.loop-i.last) c.args.row.count c.loop-i.i _ _ _ _ c.loop-i-test.true (key_err (skip c.args.registry.now c.args.depth (shape_of c.args.row.key.now)) (key_bytes c.loop-i.last) _ _ _ _ c.in_err-value.ensures.passes)) (hears_as g.T.Listener.heard g.T.Listener.has_lost c.loop-i.out c.value.new.out _ _ (ap (λ (w : Way). told c.args.registry.now c.args.depth (shape_of c.args.row.key.now) w c.loop-i.cursor.place c.loop-i.cursor.nodes c.loop-i.cursor.rest.now) c.below.ensures) c.in_err-value.ensures.hears))
 
 pub entries-returns-in_err-follows-clause-passes : goal.entries-returns-in_err-follows-clause-passes
 entries-returns-in_err-follows-clause-passes g t c =
     let p = err_from_is_err_and c.from_residual-in_err-follows.result c.from_residual-in_err-follows.ensures.1 in
-    rw (p.1, p.2) (c.loop-i.invariant.whole ∙ pairs_stop_key (skip c.args.registry.now c.args.depth (shape_of c.args.key.now)) (skip c.args.registry.now c.args.depth (shape_of c.args.content.now)) (key_bytes c.loop-i.last) c.args.count c.loop-i.i _ _ _ _ c.loop-i-test.true (key_wrong (skip c.args.registry.now c.args.depth (shape_of c.args.key.now)) (key_bytes c.loop-i.last) _ _ _ tt _ _ _ c.split_at.result.0.now _ c.in_ok-value.ensures.passes c.split_at.ensures.front c.in_err-follows.ensures))
+    rw (p.1, p.2) (c.loop-i.invariant.whole ∙ pairs_stop_key (skip c.args.registry.now c.args.depth (shape_of c.args.row.key.now)) (skip c.args.registry.now c.args.depth (shape_of c.args.row.content.now)) (key_bytes c.loop-i.last) c.args.row.count c.loop-i.i _ _ _ _ c.loop-i-test.true (key_wrong (skip c.args.registry.now c.args.depth (shape_of c.args.row.key.now)) (key_bytes c.loop-i.last) _ _ _ tt _ _ _ c.split_at.result.0.now _ c.in_ok-value.ensures.passes c.split_at.ensures.front c.in_err-follows.ensures))
 
 pub entries-returns-in_err-follows-clause-onward : goal.entries-returns-in_err-follows-clause-onward
 entries-returns-in_err-follows-clause-onward g t c =
@@ -586,7 +586,7 @@ entries-returns-in_err-follows-clause-onward g t c =
 pub entries-returns-in_err-follows-clause-hears : goal.entries-returns-in_err-follows-clause-hears
 entries-returns-in_err-follows-clause-hears g t c =
     c.loop-i.invariant.heard c.value.new.out
-    (hears_as g.T.Listener.heard g.T.Listener.has_lost c.loop-i.out c.value.new.out _ _ (told_pairs_stop_key (skip c.args.registry.now c.args.depth (shape_of c.args.key.now)) (skip c.args.registry.now c.args.depth (shape_of c.args.content.now)) (λ w. told c.args.registry.now c.args.depth (shape_of c.args.key.now) w) (λ w. told c.args.registry.now c.args.depth (shape_of c.args.content.now) w) (way_of c.args.trail.now) (key_bytes c.loop-i.last) c.args.count c.loop-i.i _ _ _ _ c.loop-i-test.true (key_wrong (skip c.args.registry.now c.args.depth (shape_of c.args.key.now)) (key_bytes c.loop-i.last) _ _ _ tt _ _ _ c.split_at.result.0.now _ c.in_ok-value.ensures.passes c.split_at.ensures.front c.in_err-follows.ensures)) (hears_as g.T.Listener.heard g.T.Listener.has_lost c.loop-i.out c.value.new.out _ _ (ap (λ (w : Way). told c.args.registry.now c.args.depth (shape_of c.args.key.now) w c.loop-i.cursor.place c.loop-i.cursor.nodes c.loop-i.cursor.rest.now) c.below.ensures) c.in_ok-value.ensures.hears))
+    (hears_as g.T.Listener.heard g.T.Listener.has_lost c.loop-i.out c.value.new.out _ _ (told_pairs_stop_key (skip c.args.registry.now c.args.depth (shape_of c.args.row.key.now)) (skip c.args.registry.now c.args.depth (shape_of c.args.row.content.now)) (λ w. told c.args.registry.now c.args.depth (shape_of c.args.row.key.now) w) (λ w. told c.args.registry.now c.args.depth (shape_of c.args.row.content.now) w) (way_of c.args.trail.now) (key_bytes c.loop-i.last) c.args.row.count c.loop-i.i _ _ _ _ c.loop-i-test.true (key_wrong (skip c.args.registry.now c.args.depth (shape_of c.args.row.key.now)) (key_bytes c.loop-i.last) _ _ _ tt _ _ _ c.split_at.result.0.now _ c.in_ok-value.ensures.passes c.split_at.ensures.front c.in_err-follows.ensures)) (hears_as g.T.Listener.heard g.T.Listener.has_lost c.loop-i.out c.value.new.out _ _ (ap (λ (w : Way). told c.args.registry.now c.args.depth (shape_of c.args.row.key.now) w c.loop-i.cursor.place c.loop-i.cursor.nodes c.loop-i.cursor.rest.now) c.below.ensures) c.in_ok-value.ensures.hears))
 
 pub entries-value-requires-in-loop-i : goal.entries-value-requires-in-loop-i
 entries-value-requires-in-loop-i g t c κs within =
@@ -595,7 +595,7 @@ entries-value-requires-in-loop-i g t c κs within =
 pub entries-returns-in_err-value-2-clause-passes : goal.entries-returns-in_err-value-2-clause-passes
 entries-returns-in_err-value-2-clause-passes g t c =
     let p = err_from_is_err_and c.from_residual-in_err-value-2.result c.from_residual-in_err-value-2.ensures.1 in
-    rw (p.1, p.2) (c.loop-i.invariant.whole ∙ pairs_stop_value (skip c.args.registry.now c.args.depth (shape_of c.args.key.now)) (skip c.args.registry.now c.args.depth (shape_of c.args.content.now)) (key_bytes c.loop-i.last) c.args.count c.loop-i.i _ _ _ c.split_at.result.0.now _ _ _ _ c.loop-i-test.true (key_right (skip c.args.registry.now c.args.depth (shape_of c.args.key.now)) (key_bytes c.loop-i.last) _ _ _ tt _ _ _ c.split_at.result.0.now c.in_ok-value.ensures.passes c.split_at.ensures.front c.in_ok-follows.ensures) c.in_err-value-2.ensures.passes)
+    rw (p.1, p.2) (c.loop-i.invariant.whole ∙ pairs_stop_value (skip c.args.registry.now c.args.depth (shape_of c.args.row.key.now)) (skip c.args.registry.now c.args.depth (shape_of c.args.row.content.now)) (key_bytes c.loop-i.last) c.args.row.count c.loop-i.i _ _ _ c.split_at.result.0.now _ _ _ _ c.loop-i-test.true (key_right (skip c.args.registry.now c.args.depth (shape_of c.args.row.key.now)) (key_bytes c.loop-i.last) _ _ _ tt _ _ _ c.split_at.result.0.now c.in_ok-value.ensures.passes c.split_at.ensures.front c.in_ok-follows.ensures) c.in_err-value-2.ensures.passes)
 
 pub entries-returns-in_err-value-2-clause-onward : goal.entries-returns-in_err-value-2-clause-onward
 entries-returns-in_err-value-2-clause-onward g t c =
@@ -604,23 +604,23 @@ entries-returns-in_err-value-2-clause-onward g t c =
 pub entries-returns-in_err-value-2-clause-hears : goal.entries-returns-in_err-value-2-clause-hears
 entries-returns-in_err-value-2-clause-hears g t c =
     c.loop-i.invariant.heard c.value-in-loop-i.new.out
-    (hears_as g.T.Listener.heard g.T.Listener.has_lost c.loop-i.out c.value-in-loop-i.new.out _ _ (told_pairs_stop_value (skip c.args.registry.now c.args.depth (shape_of c.args.key.now)) (skip c.args.registry.now c.args.depth (shape_of c.args.content.now)) (λ w. told c.args.registry.now c.args.depth (shape_of c.args.key.now) w) (λ w. told c.args.registry.now c.args.depth (shape_of c.args.content.now) w) (way_of c.args.trail.now) (key_bytes c.loop-i.last) c.args.count c.loop-i.i _ _ _ c.split_at.result.0.now _ _ _ _ c.loop-i-test.true (key_right (skip c.args.registry.now c.args.depth (shape_of c.args.key.now)) (key_bytes c.loop-i.last) _ _ _ tt _ _ _ c.split_at.result.0.now c.in_ok-value.ensures.passes c.split_at.ensures.front c.in_ok-follows.ensures) c.in_err-value-2.ensures.passes)
-    (hears_then g.T.Listener.heard g.T.Listener.has_lost c.loop-i.out c.value.new.out c.value-in-loop-i.new.out _ _ (hears_as g.T.Listener.heard g.T.Listener.has_lost c.loop-i.out c.value.new.out _ _ (ap (λ (w : Way). told c.args.registry.now c.args.depth (shape_of c.args.key.now) w c.loop-i.cursor.place c.loop-i.cursor.nodes c.loop-i.cursor.rest.now) c.below.ensures) c.in_ok-value.ensures.hears) (hears_as g.T.Listener.heard g.T.Listener.has_lost c.value.new.out c.value-in-loop-i.new.out _ _ (ap (λ (w : Way). told c.args.registry.now c.args.depth (shape_of c.args.content.now) w c.value.new.cursor.place c.value.new.cursor.nodes c.value.new.cursor.rest.now) c.below-in-loop-i.ensures) c.in_err-value-2.ensures.hears)))
+    (hears_as g.T.Listener.heard g.T.Listener.has_lost c.loop-i.out c.value-in-loop-i.new.out _ _ (told_pairs_stop_value (skip c.args.registry.now c.args.depth (shape_of c.args.row.key.now)) (skip c.args.registry.now c.args.depth (shape_of c.args.row.content.now)) (λ w. told c.args.registry.now c.args.depth (shape_of c.args.row.key.now) w) (λ w. told c.args.registry.now c.args.depth (shape_of c.args.row.content.now) w) (way_of c.args.trail.now) (key_bytes c.loop-i.last) c.args.row.count c.loop-i.i _ _ _ c.split_at.result.0.now _ _ _ _ c.loop-i-test.true (key_right (skip c.args.registry.now c.args.depth (shape_of c.args.row.key.now)) (key_bytes c.loop-i.last) _ _ _ tt _ _ _ c.split_at.result.0.now c.in_ok-value.ensures.passes c.split_at.ensures.front c.in_ok-follows.ensures) c.in_err-value-2.ensures.passes)
+    (hears_then g.T.Listener.heard g.T.Listener.has_lost c.loop-i.out c.value.new.out c.value-in-loop-i.new.out _ _ (hears_as g.T.Listener.heard g.T.Listener.has_lost c.loop-i.out c.value.new.out _ _ (ap (λ (w : Way). told c.args.registry.now c.args.depth (shape_of c.args.row.key.now) w c.loop-i.cursor.place c.loop-i.cursor.nodes c.loop-i.cursor.rest.now) c.below.ensures) c.in_ok-value.ensures.hears) (hears_as g.T.Listener.heard g.T.Listener.has_lost c.value.new.out c.value-in-loop-i.new.out _ _ (ap (λ (w : Way). told c.args.registry.now c.args.depth (shape_of c.args.row.content.now) w c.value.new.cursor.place c.value.new.cursor.nodes c.value.new.cursor.rest.now) c.below-in-loop-i.ensures) c.in_err-value-2.ensures.hears)))
 
 pub entries-loop-i-preserved : goal.entries-loop-i-preserved
 entries-loop-i-preserved g t c =
     record {
       room = omega (arith, c.loop-i.invariant.room, c.in_ok-value.ensures.onward.0, c.in_ok-value-2.ensures.onward.0);
       onward = (omega (arith, c.loop-i.invariant.onward.0, c.in_ok-value.ensures.onward.0, c.in_ok-value-2.ensures.onward.0), omega (arith, c.loop-i.invariant.onward.1, c.in_ok-value.ensures.onward.1, c.in_ok-value-2.ensures.onward.1));
-      whole = c.loop-i.invariant.whole ∙ pairs_on (skip c.args.registry.now c.args.depth (shape_of c.args.key.now)) (skip c.args.registry.now c.args.depth (shape_of c.args.content.now)) (key_bytes c.loop-i.last) c.args.count c.loop-i.i _ _ _ c.split_at.result.0.now _ _ _ _ _ _ c.loop-i-test.true (key_right (skip c.args.registry.now c.args.depth (shape_of c.args.key.now)) (key_bytes c.loop-i.last) _ _ _ tt _ _ _ c.split_at.result.0.now c.in_ok-value.ensures.passes c.split_at.ensures.front c.in_ok-follows.ensures) c.in_ok-value-2.ensures.passes;
+      whole = c.loop-i.invariant.whole ∙ pairs_on (skip c.args.registry.now c.args.depth (shape_of c.args.row.key.now)) (skip c.args.registry.now c.args.depth (shape_of c.args.row.content.now)) (key_bytes c.loop-i.last) c.args.row.count c.loop-i.i _ _ _ c.split_at.result.0.now _ _ _ _ _ _ c.loop-i-test.true (key_right (skip c.args.registry.now c.args.depth (shape_of c.args.row.key.now)) (key_bytes c.loop-i.last) _ _ _ tt _ _ _ c.split_at.result.0.now c.in_ok-value.ensures.passes c.split_at.ensures.front c.in_ok-follows.ensures) c.in_ok-value-2.ensures.passes;
       heard = λ new h. c.loop-i.invariant.heard new
-          (hears_as g.T.Listener.heard g.T.Listener.has_lost c.loop-i.out new _ _ (told_pairs_on (skip c.args.registry.now c.args.depth (shape_of c.args.key.now)) (skip c.args.registry.now c.args.depth (shape_of c.args.content.now)) (λ w. told c.args.registry.now c.args.depth (shape_of c.args.key.now) w) (λ w. told c.args.registry.now c.args.depth (shape_of c.args.content.now) w) (way_of c.args.trail.now) (key_bytes c.loop-i.last) c.args.count c.loop-i.i _ _ _ c.split_at.result.0.now _ _ _ _ _ _ c.loop-i-test.true (key_right (skip c.args.registry.now c.args.depth (shape_of c.args.key.now)) (key_bytes c.loop-i.last) _ _ _ tt _ _ _ c.split_at.result.0.now c.in_ok-value.ensures.passes c.split_at.ensures.front c.in_ok-follows.ensures) c.in_ok-value-2.ensures.passes)
-          (hears_then g.T.Listener.heard g.T.Listener.has_lost c.loop-i.out c.value.new.out new _ _ (hears_as g.T.Listener.heard g.T.Listener.has_lost c.loop-i.out c.value.new.out _ _ (ap (λ (w : Way). told c.args.registry.now c.args.depth (shape_of c.args.key.now) w c.loop-i.cursor.place c.loop-i.cursor.nodes c.loop-i.cursor.rest.now) c.below.ensures) c.in_ok-value.ensures.hears) (hears_then g.T.Listener.heard g.T.Listener.has_lost c.value.new.out c.value-in-loop-i.new.out new _ _ (hears_as g.T.Listener.heard g.T.Listener.has_lost c.value.new.out c.value-in-loop-i.new.out _ _ (ap (λ (w : Way). told c.args.registry.now c.args.depth (shape_of c.args.content.now) w c.value.new.cursor.place c.value.new.cursor.nodes c.value.new.cursor.rest.now) c.below-in-loop-i.ensures) c.in_ok-value-2.ensures.hears) h)));
+          (hears_as g.T.Listener.heard g.T.Listener.has_lost c.loop-i.out new _ _ (told_pairs_on (skip c.args.registry.now c.args.depth (shape_of c.args.row.key.now)) (skip c.args.registry.now c.args.depth (shape_of c.args.row.content.now)) (λ w. told c.args.registry.now c.args.depth (shape_of c.args.row.key.now) w) (λ w. told c.args.registry.now c.args.depth (shape_of c.args.row.content.now) w) (way_of c.args.trail.now) (key_bytes c.loop-i.last) c.args.row.count c.loop-i.i _ _ _ c.split_at.result.0.now _ _ _ _ _ _ c.loop-i-test.true (key_right (skip c.args.registry.now c.args.depth (shape_of c.args.row.key.now)) (key_bytes c.loop-i.last) _ _ _ tt _ _ _ c.split_at.result.0.now c.in_ok-value.ensures.passes c.split_at.ensures.front c.in_ok-follows.ensures) c.in_ok-value-2.ensures.passes)
+          (hears_then g.T.Listener.heard g.T.Listener.has_lost c.loop-i.out c.value.new.out new _ _ (hears_as g.T.Listener.heard g.T.Listener.has_lost c.loop-i.out c.value.new.out _ _ (ap (λ (w : Way). told c.args.registry.now c.args.depth (shape_of c.args.row.key.now) w c.loop-i.cursor.place c.loop-i.cursor.nodes c.loop-i.cursor.rest.now) c.below.ensures) c.in_ok-value.ensures.hears) (hears_then g.T.Listener.heard g.T.Listener.has_lost c.value.new.out c.value-in-loop-i.new.out new _ _ (hears_as g.T.Listener.heard g.T.Listener.has_lost c.value.new.out c.value-in-loop-i.new.out _ _ (ap (λ (w : Way). told c.args.registry.now c.args.depth (shape_of c.args.row.content.now) w c.value.new.cursor.place c.value.new.cursor.nodes c.value.new.cursor.rest.now) c.below-in-loop-i.ensures) c.in_ok-value-2.ensures.hears) h)));
     }
 
 pub entries-returns-clause-passes : goal.entries-returns-clause-passes
 entries-returns-clause-passes g t c =
-    c.loop-i.invariant.whole ∙ pairs_end (skip c.args.registry.now c.args.depth (shape_of c.args.key.now)) (skip c.args.registry.now c.args.depth (shape_of c.args.content.now)) (key_bytes c.loop-i.last) c.args.count c.loop-i.i _ _ _ c.loop-i-test.false
+    c.loop-i.invariant.whole ∙ pairs_end (skip c.args.registry.now c.args.depth (shape_of c.args.row.key.now)) (skip c.args.registry.now c.args.depth (shape_of c.args.row.content.now)) (key_bytes c.loop-i.last) c.args.row.count c.loop-i.i _ _ _ c.loop-i-test.false
 
 pub entries-returns-clause-onward : goal.entries-returns-clause-onward
 entries-returns-clause-onward g t c =
@@ -629,7 +629,7 @@ entries-returns-clause-onward g t c =
 pub entries-returns-clause-hears : goal.entries-returns-clause-hears
 entries-returns-clause-hears g t c =
     c.loop-i.invariant.heard c.loop-i.out
-    (hears_as g.T.Listener.heard g.T.Listener.has_lost c.loop-i.out c.loop-i.out [] _ (told_pairs_end (skip c.args.registry.now c.args.depth (shape_of c.args.key.now)) (skip c.args.registry.now c.args.depth (shape_of c.args.content.now)) (λ w. told c.args.registry.now c.args.depth (shape_of c.args.key.now) w) (λ w. told c.args.registry.now c.args.depth (shape_of c.args.content.now) w) (way_of c.args.trail.now) (key_bytes c.loop-i.last) c.args.count c.loop-i.i _ _ _ c.loop-i-test.false) (hears_nothing g.T.Listener.heard g.T.Listener.has_lost c.loop-i.out))
+    (hears_as g.T.Listener.heard g.T.Listener.has_lost c.loop-i.out c.loop-i.out [] _ (told_pairs_end (skip c.args.registry.now c.args.depth (shape_of c.args.row.key.now)) (skip c.args.registry.now c.args.depth (shape_of c.args.row.content.now)) (λ w. told c.args.registry.now c.args.depth (shape_of c.args.row.key.now) w) (λ w. told c.args.registry.now c.args.depth (shape_of c.args.row.content.now) w) (way_of c.args.trail.now) (key_bytes c.loop-i.last) c.args.row.count c.loop-i.i _ _ _ c.loop-i-test.false) (hears_nothing g.T.Listener.heard g.T.Listener.has_lost c.loop-i.out))
 
 pub payload-value-requires : goal.payload-value-requires
 payload-value-requires g t c κs within =
@@ -715,22 +715,22 @@ content-returns-in-Struct-clause-hears g t c =
     hears_as g.T.Listener.heard g.T.Listener.has_lost c.args.out.now c.structure.new.out _ _
     (ap (λ fs. tell_held c.args.registry.now c.args.depth (tell_named c.args.registry.now c.args.depth) (hold.fields (map field_of fs)) (way_of c.args.trail.now) c.args.cursor.now.place c.args.cursor.now.nodes c.args.cursor.now.rest.now) c.deref-in-Struct.ensures.value ∙ ap (λ (h : Held). tell_held c.args.registry.now c.args.depth (tell_named c.args.registry.now c.args.depth) h (way_of c.args.trail.now) c.args.cursor.now.place c.args.cursor.now.nodes c.args.cursor.now.rest.now) (sym (ap (λ (k : Container). held (container_of k)) c.in-Struct.is))) c.structure.ensures.hears
 
-pub row-returns-then-is_octet-clause-passes : goal.row-returns-then-is_octet-clause-passes
-row-returns-then-is_octet-clause-passes g t c =
+pub items-returns-then-is_octet-clause-passes : goal.items-returns-then-is_octet-clause-passes
+items-returns-then-is_octet-clause-passes g t c =
     let is = sym c.is_octet.ensures ∙ c.if-is_octet.true in
-    passes_here c.tell_octets.result _ (items_here skipping (whole_here 1) c.args.count) c.args.cursor.now c.tell_octets.new.cursor
-    (λ p m b. sym (octets_past c.args.registry.now c.args.depth (shape_of c.args.element.now) is c.args.count p m b)) c.tell_octets.ensures.passes
+    passes_here c.tell_octets.result _ (items_here skipping (whole_here 1) c.args.row.count) c.args.cursor.now c.tell_octets.new.cursor
+    (λ p m b. sym (octets_past c.args.registry.now c.args.depth (shape_of c.args.row.element.now) is c.args.row.count p m b)) c.tell_octets.ensures.passes
 
-pub row-returns-then-is_octet-clause-hears : goal.row-returns-then-is_octet-clause-hears
-row-returns-then-is_octet-clause-hears g t c =
+pub items-returns-then-is_octet-clause-hears : goal.items-returns-then-is_octet-clause-hears
+items-returns-then-is_octet-clause-hears g t c =
     let is = sym c.is_octet.ensures ∙ c.if-is_octet.true in
     hears_as g.T.Listener.heard g.T.Listener.has_lost c.args.out.now c.tell_octets.new.out _ _
-    (told_octets c.args.registry.now c.args.depth (shape_of c.args.element.now) (λ w. told c.args.registry.now c.args.depth (shape_of c.args.element.now) w) (way_of c.args.trail.now) c.args.count c.args.cursor.now.place c.args.cursor.now.nodes c.args.cursor.now.rest.now is)
+    (told_octets c.args.registry.now c.args.depth (shape_of c.args.row.element.now) (λ w. told c.args.registry.now c.args.depth (shape_of c.args.row.element.now) w) (way_of c.args.trail.now) c.args.row.count c.args.cursor.now.place c.args.cursor.now.nodes c.args.cursor.now.rest.now is)
     c.tell_octets.ensures.hears
 
-pub row-returns-else-is_octet-clause-hears : goal.row-returns-else-is_octet-clause-hears
-row-returns-else-is_octet-clause-hears g t c =
+pub items-returns-else-is_octet-clause-hears : goal.items-returns-else-is_octet-clause-hears
+items-returns-else-is_octet-clause-hears g t c =
     let is = sym c.is_octet.ensures ∙ c.if-is_octet.false in
     hears_as g.T.Listener.heard g.T.Listener.has_lost c.args.out.now c.elements.new.out _ _
-    (told_elements c.args.registry.now c.args.depth (shape_of c.args.element.now) (λ w. told c.args.registry.now c.args.depth (shape_of c.args.element.now) w) (way_of c.args.trail.now) c.args.count c.args.cursor.now.place c.args.cursor.now.nodes c.args.cursor.now.rest.now is)
+    (told_elements c.args.registry.now c.args.depth (shape_of c.args.row.element.now) (λ w. told c.args.registry.now c.args.depth (shape_of c.args.row.element.now) w) (way_of c.args.trail.now) c.args.row.count c.args.cursor.now.place c.args.cursor.now.nodes c.args.cursor.now.rest.now is)
     c.elements.ensures.hears

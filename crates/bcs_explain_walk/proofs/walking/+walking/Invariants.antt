@@ -17,14 +17,14 @@ work d n = 10 * (35 * d + n)
 abbrev pub decreases-value : goal.decreases-value
 decreases-value g l = work l.depth (levels (shape_of l.format.now)) + 5
 
-abbrev pub decreases-row : goal.decreases-row
-decreases-row g l = work l.depth (levels (shape_of l.element.now)) + 7
+abbrev pub decreases-items : goal.decreases-items
+decreases-items g l = work l.depth (levels (shape_of l.row.element.now)) + 7
 
 abbrev pub decreases-elements : goal.decreases-elements
-decreases-elements g l = work l.depth (levels (shape_of l.element.now)) + 6
+decreases-elements g l = work l.depth (levels (shape_of l.row.element.now)) + 6
 
 abbrev pub decreases-entries : goal.decreases-entries
-decreases-entries g l = work l.depth (max (levels (shape_of l.key.now)) (levels (shape_of l.content.now))) + 7
+decreases-entries g l = work l.depth (max (levels (shape_of l.row.key.now)) (levels (shape_of l.row.content.now))) + 7
 
 abbrev pub decreases-tuple : goal.decreases-tuple
 decreases-tuple g l = work l.depth (shapes_levels (formats_shapes l.formats.now)) + 6
@@ -46,19 +46,19 @@ abbrev pub invariant-elements-loop-i : goal.invariant-elements-loop-i
 invariant-elements-loop-i g l = record {
   room : l.cursor.place + length l.cursor.rest.now < 2 ^ 64;
   onward : Onward l.initial.cursor l.cursor;
-  whole : items_here skipping (skip l.registry l.depth (shape_of l.element)) l.count l.initial.cursor.place l.initial.cursor.nodes l.initial.cursor.rest.now
-      ≡ items_here skipping (skip l.registry l.depth (shape_of l.element)) (l.count - l.i) l.cursor.place l.cursor.nodes l.cursor.rest.now;
-  heard : (new : g.row.T.Denot) → Hears g.T.Listener.heard g.T.Listener.has_lost l.out new (tell_items (skip l.registry l.depth (shape_of l.element)) (λ w. told l.registry l.depth (shape_of l.element) w) (way_of l.trail) l.i (l.count - l.i) l.cursor.place l.cursor.nodes l.cursor.rest.now) → Hears g.T.Listener.heard g.T.Listener.has_lost l.initial.out new (tell_items (skip l.registry l.depth (shape_of l.element)) (λ w. told l.registry l.depth (shape_of l.element) w) (way_of l.trail) 0 l.count l.initial.cursor.place l.initial.cursor.nodes l.initial.cursor.rest.now);
+  whole : items_here skipping (skip l.registry l.depth (shape_of l.row.element.now)) l.row.count l.initial.cursor.place l.initial.cursor.nodes l.initial.cursor.rest.now
+      ≡ items_here skipping (skip l.registry l.depth (shape_of l.row.element.now)) (l.row.count - l.i) l.cursor.place l.cursor.nodes l.cursor.rest.now;
+  heard : (new : g.row.T.Denot) → Hears g.T.Listener.heard g.T.Listener.has_lost l.out new (tell_items (skip l.registry l.depth (shape_of l.row.element.now)) (λ w. told l.registry l.depth (shape_of l.row.element.now) w) (way_of l.trail) l.i (l.row.count - l.i) l.cursor.place l.cursor.nodes l.cursor.rest.now) → Hears g.T.Listener.heard g.T.Listener.has_lost l.initial.out new (tell_items (skip l.registry l.depth (shape_of l.row.element.now)) (λ w. told l.registry l.depth (shape_of l.row.element.now) w) (way_of l.trail) 0 l.row.count l.initial.cursor.place l.initial.cursor.nodes l.initial.cursor.rest.now);
 }
 
 abbrev pub invariant-entries-loop-i : goal.invariant-entries-loop-i
 invariant-entries-loop-i g l = record {
   room : l.cursor.place + length l.cursor.rest.now < 2 ^ 64;
   onward : Onward l.initial.cursor l.cursor;
-  whole : pairs_here skipping (skip l.registry l.depth (shape_of l.key)) (skip l.registry l.depth (shape_of l.content)) None l.count l.initial.cursor.place l.initial.cursor.nodes l.initial.cursor.rest.now
-      ≡ pairs_here skipping (skip l.registry l.depth (shape_of l.key)) (skip l.registry l.depth (shape_of l.content)) (key_bytes l.last) (l.count - l.i) l.cursor.place l.cursor.nodes l.cursor.rest.now;
-  heard : (new : g.row.T.Denot) → Hears g.T.Listener.heard g.T.Listener.has_lost l.out new (tell_pairs (skip l.registry l.depth (shape_of l.key)) (skip l.registry l.depth (shape_of l.content)) (λ w. told l.registry l.depth (shape_of l.key) w) (λ w. told l.registry l.depth (shape_of l.content) w) (way_of l.trail) (key_bytes l.last) l.i (l.count - l.i) l.cursor.place l.cursor.nodes l.cursor.rest.now)
-      → Hears g.T.Listener.heard g.T.Listener.has_lost l.initial.out new (tell_pairs (skip l.registry l.depth (shape_of l.key)) (skip l.registry l.depth (shape_of l.content)) (λ w. told l.registry l.depth (shape_of l.key) w) (λ w. told l.registry l.depth (shape_of l.content) w) (way_of l.trail) None 0 l.count l.initial.cursor.place l.initial.cursor.nodes l.initial.cursor.rest.now);
+  whole : pairs_here skipping (skip l.registry l.depth (shape_of l.row.key.now)) (skip l.registry l.depth (shape_of l.row.content.now)) None l.row.count l.initial.cursor.place l.initial.cursor.nodes l.initial.cursor.rest.now
+      ≡ pairs_here skipping (skip l.registry l.depth (shape_of l.row.key.now)) (skip l.registry l.depth (shape_of l.row.content.now)) (key_bytes l.last) (l.row.count - l.i) l.cursor.place l.cursor.nodes l.cursor.rest.now;
+  heard : (new : g.row.T.Denot) → Hears g.T.Listener.heard g.T.Listener.has_lost l.out new (tell_pairs (skip l.registry l.depth (shape_of l.row.key.now)) (skip l.registry l.depth (shape_of l.row.content.now)) (λ w. told l.registry l.depth (shape_of l.row.key.now) w) (λ w. told l.registry l.depth (shape_of l.row.content.now) w) (way_of l.trail) (key_bytes l.last) l.i (l.row.count - l.i) l.cursor.place l.cursor.nodes l.cursor.rest.now)
+      → Hears g.T.Listener.heard g.T.Listener.has_lost l.initial.out new (tell_pairs (skip l.registry l.depth (shape_of l.row.key.now)) (skip l.registry l.depth (shape_of l.row.content.now)) (λ w. told l.registry l.depth (shape_of l.row.key.now) w) (λ w. told l.registry l.depth (shape_of l.row.content.now) w) (way_of l.trail) None 0 l.row.count l.initial.cursor.place l.initial.cursor.nodes l.initial.cursor.rest.now);
 }
 
 abbrev pub invariant-tuple-loop-i : goal.invariant-tuple-loop-i
