@@ -1,0 +1,50 @@
+//! The pieces of the value at the front of a slice.
+ghost use Rattle.std.specs.Prelude.{◌≡◌, ℕ, [], Ok, Err, IfOk, IfErr};
+ghost use Rattle.bcs_registry_formats.specs.View.{shape_of};
+ghost use Rattle.bcs_registry_formats.specs.WellFormed.{Admits};
+ghost use Rattle.bcs_value_tree.specs.Tree.{Tree};
+ghost use Rattle.bcs_decode_spec.specs.declared.reason.Reason.{Reason};
+ghost use Rattle.bcs_decode_spec.specs.Accepting.{Accepts};
+ghost use Rattle.bcs_decode_spec.specs.Stopping.{Stops};
+ghost use Rattle.bcs_explain_spec.specs.Held.{of};
+ghost use Rattle.bcs_explain_spec.specs.Pieces.{pieces};
+ghost use Rattle.bcs_explain_spec.specs.Stopped.{stop_pieces};
+ghost use Rattle.bcs_explain_steps.specs.Hearing.{Hears};
+
+use bcs_decode_slice_steps::cursor::Cursor;
+use bcs_decode_spec::Stop;
+use bcs_explain_steps::listener::Listener;
+use bcs_explain_steps::trail::top;
+use bcs_explain_walk::walking::value;
+use bcs_registry::{Format, Registry};
+use bcs_value::Limits;
+
+/// Tells of each piece of the value of the format at the front of the input, in order, and answers how many bytes it has.
+///
+/// The `Stop` is that of `scan`. Then the pieces that stand before it were told.
+pub fn explain<T: Listener>(
+    registry: &Registry,
+    format: &Format,
+    limits: &Limits,
+    bytes: &[u8],
+    out: &mut T,
+) -> Result<usize, Stop>
+    requires admitted { Admits registry.now (shape_of format.now) }
+    ensures found { IfOk result (λ n. (c : Tree) × Accepts registry.now limits.now (shape_of format.now) bytes.now n c) }
+    ensures only { (n : ℕ) (c : Tree) → Accepts registry.now limits.now (shape_of format.now) bytes.now n c → result ≡ Ok n }
+    ensures stops { IfErr result (λ stop. Stops registry.now limits.now (shape_of format.now) bytes.now stop.reason stop.place) }
+    ensures stopped { (e : Reason) (o : ℕ) → Stops registry.now limits.now (shape_of format.now) bytes.now e o → result ≡ Err (record { reason = e; place = o }) }
+    ensures told { (n : ℕ) (c : Tree) → Accepts registry.now limits.now (shape_of format.now) bytes.now n c
+        → Hears T.heard T.has_lost out.old out.new (pieces registry.now [] 0 c (of (shape_of format.now))) }
+    ensures told_before { (e : Reason) (o : ℕ) (h : Stops registry.now limits.now (shape_of format.now) bytes.now e o)
+        → Hears T.heard T.has_lost out.old out.new (stop_pieces registry.now limits.now (shape_of format.now) bytes.now e o h) }
+{
+    let mut cursor = Cursor {
+        rest: bytes,
+        place: 0,
+        nodes: limits.nodes(),
+    };
+    let trail = top();
+    value(registry, format, limits.depth(), &mut cursor, &trail, out)?;
+    Ok(cursor.place as usize)
+}

@@ -1,0 +1,10 @@
+//! The pieces of a value's bytes, told one by one, and where the bytes stop.
+#![tactic(auto)]
+
+mod explaining;
+
+pub use bcs_decode_spec::{Reason, Stop};
+pub use bcs_explain_spec::laws;
+pub use bcs_explain_steps::listener::{Counted, Listener, Meaning};
+pub use bcs_explain_steps::trail::{Step, Trail};
+pub use explaining::explain;

@@ -1,0 +1,31 @@
+-- What a listener was told.
+use Rattle.std.specs.Prelude.{◌≡◌, Bool, false, List, ◌++◌}
+use Rattle.std.specs.Int.{cast_signed}
+use Rattle.bcs_num.specs.Le.{width_of}
+use Rattle.bcs_explain_spec.specs.Piece as pieces
+use Rattle.bcs_explain_spec.specs.Piece.{Piece}
+use Rattle.bcs_explain_steps.specs.declared.listener.Counted.{Counted}
+use Rattle.bcs_explain_steps.specs.declared.listener.Counted.TheVariants as counted
+use Rattle.bcs_explain_steps.specs.declared.listener.Meaning.{Meaning}
+use Rattle.bcs_explain_steps.specs.declared.listener.Meaning.TheVariants as declared
+
+abbrev pub counted_of : Counted → pieces.Counted
+counted_of counted.Text = pieces.text_bytes
+counted_of counted.Bytes = pieces.raw_bytes
+counted_of counted.List = pieces.elements
+counted_of counted.Map = pieces.entries
+
+abbrev pub meaning_of : Meaning → pieces.Meaning
+meaning_of (declared.Truth b) = pieces.truth b
+meaning_of (declared.Unsigned n) = pieces.unsigned n
+meaning_of (declared.Signed w n) = pieces.signed (cast_signed (width_of w) n)
+meaning_of (declared.Length c n) = pieces.counted (counted_of c) n
+meaning_of (declared.Text s) = pieces.text s.now
+meaning_of (declared.Bytes s) = pieces.bytes s.now
+meaning_of declared.Octets = pieces.octets
+meaning_of (declared.Option b) = pieces.option b
+meaning_of (declared.Variant n name) = pieces.chosen n name.now
+
+-- it was told of these pieces, unless it ran out of memory, after which it says nothing
+abbrev pub Hears : {K : Type 0} → (K → List Piece) → (K → Bool) → K → K → List Piece → Type 0
+Hears heard has_lost old new ps = has_lost new ≡ false → (has_lost old ≡ false) × (heard new ≡ heard old ++ ps)

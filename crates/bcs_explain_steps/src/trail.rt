@@ -1,0 +1,43 @@
+//! The way down to a piece. It stands on the stack, so it takes no memory.
+ghost use Rattle.std.specs.Prelude.{◌≡◌, ◌++◌, ◌∷◌, []};
+ghost use Rattle.bcs_explain_steps.specs.Trail.{way_of, label_of};
+
+/// A step down.
+#[derive(Clone, Copy)]
+pub enum Step<'r, 'a> {
+    /// To the element of this number.
+    Item(u64),
+    /// To the field of this number and name.
+    Field(u64, &'r str),
+    /// To what an option holds.
+    Inner,
+    /// To what the container of this name holds.
+    Container(&'r str),
+    /// To what the variant of this number and name holds.
+    Variant(u32, &'r str),
+    /// To the key of the entry of this number.
+    Key(u32),
+    /// To the value of the entry whose key has these bytes.
+    Value(&'a [u8]),
+}
+
+/// Steps down from the whole value.
+#[derive(Clone, Copy)]
+pub enum Trail<'t, 'r, 'a> {
+    Top,
+    Below(&'t Trail<'t, 'r, 'a>, Step<'r, 'a>),
+}
+
+/// A step further down.
+pub fn below<'t, 'r, 'a>(trail: &'t Trail<'t, 'r, 'a>, step: Step<'r, 'a>) -> Trail<'t, 'r, 'a>
+    ensures { way_of result ≡ way_of trail.now ++ label_of step.entry ∷ [] }
+{
+    Trail::Below(trail, step)
+}
+
+/// No step down.
+pub fn top<'t, 'r, 'a>() -> Trail<'t, 'r, 'a>
+    ensures { way_of result ≡ [] }
+{
+    Trail::Top
+}

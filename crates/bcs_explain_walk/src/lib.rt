@@ -1,0 +1,4 @@
+//! Going past values in a slice, front to back, and telling a listener of each piece.
+#![tactic(auto)]
+
+pub mod walking;
