@@ -6,7 +6,7 @@ ghost use Rattle.bcs_decode_source_steps.specs.Sees.{takes_no_memory};
 ghost use Rattle.bcs_decode.specs.Whole.{AreKnown, DecodesAll, DecodesFrom, DecodesFront};
 
 use bcs_decode_source_steps::at::At;
-use bcs_decode_source_walk::reader::Reader;
+use bcs_decode_source_steps::reader::Reader;
 use bcs_decode_source_walk::values::value;
 use bcs_decode_spec::{DecodeFault, Reason, Stop};
 use bcs_io::ByteSource;

@@ -1,18 +1,12 @@
 -- Steps over a source, one after another.
-use Rattle.std.proofs.Common.{◌≡◌, ℕ, ◌+◌, ◌-◌, ◌<◌, ◌≤◌, Bool, true, false, List, ◌++◌, length, take, drop, replicate, length-take, take-take, take_all, length-drop, take-add, Option, Some, None, Result, Ok, Err, IsErr, IfOk, refl, sym, ap, subst, ◌∙◌, arith, append_assoc}
-use Rattle.std.specs.Io.KnownBytes.{Consumes, IsAtEnd}
-use Rattle.std.proofs.lemmas.Bool.{le-ltb, lt-ltb}
+use Rattle.std.proofs.Common.{◌≡◌, ℕ, ◌+◌, ◌-◌, ◌≤◌, Bool, true, false, List, ◌++◌, length, take, drop, replicate, length-take, take-take, take_all, length-drop, take-add, Option, Some, None, Result, Ok, Err, refl, sym, ap, subst, ◌∙◌, arith, append_assoc}
+use Rattle.std.specs.Io.KnownBytes.{Consumes}
 use Rattle.std.proofs.lemmas.List.{length-replicate, take_at, drop_at, drop-drop, length-append, append-nil}
 use Rattle.bcs_decode_spec.specs.declared.reason.Reason.{Reason}
-use Rattle.bcs_decode_spec.specs.declared.reason.Reason.TheVariants.{EndOfInput}
 use Rattle.bcs_decode_spec.specs.declared.decode_fault.DecodeFault.{DecodeFault}
 use Rattle.bcs_decode_spec.specs.declared.decode_fault.DecodeFault.TheVariants.{Stop, Read as ReadFault, OutOfMemory}
 use Rattle.bcs_decode_source_steps.specs.declared.at.At.{At}
-use Rattle.bcs_value_tree.specs.Tree as tree
-use Rattle.bcs_value_tree.specs.Tree.{Trees}
-use Rattle.bcs_value_tree.specs.View.{tree_of}
-use Rattle.bcs_value_tree.specs.declared.value.Value.{Value}
-use Rattle.bcs_decode_spec.specs.Reading.{Parser, bytes_here, chain, give}
+use Rattle.bcs_decode_spec.specs.Reading.{Parser}
 use Rattle.bcs_decode_source_steps.specs.Kept.{Judges}
 use Rattle.bcs_decode_source_steps.specs.Sees.{is_told, rest_of, Refuses, Sees, Left, Records, Along, AlongMap, Goes, GaveFront, Halts}
 
@@ -44,6 +38,17 @@ Along-none c p = record {
   front = take_all (length p.kept.items) p.kept.items (omega arith);
   unrecorded = λ no. refl;
   recorded = λ yes b base from l s. s;
+}
+
+-- nodes begin, and nothing is read
+pub Along-nodes : (c : Option (List ℕ)) (p : At) (m : ℕ) → Along c p c (record p { nodes = m })
+Along-nodes c p m = record {
+  gone = λ b l. l;
+  later = omega arith;
+  same = refl;
+  front = take_all (length p.kept.items) p.kept.items (omega arith);
+  unrecorded = λ no. refl;
+  recorded = λ yes b base from l s. record { begun = s.begun; is = s.is };
 }
 
 pub Halts-after : (x : DecodeFault) (c d e : Option (List ℕ)) (p q r : At) → ((b : List ℕ) → Left b p.place c → Left b q.place d) → p.place ≤ q.place → Halts x d q e r → Halts x c p e r
@@ -143,40 +148,7 @@ Refuses-judged (Stop s) c p f h at whole k = λ told. whole s.reason s.place tol
 Refuses-judged ReadFault c p f h at whole k = absurd k
 Refuses-judged OutOfMemory c p f h at whole k = absurd k
 
--- what only refuses may be seen as it likes
-pub blame : {X A : Type 0} (view other : X → A) (r : Result X DecodeFault) (c d : Option (List ℕ)) (p q : At) (f : Parser A) → IsErr r → Sees view r c p f q d → Sees other r c p f q d
-blame view other (Ok x) c d p q f refused k = absurd cc
-blame view other (Err e) c d p q f refused k = k
-
--- a row was counted and then read, and its items are put into the slot
-pub Sees-row : {A : Type 0} (f : Parser A) (h : A → Parser Trees) (x : A) (r : Result (Unit {0}) DecodeFault) (c d e : Option (List ℕ)) (p q s : At) (ts : Trees) (slot : Value)
-    → (is_told c ≡ true → (f p.place p.nodes (rest_of c) ≡ Ok (x, q.place, q.nodes, rest_of d)) × (is_told d ≡ true))
-    → Sees (λ _. ts) r d q (h x) s e → IfOk r (λ _. tree_of slot ≡ tree.items ts)
-    → Sees (λ _. tree_of slot) r c p (chain f (λ n. chain (h n) (λ ts. give (tree.items ts)))) s e
-unfolding chain give
-Sees-row f h x (Ok y) c d e p q s ts slot first k put = λ told. (let a = first told in let b = k a.1 in (rw (a.0, b.0, put) refl, b.1))
-Sees-row f h x (Err (Stop y)) c d e p q s ts slot first k put = λ told. (let a = first told in let b = k a.1 in rw (a.0, b) refl)
-Sees-row f h x (Err ReadFault) c d e p q s ts slot first k put = tt
-Sees-row f h x (Err OutOfMemory) c d e p q s ts slot first k put = tt
-
 -- ---- bytes that were taken
-
-pub bytes_all : (c d : Option (List ℕ)) (p m n : ℕ) (x : List ℕ) → Consumes c d x → length x ≡ n → is_told c ≡ true → (bytes_here n p m (rest_of c) ≡ Ok (x, p + n, m, rest_of d)) × (is_told d ≡ true)
-unfolding bytes_here
-bytes_all None d p m n x h l e = absurd cc
-bytes_all (Some b) None p m n x h l e = absurd h
-bytes_all (Some b) (Some t) p m n x h l e =
-    let long = le-ltb (length b) n (omega (arith, ap length h, length-append x t)) in
-    (rw (long, h, take_at x t n l, drop_at x t n l) refl, refl)
-
-pub bytes_few : (c d : Option (List ℕ)) (p m n : ℕ) (x : List ℕ) → Consumes c d x → IsAtEnd d → length x < n → is_told c ≡ true → bytes_here n p m (rest_of c) ≡ Err (EndOfInput, p + length x)
-unfolding bytes_here
-bytes_few None d p m n x h z l e = absurd cc
-bytes_few (Some b) None p m n x h z l e = absurd h
-bytes_few (Some b) (Some t) p m n x h z l e =
-    let same : b ≡ x = h ∙ ap (λ (y : List ℕ). x ++ y) z ∙ append-nil x in
-    let short = lt-ltb (length b) n (omega (arith, ap length same)) in
-    rw (short, same) refl
 
 drop_more : (m n : ℕ) (b x t : List ℕ) → m ≤ length b → drop m b ≡ x ++ t → length x ≡ n → (m + n ≤ length b) × (t ≡ drop (m + n) b) × (x ≡ take n (drop m b))
 drop_more m n b x t le h l = (

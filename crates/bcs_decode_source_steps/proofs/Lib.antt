@@ -8,3 +8,4 @@ pub mod StreamedRows
 pub mod ValueViews
 pub mod Parts
 pub mod KeptKeys
+pub mod Readers

@@ -1,5 +1,5 @@
 -- Lists of whole numbers that are read by blocks.
-use Rattle.std.proofs.Common.{◌≡◌, ℕ, zero, suc, ◌+◌, ◌-◌, ◌*◌, ◌<◌, ◌≤◌, true, List, [], ◌∷◌, ◌++◌, map, length, take, drop, Option, Ok, Err, inl, inr, refl, sym, ap, ◌∙◌, arith, length-drop, take-add, take_all, append_assoc}
+use Rattle.std.proofs.Common.{◌≡◌, ℕ, zero, suc, ◌+◌, ◌-◌, ◌*◌, ◌<◌, ◌≤◌, true, List, [], ◌∷◌, ◌++◌, map, length, take, drop, Option, Ok, Err, inl, inr, refl, sym, ap, ◌∙◌, arith, length-drop, take-add, append_assoc}
 use Rattle.std.proofs.Math.Nat.{suc-mul}
 use Rattle.std.proofs.lemmas.Bool.{le-ltb, lt-ltb, cases_lt}
 use Rattle.std.proofs.lemmas.List.{drop-drop, take_at, drop_at, length-take-le, append-nil, map_push}
@@ -19,7 +19,7 @@ use Rattle.bcs_decode_spec.specs.declared.reason.Reason.TheVariants.{TooManyNode
 use Rattle.bcs_decode_source_steps.specs.declared.at.At.{At}
 use Rattle.bcs_decode_spec.specs.Reading.{Parser, Read, follow, chain, give, node, bytes_here, unsigned_here, signed_here, items_here, building}
 use Rattle.bcs_decode_source_steps.specs.Numbers.{number_of, numbers}
-use Rattle.bcs_decode_source_steps.specs.Sees.{is_told, rest_of, Refuses, Along, leaf_here}
+use Rattle.bcs_decode_source_steps.specs.Sees.{is_told, rest_of, Refuses, leaf_here}
 use Rattle.bcs_decode_source_steps.proofs.Going.{Refuses-whole}
 use Rattle.bcs_decode_source_steps.proofs.StreamedRows.{joined, items_before, before_none, ItemsSoFar, items_refused}
 
@@ -145,17 +145,6 @@ module _ (f : WholeNumber) (n i k : ℕ) (c d : Option (List ℕ)) (p q s : At) 
       let on : bytes_here (k * whole_len f) q.place (q.nodes - k) (rest_of d) ≡ Err (e, o) = rw (← place, ← begun) stop in
       let ends : row f (n - i) q.place q.nodes (rest_of d) ≡ Err (e, o) = numbers_split f k (n - i) q.place q.nodes (rest_of d) few nodes ∙ rw on refl in
       (h told).0 ∙ ap (items_before (items_trees vs)) ends)
-
--- nodes begin, and nothing is read
-pub Along-nodes : (c : Option (List ℕ)) (p : At) (m : ℕ) → Along c p c (record p { nodes = m })
-Along-nodes c p m = record {
-  gone = λ b l. l;
-  later = omega arith;
-  same = refl;
-  front = take_all (length p.kept.items) p.kept.items (omega arith);
-  unrecorded = λ no. refl;
-  recorded = λ yes b base from l s. record { begun = s.begun; is = s.is };
-}
 
 -- no number may begin
 pub numbers_none : (f : WholeNumber) (n i : ℕ) (vs : List Value) (c d : Option (List ℕ)) (p q : At) → i < n → q.nodes ≡ 0 → ItemsSoFar (leaf_here (whole_shape f)) n i vs c d p q

@@ -4,6 +4,7 @@ use Rattle.std.specs.List.{slice_range}
 use Rattle.bcs_decode_spec.specs.declared.decode_fault.DecodeFault.{DecodeFault}
 use Rattle.bcs_decode_spec.specs.declared.decode_fault.DecodeFault.TheVariants.{Stop, Read, OutOfMemory}
 use Rattle.bcs_decode_spec.specs.Reading.{Parser}
+use Rattle.bcs_decode_source_steps.specs.declared.at.At.{At}
 use Rattle.bcs_decode_source_steps.specs.declared.keys.Span.{Span}
 
 -- the bytes of the last key, among those that are kept
@@ -19,6 +20,12 @@ key_of (Some s) kept = slice_range kept s.from s.to
 abbrev pub Stands : Option Span → ℕ → ℕ → Type 0
 Stands None begun n = begun ≤ n
 Stands (Some s) begun n = (begun ≤ s.from) × (s.from ≤ s.to) × (s.to ≤ n)
+
+-- the place, the nodes that are left and whether a key is open are the same
+pub record SamePlace (p q : At) : Type 0 where
+  pub place : q.place ≡ p.place
+  pub nodes : q.nodes ≡ p.nodes
+  pub key : q.is_in_key ≡ p.is_in_key
 
 -- a test that reads nothing
 abbrev pub Judges : Result (Unit {0}) DecodeFault → Parser (Unit {0}) → ℕ → Type 0

@@ -1,3 +1,4 @@
 pub mod Numbers
 pub mod Sees
+pub mod Reads
 pub mod Kept

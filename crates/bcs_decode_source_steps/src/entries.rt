@@ -1,13 +1,14 @@
 //! The entries of a map that is being read.
-ghost use Rattle.std.specs.Prelude.{◌≡◌, ◌-◌, [], min, vec_capacity, IfOk};
+ghost use Rattle.std.specs.Prelude.{◌≡◌, [], vec_capacity, IfOk};
 ghost use Rattle.bcs_value_tree.specs.Tree.{pairs};
 ghost use Rattle.bcs_value_tree.specs.View.{tree_of, entries_pairs};
+ghost use Rattle.bcs_decode_source_steps.specs.Reads.{room_for};
 
-use crate::at::At;
+use crate::reader::Reader;
 use crate::room::make_room;
 use bcs_value_tree::Value;
 use bcs_value_tree::slot::put_pairs;
-use std::alloc::{AllocError, Global};
+use std::alloc::AllocError;
 
 /// Entries that were read, and the key whose value is to come. They stand on the heap, so that a level of maps takes little
 /// of the stack.
@@ -22,15 +23,15 @@ pub struct Entries {
 impl Entries {
     /// No entries, with room for so many, but for no more than bytes are known to come.
     #[inline(never)]
-    pub fn with_room(alloc: Global, at: &At, count: u64) -> Result<Box<Entries>, AllocError>
+    pub fn with_room<S>(reader: &Reader<'_, S>, count: u64) -> Result<Box<Entries>, AllocError>
         ensures count { IfOk result (λ e. e.value.count ≡ count) }
         ensures empty { IfOk result (λ e. e.value.found.items ≡ []) }
-        ensures room { IfOk result (λ e. vec_capacity e.value.found ≡ min count (at.now.known - at.now.place)) }
+        ensures room { IfOk result (λ e. vec_capacity e.value.found ≡ room_for reader.now count) }
     {
-        let mut found = Vec::new(alloc);
-        make_room(alloc, &mut found, at, count)?;
+        let mut found = Vec::new(reader.alloc);
+        make_room(reader, &mut found, count)?;
         let key = Value::Unit;
-        Ok(Box::new(alloc, Entries { found, key, count })?)
+        Ok(Box::new(reader.alloc, Entries { found, key, count })?)
     }
 }
 

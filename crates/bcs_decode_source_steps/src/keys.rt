@@ -1,7 +1,7 @@
 //! The keys of a map that is being read.
 ghost use Rattle.std.specs.Prelude.{◌≡◌, ℕ, ◌≤◌, length, take, drop, false, true, Some, IfOk};
 ghost use Rattle.bcs_decode_spec.specs.Reading.{key_after};
-ghost use Rattle.bcs_decode_source_steps.specs.Kept.{Judges, Stands, last_bytes};
+ghost use Rattle.bcs_decode_source_steps.specs.Kept.{Judges, SamePlace, Stands, last_bytes};
 
 use crate::at::At;
 use bcs_decode_spec::{DecodeFault, Reason, Stop};
@@ -29,7 +29,7 @@ pub fn follow(at: &mut At, keys: &mut MapKeys, from: usize, start: u64) -> Resul
     requires stands { Stands keys.old.last keys.old.begun from }
     requires long { from ≤ length at.old.kept.items }
     ensures judges { Judges result (key_after (last_bytes keys.old.last at.old.kept.items) (drop from at.old.kept.items) start) start }
-    ensures same { (at.new.place ≡ at.old.place) × (at.new.nodes ≡ at.old.nodes) × (at.new.is_in_key ≡ at.old.is_in_key) }
+    ensures same { SamePlace at.old at.new }
     ensures recorded { at.old.is_in_key ≡ true → at.new.kept.items ≡ at.old.kept.items }
     ensures front { take keys.old.begun at.new.kept.items ≡ take keys.old.begun at.old.kept.items }
     ensures begun { keys.new.begun ≡ keys.old.begun }
@@ -68,7 +68,7 @@ fn judge(keys: &MapKeys, kept: &[u8], from: usize, start: u64) -> Result<(), Dec
 fn settle(at: &mut At, keys: &mut MapKeys, from: usize)
     requires stands { Stands keys.old.last keys.old.begun from }
     requires long { from ≤ length at.old.kept.items }
-    ensures same { (at.new.place ≡ at.old.place) × (at.new.nodes ≡ at.old.nodes) × (at.new.is_in_key ≡ at.old.is_in_key) }
+    ensures same { SamePlace at.old at.new }
     ensures recorded { at.old.is_in_key ≡ true → at.new.kept.items ≡ at.old.kept.items }
     ensures front { take keys.old.begun at.new.kept.items ≡ take keys.old.begun at.old.kept.items }
     ensures begun { keys.new.begun ≡ keys.old.begun }
@@ -92,7 +92,7 @@ fn settle(at: &mut At, keys: &mut MapKeys, from: usize)
 /// Lets the last key of a map go that stands outside keys.
 #[inline(never)]
 pub fn let_go(at: &mut At, keys: &MapKeys)
-    ensures same { (at.new.place ≡ at.old.place) × (at.new.nodes ≡ at.old.nodes) × (at.new.is_in_key ≡ at.old.is_in_key) }
+    ensures same { SamePlace at.old at.new }
     ensures recorded { at.old.is_in_key ≡ true → at.new.kept.items ≡ at.old.kept.items }
     ensures unrecorded { at.old.is_in_key ≡ false → at.new.kept.items ≡ take keys.now.begun at.old.kept.items }
 {

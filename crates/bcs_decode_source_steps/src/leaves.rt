@@ -1,35 +1,31 @@
 //! Values that have no parts, each built in the caller's slot. Those that `leaf` alone reads are part of it, so that a width is
 //! known where its bytes are taken.
-ghost use Rattle.std.specs.Prelude.{◌≡◌, ℕ, ◌+◌, ◌<◌, ◌^◌, false, IsErr};
+ghost use Rattle.std.specs.Prelude.{IsErr};
 ghost use Rattle.bcs_value_tree.specs.Tree.{unit as no_value};
 ghost use Rattle.bcs_num.specs.Le.{width_of};
 ghost use Rattle.bcs_value_tree.specs.View.{tree_of};
 ghost use Rattle.bcs_decode_spec.specs.Reading.{flag_here, unsigned_here, signed_here};
-ghost use Rattle.bcs_decode_source_steps.specs.Sees.{Sees, FailedIfRead, Goes, SparesMemory, flag_node, unit_leaf, truth_leaf, unsigned_leaf, signed_leaf, unsupported_leaf, text_leaf, bytes_leaf};
+ghost use Rattle.bcs_decode_source_steps.specs.Reads.{Ready, Reads};
+ghost use Rattle.bcs_decode_source_steps.specs.Sees.{SparesMemory, flag_node, unit_leaf, truth_leaf, unsigned_leaf, signed_leaf, unsupported_leaf, text_leaf, bytes_leaf};
 
-use crate::at::At;
 use crate::bytes::{array, begin, byte};
 use crate::number::length;
+use crate::reader::Reader;
 use crate::strings::{bytes, text};
 use bcs_decode_spec::{DecodeFault, Reason, Stop};
 use bcs_io::ByteSource;
 use bcs_num::Width;
 use bcs_value_tree::Value;
-use std::alloc::Global;
 
 /// A byte that is `00` or `01`.
 #[tactic(auto, using(crate::proofs::Chains::flag_is), unfolding(bcs_decode_spec::specs::Reading::chain, bcs_decode_spec::specs::Reading::give, bcs_decode_spec::specs::Reading::fail))]
-pub fn flag<S: ByteSource>(source: &mut S, at: &mut At, bad: Reason) -> Result<bool, DecodeFault>
-    requires good { S.is_failed source.old ≡ false }
-    requires room { at.old.place + S.allowance source.old < 2 ^ 64 }
-    ensures sees { Sees (λ x. x) result (S.content source.old) at.old (flag_here bad) at.new (S.content source.new) }
-    ensures failed { FailedIfRead result (S.is_failed source.new) }
-    ensures room { at.new.place + S.allowance source.new < 2 ^ 64 }
-    ensures goes { Goes result (S.content source.old) at.old (S.content source.new) at.new }
-    ensures spares { SparesMemory result at.old }
+pub fn flag<S: ByteSource>(reader: &mut Reader<'_, S>, bad: Reason) -> Result<bool, DecodeFault>
+    requires ready { Ready S.is_failed S.allowance reader.old }
+    ensures reads { Reads S.content S.is_failed S.allowance (λ x. x) result reader.old (flag_here bad) reader.new }
+    ensures spares { SparesMemory result reader.old.at.now }
 {
-    let start = at.place;
-    let byte = byte(source, at)?;
+    let start = reader.at.place;
+    let byte = byte(reader)?;
     if byte > 1 {
         return Err(DecodeFault::Stop(Stop {
             reason: bad,
@@ -41,196 +37,145 @@ pub fn flag<S: ByteSource>(source: &mut S, at: &mut At, bad: Reason) -> Result<b
 
 /// An option's first byte.
 #[inline(never)]
-#[tactic(auto, unfolding(bcs_decode_spec::specs::Reading::chain, bcs_decode_spec::specs::Reading::give, crate::specs::Sees::flag_node))]
-pub fn flag_node<S: ByteSource>(source: &mut S, at: &mut At) -> Result<bool, DecodeFault>
-    requires good { S.is_failed source.old ≡ false }
-    requires room { at.old.place + S.allowance source.old < 2 ^ 64 }
-    ensures sees { Sees (λ x. x) result (S.content source.old) at.old flag_node at.new (S.content source.new) }
-    ensures failed { FailedIfRead result (S.is_failed source.new) }
-    ensures room { at.new.place + S.allowance source.new < 2 ^ 64 }
-    ensures goes { Goes result (S.content source.old) at.old (S.content source.new) at.new }
+pub fn flag_node<S: ByteSource>(reader: &mut Reader<'_, S>) -> Result<bool, DecodeFault>
+    requires ready { Ready S.is_failed S.allowance reader.old }
+    ensures reads { Reads S.content S.is_failed S.allowance (λ x. x) result reader.old flag_node reader.new }
 {
-    begin(source, at)?;
-    flag(source, at, Reason::BadOption)
+    begin(reader)?;
+    flag(reader, Reason::BadOption)
 }
 
 /// An unsigned number.
 #[inline(always)]
 #[tactic(auto, unfolding(bcs_decode_spec::specs::Reading::chain, bcs_decode_spec::specs::Reading::give, bcs_decode_spec::specs::Reading::unsigned_here))]
 pub fn unsigned<S: ByteSource>(
+    reader: &mut Reader<'_, S>,
     width: Width,
-    source: &mut S,
-    at: &mut At,
 ) -> Result<u128, DecodeFault>
-    requires good { S.is_failed source.old ≡ false }
-    requires room { at.old.place + S.allowance source.old < 2 ^ 64 }
-    ensures sees { Sees (λ x. x) result (S.content source.old) at.old (unsigned_here (width_of width)) at.new (S.content source.new) }
-    ensures failed { FailedIfRead result (S.is_failed source.new) }
-    ensures room { at.new.place + S.allowance source.new < 2 ^ 64 }
-    ensures goes { Goes result (S.content source.old) at.old (S.content source.new) at.new }
-    ensures spares { SparesMemory result at.old }
+    requires ready { Ready S.is_failed S.allowance reader.old }
+    ensures reads { Reads S.content S.is_failed S.allowance (λ x. x) result reader.old (unsigned_here (width_of width)) reader.new }
+    ensures spares { SparesMemory result reader.old.at.now }
 {
     match width {
-        Width::W1 => Ok(u128::from(u8::from_le_bytes(array(source, at)?))),
-        Width::W2 => Ok(u128::from(u16::from_le_bytes(array(source, at)?))),
-        Width::W4 => Ok(u128::from(u32::from_le_bytes(array(source, at)?))),
-        Width::W8 => Ok(u128::from(u64::from_le_bytes(array(source, at)?))),
-        Width::W16 => Ok(u128::from_le_bytes(array(source, at)?)),
+        Width::W1 => Ok(u128::from(u8::from_le_bytes(array(reader)?))),
+        Width::W2 => Ok(u128::from(u16::from_le_bytes(array(reader)?))),
+        Width::W4 => Ok(u128::from(u32::from_le_bytes(array(reader)?))),
+        Width::W8 => Ok(u128::from(u64::from_le_bytes(array(reader)?))),
+        Width::W16 => Ok(u128::from_le_bytes(array(reader)?)),
     }
 }
 
 /// A signed number.
 #[inline(always)]
 #[tactic(auto, unfolding(bcs_decode_spec::specs::Reading::chain, bcs_decode_spec::specs::Reading::give, bcs_decode_spec::specs::Reading::signed_here))]
-pub fn signed<S: ByteSource>(width: Width, source: &mut S, at: &mut At) -> Result<i128, DecodeFault>
-    requires good { S.is_failed source.old ≡ false }
-    requires room { at.old.place + S.allowance source.old < 2 ^ 64 }
-    ensures sees { Sees (λ x. x) result (S.content source.old) at.old (signed_here (width_of width)) at.new (S.content source.new) }
-    ensures failed { FailedIfRead result (S.is_failed source.new) }
-    ensures room { at.new.place + S.allowance source.new < 2 ^ 64 }
-    ensures goes { Goes result (S.content source.old) at.old (S.content source.new) at.new }
-    ensures spares { SparesMemory result at.old }
+pub fn signed<S: ByteSource>(reader: &mut Reader<'_, S>, width: Width) -> Result<i128, DecodeFault>
+    requires ready { Ready S.is_failed S.allowance reader.old }
+    ensures reads { Reads S.content S.is_failed S.allowance (λ x. x) result reader.old (signed_here (width_of width)) reader.new }
+    ensures spares { SparesMemory result reader.old.at.now }
 {
     match width {
-        Width::W1 => Ok(i128::from(i8::from_le_bytes(array(source, at)?))),
-        Width::W2 => Ok(i128::from(i16::from_le_bytes(array(source, at)?))),
-        Width::W4 => Ok(i128::from(i32::from_le_bytes(array(source, at)?))),
-        Width::W8 => Ok(i128::from(i64::from_le_bytes(array(source, at)?))),
-        Width::W16 => Ok(i128::from_le_bytes(array(source, at)?)),
+        Width::W1 => Ok(i128::from(i8::from_le_bytes(array(reader)?))),
+        Width::W2 => Ok(i128::from(i16::from_le_bytes(array(reader)?))),
+        Width::W4 => Ok(i128::from(i32::from_le_bytes(array(reader)?))),
+        Width::W8 => Ok(i128::from(i64::from_le_bytes(array(reader)?))),
+        Width::W16 => Ok(i128::from_le_bytes(array(reader)?)),
     }
 }
 
 /// Nothing stands there.
 #[inline(never)]
-#[tactic(auto, using(crate::proofs::Chains::node_is, crate::proofs::ValueViews::tree_unit), unfolding(bcs_decode_spec::specs::Reading::chain, bcs_decode_spec::specs::Reading::give, bcs_decode_spec::specs::Reading::fail_here))]
+#[tactic(auto, using(crate::proofs::Chains::node_is, crate::proofs::ValueViews::tree_unit), unfolding(bcs_decode_spec::specs::Reading::chain, bcs_decode_spec::specs::Reading::give))]
 pub fn put_unit<S: ByteSource>(
-    source: &mut S,
-    at: &mut At,
+    reader: &mut Reader<'_, S>,
     slot: &mut Value,
 ) -> Result<(), DecodeFault>
-    requires good { S.is_failed source.old ≡ false }
-    requires room { at.old.place + S.allowance source.old < 2 ^ 64 }
-    ensures sees { Sees (λ _. tree_of slot.new) result (S.content source.old) at.old (unit_leaf) at.new (S.content source.new) }
-    ensures failed { FailedIfRead result (S.is_failed source.new) }
-    ensures room { at.new.place + S.allowance source.new < 2 ^ 64 }
-    ensures goes { Goes result (S.content source.old) at.old (S.content source.new) at.new }
-    ensures spares { SparesMemory result at.old }
+    requires ready { Ready S.is_failed S.allowance reader.old }
+    ensures reads { Reads S.content S.is_failed S.allowance (λ _. tree_of slot.new) result reader.old unit_leaf reader.new }
+    ensures spares { SparesMemory result reader.old.at.now }
 {
-    begin(source, at)?;
+    begin(reader)?;
     *slot = Value::Unit;
     Ok(())
 }
 
 /// A truth value.
 #[inline(always)]
-#[tactic(auto, using(crate::proofs::Chains::node_is, crate::proofs::ValueViews::tree_truth), unfolding(bcs_decode_spec::specs::Reading::chain, bcs_decode_spec::specs::Reading::give, bcs_decode_spec::specs::Reading::fail_here))]
 pub fn put_truth<S: ByteSource>(
-    source: &mut S,
-    at: &mut At,
+    reader: &mut Reader<'_, S>,
     slot: &mut Value,
 ) -> Result<(), DecodeFault>
-    requires good { S.is_failed source.old ≡ false }
-    requires room { at.old.place + S.allowance source.old < 2 ^ 64 }
-    ensures sees { Sees (λ _. tree_of slot.new) result (S.content source.old) at.old (truth_leaf) at.new (S.content source.new) }
-    ensures failed { FailedIfRead result (S.is_failed source.new) }
-    ensures room { at.new.place + S.allowance source.new < 2 ^ 64 }
-    ensures goes { Goes result (S.content source.old) at.old (S.content source.new) at.new }
-    ensures spares { SparesMemory result at.old }
+    requires ready { Ready S.is_failed S.allowance reader.old }
+    ensures reads { Reads S.content S.is_failed S.allowance (λ _. tree_of slot.new) result reader.old truth_leaf reader.new }
+    ensures spares { SparesMemory result reader.old.at.now }
 {
-    begin(source, at)?;
-    let truth = flag(source, at, Reason::BadBool)?;
+    begin(reader)?;
+    let truth = flag(reader, Reason::BadBool)?;
     *slot = Value::Bool(truth);
     Ok(())
 }
 
 /// An unsigned number.
 #[inline(always)]
-#[tactic(auto, using(crate::proofs::Chains::node_is, crate::proofs::ValueViews::tree_unsigned), unfolding(bcs_decode_spec::specs::Reading::chain, bcs_decode_spec::specs::Reading::give, bcs_decode_spec::specs::Reading::fail_here))]
 pub fn put_unsigned<S: ByteSource>(
+    reader: &mut Reader<'_, S>,
     width: Width,
-    source: &mut S,
-    at: &mut At,
     slot: &mut Value,
 ) -> Result<(), DecodeFault>
-    requires good { S.is_failed source.old ≡ false }
-    requires room { at.old.place + S.allowance source.old < 2 ^ 64 }
-    ensures sees { Sees (λ _. tree_of slot.new) result (S.content source.old) at.old (unsigned_leaf (width_of width)) at.new (S.content source.new) }
-    ensures failed { FailedIfRead result (S.is_failed source.new) }
-    ensures room { at.new.place + S.allowance source.new < 2 ^ 64 }
-    ensures goes { Goes result (S.content source.old) at.old (S.content source.new) at.new }
-    ensures spares { SparesMemory result at.old }
+    requires ready { Ready S.is_failed S.allowance reader.old }
+    ensures reads { Reads S.content S.is_failed S.allowance (λ _. tree_of slot.new) result reader.old (unsigned_leaf (width_of width)) reader.new }
+    ensures spares { SparesMemory result reader.old.at.now }
 {
-    begin(source, at)?;
-    let number = unsigned(width, source, at)?;
+    begin(reader)?;
+    let number = unsigned(reader, width)?;
     *slot = Value::Unsigned(number);
     Ok(())
 }
 
 /// A signed number.
 #[inline(always)]
-#[tactic(auto, using(crate::proofs::Chains::node_is, crate::proofs::ValueViews::tree_signed), unfolding(bcs_decode_spec::specs::Reading::chain, bcs_decode_spec::specs::Reading::give, bcs_decode_spec::specs::Reading::fail_here))]
 pub fn put_signed<S: ByteSource>(
+    reader: &mut Reader<'_, S>,
     width: Width,
-    source: &mut S,
-    at: &mut At,
     slot: &mut Value,
 ) -> Result<(), DecodeFault>
-    requires good { S.is_failed source.old ≡ false }
-    requires room { at.old.place + S.allowance source.old < 2 ^ 64 }
-    ensures sees { Sees (λ _. tree_of slot.new) result (S.content source.old) at.old (signed_leaf (width_of width)) at.new (S.content source.new) }
-    ensures failed { FailedIfRead result (S.is_failed source.new) }
-    ensures room { at.new.place + S.allowance source.new < 2 ^ 64 }
-    ensures goes { Goes result (S.content source.old) at.old (S.content source.new) at.new }
-    ensures spares { SparesMemory result at.old }
+    requires ready { Ready S.is_failed S.allowance reader.old }
+    ensures reads { Reads S.content S.is_failed S.allowance (λ _. tree_of slot.new) result reader.old (signed_leaf (width_of width)) reader.new }
+    ensures spares { SparesMemory result reader.old.at.now }
 {
-    begin(source, at)?;
-    let number = signed(width, source, at)?;
+    begin(reader)?;
+    let number = signed(reader, width)?;
     *slot = Value::Signed(number);
     Ok(())
 }
 
 /// A text.
 #[inline(always)]
-#[tactic(auto, using(crate::proofs::Chains::node_is, crate::proofs::ValueViews::tree_text), unfolding(bcs_decode_spec::specs::Reading::chain, bcs_decode_spec::specs::Reading::give, bcs_decode_spec::specs::Reading::fail_here))]
 pub fn put_text<S: ByteSource>(
-    alloc: Global,
-    source: &mut S,
-    at: &mut At,
+    reader: &mut Reader<'_, S>,
     slot: &mut Value,
 ) -> Result<(), DecodeFault>
-    requires good { S.is_failed source.old ≡ false }
-    requires room { at.old.place + S.allowance source.old < 2 ^ 64 }
-    ensures sees { Sees (λ _. tree_of slot.new) result (S.content source.old) at.old (text_leaf) at.new (S.content source.new) }
-    ensures failed { FailedIfRead result (S.is_failed source.new) }
-    ensures room { at.new.place + S.allowance source.new < 2 ^ 64 }
-    ensures goes { Goes result (S.content source.old) at.old (S.content source.new) at.new }
+    requires ready { Ready S.is_failed S.allowance reader.old }
+    ensures reads { Reads S.content S.is_failed S.allowance (λ _. tree_of slot.new) result reader.old text_leaf reader.new }
 {
-    begin(source, at)?;
-    let count = length(source, at)?;
-    let found = text(alloc, source, at, count)?;
+    begin(reader)?;
+    let count = length(reader)?;
+    let found = text(reader, count)?;
     *slot = Value::Text(found);
     Ok(())
 }
 
 /// A byte string.
 #[inline(always)]
-#[tactic(auto, using(crate::proofs::Chains::node_is, crate::proofs::ValueViews::tree_bytes), unfolding(bcs_decode_spec::specs::Reading::chain, bcs_decode_spec::specs::Reading::give, bcs_decode_spec::specs::Reading::fail_here))]
 pub fn put_bytes<S: ByteSource>(
-    alloc: Global,
-    source: &mut S,
-    at: &mut At,
+    reader: &mut Reader<'_, S>,
     slot: &mut Value,
 ) -> Result<(), DecodeFault>
-    requires good { S.is_failed source.old ≡ false }
-    requires room { at.old.place + S.allowance source.old < 2 ^ 64 }
-    ensures sees { Sees (λ _. tree_of slot.new) result (S.content source.old) at.old (bytes_leaf) at.new (S.content source.new) }
-    ensures failed { FailedIfRead result (S.is_failed source.new) }
-    ensures room { at.new.place + S.allowance source.new < 2 ^ 64 }
-    ensures goes { Goes result (S.content source.old) at.old (S.content source.new) at.new }
+    requires ready { Ready S.is_failed S.allowance reader.old }
+    ensures reads { Reads S.content S.is_failed S.allowance (λ _. tree_of slot.new) result reader.old bytes_leaf reader.new }
 {
-    begin(source, at)?;
-    let count = length(source, at)?;
-    let found = bytes(alloc, source, at, count)?;
+    begin(reader)?;
+    let count = length(reader)?;
+    let found = bytes(reader, count)?;
     *slot = Value::Bytes(found);
     Ok(())
 }
@@ -238,18 +183,15 @@ pub fn put_bytes<S: ByteSource>(
 /// No value stands there.
 #[inline(never)]
 #[tactic(auto, using(crate::proofs::Chains::node_is), unfolding(bcs_decode_spec::specs::Reading::chain, bcs_decode_spec::specs::Reading::give, bcs_decode_spec::specs::Reading::fail_here))]
-pub fn refuse<S: ByteSource>(source: &S, at: &mut At) -> Result<(), DecodeFault>
-    requires good { S.is_failed source.now ≡ false }
-    ensures sees { Sees (λ _. no_value) result (S.content source.now) at.old unsupported_leaf at.new (S.content source.now) }
+pub fn refuse<S: ByteSource>(reader: &mut Reader<'_, S>) -> Result<(), DecodeFault>
+    requires ready { Ready S.is_failed S.allowance reader.old }
+    ensures reads { Reads S.content S.is_failed S.allowance (λ _. no_value) result reader.old unsupported_leaf reader.new }
     ensures refused { IsErr result }
-    ensures failed { FailedIfRead result (S.is_failed source.now) }
-    ensures place { at.new.place ≡ at.old.place }
-    ensures goes { Goes result (S.content source.now) at.old (S.content source.now) at.new }
-    ensures spares { SparesMemory result at.old }
+    ensures spares { SparesMemory result reader.old.at.now }
 {
-    begin(source, at)?;
+    begin(reader)?;
     Err(DecodeFault::Stop(Stop {
         reason: Reason::Unsupported,
-        place: at.place,
+        place: reader.at.place,
     }))
 }

@@ -10,6 +10,7 @@ pub mod leaves;
 pub mod names;
 pub mod number;
 pub mod number_rows;
+pub mod reader;
 pub mod room;
 pub mod slots;
 mod strings;

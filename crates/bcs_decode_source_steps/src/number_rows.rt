@@ -1,14 +1,15 @@
 //! Lists of whole numbers from a source, in one loop.
-ghost use Rattle.std.specs.Prelude.{◌≡◌, ℕ, ◌+◌, ◌-◌, ◌*◌, ◌<◌, ◌≤◌, ◌^◌, ◌++◌, ◌⊎◌, [], false, length, map, take, min, vec_capacity, OnOk, IfSome, None};
+ghost use Rattle.std.specs.Prelude.{◌≡◌, ℕ, ◌*◌, ◌<◌, ◌≤◌, ◌++◌, ◌⊎◌, [], length, map, take, vec_capacity, OnOk, IfSome, None};
 ghost use Rattle.bcs_num.specs.Le.{width_of};
 ghost use Rattle.bcs_registry_formats.specs.Whole.{whole_len, whole_shape};
 ghost use Rattle.bcs_value_tree.specs.View.{items_trees, tree_of};
 ghost use Rattle.bcs_decode_source_steps.specs.Numbers.{number_of, numbers};
-ghost use Rattle.bcs_decode_source_steps.specs.Sees.{Sees, FailedIfRead, Goes, leaf_here, row_leaf};
+ghost use Rattle.bcs_decode_source_steps.specs.Reads.{Ready, Reads, room_for};
+ghost use Rattle.bcs_decode_source_steps.specs.Sees.{leaf_here, row_leaf};
 ghost use Rattle.std.specs.Int.{byte_len, from_le_bytes, cast_signed};
 
-use crate::at::At;
 use crate::bytes::read_exact;
+use crate::reader::Reader;
 use bcs_decode_spec::{DecodeFault, Reason, Stop};
 use bcs_io::ByteSource;
 use bcs_num::Width;
@@ -22,34 +23,29 @@ const BLOCK: usize = 512;
 /// So many numbers. They are taken by blocks, of no more numbers than may begin.
 #[inline(never)]
 pub fn push_numbers<S: ByteSource>(
+    reader: &mut Reader<'_, S>,
     format: WholeNumber,
     count: u64,
-    source: &mut S,
-    at: &mut At,
     found: &mut Vec<Value>,
 ) -> Result<(), DecodeFault>
-    requires good { S.is_failed source.old ≡ false }
-    requires room { at.old.place + S.allowance source.old < 2 ^ 64 }
+    requires ready { Ready S.is_failed S.allowance reader.old }
     requires empty { found.old.items ≡ [] }
-    requires reserved { vec_capacity found.old ≡ min count (at.old.known - at.old.place) }
-    ensures sees { Sees (λ _. items_trees found.new.items) result (S.content source.old) at.old (row_leaf (leaf_here (whole_shape format)) count) at.new (S.content source.new) }
-    ensures failed { FailedIfRead result (S.is_failed source.new) }
-    ensures room { at.new.place + S.allowance source.new < 2 ^ 64 }
-    ensures goes { Goes result (S.content source.old) at.old (S.content source.new) at.new }
+    requires reserved { vec_capacity found.old ≡ room_for reader.old count }
+    ensures reads { Reads S.content S.is_failed S.allowance (λ _. items_trees found.new.items) result reader.old (row_leaf (leaf_here (whole_shape format)) count) reader.new }
 {
     let mut block = [0u8; BLOCK];
     let mut done = 0;
     while done < count {
-        let some = share(format, count - done, at.nodes);
+        let some = share(format, count - done, reader.at.nodes);
         if some == 0 {
             return Err(DecodeFault::Stop(Stop {
                 reason: Reason::TooManyNodes,
-                place: at.place,
+                place: reader.at.place,
             }));
         }
-        at.nodes -= some;
+        reader.at.nodes -= some;
         let size = some as usize * format.byte_len();
-        read_exact(source, at, &mut block[..size])?;
+        read_exact(reader, &mut block[..size])?;
         push_block(format, &block[..size], found)?;
         done += u64::from(some);
     }

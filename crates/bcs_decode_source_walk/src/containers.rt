@@ -1,18 +1,19 @@
 //! What stands in containers, from a source.
-ghost use Rattle.std.specs.Prelude.{◌≡◌, ◌-◌, [], length, map, min, vec_capacity};
+ghost use Rattle.std.specs.Prelude.{◌≡◌, [], length, map, vec_capacity};
 ghost use Rattle.bcs_registry_formats.specs.Container as spec;
 ghost use Rattle.bcs_registry_formats.specs.Container.{field_shapes, payload_shape};
 ghost use Rattle.bcs_registry_formats.specs.View.{container_of, field_of, payload_of};
 ghost use Rattle.bcs_value_tree.specs.View.{tree_of, items_trees};
 ghost use Rattle.bcs_decode_source_steps.specs.Sees.{read, each, tuple_value, container_value, content_value, named_value};
-ghost use Rattle.bcs_decode_source_walk.specs.Reads.{IsKnown, Ready, Reads};
+ghost use Rattle.bcs_decode_source_steps.specs.Reads.{Ready, Reads, room_for};
+ghost use Rattle.bcs_decode_source_walk.specs.Known.{IsKnown};
 
-use crate::reader::Reader;
 use crate::rows::tuple;
 use crate::values::value;
 use bcs_decode_source_steps::bytes::begin;
 use bcs_decode_source_steps::leaves::put_unit;
 use bcs_decode_source_steps::names::{enter, variant_number};
+use bcs_decode_source_steps::reader::Reader;
 use bcs_decode_source_steps::room::make_room;
 use bcs_decode_source_steps::slots::finish;
 use bcs_decode_spec::{DecodeFault, Reason, Stop};
@@ -35,7 +36,7 @@ pub fn named<S: ByteSource>(
 {
     let registry = reader.registry;
     let Some(found) = registry.container(name) else {
-        enter(reader.source, reader.at, depth)?;
+        enter(reader, depth)?;
         return Err(DecodeFault::Stop(Stop {
             reason: Reason::Unsupported,
             place: reader.at.place,
@@ -58,7 +59,7 @@ pub fn container<S: ByteSource>(
     requires known { IsKnown reader.old.registry.now (spec.content (container_of found.now)) }
     ensures reads { Reads S.content S.is_failed S.allowance (λ _. tree_of slot.new) result reader.old (container_value reader.old.registry.now depth (spec.content (container_of found.now))) reader.new }
 {
-    enter(reader.source, reader.at, depth)?;
+    enter(reader, depth)?;
     content(reader, found, depth - 1, slot)?;
     wrap_named(reader.alloc, slot)?;
     Ok(())
@@ -78,13 +79,13 @@ fn content<S: ByteSource>(
     ensures reads { Reads S.content S.is_failed S.allowance (λ _. tree_of slot.new) result reader.old (content_value reader.old.registry.now depth (spec.content (container_of found.now))) reader.new }
 {
     match found {
-        Container::UnitStruct => put_unit(reader.source, reader.at, slot),
+        Container::UnitStruct => put_unit(reader, slot),
         Container::NewTypeStruct(format) => { value(reader, format, depth, slot) }
         Container::TupleStruct(formats) => { tuple(reader, formats, depth, slot) }
         Container::Struct(fields) => { structure(reader, fields, depth, slot) }
         Container::Enum(variants) => {
             let start = reader.at.place;
-            let number = variant_number(reader.source, reader.at)?;
+            let number = variant_number(reader)?;
             let Some(variant) = variants.get(&number) else {
                 return Err(DecodeFault::Stop(Stop {
                     reason: Reason::UnknownVariant,
@@ -111,7 +112,7 @@ pub fn payload<S: ByteSource>(
     ensures reads { Reads S.content S.is_failed S.allowance (λ _. tree_of slot.new) result reader.old (read reader.old.registry.now depth (payload_shape (payload_of payload.now))) reader.new }
 {
     match payload {
-        VariantFormat::Unit => put_unit(reader.source, reader.at, slot),
+        VariantFormat::Unit => put_unit(reader, slot),
         VariantFormat::NewType(format) => value(reader, format, depth, slot),
         VariantFormat::Tuple(formats) => tuple(reader, formats, depth, slot),
         VariantFormat::Struct(fields) => { structure(reader, fields, depth, slot) }
@@ -131,9 +132,9 @@ pub fn structure<S: ByteSource>(
     requires ready { Ready S.is_failed S.allowance reader.old }
     ensures reads { Reads S.content S.is_failed S.allowance (λ _. tree_of slot.new) result reader.old (tuple_value reader.old.registry.now depth (field_shapes (map field_of fields.now))) reader.new }
 {
-    begin(reader.source, reader.at)?;
+    begin(reader)?;
     let mut found = Vec::new(reader.alloc);
-    make_room(reader.alloc, &mut found, reader.at, fields.len() as u64)?;
+    make_room(reader, &mut found, fields.len() as u64)?;
     let read = each_field(reader, fields, depth, slot, &mut found);
     finish(read, found, slot)
 }
@@ -149,7 +150,7 @@ fn each_field<S: ByteSource>(
 ) -> Result<(), DecodeFault>
     requires ready { Ready S.is_failed S.allowance reader.old }
     requires empty { found.old.items ≡ [] }
-    requires reserved { vec_capacity found.old ≡ min (length fields.now) (reader.old.at.now.known - reader.old.at.now.place) }
+    requires reserved { vec_capacity found.old ≡ room_for reader.old (length fields.now) }
     ensures reads { Reads S.content S.is_failed S.allowance (λ _. items_trees found.new.items) result reader.old (each reader.old.registry.now depth (field_shapes (map field_of fields.now))) reader.new }
 {
     for field in fields {

@@ -3,6 +3,5 @@
 
 mod containers;
 mod maps;
-pub mod reader;
 mod rows;
 pub mod values;

@@ -1,16 +1,16 @@
 //! Maps from a source.
-ghost use Rattle.std.specs.Prelude.{◌≡◌, ◌-◌, [], length, min, vec_capacity, Some, IfOk};
+ghost use Rattle.std.specs.Prelude.{◌≡◌, [], length, vec_capacity, Some, IfOk};
 ghost use Rattle.bcs_registry_formats.specs.View.{shape_of};
 ghost use Rattle.bcs_value_tree.specs.View.{tree_of, entries_pairs};
 ghost use Rattle.bcs_decode_source_steps.specs.Kept.{Stands, last_bytes, key_of};
 ghost use Rattle.bcs_decode_source_steps.specs.Sees.{read, pairs_value, entries_leaf, key_leaf};
-ghost use Rattle.bcs_decode_source_walk.specs.Reads.{Ready, Reads, ReadsInMap};
+ghost use Rattle.bcs_decode_source_steps.specs.Reads.{Ready, Reads, ReadsInMap, room_for};
 
-use crate::reader::Reader;
 use crate::values::value;
 use bcs_decode_source_steps::entries::{Entries, put_entries};
 use bcs_decode_source_steps::keys::{MapKeys, follow, let_go};
 use bcs_decode_source_steps::number::row_count;
+use bcs_decode_source_steps::reader::Reader;
 use bcs_decode_source_steps::slots::discard;
 use bcs_decode_spec::DecodeFault;
 use bcs_io::ByteSource;
@@ -32,8 +32,8 @@ pub fn pairs<S: ByteSource>(
     requires ready { Ready S.is_failed S.allowance reader.old }
     ensures reads { Reads S.content S.is_failed S.allowance (λ _. tree_of slot.new) result reader.old (pairs_value (read reader.old.registry.now depth (shape_of key.now)) (read reader.old.registry.now depth (shape_of part.now))) reader.new }
 {
-    let count = row_count(reader.source, reader.at, None)?;
-    let mut entries = Entries::with_room(reader.alloc, reader.at, count)?;
+    let count = row_count(reader, None)?;
+    let mut entries = Entries::with_room(reader, count)?;
     match each_entry(reader, key, part, depth, slot, &mut entries) {
         Ok(()) => {
             put_entries(slot, entries);
@@ -58,7 +58,7 @@ fn each_entry<S: ByteSource>(
 ) -> Result<(), DecodeFault>
     requires ready { Ready S.is_failed S.allowance reader.old }
     requires empty { entries.old.found.items ≡ [] }
-    requires reserved { vec_capacity entries.old.found ≡ min entries.old.count (reader.old.at.now.known - reader.old.at.now.place) }
+    requires reserved { vec_capacity entries.old.found ≡ room_for reader.old entries.old.count }
     ensures reads { Reads S.content S.is_failed S.allowance (λ _. entries_pairs entries.new.found.items) result reader.old (entries_leaf (read reader.old.registry.now depth (shape_of key.now)) (read reader.old.registry.now depth (shape_of part.now)) entries.old.count) reader.new }
 {
     let count = entries.count;

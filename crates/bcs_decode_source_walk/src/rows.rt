@@ -1,18 +1,19 @@
 //! Values in a row from a source.
-ghost use Rattle.std.specs.Prelude.{◌≡◌, ◌-◌, [], length, min, vec_capacity};
+ghost use Rattle.std.specs.Prelude.{◌≡◌, [], length, vec_capacity};
 ghost use Rattle.bcs_registry_formats.specs.Container.{content};
 ghost use Rattle.bcs_registry_formats.specs.View.{container_of, shape_of, formats_shapes};
 ghost use Rattle.bcs_value_tree.specs.View.{tree_of, items_trees};
 ghost use Rattle.bcs_decode_source_steps.specs.Sees.{read, container_value, row_leaf, items_value, each, tuple_value};
-ghost use Rattle.bcs_decode_source_walk.specs.Reads.{IsKnown, Ready, Reads};
+ghost use Rattle.bcs_decode_source_steps.specs.Reads.{Ready, Reads, room_for};
+ghost use Rattle.bcs_decode_source_walk.specs.Known.{IsKnown};
 
 use crate::containers::container;
-use crate::reader::Reader;
 use crate::values::value;
 use bcs_decode_slice_steps::named_container::named_container;
 use bcs_decode_source_steps::bytes::begin;
 use bcs_decode_source_steps::number::row_count;
 use bcs_decode_source_steps::number_rows::push_numbers;
+use bcs_decode_source_steps::reader::Reader;
 use bcs_decode_source_steps::room::make_room;
 use bcs_decode_source_steps::slots::finish;
 use bcs_decode_spec::DecodeFault;
@@ -36,9 +37,9 @@ pub fn items<S: ByteSource>(
     requires ready { Ready S.is_failed S.allowance reader.old }
     ensures reads { Reads S.content S.is_failed S.allowance (λ _. tree_of slot.new) result reader.old (items_value (read reader.old.registry.now depth (shape_of element.now)) size) reader.new }
 {
-    let count = row_count(reader.source, reader.at, size)?;
+    let count = row_count(reader, size)?;
     let mut found = Vec::new(reader.alloc);
-    make_room(reader.alloc, &mut found, reader.at, count)?;
+    make_room(reader, &mut found, count)?;
     let read = row(reader, element, count, depth, slot, &mut found);
     finish(read, found, slot)
 }
@@ -55,11 +56,11 @@ fn row<S: ByteSource>(
 ) -> Result<(), DecodeFault>
     requires ready { Ready S.is_failed S.allowance reader.old }
     requires empty { found.old.items ≡ [] }
-    requires reserved { vec_capacity found.old ≡ min count (reader.old.at.now.known - reader.old.at.now.place) }
+    requires reserved { vec_capacity found.old ≡ room_for reader.old count }
     ensures reads { Reads S.content S.is_failed S.allowance (λ _. items_trees found.new.items) result reader.old (row_leaf (read reader.old.registry.now depth (shape_of element.now)) count) reader.new }
 {
     if let Some(format) = WholeNumber::of(element) {
-        return push_numbers(format, count, reader.source, reader.at, found);
+        return push_numbers(reader, format, count, found);
     }
     if count == 0 {
         return Ok(());
@@ -88,7 +89,7 @@ fn containers<S: ByteSource>(
     requires ready { Ready S.is_failed S.allowance reader.old }
     requires known { IsKnown reader.old.registry.now (content (container_of element.now)) }
     requires empty { found.old.items ≡ [] }
-    requires reserved { vec_capacity found.old ≡ min count (reader.old.at.now.known - reader.old.at.now.place) }
+    requires reserved { vec_capacity found.old ≡ room_for reader.old count }
     ensures reads { Reads S.content S.is_failed S.allowance (λ _. items_trees found.new.items) result reader.old (row_leaf (container_value reader.old.registry.now depth (content (container_of element.now))) count) reader.new }
 {
     for _ in 0..count {
@@ -111,9 +112,9 @@ pub fn tuple<S: ByteSource>(
     requires ready { Ready S.is_failed S.allowance reader.old }
     ensures reads { Reads S.content S.is_failed S.allowance (λ _. tree_of slot.new) result reader.old (tuple_value reader.old.registry.now depth (formats_shapes formats.now)) reader.new }
 {
-    begin(reader.source, reader.at)?;
+    begin(reader)?;
     let mut found = Vec::new(reader.alloc);
-    make_room(reader.alloc, &mut found, reader.at, formats.len() as u64)?;
+    make_room(reader, &mut found, formats.len() as u64)?;
     let read = parts(reader, formats, depth, slot, &mut found);
     finish(read, found, slot)
 }
@@ -129,7 +130,7 @@ fn parts<S: ByteSource>(
 ) -> Result<(), DecodeFault>
     requires ready { Ready S.is_failed S.allowance reader.old }
     requires empty { found.old.items ≡ [] }
-    requires reserved { vec_capacity found.old ≡ min (length formats.now) (reader.old.at.now.known - reader.old.at.now.place) }
+    requires reserved { vec_capacity found.old ≡ room_for reader.old (length formats.now) }
     ensures reads { Reads S.content S.is_failed S.allowance (λ _. items_trees found.new.items) result reader.old (each reader.old.registry.now depth (formats_shapes formats.now)) reader.new }
 {
     for format in formats {

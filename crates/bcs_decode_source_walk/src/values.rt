@@ -2,14 +2,14 @@
 ghost use Rattle.bcs_registry_formats.specs.View.{shape_of};
 ghost use Rattle.bcs_value_tree.specs.View.{tree_of};
 ghost use Rattle.bcs_decode_source_steps.specs.Sees.{Spares, takes_no_memory, read, option_value};
-ghost use Rattle.bcs_decode_source_walk.specs.Reads.{Ready, Reads};
+ghost use Rattle.bcs_decode_source_steps.specs.Reads.{Ready, Reads};
 
 use crate::containers::named;
 use crate::maps::pairs;
-use crate::reader::Reader;
 use crate::rows::{items, tuple};
 use bcs_decode_source_steps::leaf::leaf;
 use bcs_decode_source_steps::leaves::flag_node;
+use bcs_decode_source_steps::reader::Reader;
 use bcs_decode_source_steps::slots::put_absent;
 use bcs_decode_spec::DecodeFault;
 use bcs_io::ByteSource;
@@ -53,7 +53,7 @@ pub fn value<S: ByteSource>(
         | Format::F64
         | Format::Char
         | Format::Str
-        | Format::Bytes => leaf(reader.alloc, format, reader.source, reader.at, slot),
+        | Format::Bytes => leaf(reader, format, slot),
     }
 }
 
@@ -70,7 +70,7 @@ fn option<S: ByteSource>(
     requires ready { Ready S.is_failed S.allowance reader.old }
     ensures reads { Reads S.content S.is_failed S.allowance (λ _. tree_of slot.new) result reader.old (option_value (read reader.old.registry.now depth (shape_of part.now))) reader.new }
 {
-    if flag_node(reader.source, reader.at)? {
+    if flag_node(reader)? {
         value(reader, part, depth, slot)?;
         wrap_present(reader.alloc, slot)?;
     } else {

@@ -3,9 +3,10 @@ use Rattle.bcs_registry_formats.specs.Container.{content, field_shapes, payload_
 use Rattle.bcs_registry_formats.specs.View.{shape_of, formats_shapes, field_of, payload_of, container_of}
 use Rattle.bcs_registry_formats.specs.WellFormed.{levels, shapes_levels}
 use Rattle.bcs_decode_source_steps.specs.Kept.{Stands, last_bytes}
-use Rattle.bcs_decode_source_steps.specs.Sees.{Along, AlongMap, container_value, read}
+use Rattle.bcs_decode_source_steps.specs.Sees.{AlongMap, container_value, read}
+use Rattle.bcs_decode_source_steps.proofs.Readers.{Onward}
 use Rattle.bcs_decode_source_steps.proofs.StreamedRows.{ItemsSoFar, EachSoFar, PairsSoFar}
-use Rattle.bcs_decode_source_walk.specs.Reads.{Ready, IsSame}
+use Rattle.bcs_decode_source_steps.specs.Reads.{Ready, IsSame}
 use Rattle.bcs_decode_source_walk.proofs.+streaming.Given as goal
 
 -- a format in a registry has at most 33 levels with those of its container
@@ -62,33 +63,25 @@ decreases-maps::next_key g l = work l.depth (levels (shape_of l.key.now)) + 5
 
 abbrev pub invariant-rows::row-loop : goal.invariant-rows::row-loop
 invariant-rows::row-loop g l = record {
-  ready : Ready g.S.ByteSource.is_failed g.S.ByteSource.allowance l.reader;
-  same : IsSame l.initial.reader l.reader;
-  goes : Along (g.S.ByteSource.content l.initial.reader.source.now) l.initial.reader.at.now (g.S.ByteSource.content l.reader.source.now) l.reader.at.now;
+  on : Onward g.S.ByteSource.content g.S.ByteSource.is_failed g.S.ByteSource.allowance l.initial.reader l.reader;
   sees : ItemsSoFar (read l.initial.reader.registry.now l.depth (shape_of l.element)) l.count l.counter l.found.items (g.S.ByteSource.content l.initial.reader.source.now) (g.S.ByteSource.content l.reader.source.now) l.initial.reader.at.now l.reader.at.now;
 }
 
 abbrev pub invariant-rows::containers-loop : goal.invariant-rows::containers-loop
 invariant-rows::containers-loop g l = record {
-  ready : Ready g.S.ByteSource.is_failed g.S.ByteSource.allowance l.reader;
-  same : IsSame l.initial.reader l.reader;
-  goes : Along (g.S.ByteSource.content l.initial.reader.source.now) l.initial.reader.at.now (g.S.ByteSource.content l.reader.source.now) l.reader.at.now;
+  on : Onward g.S.ByteSource.content g.S.ByteSource.is_failed g.S.ByteSource.allowance l.initial.reader l.reader;
   sees : ItemsSoFar (container_value l.initial.reader.registry.now l.depth (content (container_of l.element))) l.count l.counter l.found.items (g.S.ByteSource.content l.initial.reader.source.now) (g.S.ByteSource.content l.reader.source.now) l.initial.reader.at.now l.reader.at.now;
 }
 
 abbrev pub invariant-rows::parts-loop-format : goal.invariant-rows::parts-loop-format
 invariant-rows::parts-loop-format g l = record {
-  ready : Ready g.S.ByteSource.is_failed g.S.ByteSource.allowance l.reader;
-  same : IsSame l.initial.reader l.reader;
-  goes : Along (g.S.ByteSource.content l.initial.reader.source.now) l.initial.reader.at.now (g.S.ByteSource.content l.reader.source.now) l.reader.at.now;
+  on : Onward g.S.ByteSource.content g.S.ByteSource.is_failed g.S.ByteSource.allowance l.initial.reader l.reader;
   sees : EachSoFar l.initial.reader.registry.now l.depth (formats_shapes l.formats) (formats_shapes (drop l.format-index l.formats)) l.found.items (g.S.ByteSource.content l.initial.reader.source.now) (g.S.ByteSource.content l.reader.source.now) l.initial.reader.at.now l.reader.at.now;
 }
 
 abbrev pub invariant-containers::each_field-loop-field : goal.invariant-containers::each_field-loop-field
 invariant-containers::each_field-loop-field g l = record {
-  ready : Ready g.S.ByteSource.is_failed g.S.ByteSource.allowance l.reader;
-  same : IsSame l.initial.reader l.reader;
-  goes : Along (g.S.ByteSource.content l.initial.reader.source.now) l.initial.reader.at.now (g.S.ByteSource.content l.reader.source.now) l.reader.at.now;
+  on : Onward g.S.ByteSource.content g.S.ByteSource.is_failed g.S.ByteSource.allowance l.initial.reader l.reader;
   sees : EachSoFar l.initial.reader.registry.now l.depth (field_shapes (map field_of l.fields)) (field_shapes (map field_of (drop l.field-index l.fields))) l.found.items (g.S.ByteSource.content l.initial.reader.source.now) (g.S.ByteSource.content l.reader.source.now) l.initial.reader.at.now l.reader.at.now;
 }
 

@@ -1,25 +1,16 @@
-use Rattle.std.proofs.Common.{arith}
-use Rattle.bcs_decode_spec.specs.Reading.{chain, give}
-use Rattle.bcs_decode_source_steps.proofs.Chains.{node_is}
-use Rattle.bcs_decode_source_steps.proofs.Going.{Along-then}
+use Rattle.bcs_value_tree.specs.Tree as tree
+use Rattle.bcs_decode_source_steps.proofs.Readers.{Reads-node, Reads-then, Reads-made, Reads-ends, Reads-node-ends, Reads-exit}
 use Rattle.bcs_decode_source_steps.proofs.ValueViews.{tree_bytes}
 use Rattle.bcs_decode_source_steps.proofs.leaves.put_bytes.Goals as goal
 
-pub returns-in_err-begin-clause-sees : goal.returns-in_err-begin-clause-sees
-unfolding chain give
-returns-in_err-begin-clause-sees g c = grind (arith, node_is)
+pub returns : goal.returns
+returns g c = record { reads = Reads-node c.in_ok-begin.ensures.reads (Reads-then _ c.in_ok-count.ensures.reads (Reads-made tree.bytes (tree_bytes c.in_ok-found.found) c.in_ok-found.ensures.reads)) }
 
-pub returns-in_err-count-clause-sees : goal.returns-in_err-count-clause-sees
-unfolding chain give
-returns-in_err-count-clause-sees g c = grind (arith, node_is)
+pub returns-in_err-begin : goal.returns-in_err-begin
+returns-in_err-begin g c = record { reads = Reads-exit c.from_residual.ensures.1 (Reads-node-ends _ c.in_err-begin.ensures.reads) }
 
-pub returns-in_err-found-clause-sees : goal.returns-in_err-found-clause-sees
-unfolding chain give
-returns-in_err-found-clause-sees g c = grind (arith, node_is)
+pub returns-in_err-count : goal.returns-in_err-count
+returns-in_err-count g c = record { reads = Reads-exit c.from_residual-in_err-count.ensures.1 (Reads-node c.in_ok-begin.ensures.reads (Reads-ends _ c.in_err-count.ensures.reads)) }
 
-pub returns-clause-sees : goal.returns-clause-sees
-unfolding chain give
-returns-clause-sees g c = grind (arith, node_is, tree_bytes)
-
-pub returns-clause-goes : goal.returns-clause-goes
-returns-clause-goes g c = Along-then c.in_ok-begin.ensures.goes (Along-then c.in_ok-count.ensures.goes c.in_ok-found.ensures.goes)
+pub returns-in_err-found : goal.returns-in_err-found
+returns-in_err-found g c = record { reads = Reads-exit c.from_residual-in_err-found.ensures.1 (Reads-node c.in_ok-begin.ensures.reads (Reads-then _ c.in_ok-count.ensures.reads (Reads-ends _ c.in_err-found.ensures.reads))) }

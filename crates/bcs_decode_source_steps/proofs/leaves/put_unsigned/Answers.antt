@@ -1,21 +1,13 @@
-use Rattle.std.proofs.Common.{arith}
-use Rattle.bcs_decode_spec.specs.Reading.{chain, give}
-use Rattle.bcs_decode_source_steps.proofs.Chains.{node_is}
-use Rattle.bcs_decode_source_steps.proofs.Going.{Along-then}
+use Rattle.bcs_value_tree.specs.Tree as tree
+use Rattle.bcs_decode_source_steps.proofs.Readers.{Reads-node, Reads-made, Reads-ends, Reads-node-ends, Reads-exit}
 use Rattle.bcs_decode_source_steps.proofs.ValueViews.{tree_unsigned}
 use Rattle.bcs_decode_source_steps.proofs.leaves.put_unsigned.Goals as goal
 
-pub returns-in_err-begin-clause-sees : goal.returns-in_err-begin-clause-sees
-unfolding chain give
-returns-in_err-begin-clause-sees g c = grind (arith, node_is)
+pub returns-clause-reads : goal.returns-clause-reads
+returns-clause-reads g c = Reads-node c.in_ok-begin.ensures.reads (Reads-made tree.unsigned (tree_unsigned c.in_ok-number.number) c.in_ok-number.ensures.reads)
 
-pub returns-in_err-number-clause-sees : goal.returns-in_err-number-clause-sees
-unfolding chain give
-returns-in_err-number-clause-sees g c = grind (arith, node_is)
+pub returns-in_err-begin-clause-reads : goal.returns-in_err-begin-clause-reads
+returns-in_err-begin-clause-reads g c = Reads-exit c.from_residual.ensures.1 (Reads-node-ends _ c.in_err-begin.ensures.reads)
 
-pub returns-clause-sees : goal.returns-clause-sees
-unfolding chain give
-returns-clause-sees g c = grind (arith, node_is, tree_unsigned)
-
-pub returns-clause-goes : goal.returns-clause-goes
-returns-clause-goes g c = Along-then c.in_ok-begin.ensures.goes c.in_ok-number.ensures.goes
+pub returns-in_err-number-clause-reads : goal.returns-in_err-number-clause-reads
+returns-in_err-number-clause-reads g c = Reads-exit c.from_residual-in_err-number.ensures.1 (Reads-node c.in_ok-begin.ensures.reads (Reads-ends _ c.in_err-number.ensures.reads))

@@ -1,16 +1,14 @@
-use Rattle.std.proofs.Common.{◌≡◌, ◌+◌, ◌-◌, ◌<◌, ◌≤◌, ◌^◌, false, length}
-use Rattle.bcs_decode_source_steps.specs.Sees.{Along}
+use Rattle.std.proofs.Common.{◌≡◌, ◌+◌, ◌-◌, ◌≤◌, length}
 use Rattle.bcs_decode_source_steps.proofs.Blocks.{BytesSoFar}
+use Rattle.bcs_decode_source_steps.proofs.Readers.{Onward}
 use Rattle.bcs_decode_source_steps.proofs.strings.bytes.Given as goal
 
 abbrev pub invariant-loop-found : goal.invariant-loop-found
 invariant-loop-found g l = record {
-  good : g.S.ByteSource.is_failed l.source ≡ false;
-  room : l.at.place + g.S.ByteSource.allowance l.source < 2 ^ 64;
+  on : Onward g.S.ByteSource.content g.S.ByteSource.is_failed g.S.ByteSource.allowance l.fn.reader l.reader;
   within : length l.found.items ≤ l.count;
-  far : l.at.place ≡ l.fn.at.place + length l.found.items;
-  sees : BytesSoFar l.count l.found.items (g.S.ByteSource.content l.fn.source) l.fn.at (g.S.ByteSource.content l.source) l.at;
-  goes : Along (g.S.ByteSource.content l.fn.source) l.fn.at (g.S.ByteSource.content l.source) l.at;
+  far : l.reader.at.now.place ≡ l.fn.reader.at.now.place + length l.found.items;
+  sees : BytesSoFar l.count l.found.items (g.S.ByteSource.content l.fn.reader.source.now) l.fn.reader.at.now (g.S.ByteSource.content l.reader.source.now) l.reader.at.now;
 }
 
 abbrev pub decreases-loop-found : goal.decreases-loop-found

@@ -1,23 +1,15 @@
 -- What a step of a reader does.
-use Rattle.std.specs.Prelude.{◌≡◌, ℕ, ◌+◌, ◌<◌, ◌^◌, Bool, false, List, Option, Result}
-use Rattle.bcs_registry_formats.specs.Container.{Entries, Content, content_at}
-use Rattle.bcs_registry_formats.specs.WellFormed.{IsWellFormed}
+use Rattle.std.specs.Prelude.{◌≡◌, ℕ, ◌+◌, ◌-◌, ◌<◌, ◌^◌, min, Bool, false, List, Option, Result}
 use Rattle.bcs_decode_spec.specs.declared.decode_fault.DecodeFault.{DecodeFault}
 use Rattle.bcs_decode_spec.specs.Reading.{Parser}
 use Rattle.bcs_decode_source_steps.specs.Sees.{Sees, FailedIfRead, Goes, GoesInMap}
-use Rattle.bcs_decode_source_walk.specs.declared.reader.Reader.{Reader}
+use Rattle.bcs_decode_source_steps.specs.declared.reader.Reader.{Reader}
 
 -- a reader may go on: no call of its source has failed, and the place and what the source may still give are together
 -- below 2^64
 pub record Ready {S : Type 0} (is_failed : S → Bool) (allowance : S → ℕ) (p : Reader S) : Type 0 where
   pub good : is_failed p.source.now ≡ false
   pub room : p.at.now.place + allowance p.source.now < 2 ^ 64
-
--- a name has this content in a well-formed registry
-pub record IsKnown (registry : Entries) (c : Content) : Type 0 where
-  pub name : List ℕ
-  pub has : content_at name registry ≡ c
-  pub well_formed : IsWellFormed registry
 
 -- it has the same registry, and goes on with the same source
 pub record IsSame {S : Type 0} (p q : Reader S) : Type 0 where
@@ -41,3 +33,7 @@ module _ {S : Type 0} (content : S → Option (List ℕ)) (is_failed : S → Boo
     pub room : q.at.now.place + allowance q.source.now < 2 ^ 64
     pub goes : GoesInMap n r (content p.source.now) p.at.now (content q.source.now) q.at.now
     pub same : IsSame p q
+
+-- so many, but no more than bytes are known to come
+abbrev pub room_for : {S : Type 0} → Reader S → ℕ → ℕ
+room_for p n = min n (p.at.now.known - p.at.now.place)

@@ -1,6 +1,6 @@
 //! What a value is read with.
 
-use bcs_decode_source_steps::at::At;
+use crate::at::At;
 use bcs_registry::Registry;
 use std::alloc::Global;
 
