@@ -4,7 +4,8 @@ use Rattle.std.specs.Prelude.{String, string_bytes}
 use Rattle.std.specs.Str.{bytes_eq}
 use Rattle.std.specs.declared.alloc.Global.{Global}
 use Rattle.std.proofs.lemmas.Slice.Eq.{bytes_eq-Decides}
-use Rattle.std.specs.Prelude.{IfErr, OnOk}
+use Rattle.std.specs.Prelude.{IfErr, IfSome, OnOk}
+use Rattle.std.specs.Io.KnownBytes.{Consumes}
 use Rattle.std.proofs.Math.Seq.{take-append-add}
 use Rattle.std.proofs.lemmas.List.{take-append-le}
 use Rattle.bcs_io.specs.Taking.{Took, Lost}
@@ -12,14 +13,14 @@ use Rattle.bcs_io.proofs.TakingLemmas.{Lost-then, Took-then}
 use Rattle.bcs_tool_line.specs.declared.job.Job.{Job}
 use Rattle.bcs_tool_line.specs.declared.line_fault.LineFault.{LineFault}
 use Rattle.bcs_tool_line.specs.declared.line_fault.LineFault.TheVariants.{Usage, Help, OutOfMemory}
-use Rattle.bcs_tool_files.specs.Files.{IsWorkOf, file_note}
+use Rattle.bcs_tool_files.specs.Files.{HasLargeFile, IsContent, IsFaultOfFiles, IsWorkOf, file_note, size_limit}
 use Rattle.bcs_tool_files.specs.declared.file_fault.FileFault.{FileFault}
 use Rattle.bcs_tool_files.specs.declared.file_fault.FileFault.TheVariants.{Open, Take}
 use Rattle.bcs_tool_files.specs.declared.taking.TakeFault.TheVariants as fault
 use Rattle.bcs_tool_files.specs.declared.work.Outcome.{Outcome}
 use Rattle.bcs_tool_files.specs.declared.work.Work.{Work}
-use Rattle.bcs_tool.specs.Answers.{Answers, IsContent, IsFaultNote, line_of}
-use Rattle.bcs_tool.specs.Endings.{HasAnswer, IsNote, Performs, PutFront, ReadsNoFile, TellsFault, TellsOutcome, Told, input_of}
+use Rattle.bcs_tool.specs.Answers.{Answers, IsFaultNote, line_of}
+use Rattle.bcs_tool.specs.Endings.{HasAnswer, IsNote, Performs, PutFront, ReadsNoFile, TellsFault, TellsOutcome, IsInput, Told}
 
 module _ {K : Type 0} (taken : K → Option (List ℕ)) (is_failed : K → Bool) where
   -- a text that is put, or else in part
@@ -80,29 +81,31 @@ module _ {O E : Type 0} (taken : O → Option (List ℕ)) (is_failed : O → Boo
 
 -- ---- the answer of a job
 
--- the input is the standard one
-pub has_answer : (job : Job) (work : Work) (file : Option (String Global)) (content : Option (List ℕ)) (bytes output : List ℕ) (status : ℕ)
-    → IsWorkOf job work file → file ≡ None → IsContent content bytes → Answers work bytes status output → HasAnswer job content status output
-has_answer job work file content bytes output status is none known answers =
-    let P : Option (String Global) → Type 0 = λ f. IsWorkOf job work f in
-    let Q : Option (String Global) → Type 0 = λ f. IsContent (input_of f content) bytes in
-    (work, bytes, subst P is.input is, subst Q (sym none ∙ is.input) known, answers)
+module _ {F : Type 0} (remaining : F → Option (List ℕ)) where
+  -- the input is the standard one
+  pub has_answer : (job : Job) (work : Work) (file : Option (String Global)) (content : Option (List ℕ)) (bytes output : List ℕ) (status : ℕ)
+      → IsWorkOf remaining job work file → file ≡ None → IsContent content bytes → Answers work bytes status output → HasAnswer remaining job content status output
+  has_answer job work file content bytes output status is none known answers =
+      let P : Option (String Global) → Type 0 = λ f. IsWorkOf remaining job work f in
+      let Q : Option (String Global) → Type 0 = λ f. IsInput remaining f content bytes in
+      (work, bytes, subst P is.input is, subst Q (sym none ∙ is.input) known, answers)
 
--- it is a file
-pub has_file_answer : (job : Job) (work : Work) (file : Option (String Global)) (name : String Global) (content : Option (List ℕ)) (bytes output : List ℕ) (status : ℕ)
-    → IsWorkOf job work file → file ≡ Some name → Answers work bytes status output → HasAnswer job content status output
-has_file_answer job work file name content bytes output status is some answers =
-    let P : Option (String Global) → Type 0 = λ f. IsWorkOf job work f in
-    let Q : Option (String Global) → Type 0 = λ f. IsContent (input_of f content) bytes in
-    (work, bytes, subst P is.input is, subst Q (sym some ∙ is.input) tt, answers)
+  -- it is a file
+  pub has_file_answer : (job : Job) (work : Work) (file : Option (String Global)) (name : String Global) (content : Option (List ℕ)) (bytes output : List ℕ) (status : ℕ)
+      (opened : F) → IsWorkOf remaining job work file → file ≡ Some name → IsContent (remaining opened) bytes → Answers work bytes status output
+      → HasAnswer remaining job content status output
+  has_file_answer job work file name content bytes output status opened is some known answers =
+      let P : Option (String Global) → Type 0 = λ f. IsWorkOf remaining job work f in
+      let Q : Option (String Global) → Type 0 = λ f. IsInput remaining f content bytes in
+      (work, bytes, subst P is.input is, subst Q (sym some ∙ is.input) (opened, known), answers)
 
--- the work is one of the job's, with the name of its file
-pub is_work : (job : Job) (work : Work) (file : Option (String Global)) → IsWorkOf job work file → IsWorkOf job work job.file
-is_work job work file is = let P : Option (String Global) → Type 0 = λ f. IsWorkOf job work f in subst P is.input is
+  -- the work is one of the job's, with the name of its file
+  pub is_work : (job : Job) (work : Work) (file : Option (String Global)) → IsWorkOf remaining job work file → IsWorkOf remaining job work job.file
+  is_work job work file is = let P : Option (String Global) → Type 0 = λ f. IsWorkOf remaining job work f in subst P is.input is
 
--- such a job names a file
-pub names_file : (job : Job) (work : Work) (file : Option (String Global)) (name : String Global) → IsWorkOf job work file → file ≡ Some name → ReadsNoFile job → ⊥
-names_file job work file name is some no_file = true≢false (ap is_some (sym some ∙ (is.input ∙ no_file.1)))
+  -- such a job names a file
+  pub names_file : (job : Job) (work : Work) (file : Option (String Global)) (name : String Global) → IsWorkOf remaining job work file → file ≡ Some name → ReadsNoFile job → ⊥
+  names_file job work file name is some no_file = true≢false (ap is_some (sym some ∙ (is.input ∙ no_file.1)))
 
 -- a run opens no file
 pub opens_none : (outcome : Outcome) → (outcome.status < 3) ⊎ (outcome.status ≡ 4) → (outcome.status < 3 → outcome.note.now ≡ [])
@@ -121,6 +124,13 @@ opens_none outcome (inr four) answered noted is = go (noted four)
 
 -- ---- a job whose files are not read
 
+-- a file gave a byte too many
+pub too_many_given : (content left : Option (List ℕ)) (bytes : List ℕ) → Consumes content left bytes → length bytes ≡ size_limit + 1
+    → IfSome content (λ all. size_limit < length all)
+too_many_given None left bytes given many = tt
+too_many_given (Some xs) None bytes given many = absurd given
+too_many_given (Some xs) (Some ys) bytes given many = omega (arith, many, ap (λ all. length all) given, length-append bytes ys)
+
 is_note : (f : FileFault) → IsNote (file_note f)
 is_note Open = inl refl
 is_note (Take fault.Read) = inr (inl refl)
@@ -133,28 +143,42 @@ not_write (Take fault.Read) e = differ (codes "fault: read") (codes "fault: writ
 not_write (Take fault.TooLarge) e = differ (codes "fault: too large") (codes "fault: write") refl e
 not_write (Take fault.OutOfMemory) e = differ (codes "fault: memory") (codes "fault: write") refl e
 
-module _ {S O : Type 0} (content : S → Option (List ℕ)) (has_stopped : S → Bool) (allowance : S → ℕ)
-    (taken : O → Option (List ℕ)) (is_failed : O → Bool) where
+module _ {S O F : Type 0} (content : S → Option (List ℕ)) (has_stopped : S → Bool) (allowance : S → ℕ)
+    (taken : O → Option (List ℕ)) (is_failed : O → Bool) (remaining : F → Option (List ℕ)) where
   pub no_answer : (job : Job) (input : S) (out : O) (outcome : Outcome) (f : FileFault) → outcome.status ≡ 4
-      → outcome.note.now ≡ file_note f → (ReadsNoFile job → f ≡ Take fault.OutOfMemory)
-      → Performs content has_stopped allowance taken is_failed job input input out out outcome
-  no_answer job input out outcome f is note none =
+      → outcome.note.now ≡ file_note f → (ReadsNoFile job → f ≡ Take fault.OutOfMemory) → IsFaultOfFiles remaining f
+      → Performs content has_stopped allowance taken is_failed remaining job input input out out outcome
+  no_answer job input out outcome f is note none known =
       let memory : ReadsNoFile job → outcome.note.now ≡ codes "fault: memory" = λ no_file. note ∙ ap file_note (none no_file) in
+      let named : (text : List ℕ) → bytes_eq (codes "fault: memory") text ≡ false → outcome.note.now ≡ text → ¬ ReadsNoFile job =
+      λ text other e no_file. differ (codes "fault: memory") text other (sym (memory no_file) ∙ e) in
       let P : List ℕ → Type 0 = λ text. IsNote text in record {
         status = inr is;
         answered = λ below. absurd (omega (arith, is, below));
         noted = λ _. subst P (sym note) (is_note f);
         apart = λ _. refl;
         untouched = λ _. refl;
-        unopened = λ e. (λ no_file. differ (codes "fault: memory") (codes "fault: open") refl (sym (memory no_file) ∙ e), refl, refl);
-        read = λ e. (refl, λ no_file. absurd (differ (codes "fault: memory") (codes "fault: read") refl (sym (memory no_file) ∙ e)));
-        too_large = λ e. (refl, λ no_file. absurd (differ (codes "fault: memory") (codes "fault: too large") refl (sym (memory no_file) ∙ e)));
+        unopened = λ e. (named (codes "fault: open") refl e, refl, refl);
+        read = λ e. (refl, inr (named (codes "fault: read") refl e, not_read f (sym note ∙ e) known));
+        too_large = λ e. (refl, inr (named (codes "fault: too large") refl e, is_large f (sym note ∙ e) known));
         memory = λ e. (refl, inl refl);
         write = λ e. absurd (not_write f (sym note ∙ e));
       }
+    where
+      not_read : (f : FileFault) → file_note f ≡ codes "fault: read" → IsFaultOfFiles remaining f → F
+      not_read Open e known = absurd (differ (codes "fault: open") (codes "fault: read") refl e)
+      not_read (Take fault.Read) e known = known
+      not_read (Take fault.TooLarge) e known = absurd (differ (codes "fault: too large") (codes "fault: read") refl e)
+      not_read (Take fault.OutOfMemory) e known = absurd (differ (codes "fault: memory") (codes "fault: read") refl e)
+
+      is_large : (f : FileFault) → file_note f ≡ codes "fault: too large" → IsFaultOfFiles remaining f → HasLargeFile remaining
+      is_large Open e known = absurd (differ (codes "fault: open") (codes "fault: too large") refl e)
+      is_large (Take fault.Read) e known = absurd (differ (codes "fault: read") (codes "fault: too large") refl e)
+      is_large (Take fault.TooLarge) e known = known
+      is_large (Take fault.OutOfMemory) e known = absurd (differ (codes "fault: memory") (codes "fault: too large") refl e)
 
   pub outcome_status : (job : Job) (input input' : S) (out out' : O) (outcome : Outcome) (status : ℕ)
-      → Performs content has_stopped allowance taken is_failed job input input' out out' outcome → status ≡ outcome.status → status < 5
+      → Performs content has_stopped allowance taken is_failed remaining job input input' out out' outcome → status ≡ outcome.status → status < 5
   outcome_status job input input' out out' outcome status h is = go h.status
     where
       go : (outcome.status < 3) ⊎ (outcome.status ≡ 4) → status < 5

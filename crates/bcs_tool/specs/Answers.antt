@@ -1,5 +1,5 @@
 -- What the program answers to a job and its input: a status, and the bytes of the standard output.
-use Rattle.std.specs.Prelude.{◌≡◌, ◌⊎◌, ◌≤◌, ◌<◌, ◌++◌, ◌∷◌, [], ℕ, List, Bool, true, false, Option, Some, None, codes, length, if◌then◌else◌, string_bytes}
+use Rattle.std.specs.Prelude.{◌≡◌, ◌⊎◌, ◌≤◌, ◌<◌, ◌++◌, ◌∷◌, [], ℕ, List, Bool, true, false, Some, None, codes, length, if◌then◌else◌, string_bytes}
 use Rattle.std.specs.Fmt.{decimal}
 use Rattle.hex.specs.Hex.{encode_lower}
 use Rattle.serde_json.specs.Data.{depth}
@@ -101,11 +101,6 @@ pub data Answers (work : Work) (input : List ℕ) : ℕ → List ℕ → Type 0 
   nowhere : (registry : Entries) (s : Shape) (path : List Step) (bytes : List ℕ) (n : ℕ) (c : Tree) → IsAsked work input command.Part registry s → SpellsPath (string_bytes work.path) path → given.Gives work.raw input bytes → Accepts registry work.limits s bytes n c → part_at registry path (container.of s) c ≡ None → Answers work input 1 (printed_none work.raw)
   -- `part`: no value stands at their front, since they stop being one at a place
   front_stopped : (registry : Entries) (s : Shape) (bytes : List ℕ) (reason : Reason) (place : ℕ) → IsAsked work input command.Part registry s → given.Gives work.raw input bytes → Stops registry work.limits s bytes reason place → Answers work input 2 (stop_line reason place)
-
--- these bytes may be the content: they are it, where it is known
-abbrev pub IsContent : Option (List ℕ) → List ℕ → Type 0
-IsContent None bytes = Unit {0}
-IsContent (Some content) bytes = bytes ≡ content
 
 -- what the standard error is told where there is no answer
 abbrev pub IsFaultNote : List ℕ → Type 0

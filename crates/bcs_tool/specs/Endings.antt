@@ -6,10 +6,10 @@ use Rattle.bcs_io.specs.Giving as source
 use Rattle.bcs_tool_line.specs.declared.job.Job.{Job}
 use Rattle.bcs_tool_line.specs.declared.line_fault.LineFault.{LineFault}
 use Rattle.bcs_tool_line.specs.declared.line_fault.LineFault.TheVariants.{Usage, Help, OutOfMemory}
-use Rattle.bcs_tool_files.specs.Files.{IsWorkOf, NamesNoFile, size_limit}
+use Rattle.bcs_tool_files.specs.Files.{HasLargeFile, IsContent, IsWorkOf, NamesNoFile, size_limit}
 use Rattle.bcs_tool_files.specs.declared.work.Outcome.{Outcome}
 use Rattle.bcs_tool_files.specs.declared.work.Work.{Work}
-use Rattle.bcs_tool.specs.Answers.{Answers, IsContent, IsFaultNote, line_of}
+use Rattle.bcs_tool.specs.Answers.{Answers, IsFaultNote, line_of}
 use Rattle.bcs_tool.specs.Input.{IsUnhurt}
 use Rattle.bcs_tool.specs.Judging.{ReadsInput}
 
@@ -55,35 +55,38 @@ IsWordsFault OutOfMemory = Unit {0}
 abbrev pub ReadsNoFile : Job → Type 0
 ReadsNoFile job = NamesNoFile job × (job.file ≡ None)
 
--- the content of the job's input: that of the standard input, or of a file, which is not known
-abbrev pub input_of : Option (String Global) → Option (List ℕ) → Option (List ℕ)
-input_of None content = content
-input_of (Some name) content = None
+module _ {F : Type 0} (remaining : F → Option (List ℕ)) where
+  -- the bytes may be the content of the job's input: of the standard input, or of a file that was opened
+  abbrev pub IsInput : Option (String Global) → Option (List ℕ) → List ℕ → Type 0
+  IsInput None content bytes = IsContent content bytes
+  IsInput (Some name) content bytes = (file : F) × IsContent (remaining file) bytes
 
--- the work that the job's files make of it has this answer to the input
-abbrev pub HasAnswer : Job → Option (List ℕ) → ℕ → List ℕ → Type 0
-HasAnswer job content status output = (work : Work) × (bytes : List ℕ) × IsWorkOf job work job.file
-    × IsContent (input_of job.file content) bytes × Answers work bytes status output
+  -- the work that the job's files make of it has this answer to the input
+  abbrev pub HasAnswer : Job → Option (List ℕ) → ℕ → List ℕ → Type 0
+  HasAnswer job content status output = (work : Work) × (bytes : List ℕ) × IsWorkOf remaining job work job.file
+      × IsInput job.file content bytes × Answers work bytes status output
 
 -- the note of a job that has no answer
 abbrev pub IsNote : List ℕ → Type 0
 IsNote note = (note ≡ codes "fault: open") ⊎ IsFaultNote note
 
 -- what comes of a job: its answer is put, or nothing, or a front of its answer where the output failed
-module _ {S O : Type 0} (content : S → Option (List ℕ)) (has_stopped : S → Bool) (allowance : S → ℕ)
-    (taken : O → Option (List ℕ)) (is_failed : O → Bool) where
+module _ {S O F : Type 0} (content : S → Option (List ℕ)) (has_stopped : S → Bool) (allowance : S → ℕ)
+    (taken : O → Option (List ℕ)) (is_failed : O → Bool) (remaining : F → Option (List ℕ)) where
   pub record Performs (job : Job) (input input' : S) (out out' : O) (outcome : Outcome) : Type 0 where
     pub status : (outcome.status < 3) ⊎ (outcome.status ≡ 4)
     pub answered : outcome.status < 3 → (outcome.note.now ≡ [])
-        × ((output : List ℕ) × HasAnswer job (content input) outcome.status output × sink.Took taken is_failed out out' output)
+        × ((output : List ℕ) × HasAnswer remaining job (content input) outcome.status output × sink.Took taken is_failed out out' output)
     pub noted : outcome.status ≡ 4 → IsNote outcome.note.now
     pub apart : job.file ≢ None → input' ≡ input
     -- the input is read only where the work that the files make of the job reads one
-    pub untouched : ((work : Work) → IsWorkOf job work job.file → ¬ ReadsInput work) → input' ≡ input
+    pub untouched : ((work : Work) → IsWorkOf remaining job work job.file → ¬ ReadsInput work) → input' ≡ input
     pub unopened : outcome.note.now ≡ codes "fault: open" → (¬ ReadsNoFile job) × (input' ≡ input) × (out' ≡ out)
-    pub read : outcome.note.now ≡ codes "fault: read" → (out' ≡ out) × (ReadsNoFile job → has_stopped input' ≡ true)
+    -- the input failed, or was too large; or a file was that the job names
+    pub read : outcome.note.now ≡ codes "fault: read" → (out' ≡ out) × ((has_stopped input' ≡ true) ⊎ ((¬ ReadsNoFile job) × F))
     pub too_large : outcome.note.now ≡ codes "fault: too large" → (out' ≡ out)
-        × (ReadsNoFile job → (bytes : List ℕ) × (length bytes ≡ size_limit + 1) × source.Took content has_stopped allowance input input' bytes)
+        × (((bytes : List ℕ) × (length bytes ≡ size_limit + 1) × source.Took content has_stopped allowance input input' bytes)
+        ⊎ ((¬ ReadsNoFile job) × HasLargeFile remaining))
     pub memory : outcome.note.now ≡ codes "fault: memory" → (out' ≡ out) × IsUnhurt content has_stopped allowance input input'
     pub write : outcome.note.now ≡ codes "fault: write" → (status : ℕ) × (output : List ℕ)
-        × HasAnswer job (content input) status output × PutFront taken is_failed out out' output
+        × HasAnswer remaining job (content input) status output × PutFront taken is_failed out out' output

@@ -1,9 +1,9 @@
 //! The answer to a job and its input.
 ghost use Rattle.std.specs.Prelude.{◌≡◌, ◌≢◌, ◌+◌, ℕ, List, length, true, Err, IfOk};
 ghost use Rattle.bcs_io.specs.Giving.{Took};
-ghost use Rattle.bcs_tool.specs.Answers.{Answers, IsContent};
+ghost use Rattle.bcs_tool.specs.Answers.{Answers};
 ghost use Rattle.bcs_tool.specs.Input.{IsUnhurt};
-ghost use Rattle.bcs_tool_files.specs.Files.{size_limit};
+ghost use Rattle.bcs_tool_files.specs.Files.{IsContent, size_limit};
 ghost use Rattle.bcs_tool.specs.Judging.{ReadsInput, works_on_values};
 
 use crate::answer::{Answer, counted, told};

@@ -36,7 +36,7 @@ pub fn respond<R: Files + AllocGlobal, S: ByteSource, O: ByteSink, E: ByteSink>(
         ((input.new ≡ input.old) × TellsFault O.taken O.is_failed E.taken E.is_failed
         LineFault.OutOfMemory out.old out.new errors.old errors.new result)
         ⊎ ((job : Job) × (outcome : Outcome) × IsJobOf (texts_of words.now) job
-        × Performs S.content S.is_failed S.allowance O.taken O.is_failed
+        × Performs S.content S.is_failed S.allowance O.taken O.is_failed R.File.remaining
         job input.old input.new out.old out.new outcome
         × TellsOutcome E.taken E.is_failed outcome errors.old errors.new result) }
 {
@@ -53,7 +53,7 @@ fn perform<R: Files + AllocGlobal, S: ByteSource, O: ByteSink>(
     input: &mut S,
     out: &mut O,
 ) -> Outcome
-    ensures { Performs S.content S.is_failed S.allowance O.taken O.is_failed
+    ensures { Performs S.content S.is_failed S.allowance O.taken O.is_failed R.File.remaining
         job input.old input.new out.old out.new result }
 {
     let (work, file) = match read_work(rt, job) {

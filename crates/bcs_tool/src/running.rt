@@ -2,9 +2,9 @@
 ghost use Rattle.std.specs.Prelude.{◌≡◌, ◌⊎◌, ◌<◌, ◌+◌, ℕ, List, length, take, true, Err, IfOk, codes};
 ghost use Rattle.bcs_io.specs.Taking as sink;
 ghost use Rattle.bcs_io.specs.Giving as source;
-ghost use Rattle.bcs_tool.specs.Answers.{Answers, IsContent, IsFaultNote};
+ghost use Rattle.bcs_tool.specs.Answers.{Answers, IsFaultNote};
 ghost use Rattle.bcs_tool.specs.Input.{IsUnhurt};
-ghost use Rattle.bcs_tool_files.specs.Files.{size_limit};
+ghost use Rattle.bcs_tool_files.specs.Files.{IsContent, size_limit};
 ghost use Rattle.bcs_tool.specs.Judging.{ReadsInput};
 
 use crate::answering::answer;

@@ -1,5 +1,5 @@
 -- The files that a job names.
-use Rattle.std.specs.Prelude.{◌≡◌, ◌≢◌, ◌≤◌, ◌==◌, ℕ, List, [], ◌∷◌, Bool, true, false, codes, length, Option, String, string_bytes}
+use Rattle.std.specs.Prelude.{◌≡◌, ◌≢◌, ◌≤◌, ◌<◌, ◌==◌, ℕ, List, [], ◌∷◌, Bool, true, false, codes, length, IfSome, Option, Some, None, String, string_bytes}
 use Rattle.std.specs.declared.alloc.Global.{Global}
 use Rattle.bcs_tool_line.specs.declared.command.Command.{Command}
 use Rattle.bcs_tool_line.specs.declared.command.Command.TheVariants.{Check, Grows, Encode, Decode, Normalise, Same, Part}
@@ -29,32 +29,55 @@ abbrev pub is_registry_text : List ℕ → Bool
 is_registry_text [] = false
 is_registry_text (c ∷ cs) = c == 123
 
--- bytes that were read for a word: the word itself where it is the text, and else those of a file within the size
-abbrev pub IsTextOf : List ℕ → List ℕ → Type 0
-IsTextOf word text = (is_registry_text word ≡ true → text ≡ word) × (is_registry_text word ≡ false → length text ≤ size_limit)
-
--- bytes that were read for the second word of a command: none where the command has none
-abbrev pub IsSecondOf : Command → List ℕ → List ℕ → Type 0
-IsSecondOf Check word text = text ≡ []
-IsSecondOf Grows word text = IsTextOf word text
-IsSecondOf Encode word text = text ≡ []
-IsSecondOf Decode word text = text ≡ []
-IsSecondOf Normalise word text = text ≡ []
-IsSecondOf Same word text = length text ≤ size_limit
-IsSecondOf Part word text = text ≡ []
+-- these bytes may be the content: they are it, where it is known
+abbrev pub IsContent : Option (List ℕ) → List ℕ → Type 0
+IsContent None bytes = Unit {0}
+IsContent (Some content) bytes = bytes ≡ content
 
 -- the job's registries are texts themselves, and it has no A, so that no file is read for its work
 abbrev pub NamesNoFile : Job → Type 0
 NamesNoFile job = (is_registry_text (string_bytes job.registry) ≡ true) × (job.command ≢ Same)
     × (job.command ≡ Grows → is_registry_text (string_bytes job.second) ≡ true)
 
--- the job's work, and the name of the input's file
-pub record IsWorkOf (job : Job) (work : Work) (file : Option (String Global)) : Type 0 where
-  pub command : work.command ≡ job.command
-  pub registry : IsTextOf (string_bytes job.registry) work.registry.items
-  pub second : IsSecondOf job.command (string_bytes job.second) work.second.items
-  pub format : work.format ≡ job.format
-  pub path : work.path ≡ job.path
-  pub raw : work.raw ≡ job.raw
-  pub limits : work.limits ≡ job.limits
-  pub input : file ≡ job.file
+-- What files gave. Which file a name opens, no clause of std says: it is known what an opened file gave, and
+-- not which it is.
+module _ {F : Type 0} (remaining : F → Option (List ℕ)) where
+  -- the text is all that an opened file had to give
+  abbrev pub IsFileText : List ℕ → Type 0
+  IsFileText text = (length text ≤ size_limit) × ((file : F) × IsContent (remaining file) text)
+
+  -- an opened file has a byte more than is allowed, where its content is known
+  abbrev pub HasLargeFile : Type 0
+  HasLargeFile = (file : F) × IfSome (remaining file) (λ content. size_limit < length content)
+
+  -- what is known of the files where one of them is at fault
+  abbrev pub IsFaultOfFiles : FileFault → Type 0
+  IsFaultOfFiles Open = Unit {0}
+  IsFaultOfFiles (Take Read) = F
+  IsFaultOfFiles (Take TooLarge) = HasLargeFile
+  IsFaultOfFiles (Take OutOfMemory) = Unit {0}
+
+  -- bytes that were read for a word: the word itself where it is the text, and else those of a file
+  abbrev pub IsTextOf : List ℕ → List ℕ → Type 0
+  IsTextOf word text = (is_registry_text word ≡ true → text ≡ word) × (is_registry_text word ≡ false → IsFileText text)
+
+  -- bytes that were read for the second word of a command: none where the command has none
+  abbrev pub IsSecondOf : Command → List ℕ → List ℕ → Type 0
+  IsSecondOf Check word text = text ≡ []
+  IsSecondOf Grows word text = IsTextOf word text
+  IsSecondOf Encode word text = text ≡ []
+  IsSecondOf Decode word text = text ≡ []
+  IsSecondOf Normalise word text = text ≡ []
+  IsSecondOf Same word text = IsFileText text
+  IsSecondOf Part word text = text ≡ []
+
+  -- the job's work, and the name of the input's file
+  pub record IsWorkOf (job : Job) (work : Work) (file : Option (String Global)) : Type 0 where
+    pub command : work.command ≡ job.command
+    pub registry : IsTextOf (string_bytes job.registry) work.registry.items
+    pub second : IsSecondOf job.command (string_bytes job.second) work.second.items
+    pub format : work.format ≡ job.format
+    pub path : work.path ≡ job.path
+    pub raw : work.raw ≡ job.raw
+    pub limits : work.limits ≡ job.limits
+    pub input : file ≡ job.file

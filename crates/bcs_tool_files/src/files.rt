@@ -1,9 +1,9 @@
 //! The files that a job names.
-ghost use Rattle.std.specs.Prelude.{◌≡◌, ◌≢◌, ◌≤◌, ◌+◌, ℕ, List, Err, false, true, length, vec_len, IfOk, IsOkUnless};
+ghost use Rattle.std.specs.Prelude.{◌≡◌, ◌≢◌, ◌≤◌, ◌+◌, ℕ, List, Err, false, true, length, vec_len, IfErr, IfOk, IsOkUnless};
 ghost use Rattle.std.specs.Io.KnownBytes.{IsAtEnd};
 ghost use Rattle.bcs_io.specs.Giving.{Took, Lost};
 ghost use Rattle.bcs_tool_files.specs.Files.{size_limit};
-ghost use Rattle.bcs_tool_files.specs.Files.{IsWorkOf, NamesNoFile, is_registry_text};
+ghost use Rattle.bcs_tool_files.specs.Files.{IsFaultOfFiles, IsFileText, IsTextOf, IsWorkOf, NamesNoFile, is_registry_text};
 
 use crate::file_fault::FileFault;
 use crate::limits::SIZE_LIMIT;
@@ -17,7 +17,9 @@ use std::rt::Files;
 
 /// The content of the file of this name.
 pub fn read_named<R: Files + AllocGlobal>(rt: &R, name: &str) -> Result<Vec<u8>, FileFault>
-    ensures { IfOk result (λ v. vec_len v ≤ size_limit) }
+    ensures within { IfOk result (λ v. vec_len v ≤ size_limit) }
+    ensures text { IfOk result (λ v. IsFileText R.File.remaining v.items) }
+    ensures fault { IfErr result (IsFaultOfFiles R.File.remaining) }
 {
     match File::open(rt, name) {
         Ok(file) => read_opened(rt.alloc(), &mut ReadSource::new(file)),
@@ -47,7 +49,8 @@ pub fn read_work<R: Files + AllocGlobal>(
     rt: &R,
     job: Job,
 ) -> Result<(Work, Option<String>), FileFault>
-    ensures work { IfOk result (λ r. IsWorkOf job r.0 r.1) }
+    ensures work { IfOk result (λ r. IsWorkOf R.File.remaining job r.0 r.1) }
+    ensures fault { IfErr result (IsFaultOfFiles R.File.remaining) }
     ensures good { NamesNoFile job → IsOkUnless result (FileFault.Take TakeFault.OutOfMemory) }
 {
     let registry = read_registry(rt, job.registry.as_str())?;
@@ -71,8 +74,8 @@ pub fn read_work<R: Files + AllocGlobal>(
 
 // The text of a registry: the word itself, or the content of the file that it names.
 fn read_registry<R: Files + AllocGlobal>(rt: &R, word: &str) -> Result<Vec<u8>, FileFault>
-    ensures text { is_registry_text word.now ≡ true → IfOk result (λ v. v.items ≡ word.now) }
-    ensures within { is_registry_text word.now ≡ false → IfOk result (λ v. vec_len v ≤ size_limit) }
+    ensures text { IfOk result (λ v. IsTextOf R.File.remaining word.now v.items) }
+    ensures fault { IfErr result (IsFaultOfFiles R.File.remaining) }
     ensures good { is_registry_text word.now ≡ true → IsOkUnless result (FileFault.Take TakeFault.OutOfMemory) }
 {
     if is_registry_text(word) {

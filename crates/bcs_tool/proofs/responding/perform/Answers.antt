@@ -1,13 +1,13 @@
 use Rattle.std.proofs.Common.{◌∙◌, inl, inr, refl, sym}
 use Rattle.bcs_tool_files.specs.declared.file_fault.FileFault.TheVariants.{Open}
-use Rattle.bcs_tool.proofs.EndingLemmas.{has_answer, has_file_answer, is_work, names_file, no_answer, opens_none}
+use Rattle.bcs_tool.proofs.EndingLemmas.{has_answer, has_file_answer, is_work, names_file, no_answer, opens_none, too_many_given}
 use Rattle.bcs_tool.proofs.responding.perform.Goals as goal
 
 pub returns-in-Err : goal.returns-in-Err
 returns-in-Err g c =
-    no_answer g.S.ByteSource.content g.S.ByteSource.is_failed g.S.ByteSource.allowance g.O.ByteSink.taken g.O.ByteSink.is_failed
+    no_answer g.S.ByteSource.content g.S.ByteSource.is_failed g.S.ByteSource.allowance g.O.ByteSink.taken g.O.ByteSink.is_failed g.R.File.Read.remaining
     c.args.job c.args.input.now c.args.out.now c.failed.result c.in-Err.fault c.failed.ensures.status (c.failed.ensures.note ∙ c.note.ensures)
-    (λ no_file. c.in-Err.ensures.good no_file.0)
+    (λ no_file. c.in-Err.ensures.good no_file.0) c.in-Err.ensures.fault
 
 -- the standard input
 pub returns-in_default : goal.returns-in_default
@@ -18,20 +18,20 @@ returns-in_default g c =
       status = e.status;
       answered = λ below.
           let a = e.answered below in
-          (a.0, (a.1.1, has_answer c.args.job c.in-Ok.read.0 c.in-Ok.read.1 content a.1.0 a.1.1 c.run.result.status work c.in_default.is a.1.2 a.1.3, a.1.4));
+          (a.0, (a.1.1, has_answer g.R.File.Read.remaining c.args.job c.in-Ok.read.0 c.in-Ok.read.1 content a.1.0 a.1.1 c.run.result.status work c.in_default.is a.1.2 a.1.3, a.1.4));
       noted = λ four. inr (e.noted four);
       apart = λ named. absurd (named (sym work.input ∙ c.in_default.is));
-      untouched = λ refused. e.untouched (refused c.in-Ok.read.0 (is_work c.args.job c.in-Ok.read.0 c.in-Ok.read.1 work));
+      untouched = λ refused. e.untouched (refused c.in-Ok.read.0 (is_work g.R.File.Read.remaining c.args.job c.in-Ok.read.0 c.in-Ok.read.1 work));
       unopened = λ is. absurd (opens_none c.run.result e.status (λ below. (e.answered below).0) e.noted is);
       read = λ is.
-          let r = e.read is in (r.2, λ _. r.1);
+          let r = e.read is in (r.2, inl r.1);
       too_large = λ is.
-          let r = e.too_large is in (r.2, λ _. r.1);
+          let r = e.too_large is in (r.2, inl r.1);
       memory = λ is.
           let m = e.memory is in (m.1, m.0);
       write = λ is.
           let w = e.write is in
-          (w.1, w.2, has_answer c.args.job c.in-Ok.read.0 c.in-Ok.read.1 content w.0 w.2 w.1 work c.in_default.is w.4 w.5, (w.3, w.6, w.7));
+          (w.1, w.2, has_answer g.R.File.Read.remaining c.args.job c.in-Ok.read.0 c.in-Ok.read.1 content w.0 w.2 w.1 work c.in_default.is w.4 w.5, (w.3, w.6, w.7));
     }
 
 -- a file
@@ -40,27 +40,30 @@ returns-in-Ok-open g c =
     let e = c.run-in-Ok-open.ensures in
     let work = c.in-Ok.ensures.work in
     let content = g.S.ByteSource.content c.args.input.now in
-    let named = names_file c.args.job c.in-Ok.read.0 c.in-Ok.read.1 c.in-Some.name work c.in-Some.is in record {
+    let opened = c.new.result.reader in
+    let named = names_file g.R.File.Read.remaining c.args.job c.in-Ok.read.0 c.in-Ok.read.1 c.in-Some.name work c.in-Some.is in record {
       status = e.status;
       answered = λ below.
           let a = e.answered below in
-          (a.0, (a.1.1, has_file_answer c.args.job c.in-Ok.read.0 c.in-Ok.read.1 c.in-Some.name content a.1.0 a.1.1 c.run-in-Ok-open.result.status work c.in-Some.is a.1.3, a.1.4));
+          (a.0, (a.1.1, has_file_answer g.R.File.Read.remaining c.args.job c.in-Ok.read.0 c.in-Ok.read.1 c.in-Some.name content a.1.0 a.1.1 c.run-in-Ok-open.result.status opened work c.in-Some.is a.1.2 a.1.3, a.1.4));
       noted = λ four. inr (e.noted four);
       apart = λ _. refl;
       untouched = λ _. refl;
       unopened = λ is. absurd (opens_none c.run-in-Ok-open.result e.status (λ below. (e.answered below).0) e.noted is);
-      read = λ is. ((e.read is).2, λ no_file. absurd (named no_file));
-      too_large = λ is. ((e.too_large is).2, λ no_file. absurd (named no_file));
+      read = λ is. ((e.read is).2, inr (named, opened));
+      too_large = λ is.
+          let r = e.too_large is in
+          (r.2, inr (named, (opened, too_many_given (g.R.File.Read.remaining opened) _ r.1.0 r.1.2.front r.1.1)));
       memory = λ is. ((e.memory is).1, inl refl);
       write = λ is.
           let w = e.write is in
-          (w.1, w.2, has_file_answer c.args.job c.in-Ok.read.0 c.in-Ok.read.1 c.in-Some.name content w.0 w.2 w.1 work c.in-Some.is w.5, (w.3, w.6, w.7));
+          (w.1, w.2, has_file_answer g.R.File.Read.remaining c.args.job c.in-Ok.read.0 c.in-Ok.read.1 c.in-Some.name content w.0 w.2 w.1 opened work c.in-Some.is w.4 w.5, (w.3, w.6, w.7));
     }
 
 -- a file that isn't there
 pub returns : goal.returns
 returns g c =
-    no_answer g.S.ByteSource.content g.S.ByteSource.is_failed g.S.ByteSource.allowance g.O.ByteSink.taken g.O.ByteSink.is_failed
+    no_answer g.S.ByteSource.content g.S.ByteSource.is_failed g.S.ByteSource.allowance g.O.ByteSink.taken g.O.ByteSink.is_failed g.R.File.Read.remaining
     c.args.job c.args.input.now c.args.out.now c.failed-in-Err-open.result Open c.failed-in-Err-open.ensures.status
     (c.failed-in-Err-open.ensures.note ∙ c.note-in-Err-open.ensures)
-    (λ no_file. absurd (names_file c.args.job c.in-Ok.read.0 c.in-Ok.read.1 c.in-Some.name c.in-Ok.ensures.work c.in-Some.is no_file))
+    (λ no_file. absurd (names_file g.R.File.Read.remaining c.args.job c.in-Ok.read.0 c.in-Ok.read.1 c.in-Some.name c.in-Ok.ensures.work c.in-Some.is no_file)) tt

@@ -6,7 +6,7 @@ use Rattle.bcs_tool.proofs.responding.respond.Goals as goal
 
 pub returns-in-Ok-clause-status : goal.returns-in-Ok-clause-status
 returns-in-Ok-clause-status g c =
-    outcome_status g.S.ByteSource.content g.S.ByteSource.is_failed g.S.ByteSource.allowance g.O.ByteSink.taken g.O.ByteSink.is_failed
+    outcome_status g.S.ByteSource.content g.S.ByteSource.is_failed g.S.ByteSource.allowance g.O.ByteSink.taken g.O.ByteSink.is_failed g.R.File.Read.remaining
     _ _ _ _ _ c.perform.result _ c.perform.ensures c.tell_outcome.ensures.0
 
 pub returns-in-Ok-clause-no_job : goal.returns-in-Ok-clause-no_job
