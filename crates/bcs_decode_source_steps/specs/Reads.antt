@@ -17,6 +17,11 @@ pub record IsSame {S : Type 0} (p q : Reader S) : Type 0 where
   pub source : q.source.ghost_name ≡ p.source.ghost_name
   pub at : q.at.ghost_name ≡ p.at.ghost_name
 
+-- it took nothing from the source
+pub record IsStill {S : Type 0} (p q : Reader S) : Type 0 where
+  pub source : q.source.now ≡ p.source.now
+  pub place : q.at.now.place ≡ p.at.now.place
+
 module _ {S : Type 0} (content : S → Option (List ℕ)) (is_failed : S → Bool) (allowance : S → ℕ) where
   -- the reader went on from p to q; what was returned, seen by view, is what the parser finds in the told bytes
   pub record Reads {X A : Type 0} (view : X → A) (r : Result X DecodeFault) (p : Reader S) (f : Parser A) (q : Reader S) : Type 0 where

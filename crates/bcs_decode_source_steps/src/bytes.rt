@@ -3,7 +3,7 @@ ghost use Rattle.std.specs.Prelude.{◌≡◌, ◌+◌, ◌++◌, false, true, l
 ghost use Rattle.bcs_decode_spec.specs.Reading.{bytes_here};
 ghost use Rattle.bcs_decode_spec.specs.declared.decode_fault.DecodeFault.TheVariants.{OutOfMemory};
 ghost use Rattle.bcs_decode_source_steps.specs.Kept.{SamePlace};
-ghost use Rattle.bcs_decode_source_steps.specs.Reads.{Ready, Reads};
+ghost use Rattle.bcs_decode_source_steps.specs.Reads.{IsStill, Ready, Reads};
 ghost use Rattle.bcs_decode_source_steps.specs.Sees.{SparesMemory, byte_here, node_here};
 
 use crate::at::At;
@@ -17,6 +17,7 @@ use bcs_io::filling::fill;
 pub fn begin<S: ByteSource>(reader: &mut Reader<'_, S>) -> Result<(), DecodeFault>
     requires ready { Ready S.is_failed S.allowance reader.old }
     ensures reads { Reads S.content S.is_failed S.allowance (λ x. x) result reader.old node_here reader.new }
+    ensures still { IsStill reader.old reader.new }
     ensures spares { SparesMemory result reader.old.at.now }
 {
     if reader.at.nodes == 0 {

@@ -5,7 +5,7 @@ ghost use Rattle.bcs_value_tree.specs.Tree.{unit as no_value};
 ghost use Rattle.bcs_num.specs.Le.{width_of};
 ghost use Rattle.bcs_value_tree.specs.View.{tree_of};
 ghost use Rattle.bcs_decode_spec.specs.Reading.{flag_here, unsigned_here, signed_here};
-ghost use Rattle.bcs_decode_source_steps.specs.Reads.{Ready, Reads};
+ghost use Rattle.bcs_decode_source_steps.specs.Reads.{IsStill, Ready, Reads};
 ghost use Rattle.bcs_decode_source_steps.specs.Sees.{SparesMemory, flag_node, unit_leaf, truth_leaf, unsigned_leaf, signed_leaf, unsupported_leaf, text_leaf, bytes_leaf};
 
 use crate::bytes::{array, begin, byte};
@@ -186,6 +186,7 @@ pub fn put_bytes<S: ByteSource>(
 pub fn refuse<S: ByteSource>(reader: &mut Reader<'_, S>) -> Result<(), DecodeFault>
     requires ready { Ready S.is_failed S.allowance reader.old }
     ensures reads { Reads S.content S.is_failed S.allowance (λ _. no_value) result reader.old unsupported_leaf reader.new }
+    ensures still { IsStill reader.old reader.new }
     ensures refused { IsErr result }
     ensures spares { SparesMemory result reader.old.at.now }
 {

@@ -1,6 +1,6 @@
 //! Where containers and variants begin.
 ghost use Rattle.std.specs.Prelude.{◌<◌, IfOk};
-ghost use Rattle.bcs_decode_source_steps.specs.Reads.{Ready, Reads};
+ghost use Rattle.bcs_decode_source_steps.specs.Reads.{IsStill, Ready, Reads};
 ghost use Rattle.bcs_decode_source_steps.specs.Sees.{enter_here, number_node};
 
 use crate::bytes::begin;
@@ -15,6 +15,7 @@ use bcs_io::ByteSource;
 pub fn enter<S: ByteSource>(reader: &mut Reader<'_, S>, depth: u32) -> Result<(), DecodeFault>
     requires ready { Ready S.is_failed S.allowance reader.old }
     ensures reads { Reads S.content S.is_failed S.allowance (λ x. x) result reader.old (enter_here depth) reader.new }
+    ensures still { IsStill reader.old reader.new }
     ensures positive { IfOk result (λ _. 0 < depth) }
 {
     if depth == 0 {
