@@ -102,7 +102,7 @@ module _ (registry : Entries) where
     pieces_cut way p (tree.named t) _ = cut_none p
     pieces_cut way p (tree.variant n t) _ = cut_none p
 
-    items_cut : (way : Way) (p i : ℕ) (ts : Trees) (s : Shape) → Cut p (plain_items registry ts s) (pieces_items registry way p i ts s)
+    pub items_cut : (way : Way) (p i : ℕ) (ts : Trees) (s : Shape) → Cut p (plain_items registry ts s) (pieces_items registry way p i ts s)
     items_cut way p i no_trees s = cut_none p
     items_cut way p i (tree t ts) s =
         let q = p + length (plain registry t (container.of s)) in
@@ -125,7 +125,7 @@ module _ (registry : Entries) where
         cut_then p (plain registry t (container.of f.1)) (plain_each registry ts (field_shapes fs)) (pieces registry (onto way (field i f.0)) p t (of f.1)) (pieces_fields registry way q (i + 1) ts fs)
         (pieces_cut (onto way (field i f.0)) p t (of f.1)) (fields_cut way q (i + 1) ts fs)
 
-    pairs_cut : (way : Way) (p i : ℕ) (ps : Pairs) (k v : Shape) → Cut p (plain_pairs registry ps k v) (pieces_pairs registry way p i ps k v)
+    pub pairs_cut : (way : Way) (p i : ℕ) (ps : Pairs) (k v : Shape) → Cut p (plain_pairs registry ps k v) (pieces_pairs registry way p i ps k v)
     pairs_cut way p i no_pairs k v = cut_none p
     pairs_cut way p i (pair l w ps) k v =
         let a = plain registry l (container.of k) in

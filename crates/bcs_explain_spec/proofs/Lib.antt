@@ -7,4 +7,5 @@ pub mod Told
 pub mod Stops
 pub mod StoppedRows
 pub mod StoppedTold
+pub mod StopCutting
 pub mod WorkedRows

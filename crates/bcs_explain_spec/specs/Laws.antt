@@ -9,7 +9,7 @@ use Rattle.bcs_decode_spec.specs.declared.reason.Reason.{Reason}
 use Rattle.bcs_decode_spec.specs.Accepting.{Accepts}
 use Rattle.bcs_decode_spec.specs.Stopping.{Stops}
 use Rattle.bcs_explain_spec.specs.Way.{Way}
-use Rattle.bcs_explain_spec.specs.Piece.{Cut}
+use Rattle.bcs_explain_spec.specs.Piece.{Cut, CutsFront}
 use Rattle.bcs_explain_spec.specs.Held.{Held, of, unnamed}
 use Rattle.bcs_explain_spec.specs.Pieces.{pieces}
 use Rattle.bcs_explain_spec.specs.Telling.{tell}
@@ -28,3 +28,8 @@ ToldAtAnEncoding = (registry : Entries) (limits : Bounds) (s : Shape) (b : List 
 abbrev pub ToldAtAStop : Type 0
 ToldAtAStop = (registry : Entries) (limits : Bounds) (s : Shape) (b : List ℕ) (e : Reason) (o : ℕ) (h : Stops registry limits s b e o)
     → tell registry limits.depth s [] 0 limits.nodes b ≡ stop_pieces registry limits s b e o h
+
+-- and they cut a front of the bytes
+abbrev pub StopPiecesCutAFront : Type 0
+StopPiecesCutAFront = (registry : Entries) (limits : Bounds) (s : Shape) (b : List ℕ) (e : Reason) (o : ℕ) (h : Stops registry limits s b e o)
+    → CutsFront 0 b (stop_pieces registry limits s b e o h)

@@ -57,3 +57,7 @@ pub record Cut (p : ℕ) (b : List ℕ) (xs : List Piece) : Type 0 where
   pub joined : pieces_bytes xs ≡ b
   pub adjoin : Adjoin p xs
   pub filled : Filled xs
+
+-- they cut some first ones of these bytes
+abbrev pub CutsFront : ℕ → List ℕ → List Piece → Type 0
+CutsFront p b xs = (a c : List ℕ) × (b ≡ a ++ c) × Cut p a xs

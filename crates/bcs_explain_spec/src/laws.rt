@@ -1,5 +1,5 @@
 //! What holds of pieces: laws that a proof may cite. No call does anything.
-ghost use Rattle.bcs_explain_spec.specs.Laws.{PiecesCutTheBytes, ToldAtAStop, ToldAtAnEncoding};
+ghost use Rattle.bcs_explain_spec.specs.Laws.{PiecesCutTheBytes, StopPiecesCutAFront, ToldAtAStop, ToldAtAnEncoding};
 
 /// One after another, the pieces' bytes are the value's. Each stands where the one before it ends, and none is empty.
 pub fn pieces_cut_the_bytes()
@@ -14,4 +14,9 @@ pub fn told_at_an_encoding()
 /// Where bytes stop, what is told are the pieces that stand before the stop.
 pub fn told_at_a_stop()
     ensures { ToldAtAStop }
+{}
+
+/// The pieces before a stop are a front of the bytes, one after another and none of them empty.
+pub fn stop_pieces_cut_a_front()
+    ensures { StopPiecesCutAFront }
 {}

@@ -1,5 +1,5 @@
 -- What was looked up, and what it holds.
-use Rattle.std.proofs.Common.{◌≡◌, ℕ, ◌+◌, ◌-◌, ◌<◌, List, [], ◌∷◌, length, get_or, map, drop, Option, Some, None, option_map, Bor, string_bytes, ◌++◌, take, ◌⊎◌, Ok, Err, refl, sym, ap, ◌∙◌}
+use Rattle.std.proofs.Common.{◌≡◌, ℕ, ◌+◌, ◌-◌, ◌<◌, List, [], ◌∷◌, length, get_or, map, drop, Option, Some, None, option_map, Bor, string_bytes, ◌++◌, take, Ok, Err, refl, sym, ap, ◌∙◌}
 use Rattle.std.proofs.lemmas.List.{drop_more}
 use Rattle.std.specs.Ordering.{nat_cmp}
 use Rattle.std.specs.Map.{lookup}
@@ -10,7 +10,7 @@ use Rattle.bcs_registry_formats.proofs.Lookup.{find-choice}
 use Rattle.bcs_registry_formats.specs.Shape as shape
 use Rattle.bcs_registry_formats.specs.Shape.{Shape}
 use Rattle.bcs_registry_formats.specs.Container.{Entries, Field, Choice, Payload, container_at, choice_numbered}
-use Rattle.bcs_registry_formats.specs.View.{shape_of, field_of, container_of, payload_of, choice_of}
+use Rattle.bcs_registry_formats.specs.View.{field_of, container_of, payload_of, choice_of}
 use Rattle.bcs_registry_formats.specs.declared.format.Format as format
 use Rattle.bcs_registry_formats.specs.declared.named.Named.{Named}
 use Rattle.bcs_registry_formats.specs.declared.container.Container as declared

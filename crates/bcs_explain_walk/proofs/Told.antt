@@ -10,10 +10,10 @@ use Rattle.bcs_decode_spec.specs.declared.reason.Reason.{Reason}
 use Rattle.bcs_decode_spec.specs.declared.reason.Reason.TheVariants.{BadOption}
 use Rattle.bcs_decode_spec.specs.Reading.{Read, Parser, follow, chain, give, node, number_here, length_here, flag_here, items_here, skipping, key_here}
 use Rattle.bcs_decode_slice_steps.specs.Passing.{node_here, skip, whole_here, counted_here, variant_past, enter_here}
-use Rattle.bcs_explain_spec.specs.Way.{Way, onto, item, field, inner, opening, variant, key, value}
+use Rattle.bcs_explain_spec.specs.Way.{Way, onto, item, field, inner, opening, key, value}
 use Rattle.bcs_explain_spec.specs.Piece as pieces
 use Rattle.bcs_explain_spec.specs.Piece.{Piece, Meaning, piece_at, elements, entries, octets}
-use Rattle.bcs_explain_spec.specs.Held.{Held, of, fields, one_of, nothing, held_at}
+use Rattle.bcs_explain_spec.specs.Held.{Held, fields, one_of, held_at}
 use Rattle.bcs_explain_spec.specs.Pieces.{is_octet}
 use Rattle.bcs_explain_spec.specs.Telling.{Telling, after, tell, tell_shape, tell_each, tell_fields, tell_choice, tell_variant, tell_held, tell_named, tell_items, tell_row, tell_pairs, begun, note, noting, noting_then, going, silent}
 use Rattle.bcs_explain_steps.specs.Leaf.{flag_node}
