@@ -386,8 +386,10 @@ pub containers::named-returns-in_err-enter : goal.containers::named-returns-in_e
 containers::named-returns-in_err-enter g t c =
     let r = c.args.reader.now.registry.now in
     let from = g.S.ByteSource.content c.args.reader.now.source.now in
-    record { reads = Reads-exit c.from_residual.ensures.1 (Onward-ends (Onward-none (record { good = search rules; room = search rules })) c.in_err-enter.ensures.reads (Refuses-whole c.in_err-enter.field-0.0 from from c.args.reader.now.at.now c.args.reader.now.at.now (container_value r c.args.depth (content_at c.args.name.now r)) (enter_here c.args.depth) (λ told. told)
-            (λ e o told stop. container_stop r c.args.depth c.args.reader.now.at.now.place c.args.reader.now.at.now.nodes (rest_of from) (content_at c.args.name.now r) e o stop) c.in_err-enter.ensures.reads.sees)) }
+    record {
+      reads = Reads-exit c.from_residual.ensures.1 (Onward-ends (Onward-none (record { good = search rules; room = search rules })) c.in_err-enter.ensures.reads (Refuses-whole c.in_err-enter.field-0.0 from from c.args.reader.now.at.now c.args.reader.now.at.now (container_value r c.args.depth (content_at c.args.name.now r)) (enter_here c.args.depth) (λ told. told)
+          (λ e o told stop. container_stop r c.args.depth c.args.reader.now.at.now.place c.args.reader.now.at.now.nodes (rest_of from) (content_at c.args.name.now r) e o stop) c.in_err-enter.ensures.reads.sees));
+    }
 
 pub containers::named-returns-in_default : goal.containers::named-returns-in_default
 containers::named-returns-in_default g t c =
@@ -395,8 +397,10 @@ containers::named-returns-in_default g t c =
     let at = c.args.reader.now.at.now in
     let from = g.S.ByteSource.content c.args.reader.now.source.now in
     let on = Onward-then (Onward-none (record { good = search rules; room = search rules })) c.in_ok-enter.ensures.reads in
-    record { reads = Onward-stops on (omega arith) (λ told. ap (λ k. container_value r c.args.depth k at.place at.nodes (rest_of from)) (content_missing r c.args.name.now c.container.result c.container.ensures.found c.in_default.is)
-            ∙ container_missing r c.args.depth at.place at.nodes (rest_of from) _ _ _ (c.in_ok-enter.ensures.reads.sees told).0) }
+    record {
+      reads = Onward-stops on (omega arith) (λ told. ap (λ k. container_value r c.args.depth k at.place at.nodes (rest_of from)) (content_missing r c.args.name.now c.container.result c.container.ensures.found c.in_default.is)
+          ∙ container_missing r c.args.depth at.place at.nodes (rest_of from) _ _ _ (c.in_ok-enter.ensures.reads.sees told).0);
+    }
 
 pub containers::container-returns : goal.containers::container-returns
 unfolding chain give container_value
