@@ -15,9 +15,9 @@ use bcs_value::{Limits, Value};
 use std::alloc::Global;
 
 /// The canonical value that the source gives, of which it takes exactly the bytes. A refusal is the stop at which the
-/// bytes stop being a value, or `Read` where the source failed, or `OutOfMemory` where a growth was refused.
-/// Memory follows the bytes and elements that were read, and none is asked for by a length that the bytes announce.
-/// Elements that have no bytes take memory one by one too, as many as the limit of nodes lets begin. After a refusal the
+/// bytes stop being a value, or `Read` where the source failed, or `OutOfMemory` where a growth was refused. Memory
+/// follows the bytes and elements that were read, and none is asked for by a length that the bytes announce. Elements
+/// that have no bytes take memory one by one too, as many as the limit of nodes lets begin. After a refusal the
 /// source isn't to be read on: it gave a front of its content, which after `Read` and `OutOfMemory` may end anywhere.
 pub fn decode_from<S: ByteSource>(
     alloc: Global,
@@ -62,8 +62,8 @@ pub fn decode_all<S: ByteSource>(
     }
 }
 
-/// The value at the front, and how many bytes it has, of a source of which so many bytes are known to come. Vectors begin
-/// with room for what that may hold.
+/// The value at the front, and how many bytes it has, of a source of which so many bytes are known to come. Vectors
+/// begin with room for what that may hold.
 pub(crate) fn front<S: ByteSource>(
     alloc: Global,
     registry: &Registry,

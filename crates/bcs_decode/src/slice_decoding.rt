@@ -49,7 +49,8 @@ pub fn decode_slice(
 }
 
 /// The canonical value whose encoding the input is. It is for bytes that an encoder gave within the same limits: they
-/// can't stop being a value, so they aren't scanned first, and only memory may run out. The format need not be admitted.
+/// can't stop being a value, so they aren't scanned first, and only memory may run out. The format need not be
+/// admitted.
 pub fn decode_encoded(
     alloc: Global,
     registry: &Registry,

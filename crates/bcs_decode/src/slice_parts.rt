@@ -21,8 +21,8 @@ use bcs_value::Limits;
 /// The part of the value at the front of the input to which the steps lead, as a slice of the input. None exactly where
 /// they lead nowhere. No memory is taken.
 ///
-/// A `Stop` is that of [`scan`](crate::scan): a part is handed out only where a value stands at the front, and what comes
-/// after the value isn't read.
+/// A `Stop` is that of [`scan`](crate::scan): a part is handed out only where a value stands at the front, and what
+/// comes after the value isn't read.
 pub fn part<'a>(
     registry: &Registry,
     format: &Format,

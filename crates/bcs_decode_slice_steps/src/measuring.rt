@@ -8,8 +8,8 @@ ghost use Rattle.bcs_decode_slice_steps.specs.Fixed.{IsFixed, IsFixedInside};
 use crate::fixed_size::{FixedSize, NODE, whole_size};
 use bcs_registry::{Container, Format, Named, Registry};
 
-/// The size of each value of the format, inside which so many containers may open. `None`: the values differ in size, or
-/// some bytes are none, or more than `looks` formats would have to be looked at.
+/// The size of each value of the format, inside which so many containers may open. `None`: the values differ in size,
+/// or some bytes are none, or more than `looks` formats would have to be looked at.
 #[cycle(measuring)]
 pub fn value_size(
     registry: &Registry,

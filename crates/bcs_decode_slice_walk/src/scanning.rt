@@ -1,5 +1,5 @@
-//! Going past values of a format, front to back. `value`, `content` and `next_key` are part of their callers, and nothing
-//! else is, so that each level of a format takes one small frame of the stack.
+//! Going past values of a format, front to back. `value`, `content` and `next_key` are part of their callers, and
+//! nothing else is, so that each level of a format takes one small frame of the stack.
 ghost use Rattle.std.specs.Prelude.{◌≡◌, ℕ, ◌+◌, ◌<◌, ◌≤◌, ◌^◌, List, None, length, map};
 ghost use Rattle.bcs_registry_formats.specs.Container as spec;
 ghost use Rattle.bcs_registry_formats.specs.Container.{content_at, field_shapes, payload_shape};

@@ -10,8 +10,8 @@ use bcs_value_tree::Value;
 use bcs_value_tree::slot::put_pairs;
 use std::alloc::AllocError;
 
-/// Entries that were read, and the key whose value is to come. They stand on the heap, so that a level of maps takes little
-/// of the stack.
+/// Entries that were read, and the key whose value is to come. They stand on the heap, so that a level of maps takes
+/// little of the stack.
 #[derive(Drop)]
 pub struct Entries {
     pub found: Vec<(Value, Value)>,

@@ -1,5 +1,5 @@
-//! Values that have no parts, each built in the caller's slot. Those that `leaf` alone reads are part of it, so that a width is
-//! known where its bytes are taken.
+//! Values that have no parts, each built in the caller's slot. Those that `leaf` alone reads are part of it, so that
+//! a width is known where its bytes are taken.
 ghost use Rattle.std.specs.Prelude.{IsErr};
 ghost use Rattle.bcs_value_tree.specs.Tree.{unit as no_value};
 ghost use Rattle.bcs_num.specs.Le.{width_of};

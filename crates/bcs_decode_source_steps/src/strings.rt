@@ -15,8 +15,8 @@ const FIRST_BLOCK: usize = 512;
 /// The most bytes that are taken at a time.
 const LAST_BLOCK: usize = 65536;
 
-/// So many bytes. They are taken by blocks that are as long as what was read before them, so that memory follows what was
-/// read.
+/// So many bytes. They are taken by blocks that are as long as what was read before them, so that memory follows what
+/// was read.
 pub fn bytes<S: ByteSource>(reader: &mut Reader<'_, S>, count: u32) -> Result<Vec<u8>, DecodeFault>
     requires ready { Ready S.is_failed S.allowance reader.old }
     ensures reads { Reads S.content S.is_failed S.allowance (λ v. v.items) result reader.old (bytes_here count) reader.new }

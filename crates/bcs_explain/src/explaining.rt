@@ -19,7 +19,8 @@ use bcs_explain_walk::walking::value;
 use bcs_registry::{Format, Registry};
 use bcs_value::Limits;
 
-/// Tells of each piece of the value of the format at the front of the input, in order, and answers how many bytes it has.
+/// Tells of each piece of the value of the format at the front of the input, in order, and answers how many bytes it
+/// has.
 ///
 /// The `Stop` is that of `scan`. Then the pieces that stand before it were told.
 pub fn explain<T: Listener>(

@@ -1,4 +1,5 @@
-//! A value with its format, as it is printed: a serializer is sent its JSON, front to back, with no JSON made in between.
+//! A value with its format, as it is printed: a serializer is sent its JSON, front to back, with no JSON made in
+//! between.
 ghost use Rattle.std.specs.Prelude.{◌≡◌, IfSome, IsTrue, OnOk, false, is_some, Some, if◌then◌else◌, map, string_bytes};
 ghost use Rattle.hex.specs.Hex.{encode_lower};
 ghost use Rattle.serde_json.specs.Data.{array, null, object, string};

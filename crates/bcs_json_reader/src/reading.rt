@@ -1,5 +1,5 @@
-//! Reading a value's JSON, front to back. Each call takes its JSON and gives the value of the tree that it spells, or the
-//! first fault.
+//! Reading a value's JSON, front to back. Each call takes its JSON and gives the value of the tree that it spells, or
+//! the first fault.
 ghost use Rattle.serde_json.specs.View.{view};
 ghost use Rattle.bcs_registry_formats.specs.View.{shape_of, formats_shapes};
 ghost use Rattle.bcs_registry_formats.specs.Shape.{tuple as tuple_shape};

@@ -1,4 +1,5 @@
-//! Reading JSON that has no values inside, what names stand for, and taking JSON apart, so that its parts are moved and not copied.
+//! Reading JSON that has no values inside, what names stand for, and taking JSON apart, so that its parts are moved
+//! and not copied.
 #![tactic(auto)]
 
 pub mod arrays;

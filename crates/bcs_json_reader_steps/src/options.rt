@@ -11,7 +11,8 @@ use crate::objects::only_member;
 use bcs_json_spec::JsonFault;
 use serde_json::Value as Json;
 
-/// What an option carries: nothing where `null` stands, else the one member of an object, whose name is `some`. `BadShape`: other JSON.
+/// What an option carries: nothing where `null` stands, else the one member of an object, whose name is `some`.
+/// `BadShape`: other JSON.
 pub fn option_of(json: Json) -> Result<Option<Json>, JsonFault>
     ensures ok { IfOk result (λ part. view json ≡ option_json (option_map view part)) }
     ensures fault { IfErr result (λ e. (r : Data → Read Tree) → spec.read_option r (view json) ≡ Err e) }

@@ -73,8 +73,8 @@ fn deepest_value(alloc: Global, level: Level) -> Result<Value, AllocError> {
     Ok(value)
 }
 
-// A container has 33 bytes: its variant's number, and a byte for each level, the tag of an option or the length of a list
-// or a map.
+// A container has 33 bytes: its variant's number, and a byte for each level, the tag of an option or the length of a
+// list or a map.
 fn deepest_bytes(alloc: Global) -> Result<Vec<u8>, AllocError> {
     let mut bytes = Vec::new(alloc);
     for place in 0..16_500u32 {

@@ -1,5 +1,5 @@
-//! Tests of the registries, the values, the encoder and the decoder that aren't rows of `test_rows`. There is nothing to
-//! call.
+//! Tests of the registries, the values, the encoder and the decoder that aren't rows of `test_rows`. There is nothing
+//! to call.
 #![tactic(auto)]
 
 #[cfg(test)]

@@ -1,4 +1,5 @@
-//! A wide copy, limits, and what the stack holds. Rows say which values are the same, and how deep and how large they are.
+//! A wide copy, limits, and what the stack holds. Rows say which values are the same, and how deep and how large they
+//! are.
 use crate::building::{named, present, variant};
 use bcs_value::{Limits, Value, depth, nodes, same};
 use std::alloc::{AllocError, Global};

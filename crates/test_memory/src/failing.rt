@@ -191,7 +191,8 @@ fn unread_told(alloc: Global, work: &Work, line: &str, status: u8) -> Told {
     Told::of(outcome.status == status && jobs::is_line(out.taken(), line) && !source.failed())
 }
 
-// The output takes so many bytes of the line, and then fails: at the line's end at the latest. Nothing is put behind it.
+// The output takes so many bytes of the line, and then fails: at the line's end at the latest. Nothing is put behind
+// it.
 fn put_told(alloc: Global, work: &Work, [input, line]: [&str; 2], status: u8, done: usize) -> Told {
     let mut source = SliceSource::new(input.as_bytes());
     let mut out = PieceSink::<256>::new(1, Some((done as u64).saturating_add(1)));

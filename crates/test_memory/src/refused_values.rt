@@ -10,8 +10,8 @@ use crate::{encoders, texts};
 use bcs_value::Value;
 use std::alloc::Global;
 
-/// A row `other` asks at another format than the value's, `limited` within limits that the value exceeds, and `twice` of
-/// a map that has its first entry twice.
+/// A row `other` asks at another format than the value's, `limited` within limits that the value exceeds, and `twice`
+/// of a map that has its first entry twice.
 pub(crate) fn ask(alloc: Global, row: &Row, tally: &mut Tally) -> Result<(), Told> {
     let asked = Asked::read(alloc, row, row.format, "")?;
     let value = value_of(alloc, &asked, row.input)?;

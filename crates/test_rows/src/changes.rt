@@ -6,7 +6,8 @@ use crate::row_fault::RowFault;
 use crate::verdicts::verdict;
 use std::alloc::Global;
 
-/// Asks each call at the bytes, at each front of them, and with each other byte at each place. Answers how often it asked.
+/// Asks each call at the bytes, at each front of them, and with each other byte at each place. Answers how often it
+/// asked.
 pub(crate) fn agreeing_changes(
     alloc: Global,
     question: &Question,
