@@ -10,10 +10,10 @@ use crate::measuring::value_size;
 use bcs_registry::{Format, Registry};
 
 /// How many values a list has at least whose format is worth a look.
-const FEW: u64 = 16;
+pub const FEW: u64 = 16;
 
 /// The most formats that are looked at for one list.
-const LOOKS: u32 = 256;
+pub const LOOKS: u32 = 256;
 
 /// How many of so many values of one format are gone past in one step: as many as are there, where all have one size.
 /// The next ones are to be gone past one by one. It is part of its caller, so that a short list costs no call.
@@ -60,7 +60,7 @@ fn long_row(
 }
 
 /// Goes past as many of so many values of one size as the bytes and the nodes that are left have room for.
-fn sized_row(cursor: &mut Cursor, size: FixedSize, count: u64) -> u64
+pub fn sized_row(cursor: &mut Cursor, size: FixedSize, count: u64) -> u64
     requires room { cursor.old.place + length cursor.old.rest.now < 2 ^ 64 }
     requires node { 0 < size.nodes }
     ensures within { result ≤ count }

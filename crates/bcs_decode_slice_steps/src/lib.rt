@@ -4,7 +4,7 @@
 pub mod cursor;
 pub mod fixed_row;
 pub mod fixed_size;
-mod measuring;
+pub mod measuring;
 pub mod named_container;
 pub mod shallow;
 pub mod whole_row;

@@ -4,6 +4,7 @@ pub mod Past
 pub mod Tells
 pub mod ToldRows
 pub mod Told
+pub mod Silence
 pub mod Stops
 pub mod StoppedRows
 pub mod StoppedTold

@@ -13,7 +13,7 @@ use Rattle.bcs_decode_spec.specs.Stopping.{AllAre, Follows, ShapeStop, NamedStop
 use Rattle.bcs_decode_spec.proofs.Skipped.{Leads, mapped, forget, mapped_value}
 use Rattle.bcs_decode_spec.proofs.Values.{exact_value}
 
-forgets : Leads building skipping forget forget forget
+pub forgets : Leads building skipping forget forget forget
 forgets = record {
   unit_is = refl;
   truth_is = λ x. refl;

@@ -9,15 +9,15 @@ use Rattle.bcs_explain_steps.specs.Hearing.{Hears}
 use Rattle.bcs_explain_spec.specs.Telling.{Telling, note, after, noting, going, noting_then}
 use Rattle.bcs_explain_steps.specs.Leaf.{gone}
 
-module _ {K : Type 0} (heard : K → List Piece) (has_lost : K → Bool) where
+module _ {K : Type 0} (heard : K → List Piece → Type 0) (has_lost : K → Bool) where
   pub hears_nothing : (a : K) → Hears heard has_lost a a []
-  hears_nothing a h = (h, sym (append-nil (heard a)))
+  hears_nothing a h = (h, λ before k. subst (heard a) (sym (append-nil before)) k)
 
   pub hears_then : (a b c : K) (xs ys : List Piece) → Hears heard has_lost a b xs → Hears heard has_lost b c ys → Hears heard has_lost a c (xs ++ ys)
   hears_then a b c xs ys f g h =
       let q = g h in
       let p = f q.0 in
-      (p.0, q.1 ∙ ap (λ (l : List Piece). l ++ ys) p.1 ∙ append_assoc (heard a) xs ys)
+      (p.0, λ before k. subst (heard c) (append_assoc before xs ys) (q.1 (before ++ xs) (p.1 before k)))
 
   pub hears_as : (a b : K) (xs ys : List Piece) → xs ≡ ys → Hears heard has_lost a b xs → Hears heard has_lost a b ys
   hears_as a b xs ys e h = subst (λ (l : List Piece). Hears heard has_lost a b l) e h

@@ -26,6 +26,6 @@ meaning_of declared.Octets = pieces.octets
 meaning_of (declared.Option b) = pieces.option b
 meaning_of (declared.Variant n name) = pieces.chosen n name.now
 
--- it was told of these pieces, unless it ran out of memory, after which it says nothing
-abbrev pub Hears : {K : Type 0} → (K → List Piece) → (K → Bool) → K → K → List Piece → Type 0
-Hears heard has_lost old new ps = has_lost new ≡ false → (has_lost old ≡ false) × (heard new ≡ heard old ++ ps)
+-- whatever it had heard before, it has heard these pieces behind it, unless it ran out of memory, after which it says nothing
+abbrev pub Hears : {K : Type 0} → (K → List Piece → Type 0) → (K → Bool) → K → K → List Piece → Type 0
+Hears heard has_lost old new ps = has_lost new ≡ false → (has_lost old ≡ false) × ((before : List Piece) → heard old before → heard new (before ++ ps))

@@ -1,5 +1,5 @@
 //! Who is told of the pieces.
-ghost use Rattle.std.specs.Prelude.{◌≡◌, Bool, List};
+ghost use Rattle.std.specs.Prelude.{◌≡◌, ◌+◌, ◌<◌, ◌^◌, Bool, List, length};
 ghost use Rattle.bcs_explain_spec.specs.Piece.{Piece, piece_at};
 ghost use Rattle.bcs_explain_steps.specs.Trail.{way_of};
 ghost use Rattle.bcs_explain_steps.specs.Hearing.{Hears, meaning_of};
@@ -35,14 +35,15 @@ pub enum Meaning<'a> {
 
 /// Is told of the pieces, one by one. One that runs out of memory has lost what it was told, and goes on.
 pub trait Listener {
-    /// The pieces that it was told of so far.
-    ghost heard: { Self → List Piece };
+    /// Whether these are the pieces that it was told of so far.
+    ghost heard: { Self → List Piece → Type 0 };
 
     /// Whether it ran out of memory.
     ghost has_lost: { Self → Bool };
 
     /// Is told of a piece. One without bytes is none.
     fn hear(&mut self, place: u64, bytes: &[u8], trail: &Trail<'_, '_, '_>, meaning: Meaning<'_>)
+        requires room { place + length bytes.now < 2 ^ 64 }
         ensures { Hears heard has_lost self.old self.new
             (piece_at (way_of trail.now) place bytes.now (meaning_of meaning.entry)) };
 }

@@ -17,6 +17,7 @@ ghost use Rattle.bcs_explain_spec.specs.Telling.{tell as told, tell_carried, tel
 use bcs_decode_slice_steps::cursor::{Cursor, node};
 use bcs_decode_slice_steps::shallow::{enter, follows, variant_number};
 use bcs_decode_spec::{Reason, Stop};
+use bcs_explain_steps::empty_row::empty_row;
 use bcs_explain_steps::leaf::{is_octet, tell_leaf};
 use bcs_explain_steps::leaves::{tell, tell_count, tell_flag, tell_octets};
 use bcs_explain_steps::listener::{Counted, Listener, Meaning};
@@ -116,7 +117,7 @@ pub fn value<'r, 'a, T: Listener>(
     }
 }
 
-/// So many values of one format, as one piece where they are `U8`.
+/// So many values of one format, as one piece where they are `U8`. Those that have no bytes are gone past in one step.
 #[cycle(walking)]
 fn items<'r, 'a, T: Listener>(
     registry: &'r Registry,
@@ -135,7 +136,12 @@ fn items<'r, 'a, T: Listener>(
     if is_octet(row.element) {
         tell_octets(cursor, row.count, trail, out)
     } else {
-        elements(registry, row, depth, cursor, trail, out)
+        let gone = empty_row(registry, row.element, row.count, depth, cursor);
+        let left = Row {
+            element: row.element,
+            count: row.count - gone,
+        };
+        elements(registry, left, depth, cursor, trail, out)
     }
 }
 

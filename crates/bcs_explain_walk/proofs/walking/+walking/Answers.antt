@@ -728,9 +728,15 @@ items-returns-then-is_octet-clause-hears g t c =
     (told_octets c.args.registry.now c.args.depth (shape_of c.args.row.element.now) (λ w. told c.args.registry.now c.args.depth (shape_of c.args.row.element.now) w) (way_of c.args.trail.now) c.args.row.count c.args.cursor.now.place c.args.cursor.now.nodes c.args.cursor.now.rest.now is)
     c.tell_octets.ensures.hears
 
+pub items-returns-else-is_octet-clause-passes : goal.items-returns-else-is_octet-clause-passes
+items-returns-else-is_octet-clause-passes g t c =
+    passes_from (λ x. x) c.elements.result _ (items_here skipping (skip c.args.registry.now c.args.depth (shape_of c.args.row.element.now)) (c.args.row.count - c.empty_row-gone.result)) c.args.cursor.now c.empty_row-gone.new.cursor c.elements.new.cursor
+    c.empty_row-gone.ensures.whole c.elements.ensures.passes
+
 pub items-returns-else-is_octet-clause-hears : goal.items-returns-else-is_octet-clause-hears
 items-returns-else-is_octet-clause-hears g t c =
     let is = sym c.is_octet.ensures ∙ c.if-is_octet.false in
     hears_as g.T.Listener.heard g.T.Listener.has_lost c.args.out.now c.elements.new.out _ _
-    (told_elements c.args.registry.now c.args.depth (shape_of c.args.row.element.now) (λ w. told c.args.registry.now c.args.depth (shape_of c.args.row.element.now) w) (way_of c.args.trail.now) c.args.row.count c.args.cursor.now.place c.args.cursor.now.nodes c.args.cursor.now.rest.now is)
+    (sym (c.empty_row-gone.ensures.tells (way_of c.args.trail.now))
+    ∙ told_elements c.args.registry.now c.args.depth (shape_of c.args.row.element.now) (λ w. told c.args.registry.now c.args.depth (shape_of c.args.row.element.now) w) (way_of c.args.trail.now) c.args.row.count c.args.cursor.now.place c.args.cursor.now.nodes c.args.cursor.now.rest.now is)
     c.elements.ensures.hears

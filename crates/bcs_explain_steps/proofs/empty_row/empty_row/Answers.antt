@@ -1,0 +1,27 @@
+use Rattle.std.proofs.Common.{◌≡◌, ◌-◌, arith}
+use Rattle.bcs_registry_formats.specs.View.{shape_of}
+use Rattle.bcs_decode_slice_steps.specs.Passing.{skip}
+use Rattle.bcs_decode_slice_steps.proofs.Reaching.{items_reach}
+use Rattle.bcs_explain_spec.specs.Telling.{tell as told}
+use Rattle.bcs_explain_steps.proofs.EmptyRows.{nothing_fixed, rows_alike}
+use Rattle.bcs_explain_steps.proofs.empty_row.empty_row.Goals as goal
+
+pub returns-clause-whole : goal.returns-clause-whole
+returns-clause-whole c =
+    let at = c.args.cursor.now in
+    let size = c.in-Some.size in
+    let row = c.sized_row.ensures in
+    rw (row.rest, row.place, row.nodes)
+    (items_reach (skip c.args.registry.now c.args.depth (shape_of c.args.element.now)) size.bytes size.nodes c.in-Some.ensures.fixed.0
+    c.sized_row.result c.args.count row.within at.place at.nodes at.rest.now row.bytes row.begun)
+
+pub returns-clause-tells : goal.returns-clause-tells
+returns-clause-tells c way =
+    let r = c.args.registry.now in
+    let s = shape_of c.args.element.now in
+    let size = c.in-Some.size in
+    let at = c.args.cursor.now in
+    let on = c.sized_row.new.cursor in
+    let none : size.bytes ≡ 0 = omega (arith, c.if-size-ne0.false) in
+    rows_alike (skip r c.args.depth s) (λ w. told r c.args.depth s w) (nothing_fixed r c.args.depth s size.bytes size.nodes c.in-Some.ensures.fixed.0 none) way
+    c.args.count (c.args.count - c.sized_row.result) at.place at.nodes at.rest.now on.place on.nodes on.rest.now
