@@ -1,0 +1,6 @@
+//! Parts of a printed line: escaped text, numbers, hexadecimal digits, and the blanks between columns.
+#![tactic(auto)]
+
+pub mod columns;
+pub mod escaping;
+pub mod laws;

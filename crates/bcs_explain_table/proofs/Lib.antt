@@ -1,0 +1,5 @@
+pub mod Texts
+pub mod TrailViews
+pub mod Hearing
+pub mod Explained
+pub mod OneExplanation

@@ -1,0 +1,11 @@
+//! What is printed of a value's bytes, piece by piece: a line for each.
+#![tactic(auto)]
+
+mod damage;
+mod explanation;
+mod meaning;
+mod rows;
+mod table;
+mod way;
+
+pub use explanation::{Explanation, explain_text};

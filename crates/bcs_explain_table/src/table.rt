@@ -1,0 +1,86 @@
+//! A listener that writes a line for each piece.
+ghost use Rattle.std.specs.Prelude.{◌≡◌, ◌++◌, ◌+◌, ◌<◌, ◌^◌, [], List, OnOk, false, length};
+ghost use Rattle.bcs_explain_spec.specs.Piece.{Piece, piece_at, pieces_bytes};
+ghost use Rattle.bcs_explain_steps.specs.Hearing.{Hears, meaning_of};
+ghost use Rattle.bcs_explain_steps.specs.Trail.{way_of};
+ghost use Rattle.bcs_explain_table.specs.Table.{piece_text, table};
+
+use crate::meaning::put_meaning;
+use crate::rows::{put_first_row, put_more_rows};
+use crate::way::put_way;
+use bcs_explain::{Listener, Meaning, Trail};
+use bcs_explain_columns::columns::end_column;
+use std::alloc::{AllocError, Global};
+
+const MEANING_WIDTH: usize = 30;
+
+/// The lines of the pieces that were told of so far.
+#[derive(Drop)]
+pub(crate) struct Table {
+    pub text: Vec<u8>,
+    /// How many bytes these pieces have.
+    pub told: u64,
+    /// Whether memory ran out.
+    pub has_lost: bool,
+}
+
+impl Table {
+    pub(crate) fn new(alloc: Global) -> Table
+        ensures text { result.text.items ≡ [] }
+        ensures told { result.told ≡ 0 }
+        ensures has_lost { result.has_lost ≡ false }
+    {
+        Table {
+            text: Vec::new(alloc),
+            told: 0,
+            has_lost: false,
+        }
+    }
+}
+
+impl Listener for Table {
+    ghost use Rattle.bcs_explain_table.specs.Heard.{holds, lost};
+
+    ghost heard = { holds };
+
+    ghost has_lost = { lost };
+
+    fn hear(&mut self, place: u64, bytes: &[u8], trail: &Trail<'_, '_, '_>, meaning: Meaning<'_>)
+        requires room { place + length bytes.now < 2 ^ 64 }
+        ensures { Hears holds lost self.old self.new
+            (piece_at (way_of trail.now) place bytes.now (meaning_of meaning.entry)) }
+    {
+        if self.has_lost || bytes.is_empty() {
+            return;
+        }
+        match put_piece(place, bytes, trail, meaning, &mut self.text) {
+            Ok(()) => self.told = self.told.wrapping_add(bytes.len() as u64),
+            Err(AllocError) => self.has_lost = true,
+        }
+    }
+}
+
+// The lines of a piece.
+fn put_piece(
+    place: u64,
+    bytes: &[u8],
+    trail: &Trail<'_, '_, '_>,
+    meaning: Meaning<'_>,
+    out: &mut Vec<u8>,
+) -> Result<(), AllocError>
+    requires room { place + length bytes.now < 2 ^ 64 }
+    ensures { OnOk result (out.new.items ≡ out.old.items ++ piece_text (record {
+      place = place;
+      bytes = bytes.now;
+      way = way_of trail.now;
+      meaning = meaning_of meaning.entry;
+    })) }
+{
+    let rest = put_first_row(place, bytes, out)?;
+    let start = out.len();
+    put_meaning(trail, bytes.len(), meaning, out)?;
+    end_column(start, MEANING_WIDTH, out)?;
+    put_way(trail, out)?;
+    out.push(b'\n')?;
+    put_more_rows(place + (bytes.len() - rest.len()) as u64, rest, out)
+}
