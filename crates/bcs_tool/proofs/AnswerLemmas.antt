@@ -9,6 +9,7 @@ use Rattle.bcs_value_spec.specs.Limits.{Bounds}
 use Rattle.bcs_decode_spec.specs.declared.stop.Stop.{Stop}
 use Rattle.bcs_decode_spec.specs.Accepting.{Accepts}
 use Rattle.bcs_decode_spec.specs.Stopping.{StopsAll}
+use Rattle.bcs_explain_table.specs.Explains.{Explains}
 use Rattle.bcs_json.specs.Showing.{Shows}
 use Rattle.bcs_json.specs.declared.from_fault.FromFault.{FromFault}
 use Rattle.bcs_json.specs.declared.from_fault.FromFault.TheVariants as from
@@ -19,14 +20,15 @@ use Rattle.hex.specs.Hex.{decode_of}
 use Rattle.hex.specs.declared.error.FromHexError.{FromHexError}
 use Rattle.hex.specs.declared.error.FromHexError.TheVariants.{OutOfMemory}
 use Rattle.bcs_json_spec.specs.FaultNames.{json_fault_name}
-use Rattle.bcs_tool.specs.Answers.{Answers, IsAsked, checked, decoded, different, encoded, equal, first_refused, found, front_stopped, grown, no_bytes, normalised, nowhere, refusal_line, refused, refused_early, second_refused, stopped, too_nested}
+use Rattle.bcs_tool.specs.Answers.{Answers, IsAsked, checked, damaged, decoded, different, encoded, equal, explained, explained_status, explained_text, first_refused, found, front_stopped, grown, no_bytes, normalised, nowhere, refusal_line, refused, refused_early, second_refused, stopped, too_nested}
+use Rattle.bcs_tool.specs.Input.{Gives}
 use Rattle.bcs_tool.specs.Judging.{Asks, RefusesAt, RefusesFormatted, RefusesPart, works_on_values}
 use Rattle.bcs_tool.specs.declared.job_fault.JobFault.{JobFault}
 use Rattle.bcs_tool.specs.declared.job_fault.JobFault.TheVariants.{BadPath, Growth, Registry}
 use Rattle.bcs_tool_files.specs.Files.{IsContent, size_limit}
 use Rattle.bcs_tool_files.specs.declared.work.Work.{Work}
 use Rattle.bcs_tool_line.specs.declared.command.Command.{Command}
-use Rattle.bcs_tool_line.specs.declared.command.Command.TheVariants.{Check, Grows, Encode, Decode, Normalise, Same, Part}
+use Rattle.bcs_tool_line.specs.declared.command.Command.TheVariants.{Check, Grows, Encode, Decode, Explain, Normalise, Same, Part}
 
 pub same_answer : (work : Work) (input : List ℕ) (s t : ℕ) (p q : List ℕ) → t ≡ s → q ≡ p → Answers work input s p → Answers work input t q
 same_answer work input s t p q same_status same_output is =
@@ -60,6 +62,7 @@ refuses_formatted Check work fault on h = cc
 refuses_formatted Grows work fault on h = cc
 refuses_formatted Encode work fault on h = h
 refuses_formatted Decode work fault on h = h
+refuses_formatted Explain work fault on h = h
 refuses_formatted Normalise work fault on h = h
 refuses_formatted Same work fault on h = h
 refuses_formatted Part work fault on h = refuses_part work fault h
@@ -72,6 +75,12 @@ module _ (registry : Entries) (limits : Bounds) (s : Shape) (bytes : List ℕ) (
   pub nests : fault ≡ from.TooNested → Shows registry limits s bytes (Err fault)
       → (c : Tree) × Accepts registry limits s bytes (length bytes) c × (nesting_limit < depth (shown registry c (of s)))
   nests is h = subst (λ (f : FromFault). Shows registry limits s bytes (Err f)) is h
+
+-- bytes that are explained, whether they are a value's or stop being one
+pub explains : (work : Work) (input : List ℕ) (registry : Entries) (s : Shape) (bytes text : List ℕ) (stop : Option Stop) → IsAsked work input Explain registry s
+    → Gives work.raw input bytes → Explains registry work.limits s bytes text stop → Answers work input (explained_status stop) (explained_text text stop)
+explains work input registry s bytes text None asked gives is = explained registry s bytes text asked gives is
+explains work input registry s bytes text (Some stop) asked gives is = damaged registry s bytes text stop.reason stop.place asked gives is
 
 -- an answer ends with 0, 1 or 2
 pub status_below : (work : Work) (input : List ℕ) (s : ℕ) (p : List ℕ) → Answers work input s p → s < 3
@@ -88,6 +97,8 @@ status_below work input s p (second_refused r f t e k d h) = omega arith
 status_below work input s p (decoded r f b t k g h) = omega arith
 status_below work input s p (stopped r f b e o k g h) = omega arith
 status_below work input s p (too_nested r f b c k g a h) = omega arith
+status_below work input s p (explained r f b t k g h) = omega arith
+status_below work input s p (damaged r f b t e o k g h) = omega arith
 status_below work input s p (no_bytes c r f o k h) = omega arith
 status_below work input s p (found r f t b n c x k i g a h) = omega arith
 status_below work input s p (nowhere r f t b n c k i g a h) = omega arith

@@ -1,5 +1,5 @@
 -- A job has at most one answer to an input.
-use Rattle.std.proofs.Common.{◌≡◌, ◌<◌, ◌∙◌, ◌⊎◌, inl, inr, ℕ, List, Bool, true, false, Some, None, Ok, codes, length, string_bytes, ap, ap₂, arith, refl, sym, subst}
+use Rattle.std.proofs.Common.{◌≡◌, ◌<◌, ◌∙◌, ◌⊎◌, ◌++◌, inl, inr, ℕ, List, Bool, true, false, Option, Some, None, Ok, codes, length, string_bytes, ap, ap₂, arith, refl, sym, subst}
 use Rattle.std.proofs.lemmas.Bool.{true≢false}
 use Rattle.serde_json.specs.Data.{depth}
 use Rattle.serde_json.specs.Written.{compact_text}
@@ -19,6 +19,9 @@ use Rattle.bcs_decode_spec.specs.Stopping.{Stops, StopsAll}
 use Rattle.bcs_decode_spec.proofs.Verdicts.{accepts_once_is, no_two_verdicts_are, no_two_verdicts_of_all_are, stops_all_once_is, stops_once_is}
 use Rattle.bcs_decode_parts.specs.Parts.{Step, Part, part_at}
 use Rattle.bcs_decode_spec.specs.declared.reason.Reason.{Reason}
+use Rattle.bcs_decode_spec.specs.declared.stop.Stop.{Stop}
+use Rattle.bcs_explain_table.specs.Explains.{Explains}
+use Rattle.bcs_explain_table.proofs.OneExplanation.{explains_once}
 use Rattle.bcs_json_spec.specs.declared.json_fault.JsonFault.{JsonFault}
 use Rattle.bcs_json_spec.specs.Headline.{Compares, HasBytes, Normalises, ShowsBytes}
 use Rattle.bcs_json_spec.specs.JsonContent.{of}
@@ -36,7 +39,7 @@ use Rattle.bcs_tool_line.specs.declared.command.Command.TheVariants.{Check, Enco
 use Rattle.bcs_tool_line.specs.declared.command.Command.TheVariants as command
 use Rattle.bcs_tool.specs.AnswerLaws.{OneAnswer}
 use Rattle.bcs_json_spec.specs.FaultNames.{json_fault_name}
-use Rattle.bcs_tool.specs.Answers.{Answers, IsAsked, count_line, line_of, printed, printed_none, refusal_line, stop_line}
+use Rattle.bcs_tool.specs.Answers.{Answers, IsAsked, count_line, explained_status, explained_text, line_of, printed, printed_none, refusal_line, stop_line}
 use Rattle.bcs_tool.specs.Answers as answer
 use Rattle.bcs_tool.specs.Input as given
 use Rattle.bcs_tool.specs.Judging.{IsFormat, IsPath, IsRegistry, RefusesAt, RefusesFormatted, job_fault_name}
@@ -92,6 +95,12 @@ module _ (work : Work) (input : List ℕ) where
     abbrev Decoded : ℕ → List ℕ → Type 0
     Decoded s p = Given Shown s p
 
+    abbrev Pieced : List ℕ → ℕ → List ℕ → Type 0
+    Pieced bytes s p = (t : List ℕ) × (x : Option Stop) × Explains r work.limits f bytes t x × (s ≡ explained_status x) × (p ≡ explained_text t x)
+
+    abbrev Explained : ℕ → List ℕ → Type 0
+    Explained s p = Given Pieced s p
+
     -- what is printed of the value at the front of the bytes
     abbrev Led : List Step → Tree → ℕ → List ℕ → Type 0
     Led path c s p = ((x : Part) × (part_at r path (container.of f) c ≡ Some x) × (s ≡ 0) × (p ≡ printed work.raw (plain r x.value x.content)))
@@ -114,6 +123,7 @@ module _ (work : Work) (input : List ℕ) where
   Late command.Grows s p = (r : Entries) × (n : Entries) × IsRegistry work.registry.items r × IsRegistry work.second.items n × Grows r n × (s ≡ 0) × (p ≡ line_of (codes "grows"))
   Late Encode s p = Valued Encoded s p
   Late Decode s p = Valued Decoded s p
+  Late command.Explain s p = Valued Explained s p
   Late Normalise s p = Valued Normalised s p
   Late command.Same s p = Valued Compared s p
   Late command.Part s p = (path : List Step) × SpellsPath (string_bytes work.path) path × Valued (λ r f. Parted r f path) s p
@@ -153,8 +163,15 @@ module _ (work : Work) (input : List ℕ) where
   told (answer.decoded r f b t a g h) = by Decode 0 (line_of t) a.is_command (valued Decoded Decode r f 0 (line_of t) a (inl (b, g, inl (t, h, refl, refl))))
   told (answer.stopped r f b e o a g h) = by Decode 2 (stop_line e o) a.is_command (valued Decoded Decode r f 2 (stop_line e o) a (inl (b, g, inr (inl (e, o, h, refl, refl)))))
   told (answer.too_nested r f b c a g h n) = by Decode 2 (refusal_line (codes "TooNested")) a.is_command (valued Decoded Decode r f 2 (refusal_line (codes "TooNested")) a (inl (b, g, inr (inr (c, h, n, refl, refl)))))
+  told (answer.explained r f b t a g h) =
+      by command.Explain 0 t a.is_command (valued Explained command.Explain r f 0 t a (inl (b, g, (t, None, h, refl, refl))))
+  told (answer.damaged r f b t e o a g h) =
+      by command.Explain 2 (t ++ stop_line e o) a.is_command
+      (valued Explained command.Explain r f 2 (t ++ stop_line e o) a (inl (b, g, (t, Some (record { reason = e; place = o }), h, refl, refl))))
   told (answer.no_bytes c r f (inl is) a h) = by Decode 2 (refusal_line (codes "BadHex")) (a.is_command ∙ is) (valued Decoded c r f 2 (refusal_line (codes "BadHex")) a (inr (h, refl, refl)))
-  told (answer.no_bytes c r f (inr is) a h) =
+  told (answer.no_bytes c r f (inr (inr is)) a h) =
+      by command.Explain 2 (refusal_line (codes "BadHex")) (a.is_command ∙ is) (valued Explained c r f 2 (refusal_line (codes "BadHex")) a (inr (h, refl, refl)))
+  told (answer.no_bytes c r f (inr (inl is)) a h) =
       let path = spelled c r f is a in
       let own = subst (λ (k : Command). IsAsked work input k r f) is a in
       by command.Part 2 (refusal_line (codes "BadHex")) own.is_command (parted r f path.0 2 (refusal_line (codes "BadHex")) own path.1 (inr (h, refl, refl)))
@@ -282,6 +299,14 @@ module _ (work : Work) (input : List ℕ) where
     one_decoded : (s z : ℕ) (p q : List ℕ) → Decoded r f s p → Decoded r f z q → Agrees s p z q
     one_decoded s z p q h k = one_given_answer (Shown r f) one_shown s z p q h k
 
+    one_pieced : (bytes : List ℕ) (s z : ℕ) (p q : List ℕ) → Pieced r f bytes s p → Pieced r f bytes z q → Agrees s p z q
+    one_pieced bytes s z p q (t, x, h, hs, hp) (u, y, k, ks, kq) =
+        let same = explains_once r work.limits f bytes t u x y h k in
+        (hs ∙ ap explained_status same.1 ∙ sym ks, hp ∙ ap₂ explained_text same.0 same.1 ∙ sym kq)
+
+    one_explained : (s z : ℕ) (p q : List ℕ) → Explained r f s p → Explained r f z q → Agrees s p z q
+    one_explained s z p q h k = one_given_answer (Pieced r f) one_pieced s z p q h k
+
     -- ---- of a part
 
     one_led : (path : List Step) (c : Tree) (s z : ℕ) (p q : List ℕ) → Led r f path c s p → Led r f path c z q → Agrees s p z q
@@ -323,6 +348,7 @@ module _ (work : Work) (input : List ℕ) where
   one_late command.Grows s z p q (r, n, h, g, w, hs, hp) (r2, n2, k, i, x, ks, kq) = (hs ∙ sym ks, hp ∙ sym kq)
   one_late Encode s z p q h k = one_valued Encoded one_encoded s z p q h k
   one_late Decode s z p q h k = one_valued Decoded one_decoded s z p q h k
+  one_late command.Explain s z p q h k = one_valued Explained one_explained s z p q h k
   one_late Normalise s z p q h k = one_valued Normalised one_normalised s z p q h k
   one_late command.Same s z p q h k = one_valued Compared one_compared s z p q h k
   one_late command.Part s z p q (path, spells, h) (other, also, k) =
@@ -339,6 +365,7 @@ module _ (work : Work) (input : List ℕ) where
   not_late command.Grows fault s p h (r, n, is, i, g, ks, kq) = not_grown work fault r n h is i g
   not_late Encode fault s p h k = of_valued Encoded fault s p h k
   not_late Decode fault s p h k = of_valued Decoded fault s p h k
+  not_late command.Explain fault s p h k = of_valued Explained fault s p h k
   not_late Normalise fault s p h k = of_valued Normalised fault s p h k
   not_late command.Same fault s p h k = of_valued Compared fault s p h k
   not_late command.Part fault s p h (path, spells, (r, f, is, a, x)) = not_parted work fault r f path h is a spells

@@ -164,6 +164,7 @@ one_refusal command.Check work e g h k = one_check work e g h k
 one_refusal command.Grows work e g h k = one_growth work e g h k
 one_refusal command.Encode work e g h k = one_formatted work e g h k
 one_refusal command.Decode work e g h k = one_formatted work e g h k
+one_refusal command.Explain work e g h k = one_formatted work e g h k
 one_refusal command.Normalise work e g h k = one_formatted work e g h k
 one_refusal command.Same work e g h k = one_formatted work e g h k
 one_refusal command.Part work e g h k = one_part work e g h k

@@ -11,6 +11,7 @@ use Rattle.bcs_decode_spec.proofs.Verdicts.{some_verdict_is, some_verdict_of_all
 use Rattle.bcs_decode_spec.specs.Accepting.{Accepts}
 use Rattle.bcs_decode_spec.specs.Exact.{AreBytes}
 use Rattle.bcs_decode_parts.specs.Parts.{Part, Step, part_at}
+use Rattle.bcs_explain_table.specs.Explains as explains
 use Rattle.bcs_json.proofs.Outcomes.{compares}
 use Rattle.bcs_json_spec.specs.Headline.{Compares}
 use Rattle.bcs_json_spec.specs.JsonContent.{of}
@@ -20,7 +21,7 @@ use Rattle.bcs_json_spec.proofs.OneAnswer.{text_denotes_or_is_refused}
 use Rattle.bcs_json_spec.proofs.SomeText.{some_bytes, some_normal_text, some_shown_text}
 use Rattle.bcs_json_spec.specs.declared.json_fault.JsonFault.{JsonFault}
 use Rattle.bcs_tool.specs.AnswerLaws.{SomeAnswer}
-use Rattle.bcs_tool.specs.Answers.{Answers, IsAsked, checked, decoded, different, encoded, equal, first_refused, found, front_stopped, grown, no_bytes, normalised, nowhere, refused, refused_early, second_refused, stopped, too_nested}
+use Rattle.bcs_tool.specs.Answers.{Answers, IsAsked, checked, damaged, decoded, different, encoded, equal, explained, first_refused, found, front_stopped, grown, no_bytes, normalised, nowhere, refused, refused_early, second_refused, stopped, too_nested}
 use Rattle.bcs_tool.specs.Input.{Gives}
 use Rattle.bcs_tool.specs.Judging.{IsFormat, IsPath, IsRegistry, RefusesAt, works_on_values}
 use Rattle.bcs_tool.specs.declared.job_fault.JobFault.{JobFault}
@@ -119,6 +120,19 @@ module _ (work : Work) (input : List ℕ) where
       | inr none ↦ (_, _, no_bytes command.Decode r s (inl refl) asked none)
     ]
 
+    -- bytes are a value's, or stop being one, and are explained
+    explain_answered : IsAsked work input command.Explain r s → (bytes : List ℕ) → AreBytes bytes → Gives work.raw input bytes → Answered
+    explain_answered asked bytes are given = elim (some_verdict_of_all_is r work.limits s bytes are) [
+      | inl h ↦ (_, _, explained r s bytes _ asked given (explains.whole h.0 h.1))
+      | inr h ↦ (_, _, damaged r s bytes _ h.0 h.1 asked given (explains.damaged h.0 h.1 h.2))
+    ]
+
+    some_explain : AreBytes input → IsAsked work input command.Explain r s → Answered
+    some_explain are asked = elim (some_given input work.raw are) [
+      | inl h ↦ explain_answered asked h.0 h.1 h.2
+      | inr none ↦ (_, _, no_bytes command.Explain r s (inr (inr refl)) asked none)
+    ]
+
     -- a value stands at the front of bytes, and the steps lead to a part of it or nowhere; or the bytes stop
     front_answered : IsAsked work input command.Part r s → (path : List Step) → SpellsPath (string_bytes work.path) path → (bytes : List ℕ) → AreBytes bytes → Gives work.raw input bytes → Answered
     front_answered asked path spells bytes are given = elim (some_verdict_is r work.limits s bytes are) [
@@ -133,7 +147,7 @@ module _ (work : Work) (input : List ℕ) where
     some_part : AreBytes input → (path : List Step) → SpellsPath (string_bytes work.path) path → IsAsked work input command.Part r s → Answered
     some_part are path spells asked = elim (some_given input work.raw are) [
       | inl h ↦ front_answered asked path spells h.0 h.1 h.2
-      | inr none ↦ (_, _, no_bytes command.Part r s (inr refl) asked none)
+      | inr none ↦ (_, _, no_bytes command.Part r s (inr (inl refl)) asked none)
     ]
 
   -- ---- each command
@@ -169,6 +183,7 @@ module _ (work : Work) (input : List ℕ) where
   of_command are within command.Grows is = some_grows is
   of_command are within command.Encode is = valued command.Encode refl refl within some_encode is
   of_command are within command.Decode is = valued command.Decode refl refl within (λ r s registry asked. some_decode r s registry are asked) is
+  of_command are within command.Explain is = valued command.Explain refl refl within (λ r s registry asked. some_explain r s registry are asked) is
   of_command are within command.Normalise is = valued command.Normalise refl refl within some_normalise is
   of_command are within command.Same is = valued command.Same refl refl within some_same is
   of_command are within command.Part is = of_part are within is

@@ -1,5 +1,5 @@
 -- What the program answers to a job and its input: a status, and the bytes of the standard output.
-use Rattle.std.specs.Prelude.{◌≡◌, ◌⊎◌, ◌≤◌, ◌<◌, ◌++◌, ◌∷◌, [], ℕ, List, Bool, true, false, Some, None, codes, length, if◌then◌else◌, string_bytes}
+use Rattle.std.specs.Prelude.{◌≡◌, ◌⊎◌, ◌≤◌, ◌<◌, ◌++◌, ◌∷◌, [], ℕ, List, Bool, true, false, Option, Some, None, codes, length, if◌then◌else◌, string_bytes}
 use Rattle.std.specs.Fmt.{decimal}
 use Rattle.hex.specs.Hex.{encode_lower}
 use Rattle.serde_json.specs.Data.{depth}
@@ -11,9 +11,11 @@ use Rattle.bcs_value_tree.specs.Tree.{Tree}
 use Rattle.bcs_encode_spec.specs.Plain.{plain}
 use Rattle.bcs_decode_spec.specs.Stop.{reason_name}
 use Rattle.bcs_decode_spec.specs.declared.reason.Reason.{Reason}
+use Rattle.bcs_decode_spec.specs.declared.stop.Stop.{Stop}
 use Rattle.bcs_decode_spec.specs.Accepting.{Accepts}
 use Rattle.bcs_decode_spec.specs.Stopping.{Stops, StopsAll}
 use Rattle.bcs_decode_parts.specs.Parts.{Step, Part, part_at}
+use Rattle.bcs_explain_table.specs.Explains.{Explains}
 use Rattle.bcs_json_spec.specs.Headline.{Compares, HasBytes, Normalises, ShowsBytes}
 use Rattle.bcs_json_spec.specs.FaultNames.{json_fault_name}
 use Rattle.bcs_json_spec.specs.JsonContent.{of}
@@ -41,6 +43,15 @@ refusal_line name = line_of (codes "refused: " ++ name)
 abbrev pub stop_line : Reason → ℕ → List ℕ
 stop_line reason place = refusal_line (reason_name reason ++ codes " at " ++ decimal place)
 
+-- how the job ends whose bytes are explained, by where they stop being a value, and what it prints
+abbrev pub explained_status : Option Stop → ℕ
+explained_status None = 0
+explained_status (Some stop) = 2
+
+abbrev pub explained_text : List ℕ → Option Stop → List ℕ
+explained_text text None = text
+explained_text text (Some stop) = text ++ stop_line stop.reason stop.place
+
 -- bytes as they are, or as a line of hexadecimal digits
 abbrev pub printed : Bool → List ℕ → List ℕ
 printed raw bytes = if raw then bytes else line_of (encode_lower bytes)
@@ -65,7 +76,7 @@ IsOneText asked = (asked ≡ command.Encode) ⊎ (asked ≡ command.Normalise)
 
 -- the input gives the bytes of a value, as that of these commands
 abbrev pub TakesBytes : Command → Type 0
-TakesBytes asked = (asked ≡ command.Decode) ⊎ (asked ≡ command.Part)
+TakesBytes asked = (asked ≡ command.Decode) ⊎ (asked ≡ command.Part) ⊎ (asked ≡ command.Explain)
 
 -- a case for each kind of answer
 pub data Answers (work : Work) (input : List ℕ) : ℕ → List ℕ → Type 0 where
@@ -93,7 +104,11 @@ pub data Answers (work : Work) (input : List ℕ) : ℕ → List ℕ → Type 0 
   stopped : (registry : Entries) (s : Shape) (bytes : List ℕ) (reason : Reason) (place : ℕ) → IsAsked work input command.Decode registry s → given.Gives work.raw input bytes → StopsAll registry work.limits s bytes reason place → Answers work input 2 (stop_line reason place)
   -- `decode`: they are a value's, and its text would nest deeper than a text may
   too_nested : (registry : Entries) (s : Shape) (bytes : List ℕ) (c : Tree) → IsAsked work input command.Decode registry s → given.Gives work.raw input bytes → Accepts registry work.limits s bytes (length bytes) c → nesting_limit < depth (shown registry c (of s)) → Answers work input 2 (refusal_line (codes "TooNested"))
-  -- `decode` and `part`: the input gives no bytes
+  -- `explain`: the pieces of the one value whose bytes the input gives
+  explained : (registry : Entries) (s : Shape) (bytes text : List ℕ) → IsAsked work input command.Explain registry s → given.Gives work.raw input bytes → Explains registry work.limits s bytes text None → Answers work input 0 text
+  -- `explain`: the pieces before the bytes stop being a value at a place, and behind them the line of `decode`
+  damaged : (registry : Entries) (s : Shape) (bytes text : List ℕ) (reason : Reason) (place : ℕ) → IsAsked work input command.Explain registry s → given.Gives work.raw input bytes → Explains registry work.limits s bytes text (Some (record { reason = reason; place = place })) → Answers work input 2 (text ++ stop_line reason place)
+  -- `decode`, `explain` and `part`: the input gives no bytes
   no_bytes : (asked : Command) (registry : Entries) (s : Shape) → TakesBytes asked → IsAsked work input asked registry s → ((bytes : List ℕ) → given.Gives work.raw input bytes → ⊥) → Answers work input 2 (refusal_line (codes "BadHex"))
   -- `part`: a value stands at the front of the bytes, and the steps of PATH lead to a part of it, whose bytes these are
   found : (registry : Entries) (s : Shape) (path : List Step) (bytes : List ℕ) (n : ℕ) (c : Tree) (x : Part) → IsAsked work input command.Part registry s → SpellsPath (string_bytes work.path) path → given.Gives work.raw input bytes → Accepts registry work.limits s bytes n c → part_at registry path (container.of s) c ≡ Some x → Answers work input 0 (printed work.raw (plain registry x.value x.content))

@@ -1,9 +1,10 @@
 //! What is printed.
 ghost use Rattle.std.specs.Prelude.{◌≡◌, IfOk, string_bytes};
 ghost use Rattle.hex.specs.Hex.{encode_lower};
-ghost use Rattle.bcs_tool.specs.Answers.{count_line, line_of, printed, printed_none, refusal_line, stop_line};
+ghost use Rattle.bcs_tool.specs.Answers.{count_line, explained_status, explained_text, line_of, printed, printed_none, refusal_line, stop_line};
 
 use bcs_decode::Stop;
+use bcs_explain_table::Explanation;
 use std::alloc::{AllocError, Global};
 
 /// The program's status, and what it prints.
@@ -43,6 +44,26 @@ pub fn stopped(alloc: Global, stop: Stop) -> Result<Answer, AllocError>
     let reason = stop.reason.name();
     let text = format!(in alloc; "{reason} at {}", stop.place)?;
     refused(alloc, text.as_str())
+}
+
+/// The pieces of bytes; where the bytes stop being a value, the line of this stands behind them.
+pub fn explained(alloc: Global, explanation: Explanation) -> Result<Answer, AllocError>
+    ensures { IfOk result (λ a. (a.status ≡ explained_status explanation.stop)
+        × (a.output.items ≡ explained_text explanation.text.items explanation.stop)) }
+{
+    let Explanation { mut text, stop } = explanation;
+    let Some(stop) = stop else {
+        return Ok(Answer {
+            status: 0,
+            output: text,
+        });
+    };
+    let line = stopped(alloc, stop)?;
+    text.extend_from_slice(line.output.as_slice())?;
+    Ok(Answer {
+        status: line.status,
+        output: text,
+    })
 }
 
 /// A word on a line of its own.

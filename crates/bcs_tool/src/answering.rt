@@ -32,8 +32,12 @@ pub fn answer<S: ByteSource>(alloc: Global, work: &Work, input: &mut S) -> Resul
     match work.command {
         Command::Check => Ok(answer_check(alloc, work)?),
         Command::Grows => Ok(answer_growth(alloc, work)?),
-        Command::Encode | Command::Decode | Command::Normalise | Command::Same | Command::Part =>
-            answer_asked(alloc, work, input),
+        Command::Encode
+        | Command::Decode
+        | Command::Explain
+        | Command::Normalise
+        | Command::Same
+        | Command::Part => answer_asked(alloc, work, input),
     }
 }
 

@@ -8,10 +8,11 @@ ghost use Rattle.bcs_tool.specs.Answers.{Answers, TakesBytes, refusal_line};
 ghost use Rattle.bcs_tool.specs.Input.{Gives};
 ghost use Rattle.bcs_tool.specs.Judging.{Asks, IsPath};
 
-use crate::answer::{Answer, found, nowhere, refused, shown, stopped};
+use crate::answer::{Answer, explained, found, nowhere, refused, shown, stopped};
 use crate::blanks::without_blanks;
 use crate::judging::Asked;
 use bcs_decode::part;
+use bcs_explain_table::explain_text;
 use bcs_json::{FromFault, from_bcs};
 use bcs_tool_files::Work;
 use bcs_tool_line::Command;
@@ -72,6 +73,7 @@ fn answer_bytes(
     match work.command {
         Command::Part => answer_part(alloc, work, asked, bytes),
         Command::Decode => answer_decode(alloc, work, asked, bytes),
+        Command::Explain => answer_explain(alloc, work, asked, bytes),
         Command::Check | Command::Grows | Command::Encode | Command::Normalise | Command::Same =>
             unreachable!(),
     }
@@ -101,6 +103,28 @@ fn answer_decode(
         Err(FromFault::TooNested) => refused(alloc, "TooNested"),
         Err(FromFault::OutOfMemory) => Err(AllocError),
     }
+}
+
+// The pieces of the value whose bytes these are; where they are none, those before they stop being one.
+fn answer_explain(
+    alloc: Global,
+    work: &Work,
+    asked: &Asked,
+    bytes: &[u8],
+) -> Result<Answer, AllocError>
+    requires command { work.now.command ≡ Command.Explain }
+    requires asks { Asks work.now asked.now.registry (shape_of asked.now.format) }
+    requires admitted { Admits asked.now.registry (shape_of asked.now.format) }
+    ensures { IfOk result (λ a. (input : List ℕ) → length input ≤ size_limit → Gives work.now.raw input bytes.now
+        → Answers work.now input a.status a.output.items) }
+{
+    let Asked {
+        registry,
+        format,
+        ..
+    } = asked;
+    let explanation = explain_text(alloc, registry, format, &work.limits, bytes)?;
+    explained(alloc, explanation)
 }
 
 // The bytes of the part to which the path leads in the value at the front of these bytes.

@@ -77,6 +77,7 @@ fn judge_path(alloc: Global, work: &Work) -> Result<Vec<PathStep>, PathFault>
         | Command::Grows
         | Command::Encode
         | Command::Decode
+        | Command::Explain
         | Command::Normalise
         | Command::Same => Ok(Vec::new(alloc)),
     }

@@ -33,7 +33,9 @@ pub fn answer_values(
         Command::Encode => answer_encode(alloc, work, asked, input),
         Command::Normalise => answer_normalise(alloc, work, asked, input),
         Command::Same => answer_same(alloc, work, asked, input),
-        Command::Decode | Command::Part => answer_given(alloc, work, asked, input),
+        Command::Decode | Command::Explain | Command::Part => {
+            answer_given(alloc, work, asked, input)
+        }
         Command::Check | Command::Grows => unreachable!(),
     }
 }

@@ -2,7 +2,7 @@
 use Rattle.std.specs.Prelude.{◌≡◌, ◌≢◌, ◌≤◌, ◌<◌, ◌==◌, ℕ, List, [], ◌∷◌, Bool, true, false, codes, length, IfSome, Option, Some, None, String, string_bytes}
 use Rattle.std.specs.declared.alloc.Global.{Global}
 use Rattle.bcs_tool_line.specs.declared.command.Command.{Command}
-use Rattle.bcs_tool_line.specs.declared.command.Command.TheVariants.{Check, Grows, Encode, Decode, Normalise, Same, Part}
+use Rattle.bcs_tool_line.specs.declared.command.Command.TheVariants.{Check, Grows, Encode, Decode, Explain, Normalise, Same, Part}
 use Rattle.bcs_tool_files.specs.declared.file_fault.FileFault.{FileFault}
 use Rattle.bcs_tool_files.specs.declared.file_fault.FileFault.TheVariants.{Open, Take}
 use Rattle.bcs_tool_line.specs.declared.job.Job.{Job}
@@ -67,6 +67,7 @@ module _ {F : Type 0} (remaining : F → Option (List ℕ)) where
   IsSecondOf Grows word text = IsTextOf word text
   IsSecondOf Encode word text = text ≡ []
   IsSecondOf Decode word text = text ≡ []
+  IsSecondOf Explain word text = text ≡ []
   IsSecondOf Normalise word text = text ≡ []
   IsSecondOf Same word text = IsFileText text
   IsSecondOf Part word text = text ≡ []

@@ -57,8 +57,12 @@ pub fn read_work<R: Files + AllocGlobal>(
     let second = match job.command {
         Command::Grows => read_registry(rt, job.second.as_str())?,
         Command::Same => read_named(rt, job.second.as_str())?,
-        Command::Check | Command::Encode | Command::Decode | Command::Normalise | Command::Part =>
-            Vec::new(rt.alloc()),
+        Command::Check
+        | Command::Encode
+        | Command::Decode
+        | Command::Explain
+        | Command::Normalise
+        | Command::Part => Vec::new(rt.alloc()),
     };
     let work = Work {
         command: job.command,

@@ -7,7 +7,7 @@ use Rattle.clap.proofs.OnLiterals.{clap_on_literals}
 use Rattle.bcs_tool_words.specs.CommandLine.{bcs_app}
 use Rattle.bcs_tool_line.specs.Jobs.{command_named, is_raw}
 use Rattle.bcs_tool_line.specs.declared.command.Command.{Command}
-use Rattle.bcs_tool_line.specs.declared.command.Command.TheVariants.{Check, Grows, Encode, Same, Part}
+use Rattle.bcs_tool_line.specs.declared.command.Command.TheVariants.{Check, Grows, Encode, Explain, Same, Part}
 
 -- the command of the words, and what it was given
 abbrev command_in : List Text → Option (Option Command)
@@ -224,6 +224,25 @@ same_second = refl
 decode_raw : raw_in (codes "bcs" ∷ codes "decode" ∷ codes "--raw" ∷ codes "{}" ∷ codes "S" ∷ []) ≡ Some true
 unfolding clap_on_literals
 decode_raw = refl
+
+abbrev explain_words : List Text
+explain_words = codes "bcs" ∷ codes "explain" ∷ codes "--raw" ∷ codes "{}" ∷ codes "S" ∷ codes "f" ∷ []
+
+explain_is_taken : fault_of bcs_app explain_words ≡ []
+unfolding clap_on_literals
+explain_is_taken = refl
+
+explain_command : command_in explain_words ≡ Some (Some Explain)
+unfolding clap_on_literals
+explain_command = refl
+
+explain_file : given_in (codes "FILE") explain_words ≡ Some (Some (codes "f"))
+unfolding clap_on_literals
+explain_file = refl
+
+explain_raw : raw_in explain_words ≡ Some true
+unfolding clap_on_literals
+explain_raw = refl
 
 normalise_raw : fault_of bcs_app (codes "bcs" ∷ codes "normalise" ∷ codes "{}" ∷ codes "S" ∷ codes "--raw" ∷ []) ≡ kind.UnknownArgument ∷ []
 unfolding clap_on_literals

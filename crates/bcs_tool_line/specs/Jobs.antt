@@ -7,7 +7,7 @@ use Rattle.clap.specs.Words.{Row, Text, first_of, one_of, subcommand_of}
 use Rattle.bcs_value_spec.specs.Limits.{Bounds}
 use Rattle.bcs_tool_words.specs.CommandLine.{bcs_app}
 use Rattle.bcs_tool_line.specs.declared.command.Command.{Command}
-use Rattle.bcs_tool_line.specs.declared.command.Command.TheVariants.{Check, Grows, Encode, Decode, Normalise, Same, Part}
+use Rattle.bcs_tool_line.specs.declared.command.Command.TheVariants.{Check, Grows, Encode, Decode, Explain, Normalise, Same, Part}
 use Rattle.bcs_tool_line.specs.declared.job.Job.{Job}
 
 -- the command of a name
@@ -16,9 +16,10 @@ command_named name = if bytes_eq name (codes "check") then Some Check
     else (if bytes_eq name (codes "grows") then Some Grows
     else (if bytes_eq name (codes "encode") then Some Encode
     else (if bytes_eq name (codes "decode") then Some Decode
+    else (if bytes_eq name (codes "explain") then Some Explain
     else (if bytes_eq name (codes "normalise") then Some Normalise
     else (if bytes_eq name (codes "same") then Some Same
-    else (if bytes_eq name (codes "part") then Some Part else None))))))
+    else (if bytes_eq name (codes "part") then Some Part else None)))))))
 
 -- the text of a word, which is empty where there is none
 abbrev pub text_or_empty : Option Text → Text

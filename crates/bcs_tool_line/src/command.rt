@@ -13,6 +13,8 @@ pub enum Command {
     Encode,
     /// `decode`: turns a value's bytes into its JSON text.
     Decode,
+    /// `explain`: prints a value's bytes piece by piece.
+    Explain,
     /// `normalise`: turns a value's JSON text into its one normal text.
     Normalise,
     /// `same`: finds whether two JSON texts have the same value.
@@ -31,6 +33,7 @@ impl Command {
             "grows" => Some(Command::Grows),
             "encode" => Some(Command::Encode),
             "decode" => Some(Command::Decode),
+            "explain" => Some(Command::Explain),
             "normalise" => Some(Command::Normalise),
             "same" => Some(Command::Same),
             "part" => Some(Command::Part),

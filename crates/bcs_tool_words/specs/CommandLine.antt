@@ -44,6 +44,9 @@ encode_app = fold with_rule (value_app (codes "encode")) (optional (codes "FILE"
 abbrev pub decode_app : App
 decode_app = fold with_rule (value_app (codes "decode")) (optional (codes "FILE") ∷ raw_flag ∷ [])
 
+abbrev pub explain_app : App
+explain_app = fold with_rule (value_app (codes "explain")) (optional (codes "FILE") ∷ raw_flag ∷ [])
+
 abbrev pub normalise_app : App
 normalise_app = fold with_rule (value_app (codes "normalise")) (optional (codes "FILE") ∷ [])
 
@@ -63,7 +66,7 @@ tells_version = on_top (λ s. record s { has_version = true })
 
 abbrev pub bcs_app : App
 bcs_app = fold (λ program command. with_subcommand program command.top) (wants_command (tells_version (new_app (codes "bcs"))))
-    (check_app ∷ grows_app ∷ encode_app ∷ decode_app ∷ normalise_app ∷ same_app ∷ part_app ∷ [])
+    (check_app ∷ grows_app ∷ encode_app ∷ decode_app ∷ explain_app ∷ normalise_app ∷ same_app ∷ part_app ∷ [])
 
 -- the words as texts
 abbrev pub texts_of : List (String Global) → List Text

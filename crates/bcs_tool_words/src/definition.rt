@@ -2,7 +2,7 @@
 ghost use Rattle.std.specs.Prelude.{◌≡◌, IfOk, codes, false};
 ghost use Rattle.clap.specs.Words.{app_of, rule_of};
 ghost use Rattle.clap.specs.declared.builder.command.Command.TheViews.{out-Command};
-ghost use Rattle.bcs_tool_words.specs.CommandLine.{bcs_app, check_app, decode_app, encode_app, grows_app, normalise_app, number_option, optional, part_app, raw_flag, required, same_app, value_app};
+ghost use Rattle.bcs_tool_words.specs.CommandLine.{bcs_app, check_app, decode_app, encode_app, explain_app, grows_app, normalise_app, number_option, optional, part_app, raw_flag, required, same_app, value_app};
 
 use crate::texts;
 use crate::version::VERSION;
@@ -22,6 +22,7 @@ pub fn bcs_command<'a>(alloc: Global) -> Result<Command<'a>, AllocError>
         .subcommand(grows_command(alloc)?)?
         .subcommand(encode_command(alloc)?)?
         .subcommand(decode_command(alloc)?)?
+        .subcommand(explain_command(alloc)?)?
         .subcommand(normalise_command(alloc)?)?
         .subcommand(same_command(alloc)?)?
         .subcommand(part_command(alloc)?)
@@ -69,6 +70,22 @@ fn decode_command<'a>(alloc: Global) -> Result<Command<'a>, AllocError>
     value_command(alloc, "decode")?
         .about("Prints the JSON text of a value's bytes")
         .after_help(texts::DECODE_END)
+        .arg(optional_word(alloc, "FILE", texts::FILE))?
+        .arg(raw_option(
+            alloc,
+            "Reads the bytes as they are, and not as hexadecimal digits",
+        ))
+}
+
+fn explain_command<'a>(alloc: Global) -> Result<Command<'a>, AllocError>
+    ensures app { IfOk result (λ c. app_of c ≡ explain_app) }
+    ensures global { IfOk result (λ c. (out-Command c).has_globals ≡ false) }
+{
+    value_command(alloc, "explain")?
+        .about(
+            "Prints a value's bytes, piece by piece: place, bytes, what they are, and the way to them",
+        )
+        .after_help(texts::EXPLAIN_END)
         .arg(optional_word(alloc, "FILE", texts::FILE))?
         .arg(raw_option(
             alloc,

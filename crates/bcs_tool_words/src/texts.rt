@@ -56,6 +56,11 @@ pub const DECODE_END: &str = "Example:
 
 Status: 0 done, 2 refused, 3 usage, 4 file or memory";
 
+pub const EXPLAIN_END: &str = "Example:
+  echo cced | bcs explain '{}' '\"I16\"' | xargs  # 0 cced I16 -4660 .
+
+Status: 0 done, 2 refused, 3 usage, 4 file or memory";
+
 pub const NORMALISE_END: &str = "Example:
   echo '\"-4660\"' | bcs normalise '{}' '\"I16\"'  # -4660
 

@@ -127,11 +127,12 @@ fn streams_that_fail(rt: HostRuntime) -> Result<(), Fail> {
 }
 
 // Words of each command that are refused, so that the input is never looked at.
-const REFUSED: [Ending; 8] = [
+const REFUSED: [Ending; 9] = [
     (&["check", "{"], 2, "refused: NotJson\n", ""),
     (&["grows", "{}", "{"], 2, "refused: NotJson\n", ""),
     (&["encode", "{}", "N"], 2, "refused: UnknownName\n", ""),
     (&["decode", "{}", "N"], 2, "refused: UnknownName\n", ""),
+    (&["explain", "{}", "N"], 2, "refused: UnknownName\n", ""),
     (&["normalise", "{}", "N"], 2, "refused: UnknownName\n", ""),
     (
         &["same", "{}", "N", "first.test"],

@@ -28,10 +28,12 @@ returns c =
     c.in_ok-encode_command.ensures.global grows c.in_ok-encode_command.ensures.app in
     let decode = added _ _ _ c.in_ok-subcommand-4.ensures
     c.in_ok-decode_command.ensures.global encode c.in_ok-decode_command.ensures.app in
-    let normalise = added _ _ _ c.in_ok-subcommand-5.ensures
-    c.in_ok-normalise_command.ensures.global decode c.in_ok-normalise_command.ensures.app in
-    let same = added _ _ _ c.in_ok-subcommand-6.ensures
+    let explain = added _ _ _ c.in_ok-subcommand-5.ensures
+    c.in_ok-explain_command.ensures.global decode c.in_ok-explain_command.ensures.app in
+    let normalise = added _ _ _ c.in_ok-subcommand-6.ensures
+    c.in_ok-normalise_command.ensures.global explain c.in_ok-normalise_command.ensures.app in
+    let same = added _ _ _ c.in_ok-subcommand-7.ensures
     c.in_ok-same_command.ensures.global normalise c.in_ok-same_command.ensures.app in
-    IfOk-weaker c.subcommand-7.result _ _
+    IfOk-weaker c.subcommand-8.result _ _
     (λ r h. added _ _ r h c.in_ok-part_command.ensures.global same c.in_ok-part_command.ensures.app)
-    c.subcommand-7.ensures
+    c.subcommand-8.ensures

@@ -13,6 +13,9 @@ returns-in-encode c = search rules
 pub returns-in-decode : goal.returns-in-decode
 returns-in-decode c = search rules
 
+pub returns-in-explain : goal.returns-in-explain
+returns-in-explain c = search rules
+
 pub returns-in-normalise : goal.returns-in-normalise
 returns-in-normalise c = search rules
 
