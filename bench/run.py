@@ -19,6 +19,7 @@ def jobs(folder):
         text, digits = folder / f"{name}.json", folder / f"{name}.hex"
         yield f"encode {name}", ["encode", registry, format], text, digits
         yield f"decode {name}", ["decode", registry, format], digits, None
+        yield f"explain {name}", ["explain", registry, format], digits, None
         yield f"normalise {name}", ["normalise", registry, format], text, None
     format = (folder / "map.format").read_text()
     again = str(folder / "map_again.json")

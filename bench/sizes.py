@@ -67,6 +67,7 @@ def cases():
     yield "bytes, 10 million empty structs", ["decode", "--raw", '{"U":"UNITSTRUCT"}', '{"SEQ":{"TYPENAME":"U"}}'], lambda: uleb(10_000_000)
     deep = chain(nested('{"OPTION":{"TYPENAME":"L"}}', 31))
     yield "bytes, 500 containers of 32 levels", ["decode", "--raw", deep, "L"], lambda: b"\x01" * (31 * 500) + b"\x00"
+    yield "bytes, 500 containers of 32 levels, explained", ["explain", "--raw", deep, "L"], lambda: b"\x01" * (31 * 500) + b"\x00"
     keys = '{"K":{"NEWTYPESTRUCT":' + key_of_keys('{"OPTION":{"TYPENAME":"K"}}', 30) + "}}"
     yield "bytes, 15,000 maps nested as keys", ["decode", "--raw", keys, "K"], lambda: b"\x01" * (31 * 500 - 1) + b"\x00"
     yield "part, the last of 32 Mi numbers", ["part", "--raw", "{}", '{"SEQ":"U16"}', str(32 * MIB - 1)], lambda: uleb(32 * MIB) + b"ab" * (32 * MIB)
