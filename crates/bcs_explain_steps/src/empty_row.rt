@@ -13,6 +13,7 @@ use bcs_registry::{Format, Registry};
 
 /// How many of so many values of one format are gone past in one step: where they have no bytes, as many as nodes are
 /// left for. Of the next ones nothing is told either, so those that are left may be numbered from 0 on.
+#[inline(never)]
 pub fn empty_row(
     registry: &Registry,
     element: &Format,

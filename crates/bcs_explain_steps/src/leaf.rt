@@ -17,6 +17,7 @@ use bcs_num::Width;
 use bcs_registry_formats::Format;
 
 /// A value of a format that has no values inside. One of another format is refused, as it is told elsewhere.
+#[inline(never)]
 pub fn tell_leaf<T: Listener>(
     format: &Format,
     cursor: &mut Cursor,

@@ -20,6 +20,7 @@ use bcs_decode_spec::{Reason, Stop};
 use bcs_num::Width;
 
 /// The piece from here to where the cursor stands.
+#[inline(never)]
 pub fn tell<T: Listener>(
     start: u64,
     from: &[u8],
@@ -62,6 +63,7 @@ pub fn bytes_value<'a>(cursor: &mut Cursor<'a>, count: usize) -> Result<&'a [u8]
 }
 
 /// Whether a flag is set.
+#[inline(never)]
 pub fn tell_flag<T: Listener>(
     cursor: &mut Cursor,
     bad: Reason,
@@ -99,6 +101,7 @@ pub fn tell_truth<T: Listener>(
 }
 
 /// A node with a length.
+#[inline(never)]
 pub fn tell_count<T: Listener>(
     cursor: &mut Cursor,
     what: Counted,
@@ -267,6 +270,7 @@ pub fn tell_byte_string<T: Listener>(
 }
 
 /// So many `U8` in a row, which are one piece.
+#[inline(never)]
 pub fn tell_octets<T: Listener>(
     cursor: &mut Cursor,
     count: u64,

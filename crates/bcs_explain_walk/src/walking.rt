@@ -40,6 +40,7 @@ struct EntryRow<'r> {
 }
 
 /// Goes past a value of the format, inside which so many containers may open.
+#[inline(always)]
 #[cycle(walking)]
 pub fn value<'r, 'a, T: Listener>(
     registry: &'r Registry,
@@ -118,6 +119,7 @@ pub fn value<'r, 'a, T: Listener>(
 }
 
 /// So many values of one format, as one piece where they are `U8`. Those that have no bytes are gone past in one step.
+#[inline(always)]
 #[cycle(walking)]
 fn items<'r, 'a, T: Listener>(
     registry: &'r Registry,
@@ -146,6 +148,7 @@ fn items<'r, 'a, T: Listener>(
 }
 
 /// So many values of one format.
+#[inline(never)]
 #[cycle(walking)]
 fn elements<'r, 'a, T: Listener>(
     registry: &'r Registry,
@@ -175,6 +178,7 @@ fn elements<'r, 'a, T: Listener>(
 }
 
 /// So many entries, whose keys rise.
+#[inline(never)]
 #[cycle(walking)]
 fn entries<'r, 'a, T: Listener>(
     registry: &'r Registry,
@@ -217,6 +221,7 @@ fn entries<'r, 'a, T: Listener>(
 }
 
 /// A value of each format in turn.
+#[inline(never)]
 #[cycle(walking)]
 fn tuple<'r, 'a, T: Listener>(
     registry: &'r Registry,
@@ -247,6 +252,7 @@ fn tuple<'r, 'a, T: Listener>(
 }
 
 /// A value of each field's format in turn.
+#[inline(never)]
 #[cycle(walking)]
 fn structure<'r, 'a, T: Listener>(
     registry: &'r Registry,
@@ -271,6 +277,7 @@ fn structure<'r, 'a, T: Listener>(
 }
 
 /// The container of this name, where so many containers may open.
+#[inline(never)]
 #[cycle(walking)]
 fn named<'r, 'a, T: Listener>(
     registry: &'r Registry,
@@ -304,6 +311,7 @@ fn named<'r, 'a, T: Listener>(
 }
 
 /// What stands in a container of the registry.
+#[inline(always)]
 #[cycle(walking)]
 fn content<'r, 'a, T: Listener>(
     registry: &'r Registry,
@@ -359,6 +367,7 @@ fn content<'r, 'a, T: Listener>(
 }
 
 /// What a variant carries.
+#[inline(never)]
 #[cycle(walking)]
 fn payload<'r, 'a, T: Listener>(
     registry: &'r Registry,
