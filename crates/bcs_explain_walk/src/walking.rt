@@ -197,24 +197,13 @@ fn entries<'r, 'a, T: Listener>(
     let mut last: Option<&'a [u8]> = None;
     for i in 0..row.count {
         let (start, from) = (cursor.place, cursor.rest);
-        value(
-            registry,
-            row.key,
-            depth,
-            cursor,
-            &below(&*trail, Step::Key(i)),
-            out,
-        )?;
+        // One local, so that a level keeps one step and not two.
+        let mut at = below(&*trail, Step::Key(i));
+        value(registry, row.key, depth, cursor, &at, out)?;
         let (found, _) = from.split_at((cursor.place - start) as usize);
         follows(last, found, start)?;
-        value(
-            registry,
-            row.content,
-            depth,
-            cursor,
-            &below(&*trail, Step::Value(found)),
-            out,
-        )?;
+        at = below(&*trail, Step::Value(found));
+        value(registry, row.content, depth, cursor, &at, out)?;
         last = Some(found);
     }
     Ok(())

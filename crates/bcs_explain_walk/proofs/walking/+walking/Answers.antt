@@ -572,7 +572,7 @@ entries-returns-in_err-value-clause-onward g t c =
 pub entries-returns-in_err-value-clause-hears : goal.entries-returns-in_err-value-clause-hears
 entries-returns-in_err-value-clause-hears g t c =
     c.loop-i.invariant.heard c.value.new.out
-    (hears_as g.T.Listener.heard g.T.Listener.has_lost c.loop-i.out c.value.new.out _ _ (told_pairs_stop_key (skip c.args.registry.now c.args.depth (shape_of c.args.row.key.now)) (skip c.args.registry.now c.args.depth (shape_of c.args.row.content.now)) (λ w. told c.args.registry.now c.args.depth (shape_of c.args.row.key.now) w) (λ w. told c.args.registry.now c.args.depth (shape_of c.args.row.content.now) w) (way_of c.args.trail.now) (key_bytes c.loop-i.last) c.args.row.count c.loop-i.i _ _ _ _ c.loop-i-test.true (key_err (skip c.args.registry.now c.args.depth (shape_of c.args.row.key.now)) (key_bytes c.loop-i.last) _ _ _ _ c.in_err-value.ensures.passes)) (hears_as g.T.Listener.heard g.T.Listener.has_lost c.loop-i.out c.value.new.out _ _ (ap (λ (w : Way). told c.args.registry.now c.args.depth (shape_of c.args.row.key.now) w c.loop-i.cursor.place c.loop-i.cursor.nodes c.loop-i.cursor.rest.now) c.below.ensures) c.in_err-value.ensures.hears))
+    (hears_as g.T.Listener.heard g.T.Listener.has_lost c.loop-i.out c.value.new.out _ _ (told_pairs_stop_key (skip c.args.registry.now c.args.depth (shape_of c.args.row.key.now)) (skip c.args.registry.now c.args.depth (shape_of c.args.row.content.now)) (λ w. told c.args.registry.now c.args.depth (shape_of c.args.row.key.now) w) (λ w. told c.args.registry.now c.args.depth (shape_of c.args.row.content.now) w) (way_of c.args.trail.now) (key_bytes c.loop-i.last) c.args.row.count c.loop-i.i _ _ _ _ c.loop-i-test.true (key_err (skip c.args.registry.now c.args.depth (shape_of c.args.row.key.now)) (key_bytes c.loop-i.last) _ _ _ _ c.in_err-value.ensures.passes)) (hears_as g.T.Listener.heard g.T.Listener.has_lost c.loop-i.out c.value.new.out _ _ (ap (λ (w : Way). told c.args.registry.now c.args.depth (shape_of c.args.row.key.now) w c.loop-i.cursor.place c.loop-i.cursor.nodes c.loop-i.cursor.rest.now) c.below-at.ensures) c.in_err-value.ensures.hears))
 
 pub entries-returns-in_err-follows-clause-passes : goal.entries-returns-in_err-follows-clause-passes
 entries-returns-in_err-follows-clause-passes g t c =
@@ -586,7 +586,7 @@ entries-returns-in_err-follows-clause-onward g t c =
 pub entries-returns-in_err-follows-clause-hears : goal.entries-returns-in_err-follows-clause-hears
 entries-returns-in_err-follows-clause-hears g t c =
     c.loop-i.invariant.heard c.value.new.out
-    (hears_as g.T.Listener.heard g.T.Listener.has_lost c.loop-i.out c.value.new.out _ _ (told_pairs_stop_key (skip c.args.registry.now c.args.depth (shape_of c.args.row.key.now)) (skip c.args.registry.now c.args.depth (shape_of c.args.row.content.now)) (λ w. told c.args.registry.now c.args.depth (shape_of c.args.row.key.now) w) (λ w. told c.args.registry.now c.args.depth (shape_of c.args.row.content.now) w) (way_of c.args.trail.now) (key_bytes c.loop-i.last) c.args.row.count c.loop-i.i _ _ _ _ c.loop-i-test.true (key_wrong (skip c.args.registry.now c.args.depth (shape_of c.args.row.key.now)) (key_bytes c.loop-i.last) _ _ _ tt _ _ _ c.split_at.result.0.now _ c.in_ok-value.ensures.passes c.split_at.ensures.front c.in_err-follows.ensures)) (hears_as g.T.Listener.heard g.T.Listener.has_lost c.loop-i.out c.value.new.out _ _ (ap (λ (w : Way). told c.args.registry.now c.args.depth (shape_of c.args.row.key.now) w c.loop-i.cursor.place c.loop-i.cursor.nodes c.loop-i.cursor.rest.now) c.below.ensures) c.in_ok-value.ensures.hears))
+    (hears_as g.T.Listener.heard g.T.Listener.has_lost c.loop-i.out c.value.new.out _ _ (told_pairs_stop_key (skip c.args.registry.now c.args.depth (shape_of c.args.row.key.now)) (skip c.args.registry.now c.args.depth (shape_of c.args.row.content.now)) (λ w. told c.args.registry.now c.args.depth (shape_of c.args.row.key.now) w) (λ w. told c.args.registry.now c.args.depth (shape_of c.args.row.content.now) w) (way_of c.args.trail.now) (key_bytes c.loop-i.last) c.args.row.count c.loop-i.i _ _ _ _ c.loop-i-test.true (key_wrong (skip c.args.registry.now c.args.depth (shape_of c.args.row.key.now)) (key_bytes c.loop-i.last) _ _ _ tt _ _ _ c.split_at.result.0.now _ c.in_ok-value.ensures.passes c.split_at.ensures.front c.in_err-follows.ensures)) (hears_as g.T.Listener.heard g.T.Listener.has_lost c.loop-i.out c.value.new.out _ _ (ap (λ (w : Way). told c.args.registry.now c.args.depth (shape_of c.args.row.key.now) w c.loop-i.cursor.place c.loop-i.cursor.nodes c.loop-i.cursor.rest.now) c.below-at.ensures) c.in_ok-value.ensures.hears))
 
 pub entries-value-requires-in-loop-i : goal.entries-value-requires-in-loop-i
 entries-value-requires-in-loop-i g t c κs within =
@@ -605,7 +605,7 @@ pub entries-returns-in_err-value-2-clause-hears : goal.entries-returns-in_err-va
 entries-returns-in_err-value-2-clause-hears g t c =
     c.loop-i.invariant.heard c.value-in-loop-i.new.out
     (hears_as g.T.Listener.heard g.T.Listener.has_lost c.loop-i.out c.value-in-loop-i.new.out _ _ (told_pairs_stop_value (skip c.args.registry.now c.args.depth (shape_of c.args.row.key.now)) (skip c.args.registry.now c.args.depth (shape_of c.args.row.content.now)) (λ w. told c.args.registry.now c.args.depth (shape_of c.args.row.key.now) w) (λ w. told c.args.registry.now c.args.depth (shape_of c.args.row.content.now) w) (way_of c.args.trail.now) (key_bytes c.loop-i.last) c.args.row.count c.loop-i.i _ _ _ c.split_at.result.0.now _ _ _ _ c.loop-i-test.true (key_right (skip c.args.registry.now c.args.depth (shape_of c.args.row.key.now)) (key_bytes c.loop-i.last) _ _ _ tt _ _ _ c.split_at.result.0.now c.in_ok-value.ensures.passes c.split_at.ensures.front c.in_ok-follows.ensures) c.in_err-value-2.ensures.passes)
-    (hears_then g.T.Listener.heard g.T.Listener.has_lost c.loop-i.out c.value.new.out c.value-in-loop-i.new.out _ _ (hears_as g.T.Listener.heard g.T.Listener.has_lost c.loop-i.out c.value.new.out _ _ (ap (λ (w : Way). told c.args.registry.now c.args.depth (shape_of c.args.row.key.now) w c.loop-i.cursor.place c.loop-i.cursor.nodes c.loop-i.cursor.rest.now) c.below.ensures) c.in_ok-value.ensures.hears) (hears_as g.T.Listener.heard g.T.Listener.has_lost c.value.new.out c.value-in-loop-i.new.out _ _ (ap (λ (w : Way). told c.args.registry.now c.args.depth (shape_of c.args.row.content.now) w c.value.new.cursor.place c.value.new.cursor.nodes c.value.new.cursor.rest.now) c.below-in-loop-i.ensures) c.in_err-value-2.ensures.hears)))
+    (hears_then g.T.Listener.heard g.T.Listener.has_lost c.loop-i.out c.value.new.out c.value-in-loop-i.new.out _ _ (hears_as g.T.Listener.heard g.T.Listener.has_lost c.loop-i.out c.value.new.out _ _ (ap (λ (w : Way). told c.args.registry.now c.args.depth (shape_of c.args.row.key.now) w c.loop-i.cursor.place c.loop-i.cursor.nodes c.loop-i.cursor.rest.now) c.below-at.ensures) c.in_ok-value.ensures.hears) (hears_as g.T.Listener.heard g.T.Listener.has_lost c.value.new.out c.value-in-loop-i.new.out _ _ (ap (λ (w : Way). told c.args.registry.now c.args.depth (shape_of c.args.row.content.now) w c.value.new.cursor.place c.value.new.cursor.nodes c.value.new.cursor.rest.now) c.below-at-in-loop-i.ensures) c.in_err-value-2.ensures.hears)))
 
 pub entries-loop-i-preserved : goal.entries-loop-i-preserved
 entries-loop-i-preserved g t c =
@@ -615,7 +615,7 @@ entries-loop-i-preserved g t c =
       whole = c.loop-i.invariant.whole ∙ pairs_on (skip c.args.registry.now c.args.depth (shape_of c.args.row.key.now)) (skip c.args.registry.now c.args.depth (shape_of c.args.row.content.now)) (key_bytes c.loop-i.last) c.args.row.count c.loop-i.i _ _ _ c.split_at.result.0.now _ _ _ _ _ _ c.loop-i-test.true (key_right (skip c.args.registry.now c.args.depth (shape_of c.args.row.key.now)) (key_bytes c.loop-i.last) _ _ _ tt _ _ _ c.split_at.result.0.now c.in_ok-value.ensures.passes c.split_at.ensures.front c.in_ok-follows.ensures) c.in_ok-value-2.ensures.passes;
       heard = λ new h. c.loop-i.invariant.heard new
           (hears_as g.T.Listener.heard g.T.Listener.has_lost c.loop-i.out new _ _ (told_pairs_on (skip c.args.registry.now c.args.depth (shape_of c.args.row.key.now)) (skip c.args.registry.now c.args.depth (shape_of c.args.row.content.now)) (λ w. told c.args.registry.now c.args.depth (shape_of c.args.row.key.now) w) (λ w. told c.args.registry.now c.args.depth (shape_of c.args.row.content.now) w) (way_of c.args.trail.now) (key_bytes c.loop-i.last) c.args.row.count c.loop-i.i _ _ _ c.split_at.result.0.now _ _ _ _ _ _ c.loop-i-test.true (key_right (skip c.args.registry.now c.args.depth (shape_of c.args.row.key.now)) (key_bytes c.loop-i.last) _ _ _ tt _ _ _ c.split_at.result.0.now c.in_ok-value.ensures.passes c.split_at.ensures.front c.in_ok-follows.ensures) c.in_ok-value-2.ensures.passes)
-          (hears_then g.T.Listener.heard g.T.Listener.has_lost c.loop-i.out c.value.new.out new _ _ (hears_as g.T.Listener.heard g.T.Listener.has_lost c.loop-i.out c.value.new.out _ _ (ap (λ (w : Way). told c.args.registry.now c.args.depth (shape_of c.args.row.key.now) w c.loop-i.cursor.place c.loop-i.cursor.nodes c.loop-i.cursor.rest.now) c.below.ensures) c.in_ok-value.ensures.hears) (hears_then g.T.Listener.heard g.T.Listener.has_lost c.value.new.out c.value-in-loop-i.new.out new _ _ (hears_as g.T.Listener.heard g.T.Listener.has_lost c.value.new.out c.value-in-loop-i.new.out _ _ (ap (λ (w : Way). told c.args.registry.now c.args.depth (shape_of c.args.row.content.now) w c.value.new.cursor.place c.value.new.cursor.nodes c.value.new.cursor.rest.now) c.below-in-loop-i.ensures) c.in_ok-value-2.ensures.hears) h)));
+          (hears_then g.T.Listener.heard g.T.Listener.has_lost c.loop-i.out c.value.new.out new _ _ (hears_as g.T.Listener.heard g.T.Listener.has_lost c.loop-i.out c.value.new.out _ _ (ap (λ (w : Way). told c.args.registry.now c.args.depth (shape_of c.args.row.key.now) w c.loop-i.cursor.place c.loop-i.cursor.nodes c.loop-i.cursor.rest.now) c.below-at.ensures) c.in_ok-value.ensures.hears) (hears_then g.T.Listener.heard g.T.Listener.has_lost c.value.new.out c.value-in-loop-i.new.out new _ _ (hears_as g.T.Listener.heard g.T.Listener.has_lost c.value.new.out c.value-in-loop-i.new.out _ _ (ap (λ (w : Way). told c.args.registry.now c.args.depth (shape_of c.args.row.content.now) w c.value.new.cursor.place c.value.new.cursor.nodes c.value.new.cursor.rest.now) c.below-at-in-loop-i.ensures) c.in_ok-value-2.ensures.hears) h)));
     }
 
 pub entries-returns-clause-passes : goal.entries-returns-clause-passes
