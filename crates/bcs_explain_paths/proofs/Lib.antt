@@ -1,0 +1,2 @@
+pub mod TrailViews
+pub mod PathWords

@@ -1,0 +1,4 @@
+//! The path to a piece's part, as `bcs part` takes it.
+#![tactic(auto)]
+
+pub mod path;
