@@ -4,3 +4,4 @@
 pub mod columns;
 pub mod escaping;
 pub mod laws;
+pub mod style;

@@ -1,0 +1,6 @@
+pub mod TrailViews
+pub mod PathWords
+pub mod Own
+pub mod Along
+pub mod Entries
+pub mod Leading
