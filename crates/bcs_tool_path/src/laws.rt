@@ -1,7 +1,12 @@
-//! What holds of paths: a law that a proof may cite. No call does anything.
-ghost use Rattle.bcs_tool_path.specs.PathLaws.{OnePath};
+//! What holds of paths: laws that a proof may cite. No call does anything.
+ghost use Rattle.bcs_tool_path.specs.PathLaws.{OnePath, PathTextSpells};
 
 /// A word spells the steps of one path at most.
 pub fn one_path()
     ensures { OnePath }
+{}
+
+/// The word that `explain` gives for the path to a piece's part is read as this path.
+pub fn path_text_spells()
+    ensures { PathTextSpells }
 {}
