@@ -5,3 +5,4 @@ pub mod Along
 pub mod Entries
 pub mod Leading
 pub mod Ranges
+pub mod WorkedRows
