@@ -4,3 +4,5 @@ pub mod Own
 pub mod Along
 pub mod Entries
 pub mod Leading
+pub mod Ranges
+pub mod WorkedRows

@@ -1,9 +1,10 @@
 -- The path along a way, and its word: what `bcs part` takes.
-use Rattle.std.specs.Prelude.{ℕ, List, [], ◌∷◌, ◌++◌, Option, Some, None, codes, map}
+use Rattle.std.specs.Prelude.{ℕ, ◌<◌, ◌^◌, List, [], ◌∷◌, ◌++◌, Option, Some, None, codes, map}
 use Rattle.std.specs.Option.{option_map_or}
 use Rattle.std.specs.Fmt.{decimal}
 use Rattle.std.specs.List.{join_with_byte}
 use Rattle.hex.specs.Hex.{encode_lower}
+use Rattle.bcs_decode_spec.specs.Exact.{AreBytes}
 use Rattle.bcs_decode_parts.specs.Parts as parts
 use Rattle.bcs_decode_parts.specs.Parts.{Step}
 use Rattle.bcs_explain_spec.specs.Way.{Label, Way, item, field, inner, opening, variant, key, value}
@@ -43,3 +44,13 @@ path_word (s ∷ path) = join_with_byte 47 (map step_word (s ∷ path))
 -- the word of the path along a way, or `-` where there is none
 abbrev pub path_text : Way → List ℕ
 path_text way = option_map_or path_word (steps_to way) (codes "-")
+
+-- the number of its step is one of 64 bits, and the key's bytes are bytes
+abbrev pub IsInRange : Label → Type 0
+IsInRange (item i) = i < 2 ^ 64
+IsInRange (field i name) = i < 2 ^ 64
+IsInRange inner = Unit {0}
+IsInRange (opening name) = Unit {0}
+IsInRange (variant n name) = Unit {0}
+IsInRange (key i) = Unit {0}
+IsInRange (value b) = AreBytes b
