@@ -49,11 +49,7 @@ pub fn stopped(alloc: Global, stop: Stop) -> Result<Answer, AllocError>
 
 /// The pieces of bytes; where the bytes stop being a value, the line of this stands behind them, but for JSON, which has
 /// an object for it.
-pub fn explained(
-    alloc: Global,
-    form: Form,
-    explanation: Explanation,
-) -> Result<Answer, AllocError>
+pub fn explained(alloc: Global, form: Form, explanation: Explanation) -> Result<Answer, AllocError>
     ensures { IfOk result (λ a. (a.status ≡ explained_status explanation.stop)
         × (a.output.items ≡ explained_text form explanation.text.items explanation.stop)) }
 {
@@ -64,14 +60,10 @@ pub fn explained(
             output: text,
         });
     };
-    if form == Form::Json {
-        return Ok(Answer {
-            status: 2,
-            output: text,
-        });
-    }
     let line = stopped(alloc, stop)?;
-    text.extend_from_slice(line.output.as_slice())?;
+    if form != Form::Json {
+        text.extend_from_slice(line.output.as_slice())?;
+    }
     Ok(Answer {
         status: line.status,
         output: text,
