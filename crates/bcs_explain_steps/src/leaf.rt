@@ -8,7 +8,7 @@ ghost use Rattle.bcs_explain_steps.specs.Hearing.{Hears};
 ghost use Rattle.bcs_explain_steps.specs.Leaf.{leaf_past, leaf_told};
 
 use crate::leaves::{tell_byte_string, tell_signed, tell_string, tell_truth, tell_unsigned};
-use crate::listener::{Listener, Wanted};
+use crate::listener::Listener;
 use crate::opening::{node, unsupported};
 use crate::trail::Trail;
 use bcs_decode_slice_steps::cursor::Cursor;
@@ -31,7 +31,7 @@ pub fn tell_leaf<T: Listener>(
         (leaf_told (shape_of format.now) (way_of trail.now) cursor.old.place cursor.old.nodes cursor.old.rest.now) }
 {
     match format {
-        Format::Unit => node(cursor, Wanted::Node, trail, out),
+        Format::Unit => node(cursor, trail, out),
         Format::Bool => tell_truth(cursor, trail, out),
         Format::U8 => tell_unsigned(cursor, Width::W1, trail, out),
         Format::U16 => tell_unsigned(cursor, Width::W2, trail, out),

@@ -32,17 +32,16 @@ fn tell_stop<X, T: Listener>(
 #[inline(never)]
 pub fn node<T: Listener>(
     cursor: &mut Cursor,
-    wanted: Wanted<'_>,
     trail: &Trail<'_, '_, '_>,
     out: &mut T,
 ) -> Result<(), Stop>
     requires room { cursor.old.place + length cursor.old.rest.now < 2 ^ 64 }
     ensures passes { Passes (λ x. x) result node_here cursor.old cursor.new }
     ensures onward { Onward cursor.old cursor.new }
-    ensures hears { Hears T.heard T.has_lost out.old out.new (need (way_of trail.now) (wanted_of wanted.entry) result) }
+    ensures hears { Hears T.heard T.has_lost out.old out.new (need (way_of trail.now) wanted.node result) }
 {
     let result = cursor::node(cursor);
-    tell_stop(&result, trail, wanted, out);
+    tell_stop(&result, trail, Wanted::Node, out);
     result
 }
 
