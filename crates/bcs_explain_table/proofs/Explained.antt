@@ -15,24 +15,46 @@ use Rattle.bcs_explain_spec.specs.Pieces.{pieces}
 use Rattle.bcs_explain_spec.proofs.Cutting.{pieces_cut}
 use Rattle.bcs_explain_spec.proofs.StopCutting.{stop_pieces_cut}
 use Rattle.bcs_explain_steps.specs.Hearing.{Hears}
-use Rattle.bcs_explain_table.specs.Explains.{Explains, damaged_text, pieces_before}
+use Rattle.bcs_explain_spec.specs.Told.{Halted, Told, as_told, halt_told, piece}
+use Rattle.bcs_explain_table.specs.Damage.{damage_text}
+use Rattle.bcs_explain_table.specs.Explains.{Explains, damaged_text, halt_at, pieces_before}
+use Rattle.bcs_explain_table.specs.Halts.{HaltText, halt_after, halt_text, no_halt, pieces_of}
+use Rattle.bcs_explain_table.specs.HaltView.{halt_of}
 use Rattle.bcs_explain_table.specs.Explains as explains
 use Rattle.bcs_explain_columns.specs.declared.style.Style.{Style}
-use Rattle.bcs_explain_table.specs.Heard.{holds, lost, marker, shows}
-use Rattle.bcs_explain_table.specs.Table.{damage_text, end_text, table}
+use Rattle.bcs_explain_table.specs.Heard.{Shows, holds, lost, marker}
+use Rattle.bcs_explain_table.specs.Table.{end_text, table}
 use Rattle.bcs_explain_table.specs.declared.table.Table.{Table}
+use Rattle.bcs_explain_table.proofs.Hearing.{halt_halted, halt_told_none, pieces_halted, pieces_told}
 use Rattle.bcs_explain_table.proofs.Markers.{marked_marker}
 
--- what a table of this style holds
-abbrev pub Shown : Style → Table → List Piece → Type 0
-Shown style t ps = (t.style ≡ style) × shows t style ps
-
 -- of a table that was empty
-module _ (style : Style) (old : Table) (began : old.style ≡ style) (text : old.text.items ≡ []) (told : old.told ≡ 0) where
-  pub heard : (new : Table) (ps : List Piece) → Hears holds lost old new ps → lost new ≡ false → Shown style new ps
-  heard new ps h kept =
+module _ (style : Style) (old : Table) (began : old.style ≡ style) (text : old.text.items ≡ []) (told : old.told ≡ 0) (none : halt_of old.halt ≡ no_halt) where
+  heard_all : (new : Table) (ts : List Told) → Hears holds lost old new ts → lost new ≡ false → Shows new style (pieces_of ts) (halt_after no_halt ts)
+  heard_all new ts h kept =
       let back = marked_marker style in
-      subst (λ (s : Style). Shown s new ps) back ((h kept).1 (marker style ∷ []) (began ∙ sym back, (text, λ few. told)))
+      subst (λ (s : Style). Shows new s (pieces_of ts) (halt_after no_halt ts)) back
+      ((h kept).1 (piece (marker style) ∷ []) (record { style_is = began ∙ sym back; text_is = text; halt_is = none; count_is = λ few. told }))
+
+  pub heard : (new : Table) (ps : List Piece) → Hears holds lost old new (as_told ps) → lost new ≡ false → Shows new style ps no_halt
+  heard new ps h kept =
+      subst (λ (x : HaltText). Shows new style ps x) (halt_told_none no_halt ps)
+      (subst (λ (qs : List Piece). Shows new style qs (halt_after no_halt (as_told ps))) (pieces_told ps) (heard_all new (as_told ps) h kept))
+
+  pub heard_stop : (new : Table) (x : Halted) → Hears holds lost old new (halt_told x) → lost new ≡ false → Shows new style x.pieces (halt_text x.way x.wanted)
+  heard_stop new x h kept =
+      subst (λ (y : HaltText). Shows new style x.pieces y) (halt_halted no_halt x)
+      (subst (λ (qs : List Piece). Shows new style qs (halt_after no_halt (halt_told x))) (pieces_halted x) (heard_all new (halt_told x) h kept))
+
+-- with another stop
+pub with_halt : (style : Style) (old new : Table) (ps : List Piece) (x y : HaltText) → Shows old style ps x → new.style ≡ old.style → new.text.items ≡ old.text.items → new.told ≡ old.told
+    → halt_of new.halt ≡ y → Shows new style ps y
+with_halt style old new ps x y has same text told is = record {
+  style_is = same ∙ has.style_is;
+  text_is = text ∙ has.text_is;
+  halt_is = is;
+  count_is = λ few. told ∙ has.count_is few;
+}
 
 module _ (style : Style) (r : Entries) (l : Bounds) (s : Shape) (b : List ℕ) where
   -- the pieces before a stop have no more bytes than there are
@@ -44,34 +66,36 @@ module _ (style : Style) (r : Entries) (l : Bounds) (s : Shape) (b : List ℕ) w
       omega (arith, ap length (pieces_cut r [] 0 c (of s)).joined, ap length a.is, length-take-le n b a.within, a.within)
 
   -- what a table holds of the pieces before a stop
-  module _ (e : Reason) (o : ℕ) (h : StopsAll r l s b e o) (new : Table) (has : Shown style new (pieces_before r l s b e o h)) (small : length b < 2 ^ 64) where
+  module _ (e : Reason) (o : ℕ) (h : StopsAll r l s b e o) (new : Table) (has : Shows new style (pieces_before r l s b e o h) (halt_at r l s b e o h)) (small : length b < 2 ^ 64) where
     pub counted : new.told ≡ length (pieces_bytes (pieces_before r l s b e o h))
-    counted = has.1.1 (omega (arith, before_fits e o h, small))
+    counted = has.count_is (omega (arith, before_fits e o h, small))
 
     pub counted_within : new.told ≤ length b
     counted_within = omega (arith, counted, before_fits e o h)
 
     pub damage_explains : (t : List ℕ) (x : Option Stop) → x ≡ Some (record { reason = e; place = o })
-        → t ≡ new.text.items ++ damage_text new.style new.told (drop new.told b) e o → Explains style r l s b t x
+        → t ≡ new.text.items ++ damage_text new.style new.told (drop new.told b) e o (halt_of new.halt) → Explains style r l s b t x
     damage_explains t x stop is =
         let ps = pieces_before r l s b e o h in
-        let whole : damaged_text style r l s b e o ps ≡ t =
+        let at = halt_at r l s b e o h in
+        let whole : damaged_text style r l s b e o ps at ≡ t =
         sym (is
-        ∙ ap (λ x. new.text.items ++ damage_text x new.told (drop new.told b) e o) has.0
-        ∙ ap (λ i. i ++ damage_text style new.told (drop new.told b) e o) has.1.0
-        ∙ ap (λ n. table style ps ++ damage_text style n (drop n b) e o) counted) in
+        ∙ ap (λ x. new.text.items ++ damage_text x new.told (drop new.told b) e o (halt_of new.halt)) has.style_is
+        ∙ ap (λ x. new.text.items ++ damage_text style new.told (drop new.told b) e o x) has.halt_is
+        ∙ ap (λ i. i ++ damage_text style new.told (drop new.told b) e o at) has.text_is
+        ∙ ap (λ n. table style ps ++ damage_text style n (drop n b) e o at) counted) in
         subst (λ (i : List ℕ). Explains style r l s b i x) whole
-        (subst (λ (y : Option Stop). Explains style r l s b (damaged_text style r l s b e o ps) y) (sym stop) (explains.damaged e o h))
+        (subst (λ (y : Option Stop). Explains style r l s b (damaged_text style r l s b e o ps at) y) (sym stop) (explains.damaged e o h))
 
-  pub whole_explains : (c : Tree) (n : ℕ) (new : Table) → Accepts r l s b n c → n ≡ length b → Shown style new (pieces r [] 0 c (of s))
+  pub whole_explains : (c : Tree) (n : ℕ) (new : Table) → Accepts r l s b n c → n ≡ length b → Shows new style (pieces r [] 0 c (of s)) no_halt
       → (t : List ℕ) (x : Option Stop) → x ≡ None → t ≡ new.text.items ++ end_text new.style.form n → Explains style r l s b t x
   whole_explains c n new a all has t x none is =
       let ps = pieces r [] 0 c (of s) in
       let accepts = subst (λ (k : ℕ). Accepts r l s b k c) all a in
       let text : table style ps ++ end_text style.form (length b) ≡ t =
       sym (is
-      ∙ ap (λ y. new.text.items ++ end_text y.form n) has.0
-      ∙ ap (λ i. i ++ end_text style.form n) has.1.0
+      ∙ ap (λ y. new.text.items ++ end_text y.form n) has.style_is
+      ∙ ap (λ i. i ++ end_text style.form n) has.text_is
       ∙ ap (λ k. table style ps ++ end_text style.form k) all) in
       subst (λ (i : List ℕ). Explains style r l s b i x) text
       (subst (λ (y : Option Stop). Explains style r l s b (table style ps ++ end_text style.form (length b)) y) (sym none) (explains.whole c accepts))

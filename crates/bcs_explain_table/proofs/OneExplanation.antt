@@ -13,26 +13,32 @@ use Rattle.bcs_explain_spec.specs.Telling.{tell}
 use Rattle.bcs_explain_spec.proofs.StoppedTold.{told_at_a_stop_is}
 use Rattle.bcs_explain_spec.proofs.Told.{told_at_an_encoding_is}
 use Rattle.bcs_explain_columns.specs.declared.style.Style.{Style}
-use Rattle.bcs_explain_table.specs.Explains.{Explains, damaged_text, pieces_before}
+use Rattle.bcs_explain_spec.specs.Piece.{Piece}
+use Rattle.bcs_explain_spec.specs.Stopped.{stopped}
+use Rattle.bcs_explain_table.specs.Explains.{Explains, damaged_text, halt_at, pieces_before}
+use Rattle.bcs_explain_table.specs.Halts.{HaltText, end_halt, halt_after, pieces_of}
+use Rattle.bcs_explain_table.proofs.Hearing.{halt_halted, halt_told_none, pieces_halted, pieces_told}
 use Rattle.bcs_explain_table.specs.Explains as explains
 use Rattle.bcs_explain_table.specs.Table.{end_text, table}
 
 module _ (r : Entries) (l : Bounds) (s : Shape) (b : List ℕ) where
-  -- the pieces before a stop are what is told as the bytes are read
-  pub before_told : (e : Reason) (o : ℕ) (h : StopsAll r l s b e o) → tell r l.depth s [] 0 l.nodes b ≡ pieces_before r l s b e o h
-  before_told e o (inl h) = told_at_a_stop_is r l s b e o h
-  before_told e o (inr (n, c, a, lt, x, y)) = told_at_an_encoding_is r l s b n c a
+  -- what is printed of a stop is of what is told as the bytes are read
+  pub before_told : (e : Reason) (o : ℕ) (h : StopsAll r l s b e o) → pieces_of (tell r l.depth s [] 0 l.nodes b) ≡ pieces_before r l s b e o h
+  before_told e o (inl h) = ap pieces_of (told_at_a_stop_is r l s b e o h) ∙ pieces_halted (stopped r l s b e o h)
+  before_told e o (inr (n, c, a, lt, x, y)) = ap pieces_of (told_at_an_encoding_is r l s b n c a) ∙ pieces_told (pieces r [] 0 c (of s))
 
-  -- so they are the same, however the stop is shown
-  pub one_before : (e : Reason) (o : ℕ) (h k : StopsAll r l s b e o) → pieces_before r l s b e o h ≡ pieces_before r l s b e o k
-  one_before e o h k = sym (before_told e o h) ∙ before_told e o k
+  halt_told_is : (e : Reason) (o : ℕ) (h : StopsAll r l s b e o) → halt_after end_halt (tell r l.depth s [] 0 l.nodes b) ≡ halt_at r l s b e o h
+  halt_told_is e o (inl h) = ap (halt_after end_halt) (told_at_a_stop_is r l s b e o h) ∙ halt_halted end_halt (stopped r l s b e o h)
+  halt_told_is e o (inr (n, c, a, lt, x, y)) = ap (halt_after end_halt) (told_at_an_encoding_is r l s b n c a) ∙ halt_told_none end_halt (pieces r [] 0 c (of s))
 
 module _ (style : Style) (r : Entries) (l : Bounds) (s : Shape) (b : List ℕ) where
+  -- so it is the same, however the stop is shown
   same_damage : (e f : Reason) (o i : ℕ) (h : StopsAll r l s b e o) (k : StopsAll r l s b f i) → e ≡ f → o ≡ i
-      → damaged_text style r l s b e o (pieces_before r l s b e o h) ≡ damaged_text style r l s b f i (pieces_before r l s b f i k)
+      → damaged_text style r l s b e o (pieces_before r l s b e o h) (halt_at r l s b e o h) ≡ damaged_text style r l s b f i (pieces_before r l s b f i k) (halt_at r l s b f i k)
   same_damage e f o i h k same at =
-      ap₂ (λ (x : Reason) (y : ℕ). damaged_text style r l s b x y (pieces_before r l s b e o h)) same at
-      ∙ ap (damaged_text style r l s b f i) (sym (before_told r l s b e o h) ∙ before_told r l s b f i k)
+      ap₂ (λ (x : Reason) (y : ℕ). damaged_text style r l s b x y (pieces_before r l s b e o h) (halt_at r l s b e o h)) same at
+      ∙ ap₂ (λ (ps : List Piece) (x : HaltText). damaged_text style r l s b f i ps x) (sym (before_told r l s b e o h) ∙ before_told r l s b f i k)
+      (sym (halt_told_is r l s b e o h) ∙ halt_told_is r l s b f i k)
 
   pub explains_once : (t u : List ℕ) (x y : Option Stop) → Explains style r l s b t x → Explains style r l s b u y → (t ≡ u) × (x ≡ y)
   explains_once t u x y (explains.whole c a) (explains.whole d k) =

@@ -12,9 +12,11 @@ use Rattle.bcs_decode_spec.specs.Stopping.{StopsAll}
 use Rattle.bcs_explain_spec.specs.Held.{of}
 use Rattle.bcs_explain_spec.specs.Piece.{Piece, pieces_bytes}
 use Rattle.bcs_explain_spec.specs.Pieces.{pieces}
-use Rattle.bcs_explain_spec.specs.Stopped.{stop_pieces}
+use Rattle.bcs_explain_spec.specs.Stopped.{stop_pieces, stopped}
 use Rattle.bcs_explain_columns.specs.declared.style.Style.{Style}
-use Rattle.bcs_explain_table.specs.Table.{damage_text, end_text, table}
+use Rattle.bcs_explain_table.specs.Damage.{damage_text}
+use Rattle.bcs_explain_table.specs.Halts.{HaltText, end_halt, halt_text}
+use Rattle.bcs_explain_table.specs.Table.{end_text, table}
 
 -- how many bytes pieces have, which is where the last one ends
 abbrev pub told : List Piece → ℕ
@@ -26,12 +28,17 @@ module _ (registry : Entries) (limits : Bounds) (s : Shape) (b : List ℕ) where
   pieces_before e o (inl h) = stop_pieces registry limits s b e o h
   pieces_before e o (inr (n, c, h, lt, x, y)) = pieces registry [] 0 c (of s)
 
+  -- what is printed of where they stop
+  abbrev pub halt_at : (e : Reason) (o : ℕ) → StopsAll registry limits s b e o → HaltText
+  halt_at e o (inl h) = (let x = stopped registry limits s b e o h in halt_text x.way x.wanted)
+  halt_at e o (inr h) = end_halt
+
 module _ (style : Style) (registry : Entries) (limits : Bounds) (s : Shape) (b : List ℕ) where
   -- the pieces, and then what comes after them
-  abbrev pub damaged_text : Reason → ℕ → List Piece → List ℕ
-  damaged_text e o ps = table style ps ++ damage_text style (told ps) (drop (told ps) b) e o
+  abbrev pub damaged_text : Reason → ℕ → List Piece → HaltText → List ℕ
+  damaged_text e o ps x = table style ps ++ damage_text style (told ps) (drop (told ps) b) e o x
 
   -- the text that is printed, and where the bytes stop
   pub data Explains : List ℕ → Option Stop → Type 0 where
     whole : (c : Tree) → Accepts registry limits s b (length b) c → Explains (table style (pieces registry [] 0 c (of s)) ++ end_text style.form (length b)) None
-    damaged : (e : Reason) (o : ℕ) (h : StopsAll registry limits s b e o) → Explains (damaged_text e o (pieces_before registry limits s b e o h)) (Some (record { reason = e; place = o }))
+    damaged : (e : Reason) (o : ℕ) (h : StopsAll registry limits s b e o) → Explains (damaged_text e o (pieces_before registry limits s b e o h) (halt_at registry limits s b e o h)) (Some (record { reason = e; place = o }))

@@ -1,4 +1,4 @@
--- What it is for a table to have been told of pieces.
+-- What it is for a table to have been told of pieces and of a stop.
 use Rattle.std.specs.Prelude.{◌≡◌, ◌<◌, ◌^◌, ℕ, zero, suc, Bool, true, false, List, [], ◌∷◌, length}
 use Rattle.bcs_explain_spec.specs.Piece.{Meaning, Piece, pieces_bytes, truth}
 use Rattle.bcs_explain_columns.specs.declared.style.Form.{Form}
@@ -6,6 +6,9 @@ use Rattle.bcs_explain_columns.specs.declared.style.Form.TheVariants.{Json, Path
 use Rattle.bcs_explain_columns.specs.declared.style.Paint.{Paint}
 use Rattle.bcs_explain_columns.specs.declared.style.Paint.TheVariants.{Colored, Plain}
 use Rattle.bcs_explain_columns.specs.declared.style.Style.{Style}
+use Rattle.bcs_explain_spec.specs.Told.{Told, halt, piece}
+use Rattle.bcs_explain_table.specs.Halts.{HaltText, halt_after, no_halt, pieces_of}
+use Rattle.bcs_explain_table.specs.HaltView.{halt_of}
 use Rattle.bcs_explain_table.specs.Table.{table}
 use Rattle.bcs_explain_table.specs.declared.table.Table.{Table}
 
@@ -39,14 +42,19 @@ marked x = record { form = form_at x.place; paint = paint_at x.meaning }
 
 -- ---- what a table holds
 
--- its text is their lines, and it has counted their bytes, unless there are more than it can count
-abbrev pub shows : Table → Style → List Piece → Type 0
-shows t style ps = (t.text.items ≡ table style ps) × (length (pieces_bytes ps) < 2 ^ 64 → t.told ≡ length (pieces_bytes ps))
+-- its text is the lines of the pieces, it keeps what is printed of the stop, and it has counted the pieces' bytes, unless there
+-- are more than it can count
+pub record Shows (t : Table) (style : Style) (ps : List Piece) (h : HaltText) : Type 0 where
+  pub style_is : t.style ≡ style
+  pub text_is : t.text.items ≡ table style ps
+  pub halt_is : halt_of t.halt ≡ h
+  pub count_is : length (pieces_bytes ps) < 2 ^ 64 → t.told ≡ length (pieces_bytes ps)
 
 -- the first of what it was told is its style
-abbrev pub holds : Table → List Piece → Type 0
+abbrev pub holds : Table → List Told → Type 0
 holds t [] = ⊥
-holds t (x ∷ ps) = (t.style ≡ marked x) × shows t (marked x) ps
+holds t (piece x ∷ ts) = Shows t (marked x) (pieces_of ts) (halt_after no_halt ts)
+holds t (halt way want ∷ ts) = ⊥
 
 abbrev pub lost : Table → Bool
 lost t = t.has_lost

@@ -1,5 +1,9 @@
 pub mod Ways
 pub mod Objects
 pub mod Table
+pub mod Halts
+pub mod HaltView
+pub mod StopObject
+pub mod Damage
 pub mod Heard
 pub mod Explains

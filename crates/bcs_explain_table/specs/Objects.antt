@@ -5,8 +5,6 @@ use Rattle.std.specs.Option.{is_some}
 use Rattle.hex.specs.Hex.{encode_lower}
 use Rattle.serde_json.specs.Data.{Data, boolean, member, no_members, null, number, object, string, unsigned as whole}
 use Rattle.serde_json.specs.Written.{compact_text}
-use Rattle.bcs_decode_spec.specs.Stop.{reason_name}
-use Rattle.bcs_decode_spec.specs.declared.reason.Reason.{Reason}
 use Rattle.bcs_explain_spec.specs.Way.{Way}
 use Rattle.bcs_explain_spec.specs.Piece.{Counted, Meaning, Piece, truth, unsigned, signed, counted, text, bytes, octets, option, chosen, text_bytes, raw_bytes, elements, entries}
 use Rattle.bcs_explain_paths.specs.Paths.{path_text, steps_to}
@@ -76,10 +74,6 @@ piece_object x = object
 -- of a whole value, with how many bytes it has
 abbrev pub end_object : ℕ → Data
 end_object n = object (member (codes "end") (number (whole n)) no_members)
-
--- where bytes stop being a value, and why
-abbrev pub stop_object : Reason → ℕ → Data
-stop_object reason place = object (member (codes "place") (number (whole place)) (member (codes "refused") (string (reason_name reason)) no_members))
 
 -- on a line of its own
 abbrev pub object_line : Data → List ℕ

@@ -118,28 +118,6 @@ abbrev pub table : Style → List Piece → List ℕ
 table style [] = []
 table style (x ∷ xs) = piece_text style x ++ table style xs
 
--- ---- where bytes stop being a value
-
--- damage is red and bold
-abbrev pub damage_color : List ℕ
-damage_color = codes "1;31"
-
-abbrev pub left_out : ℕ → List ℕ
-left_out zero = []
-left_out (suc n) = blanks place_width ++ codes "  ... " ++ so_many (suc n) (codes " byte") (codes " bytes") ++ codes " more" ++ 10 ∷ []
-
--- why bytes are no value, at the end of a line
-abbrev pub stop_mark : Reason → ℕ → List ℕ
-stop_mark reason place = codes "! " ++ reason_name reason ++ codes " at " ++ decimal place
-
--- the first ones of the bytes that are no piece, which stand at p, why they are none, and how many come after them
-abbrev pub damage_lines : Paint → ℕ → List ℕ → Reason → ℕ → List ℕ
-damage_lines paint p rest reason place =
-    wide_row paint p (take row_size rest) ++ (painted paint damage_color (stop_mark reason place) ++ 10 ∷ []) ++ left_out (length rest - row_size)
-
-abbrev pub damage_text : Style → ℕ → List ℕ → Reason → ℕ → List ℕ
-damage_text style p rest reason place = in_form style.form (object_line (stop_object reason place)) (damage_lines style.paint p rest reason place)
-
 -- ---- where a value ends
 
 -- nothing stands behind lines

@@ -3,9 +3,12 @@ ghost use Rattle.std.specs.Prelude.{◌≡◌, ◌≤◌, ◌++◌, IfOk, None, 
 ghost use Rattle.bcs_registry_formats.specs.View.{shape_of};
 ghost use Rattle.bcs_registry_formats.specs.WellFormed.{Admits};
 ghost use Rattle.bcs_explain_table.specs.Explains.{Explains};
-ghost use Rattle.bcs_explain_table.specs.Table.{damage_text, end_text};
+ghost use Rattle.bcs_explain_table.specs.Damage.{damage_text};
+ghost use Rattle.bcs_explain_table.specs.HaltView.{halt_of};
+ghost use Rattle.bcs_explain_table.specs.Table.{end_text};
 
 use crate::damage::{put_damage, put_end};
+use crate::halt::at_end;
 use crate::table::Table;
 use bcs_explain::{Reason, Stop, explain};
 use bcs_explain_columns::style::Style;
@@ -42,6 +45,7 @@ pub fn explain_text(
                 reason: Reason::TrailingBytes,
                 place: end as u64,
             };
+            table.halt = at_end(alloc)?;
             damaged(table, bytes, stop)
         }
         Ok(end) => whole(table, end as u64),
@@ -66,14 +70,14 @@ fn whole(table: Table, end: u64) -> Result<Explanation, AllocError>
 fn damaged(table: Table, bytes: &[u8], stop: Stop) -> Result<Explanation, AllocError>
     requires within { table.has_lost ≡ false → table.told ≤ length bytes.now }
     ensures { IfOk result (λ x. (table.has_lost ≡ false) × (x.stop ≡ Some stop)
-        × (x.text.items ≡ table.text.items ++ damage_text table.style table.told (drop table.told bytes.now) stop.reason stop.place)) }
+        × (x.text.items ≡ table.text.items ++ damage_text table.style table.told (drop table.told bytes.now) stop.reason stop.place (halt_of table.halt))) }
 {
     if table.has_lost {
         return Err(AllocError);
     }
     let mut text = table.text;
     let (_, rest) = bytes.split_at(table.told as usize);
-    put_damage(table.style, table.told, rest, stop, &mut text)?;
+    put_damage(table.style, table.told, rest, stop, &table.halt, &mut text)?;
     Ok(Explanation {
         text,
         stop: Some(stop),

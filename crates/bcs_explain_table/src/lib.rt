@@ -3,6 +3,7 @@
 
 mod damage;
 mod explanation;
+mod halt;
 mod led;
 mod meaning;
 mod members;

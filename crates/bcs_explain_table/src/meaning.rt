@@ -14,7 +14,7 @@ use bcs_explain_columns::escaping::put_escaped;
 use bcs_explain_columns::style::Paint;
 use std::alloc::AllocError;
 
-const MEANING_WIDTH: usize = 30;
+pub(crate) const MEANING_WIDTH: usize = 30;
 
 /// What a piece of so many bytes is, where the trail leads to it, in a column of its own.
 pub(crate) fn put_meaning_column(

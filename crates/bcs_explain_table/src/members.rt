@@ -7,6 +7,7 @@ ghost use Rattle.bcs_explain_steps.specs.Hearing.{counted_of, meaning_of};
 ghost use Rattle.bcs_explain_steps.specs.Trail.{way_of};
 ghost use Rattle.bcs_explain_table.specs.Objects as objects;
 ghost use Rattle.bcs_explain_table.specs.Objects.{format_word, path_of, value_of};
+ghost use Rattle.bcs_explain_table.specs.StopObject.{path_or_null};
 ghost use Rattle.bcs_explain_table.specs.Ways.{way_text};
 
 use crate::meaning::{put_bits, put_variant_names};
@@ -128,8 +129,8 @@ fn put_format(
     }
 }
 
-// What a length counts.
-fn counted_word(counted: Counted) -> &'static str
+/// What a length counts.
+pub(crate) fn counted_word(counted: Counted) -> &'static str
     ensures { result.now ≡ objects.counted_word (counted_of counted) }
 {
     match counted {
@@ -138,6 +139,23 @@ fn counted_word(counted: Counted) -> &'static str
         Counted::List => "SEQ",
         Counted::Map => "MAP",
     }
+}
+
+/// The word PATH of a stop, or `null` where none leads there.
+pub(crate) fn stop_path_member(alloc: Global, path: &[u8]) -> Result<Value, AllocError>
+    ensures { IfOk result (λ v. view v ≡ path_or_null path.now) }
+{
+    if path == b"-".as_slice() {
+        return Ok(Value::Null);
+    }
+    text_member(alloc, path)
+}
+
+/// A text that stands somewhere already.
+pub(crate) fn text_member(alloc: Global, text: &[u8]) -> Result<Value, AllocError>
+    ensures { IfOk result (λ v. view v ≡ string text.now) }
+{
+    word(Vec::from_slice(alloc, text)?)
 }
 
 // A text as JSON. All that is put together here is ASCII, so it is never refused; no clause says so.

@@ -4,10 +4,14 @@ ghost use Rattle.serde_json.specs.View.{view};
 ghost use Rattle.serde_json.specs.Written.{has_float};
 ghost use Rattle.bcs_explain_steps.specs.Hearing.{meaning_of};
 ghost use Rattle.bcs_explain_steps.specs.Trail.{way_of};
-ghost use Rattle.bcs_explain_table.specs.Objects.{end_object, object_line, piece_object, stop_object};
+ghost use Rattle.bcs_explain_table.specs.Objects.{end_object, object_line, piece_object};
+ghost use Rattle.bcs_explain_table.specs.HaltView.{halt_of};
+ghost use Rattle.bcs_explain_table.specs.StopObject.{stop_object};
 
+use crate::halt::Halt;
 use crate::members::{
-    bytes_member, format_member, kind_word, name_member, path_member, value_member,
+    bytes_member, format_member, kind_word, name_member, path_member, stop_path_member,
+    text_member, value_member,
 };
 use bcs_explain::{Meaning, Stop, Trail};
 use serde_json::{Value, json};
@@ -41,10 +45,10 @@ pub(crate) fn put_end_object(end: u64, out: &mut Vec<u8>) -> Result<(), AllocErr
 }
 
 /// Where bytes stop being a value, and why.
-pub(crate) fn put_stop_object(stop: Stop, out: &mut Vec<u8>) -> Result<(), AllocError>
-    ensures { OnOk result (out.new.items ≡ out.old.items ++ object_line (stop_object stop.reason stop.place)) }
+pub(crate) fn put_stop_object(stop: Stop, halt: &Halt, out: &mut Vec<u8>) -> Result<(), AllocError>
+    ensures { OnOk result (out.new.items ≡ out.old.items ++ object_line (stop_object stop.reason stop.place (halt_of halt.now))) }
 {
-    let value = stop_value(*out.allocator(), stop)?;
+    let value = stop_value(*out.allocator(), stop, halt)?;
     put_object(value, out)
 }
 
@@ -94,8 +98,17 @@ fn end_value(alloc: Global, end: u64) -> Result<Value, AllocError>
     json!(in alloc; {"end": end})
 }
 
-fn stop_value(alloc: Global, stop: Stop) -> Result<Value, AllocError>
-    ensures { IfOk result (λ v. view v ≡ stop_object stop.reason stop.place) }
+fn stop_value(alloc: Global, stop: Stop, halt: &Halt) -> Result<Value, AllocError>
+    ensures { IfOk result (λ v. view v ≡ stop_object stop.reason stop.place (halt_of halt.now)) }
 {
-    json!(in alloc; {"place": stop.place, "refused": stop.reason.name()})
+    let name = text_member(alloc, &halt.way)?;
+    let path = stop_path_member(alloc, &halt.path)?;
+    let want = text_member(alloc, &halt.wanted)?;
+    json!(in alloc; {
+        "name": name,
+        "path": path,
+        "place": stop.place,
+        "refused": stop.reason.name(),
+        "want": want
+    })
 }

@@ -1,16 +1,20 @@
 //! A listener that writes a line for each piece.
-ghost use Rattle.std.specs.Prelude.{◌≡◌, ◌++◌, ◌+◌, ◌<◌, ◌^◌, [], List, OnOk, false, length};
+ghost use Rattle.std.specs.Prelude.{◌≡◌, ◌∷◌, ◌++◌, ◌+◌, ◌<◌, ◌^◌, [], List, OnOk, false, length};
 ghost use Rattle.bcs_explain_spec.specs.Piece.{Piece, piece_at, pieces_bytes};
-ghost use Rattle.bcs_explain_steps.specs.Hearing.{Hears, meaning_of};
+ghost use Rattle.bcs_explain_steps.specs.Hearing.{Hears, meaning_of, wanted_of};
 ghost use Rattle.bcs_explain_steps.specs.Trail.{way_of};
+ghost use Rattle.bcs_explain_spec.specs.Told.{as_told, halt as halted};
+ghost use Rattle.bcs_explain_table.specs.HaltView.{halt_of};
+ghost use Rattle.bcs_explain_table.specs.Halts.{no_halt};
 ghost use Rattle.bcs_explain_table.specs.Table.{lines_text, piece_text};
 ghost use Rattle.bcs_explain_table.specs.Ways.{led_text};
 
+use crate::halt::{Halt, none, stopped_at};
 use crate::led::put_led;
 use crate::meaning::put_meaning_column;
 use crate::objects::put_piece_object;
 use crate::rows::{put_first_row, put_more_rows};
-use bcs_explain::{Listener, Meaning, Trail};
+use bcs_explain::{Listener, Meaning, Trail, Wanted};
 use bcs_explain_columns::style::{Form, Style};
 use std::alloc::{AllocError, Global};
 
@@ -22,6 +26,8 @@ pub(crate) struct Table {
     pub style: Style,
     /// How many bytes these pieces have.
     pub told: u64,
+    /// Where the bytes stop.
+    pub halt: Halt,
     /// Whether memory ran out.
     pub has_lost: bool,
 }
@@ -31,12 +37,14 @@ impl Table {
         ensures text { result.text.items ≡ [] }
         ensures style { result.style ≡ style }
         ensures told { result.told ≡ 0 }
+        ensures halt { halt_of result.halt ≡ no_halt }
         ensures has_lost { result.has_lost ≡ false }
     {
         Table {
             text: Vec::new(alloc),
             style,
             told: 0,
+            halt: none(alloc),
             has_lost: false,
         }
     }
@@ -52,13 +60,22 @@ impl Listener for Table {
     fn hear(&mut self, place: u64, bytes: &[u8], trail: &Trail<'_, '_, '_>, meaning: Meaning<'_>)
         requires room { place + length bytes.now < 2 ^ 64 }
         ensures { Hears holds lost self.old self.new
-            (piece_at (way_of trail.now) place bytes.now (meaning_of meaning.entry)) }
+            (as_told (piece_at (way_of trail.now) place bytes.now (meaning_of meaning.entry))) }
     {
         if self.has_lost || bytes.is_empty() {
             return;
         }
         match put_piece(self.style, place, bytes, trail, meaning, &mut self.text) {
             Ok(()) => self.told = self.told.wrapping_add(bytes.len() as u64),
+            Err(AllocError) => self.has_lost = true,
+        }
+    }
+
+    fn halt(&mut self, trail: &Trail<'_, '_, '_>, wanted: Wanted<'_>)
+        ensures { Hears holds lost self.old self.new (halted (way_of trail.now) (wanted_of wanted.entry) ∷ []) }
+    {
+        match stopped_at(*self.text.allocator(), trail, wanted) {
+            Ok(halt) => self.halt = halt,
             Err(AllocError) => self.has_lost = true,
         }
     }

@@ -301,7 +301,7 @@ module _ (work : Work) (input : List ℕ) where
 
     one_pieced : (bytes : List ℕ) (s z : ℕ) (p q : List ℕ) → Pieced r f bytes s p → Pieced r f bytes z q → Agrees s p z q
     one_pieced bytes s z p q (t, x, h, hs, hp) (u, y, k, ks, kq) =
-        let same = explains_once r work.limits f bytes t u x y h k in
+        let same = explains_once work.style r work.limits f bytes t u x y h k in
         (hs ∙ ap explained_status same.1 ∙ sym ks, hp ∙ ap₂ (explained_text work.style.form) same.0 same.1 ∙ sym kq)
 
     one_explained : (s z : ℕ) (p q : List ℕ) → Explained r f s p → Explained r f z q → Agrees s p z q
