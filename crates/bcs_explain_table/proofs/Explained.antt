@@ -19,7 +19,7 @@ use Rattle.bcs_explain_table.specs.Explains.{Explains, damaged_text, pieces_befo
 use Rattle.bcs_explain_table.specs.Explains as explains
 use Rattle.bcs_explain_columns.specs.declared.style.Style.{Style}
 use Rattle.bcs_explain_table.specs.Heard.{holds, lost, marker, shows}
-use Rattle.bcs_explain_table.specs.Table.{damage_text, table}
+use Rattle.bcs_explain_table.specs.Table.{damage_text, end_text, table}
 use Rattle.bcs_explain_table.specs.declared.table.Table.{Table}
 use Rattle.bcs_explain_table.proofs.Markers.{marked_marker}
 
@@ -64,8 +64,14 @@ module _ (style : Style) (r : Entries) (l : Bounds) (s : Shape) (b : List ℕ) w
         (subst (λ (y : Option Stop). Explains style r l s b (damaged_text style r l s b e o ps) y) (sym stop) (explains.damaged e o h))
 
   pub whole_explains : (c : Tree) (n : ℕ) (new : Table) → Accepts r l s b n c → n ≡ length b → Shown style new (pieces r [] 0 c (of s))
-      → (t : List ℕ) (x : Option Stop) → x ≡ None → t ≡ new.text.items → Explains style r l s b t x
+      → (t : List ℕ) (x : Option Stop) → x ≡ None → t ≡ new.text.items ++ end_text new.style.form n → Explains style r l s b t x
   whole_explains c n new a all has t x none is =
+      let ps = pieces r [] 0 c (of s) in
       let accepts = subst (λ (k : ℕ). Accepts r l s b k c) all a in
-      subst (λ (i : List ℕ). Explains style r l s b i x) (sym (is ∙ has.1.0))
-      (subst (λ (y : Option Stop). Explains style r l s b (table style (pieces r [] 0 c (of s))) y) (sym none) (explains.whole c accepts))
+      let text : table style ps ++ end_text style.form (length b) ≡ t =
+      sym (is
+      ∙ ap (λ y. new.text.items ++ end_text y.form n) has.0
+      ∙ ap (λ i. i ++ end_text style.form n) has.1.0
+      ∙ ap (λ k. table style ps ++ end_text style.form k) all) in
+      subst (λ (i : List ℕ). Explains style r l s b i x) text
+      (subst (λ (y : Option Stop). Explains style r l s b (table style ps ++ end_text style.form (length b)) y) (sym none) (explains.whole c accepts))

@@ -1,6 +1,7 @@
 pub mod Texts
 pub mod Levels
 pub mod Markers
+pub mod NoFloats
 pub mod TrailViews
 pub mod Hearing
 pub mod Explained

@@ -1,5 +1,5 @@
 -- There is one explanation of bytes.
-use Rattle.std.proofs.Common.{◌≡◌, ◌∙◌, inl, inr, ℕ, List, [], Option, Some, length, ap, ap₂, refl, sym}
+use Rattle.std.proofs.Common.{◌≡◌, ◌∙◌, inl, inr, ℕ, List, [], ◌++◌, Option, Some, length, ap, ap₂, refl, sym}
 use Rattle.bcs_registry_formats.specs.Shape.{Shape}
 use Rattle.bcs_registry_formats.specs.Container.{Entries}
 use Rattle.bcs_value_spec.specs.Limits.{Bounds}
@@ -15,7 +15,7 @@ use Rattle.bcs_explain_spec.proofs.Told.{told_at_an_encoding_is}
 use Rattle.bcs_explain_columns.specs.declared.style.Style.{Style}
 use Rattle.bcs_explain_table.specs.Explains.{Explains, damaged_text, pieces_before}
 use Rattle.bcs_explain_table.specs.Explains as explains
-use Rattle.bcs_explain_table.specs.Table.{table}
+use Rattle.bcs_explain_table.specs.Table.{end_text, table}
 
 module _ (r : Entries) (l : Bounds) (s : Shape) (b : List ℕ) where
   -- the pieces before a stop are what is told as the bytes are read
@@ -36,7 +36,7 @@ module _ (style : Style) (r : Entries) (l : Bounds) (s : Shape) (b : List ℕ) w
 
   pub explains_once : (t u : List ℕ) (x y : Option Stop) → Explains style r l s b t x → Explains style r l s b u y → (t ≡ u) × (x ≡ y)
   explains_once t u x y (explains.whole c a) (explains.whole d k) =
-      (ap (λ z. table style (pieces r [] 0 z (of s))) (accepts_once_is r l s b (length b) (length b) c d a k).1, refl)
+      (ap (λ z. table style (pieces r [] 0 z (of s)) ++ end_text style.form (length b)) (accepts_once_is r l s b (length b) (length b) c d a k).1, refl)
   explains_once t u x y (explains.whole c a) (explains.damaged e o h) = absurd (no_two_verdicts_of_all_are r l s b c e o a h)
   explains_once t u x y (explains.damaged e o h) (explains.whole c a) = absurd (no_two_verdicts_of_all_are r l s b c e o a h)
   explains_once t u x y (explains.damaged e o h) (explains.damaged f i k) =

@@ -6,8 +6,8 @@ use Rattle.bcs_explain_spec.specs.Way.{Label, Way}
 use Rattle.bcs_explain_spec.specs.Piece.{Piece, pieces_bytes}
 use Rattle.bcs_explain_columns.specs.declared.style.Paint.{Paint}
 use Rattle.bcs_explain_columns.specs.declared.style.Style.{Style}
-use Rattle.bcs_explain_table.specs.Table.{more_rows, opened, opened_last, piece_text, row, row_size, table}
-use Rattle.bcs_explain_table.specs.Ways.{or_whole, step_text, steps_text}
+use Rattle.bcs_explain_table.specs.Table.{more_rows, piece_text, row, row_size, table}
+use Rattle.bcs_explain_table.specs.Ways.{opened, opened_last, or_whole, step_text, steps_text}
 
 pub steps_onto : (way : Way) (l : Label) → steps_text (way ++ l ∷ []) ≡ steps_text way ++ step_text l
 steps_onto [] l = append-nil (step_text l)

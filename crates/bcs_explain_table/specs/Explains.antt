@@ -14,7 +14,7 @@ use Rattle.bcs_explain_spec.specs.Piece.{Piece, pieces_bytes}
 use Rattle.bcs_explain_spec.specs.Pieces.{pieces}
 use Rattle.bcs_explain_spec.specs.Stopped.{stop_pieces}
 use Rattle.bcs_explain_columns.specs.declared.style.Style.{Style}
-use Rattle.bcs_explain_table.specs.Table.{damage_text, table}
+use Rattle.bcs_explain_table.specs.Table.{damage_text, end_text, table}
 
 -- how many bytes pieces have, which is where the last one ends
 abbrev pub told : List Piece → ℕ
@@ -33,5 +33,5 @@ module _ (style : Style) (registry : Entries) (limits : Bounds) (s : Shape) (b :
 
   -- the text that is printed, and where the bytes stop
   pub data Explains : List ℕ → Option Stop → Type 0 where
-    whole : (c : Tree) → Accepts registry limits s b (length b) c → Explains (table style (pieces registry [] 0 c (of s))) None
+    whole : (c : Tree) → Accepts registry limits s b (length b) c → Explains (table style (pieces registry [] 0 c (of s)) ++ end_text style.form (length b)) None
     damaged : (e : Reason) (o : ℕ) (h : StopsAll registry limits s b e o) → Explains (damaged_text e o (pieces_before registry limits s b e o h)) (Some (record { reason = e; place = o }))

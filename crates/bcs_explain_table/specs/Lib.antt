@@ -1,4 +1,5 @@
 pub mod Ways
+pub mod Objects
 pub mod Table
 pub mod Heard
 pub mod Explains

@@ -4,27 +4,19 @@ use Rattle.std.specs.Fmt.{decimal, signed_decimal}
 use Rattle.hex.specs.Hex.{encode_lower}
 use Rattle.bcs_decode_spec.specs.Stop.{reason_name}
 use Rattle.bcs_decode_spec.specs.declared.reason.Reason.{Reason}
-use Rattle.bcs_explain_spec.specs.Way.{Label, Way, opening}
+use Rattle.bcs_explain_spec.specs.Way.{Way}
 use Rattle.bcs_explain_spec.specs.Piece.{Counted, Meaning, Piece, truth, unsigned, signed, counted, text, bytes, octets, option, chosen, text_bytes, raw_bytes, elements, entries}
 use Rattle.bcs_explain_columns.specs.Columns.{blanks, left_in, right_in}
 use Rattle.bcs_explain_columns.specs.Escaped.{escaped}
 use Rattle.bcs_explain_columns.specs.Painted.{painted, painted_in}
 use Rattle.bcs_explain_columns.specs.declared.style.Paint.{Paint}
 use Rattle.bcs_explain_columns.specs.declared.style.Style.{Style}
-use Rattle.bcs_explain_table.specs.Ways.{led_text}
+use Rattle.bcs_explain_columns.specs.declared.style.Form.{Form}
+use Rattle.bcs_explain_columns.specs.declared.style.Form.TheVariants.{Json, Paths, Tree, Ways}
+use Rattle.bcs_explain_table.specs.Objects.{end_object, object_line, piece_object, stop_object}
+use Rattle.bcs_explain_table.specs.Ways.{led_text, opened_last}
 
 -- ---- what a piece is
-
--- the container that a step opens
-abbrev pub opened : Label → List ℕ
-opened (opening name) = name
-opened _ = []
-
--- the container that the last step opens
-abbrev pub opened_last : Way → List ℕ
-opened_last [] = []
-opened_last (l ∷ []) = opened l
-opened_last (l ∷ k ∷ way) = opened_last (k ∷ way)
 
 -- so many of what has these names
 abbrev pub so_many : ℕ → List ℕ → List ℕ → List ℕ
@@ -111,8 +103,15 @@ lines_text paint led x =
     ++ meaning_column paint x.way (length x.bytes) x.meaning ++ led ++ 10
     ∷ more_rows paint (length x.bytes) (x.place + row_size) (drop row_size x.bytes)
 
+-- an object where the form is JSON, and else lines
+abbrev pub in_form : Form → List ℕ → List ℕ → List ℕ
+in_form Ways object lines = lines
+in_form Paths object lines = lines
+in_form Tree object lines = lines
+in_form Json object lines = object
+
 abbrev pub piece_text : Style → Piece → List ℕ
-piece_text style x = lines_text style.paint (led_text style.form x.way) x
+piece_text style x = in_form style.form (object_line (piece_object x)) (lines_text style.paint (led_text style.form x.way) x)
 
 -- a line for each piece, and more where it has more bytes than stand on a line
 abbrev pub table : Style → List Piece → List ℕ
@@ -134,6 +133,15 @@ abbrev pub stop_mark : Reason → ℕ → List ℕ
 stop_mark reason place = codes "! " ++ reason_name reason ++ codes " at " ++ decimal place
 
 -- the first ones of the bytes that are no piece, which stand at p, why they are none, and how many come after them
+abbrev pub damage_lines : Paint → ℕ → List ℕ → Reason → ℕ → List ℕ
+damage_lines paint p rest reason place =
+    wide_row paint p (take row_size rest) ++ (painted paint damage_color (stop_mark reason place) ++ 10 ∷ []) ++ left_out (length rest - row_size)
+
 abbrev pub damage_text : Style → ℕ → List ℕ → Reason → ℕ → List ℕ
-damage_text style p rest reason place =
-    wide_row style.paint p (take row_size rest) ++ (painted style.paint damage_color (stop_mark reason place) ++ 10 ∷ []) ++ left_out (length rest - row_size)
+damage_text style p rest reason place = in_form style.form (object_line (stop_object reason place)) (damage_lines style.paint p rest reason place)
+
+-- ---- where a value ends
+
+-- nothing stands behind lines
+abbrev pub end_text : Form → ℕ → List ℕ
+end_text form n = in_form form (object_line (end_object n)) []

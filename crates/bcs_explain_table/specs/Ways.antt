@@ -59,6 +59,19 @@ set_in (l ∷ k ∷ way) = blanks 2 ++ set_in (k ∷ way)
 abbrev pub tree_text : Way → List ℕ
 tree_text way = set_in (written way)
 
+-- ---- what it opens
+
+-- the container that a step opens
+abbrev pub opened : Label → List ℕ
+opened (opening name) = name
+opened _ = []
+
+-- the container that the last step opens
+abbrev pub opened_last : Way → List ℕ
+opened_last [] = []
+opened_last (l ∷ []) = opened l
+opened_last (l ∷ k ∷ way) = opened_last (k ∷ way)
+
 -- ---- in each form
 
 abbrev pub led_text : Form → Way → List ℕ

@@ -1,14 +1,15 @@
 //! The bytes that are no pieces, and why.
 ghost use Rattle.std.specs.Prelude.{◌≡◌, ◌∷◌, ◌++◌, [], OnOk};
 ghost use Rattle.bcs_explain_columns.specs.Painted.{painted};
-ghost use Rattle.bcs_explain_table.specs.Table.{damage_color, damage_text, left_out, stop_mark};
+ghost use Rattle.bcs_explain_table.specs.Table.{damage_color, damage_lines, damage_text, end_text, left_out, stop_mark};
 
 use crate::meaning::put_so_many;
+use crate::objects::{put_end_object, put_stop_object};
 use crate::rows::put_first_row;
 use bcs_explain::Stop;
 use bcs_explain_columns::colors::{end_color, start_color};
 use bcs_explain_columns::columns::{put_blanks, put_decimal};
-use bcs_explain_columns::style::{Paint, Style};
+use bcs_explain_columns::style::{Form, Paint, Style};
 use std::alloc::AllocError;
 
 const PLACE_WIDTH: usize = 6;
@@ -16,7 +17,8 @@ const PLACE_WIDTH: usize = 6;
 // Red and bold.
 const DAMAGE_COLOR: &str = "1;31";
 
-/// The first ones of the bytes, which stand at a place, why they are no value, and how many come after them.
+/// The first ones of the bytes, which stand at a place, why they are no value, and how many come after them; in JSON why
+/// they are none alone.
 pub(crate) fn put_damage(
     style: Style,
     place: u64,
@@ -26,8 +28,37 @@ pub(crate) fn put_damage(
 ) -> Result<(), AllocError>
     ensures { OnOk result (out.new.items ≡ out.old.items ++ damage_text style place rest.now stop.reason stop.place) }
 {
-    let left = put_first_row(style.paint, place, rest, out)?;
-    put_stop(style.paint, stop, out)?;
+    match style.form {
+        Form::Ways => put_damage_lines(style.paint, place, rest, stop, out),
+        Form::Paths => put_damage_lines(style.paint, place, rest, stop, out),
+        Form::Tree => put_damage_lines(style.paint, place, rest, stop, out),
+        Form::Json => put_stop_object(stop, out),
+    }
+}
+
+/// What stands behind the last piece of a whole value.
+pub(crate) fn put_end(form: Form, end: u64, out: &mut Vec<u8>) -> Result<(), AllocError>
+    ensures { OnOk result (out.new.items ≡ out.old.items ++ end_text form end) }
+{
+    match form {
+        Form::Ways => Ok(()),
+        Form::Paths => Ok(()),
+        Form::Tree => Ok(()),
+        Form::Json => put_end_object(end, out),
+    }
+}
+
+fn put_damage_lines(
+    paint: Paint,
+    place: u64,
+    rest: &[u8],
+    stop: Stop,
+    out: &mut Vec<u8>,
+) -> Result<(), AllocError>
+    ensures { OnOk result (out.new.items ≡ out.old.items ++ damage_lines paint place rest.now stop.reason stop.place) }
+{
+    let left = put_first_row(paint, place, rest, out)?;
+    put_stop(paint, stop, out)?;
     put_left_out(left.len(), out)
 }
 

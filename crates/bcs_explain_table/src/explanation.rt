@@ -3,9 +3,9 @@ ghost use Rattle.std.specs.Prelude.{◌≡◌, ◌≤◌, ◌++◌, IfOk, None, 
 ghost use Rattle.bcs_registry_formats.specs.View.{shape_of};
 ghost use Rattle.bcs_registry_formats.specs.WellFormed.{Admits};
 ghost use Rattle.bcs_explain_table.specs.Explains.{Explains};
-ghost use Rattle.bcs_explain_table.specs.Table.{damage_text};
+ghost use Rattle.bcs_explain_table.specs.Table.{damage_text, end_text};
 
-use crate::damage::put_damage;
+use crate::damage::{put_damage, put_end};
 use crate::table::Table;
 use bcs_explain::{Reason, Stop, explain};
 use bcs_explain_columns::style::Style;
@@ -44,22 +44,22 @@ pub fn explain_text(
             };
             damaged(table, bytes, stop)
         }
-        Ok(_) => whole(table),
+        Ok(end) => whole(table, end as u64),
         Err(stop) => damaged(table, bytes, stop),
     }
 }
 
-// The lines of a whole value.
-fn whole(table: Table) -> Result<Explanation, AllocError>
-    ensures { IfOk result (λ x. (table.has_lost ≡ false) × (x.text.items ≡ table.text.items) × (x.stop ≡ None)) }
+// The pieces of a whole value, which has so many bytes.
+fn whole(table: Table, end: u64) -> Result<Explanation, AllocError>
+    ensures { IfOk result (λ x. (table.has_lost ≡ false) × (x.stop ≡ None)
+        × (x.text.items ≡ table.text.items ++ end_text table.style.form end)) }
 {
     if table.has_lost {
         return Err(AllocError);
     }
-    Ok(Explanation {
-        text: table.text,
-        stop: None,
-    })
+    let mut text = table.text;
+    put_end(table.style.form, end, &mut text)?;
+    Ok(Explanation { text, stop: None })
 }
 
 // The lines of the pieces before the bytes stop, and then the damage.

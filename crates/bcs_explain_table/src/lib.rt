@@ -5,6 +5,8 @@ mod damage;
 mod explanation;
 mod led;
 mod meaning;
+mod members;
+mod objects;
 mod rows;
 mod table;
 mod tree;

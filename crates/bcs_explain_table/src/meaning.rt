@@ -87,9 +87,16 @@ fn put_meaning(
 fn put_width(letter: u8, size: usize, out: &mut Vec<u8>) -> Result<(), AllocError>
     ensures { OnOk result (out.new.items ≡ out.old.items ++ letter ∷ decimal (8 * size) ++ codes " ") }
 {
-    out.push(letter)?;
-    put_decimal(8 * size as u128, out)?;
+    put_bits(letter, size, out)?;
     Ok(out.push(b' ')?)
+}
+
+/// A number's format, by how many bytes it has.
+pub(crate) fn put_bits(letter: u8, size: usize, out: &mut Vec<u8>) -> Result<(), AllocError>
+    ensures { OnOk result (out.new.items ≡ out.old.items ++ letter ∷ decimal (8 * size)) }
+{
+    out.push(letter)?;
+    put_decimal(8 * size as u128, out)
 }
 
 // What a length counts, and how much of it there is.
@@ -150,9 +157,20 @@ fn put_variant(
     ensures { OnOk result (out.new.items ≡ out.old.items
         ++ escaped container.now ++ codes "::" ++ escaped name.now ++ codes ", variant " ++ decimal number) }
 {
-    put_escaped(container, out)?;
-    out.extend_from_slice(b"::")?;
-    put_escaped(name, out)?;
+    put_variant_names(container, name, out)?;
     out.extend_from_slice(b", variant ")?;
     put_decimal(u128::from(number), out)
+}
+
+/// A variant's names: its container's and its own.
+pub(crate) fn put_variant_names(
+    container: &str,
+    name: &str,
+    out: &mut Vec<u8>,
+) -> Result<(), AllocError>
+    ensures { OnOk result (out.new.items ≡ out.old.items ++ (escaped container.now ++ codes "::" ++ escaped name.now)) }
+{
+    put_escaped(container, out)?;
+    out.extend_from_slice(b"::")?;
+    put_escaped(name, out)
 }

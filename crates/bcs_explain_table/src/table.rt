@@ -3,13 +3,15 @@ ghost use Rattle.std.specs.Prelude.{◌≡◌, ◌++◌, ◌+◌, ◌<◌, ◌^�
 ghost use Rattle.bcs_explain_spec.specs.Piece.{Piece, piece_at, pieces_bytes};
 ghost use Rattle.bcs_explain_steps.specs.Hearing.{Hears, meaning_of};
 ghost use Rattle.bcs_explain_steps.specs.Trail.{way_of};
-ghost use Rattle.bcs_explain_table.specs.Table.{piece_text};
+ghost use Rattle.bcs_explain_table.specs.Table.{lines_text, piece_text};
+ghost use Rattle.bcs_explain_table.specs.Ways.{led_text};
 
 use crate::led::put_led;
 use crate::meaning::put_meaning_column;
+use crate::objects::put_piece_object;
 use crate::rows::{put_first_row, put_more_rows};
 use bcs_explain::{Listener, Meaning, Trail};
-use bcs_explain_columns::style::Style;
+use bcs_explain_columns::style::{Form, Style};
 use std::alloc::{AllocError, Global};
 
 /// The lines of the pieces that were told of so far.
@@ -62,7 +64,7 @@ impl Listener for Table {
     }
 }
 
-// The lines of a piece.
+// A piece in the form of the style.
 fn put_piece(
     style: Style,
     place: u64,
@@ -73,6 +75,31 @@ fn put_piece(
 ) -> Result<(), AllocError>
     requires room { place + length bytes.now < 2 ^ 64 }
     ensures { OnOk result (out.new.items ≡ out.old.items ++ piece_text style (record {
+      place = place;
+      bytes = bytes.now;
+      way = way_of trail.now;
+      meaning = meaning_of meaning.entry;
+    })) }
+{
+    match style.form {
+        Form::Ways => put_lines(style, place, bytes, trail, meaning, out),
+        Form::Paths => put_lines(style, place, bytes, trail, meaning, out),
+        Form::Tree => put_lines(style, place, bytes, trail, meaning, out),
+        Form::Json => put_piece_object(place, bytes, trail, meaning, out),
+    }
+}
+
+// The lines of a piece.
+fn put_lines(
+    style: Style,
+    place: u64,
+    bytes: &[u8],
+    trail: &Trail<'_, '_, '_>,
+    meaning: Meaning<'_>,
+    out: &mut Vec<u8>,
+) -> Result<(), AllocError>
+    requires room { place + length bytes.now < 2 ^ 64 }
+    ensures { OnOk result (out.new.items ≡ out.old.items ++ lines_text style.paint (led_text style.form (way_of trail.now)) (record {
       place = place;
       bytes = bytes.now;
       way = way_of trail.now;

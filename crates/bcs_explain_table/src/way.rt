@@ -1,8 +1,7 @@
 //! The way to a piece, as it is written.
 ghost use Rattle.std.specs.Prelude.{◌≡◌, ◌≤◌, ◌++◌, ℕ, List, OnOk, length, reverse};
 ghost use Rattle.bcs_explain_steps.specs.Trail.{label_of, way_of};
-ghost use Rattle.bcs_explain_table.specs.Table.{opened, opened_last};
-ghost use Rattle.bcs_explain_table.specs.Ways.{step_text, steps_text, way_text};
+ghost use Rattle.bcs_explain_table.specs.Ways.{opened, opened_last, step_text, steps_text, way_text};
 
 use bcs_explain::{Step, Trail};
 use bcs_explain_columns::columns::{put_decimal, put_hex};

@@ -42,7 +42,7 @@ returns-in-Ok-2 c =
     whole_explains c.args.style c.args.registry.now c.args.limits.now (shape_of c.args.format.now) c.args.bytes.now found.0 c.in-Ok.end c.explain.new.out found.1
     (omega (arith, found.1.within, c.if-end-bytes.false))
     (heard c.args.style c.new-table.result c.new-table.ensures.style c.new-table.ensures.text c.new-table.ensures.told c.explain.new.out _ (c.in-Ok.ensures.told c.in-Ok.end found.0 found.1) is.0)
-    x.text.items x.stop is.2 is.1)
+    x.text.items x.stop is.1 is.2)
     c.whole.ensures
 
 pub returns-in-Err : goal.returns-in-Err

@@ -1,6 +1,6 @@
 use Rattle.std.proofs.Common.{◌∙◌, ap, sym}
 use Rattle.bcs_explain_steps.specs.Trail.{label_of, way_of}
-use Rattle.bcs_explain_table.specs.Table.{opened_last}
+use Rattle.bcs_explain_table.specs.Ways.{opened_last}
 use Rattle.bcs_explain_table.proofs.Texts.{opened_onto}
 use Rattle.bcs_explain_table.proofs.TrailViews.{way_Below, way_Top}
 use Rattle.bcs_explain_table.proofs.way.container_name.Goals as goal

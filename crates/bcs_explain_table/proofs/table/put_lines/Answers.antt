@@ -5,7 +5,7 @@ use Rattle.bcs_explain_steps.specs.Trail.{way_of}
 use Rattle.bcs_explain_table.specs.Table.{meaning_column, more_rows, row_size, wide_row}
 use Rattle.bcs_explain_table.specs.Ways.{led_text}
 use Rattle.bcs_explain_table.proofs.Texts.{line_put, rows_behind}
-use Rattle.bcs_explain_table.proofs.table.put_piece.Goals as goal
+use Rattle.bcs_explain_table.proofs.table.put_lines.Goals as goal
 
 pub overflow_sub-bytes : goal.overflow_sub-bytes
 overflow_sub-bytes c = omega (arith, ap length c.in_ok-rest.ensures.left, length-drop row_size c.args.bytes.now)
