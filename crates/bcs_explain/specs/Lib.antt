@@ -2,6 +2,7 @@ pub use Rattle.bcs_decode_spec.specs.Accepting
 pub use Rattle.bcs_decode_spec.specs.Stopping
 pub use Rattle.bcs_explain_spec.specs.Way
 pub use Rattle.bcs_explain_spec.specs.Piece
+pub use Rattle.bcs_explain_spec.specs.Told
 pub use Rattle.bcs_explain_spec.specs.Held
 pub use Rattle.bcs_explain_spec.specs.Pieces
 pub use Rattle.bcs_explain_spec.specs.Stopped

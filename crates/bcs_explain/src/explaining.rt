@@ -8,7 +8,8 @@ ghost use Rattle.bcs_decode_spec.specs.Accepting.{Accepts};
 ghost use Rattle.bcs_decode_spec.specs.Stopping.{Stops};
 ghost use Rattle.bcs_explain_spec.specs.Held.{of};
 ghost use Rattle.bcs_explain_spec.specs.Pieces.{pieces};
-ghost use Rattle.bcs_explain_spec.specs.Stopped.{stop_pieces};
+ghost use Rattle.bcs_explain_spec.specs.Stopped.{stopped as stopped_at};
+ghost use Rattle.bcs_explain_spec.specs.Told.{as_told, halt_told};
 ghost use Rattle.bcs_explain_steps.specs.Hearing.{Hears};
 
 use bcs_decode_slice_steps::cursor::Cursor;
@@ -22,7 +23,8 @@ use bcs_value::Limits;
 /// Tells of each piece of the value of the format at the front of the input, in order, and answers how many bytes it
 /// has.
 ///
-/// The `Stop` is that of `scan`. Then the pieces that stand before it were told.
+/// The `Stop` is that of `scan`. Then the pieces that stand before it were told, and last the way to it and what would
+/// have been right there.
 pub fn explain<T: Listener>(
     registry: &Registry,
     format: &Format,
@@ -36,9 +38,9 @@ pub fn explain<T: Listener>(
     ensures stops { IfErr result (λ stop. Stops registry.now limits.now (shape_of format.now) bytes.now stop.reason stop.place) }
     ensures stopped { (e : Reason) (o : ℕ) → Stops registry.now limits.now (shape_of format.now) bytes.now e o → result ≡ Err (record { reason = e; place = o }) }
     ensures told { (n : ℕ) (c : Tree) → Accepts registry.now limits.now (shape_of format.now) bytes.now n c
-        → Hears T.heard T.has_lost out.old out.new (pieces registry.now [] 0 c (of (shape_of format.now))) }
+        → Hears T.heard T.has_lost out.old out.new (as_told (pieces registry.now [] 0 c (of (shape_of format.now)))) }
     ensures told_before { (e : Reason) (o : ℕ) (h : Stops registry.now limits.now (shape_of format.now) bytes.now e o)
-        → Hears T.heard T.has_lost out.old out.new (stop_pieces registry.now limits.now (shape_of format.now) bytes.now e o h) }
+        → Hears T.heard T.has_lost out.old out.new (halt_told (stopped_at registry.now limits.now (shape_of format.now) bytes.now e o h)) }
 {
     let mut cursor = Cursor {
         rest: bytes,

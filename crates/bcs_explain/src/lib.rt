@@ -5,6 +5,6 @@ mod explaining;
 
 pub use bcs_decode_spec::{Reason, Stop};
 pub use bcs_explain_spec::laws;
-pub use bcs_explain_steps::listener::{Counted, Listener, Meaning};
+pub use bcs_explain_steps::listener::{Counted, Listener, Meaning, Wanted};
 pub use bcs_explain_steps::trail::{Step, Trail};
 pub use explaining::explain;

@@ -1,3 +1,4 @@
+pub mod AsTold
 pub mod HeldAt
 pub mod Cutting
 pub mod Past

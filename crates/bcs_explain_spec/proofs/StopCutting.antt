@@ -14,6 +14,8 @@ use Rattle.bcs_decode_spec.specs.Accepting.{IsDecodable}
 use Rattle.bcs_decode_spec.specs.Stopping.{Stopping, AfterLength, TextStop, BytesStop, OptionStop, NodeStop, ItemsStop, EntryStop, PairsStop, ShapeStop, EachStop, ChoiceStop, VariantStop, ContentStop, NamedStop, Stops, last_key}
 use Rattle.bcs_explain_spec.specs.Way.{Way, onto, item, field, inner, opening, variant, key, value}
 use Rattle.bcs_explain_spec.specs.Piece.{Piece, Counted, Cut, CutsFront, piece_at, counted, option, chosen, text_bytes, raw_bytes, elements, entries}
+use Rattle.bcs_explain_spec.specs.Told as wanted
+use Rattle.bcs_explain_spec.specs.Told.{Wanted, halted, behind}
 use Rattle.bcs_explain_spec.specs.Held.{of}
 use Rattle.bcs_explain_spec.specs.Pieces.{is_octet, pieces, pieces_items, pieces_pairs}
 use Rattle.bcs_explain_spec.specs.Stopped.{Before, none_before, node_before, length_before, option_before, items_before, entry_before, pairs_before, shape_before, each_before, fields_before, struct_before, carried_before, choice_before, variant_before, held_before, named_before, stop_pieces}
@@ -30,33 +32,33 @@ front_then p a b c xs ys h i (u, v, j, k) = (a ++ u, v, i ∙ ap (λ (x : List �
 
 -- before each stop
 pub record Cuts (S : Stopping) (f : Before S) : Type 0 where
-  pub cuts : (p m : ℕ) (b : List ℕ) (e : Reason) (o : ℕ) (h : S p m b e o) → CutsFront p b (f p m b e o h)
+  pub cuts : (p m : ℕ) (b : List ℕ) (e : Reason) (o : ℕ) (h : S p m b e o) → CutsFront p b (f p m b e o h).pieces
 
-cuts_none : (S : Stopping) → Cuts S (none_before S)
+cuts_none : {way : Way} {want : Wanted} (S : Stopping) → Cuts S (none_before S way want)
 cuts_none S = record { cuts = λ p m b e o h. front_none p b }
 
-cuts_node : (S : Stopping) (f : Before S) → Cuts S f → Cuts (NodeStop S) (node_before S f)
-cuts_node S f k = record { cuts = at }
+cuts_node : {way : Way} {want : Wanted} (S : Stopping) (f : Before S) → Cuts S f → Cuts (NodeStop S) (node_before S way want f)
+cuts_node {way} {want} S f k = record { cuts = at }
   where
-    at : (p m : ℕ) (b : List ℕ) (e : Reason) (o : ℕ) (h : NodeStop S p m b e o) → CutsFront p b (node_before S f p m b e o h)
+    at : (p m : ℕ) (b : List ℕ) (e : Reason) (o : ℕ) (h : NodeStop S p m b e o) → CutsFront p b (node_before S way want f p m b e o h).pieces
     at p zero b e o h = front_none p b
     at p (suc m) b e o h = k.cuts p m b e o h
 
 cuts_length : (Rest : ℕ → Stopping) (way : Way) (what : Counted) (f : (n : ℕ) → Before (Rest n)) → ((n : ℕ) → Cuts (Rest n) (f n)) → Cuts (AfterLength Rest) (length_before Rest way what f)
 cuts_length Rest way what f k = record { cuts = at }
   where
-    at : (p m : ℕ) (b : List ℕ) (e : Reason) (o : ℕ) (h : AfterLength Rest p m b e o) → CutsFront p b (length_before Rest way what f p m b e o h)
+    at : (p m : ℕ) (b : List ℕ) (e : Reason) (o : ℕ) (h : AfterLength Rest p m b e o) → CutsFront p b (length_before Rest way what f p m b e o h).pieces
     at p m b e o (inl h) = front_none p b
     at p m b e o (inr (n, c, le, i, h)) =
-        front_then p (uleb n) b c (piece_at way p (uleb n) (counted what n)) (f n (p + length (uleb n)) m c e o h) (cut_one way p (uleb n) (counted what n)) i ((k n).cuts (p + length (uleb n)) m c e o h)
+        front_then p (uleb n) b c (piece_at way p (uleb n) (counted what n)) (f n (p + length (uleb n)) m c e o h).pieces (cut_one way p (uleb n) (counted what n)) i ((k n).cuts (p + length (uleb n)) m c e o h)
 
 cuts_option : (S : Stopping) (way : Way) (f : Before S) → Cuts S f → Cuts (OptionStop S) (option_before S way f)
 cuts_option S way f k = record { cuts = at }
   where
-    at : (p m : ℕ) (b : List ℕ) (e : Reason) (o : ℕ) (h : OptionStop S p m b e o) → CutsFront p b (option_before S way f p m b e o h)
+    at : (p m : ℕ) (b : List ℕ) (e : Reason) (o : ℕ) (h : OptionStop S p m b e o) → CutsFront p b (option_before S way f p m b e o h).pieces
     at p m b e o (inl h) = front_none p b
     at p m b e o (inr (c, i, h)) =
-        front_then p (1 ∷ []) b c (piece_at way p (1 ∷ []) (option true)) (f (p + 1) m c e o h) (cut_one way p (1 ∷ []) (option true)) i (k.cuts (p + 1) m c e o h)
+        front_then p (1 ∷ []) b c (piece_at way p (1 ∷ []) (option true)) (f (p + 1) m c e o h).pieces (cut_one way p (1 ∷ []) (option true)) i (k.cuts (p + 1) m c e o h)
 
 module _ (registry : Entries) where
   -- pieces of a value, and those behind it
@@ -69,32 +71,32 @@ module _ (registry : Entries) where
   cuts_items s Good S n way f k = record { cuts = λ p m b e o h. at (is_octet s) p m b e o h }
     where
       at : (octet : Bool) (p m : ℕ) (b : List ℕ) (e : Reason) (o : ℕ) (h : ItemsStop registry s Good S n p m b e o)
-          → CutsFront p b (if octet then [] else pieces_items registry way p 0 h.0 s ++ f (onto way (item (count h.0))) (p + length (plain_items registry h.0 s)) h.2 h.1 e o h.7)
+          → CutsFront p b (if octet then halted way (wanted.octets n) else behind (pieces_items registry way p 0 h.0 s) (f (onto way (item (count h.0))) (p + length (plain_items registry h.0 s)) h.2 h.1 e o h.7)).pieces
       at true p m b e o h = front_none p b
       at false p m b e o (ts, c, l, lt, all, i, j, h) =
           let q = p + length (plain_items registry ts s) in
-          front_then p (plain_items registry ts s) b c (pieces_items registry way p 0 ts s) (f (onto way (item (count ts))) q l c e o h) (items_cut registry way p 0 ts s) i ((k (onto way (item (count ts)))).cuts q l c e o h)
+          front_then p (plain_items registry ts s) b c (pieces_items registry way p 0 ts s) (f (onto way (item (count ts))) q l c e o h).pieces (items_cut registry way p 0 ts s) i ((k (onto way (item (count ts)))).cuts q l c e o h)
 
   module _ (k v : Shape) (Key Value : Tree → Type 0) (KS VS : Stopping) (way : Way) (f : Way → Before KS) (g : Way → Before VS)
       (cuts_key : (w : Way) → Cuts KS (f w)) (cuts_value : (w : Way) → Cuts VS (g w)) where
     cuts_entry : (last : Option (List ℕ)) (i p m : ℕ) (b : List ℕ) (e : Reason) (o : ℕ) (h : EntryStop registry k Key KS VS last p m b e o)
-        → CutsFront p b (entry_before registry k v Key KS VS last way i f g p m b e o h)
+        → CutsFront p b (entry_before registry k v Key KS VS last way i f g p m b e o h).pieces
     cuts_entry last i p m b e o (inl h) = (cuts_key (onto way (key i))).cuts p m b e o h
     cuts_entry last i p m b e o (inr (t, c, l, good, x, y, inl h)) =
         front_one p (plain registry t (container.of k)) b c (pieces registry (onto way (key i)) p t (of k)) (pieces_cut registry (onto way (key i)) p t (of k)) x
     cuts_entry last i p m b e o (inr (t, c, l, good, x, y, inr (follows, h))) =
         let a = plain registry t (container.of k) in
-        value_then (onto way (key i)) p t k b c (g (onto way (value a)) (p + length a) l c e o h) x ((cuts_value (onto way (value a))).cuts (p + length a) l c e o h)
+        value_then (onto way (key i)) p t k b c (g (onto way (value a)) (p + length a) l c e o h).pieces x ((cuts_value (onto way (value a))).cuts (p + length a) l c e o h)
 
     cuts_pairs : (n : ℕ) → Cuts (PairsStop registry k v Key Value KS VS None n) (pairs_before registry k v Key Value KS VS n way f g)
     cuts_pairs n = record { cuts = at }
       where
         at : (p m : ℕ) (b : List ℕ) (e : Reason) (o : ℕ) (h : PairsStop registry k v Key Value KS VS None n p m b e o)
-            → CutsFront p b (pairs_before registry k v Key Value KS VS n way f g p m b e o h)
+            → CutsFront p b (pairs_before registry k v Key Value KS VS n way f g p m b e o h).pieces
         at p m b e o (ps, c, l, lt, all, i, j, h) =
             let q = p + length (plain_pairs registry ps k v) in
             let last = last_key registry k None ps in
-            front_then p (plain_pairs registry ps k v) b c (pieces_pairs registry way p 0 ps k v) (entry_before registry k v Key KS VS last way (pair_count ps) f g q l c e o h) (pairs_cut registry way p 0 ps k v) i (cuts_entry last (pair_count ps) q l c e o h)
+            front_then p (plain_pairs registry ps k v) b c (pieces_pairs registry way p 0 ps k v) (entry_before registry k v Key KS VS last way (pair_count ps) f g q l c e o h).pieces (pairs_cut registry way p 0 ps k v) i (cuts_entry last (pair_count ps) q l c e o h)
 
   module _ (d : ℕ) (N : List ℕ → Stopping) (r : Way → (n : List ℕ) → Before (N n)) (names : (n : List ℕ) (way : Way) → Cuts (N n) (r way n)) where
     abbrev Good : Shape → Tree → Type 0
@@ -113,8 +115,8 @@ module _ (registry : Entries) where
       cuts_shape (shape.unsigned w) way = cuts_none (Stop (shape.unsigned w))
       cuts_shape (shape.signed w) way = cuts_none (Stop (shape.signed w))
       cuts_shape (shape.unsupported u) way = cuts_none (Stop (shape.unsupported u))
-      cuts_shape shape.text way = cuts_node (AfterLength TextStop) _ (cuts_length TextStop way text_bytes (λ n. none_before (TextStop n)) (λ n. cuts_none (TextStop n)))
-      cuts_shape shape.bytes way = cuts_node (AfterLength BytesStop) _ (cuts_length BytesStop way raw_bytes (λ n. none_before (BytesStop n)) (λ n. cuts_none (BytesStop n)))
+      cuts_shape shape.text way = cuts_node (AfterLength TextStop) _ (cuts_length TextStop way text_bytes (λ n. none_before (TextStop n) way (wanted.text n)) (λ n. cuts_none (TextStop n)))
+      cuts_shape shape.bytes way = cuts_node (AfterLength BytesStop) _ (cuts_length BytesStop way raw_bytes (λ n. none_before (BytesStop n) way (wanted.bytes n)) (λ n. cuts_none (BytesStop n)))
       cuts_shape (shape.name n) way = names n way
       cuts_shape (shape.option s) way = cuts_node (OptionStop (Stop s)) _ (cuts_option (Stop s) way (before s (onto way inner)) (cuts_shape s (onto way inner)))
       cuts_shape (shape.seq s) way =
@@ -127,19 +129,19 @@ module _ (registry : Entries) where
       cuts_shape (shape.tuple ss) way = cuts_node (EachStop registry d N ss) _ (record { cuts = λ p m b e o h. cuts_each ss way 0 p m b e o h })
       cuts_shape (shape.array s n) way = cuts_node (ItemsStop registry s (Good s) (Stop s) n) _ (cuts_items s (Good s) (Stop s) n way (before s) (λ w. cuts_shape s w))
 
-      cuts_each : (ss : Shapes) (way : Way) (i p m : ℕ) (b : List ℕ) (e : Reason) (o : ℕ) (h : EachStop registry d N ss p m b e o) → CutsFront p b (each_before registry d N r ss way i p m b e o h)
+      cuts_each : (ss : Shapes) (way : Way) (i p m : ℕ) (b : List ℕ) (e : Reason) (o : ℕ) (h : EachStop registry d N ss p m b e o) → CutsFront p b (each_before registry d N r ss way i p m b e o h).pieces
       cuts_each no_shapes way i p m b e o h = front_none p b
       cuts_each (shape s ss) way i p m b e o (inl h) = (cuts_shape s (onto way (item i))).cuts p m b e o h
       cuts_each (shape s ss) way i p m b e o (inr (t, c, l, good, x, y, h)) =
           let q = p + length (plain registry t (container.of s)) in
-          value_then (onto way (item i)) p t s b c (each_before registry d N r ss way (i + 1) q l c e o h) x (cuts_each ss way (i + 1) q l c e o h)
+          value_then (onto way (item i)) p t s b c (each_before registry d N r ss way (i + 1) q l c e o h).pieces x (cuts_each ss way (i + 1) q l c e o h)
 
-    cuts_fields : (fs : List Field) (way : Way) (i p m : ℕ) (b : List ℕ) (e : Reason) (o : ℕ) (h : EachStop registry d N (field_shapes fs) p m b e o) → CutsFront p b (fields_before registry d N r fs way i p m b e o h)
+    cuts_fields : (fs : List Field) (way : Way) (i p m : ℕ) (b : List ℕ) (e : Reason) (o : ℕ) (h : EachStop registry d N (field_shapes fs) p m b e o) → CutsFront p b (fields_before registry d N r fs way i p m b e o h).pieces
     cuts_fields [] way i p m b e o h = front_none p b
     cuts_fields (f ∷ fs) way i p m b e o (inl h) = (cuts_shape f.1 (onto way (field i f.0))).cuts p m b e o h
     cuts_fields (f ∷ fs) way i p m b e o (inr (t, c, l, good, x, y, h)) =
         let q = p + length (plain registry t (container.of f.1)) in
-        value_then (onto way (field i f.0)) p t f.1 b c (fields_before registry d N r fs way (i + 1) q l c e o h) x (cuts_fields fs way (i + 1) q l c e o h)
+        value_then (onto way (field i f.0)) p t f.1 b c (fields_before registry d N r fs way (i + 1) q l c e o h).pieces x (cuts_fields fs way (i + 1) q l c e o h)
 
     cuts_struct : (fs : List Field) (way : Way) → Cuts (Stop (shape.tuple (field_shapes fs))) (struct_before registry d N r fs way)
     cuts_struct fs way = cuts_node (EachStop registry d N (field_shapes fs)) _ (record { cuts = λ p m b e o h. cuts_fields fs way 0 p m b e o h })
@@ -152,16 +154,16 @@ module _ (registry : Entries) where
 
     cuts_choice : (x : Option (List ℕ × Payload)) (way : Way) (n p m : ℕ) (b c : List ℕ) (e : Reason) (o : ℕ)
         (h : ChoiceStop registry d N p (option_map_or (λ c. container.of (payload_shape c.1)) x container.nothing) (p + length (uleb n)) m c e o) → b ≡ uleb n ++ c
-        → CutsFront p b (choice_before registry d N r x way n p (p + length (uleb n)) m c e o h)
+        → CutsFront p b (choice_before registry d N r x way n p (p + length (uleb n)) m c e o h).pieces
     cuts_choice None way n p m b c e o h i = front_none p b
     cuts_choice (Some x) way n p m b c e o h i =
-        front_then p (uleb n) b c (piece_at way p (uleb n) (chosen n x.0)) (carried_before registry d N r x.1 (onto way (variant n x.0)) (p + length (uleb n)) m c e o h) (cut_one way p (uleb n) (chosen n x.0)) i
+        front_then p (uleb n) b c (piece_at way p (uleb n) (chosen n x.0)) (carried_before registry d N r x.1 (onto way (variant n x.0)) (p + length (uleb n)) m c e o h).pieces (cut_one way p (uleb n) (chosen n x.0)) i
         ((cuts_carried x.1 (onto way (variant n x.0))).cuts (p + length (uleb n)) m c e o h)
 
     cuts_variant : (cs : List Choice) (way : Way) → Cuts (VariantStop registry d N cs) (variant_before registry d N r cs way)
     cuts_variant cs way = record { cuts = at }
       where
-        at : (p m : ℕ) (b : List ℕ) (e : Reason) (o : ℕ) (h : VariantStop registry d N cs p m b e o) → CutsFront p b (variant_before registry d N r cs way p m b e o h)
+        at : (p m : ℕ) (b : List ℕ) (e : Reason) (o : ℕ) (h : VariantStop registry d N cs p m b e o) → CutsFront p b (variant_before registry d N r cs way p m b e o h).pieces
         at p m b e o (inl h) = front_none p b
         at p m b e o (inr (n, c, lt, i, h)) = cuts_choice (choice_numbered n cs) way n p m b c e o h i
 

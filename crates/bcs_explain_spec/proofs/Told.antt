@@ -28,9 +28,12 @@ use Rattle.bcs_decode_spec.proofs.Decodable.{decodable, EachIs, is_each, are_ite
 use Rattle.bcs_explain_spec.specs.Way.{Way, onto, item, field, inner, opening, variant}
 use Rattle.bcs_explain_spec.specs.Piece as piece
 use Rattle.bcs_explain_spec.specs.Piece.{Piece, piece_at, octets, counted, text_bytes, raw_bytes, elements, entries}
+use Rattle.bcs_explain_spec.specs.Told as wanted
+use Rattle.bcs_explain_spec.specs.Told.{Told, as_told}
 use Rattle.bcs_explain_spec.specs.Held.{Held, held, carried, held_at, carried_at, choice_name, of, fields, one_of, nothing}
 use Rattle.bcs_explain_spec.specs.Pieces.{is_octet, pieces, pieces_items, pieces_each, pieces_fields, pieces_pairs}
-use Rattle.bcs_explain_spec.specs.Telling.{Telling, silent, begun, noting, noting_then, going, tell_row, tell_pairs, tell_shape, tell_each, tell_fields, tell_carried, tell_choice, tell_variant, tell_held, tell_named, tell}
+use Rattle.bcs_explain_spec.specs.Telling.{Telling, silent, halting, begun, noting, noting_then, going, tell_row, tell_pairs, tell_shape, tell_each, tell_fields, tell_carried, tell_choice, tell_variant, tell_held, tell_named, tell}
+use Rattle.bcs_explain_spec.proofs.AsTold.{as_told-append}
 use Rattle.bcs_explain_spec.proofs.Past.{Past, gone, value_past}
 use Rattle.bcs_explain_spec.proofs.Tells.{Tells, tells_silent, tells_begun, tells_noting, tells_beside, tells_then}
 use Rattle.bcs_explain_spec.proofs.ToldRows.{TellsEach, tells_row, tells_pairs}
@@ -52,48 +55,48 @@ module _ (registry : Entries) (d : ℕ) (r : Way → List ℕ → Telling) (name
 
   -- ---- values without parts
 
-  told_unit : TellsEach registry d shape.unit (λ way. silent)
-  told_unit way p tree.unit h = tells_silent (nodes tree.unit) (plain registry tree.unit (container.of shape.unit)) p
+  told_unit : TellsEach registry d shape.unit (λ way. begun way wanted.node silent)
+  told_unit way p tree.unit h = tells_begun _ _ silent 0 [] p [] (tells_silent 0 [] p)
   told_unit way p _ h = absurd (let e = h.sound.fit in cc)
 
-  told_unsupported : (u : shape.Unsupported) → TellsEach registry d (shape.unsupported u) (λ way. silent)
+  told_unsupported : (u : shape.Unsupported) → TellsEach registry d (shape.unsupported u) (λ way. halting way wanted.nothing)
   told_unsupported u way p t h = absurd (false≢true h.sound.fit)
 
-  told_truth : TellsEach registry d shape.truth (λ way. begun (noting way piece.truth (flag_here BadBool)))
+  told_truth : TellsEach registry d shape.truth (λ way. begun way wanted.truth (noting way piece.truth wanted.truth (flag_here BadBool)))
   told_truth way p (tree.truth x) h =
-      tells_begun (noting way piece.truth (flag_here BadBool)) 0 (truth_byte x ∷ []) p (piece_at way p (truth_byte x ∷ []) (piece.truth x))
-      (tells_noting (flag_here BadBool) x way piece.truth 0 (truth_byte x ∷ []) p (flag_past BadBool x))
+      tells_begun _ _ (noting way piece.truth wanted.truth (flag_here BadBool)) 0 (truth_byte x ∷ []) p (piece_at way p (truth_byte x ∷ []) (piece.truth x))
+      (tells_noting (flag_here BadBool) x way piece.truth wanted.truth 0 (truth_byte x ∷ []) p (flag_past BadBool x))
   told_truth way p _ h = absurd (let e = h.sound.fit in cc)
 
-  told_unsigned : (w : Width) → TellsEach registry d (shape.unsigned w) (λ way. begun (noting way piece.unsigned (unsigned_here w)))
+  told_unsigned : (w : Width) → TellsEach registry d (shape.unsigned w) (λ way. begun way (wanted.unsigned w) (noting way piece.unsigned (wanted.unsigned w) (unsigned_here w)))
   told_unsigned w way p (tree.unsigned n) h =
       let past : Past (unsigned_here w) n 0 (le w n) = record { past = λ q m c. (exact_unsigned w).again q m n 0 (le w n) c (ltb-true n (2 ^ bits w) h.sound.fit, refl, refl) } in
-      tells_begun (noting way piece.unsigned (unsigned_here w)) 0 (le w n) p (piece_at way p (le w n) (piece.unsigned n)) (tells_noting (unsigned_here w) n way piece.unsigned 0 (le w n) p past)
+      tells_begun _ _ (noting way piece.unsigned (wanted.unsigned w) (unsigned_here w)) 0 (le w n) p (piece_at way p (le w n) (piece.unsigned n)) (tells_noting (unsigned_here w) n way piece.unsigned (wanted.unsigned w) 0 (le w n) p past)
   told_unsigned w way p _ h = absurd (let e = h.sound.fit in cc)
 
-  told_signed : (w : Width) → TellsEach registry d (shape.signed w) (λ way. begun (noting way piece.signed (signed_here w)))
+  told_signed : (w : Width) → TellsEach registry d (shape.signed w) (λ way. begun way (wanted.signed w) (noting way piece.signed (wanted.signed w) (signed_here w)))
   told_signed w way p (tree.signed z) h =
       let past : Past (signed_here w) z 0 (le_signed w z) = record { past = λ q m c. (exact_signed w).again q m z 0 (le_signed w z) c (holds_signed-is w z h.sound.fit, refl, refl) } in
-      tells_begun (noting way piece.signed (signed_here w)) 0 (le_signed w z) p (piece_at way p (le_signed w z) (piece.signed z)) (tells_noting (signed_here w) z way piece.signed 0 (le_signed w z) p past)
+      tells_begun _ _ (noting way piece.signed (wanted.signed w) (signed_here w)) 0 (le_signed w z) p (piece_at way p (le_signed w z) (piece.signed z)) (tells_noting (signed_here w) z way piece.signed (wanted.signed w) 0 (le_signed w z) p past)
   told_signed w way p _ h = absurd (let e = h.sound.fit in cc)
 
-  told_text : TellsEach registry d shape.text (λ way. begun (noting_then way (counted text_bytes) length_here (λ n. noting way piece.text (text_here n))))
+  told_text : TellsEach registry d shape.text (λ way. begun way (wanted.count text_bytes) (noting_then way (counted text_bytes) (wanted.count text_bytes) length_here (λ n. noting way piece.text (wanted.text n) (text_here n))))
   told_text way p (tree.text s) h =
       let n = length s in
       let q = p + length (uleb n) in
       let past : Past (text_here n) s 0 s = record { past = λ q m c. (exact_text n).again q m s 0 s c (h.sound.fit, (refl, refl, refl)) } in
-      tells_begun (noting_then way (counted text_bytes) length_here (λ n. noting way piece.text (text_here n))) 0 (uleb n ++ s) p (piece_at way p (uleb n) (counted text_bytes n) ++ piece_at way q s (piece.text s))
-      (tells_then length_here n way (counted text_bytes) (λ n. noting way piece.text (text_here n)) 0 (uleb n) s p (piece_at way q s (piece.text s)) (length_past n h.sound.lengths)
-      (tells_noting (text_here n) s way piece.text 0 s q past))
+      tells_begun _ _ (noting_then way (counted text_bytes) (wanted.count text_bytes) length_here (λ n. noting way piece.text (wanted.text n) (text_here n))) 0 (uleb n ++ s) p (piece_at way p (uleb n) (counted text_bytes n) ++ piece_at way q s (piece.text s))
+      (tells_then length_here n way (counted text_bytes) (wanted.count text_bytes) (λ n. noting way piece.text (wanted.text n) (text_here n)) 0 (uleb n) s p (piece_at way q s (piece.text s)) (length_past n h.sound.lengths)
+      (tells_noting (text_here n) s way piece.text (wanted.text n) 0 s q past))
   told_text way p _ h = absurd (let e = h.sound.fit in cc)
 
-  told_bytes : TellsEach registry d shape.bytes (λ way. begun (noting_then way (counted raw_bytes) length_here (λ n. noting way piece.bytes (bytes_here n))))
+  told_bytes : TellsEach registry d shape.bytes (λ way. begun way (wanted.count raw_bytes) (noting_then way (counted raw_bytes) (wanted.count raw_bytes) length_here (λ n. noting way piece.bytes (wanted.bytes n) (bytes_here n))))
   told_bytes way p (tree.bytes s) h =
       let n = length s in
       let q = p + length (uleb n) in
-      tells_begun (noting_then way (counted raw_bytes) length_here (λ n. noting way piece.bytes (bytes_here n))) 0 (uleb n ++ s) p (piece_at way p (uleb n) (counted raw_bytes n) ++ piece_at way q s (piece.bytes s))
-      (tells_then length_here n way (counted raw_bytes) (λ n. noting way piece.bytes (bytes_here n)) 0 (uleb n) s p (piece_at way q s (piece.bytes s)) (length_past n h.sound.lengths)
-      (tells_noting (bytes_here n) s way piece.bytes 0 s q (bytes_past s)))
+      tells_begun _ _ (noting_then way (counted raw_bytes) (wanted.count raw_bytes) length_here (λ n. noting way piece.bytes (wanted.bytes n) (bytes_here n))) 0 (uleb n ++ s) p (piece_at way p (uleb n) (counted raw_bytes n) ++ piece_at way q s (piece.bytes s))
+      (tells_then length_here n way (counted raw_bytes) (wanted.count raw_bytes) (λ n. noting way piece.bytes (wanted.bytes n) (bytes_here n)) 0 (uleb n) s p (piece_at way q s (piece.bytes s)) (length_past n h.sound.lengths)
+      (tells_noting (bytes_here n) s way piece.bytes (wanted.bytes n) 0 s q (bytes_past s)))
   told_bytes way p _ h = absurd (let e = h.sound.fit in cc)
 
   -- ---- values with parts
@@ -102,15 +105,15 @@ module _ (registry : Entries) (d : ℕ) (r : Way → List ℕ → Telling) (name
     abbrev some_told : Way → Bool → Telling
     some_told way some = if some then g (onto way inner) else silent
 
-    told_option : TellsEach registry d (shape.option s) (λ way. begun (noting_then way piece.option (flag_here BadOption) (some_told way)))
+    told_option : TellsEach registry d (shape.option s) (λ way. begun way wanted.option (noting_then way piece.option wanted.option (flag_here BadOption) (some_told way)))
     told_option way p tree.absent h =
-        tells_begun (noting_then way piece.option (flag_here BadOption) (some_told way)) 0 (0 ∷ []) p (piece_at way p (0 ∷ []) (piece.option false))
-        (tells_then (flag_here BadOption) false way piece.option (some_told way) 0 (0 ∷ []) [] p [] (flag_past BadOption false) (tells_silent 0 [] (p + 1)))
+        tells_begun _ _ (noting_then way piece.option wanted.option (flag_here BadOption) (some_told way)) 0 (0 ∷ []) p (piece_at way p (0 ∷ []) (piece.option false))
+        (tells_then (flag_here BadOption) false way piece.option wanted.option (some_told way) 0 (0 ∷ []) [] p [] (flag_past BadOption false) (tells_silent 0 [] (p + 1)))
     told_option way p (tree.present t) h =
         let a = plain registry t (container.of s) in
         let inside = decodable registry d (container.of s) t h.sound.fit h.canonical h.sound.depth_holds h.sound.lengths in
-        tells_begun (noting_then way piece.option (flag_here BadOption) (some_told way)) (nodes t) (1 ∷ a) p (piece_at way p (1 ∷ []) (piece.option true) ++ pieces registry (onto way inner) (p + 1) t (of s))
-        (tells_then (flag_here BadOption) true way piece.option (some_told way) (nodes t) (1 ∷ []) a p (pieces registry (onto way inner) (p + 1) t (of s)) (flag_past BadOption true) (tells (onto way inner) (p + 1) t inside))
+        tells_begun _ _ (noting_then way piece.option wanted.option (flag_here BadOption) (some_told way)) (nodes t) (1 ∷ a) p (piece_at way p (1 ∷ []) (piece.option true) ++ pieces registry (onto way inner) (p + 1) t (of s))
+        (tells_then (flag_here BadOption) true way piece.option wanted.option (some_told way) (nodes t) (1 ∷ []) a p (pieces registry (onto way inner) (p + 1) t (of s)) (flag_past BadOption true) (tells (onto way inner) (p + 1) t inside))
     told_option way p _ h = absurd (let e = h.sound.fit in cc)
 
     abbrev row_told : Way → ℕ → Telling
@@ -119,44 +122,44 @@ module _ (registry : Entries) (d : ℕ) (r : Way → List ℕ → Telling) (name
     abbrev row_pieces : Way → ℕ → Trees → List Piece
     row_pieces way p ts = if is_octet s then piece_at way p (plain_items registry ts s) octets else pieces_items registry way p 0 ts s
 
-    told_seq : TellsEach registry d (shape.seq s) (λ way. begun (noting_then way (counted elements) length_here (row_told way)))
+    told_seq : TellsEach registry d (shape.seq s) (λ way. begun way (wanted.count elements) (noting_then way (counted elements) (wanted.count elements) length_here (row_told way)))
     told_seq way p (tree.items ts) h =
         let n = count ts in
         let k = and_parts (nat_le n length_limit) (all_hold length_limit registry ts s) h.sound.lengths in
         let all = are_items registry d s ts (record { fit_is = h.sound.fit; canonical_is = h.canonical; deep_is = h.sound.depth_holds; long_is = k.1 }) in
         let q = p + length (uleb n) in
-        tells_begun (noting_then way (counted elements) length_here (row_told way)) (trees_nodes ts) (uleb n ++ plain_items registry ts s) p (piece_at way p (uleb n) (counted elements n) ++ row_pieces way q ts)
-        (tells_then length_here n way (counted elements) (row_told way) (trees_nodes ts) (uleb n) (plain_items registry ts s) p (row_pieces way q ts) (length_past n k.0) (tells_row registry d s g tells way q ts all))
+        tells_begun _ _ (noting_then way (counted elements) (wanted.count elements) length_here (row_told way)) (trees_nodes ts) (uleb n ++ plain_items registry ts s) p (piece_at way p (uleb n) (counted elements n) ++ row_pieces way q ts)
+        (tells_then length_here n way (counted elements) (wanted.count elements) (row_told way) (trees_nodes ts) (uleb n) (plain_items registry ts s) p (row_pieces way q ts) (length_past n k.0) (tells_row registry d s g tells way q ts all))
     told_seq way p _ h = absurd (let e = h.sound.fit in cc)
 
-    told_array : (n : ℕ) → TellsEach registry d (shape.array s n) (λ way. begun (row_told way n))
+    told_array : (n : ℕ) → TellsEach registry d (shape.array s n) (λ way. begun way wanted.node (row_told way n))
     told_array n way p (tree.items ts) h =
         let k = and_parts (count ts == n) (all_fit false registry ts s) h.sound.fit in
         let all = are_items registry d s ts (record { fit_is = k.1; canonical_is = h.canonical; deep_is = h.sound.depth_holds; long_is = h.sound.lengths }) in
-        subst (λ (l : ℕ). Tells (begun (row_told way l)) (suc (trees_nodes ts)) (plain_items registry ts s) p (row_pieces way p ts)) (nat-same (count ts) n k.0)
-        (tells_begun (row_told way (count ts)) (trees_nodes ts) (plain_items registry ts s) p (row_pieces way p ts) (tells_row registry d s g tells way p ts all))
+        subst (λ (l : ℕ). Tells (begun way wanted.node (row_told way l)) (suc (trees_nodes ts)) (plain_items registry ts s) p (row_pieces way p ts)) (nat-same (count ts) n k.0)
+        (tells_begun _ _ (row_told way (count ts)) (trees_nodes ts) (plain_items registry ts s) p (row_pieces way p ts) (tells_row registry d s g tells way p ts all))
     told_array n way p _ h = absurd (let e = h.sound.fit in cc)
 
   module _ (k v : Shape) (t u : Way → Telling) (tells_key : TellsEach registry d k t) (tells_value : TellsEach registry d v u) where
     abbrev entries_told : Way → ℕ → Telling
     entries_told way n = tell_pairs (gone registry d k) (gone registry d v) t u way None 0 n
 
-    told_map : TellsEach registry d (shape.map k v) (λ way. begun (noting_then way (counted entries) length_here (entries_told way)))
+    told_map : TellsEach registry d (shape.map k v) (λ way. begun way (wanted.count entries) (noting_then way (counted entries) (wanted.count entries) length_here (entries_told way)))
     told_map way p (tree.pairs ps) h =
         let n = pair_count ps in
         let l = and_parts (nat_le n length_limit) (pairs_hold length_limit registry ps k v) h.sound.lengths in
         let all = are_pairs registry d None k v ps (record { fit_is = h.sound.fit; canonical_is = h.canonical; deep_is = h.sound.depth_holds; long_is = l.1 }) in
         let q = p + length (uleb n) in
-        tells_begun (noting_then way (counted entries) length_here (entries_told way)) (pairs_nodes ps) (uleb n ++ plain_pairs registry ps k v) p (piece_at way p (uleb n) (counted entries n) ++ pieces_pairs registry way q 0 ps k v)
-        (tells_then length_here n way (counted entries) (entries_told way) (pairs_nodes ps) (uleb n) (plain_pairs registry ps k v) p (pieces_pairs registry way q 0 ps k v) (length_past n l.0) (tells_pairs registry d k v t u tells_key tells_value way None q 0 ps all))
+        tells_begun _ _ (noting_then way (counted entries) (wanted.count entries) length_here (entries_told way)) (pairs_nodes ps) (uleb n ++ plain_pairs registry ps k v) p (piece_at way p (uleb n) (counted entries n) ++ pieces_pairs registry way q 0 ps k v)
+        (tells_then length_here n way (counted entries) (wanted.count entries) (entries_told way) (pairs_nodes ps) (uleb n) (plain_pairs registry ps k v) p (pieces_pairs registry way q 0 ps k v) (length_past n l.0) (tells_pairs registry d k v t u tells_key tells_value way None q 0 ps all))
     told_map way p _ h = absurd (let e = h.sound.fit in cc)
 
   told_tuple : (ss : Shapes) (g : Way → ℕ → Telling)
       → ((way : Way) (p i : ℕ) (ts : Trees) → EachIs registry d ss ts → Tells (g way i) (trees_nodes ts) (plain_each registry ts ss) p (pieces_each registry way p i ts ss))
-      → TellsEach registry d (shape.tuple ss) (λ way. begun (g way 0))
+      → TellsEach registry d (shape.tuple ss) (λ way. begun way wanted.node (g way 0))
   told_tuple ss g tells way p (tree.items ts) h =
       let each : EachIs registry d ss ts = record { fit_is = h.sound.fit; canonical_is = h.canonical; deep_is = h.sound.depth_holds; long_is = h.sound.lengths } in
-      tells_begun (g way 0) (trees_nodes ts) (plain_each registry ts ss) p (pieces_each registry way p 0 ts ss) (tells way p 0 ts each)
+      tells_begun _ _ (g way 0) (trees_nodes ts) (plain_each registry ts ss) p (pieces_each registry way p 0 ts ss) (tells way p 0 ts each)
   told_tuple ss g tells way p _ h = absurd (let e = h.sound.fit in cc)
 
   -- ---- formats
@@ -215,10 +218,10 @@ module _ (registry : Entries) (d : ℕ) (r : Way → List ℕ → Telling) (name
   abbrev TellsHeld : Content → Held → (Way → Telling) → Type 0
   TellsHeld f h g = (way : Way) (p : ℕ) (t : Tree) → Good f t → Tells (g way) (nodes t) (plain registry t f) p (pieces registry way p t h)
 
-  told_struct : (fs : List Field) → TellsHeld (container.of (shape.tuple (field_shapes fs))) (fields fs) (λ way. begun (tell_fields registry d r fs way 0))
+  told_struct : (fs : List Field) → TellsHeld (container.of (shape.tuple (field_shapes fs))) (fields fs) (λ way. begun way wanted.node (tell_fields registry d r fs way 0))
   told_struct fs way p (tree.items ts) h =
       let each : EachIs registry d (field_shapes fs) ts = record { fit_is = h.sound.fit; canonical_is = h.canonical; deep_is = h.sound.depth_holds; long_is = h.sound.lengths } in
-      tells_begun (tell_fields registry d r fs way 0) (trees_nodes ts) (plain_each registry ts (field_shapes fs)) p (pieces_fields registry way p 0 ts fs) (told_fields fs way p 0 ts each)
+      tells_begun _ _ (tell_fields registry d r fs way 0) (trees_nodes ts) (plain_each registry ts (field_shapes fs)) p (pieces_fields registry way p 0 ts fs) (told_fields fs way p 0 ts each)
   told_struct fs way p _ h = absurd (let e = h.sound.fit in cc)
 
   told_carried : (y : Payload) → TellsHeld (container.of (payload_shape y)) (carried y) (λ way. tell_carried registry d r (carried y) way)
@@ -234,14 +237,15 @@ module _ (registry : Entries) (d : ℕ) (r : Way → List ℕ → Telling) (name
   told_choice : (o : Option (List ℕ × Payload)) (way : Way) (n p : ℕ) (t : Tree) → Good (option_map_or (λ c. container.of (payload_shape c.1)) o container.nothing) t
       → (m : ℕ) (b c : List ℕ) → take (p + length (uleb n) - p) b ≡ uleb n
       → tell_choice registry d r o way n p b (p + length (uleb n)) (nodes t + m) (plain registry t (option_map_or (λ c. container.of (payload_shape c.1)) o container.nothing) ++ c)
-      ≡ piece_at way p (uleb n) (piece.chosen n (option_map_or (λ c. c.0) o []))
-      ++ pieces registry (onto way (variant n (option_map_or (λ c. c.0) o []))) (p + length (uleb n)) t (option_map_or (λ c. carried c.1) o nothing)
+      ≡ as_told (piece_at way p (uleb n) (piece.chosen n (option_map_or (λ c. c.0) o []))
+      ++ pieces registry (onto way (variant n (option_map_or (λ c. c.0) o []))) (p + length (uleb n)) t (option_map_or (λ c. carried c.1) o nothing))
   unfolding tell_choice
   told_choice None way n p t h m b c is = absurd (nothing_good t h)
   told_choice (Some x) way n p t h m b c is =
-      ap₂ (λ (u : List ℕ) (xs : List Piece). piece_at way p u (piece.chosen n x.0) ++ xs) is ((told_carried x.1 (onto way (variant n x.0)) (p + length (uleb n)) t h).told m c)
+      ap₂ (λ (u : List ℕ) (xs : List Told). as_told (piece_at way p u (piece.chosen n x.0)) ++ xs) is ((told_carried x.1 (onto way (variant n x.0)) (p + length (uleb n)) t h).told m c)
+      ∙ sym (as_told-append (piece_at way p (uleb n) (piece.chosen n x.0)) (pieces registry (onto way (variant n x.0)) (p + length (uleb n)) t (carried x.1)))
 
-  told_enum : (cs : List Choice) → TellsHeld (container.one_of cs) (one_of cs) (λ way. begun (tell_variant registry d r cs way))
+  told_enum : (cs : List Choice) → TellsHeld (container.one_of cs) (one_of cs) (λ way. begun way wanted.number (tell_variant registry d r cs way))
   unfolding tell_variant going
   told_enum cs way p (tree.variant n t) h =
       let a = uleb n in
@@ -249,7 +253,7 @@ module _ (registry : Entries) (d : ℕ) (r : Way → List ℕ → Telling) (name
       let down = onto way (variant n (choice_name n cs)) in
       let inside = decodable registry d (choice_at n cs) t (payload_fits false registry n t cs h.sound.fit) h.canonical h.sound.depth_holds h.sound.lengths in
       let xs = piece_at way p a (piece.chosen n (choice_name n cs)) ++ pieces registry down (p + length a) t (carried_at n cs) in
-      tells_begun (tell_variant registry d r cs way) (nodes t) (a ++ b) p xs
+      tells_begun _ _ (tell_variant registry d r cs way) (nodes t) (a ++ b) p xs
       (record {
         told = λ m c.
             (let number = exact_number.again p (nodes t + m) n 0 a (b ++ c) (number_fits false registry n t cs h.sound.fit, refl, refl) in
@@ -278,7 +282,7 @@ module _ (registry : Entries) where
       let f = content_at n registry in
       let down = onto way (opening n) in
       let inside = decodable registry d f t h.sound.fit h.canonical (let z = h.sound.depth_holds in omega (arith, z)) h.sound.lengths in
-      tells_begun (tell_held registry d (tell_named registry d) (held_at n registry) down) (nodes t) (plain registry t f) p (pieces registry down p t (held_at n registry))
+      tells_begun _ _ (tell_held registry d (tell_named registry d) (held_at n registry) down) (nodes t) (plain registry t f) p (pieces registry down p t (held_at n registry))
       (told_held registry d (tell_named registry d) (told_named d) (container_at n registry) down p t inside)
   told_named d n way p _ h = absurd (let e = h.sound.fit in cc)
 
@@ -288,7 +292,7 @@ module _ (registry : Entries) where
   told_value d s = told_shape registry d (tell_named registry d) (told_named d) s
 
   pub told_at_an_encoding_is : (limits : Bounds) (s : Shape) (b : List ℕ) (n : ℕ) (c : Tree) → Accepts registry limits s b n c
-      → tell registry limits.depth s [] 0 limits.nodes b ≡ pieces registry [] 0 c (of s)
+      → tell registry limits.depth s [] 0 limits.nodes b ≡ as_told (pieces registry [] 0 c (of s))
   told_at_an_encoding_is limits s b n c h =
       let a = plain registry c (container.of s) in
       let whole : b ≡ a ++ drop n b = sym (take-append-drop n b) ∙ ap (λ (x : List ℕ). x ++ drop n b) h.is in

@@ -10,11 +10,12 @@ use Rattle.bcs_decode_spec.specs.Reading.{key_here, items_here, skipping}
 use Rattle.bcs_decode_spec.specs.Stopping.{AllAre, AllRise}
 use Rattle.bcs_explain_spec.specs.Way.{Way, onto, item, key, value}
 use Rattle.bcs_explain_spec.specs.Piece.{piece_at, octets}
+use Rattle.bcs_explain_spec.specs.Told as wanted
 use Rattle.bcs_explain_spec.specs.Held.{of}
 use Rattle.bcs_explain_spec.specs.Pieces.{is_octet, pieces, pieces_items, pieces_pairs}
-use Rattle.bcs_explain_spec.specs.Telling.{Telling, going, tell_items, tell_row, tell_pairs}
+use Rattle.bcs_explain_spec.specs.Telling.{Telling, going, tell_key, tell_items, tell_row, tell_pairs}
 use Rattle.bcs_explain_spec.proofs.Past.{gone, value_past, items_past, key_past}
-use Rattle.bcs_explain_spec.proofs.Tells.{Tells, tells_noting, tells_beside}
+use Rattle.bcs_explain_spec.proofs.Tells.{Tells, tells_noting, tells_beside, tells_key as tells_placed}
 
 module _ (registry : Entries) (d : ℕ) where
   abbrev Good : Shape → Tree → Type 0
@@ -46,7 +47,7 @@ module _ (registry : Entries) (d : ℕ) where
         at : (octet : Bool) → Tells (tell_row octet (gone registry d s) g way (count ts)) (trees_nodes ts) (plain_items registry ts s) p
             (if octet then piece_at way p (plain_items registry ts s) octets else pieces_items registry way p 0 ts s)
         at true = record {
-          told = (tells_noting (items_here skipping (gone registry d s) (count ts)) tt way (λ _. octets) (trees_nodes ts) (plain_items registry ts s) p (items_past registry d s ts h)).told;
+          told = (tells_noting (items_here skipping (gone registry d s) (count ts)) tt way (λ _. octets) (wanted.octets (count ts)) (trees_nodes ts) (plain_items registry ts s) p (items_past registry d s ts h)).told;
         }
         at false = record { told = (tells_items way p 0 ts h).told }
 
@@ -71,5 +72,6 @@ module _ (registry : Entries) (d : ℕ) where
         let whole = tells_beside (key_here (gone registry d k) last) (tt, a)
         (λ x q l c. u (onto way (value x.1)) q l c ++ going (gone registry d v) (λ _. row way (Some x.1) (i + 1) (pair_count ps)) q l c)
         (nodes l) (nodes w + pairs_nodes ps) a (b ++ plain_pairs registry ps k v) p (pieces registry at_key p l (of k)) (pieces registry at_value q w (of v) ++ others)
-        (key_past registry d k last l h.0 h.1) (record { told = behind }) (t at_key) (tells_key at_key p l h.0) in
+        (key_past registry d k last l h.0 h.1) (record { told = behind }) (tell_key (gone registry d k) (t at_key) at_key last)
+        (tells_placed (gone registry d k) (t at_key) at_key last (tt, a) (nodes l) a p (pieces registry at_key p l (of k)) (key_past registry d k last l h.0 h.1) (tells_key at_key p l h.0)) in
         record { told = λ m c. (let nodes_are : ((nodes l + nodes w) + pairs_nodes ps) + m ≡ (nodes l + (nodes w + pairs_nodes ps)) + m = omega arith in rw nodes_are (whole m c)) }

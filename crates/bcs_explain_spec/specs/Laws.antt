@@ -10,10 +10,11 @@ use Rattle.bcs_decode_spec.specs.Accepting.{Accepts}
 use Rattle.bcs_decode_spec.specs.Stopping.{Stops}
 use Rattle.bcs_explain_spec.specs.Way.{Way}
 use Rattle.bcs_explain_spec.specs.Piece.{Cut, CutsFront}
+use Rattle.bcs_explain_spec.specs.Told.{as_told, halt_told}
 use Rattle.bcs_explain_spec.specs.Held.{Held, of, unnamed}
 use Rattle.bcs_explain_spec.specs.Pieces.{pieces}
 use Rattle.bcs_explain_spec.specs.Telling.{tell}
-use Rattle.bcs_explain_spec.specs.Stopped.{stop_pieces}
+use Rattle.bcs_explain_spec.specs.Stopped.{stopped, stop_pieces}
 
 -- the pieces of a value cut its bytes
 abbrev pub PiecesCutTheBytes : Type 0
@@ -22,14 +23,14 @@ PiecesCutTheBytes = (registry : Entries) (way : Way) (p : ℕ) (t : Tree) (h : H
 -- at bytes that begin with a value, what is told are its pieces
 abbrev pub ToldAtAnEncoding : Type 0
 ToldAtAnEncoding = (registry : Entries) (limits : Bounds) (s : Shape) (b : List ℕ) (n : ℕ) (c : Tree)
-    → Accepts registry limits s b n c → tell registry limits.depth s [] 0 limits.nodes b ≡ pieces registry [] 0 c (of s)
+    → Accepts registry limits s b n c → tell registry limits.depth s [] 0 limits.nodes b ≡ as_told (pieces registry [] 0 c (of s))
 
--- where bytes stop, what is told are the pieces that stand before the stop
+-- where bytes stop, what is told are the pieces that stand before the stop, and then the stop
 abbrev pub ToldAtAStop : Type 0
 ToldAtAStop = (registry : Entries) (limits : Bounds) (s : Shape) (b : List ℕ) (e : Reason) (o : ℕ) (h : Stops registry limits s b e o)
-    → tell registry limits.depth s [] 0 limits.nodes b ≡ stop_pieces registry limits s b e o h
+    → tell registry limits.depth s [] 0 limits.nodes b ≡ halt_told (stopped registry limits s b e o h)
 
--- and they cut a front of the bytes
+-- these pieces cut a front of the bytes
 abbrev pub StopPiecesCutAFront : Type 0
 StopPiecesCutAFront = (registry : Entries) (limits : Bounds) (s : Shape) (b : List ℕ) (e : Reason) (o : ℕ) (h : Stops registry limits s b e o)
     → CutsFront 0 b (stop_pieces registry limits s b e o h)

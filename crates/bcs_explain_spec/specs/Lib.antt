@@ -1,5 +1,6 @@
 pub mod Way
 pub mod Piece
+pub mod Told
 pub mod Held
 pub mod Pieces
 pub mod Telling

@@ -1,5 +1,5 @@
 -- Values without values inside.
-use Rattle.std.proofs.Common.{◌≡◌, ℕ, zero, suc, List, [], Bool, true, false, ◌⊎◌, inl, inr, Ok, Err, refl, sym, ap, ◌∙◌}
+use Rattle.std.proofs.Common.{◌≡◌, ℕ, zero, suc, List, [], ◌∷◌, Bool, true, false, ◌⊎◌, inl, inr, Ok, Err, refl, sym, ap, ◌∙◌}
 use Rattle.std.specs.Int.{w8, byte_len, from_le_bytes, cast_signed}
 use Rattle.bcs_registry_formats.specs.Shape as shape
 use Rattle.bcs_registry_formats.specs.Shape.{Shape}
@@ -12,9 +12,11 @@ use Rattle.bcs_decode_slice_steps.specs.Passing.{skip, whole_here, counted_here,
 use Rattle.bcs_explain_spec.specs.Way.{Way}
 use Rattle.bcs_explain_spec.specs.Piece as pieces
 use Rattle.bcs_explain_spec.specs.Piece.{Piece, Meaning}
+use Rattle.bcs_explain_spec.specs.Told as wanted
+use Rattle.bcs_explain_spec.specs.Told.{Wanted, halt}
 use Rattle.bcs_explain_spec.specs.Pieces.{is_octet}
-use Rattle.bcs_explain_spec.specs.Telling.{tell, tell_shape, silent, begun, note, noting, noting_then, going}
-use Rattle.bcs_explain_steps.specs.Leaf.{flag_node, bytes_node, gone, leaf_past, leaf_told}
+use Rattle.bcs_explain_spec.specs.Telling.{tell, tell_shape, silent, halting, begun, note, noting, noting_then, going}
+use Rattle.bcs_explain_steps.specs.Leaf.{flag_node, bytes_node, gone, needing, leaf_past, leaf_told}
 
 abbrev pub has_no_parts : Shape → Bool
 has_no_parts (shape.name n) = false
@@ -75,21 +77,22 @@ shape_past registry d (shape.map k v) h p m b = absurd cc
 shape_past registry d (shape.tuple ss) h p m b = absurd cc
 shape_past registry d (shape.array s n) h p m b = absurd cc
 
-note_made : {A : Type 0} (way : Way) (mean : A → Meaning) (p : ℕ) (b : List ℕ) (r : Read (List ℕ)) (f : List ℕ → A)
-    → note way (λ s. mean (f s)) p b r ≡ note way mean p b (follow r (λ s. give (f s)))
+note_made : {A : Type 0} (way : Way) (mean : A → Meaning) (want : Wanted) (p : ℕ) (b : List ℕ) (r : Read (List ℕ)) (f : List ℕ → A)
+    → note way (λ s. mean (f s)) want p b r ≡ note way mean want p b (follow r (λ s. give (f s)))
 unfolding give
-note_made way mean p b (Ok x) f = refl
-note_made way mean p b (Err e) f = refl
+note_made way mean want p b (Ok x) f = refl
+note_made way mean want p b (Err e) f = refl
 
 shape_told : (registry : Entries) (d : ℕ) (s : Shape) → has_no_parts s ≡ true → (way : Way) (p m : ℕ) (b : List ℕ) → leaf_told s way p m b ≡ tell registry d s way p m b
-unfolding tell tell_shape begun noting noting_then going flag_node bytes_node counted_here chain give node unsigned_here signed_here
-shape_told registry d shape.unit h way p m b = refl
+unfolding tell tell_shape silent begun halting needing noting noting_then going flag_node bytes_node counted_here chain give node unsigned_here signed_here
+shape_told registry d shape.unit h way p zero b = refl
+shape_told registry d shape.unit h way p (suc m) b = refl
 shape_told registry d shape.truth h way p zero b = refl
 shape_told registry d shape.truth h way p (suc m) b = refl
 shape_told registry d (shape.unsigned w) h way p zero b = refl
-shape_told registry d (shape.unsigned w) h way p (suc m) b = note_made way pieces.unsigned p b (bytes_here (byte_len w) p m b) (from_le_bytes w)
+shape_told registry d (shape.unsigned w) h way p (suc m) b = note_made way pieces.unsigned (wanted.unsigned w) p b (bytes_here (byte_len w) p m b) (from_le_bytes w)
 shape_told registry d (shape.signed w) h way p zero b = refl
-shape_told registry d (shape.signed w) h way p (suc m) b = note_made way pieces.signed p b (bytes_here (byte_len w) p m b) (λ s. cast_signed w (from_le_bytes w s))
+shape_told registry d (shape.signed w) h way p (suc m) b = note_made way pieces.signed (wanted.signed w) p b (bytes_here (byte_len w) p m b) (λ s. cast_signed w (from_le_bytes w s))
 shape_told registry d (shape.unsupported u) h way p m b = refl
 shape_told registry d shape.text h way p zero b = refl
 shape_told registry d shape.text h way p (suc m) b = refl
@@ -110,8 +113,8 @@ leaf_told_is registry d f way p m b h = shape_told registry d (shape_of f) (bare
 
 -- ---- values that aren't there
 
-pub float_told : (f : format.Format) (way : Way) (p m : ℕ) (b : List ℕ) → (f ≡ format.F32) ⊎ ((f ≡ format.F64) ⊎ (f ≡ format.Char)) → [] ≡ leaf_told (shape_of f) way p m b
-unfolding silent
+pub float_told : (f : format.Format) (way : Way) (p m : ℕ) (b : List ℕ) → (f ≡ format.F32) ⊎ ((f ≡ format.F64) ⊎ (f ≡ format.Char)) → halt way wanted.nothing ∷ [] ≡ leaf_told (shape_of f) way p m b
+unfolding halting
 float_told f way p m b (inl h) = ap (λ (s : Shape). leaf_told s way p m b) (sym (shape-F32 f h))
 float_told f way p m b (inr (inl h)) = ap (λ (s : Shape). leaf_told s way p m b) (sym (shape-F64 f h))
 float_told f way p m b (inr (inr h)) = ap (λ (s : Shape). leaf_told s way p m b) (sym (shape-Char f h))

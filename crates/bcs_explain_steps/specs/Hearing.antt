@@ -3,11 +3,14 @@ use Rattle.std.specs.Prelude.{◌≡◌, Bool, false, List, ◌++◌}
 use Rattle.std.specs.Int.{cast_signed}
 use Rattle.bcs_num.specs.Le.{width_of}
 use Rattle.bcs_explain_spec.specs.Piece as pieces
-use Rattle.bcs_explain_spec.specs.Piece.{Piece}
+use Rattle.bcs_explain_spec.specs.Told as wanted
+use Rattle.bcs_explain_spec.specs.Told.{Told}
 use Rattle.bcs_explain_steps.specs.declared.listener.Counted.{Counted}
 use Rattle.bcs_explain_steps.specs.declared.listener.Counted.TheVariants as counted
 use Rattle.bcs_explain_steps.specs.declared.listener.Meaning.{Meaning}
 use Rattle.bcs_explain_steps.specs.declared.listener.Meaning.TheVariants as declared
+use Rattle.bcs_explain_steps.specs.declared.listener.Wanted.{Wanted}
+use Rattle.bcs_explain_steps.specs.declared.listener.Wanted.TheVariants as sought
 
 abbrev pub counted_of : Counted → pieces.Counted
 counted_of counted.Text = pieces.text_bytes
@@ -26,6 +29,21 @@ meaning_of declared.Octets = pieces.octets
 meaning_of (declared.Option b) = pieces.option b
 meaning_of (declared.Variant n name) = pieces.chosen n name.now
 
--- whatever it had heard before, it has heard these pieces behind it, unless it ran out of memory, after which it says nothing
-abbrev pub Hears : {K : Type 0} → (K → List Piece → Type 0) → (K → Bool) → K → K → List Piece → Type 0
-Hears heard has_lost old new ps = has_lost new ≡ false → (has_lost old ≡ false) × ((before : List Piece) → heard old before → heard new (before ++ ps))
+abbrev pub wanted_of : Wanted → wanted.Wanted
+wanted_of sought.Truth = wanted.truth
+wanted_of (sought.Unsigned w) = wanted.unsigned (width_of w)
+wanted_of (sought.Signed w) = wanted.signed (width_of w)
+wanted_of (sought.Length c) = wanted.count (counted_of c)
+wanted_of (sought.Text n) = wanted.text n
+wanted_of (sought.Bytes n) = wanted.bytes n
+wanted_of (sought.Octets n) = wanted.octets n
+wanted_of sought.Option = wanted.option
+wanted_of sought.Number = wanted.number
+wanted_of sought.LaterKey = wanted.later_key
+wanted_of (sought.Container name) = wanted.container name.now
+wanted_of sought.Node = wanted.node
+wanted_of sought.Nothing = wanted.nothing
+
+-- whatever it had heard before, it has heard this behind it, unless it ran out of memory, after which it says nothing
+abbrev pub Hears : {K : Type 0} → (K → List Told → Type 0) → (K → Bool) → K → K → List Told → Type 0
+Hears heard has_lost old new ts = has_lost new ≡ false → (has_lost old ≡ false) × ((before : List Told) → heard old before → heard new (before ++ ts))

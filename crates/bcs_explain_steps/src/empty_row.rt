@@ -12,7 +12,7 @@ use bcs_decode_slice_steps::measuring::value_size;
 use bcs_registry::{Format, Registry};
 
 /// How many of so many values of one format are gone past in one step: where they have no bytes, as many as nodes are
-/// left for. Of the next ones nothing is told either, so those that are left may be numbered from 0 on.
+/// left for. Nothing is told of them, and the others keep their numbers.
 #[inline(never)]
 pub fn empty_row(
     registry: &Registry,
@@ -27,7 +27,7 @@ pub fn empty_row(
         ≡ items_here skipping (skip registry.now depth (shape_of element.now)) (count - result) cursor.new.place cursor.new.nodes cursor.new.rest.now }
     ensures onward { Onward cursor.old cursor.new }
     ensures tells { (way : Way) → tell_items (skip registry.now depth (shape_of element.now)) (λ w. told registry.now depth (shape_of element.now) w) way 0 count cursor.old.place cursor.old.nodes cursor.old.rest.now
-        ≡ tell_items (skip registry.now depth (shape_of element.now)) (λ w. told registry.now depth (shape_of element.now) w) way 0 (count - result) cursor.new.place cursor.new.nodes cursor.new.rest.now }
+        ≡ tell_items (skip registry.now depth (shape_of element.now)) (λ w. told registry.now depth (shape_of element.now) w) way result (count - result) cursor.new.place cursor.new.nodes cursor.new.rest.now }
 {
     if count < FEW {
         return 0;

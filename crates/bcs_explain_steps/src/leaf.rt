@@ -9,9 +9,9 @@ ghost use Rattle.bcs_explain_steps.specs.Leaf.{leaf_past, leaf_told};
 
 use crate::leaves::{tell_byte_string, tell_signed, tell_string, tell_truth, tell_unsigned};
 use crate::listener::Listener;
+use crate::opening::{node, unsupported};
 use crate::trail::Trail;
-use bcs_decode_slice_steps::cursor::{Cursor, node};
-use bcs_decode_slice_steps::shallow::unsupported;
+use bcs_decode_slice_steps::cursor::Cursor;
 use bcs_decode_spec::Stop;
 use bcs_num::Width;
 use bcs_registry_formats::Format;
@@ -31,7 +31,7 @@ pub fn tell_leaf<T: Listener>(
         (leaf_told (shape_of format.now) (way_of trail.now) cursor.old.place cursor.old.nodes cursor.old.rest.now) }
 {
     match format {
-        Format::Unit => node(cursor),
+        Format::Unit => node(cursor, trail, out),
         Format::Bool => tell_truth(cursor, trail, out),
         Format::U8 => tell_unsigned(cursor, Width::W1, trail, out),
         Format::U16 => tell_unsigned(cursor, Width::W2, trail, out),
@@ -45,13 +45,13 @@ pub fn tell_leaf<T: Listener>(
         Format::I128 => tell_signed(cursor, Width::W16, trail, out),
         Format::Str => tell_string(cursor, trail, out),
         Format::Bytes => tell_byte_string(cursor, trail, out),
-        Format::F32 | Format::F64 | Format::Char => unsupported(cursor),
-        Format::TypeName(_) => unsupported(cursor),
-        Format::Opt(_) => unsupported(cursor),
-        Format::Seq(_) => unsupported(cursor),
-        Format::Map(_, _) => unsupported(cursor),
-        Format::Tuple(_) => unsupported(cursor),
-        Format::TupleArray(_, _) => unsupported(cursor),
+        Format::F32 | Format::F64 | Format::Char => unsupported(cursor, trail, out),
+        Format::TypeName(_) => unsupported(cursor, trail, out),
+        Format::Opt(_) => unsupported(cursor, trail, out),
+        Format::Seq(_) => unsupported(cursor, trail, out),
+        Format::Map(_, _) => unsupported(cursor, trail, out),
+        Format::Tuple(_) => unsupported(cursor, trail, out),
+        Format::TupleArray(_, _) => unsupported(cursor, trail, out),
     }
 }
 

@@ -8,10 +8,12 @@ ghost use Rattle.bcs_explain_spec.specs.Piece as pieces;
 ghost use Rattle.bcs_explain_spec.specs.Piece.{piece_at};
 ghost use Rattle.bcs_explain_steps.specs.Trail.{way_of};
 ghost use Rattle.bcs_explain_steps.specs.Hearing.{Hears, meaning_of, counted_of};
+ghost use Rattle.bcs_explain_spec.specs.Told as wanted;
+ghost use Rattle.bcs_explain_spec.specs.Told.{as_told};
 ghost use Rattle.bcs_explain_spec.specs.Telling.{noting, noting_then};
 ghost use Rattle.bcs_explain_steps.specs.Leaf.{bytes_node, flag_node, gone};
 
-use crate::listener::{Counted, Listener, Meaning};
+use crate::listener::{Counted, Listener, Meaning, Wanted};
 use crate::trail::Trail;
 use bcs_decode_slice_steps::cursor::{Cursor, bytes, flag, node, text};
 use bcs_decode_slice_steps::shallow;
@@ -33,7 +35,7 @@ pub fn tell<T: Listener>(
     requires within { cursor.now.place ≤ start + length from.now }
     requires room { start + length from.now < 2 ^ 64 }
     ensures { Hears T.heard T.has_lost out.old out.new
-        (piece_at (way_of trail.now) start (take (cursor.now.place - start) from.now) (meaning_of meaning.entry)) }
+        (as_told (piece_at (way_of trail.now) start (take (cursor.now.place - start) from.now) (meaning_of meaning.entry))) }
 {
     let (piece, _) = from.split_at((cursor.place - start) as usize);
     out.hear(start, piece, trail, meaning);
@@ -74,12 +76,19 @@ pub fn tell_flag<T: Listener>(
     ensures passes { Passes (λ x. x) result (flag_node bad) cursor.old cursor.new }
     ensures onward { Onward cursor.old cursor.new }
     ensures hears { Hears T.heard T.has_lost out.old out.new
-        (noting (way_of trail.now) pieces.option (flag_node bad) cursor.old.place cursor.old.nodes cursor.old.rest.now) }
+        (noting (way_of trail.now) pieces.option wanted.option (flag_node bad) cursor.old.place cursor.old.nodes cursor.old.rest.now) }
 {
     let (start, from) = (cursor.place, cursor.rest);
-    let is_set = flag_value(cursor, bad)?;
-    tell(start, from, cursor, trail, Meaning::Option(is_set), out);
-    Ok(is_set)
+    match flag_value(cursor, bad) {
+        Ok(is_set) => {
+            tell(start, from, cursor, trail, Meaning::Option(is_set), out);
+            Ok(is_set)
+        }
+        Err(stop) => {
+            out.halt(trail, Wanted::Option);
+            Err(stop)
+        }
+    }
 }
 
 /// A truth value.
@@ -92,12 +101,19 @@ pub fn tell_truth<T: Listener>(
     ensures passes { Passes (λ x. x) result (gone (flag_node Reason.BadBool)) cursor.old cursor.new }
     ensures onward { Onward cursor.old cursor.new }
     ensures hears { Hears T.heard T.has_lost out.old out.new
-        (noting (way_of trail.now) pieces.truth (flag_node Reason.BadBool) cursor.old.place cursor.old.nodes cursor.old.rest.now) }
+        (noting (way_of trail.now) pieces.truth wanted.truth (flag_node Reason.BadBool) cursor.old.place cursor.old.nodes cursor.old.rest.now) }
 {
     let (start, from) = (cursor.place, cursor.rest);
-    let is_true = flag_value(cursor, Reason::BadBool)?;
-    tell(start, from, cursor, trail, Meaning::Truth(is_true), out);
-    Ok(())
+    match flag_value(cursor, Reason::BadBool) {
+        Ok(is_true) => {
+            tell(start, from, cursor, trail, Meaning::Truth(is_true), out);
+            Ok(())
+        }
+        Err(stop) => {
+            out.halt(trail, Wanted::Truth);
+            Err(stop)
+        }
+    }
 }
 
 /// A node with a length.
@@ -112,19 +128,20 @@ pub fn tell_count<T: Listener>(
     ensures passes { Passes (λ x. x) result counted_here cursor.old cursor.new }
     ensures onward { Onward cursor.old cursor.new }
     ensures hears { Hears T.heard T.has_lost out.old out.new
-        (noting (way_of trail.now) (pieces.counted (counted_of what)) counted_here cursor.old.place cursor.old.nodes cursor.old.rest.now) }
+        (noting (way_of trail.now) (pieces.counted (counted_of what)) (wanted.count (counted_of what)) counted_here cursor.old.place cursor.old.nodes cursor.old.rest.now) }
 {
     let (start, from) = (cursor.place, cursor.rest);
-    let count = shallow::counted(cursor)?;
-    tell(
-        start,
-        from,
-        cursor,
-        trail,
-        Meaning::Length(what, count),
-        out,
-    );
-    Ok(count)
+    match shallow::counted(cursor) {
+        Ok(count) => {
+            let meaning = Meaning::Length(what, count);
+            tell(start, from, cursor, trail, meaning, out);
+            Ok(count)
+        }
+        Err(stop) => {
+            out.halt(trail, Wanted::Length(what));
+            Err(stop)
+        }
+    }
 }
 
 /// A text of so many bytes.
@@ -138,12 +155,19 @@ pub fn tell_text<T: Listener>(
     ensures passes { Passes (λ x. x) result (gone (text_here count)) cursor.old cursor.new }
     ensures onward { Onward cursor.old cursor.new }
     ensures hears { Hears T.heard T.has_lost out.old out.new
-        (noting (way_of trail.now) pieces.text (text_here count) cursor.old.place cursor.old.nodes cursor.old.rest.now) }
+        (noting (way_of trail.now) pieces.text (wanted.text count) (text_here count) cursor.old.place cursor.old.nodes cursor.old.rest.now) }
 {
     let (start, from) = (cursor.place, cursor.rest);
-    let found = text(cursor, count)?;
-    tell(start, from, cursor, trail, Meaning::Text(found), out);
-    Ok(())
+    match text(cursor, count) {
+        Ok(found) => {
+            tell(start, from, cursor, trail, Meaning::Text(found), out);
+            Ok(())
+        }
+        Err(stop) => {
+            out.halt(trail, Wanted::Text(count));
+            Err(stop)
+        }
+    }
 }
 
 /// So many bytes.
@@ -157,12 +181,19 @@ pub fn tell_bytes<T: Listener>(
     ensures passes { Passes (λ x. x) result (gone (bytes_here count)) cursor.old cursor.new }
     ensures onward { Onward cursor.old cursor.new }
     ensures hears { Hears T.heard T.has_lost out.old out.new
-        (noting (way_of trail.now) pieces.bytes (bytes_here count) cursor.old.place cursor.old.nodes cursor.old.rest.now) }
+        (noting (way_of trail.now) pieces.bytes (wanted.bytes count) (bytes_here count) cursor.old.place cursor.old.nodes cursor.old.rest.now) }
 {
     let (start, from) = (cursor.place, cursor.rest);
-    let found = bytes(cursor, count)?;
-    tell(start, from, cursor, trail, Meaning::Bytes(found), out);
-    Ok(())
+    match bytes(cursor, count) {
+        Ok(found) => {
+            tell(start, from, cursor, trail, Meaning::Bytes(found), out);
+            Ok(())
+        }
+        Err(stop) => {
+            out.halt(trail, Wanted::Bytes(count));
+            Err(stop)
+        }
+    }
 }
 
 /// The number at the front. `None`: there are fewer bytes than it has.
@@ -201,13 +232,20 @@ pub fn tell_unsigned<T: Listener>(
     ensures passes { Passes (λ x. x) result (gone (bytes_node (byte_len (width_of width)))) cursor.old cursor.new }
     ensures onward { Onward cursor.old cursor.new }
     ensures hears { Hears T.heard T.has_lost out.old out.new
-        (noting (way_of trail.now) (λ s. pieces.unsigned (from_le_bytes (width_of width) s)) (bytes_node (byte_len (width_of width))) cursor.old.place cursor.old.nodes cursor.old.rest.now) }
+        (noting (way_of trail.now) (λ s. pieces.unsigned (from_le_bytes (width_of width) s)) (wanted.unsigned (width_of width)) (bytes_node (byte_len (width_of width))) cursor.old.place cursor.old.nodes cursor.old.rest.now) }
 {
     let (start, from) = (cursor.place, cursor.rest);
-    let found = bytes_value(cursor, width.byte_len())?;
-    let number = unsigned_of(width, found);
-    tell(start, from, cursor, trail, Meaning::Unsigned(number), out);
-    Ok(())
+    match bytes_value(cursor, width.byte_len()) {
+        Ok(found) => {
+            let number = unsigned_of(width, found);
+            tell(start, from, cursor, trail, Meaning::Unsigned(number), out);
+            Ok(())
+        }
+        Err(stop) => {
+            out.halt(trail, Wanted::Unsigned(width));
+            Err(stop)
+        }
+    }
 }
 
 /// A signed number.
@@ -221,20 +259,20 @@ pub fn tell_signed<T: Listener>(
     ensures passes { Passes (λ x. x) result (gone (bytes_node (byte_len (width_of width)))) cursor.old cursor.new }
     ensures onward { Onward cursor.old cursor.new }
     ensures hears { Hears T.heard T.has_lost out.old out.new
-        (noting (way_of trail.now) (λ s. pieces.signed (cast_signed (width_of width) (from_le_bytes (width_of width) s))) (bytes_node (byte_len (width_of width))) cursor.old.place cursor.old.nodes cursor.old.rest.now) }
+        (noting (way_of trail.now) (λ s. pieces.signed (cast_signed (width_of width) (from_le_bytes (width_of width) s))) (wanted.signed (width_of width)) (bytes_node (byte_len (width_of width))) cursor.old.place cursor.old.nodes cursor.old.rest.now) }
 {
     let (start, from) = (cursor.place, cursor.rest);
-    let found = bytes_value(cursor, width.byte_len())?;
-    let number = unsigned_of(width, found);
-    tell(
-        start,
-        from,
-        cursor,
-        trail,
-        Meaning::Signed(width, number),
-        out,
-    );
-    Ok(())
+    match bytes_value(cursor, width.byte_len()) {
+        Ok(found) => {
+            let meaning = Meaning::Signed(width, unsigned_of(width, found));
+            tell(start, from, cursor, trail, meaning, out);
+            Ok(())
+        }
+        Err(stop) => {
+            out.halt(trail, Wanted::Signed(width));
+            Err(stop)
+        }
+    }
 }
 
 /// A text with its length.
@@ -247,7 +285,7 @@ pub fn tell_string<T: Listener>(
     ensures passes { Passes (λ x. x) result text_past cursor.old cursor.new }
     ensures onward { Onward cursor.old cursor.new }
     ensures hears { Hears T.heard T.has_lost out.old out.new
-        (noting_then (way_of trail.now) (pieces.counted pieces.text_bytes) counted_here (λ n. noting (way_of trail.now) pieces.text (text_here n)) cursor.old.place cursor.old.nodes cursor.old.rest.now) }
+        (noting_then (way_of trail.now) (pieces.counted pieces.text_bytes) (wanted.count pieces.text_bytes) counted_here (λ n. noting (way_of trail.now) pieces.text (wanted.text n) (text_here n)) cursor.old.place cursor.old.nodes cursor.old.rest.now) }
 {
     let count = tell_count(cursor, Counted::Text, trail, out)?;
     tell_text(cursor, count as usize, trail, out)
@@ -263,7 +301,7 @@ pub fn tell_byte_string<T: Listener>(
     ensures passes { Passes (λ x. x) result bytes_past cursor.old cursor.new }
     ensures onward { Onward cursor.old cursor.new }
     ensures hears { Hears T.heard T.has_lost out.old out.new
-        (noting_then (way_of trail.now) (pieces.counted pieces.raw_bytes) counted_here (λ n. noting (way_of trail.now) pieces.bytes (bytes_here n)) cursor.old.place cursor.old.nodes cursor.old.rest.now) }
+        (noting_then (way_of trail.now) (pieces.counted pieces.raw_bytes) (wanted.count pieces.raw_bytes) counted_here (λ n. noting (way_of trail.now) pieces.bytes (wanted.bytes n) (bytes_here n)) cursor.old.place cursor.old.nodes cursor.old.rest.now) }
 {
     let count = tell_count(cursor, Counted::Bytes, trail, out)?;
     tell_bytes(cursor, count as usize, trail, out)
@@ -281,10 +319,17 @@ pub fn tell_octets<T: Listener>(
     ensures passes { Passes (λ x. x) result (items_here skipping (whole_here 1) count) cursor.old cursor.new }
     ensures onward { Onward cursor.old cursor.new }
     ensures hears { Hears T.heard T.has_lost out.old out.new
-        (noting (way_of trail.now) (λ _. pieces.octets) (items_here skipping (whole_here 1) count) cursor.old.place cursor.old.nodes cursor.old.rest.now) }
+        (noting (way_of trail.now) (λ _. pieces.octets) (wanted.octets count) (items_here skipping (whole_here 1) count) cursor.old.place cursor.old.nodes cursor.old.rest.now) }
 {
     let (start, from) = (cursor.place, cursor.rest);
-    whole_row(cursor, 1, count)?;
-    tell(start, from, cursor, trail, Meaning::Octets, out);
-    Ok(())
+    match whole_row(cursor, 1, count) {
+        Ok(()) => {
+            tell(start, from, cursor, trail, Meaning::Octets, out);
+            Ok(())
+        }
+        Err(stop) => {
+            out.halt(trail, Wanted::Octets(count));
+            Err(stop)
+        }
+    }
 }

@@ -5,4 +5,5 @@ pub mod empty_row;
 pub mod leaf;
 pub mod leaves;
 pub mod listener;
+pub mod opening;
 pub mod trail;

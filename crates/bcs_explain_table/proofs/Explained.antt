@@ -17,14 +17,22 @@ use Rattle.bcs_explain_spec.proofs.StopCutting.{stop_pieces_cut}
 use Rattle.bcs_explain_steps.specs.Hearing.{Hears}
 use Rattle.bcs_explain_table.specs.Explains.{Explains, damaged_text, pieces_before}
 use Rattle.bcs_explain_table.specs.Explains as explains
-use Rattle.bcs_explain_table.specs.Heard.{holds, lost}
+use Rattle.bcs_explain_table.specs.Heard.{has_pieces, holds, lost}
+use Rattle.bcs_explain_spec.specs.Told.{Told, as_told, Halted, halt_told}
+use Rattle.bcs_explain_table.proofs.Hearing.{pieces_halted, pieces_told}
 use Rattle.bcs_explain_table.specs.Table.{damage_text, table}
 use Rattle.bcs_explain_table.specs.declared.table.Table.{Table}
 
 -- of a table that was empty
 module _ (old : Table) (text : old.text.items ≡ []) (told : old.told ≡ 0) where
-  pub heard : (new : Table) (ps : List Piece) → Hears holds lost old new ps → lost new ≡ false → holds new ps
-  heard new ps h kept = (h kept).1 [] (text, λ few. told)
+  heard_all : (new : Table) (ts : List Told) → Hears holds lost old new ts → lost new ≡ false → holds new ts
+  heard_all new ts h kept = (h kept).1 [] (text, λ few. told)
+
+  pub heard : (new : Table) (ps : List Piece) → Hears holds lost old new (as_told ps) → lost new ≡ false → has_pieces new ps
+  heard new ps h kept = subst (λ (qs : List Piece). has_pieces new qs) (pieces_told ps) (heard_all new (as_told ps) h kept)
+
+  pub heard_halt : (new : Table) (x : Halted) → Hears holds lost old new (halt_told x) → lost new ≡ false → has_pieces new x.pieces
+  heard_halt new x h kept = subst (λ (qs : List Piece). has_pieces new qs) (pieces_halted x) (heard_all new (halt_told x) h kept)
 
 module _ (r : Entries) (l : Bounds) (s : Shape) (b : List ℕ) where
   -- the pieces before a stop have no more bytes than there are
@@ -36,7 +44,7 @@ module _ (r : Entries) (l : Bounds) (s : Shape) (b : List ℕ) where
       omega (arith, ap length (pieces_cut r [] 0 c (of s)).joined, ap length a.is, length-take-le n b a.within, a.within)
 
   -- what a table holds of the pieces before a stop
-  module _ (e : Reason) (o : ℕ) (h : StopsAll r l s b e o) (new : Table) (has : holds new (pieces_before r l s b e o h)) (small : length b < 2 ^ 64) where
+  module _ (e : Reason) (o : ℕ) (h : StopsAll r l s b e o) (new : Table) (has : has_pieces new (pieces_before r l s b e o h)) (small : length b < 2 ^ 64) where
     pub counted : new.told ≡ length (pieces_bytes (pieces_before r l s b e o h))
     counted = has.1 (omega (arith, before_fits e o h, small))
 
@@ -52,7 +60,7 @@ module _ (r : Entries) (l : Bounds) (s : Shape) (b : List ℕ) where
         subst (λ (i : List ℕ). Explains r l s b i x) whole
         (subst (λ (y : Option Stop). Explains r l s b (damaged_text r l s b e o ps) y) (sym stop) (explains.damaged e o h))
 
-  pub whole_explains : (c : Tree) (n : ℕ) (new : Table) → Accepts r l s b n c → n ≡ length b → holds new (pieces r [] 0 c (of s))
+  pub whole_explains : (c : Tree) (n : ℕ) (new : Table) → Accepts r l s b n c → n ≡ length b → has_pieces new (pieces r [] 0 c (of s))
       → (t : List ℕ) (x : Option Stop) → x ≡ None → t ≡ new.text.items → Explains r l s b t x
   whole_explains c n new a all has t x none is =
       let accepts = subst (λ (k : ℕ). Accepts r l s b k c) all a in

@@ -4,6 +4,8 @@ use Rattle.std.proofs.Math.Nat.{mod-eq_of_lt}
 use Rattle.std.proofs.lemmas.List.{length-append}
 use Rattle.bcs_explain_spec.specs.Way.{Way}
 use Rattle.bcs_explain_spec.specs.Piece.{Meaning, Piece, piece_at, pieces_bytes}
+use Rattle.bcs_explain_spec.specs.Told.{Told, piece, halt, as_told, Halted, halt_told}
+use Rattle.bcs_explain_table.specs.Heard.{pieces_of}
 use Rattle.bcs_explain_table.specs.Table.{piece_text, table}
 use Rattle.bcs_explain_table.proofs.Texts.{bytes_onto, table_onto}
 
@@ -23,3 +25,23 @@ told_on before x text told is counted =
       λ few. (let so_far = counted (omega (arith, size, few)) in
           mod-eq_of_lt (omega (arith, size, few, so_far)) ∙ omega (arith, size, so_far)),
     )
+
+-- ---- the pieces of what was told
+
+pub pieces_told : (ps : List Piece) → pieces_of (as_told ps) ≡ ps
+pieces_told [] = refl
+pieces_told (x ∷ ps) = ap (λ (qs : List Piece). x ∷ qs) (pieces_told ps)
+
+pub pieces_onto : (ts us : List Told) → pieces_of (ts ++ us) ≡ pieces_of ts ++ pieces_of us
+pieces_onto [] us = refl
+pieces_onto (piece x ∷ ts) us = ap (λ (qs : List Piece). x ∷ qs) (pieces_onto ts us)
+pieces_onto (halt way want ∷ ts) us = pieces_onto ts us
+
+pub told_onto : (before : List Told) (ps : List Piece) → pieces_of (before ++ as_told ps) ≡ pieces_of before ++ ps
+told_onto before ps = pieces_onto before (as_told ps) ∙ ap (λ (qs : List Piece). pieces_of before ++ qs) (pieces_told ps)
+
+pub halt_onto : (before : List Told) (ts : List Told) → pieces_of ts ≡ [] → pieces_of (before ++ ts) ≡ pieces_of before
+halt_onto before ts none = pieces_onto before ts ∙ ap (λ (qs : List Piece). pieces_of before ++ qs) none ∙ append-nil (pieces_of before)
+
+pub pieces_halted : (h : Halted) → pieces_of (halt_told h) ≡ h.pieces
+pieces_halted h = halt_onto (as_told h.pieces) (halt h.way h.wanted ∷ []) refl ∙ pieces_told h.pieces

@@ -12,15 +12,18 @@ use Rattle.bcs_explain_spec.specs.Pieces.{pieces}
 use Rattle.bcs_explain_spec.specs.Telling.{tell}
 use Rattle.bcs_explain_spec.proofs.StoppedTold.{told_at_a_stop_is}
 use Rattle.bcs_explain_spec.proofs.Told.{told_at_an_encoding_is}
+use Rattle.bcs_explain_spec.specs.Stopped.{stopped}
+use Rattle.bcs_explain_table.specs.Heard.{pieces_of}
+use Rattle.bcs_explain_table.proofs.Hearing.{pieces_halted, pieces_told}
 use Rattle.bcs_explain_table.specs.Explains.{Explains, damaged_text, pieces_before}
 use Rattle.bcs_explain_table.specs.Explains as explains
 use Rattle.bcs_explain_table.specs.Table.{table}
 
 module _ (r : Entries) (l : Bounds) (s : Shape) (b : List ℕ) where
-  -- the pieces before a stop are what is told as the bytes are read
-  pub before_told : (e : Reason) (o : ℕ) (h : StopsAll r l s b e o) → tell r l.depth s [] 0 l.nodes b ≡ pieces_before r l s b e o h
-  before_told e o (inl h) = told_at_a_stop_is r l s b e o h
-  before_told e o (inr (n, c, a, lt, x, y)) = told_at_an_encoding_is r l s b n c a
+  -- the pieces before a stop are those that are told as the bytes are read
+  pub before_told : (e : Reason) (o : ℕ) (h : StopsAll r l s b e o) → pieces_of (tell r l.depth s [] 0 l.nodes b) ≡ pieces_before r l s b e o h
+  before_told e o (inl h) = ap pieces_of (told_at_a_stop_is r l s b e o h) ∙ pieces_halted (stopped r l s b e o h)
+  before_told e o (inr (n, c, a, lt, x, y)) = ap pieces_of (told_at_an_encoding_is r l s b n c a) ∙ pieces_told (pieces r [] 0 c (of s))
 
   -- so they are the same, however the stop is shown
   pub one_before : (e : Reason) (o : ℕ) (h k : StopsAll r l s b e o) → pieces_before r l s b e o h ≡ pieces_before r l s b e o k

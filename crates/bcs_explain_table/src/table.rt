@@ -1,14 +1,15 @@
 //! A listener that writes a line for each piece.
-ghost use Rattle.std.specs.Prelude.{◌≡◌, ◌++◌, ◌+◌, ◌<◌, ◌^◌, [], List, OnOk, false, length};
+ghost use Rattle.std.specs.Prelude.{◌≡◌, ◌++◌, ◌∷◌, ◌+◌, ◌<◌, ◌^◌, [], List, OnOk, false, length};
 ghost use Rattle.bcs_explain_spec.specs.Piece.{Piece, piece_at, pieces_bytes};
-ghost use Rattle.bcs_explain_steps.specs.Hearing.{Hears, meaning_of};
+ghost use Rattle.bcs_explain_steps.specs.Hearing.{Hears, meaning_of, wanted_of};
+ghost use Rattle.bcs_explain_spec.specs.Told.{as_told, halt as halted};
 ghost use Rattle.bcs_explain_steps.specs.Trail.{way_of};
 ghost use Rattle.bcs_explain_table.specs.Table.{piece_text, table};
 
 use crate::meaning::put_meaning;
 use crate::rows::{put_first_row, put_more_rows};
 use crate::way::put_way;
-use bcs_explain::{Listener, Meaning, Trail};
+use bcs_explain::{Listener, Meaning, Trail, Wanted};
 use bcs_explain_columns::columns::end_column;
 use std::alloc::{AllocError, Global};
 
@@ -48,7 +49,7 @@ impl Listener for Table {
     fn hear(&mut self, place: u64, bytes: &[u8], trail: &Trail<'_, '_, '_>, meaning: Meaning<'_>)
         requires room { place + length bytes.now < 2 ^ 64 }
         ensures { Hears holds lost self.old self.new
-            (piece_at (way_of trail.now) place bytes.now (meaning_of meaning.entry)) }
+            (as_told (piece_at (way_of trail.now) place bytes.now (meaning_of meaning.entry))) }
     {
         if self.has_lost || bytes.is_empty() {
             return;
@@ -58,6 +59,11 @@ impl Listener for Table {
             Err(AllocError) => self.has_lost = true,
         }
     }
+
+    // The way to a stop isn't printed.
+    fn halt(&mut self, trail: &Trail<'_, '_, '_>, wanted: Wanted<'_>)
+        ensures { Hears holds lost self.old self.new (halted (way_of trail.now) (wanted_of wanted.entry) ∷ []) }
+    {}
 }
 
 // The lines of a piece.

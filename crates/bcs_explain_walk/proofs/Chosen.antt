@@ -1,5 +1,5 @@
 -- What was looked up, and what it holds.
-use Rattle.std.proofs.Common.{◌≡◌, ℕ, ◌+◌, ◌-◌, ◌<◌, List, [], ◌∷◌, length, get_or, map, drop, Option, Some, None, option_map, Bor, string_bytes, ◌++◌, take, Ok, Err, refl, sym, ap, ◌∙◌}
+use Rattle.std.proofs.Common.{◌≡◌, ℕ, zero, suc, ◌+◌, ◌-◌, ◌<◌, List, [], ◌∷◌, length, get_or, map, drop, Option, Some, None, option_map, Bor, string_bytes, ◌++◌, take, Ok, Err, refl, sym, ap, ◌∙◌}
 use Rattle.std.proofs.lemmas.List.{drop_more}
 use Rattle.std.specs.Ordering.{nat_cmp}
 use Rattle.std.specs.Map.{lookup}
@@ -16,14 +16,16 @@ use Rattle.bcs_registry_formats.specs.declared.named.Named.{Named}
 use Rattle.bcs_registry_formats.specs.declared.container.Container as declared
 use Rattle.bcs_decode_spec.specs.declared.reason.Reason.{Reason}
 use Rattle.bcs_decode_spec.specs.declared.reason.Reason.TheVariants.{BadOption}
-use Rattle.bcs_decode_spec.specs.Reading.{Parser, give, key_after, key_here}
-use Rattle.bcs_decode_slice_steps.specs.Passing.{option_past}
+use Rattle.bcs_decode_spec.specs.Reading.{Parser, node, give, key_after, key_here}
+use Rattle.bcs_decode_slice_steps.specs.Passing.{node_here, option_past}
 use Rattle.bcs_explain_spec.specs.Way.{Way, onto, variant}
 use Rattle.bcs_explain_spec.specs.Piece as pieces
-use Rattle.bcs_explain_spec.specs.Piece.{Piece, piece_at}
+use Rattle.bcs_explain_spec.specs.Told as wanted
+use Rattle.bcs_explain_spec.specs.Told.{Told, halt, as_told}
+use Rattle.bcs_explain_spec.specs.Piece.{piece_at}
 use Rattle.bcs_explain_spec.specs.Held.{Held, held, held_at, nothing, of, fields, carried}
-use Rattle.bcs_explain_spec.specs.Telling.{tell, tell_shape, tell_carried, tell_choice, tell_held, tell_named, silent}
-use Rattle.bcs_explain_steps.specs.Leaf.{flag_node}
+use Rattle.bcs_explain_spec.specs.Telling.{tell, tell_shape, tell_carried, tell_choice, tell_held, tell_named, begun, halting, silent}
+use Rattle.bcs_explain_steps.specs.Leaf.{flag_node, needing}
 
 pub held_found : (registry : Entries) (name : List ℕ) (o : Option (Bor declared.Container)) (c : Bor declared.Container)
     → option_map (λ c. container_of c.now) o ≡ container_at name registry → o ≡ Some c → held_at name registry ≡ held (container_of c.now)
@@ -33,8 +35,8 @@ pub held_missing : (registry : Entries) (name : List ℕ) (o : Option (Bor decla
     → option_map (λ c. container_of c.now) o ≡ container_at name registry → o ≡ None → held_at name registry ≡ nothing
 held_missing registry name o found none = rw (← found, none) refl
 
-pub held_nothing : (registry : Entries) (d : ℕ) (h : Held) (way : Way) (p m : ℕ) (b : List ℕ) → h ≡ nothing → [] ≡ tell_held registry d (tell_named registry d) h way p m b
-unfolding tell_held silent
+pub held_nothing : (registry : Entries) (d : ℕ) (h : Held) (way : Way) (p m : ℕ) (b : List ℕ) → h ≡ nothing → halt way wanted.nothing ∷ [] ≡ tell_held registry d (tell_named registry d) h way p m b
+unfolding tell_held halting
 held_nothing registry d h way p m b is = rw is refl
 
 pub named_next : (fs : List (Named format.Format)) (i : ℕ) (f : Named format.Format) → i < length fs → f ≡ get_or fs i f → map field_of (drop i fs) ≡ field_of f ∷ map field_of (drop (i + 1) fs)
@@ -57,29 +59,34 @@ module _ (n : ℕ) (es : List (ℕ × Named VariantFormat)) (o : Option (Bor (Na
 
 module _ (registry : Entries) (d : ℕ) (cs : List Choice) (way : Way) (n p : ℕ) (b : List ℕ) (q l : ℕ) (c : List ℕ) where
   pub chosen_told : (y : Payload) (name : List ℕ) → choice_numbered n cs ≡ Some (name, y)
-      → piece_at way p (take (q - p) b) (pieces.chosen n name) ++ tell_carried registry d (tell_named registry d) (carried y) (onto way (variant n name)) q l c
+      → as_told (piece_at way p (take (q - p) b) (pieces.chosen n name)) ++ tell_carried registry d (tell_named registry d) (carried y) (onto way (variant n name)) q l c
       ≡ tell_choice registry d (tell_named registry d) (choice_numbered n cs) way n p b q l c
   unfolding tell_choice
   chosen_told y name is = rw is refl
 
-  pub chosen_none : choice_numbered n cs ≡ None → [] ≡ tell_choice registry d (tell_named registry d) (choice_numbered n cs) way n p b q l c
+  pub chosen_none : choice_numbered n cs ≡ None → halt way wanted.number ∷ [] ≡ tell_choice registry d (tell_named registry d) (choice_numbered n cs) way n p b q l c
   unfolding tell_choice
   chosen_none is = rw is refl
 
 -- ---- what is held
 
+unit_begun : (way : Way) (p m : ℕ) (b : List ℕ) → needing way wanted.node node_here p m b ≡ begun way wanted.node silent p m b
+unfolding needing begun silent node give
+unit_begun way p zero b = refl
+unit_begun way p (suc m) b = refl
+
 module _ (registry : Entries) (d : ℕ) (h : Held) (way : Way) (p m : ℕ) (b : List ℕ) where
-  pub held_unit : h ≡ of shape.unit → [] ≡ tell_held registry d (tell_named registry d) h way p m b
-  unfolding tell_held tell_shape silent
-  held_unit is = rw is refl
+  pub held_unit : h ≡ of shape.unit → needing way wanted.node node_here p m b ≡ tell_held registry d (tell_named registry d) h way p m b
+  unfolding tell_held tell_shape
+  held_unit is = rw is (unit_begun way p m b)
 
   pub held_of : (s : Shape) → h ≡ of s → tell registry d s way p m b ≡ tell_held registry d (tell_named registry d) h way p m b
   unfolding tell_held tell
   held_of s is = rw is refl
 
-  pub carried_unit : h ≡ of shape.unit → [] ≡ tell_carried registry d (tell_named registry d) h way p m b
-  unfolding tell_carried tell_shape silent
-  carried_unit is = rw is refl
+  pub carried_unit : h ≡ of shape.unit → needing way wanted.node node_here p m b ≡ tell_carried registry d (tell_named registry d) h way p m b
+  unfolding tell_carried tell_shape
+  carried_unit is = rw is (unit_begun way p m b)
 
   pub carried_of : (s : Shape) → h ≡ of s → tell registry d s way p m b ≡ tell_carried registry d (tell_named registry d) h way p m b
   unfolding tell_carried tell

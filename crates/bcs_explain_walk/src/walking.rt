@@ -1,5 +1,5 @@
 //! Going past values of a format, front to back, and telling of each piece.
-ghost use Rattle.std.specs.Prelude.{◌≡◌, ℕ, ◌+◌, ◌<◌, ◌≤◌, ◌^◌, List, None, length, map};
+ghost use Rattle.std.specs.Prelude.{◌-◌, ◌≡◌, ℕ, ◌+◌, ◌<◌, ◌≤◌, ◌^◌, List, None, length, map};
 ghost use Rattle.bcs_registry_formats.specs.Container as spec;
 ghost use Rattle.bcs_registry_formats.specs.Container.{content_at, field_shapes, payload_shape};
 ghost use Rattle.bcs_registry_formats.specs.Shape.{name as name_shape, tuple as tuple_shape};
@@ -14,13 +14,15 @@ ghost use Rattle.bcs_explain_steps.specs.Trail.{way_of};
 ghost use Rattle.bcs_explain_steps.specs.Hearing.{Hears};
 ghost use Rattle.bcs_explain_spec.specs.Telling.{tell as told, tell_carried, tell_items, tell_row, tell_pairs, tell_held, tell_named};
 
-use bcs_decode_slice_steps::cursor::{Cursor, node};
-use bcs_decode_slice_steps::shallow::{enter, follows, variant_number};
+use bcs_decode_slice_steps::cursor::Cursor;
 use bcs_decode_spec::{Reason, Stop};
 use bcs_explain_steps::empty_row::empty_row;
 use bcs_explain_steps::leaf::{is_octet, tell_leaf};
 use bcs_explain_steps::leaves::{tell, tell_count, tell_flag, tell_octets};
 use bcs_explain_steps::listener::{Counted, Listener, Meaning};
+use bcs_explain_steps::opening::{
+    enter, follows, node, unknown_name, unknown_variant, variant_number,
+};
 use bcs_explain_steps::trail::{Step, Trail, below};
 use bcs_registry::{Container, Format, Named, Registry, VariantFormat};
 
@@ -28,6 +30,14 @@ use bcs_registry::{Container, Format, Named, Registry, VariantFormat};
 #[derive(Clone, Copy)]
 struct Row<'r> {
     element: &'r Format,
+    count: u64,
+}
+
+/// Values of one format, so many in all, from the one of number `first` on.
+#[derive(Clone, Copy)]
+struct Tail<'r> {
+    element: &'r Format,
+    first: u64,
     count: u64,
 }
 
@@ -108,7 +118,7 @@ pub fn value<'r, 'a, T: Listener>(
         }
         Format::Tuple(formats) => tuple(registry, formats, depth, cursor, trail, out),
         Format::TupleArray(element, size) => {
-            node(cursor)?;
+            node(cursor, trail, out)?;
             let row = Row {
                 element,
                 count: *size,
@@ -139,32 +149,33 @@ fn items<'r, 'a, T: Listener>(
         tell_octets(cursor, row.count, trail, out)
     } else {
         let gone = empty_row(registry, row.element, row.count, depth, cursor);
-        let left = Row {
+        let left = Tail {
             element: row.element,
-            count: row.count - gone,
+            first: gone,
+            count: row.count,
         };
         elements(registry, left, depth, cursor, trail, out)
     }
 }
 
-/// So many values of one format.
+/// Values of one format, from one of them on.
 #[inline(never)]
 #[cycle(walking)]
 fn elements<'r, 'a, T: Listener>(
     registry: &'r Registry,
-    row: Row<'r>,
+    row: Tail<'r>,
     depth: u32,
     cursor: &mut Cursor<'a>,
     trail: &Trail<'_, 'r, 'a>,
     out: &mut T,
 ) -> Result<(), Stop>
     requires room { cursor.old.place + length cursor.old.rest.now < 2 ^ 64 }
-    ensures passes { Passes (λ x. x) result (items_here skipping (skip registry.now depth (shape_of row.entry.element.now)) row.entry.count) cursor.old cursor.new }
+    ensures passes { Passes (λ x. x) result (items_here skipping (skip registry.now depth (shape_of row.entry.element.now)) (row.entry.count - row.entry.first)) cursor.old cursor.new }
     ensures onward { Onward cursor.old cursor.new }
     ensures hears { Hears T.heard T.has_lost out.old out.new
-        (tell_items (skip registry.now depth (shape_of row.entry.element.now)) (λ w. told registry.now depth (shape_of row.entry.element.now) w) (way_of trail.now) 0 row.entry.count cursor.old.place cursor.old.nodes cursor.old.rest.now) }
+        (tell_items (skip registry.now depth (shape_of row.entry.element.now)) (λ w. told registry.now depth (shape_of row.entry.element.now) w) (way_of trail.now) row.entry.first (row.entry.count - row.entry.first) cursor.old.place cursor.old.nodes cursor.old.rest.now) }
 {
-    for i in 0..row.count {
+    for i in row.first..row.count {
         value(
             registry,
             row.element,
@@ -201,7 +212,7 @@ fn entries<'r, 'a, T: Listener>(
         let mut at = below(&*trail, Step::Key(i));
         value(registry, row.key, depth, cursor, &at, out)?;
         let (found, _) = from.split_at((cursor.place - start) as usize);
-        follows(last, found, start)?;
+        follows(last, found, start, &at, out)?;
         at = below(&*trail, Step::Value(found));
         value(registry, row.content, depth, cursor, &at, out)?;
         last = Some(found);
@@ -226,7 +237,7 @@ fn tuple<'r, 'a, T: Listener>(
     ensures hears { Hears T.heard T.has_lost out.old out.new
         (told registry.now depth (tuple_shape (formats_shapes formats.now)) (way_of trail.now) cursor.old.place cursor.old.nodes cursor.old.rest.now) }
 {
-    node(cursor)?;
+    node(cursor, trail, out)?;
     for (i, format) in formats.iter().enumerate() {
         value(
             registry,
@@ -257,7 +268,7 @@ fn structure<'r, 'a, T: Listener>(
     ensures hears { Hears T.heard T.has_lost out.old out.new
         (tell_held registry.now depth (tell_named registry.now depth) (pieces.fields (map field_of fields.now)) (way_of trail.now) cursor.old.place cursor.old.nodes cursor.old.rest.now) }
 {
-    node(cursor)?;
+    node(cursor, trail, out)?;
     for (i, field) in fields.iter().enumerate() {
         let at = below(&*trail, Step::Field(i as u64, field.name.as_str()));
         value(registry, &field.value, depth, cursor, &at, out)?;
@@ -282,21 +293,12 @@ fn named<'r, 'a, T: Listener>(
     ensures hears { Hears T.heard T.has_lost out.old out.new
         (told registry.now depth (name_shape name.now) (way_of trail.now) cursor.old.place cursor.old.nodes cursor.old.rest.now) }
 {
-    enter(cursor, depth)?;
+    enter(cursor, depth, name, trail, out)?;
+    let at = below(&*trail, Step::Container(name));
     let Some(container) = registry.container(name) else {
-        return Err(Stop {
-            reason: Reason::Unsupported,
-            place: cursor.place,
-        });
+        return Err(unknown_name(cursor, &at, out));
     };
-    content(
-        registry,
-        container,
-        depth - 1,
-        cursor,
-        &below(&*trail, Step::Container(name)),
-        out,
-    )
+    content(registry, container, depth - 1, cursor, &at, out)
 }
 
 /// What stands in a container of the registry.
@@ -319,13 +321,13 @@ fn content<'r, 'a, T: Listener>(
         (tell_held registry.now depth (tell_named registry.now depth) (held (container_of container.now)) (way_of trail.now) cursor.old.place cursor.old.nodes cursor.old.rest.now) }
 {
     match container {
-        Container::UnitStruct => node(cursor),
+        Container::UnitStruct => node(cursor, trail, out),
         Container::NewTypeStruct(format) => value(registry, format, depth, cursor, trail, out),
         Container::TupleStruct(formats) => tuple(registry, formats, depth, cursor, trail, out),
         Container::Struct(fields) => structure(registry, fields, depth, cursor, trail, out),
         Container::Enum(variants) => {
             let (place, from) = (cursor.place, cursor.rest);
-            let (start, number) = variant_number(cursor)?;
+            let (start, number) = variant_number(cursor, trail, out)?;
             match variants.get(&number) {
                 Some(variant) => {
                     let name = variant.name.as_str();
@@ -346,10 +348,7 @@ fn content<'r, 'a, T: Listener>(
                         out,
                     )
                 }
-                None => Err(Stop {
-                    reason: Reason::UnknownVariant,
-                    place: start,
-                }),
+                None => Err(unknown_variant(start, trail, out)),
             }
         }
     }
@@ -373,7 +372,7 @@ fn payload<'r, 'a, T: Listener>(
         (tell_carried registry.now depth (tell_named registry.now depth) (carried (payload_of payload.now)) (way_of trail.now) cursor.old.place cursor.old.nodes cursor.old.rest.now) }
 {
     match payload {
-        VariantFormat::Unit => node(cursor),
+        VariantFormat::Unit => node(cursor, trail, out),
         VariantFormat::NewType(format) => value(registry, format, depth, cursor, trail, out),
         VariantFormat::Tuple(formats) => tuple(registry, formats, depth, cursor, trail, out),
         VariantFormat::Struct(fields) => structure(registry, fields, depth, cursor, trail, out),

@@ -1,16 +1,20 @@
-use Rattle.std.proofs.Common.{ap, sym, []}
+use Rattle.std.proofs.Common.{ap, sym, ◌∙◌}
 use Rattle.bcs_registry_formats.specs.Shape.{Shape}
 use Rattle.bcs_registry_formats.proofs.FormatViews as views
+use Rattle.bcs_explain_spec.specs.Told as wanted
+use Rattle.bcs_decode_slice_steps.specs.Passing.{node_here}
 use Rattle.bcs_explain_steps.specs.Trail.{way_of}
-use Rattle.bcs_explain_spec.specs.Telling.{silent}
+use Rattle.bcs_explain_spec.specs.Telling.{halting}
 use Rattle.bcs_explain_steps.specs.Leaf.{leaf_told}
 use Rattle.bcs_explain_steps.proofs.Bare.{float_told}
-use Rattle.bcs_explain_steps.proofs.Noted.{hears_nothing, hears_as}
+use Rattle.bcs_explain_steps.proofs.Noted.{needed, hears_as}
 use Rattle.bcs_explain_steps.proofs.leaf.tell_leaf.Goals as goal
 
 pub returns-in-Unit-clause-hears : goal.returns-in-Unit-clause-hears
-unfolding silent
-returns-in-Unit-clause-hears g c = hears_as g.T.Listener.heard g.T.Listener.has_lost c.args.out.now c.args.out.now [] _ (ap (λ (s : Shape). leaf_told s (way_of c.args.trail.now) c.args.cursor.now.place c.args.cursor.now.nodes c.args.cursor.now.rest.now) (sym (views.shape-Unit c.args.format.now c.in-Unit.is))) (hears_nothing g.T.Listener.heard g.T.Listener.has_lost c.args.out.now)
+returns-in-Unit-clause-hears g c =
+    hears_as g.T.Listener.heard g.T.Listener.has_lost c.args.out.now c.node.new.out _ _
+    (needed (way_of c.args.trail.now) wanted.node (λ x. x) c.node.result node_here c.args.cursor.now c.node.new.cursor c.node.ensures.passes ∙ ap (λ (s : Shape). leaf_told s (way_of c.args.trail.now) c.args.cursor.now.place c.args.cursor.now.nodes c.args.cursor.now.rest.now) (sym (views.shape-Unit c.args.format.now c.in-Unit.is)))
+    c.node.ensures.hears
 
 pub returns-in-Bool-clause-hears : goal.returns-in-Bool-clause-hears
 returns-in-Bool-clause-hears g c = hears_as g.T.Listener.heard g.T.Listener.has_lost c.args.out.now c.tell_truth.new.out _ _ (ap (λ (s : Shape). leaf_told s (way_of c.args.trail.now) c.args.cursor.now.place c.args.cursor.now.nodes c.args.cursor.now.rest.now) (sym (views.shape-Bool c.args.format.now c.in-Bool.is))) c.tell_truth.ensures.hears
@@ -52,34 +56,34 @@ pub returns-in-Bytes-clause-hears : goal.returns-in-Bytes-clause-hears
 returns-in-Bytes-clause-hears g c = hears_as g.T.Listener.heard g.T.Listener.has_lost c.args.out.now c.tell_byte_string.new.out _ _ (ap (λ (s : Shape). leaf_told s (way_of c.args.trail.now) c.args.cursor.now.place c.args.cursor.now.nodes c.args.cursor.now.rest.now) (sym (views.shape-Bytes c.args.format.now c.in-Bytes.is))) c.tell_byte_string.ensures.hears
 
 pub returns-in-F32-clause-hears : goal.returns-in-F32-clause-hears
-returns-in-F32-clause-hears g c = hears_as g.T.Listener.heard g.T.Listener.has_lost c.args.out.now c.args.out.now [] _ (float_told c.args.format.now (way_of c.args.trail.now) c.args.cursor.now.place c.args.cursor.now.nodes c.args.cursor.now.rest.now c.in-F32.is) (hears_nothing g.T.Listener.heard g.T.Listener.has_lost c.args.out.now)
+returns-in-F32-clause-hears g c = hears_as g.T.Listener.heard g.T.Listener.has_lost c.args.out.now c.unsupported-in-F32.new.out _ _ (float_told c.args.format.now (way_of c.args.trail.now) c.args.cursor.now.place c.args.cursor.now.nodes c.args.cursor.now.rest.now c.in-F32.is) c.unsupported-in-F32.ensures.hears
 
 pub returns-in-TypeName-clause-hears : goal.returns-in-TypeName-clause-hears
-unfolding silent
+unfolding halting
 returns-in-TypeName-clause-hears g c =
-    hears_as g.T.Listener.heard g.T.Listener.has_lost c.args.out.now c.args.out.now [] _ (ap (λ (s : Shape). leaf_told s (way_of c.args.trail.now) c.args.cursor.now.place c.args.cursor.now.nodes c.args.cursor.now.rest.now) (sym (views.shape-TypeName c.args.format.now _ c.in-TypeName.is))) (hears_nothing g.T.Listener.heard g.T.Listener.has_lost c.args.out.now)
+    hears_as g.T.Listener.heard g.T.Listener.has_lost c.args.out.now c.unsupported.new.out _ _ (ap (λ (s : Shape). leaf_told s (way_of c.args.trail.now) c.args.cursor.now.place c.args.cursor.now.nodes c.args.cursor.now.rest.now) (sym (views.shape-TypeName c.args.format.now _ c.in-TypeName.is))) c.unsupported.ensures.hears
 
 pub returns-in-Opt-clause-hears : goal.returns-in-Opt-clause-hears
-unfolding silent
+unfolding halting
 returns-in-Opt-clause-hears g c =
-    hears_as g.T.Listener.heard g.T.Listener.has_lost c.args.out.now c.args.out.now [] _ (ap (λ (s : Shape). leaf_told s (way_of c.args.trail.now) c.args.cursor.now.place c.args.cursor.now.nodes c.args.cursor.now.rest.now) (sym (views.shape-Opt c.args.format.now _ c.in-Opt.is))) (hears_nothing g.T.Listener.heard g.T.Listener.has_lost c.args.out.now)
+    hears_as g.T.Listener.heard g.T.Listener.has_lost c.args.out.now c.unsupported-in-Opt.new.out _ _ (ap (λ (s : Shape). leaf_told s (way_of c.args.trail.now) c.args.cursor.now.place c.args.cursor.now.nodes c.args.cursor.now.rest.now) (sym (views.shape-Opt c.args.format.now _ c.in-Opt.is))) c.unsupported-in-Opt.ensures.hears
 
 pub returns-in-Seq-clause-hears : goal.returns-in-Seq-clause-hears
-unfolding silent
+unfolding halting
 returns-in-Seq-clause-hears g c =
-    hears_as g.T.Listener.heard g.T.Listener.has_lost c.args.out.now c.args.out.now [] _ (ap (λ (s : Shape). leaf_told s (way_of c.args.trail.now) c.args.cursor.now.place c.args.cursor.now.nodes c.args.cursor.now.rest.now) (sym (views.shape-Seq c.args.format.now _ c.in-Seq.is))) (hears_nothing g.T.Listener.heard g.T.Listener.has_lost c.args.out.now)
+    hears_as g.T.Listener.heard g.T.Listener.has_lost c.args.out.now c.unsupported-in-Seq.new.out _ _ (ap (λ (s : Shape). leaf_told s (way_of c.args.trail.now) c.args.cursor.now.place c.args.cursor.now.nodes c.args.cursor.now.rest.now) (sym (views.shape-Seq c.args.format.now _ c.in-Seq.is))) c.unsupported-in-Seq.ensures.hears
 
 pub returns-in-Map-clause-hears : goal.returns-in-Map-clause-hears
-unfolding silent
+unfolding halting
 returns-in-Map-clause-hears g c =
-    hears_as g.T.Listener.heard g.T.Listener.has_lost c.args.out.now c.args.out.now [] _ (ap (λ (s : Shape). leaf_told s (way_of c.args.trail.now) c.args.cursor.now.place c.args.cursor.now.nodes c.args.cursor.now.rest.now) (sym (views.shape-Map c.args.format.now _ _ c.in-Map.is))) (hears_nothing g.T.Listener.heard g.T.Listener.has_lost c.args.out.now)
+    hears_as g.T.Listener.heard g.T.Listener.has_lost c.args.out.now c.unsupported-in-Map.new.out _ _ (ap (λ (s : Shape). leaf_told s (way_of c.args.trail.now) c.args.cursor.now.place c.args.cursor.now.nodes c.args.cursor.now.rest.now) (sym (views.shape-Map c.args.format.now _ _ c.in-Map.is))) c.unsupported-in-Map.ensures.hears
 
 pub returns-in-Tuple-clause-hears : goal.returns-in-Tuple-clause-hears
-unfolding silent
+unfolding halting
 returns-in-Tuple-clause-hears g c =
-    hears_as g.T.Listener.heard g.T.Listener.has_lost c.args.out.now c.args.out.now [] _ (ap (λ (s : Shape). leaf_told s (way_of c.args.trail.now) c.args.cursor.now.place c.args.cursor.now.nodes c.args.cursor.now.rest.now) (sym (views.shape-Tuple c.args.format.now _ c.in-Tuple.is))) (hears_nothing g.T.Listener.heard g.T.Listener.has_lost c.args.out.now)
+    hears_as g.T.Listener.heard g.T.Listener.has_lost c.args.out.now c.unsupported-in-Tuple.new.out _ _ (ap (λ (s : Shape). leaf_told s (way_of c.args.trail.now) c.args.cursor.now.place c.args.cursor.now.nodes c.args.cursor.now.rest.now) (sym (views.shape-Tuple c.args.format.now _ c.in-Tuple.is))) c.unsupported-in-Tuple.ensures.hears
 
 pub returns-in-TupleArray-clause-hears : goal.returns-in-TupleArray-clause-hears
-unfolding silent
+unfolding halting
 returns-in-TupleArray-clause-hears g c =
-    hears_as g.T.Listener.heard g.T.Listener.has_lost c.args.out.now c.args.out.now [] _ (ap (λ (s : Shape). leaf_told s (way_of c.args.trail.now) c.args.cursor.now.place c.args.cursor.now.nodes c.args.cursor.now.rest.now) (sym (views.shape-TupleArray c.args.format.now _ _ c.in-TupleArray.is))) (hears_nothing g.T.Listener.heard g.T.Listener.has_lost c.args.out.now)
+    hears_as g.T.Listener.heard g.T.Listener.has_lost c.args.out.now c.unsupported-in-TupleArray.new.out _ _ (ap (λ (s : Shape). leaf_told s (way_of c.args.trail.now) c.args.cursor.now.place c.args.cursor.now.nodes c.args.cursor.now.rest.now) (sym (views.shape-TupleArray c.args.format.now _ _ c.in-TupleArray.is))) c.unsupported-in-TupleArray.ensures.hears

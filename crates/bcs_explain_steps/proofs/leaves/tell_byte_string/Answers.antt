@@ -3,6 +3,7 @@ use Rattle.bcs_decode_spec.specs.Reading.{chain, give, bytes_here}
 use Rattle.bcs_decode_slice_steps.specs.Passing.{counted_here, bytes_past}
 use Rattle.bcs_decode_slice_steps.proofs.Passings.{passes_from}
 use Rattle.bcs_explain_spec.specs.Piece as pieces
+use Rattle.bcs_explain_spec.specs.Told as wanted
 use Rattle.bcs_explain_steps.specs.Trail.{way_of}
 use Rattle.bcs_explain_spec.specs.Telling.{noting}
 use Rattle.bcs_explain_steps.specs.Leaf.{gone}
@@ -25,11 +26,11 @@ returns-clause-passes g c =
 pub returns-in_err-count-clause-hears : goal.returns-in_err-count-clause-hears
 returns-in_err-count-clause-hears g c =
     hears_as g.T.Listener.heard g.T.Listener.has_lost c.args.out.now c.tell_count.new.out _ _
-    (then_err (way_of c.args.trail.now) (pieces.counted pieces.raw_bytes) counted_here (λ n. noting (way_of c.args.trail.now) pieces.bytes (bytes_here n)) _ _ _ _ c.in_err-count.ensures.passes)
+    (then_err (way_of c.args.trail.now) (pieces.counted pieces.raw_bytes) (wanted.count pieces.raw_bytes) counted_here (λ n. noting (way_of c.args.trail.now) pieces.bytes (wanted.bytes n) (bytes_here n)) _ _ _ _ c.in_err-count.ensures.passes)
     c.in_err-count.ensures.hears
 
 pub returns-clause-hears : goal.returns-clause-hears
 returns-clause-hears g c =
     hears_as g.T.Listener.heard g.T.Listener.has_lost c.args.out.now c.tell_bytes.new.out _ _
-    (then_ok (way_of c.args.trail.now) (pieces.counted pieces.raw_bytes) counted_here (λ n. noting (way_of c.args.trail.now) pieces.bytes (bytes_here n)) _ _ _ _ _ _ _ c.in_ok-count.ensures.passes)
+    (then_ok (way_of c.args.trail.now) (pieces.counted pieces.raw_bytes) (wanted.count pieces.raw_bytes) counted_here (λ n. noting (way_of c.args.trail.now) pieces.bytes (wanted.bytes n) (bytes_here n)) _ _ _ _ _ _ _ c.in_ok-count.ensures.passes)
     (hears_then g.T.Listener.heard g.T.Listener.has_lost c.args.out.now c.tell_count.new.out c.tell_bytes.new.out _ _ c.in_ok-count.ensures.hears c.tell_bytes.ensures.hears)

@@ -2,7 +2,7 @@ use Rattle.std.proofs.Common.{arith, inl, inr, refl}
 use Rattle.std.proofs.lemmas.Result.{IfOk-weaker}
 use Rattle.bcs_registry_formats.specs.View.{shape_of}
 use Rattle.bcs_decode_spec.specs.declared.reason.Reason.TheVariants.{TrailingBytes}
-use Rattle.bcs_explain_table.proofs.Explained.{counted_within, damage_explains, heard, whole_explains}
+use Rattle.bcs_explain_table.proofs.Explained.{counted_within, damage_explains, heard, heard_halt, whole_explains}
 use Rattle.bcs_explain_table.proofs.explanation.explain_text.Goals as goal
 
 pub damaged-requires : goal.damaged-requires
@@ -22,7 +22,7 @@ damaged-requires-in-Err c =
     record {
       within = λ kept.
           counted_within c.args.registry.now c.args.limits.now (shape_of c.args.format.now) c.args.bytes.now stop.reason stop.place (inl h) c.explain.new.out
-          (heard c.new-table.result c.new-table.ensures.text c.new-table.ensures.told c.explain.new.out _ (c.in-Err.ensures.told_before stop.reason stop.place h) kept) (omega arith);
+          (heard_halt c.new-table.result c.new-table.ensures.text c.new-table.ensures.told c.explain.new.out _ (c.in-Err.ensures.told_before stop.reason stop.place h) kept) (omega arith);
     }
 
 pub returns-in-Ok : goal.returns-in-Ok
@@ -51,6 +51,6 @@ returns-in-Err c =
     let h = c.in-Err.ensures.stops in
     IfOk-weaker c.damaged-in-Err.result _ _ (λ x is.
     damage_explains c.args.registry.now c.args.limits.now (shape_of c.args.format.now) c.args.bytes.now stop.reason stop.place (inl h) c.explain.new.out
-    (heard c.new-table.result c.new-table.ensures.text c.new-table.ensures.told c.explain.new.out _ (c.in-Err.ensures.told_before stop.reason stop.place h) is.0) (omega arith)
+    (heard_halt c.new-table.result c.new-table.ensures.text c.new-table.ensures.told c.explain.new.out _ (c.in-Err.ensures.told_before stop.reason stop.place h) is.0) (omega arith)
     x.text.items x.stop is.1 is.2)
     c.damaged-in-Err.ensures

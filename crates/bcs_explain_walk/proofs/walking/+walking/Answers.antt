@@ -1,4 +1,4 @@
-use Rattle.std.proofs.Common.{◌≡◌, ℕ, List, ◌∙◌, string_bytes, take, ◌+◌, ◌-◌, ◌++◌, ◌≤◌, suc, [], None, drop, map, ap, sym, refl, arith, rules}
+use Rattle.std.proofs.Common.{◌≡◌, ℕ, List, ◌∙◌, string_bytes, take, ◌+◌, ◌-◌, ◌++◌, ◌≤◌, suc, [], ◌∷◌, Err, None, drop, map, ap, ap₂, sym, refl, arith, rules}
 use Rattle.std.proofs.lemmas.List.{drop_all}
 use Rattle.std.proofs.lemmas.Result.{err_from_is_err_and}
 use Rattle.bcs_registry_formats.specs.Shape.{Shape, tuple as tuple_shape}
@@ -19,15 +19,18 @@ use Rattle.bcs_registry_formats.proofs.Admitted.{content_at-inside, choice_at-in
 use Rattle.bcs_explain_spec.specs.Way as ways
 use Rattle.bcs_explain_spec.specs.Way.{Way, onto, opening}
 use Rattle.bcs_explain_spec.specs.Piece as pieces
+use Rattle.bcs_explain_spec.specs.Told as wanted
+use Rattle.bcs_explain_spec.specs.Told.{halt, as_told}
+use Rattle.bcs_decode_spec.specs.declared.reason.Reason.{Reason}
 use Rattle.bcs_explain_spec.specs.Piece.{piece_at}
 use Rattle.bcs_explain_spec.specs.Held as hold
 use Rattle.bcs_explain_spec.specs.Held.{Held, held, held_at, carried, nothing}
 use Rattle.bcs_explain_spec.specs.Pieces.{is_octet}
-use Rattle.bcs_explain_spec.specs.Telling.{tell as told, tell_carried, tell_items, tell_row, tell_pairs, tell_held, tell_named, noting}
+use Rattle.bcs_explain_spec.specs.Telling.{tell as told, tell_carried, tell_row, tell_pairs, tell_held, tell_named, noting}
 use Rattle.bcs_explain_steps.specs.Trail.{way_of}
 use Rattle.bcs_explain_steps.specs.Leaf.{flag_node, leaf_past}
-use Rattle.bcs_explain_steps.proofs.Noted.{hears_nothing, hears_as, hears_then}
-use Rattle.bcs_explain_walk.proofs.Told.{told_pairs_end, told_pairs_stop_key, told_pairs_stop_value, told_pairs_on, told_octets, told_elements, told_items_end, told_items_stop, told_items_on, told_option_stop, told_option_yes, told_option_no, told_map_stop, told_map_on, told_variant_stop, told_variant_on, told_seq_stop, told_seq_on, told_array_stop, told_array_on, told_tuple_stop, told_tuple_on, told_each_end, told_each_stop, told_each_on, told_fields_none, told_fields_begin, told_fields_end, told_fields_stop, told_fields_on, told_named_stop, told_named_on}
+use Rattle.bcs_explain_steps.proofs.Noted.{hears_nothing, hears_as, hears_then, needed}
+use Rattle.bcs_explain_walk.proofs.Told.{told_pairs_end, told_pairs_stop_key, told_pairs_misplaced, told_pairs_stop_value, told_pairs_on, told_octets, told_elements, told_items_end, told_items_stop, told_items_on, told_option_stop, told_option_yes, told_option_no, told_map_stop, told_map_on, told_variant_stop, told_variant_on, told_seq_stop, told_seq_on, told_array_stop, told_array_on, told_tuple_stop, told_tuple_on, told_each_end, told_each_stop, told_each_on, told_fields_none, told_fields_begin, told_fields_end, told_fields_stop, told_fields_on, told_named_stop, told_named_on}
 use Rattle.bcs_explain_walk.proofs.Chosen.{key_err, key_wrong, key_right, held_unit, held_of, carried_unit, carried_of, carried_fields, chosen_told, chosen_none, numbered_found, numbered_missing, held_found, held_missing, held_nothing, named_next, option_flag}
 use Rattle.bcs_explain_steps.proofs.Bare.{leaf_past_is, leaf_told_is, octets_past}
 use Rattle.bcs_explain_walk.proofs.walking.+walking.Goals as goal
@@ -37,12 +40,11 @@ content_as registry d p m b k j is = ap (λ (x : Container). content_past regist
 
 pub elements-loop-i-init : goal.elements-loop-i-init
 elements-loop-i-init g t c =
-    let k : c.args.row.count - 0 ≡ c.args.row.count = omega arith in
     record {
       room = c.requires.room;
       onward = (refl, omega arith);
-      whole = rw k refl;
-      heard = λ new h. hears_as g.T.Listener.heard g.T.Listener.has_lost c.args.out.now new _ _ (ap (λ (n : ℕ). tell_items (skip c.args.registry.now c.args.depth (shape_of c.args.row.element.now)) (λ w. told c.args.registry.now c.args.depth (shape_of c.args.row.element.now) w) (way_of c.args.trail.now) 0 n c.args.cursor.now.place c.args.cursor.now.nodes c.args.cursor.now.rest.now) k) h;
+      whole = refl;
+      heard = λ new h. h;
     }
 
 pub elements-value-requires : goal.elements-value-requires
@@ -95,7 +97,7 @@ tuple-returns-in_err-node-clause-passes g t c =
 
 pub tuple-returns-in_err-node-clause-hears : goal.tuple-returns-in_err-node-clause-hears
 tuple-returns-in_err-node-clause-hears g t c =
-    hears_as g.T.Listener.heard g.T.Listener.has_lost c.args.out.now c.args.out.now [] _ (told_tuple_stop c.args.registry.now c.args.depth (way_of c.args.trail.now) c.args.cursor.now.place c.args.cursor.now.nodes c.args.cursor.now.rest.now (formats_shapes c.args.formats.now) _ c.in_err-node.ensures.passes) (hears_nothing g.T.Listener.heard g.T.Listener.has_lost c.args.out.now)
+    hears_as g.T.Listener.heard g.T.Listener.has_lost c.args.out.now c.node.new.out _ _ (told_tuple_stop c.args.registry.now c.args.depth (way_of c.args.trail.now) c.args.cursor.now.place c.args.cursor.now.nodes c.args.cursor.now.rest.now (formats_shapes c.args.formats.now) _ c.in_err-node.ensures.passes) c.in_err-node.ensures.hears
 
 pub tuple-loop-i-init : goal.tuple-loop-i-init
 tuple-loop-i-init g t c =
@@ -131,8 +133,9 @@ pub tuple-returns-in_err-value-clause-hears : goal.tuple-returns-in_err-value-cl
 tuple-returns-in_err-value-clause-hears g t c =
     let l = c.loop-i in
     let next = formats_next c.args.formats.now l.i c.index-formats-i.result (omega arith) c.index-formats-i.is in
-    hears_as g.T.Listener.heard g.T.Listener.has_lost c.args.out.now c.value.new.out _ _ (told_tuple_on c.args.registry.now c.args.depth (way_of c.args.trail.now) c.args.cursor.now.place c.args.cursor.now.nodes c.args.cursor.now.rest.now (formats_shapes c.args.formats.now) _ _ _ c.in_ok-node.ensures.passes)
-    (l.invariant.heard c.value.new.out (hears_as g.T.Listener.heard g.T.Listener.has_lost l.out c.value.new.out _ _ (told_each_stop c.args.registry.now c.args.depth (way_of c.args.trail.now) _ _ _ (formats_shapes (drop l.i c.args.formats.now)) (shape_of c.index-formats-i.result) (formats_shapes (drop (l.i + 1) c.args.formats.now)) l.i _ next c.in_err-value.ensures.passes) (hears_as g.T.Listener.heard g.T.Listener.has_lost c.loop-i.out c.value.new.out _ _ (ap (λ (w : Way). told c.args.registry.now c.args.depth (shape_of c.index-formats-i.result) w c.loop-i.cursor.place c.loop-i.cursor.nodes c.loop-i.cursor.rest.now) c.below.ensures) c.in_err-value.ensures.hears)))
+    hears_then g.T.Listener.heard g.T.Listener.has_lost c.args.out.now c.node.new.out c.value.new.out [] _ c.in_ok-node.ensures.hears
+    (hears_as g.T.Listener.heard g.T.Listener.has_lost c.node.new.out c.value.new.out _ _ (told_tuple_on c.args.registry.now c.args.depth (way_of c.args.trail.now) c.args.cursor.now.place c.args.cursor.now.nodes c.args.cursor.now.rest.now (formats_shapes c.args.formats.now) _ _ _ c.in_ok-node.ensures.passes)
+    (l.invariant.heard c.value.new.out (hears_as g.T.Listener.heard g.T.Listener.has_lost l.out c.value.new.out _ _ (told_each_stop c.args.registry.now c.args.depth (way_of c.args.trail.now) _ _ _ (formats_shapes (drop l.i c.args.formats.now)) (shape_of c.index-formats-i.result) (formats_shapes (drop (l.i + 1) c.args.formats.now)) l.i _ next c.in_err-value.ensures.passes) (hears_as g.T.Listener.heard g.T.Listener.has_lost c.loop-i.out c.value.new.out _ _ (ap (λ (w : Way). told c.args.registry.now c.args.depth (shape_of c.index-formats-i.result) w c.loop-i.cursor.place c.loop-i.cursor.nodes c.loop-i.cursor.rest.now) c.below.ensures) c.in_err-value.ensures.hears))))
 
 pub tuple-loop-i-preserved : goal.tuple-loop-i-preserved
 tuple-loop-i-preserved g t c =
@@ -165,8 +168,9 @@ pub tuple-returns-clause-hears : goal.tuple-returns-clause-hears
 tuple-returns-clause-hears g t c =
     let l = c.loop-i in
     let none : drop l.i c.args.formats.now ≡ [] = drop_all l.i c.args.formats.now (omega arith) in
-    hears_as g.T.Listener.heard g.T.Listener.has_lost c.args.out.now l.out _ _ (told_tuple_on c.args.registry.now c.args.depth (way_of c.args.trail.now) c.args.cursor.now.place c.args.cursor.now.nodes c.args.cursor.now.rest.now (formats_shapes c.args.formats.now) _ _ _ c.in_ok-node.ensures.passes)
-    (l.invariant.heard l.out (hears_as g.T.Listener.heard g.T.Listener.has_lost l.out l.out [] _ (told_each_end c.args.registry.now c.args.depth (way_of c.args.trail.now) _ _ _ (formats_shapes (drop l.i c.args.formats.now)) l.i (ap formats_shapes none)) (hears_nothing g.T.Listener.heard g.T.Listener.has_lost l.out)))
+    hears_then g.T.Listener.heard g.T.Listener.has_lost c.args.out.now c.node.new.out l.out [] _ c.in_ok-node.ensures.hears
+    (hears_as g.T.Listener.heard g.T.Listener.has_lost c.node.new.out l.out _ _ (told_tuple_on c.args.registry.now c.args.depth (way_of c.args.trail.now) c.args.cursor.now.place c.args.cursor.now.nodes c.args.cursor.now.rest.now (formats_shapes c.args.formats.now) _ _ _ c.in_ok-node.ensures.passes)
+    (l.invariant.heard l.out (hears_as g.T.Listener.heard g.T.Listener.has_lost l.out l.out [] _ (told_each_end c.args.registry.now c.args.depth (way_of c.args.trail.now) _ _ _ (formats_shapes (drop l.i c.args.formats.now)) l.i (ap formats_shapes none)) (hears_nothing g.T.Listener.heard g.T.Listener.has_lost l.out))))
 
 pub structure-returns-in_err-node-clause-passes : goal.structure-returns-in_err-node-clause-passes
 structure-returns-in_err-node-clause-passes g t c =
@@ -175,7 +179,7 @@ structure-returns-in_err-node-clause-passes g t c =
 
 pub structure-returns-in_err-node-clause-hears : goal.structure-returns-in_err-node-clause-hears
 structure-returns-in_err-node-clause-hears g t c =
-    hears_as g.T.Listener.heard g.T.Listener.has_lost c.args.out.now c.args.out.now [] _ (told_fields_none c.args.registry.now c.args.depth (way_of c.args.trail.now) c.args.cursor.now.place c.args.cursor.now.nodes c.args.cursor.now.rest.now (map field_of c.args.fields.now) _ c.in_err-node.ensures.passes) (hears_nothing g.T.Listener.heard g.T.Listener.has_lost c.args.out.now)
+    hears_as g.T.Listener.heard g.T.Listener.has_lost c.args.out.now c.node.new.out _ _ (told_fields_none c.args.registry.now c.args.depth (way_of c.args.trail.now) c.args.cursor.now.place c.args.cursor.now.nodes c.args.cursor.now.rest.now (map field_of c.args.fields.now) _ c.in_err-node.ensures.passes) c.in_err-node.ensures.hears
 
 pub structure-loop-i-init : goal.structure-loop-i-init
 structure-loop-i-init g t c =
@@ -211,8 +215,9 @@ pub structure-returns-in_err-value-clause-hears : goal.structure-returns-in_err-
 structure-returns-in_err-value-clause-hears g t c =
     let l = c.loop-i in
     let next = named_next c.args.fields.now l.i c.index-fields-i.result (omega arith) c.index-fields-i.is in
-    hears_as g.T.Listener.heard g.T.Listener.has_lost c.args.out.now c.value.new.out _ _ (told_fields_begin c.args.registry.now c.args.depth (way_of c.args.trail.now) c.args.cursor.now.place c.args.cursor.now.nodes c.args.cursor.now.rest.now (map field_of c.args.fields.now) _ _ _ c.in_ok-node.ensures.passes)
-    (l.invariant.heard c.value.new.out (hears_as g.T.Listener.heard g.T.Listener.has_lost l.out c.value.new.out _ _ (told_fields_stop c.args.registry.now c.args.depth (way_of c.args.trail.now) _ _ _ (map field_of (drop l.i c.args.fields.now)) (field_of c.index-fields-i.result) (map field_of (drop (l.i + 1) c.args.fields.now)) l.i _ next c.in_err-value.ensures.passes) (hears_as g.T.Listener.heard g.T.Listener.has_lost c.loop-i.out c.value.new.out _ _ (ap (λ (w : Way). told c.args.registry.now c.args.depth (shape_of c.index-fields-i.result.value) w c.loop-i.cursor.place c.loop-i.cursor.nodes c.loop-i.cursor.rest.now) (c.below-at.ensures ∙ ap (λ (name : List ℕ). onto (way_of c.args.trail.now) (ways.field c.loop-i.i name)) c.as_str.ensures.value)) c.in_err-value.ensures.hears)))
+    hears_then g.T.Listener.heard g.T.Listener.has_lost c.args.out.now c.node.new.out c.value.new.out [] _ c.in_ok-node.ensures.hears
+    (hears_as g.T.Listener.heard g.T.Listener.has_lost c.node.new.out c.value.new.out _ _ (told_fields_begin c.args.registry.now c.args.depth (way_of c.args.trail.now) c.args.cursor.now.place c.args.cursor.now.nodes c.args.cursor.now.rest.now (map field_of c.args.fields.now) _ _ _ c.in_ok-node.ensures.passes)
+    (l.invariant.heard c.value.new.out (hears_as g.T.Listener.heard g.T.Listener.has_lost l.out c.value.new.out _ _ (told_fields_stop c.args.registry.now c.args.depth (way_of c.args.trail.now) _ _ _ (map field_of (drop l.i c.args.fields.now)) (field_of c.index-fields-i.result) (map field_of (drop (l.i + 1) c.args.fields.now)) l.i _ next c.in_err-value.ensures.passes) (hears_as g.T.Listener.heard g.T.Listener.has_lost c.loop-i.out c.value.new.out _ _ (ap (λ (w : Way). told c.args.registry.now c.args.depth (shape_of c.index-fields-i.result.value) w c.loop-i.cursor.place c.loop-i.cursor.nodes c.loop-i.cursor.rest.now) (c.below-at.ensures ∙ ap (λ (name : List ℕ). onto (way_of c.args.trail.now) (ways.field c.loop-i.i name)) c.as_str.ensures.value)) c.in_err-value.ensures.hears))))
 
 pub structure-loop-i-preserved : goal.structure-loop-i-preserved
 structure-loop-i-preserved g t c =
@@ -245,8 +250,9 @@ pub structure-returns-clause-hears : goal.structure-returns-clause-hears
 structure-returns-clause-hears g t c =
     let l = c.loop-i in
     let none : drop l.i c.args.fields.now ≡ [] = drop_all l.i c.args.fields.now (omega arith) in
-    hears_as g.T.Listener.heard g.T.Listener.has_lost c.args.out.now l.out _ _ (told_fields_begin c.args.registry.now c.args.depth (way_of c.args.trail.now) c.args.cursor.now.place c.args.cursor.now.nodes c.args.cursor.now.rest.now (map field_of c.args.fields.now) _ _ _ c.in_ok-node.ensures.passes)
-    (l.invariant.heard l.out (hears_as g.T.Listener.heard g.T.Listener.has_lost l.out l.out [] _ (told_fields_end c.args.registry.now c.args.depth (way_of c.args.trail.now) _ _ _ (map field_of (drop l.i c.args.fields.now)) l.i (ap (λ ys. map field_of ys) none)) (hears_nothing g.T.Listener.heard g.T.Listener.has_lost l.out)))
+    hears_then g.T.Listener.heard g.T.Listener.has_lost c.args.out.now c.node.new.out l.out [] _ c.in_ok-node.ensures.hears
+    (hears_as g.T.Listener.heard g.T.Listener.has_lost c.node.new.out l.out _ _ (told_fields_begin c.args.registry.now c.args.depth (way_of c.args.trail.now) c.args.cursor.now.place c.args.cursor.now.nodes c.args.cursor.now.rest.now (map field_of c.args.fields.now) _ _ _ c.in_ok-node.ensures.passes)
+    (l.invariant.heard l.out (hears_as g.T.Listener.heard g.T.Listener.has_lost l.out l.out [] _ (told_fields_end c.args.registry.now c.args.depth (way_of c.args.trail.now) _ _ _ (map field_of (drop l.i c.args.fields.now)) l.i (ap (λ ys. map field_of ys) none)) (hears_nothing g.T.Listener.heard g.T.Listener.has_lost l.out))))
 
 pub named-returns-in_err-enter-clause-passes : goal.named-returns-in_err-enter-clause-passes
 named-returns-in_err-enter-clause-passes g t c =
@@ -255,7 +261,7 @@ named-returns-in_err-enter-clause-passes g t c =
 
 pub named-returns-in_err-enter-clause-hears : goal.named-returns-in_err-enter-clause-hears
 named-returns-in_err-enter-clause-hears g t c =
-    hears_as g.T.Listener.heard g.T.Listener.has_lost c.args.out.now c.args.out.now [] _ (told_named_stop c.args.registry.now c.args.name.now (way_of c.args.trail.now) _ _ _ c.args.depth _ c.in_err-enter.ensures.passes) (hears_nothing g.T.Listener.heard g.T.Listener.has_lost c.args.out.now)
+    hears_as g.T.Listener.heard g.T.Listener.has_lost c.args.out.now c.enter.new.out _ _ (told_named_stop c.args.registry.now c.args.name.now (way_of c.args.trail.now) _ _ _ c.args.depth _ c.in_err-enter.ensures.passes) c.in_err-enter.ensures.hears
 
 pub named-returns-in_default-clause-passes : goal.named-returns-in_default-clause-passes
 named-returns-in_default-clause-passes g t c =
@@ -264,13 +270,15 @@ named-returns-in_default-clause-passes g t c =
     named_on r c.args.name.now _ _ _ c.args.depth _ _ _ c.in_ok-enter.ensures.positive c.in_ok-enter.ensures.passes
     ∙ ap (λ (k : Content). content_past r (c.args.depth - 1) k c.enter.new.cursor.place c.enter.new.cursor.nodes c.enter.new.cursor.rest.now) none
     ∙ content_nothing r (c.args.depth - 1) c.enter.new.cursor.place c.enter.new.cursor.nodes c.enter.new.cursor.rest.now
+    ∙ ap₂ (λ (x : Reason) (y : ℕ). Err (x, y)) (sym c.unknown_name.ensures.reason) (sym c.unknown_name.ensures.place)
 
 pub named-returns-in_default-clause-hears : goal.named-returns-in_default-clause-hears
 named-returns-in_default-clause-hears g t c =
     let none : held_at c.args.name.now c.args.registry.now ≡ nothing = held_missing c.args.registry.now c.args.name.now c.container.result c.container.ensures.found c.in_default.is in
-    hears_as g.T.Listener.heard g.T.Listener.has_lost c.args.out.now c.args.out.now [] _
-    (held_nothing c.args.registry.now (c.args.depth - 1) _ _ _ _ _ none ∙ told_named_on c.args.registry.now c.args.name.now (way_of c.args.trail.now) _ _ _ c.args.depth _ _ _ c.in_ok-enter.ensures.positive c.in_ok-enter.ensures.passes)
-    (hears_nothing g.T.Listener.heard g.T.Listener.has_lost c.args.out.now)
+    hears_then g.T.Listener.heard g.T.Listener.has_lost c.args.out.now c.enter.new.out c.unknown_name.new.out [] _ c.in_ok-enter.ensures.hears
+    (hears_as g.T.Listener.heard g.T.Listener.has_lost c.enter.new.out c.unknown_name.new.out _ _
+    (ap (λ (w : Way). halt w wanted.nothing ∷ []) c.below-at.ensures ∙ held_nothing c.args.registry.now (c.args.depth - 1) _ _ _ _ _ none ∙ told_named_on c.args.registry.now c.args.name.now (way_of c.args.trail.now) _ _ _ c.args.depth _ _ _ c.in_ok-enter.ensures.positive c.in_ok-enter.ensures.passes)
+    c.unknown_name.ensures.hears)
 
 pub named-content-requires : goal.named-content-requires
 named-content-requires g t c κs within = (
@@ -292,11 +300,12 @@ named-returns-clause-passes g t c =
 pub named-returns-clause-hears : goal.named-returns-clause-hears
 named-returns-clause-hears g t c =
     let found : held_at c.args.name.now c.args.registry.now ≡ held (container_of c.in-Some.container.now) = held_found c.args.registry.now c.args.name.now c.container.result c.in-Some.container c.container.ensures.found c.in-Some.is in
-    hears_as g.T.Listener.heard g.T.Listener.has_lost c.args.out.now c.content.new.out _ _
-    (ap (λ (w : Way). tell_held c.args.registry.now (c.args.depth - 1) (tell_named c.args.registry.now (c.args.depth - 1)) (held (container_of c.in-Some.container.now)) w c.enter.new.cursor.place c.enter.new.cursor.nodes c.enter.new.cursor.rest.now) c.below.ensures
+    hears_then g.T.Listener.heard g.T.Listener.has_lost c.args.out.now c.enter.new.out c.content.new.out [] _ c.in_ok-enter.ensures.hears
+    (hears_as g.T.Listener.heard g.T.Listener.has_lost c.enter.new.out c.content.new.out _ _
+    (ap (λ (w : Way). tell_held c.args.registry.now (c.args.depth - 1) (tell_named c.args.registry.now (c.args.depth - 1)) (held (container_of c.in-Some.container.now)) w c.enter.new.cursor.place c.enter.new.cursor.nodes c.enter.new.cursor.rest.now) c.below-at.ensures
     ∙ ap (λ (k : Held). tell_held c.args.registry.now (c.args.depth - 1) (tell_named c.args.registry.now (c.args.depth - 1)) k (onto (way_of c.args.trail.now) (opening c.args.name.now)) c.enter.new.cursor.place c.enter.new.cursor.nodes c.enter.new.cursor.rest.now) (sym found)
     ∙ told_named_on c.args.registry.now c.args.name.now (way_of c.args.trail.now) _ _ _ c.args.depth _ _ _ c.in_ok-enter.ensures.positive c.in_ok-enter.ensures.passes)
-    c.content.ensures.hears
+    c.content.ensures.hears)
 
 pub value-returns-in-Unit-clause-passes : goal.value-returns-in-Unit-clause-passes
 value-returns-in-Unit-clause-passes g t c =
@@ -329,8 +338,8 @@ value-returns-then-branch-clause-passes g t c =
 pub value-returns-then-branch-clause-hears : goal.value-returns-then-branch-clause-hears
 value-returns-then-branch-clause-hears g t c =
     hears_as g.T.Listener.heard g.T.Listener.has_lost c.args.out.now c.value.new.out _ _
-    (ap (λ (w : Way). noting (way_of c.args.trail.now) pieces.option (flag_node BadOption) c.args.cursor.now.place c.args.cursor.now.nodes c.args.cursor.now.rest.now ++ told c.args.registry.now c.args.depth (shape_of c.deref.result.now) w c.tell_flag.new.cursor.place c.tell_flag.new.cursor.nodes c.tell_flag.new.cursor.rest.now) c.below.ensures
-    ∙ ap (λ (f : Format). noting (way_of c.args.trail.now) pieces.option (flag_node BadOption) c.args.cursor.now.place c.args.cursor.now.nodes c.args.cursor.now.rest.now ++ told c.args.registry.now c.args.depth (shape_of f) (onto (way_of c.args.trail.now) ways.inner) c.tell_flag.new.cursor.place c.tell_flag.new.cursor.nodes c.tell_flag.new.cursor.rest.now) c.deref.ensures
+    (ap (λ (w : Way). noting (way_of c.args.trail.now) pieces.option wanted.option (flag_node BadOption) c.args.cursor.now.place c.args.cursor.now.nodes c.args.cursor.now.rest.now ++ told c.args.registry.now c.args.depth (shape_of c.deref.result.now) w c.tell_flag.new.cursor.place c.tell_flag.new.cursor.nodes c.tell_flag.new.cursor.rest.now) c.below.ensures
+    ∙ ap (λ (f : Format). noting (way_of c.args.trail.now) pieces.option wanted.option (flag_node BadOption) c.args.cursor.now.place c.args.cursor.now.nodes c.args.cursor.now.rest.now ++ told c.args.registry.now c.args.depth (shape_of f) (onto (way_of c.args.trail.now) ways.inner) c.tell_flag.new.cursor.place c.tell_flag.new.cursor.nodes c.tell_flag.new.cursor.rest.now) c.deref.ensures
     ∙ told_option_yes c.args.registry.now c.args.depth (way_of c.args.trail.now) c.args.cursor.now.place c.args.cursor.now.nodes c.args.cursor.now.rest.now c.args.format.now c.in-Opt.content _ _ _ _ c.in-Opt.is c.in_ok-tell_flag-in-Opt.ensures.passes c.if-branch.true)
     (hears_then g.T.Listener.heard g.T.Listener.has_lost c.args.out.now c.tell_flag.new.out c.value.new.out _ _ c.in_ok-tell_flag-in-Opt.ensures.hears c.value.ensures.hears)
 
@@ -368,7 +377,7 @@ pub value-returns-in_ok-count-in-Seq-clause-hears : goal.value-returns-in_ok-cou
 value-returns-in_ok-count-in-Seq-clause-hears g t c =
     let n = c.in_ok-count-in-Seq.count in
     hears_as g.T.Listener.heard g.T.Listener.has_lost c.args.out.now c.items.new.out _ _
-    (ap (λ (f : Format). noting (way_of c.args.trail.now) (pieces.counted pieces.elements) counted_here c.args.cursor.now.place c.args.cursor.now.nodes c.args.cursor.now.rest.now ++ tell_row (is_octet (shape_of f)) (skip c.args.registry.now c.args.depth (shape_of f)) (λ w. told c.args.registry.now c.args.depth (shape_of f) w) (way_of c.args.trail.now) n c.tell_count.new.cursor.place c.tell_count.new.cursor.nodes c.tell_count.new.cursor.rest.now) c.deref-in-Seq.ensures
+    (ap (λ (f : Format). noting (way_of c.args.trail.now) (pieces.counted pieces.elements) (wanted.count pieces.elements) counted_here c.args.cursor.now.place c.args.cursor.now.nodes c.args.cursor.now.rest.now ++ tell_row (is_octet (shape_of f)) (skip c.args.registry.now c.args.depth (shape_of f)) (λ w. told c.args.registry.now c.args.depth (shape_of f) w) (way_of c.args.trail.now) n c.tell_count.new.cursor.place c.tell_count.new.cursor.nodes c.tell_count.new.cursor.rest.now) c.deref-in-Seq.ensures
     ∙ told_seq_on c.args.registry.now c.args.depth (way_of c.args.trail.now) c.args.cursor.now.place c.args.cursor.now.nodes c.args.cursor.now.rest.now c.args.format.now c.in-Seq.element n _ _ _ c.in-Seq.is c.in_ok-count-in-Seq.ensures.passes)
     (hears_then g.T.Listener.heard g.T.Listener.has_lost c.args.out.now c.tell_count.new.out c.items.new.out _ _ c.in_ok-count-in-Seq.ensures.hears
     (hears_as g.T.Listener.heard g.T.Listener.has_lost c.tell_count.new.out c.items.new.out _ _ (ap (λ (k : ℕ). tell_row (is_octet (shape_of c.deref-in-Seq.result.now)) (skip c.args.registry.now c.args.depth (shape_of c.deref-in-Seq.result.now)) (λ w. told c.args.registry.now c.args.depth (shape_of c.deref-in-Seq.result.now) w) (way_of c.args.trail.now) k c.tell_count.new.cursor.place c.tell_count.new.cursor.nodes c.tell_count.new.cursor.rest.now) c.from.ensures) c.items.ensures.hears))
@@ -380,7 +389,7 @@ value-returns-in_err-node-in-TupleArray-clause-passes g t c =
 
 pub value-returns-in_err-node-in-TupleArray-clause-hears : goal.value-returns-in_err-node-in-TupleArray-clause-hears
 value-returns-in_err-node-in-TupleArray-clause-hears g t c =
-    hears_as g.T.Listener.heard g.T.Listener.has_lost c.args.out.now c.args.out.now [] _ (told_array_stop c.args.registry.now c.args.depth (way_of c.args.trail.now) c.args.cursor.now.place c.args.cursor.now.nodes c.args.cursor.now.rest.now c.args.format.now c.in-TupleArray.element c.in-TupleArray.size _ c.in-TupleArray.is c.in_err-node-in-TupleArray.ensures.passes) (hears_nothing g.T.Listener.heard g.T.Listener.has_lost c.args.out.now)
+    hears_as g.T.Listener.heard g.T.Listener.has_lost c.args.out.now c.node.new.out _ _ (told_array_stop c.args.registry.now c.args.depth (way_of c.args.trail.now) c.args.cursor.now.place c.args.cursor.now.nodes c.args.cursor.now.rest.now c.args.format.now c.in-TupleArray.element c.in-TupleArray.size _ c.in-TupleArray.is c.in_err-node-in-TupleArray.ensures.passes) c.in_err-node-in-TupleArray.ensures.hears
 
 pub value-returns-in_ok-node-in-TupleArray-clause-passes : goal.value-returns-in_ok-node-in-TupleArray-clause-passes
 value-returns-in_ok-node-in-TupleArray-clause-passes g t c =
@@ -397,10 +406,11 @@ value-returns-in_ok-node-in-TupleArray-clause-passes g t c =
 pub value-returns-in_ok-node-in-TupleArray-clause-hears : goal.value-returns-in_ok-node-in-TupleArray-clause-hears
 value-returns-in_ok-node-in-TupleArray-clause-hears g t c =
     let n = c.in-TupleArray.size in
-    hears_as g.T.Listener.heard g.T.Listener.has_lost c.args.out.now c.items-in-TupleArray.new.out _ _
+    hears_then g.T.Listener.heard g.T.Listener.has_lost c.args.out.now c.node.new.out c.items-in-TupleArray.new.out [] _ c.in_ok-node-in-TupleArray.ensures.hears
+    (hears_as g.T.Listener.heard g.T.Listener.has_lost c.node.new.out c.items-in-TupleArray.new.out _ _
     (ap (λ (f : Format). tell_row (is_octet (shape_of f)) (skip c.args.registry.now c.args.depth (shape_of f)) (λ w. told c.args.registry.now c.args.depth (shape_of f) w) (way_of c.args.trail.now) n c.node.new.cursor.place c.node.new.cursor.nodes c.node.new.cursor.rest.now) c.deref-in-TupleArray.ensures
     ∙ told_array_on c.args.registry.now c.args.depth (way_of c.args.trail.now) c.args.cursor.now.place c.args.cursor.now.nodes c.args.cursor.now.rest.now c.args.format.now c.in-TupleArray.element n _ _ _ c.in-TupleArray.is c.in_ok-node-in-TupleArray.ensures.passes)
-    c.items-in-TupleArray.ensures.hears
+    c.items-in-TupleArray.ensures.hears)
 
 pub content-value-requires : goal.content-value-requires
 content-value-requires g t c κs within =
@@ -431,7 +441,7 @@ content-returns-in_err-start-in-Enum-clause-passes g t c =
 
 pub content-returns-in_err-start-in-Enum-clause-hears : goal.content-returns-in_err-start-in-Enum-clause-hears
 content-returns-in_err-start-in-Enum-clause-hears g t c =
-    hears_as g.T.Listener.heard g.T.Listener.has_lost c.args.out.now c.args.out.now [] _ (told_variant_stop c.args.registry.now c.args.depth (way_of c.args.trail.now) c.args.cursor.now.place c.args.cursor.now.nodes c.args.cursor.now.rest.now (map choice_of c.in-Enum.variants.entries) _ c.in_err-start-in-Enum.ensures.passes ∙ (ap (λ (h : Held). tell_held c.args.registry.now c.args.depth (tell_named c.args.registry.now c.args.depth) h (way_of c.args.trail.now) c.args.cursor.now.place c.args.cursor.now.nodes c.args.cursor.now.rest.now) (sym (ap (λ (k : Container). held (container_of k)) c.in-Enum.is)))) (hears_nothing g.T.Listener.heard g.T.Listener.has_lost c.args.out.now)
+    hears_as g.T.Listener.heard g.T.Listener.has_lost c.args.out.now c.variant_number.new.out _ _ (told_variant_stop c.args.registry.now c.args.depth (way_of c.args.trail.now) c.args.cursor.now.place c.args.cursor.now.nodes c.args.cursor.now.rest.now (map choice_of c.in-Enum.variants.entries) _ c.in_err-start-in-Enum.ensures.passes ∙ (ap (λ (h : Held). tell_held c.args.registry.now c.args.depth (tell_named c.args.registry.now c.args.depth) h (way_of c.args.trail.now) c.args.cursor.now.place c.args.cursor.now.nodes c.args.cursor.now.rest.now) (sym (ap (λ (k : Container). held (container_of k)) c.in-Enum.is)))) c.in_err-start-in-Enum.ensures.hears
 
 pub content-payload-requires : goal.content-payload-requires
 content-payload-requires g t c κs within =
@@ -455,7 +465,7 @@ content-returns-in-UnitStruct-clause-passes g t c =
 
 pub content-returns-in-UnitStruct-clause-hears : goal.content-returns-in-UnitStruct-clause-hears
 content-returns-in-UnitStruct-clause-hears g t c =
-    hears_as g.T.Listener.heard g.T.Listener.has_lost c.args.out.now c.args.out.now [] _ (held_unit c.args.registry.now c.args.depth (held (container_of c.args.container.now)) (way_of c.args.trail.now) c.args.cursor.now.place c.args.cursor.now.nodes c.args.cursor.now.rest.now (ap (λ (k : Container). held (container_of k)) c.in-UnitStruct.is)) (hears_nothing g.T.Listener.heard g.T.Listener.has_lost c.args.out.now)
+    hears_as g.T.Listener.heard g.T.Listener.has_lost c.args.out.now c.node.new.out _ _ (needed (way_of c.args.trail.now) wanted.node (λ x. x) c.node.result node_here c.args.cursor.now c.node.new.cursor c.node.ensures.passes ∙ held_unit c.args.registry.now c.args.depth (held (container_of c.args.container.now)) (way_of c.args.trail.now) c.args.cursor.now.place c.args.cursor.now.nodes c.args.cursor.now.rest.now (ap (λ (k : Container). held (container_of k)) c.in-UnitStruct.is)) c.node.ensures.hears
 
 pub content-returns-in-NewTypeStruct-clause-passes : goal.content-returns-in-NewTypeStruct-clause-passes
 content-returns-in-NewTypeStruct-clause-passes g t c =
@@ -518,15 +528,16 @@ pub content-returns-in-Some-clause-hears : goal.content-returns-in-Some-clause-h
 content-returns-in-Some-clause-hears g t c =
     let cs = map choice_of c.in-Enum.variants.entries in
     let x = c.in-Some.variant in
-    hears_as g.T.Listener.heard g.T.Listener.has_lost c.args.out.now c.payload.new.out _ _
+    hears_then g.T.Listener.heard g.T.Listener.has_lost c.args.out.now c.variant_number.new.out c.payload.new.out [] _ c.in_ok-start-in-Enum.ensures.hears
+    (hears_as g.T.Listener.heard g.T.Listener.has_lost c.variant_number.new.out c.payload.new.out _ _
     (chosen_told c.args.registry.now c.args.depth cs (way_of c.args.trail.now) c.in_ok-start-in-Enum.number c.args.cursor.now.place c.args.cursor.now.rest.now _ _ _ (payload_of x.now.value) (string_bytes x.now.name)
     (numbered_found c.in_ok-start-in-Enum.number c.in-Enum.variants.entries c.get.result c.get.ensures.value x c.in-Some.is)
     ∙ told_variant_on c.args.registry.now c.args.depth (way_of c.args.trail.now) c.args.cursor.now.place c.args.cursor.now.nodes c.args.cursor.now.rest.now cs _ c.in_ok-start-in-Enum.number _ _ _ c.in_ok-start-in-Enum.ensures.passes ∙ (ap (λ (h : Held). tell_held c.args.registry.now c.args.depth (tell_named c.args.registry.now c.args.depth) h (way_of c.args.trail.now) c.args.cursor.now.place c.args.cursor.now.nodes c.args.cursor.now.rest.now) (sym (ap (λ (k : Container). held (container_of k)) c.in-Enum.is))))
-    (hears_then g.T.Listener.heard g.T.Listener.has_lost c.args.out.now c.tell.new.out c.payload.new.out _ _
-    (hears_as g.T.Listener.heard g.T.Listener.has_lost c.args.out.now c.tell.new.out _ _ (ap (λ (name : List ℕ). piece_at (way_of c.args.trail.now) c.args.cursor.now.place (take (c.variant_number.new.cursor.place - c.args.cursor.now.place) c.args.cursor.now.rest.now) (pieces.chosen c.in_ok-start-in-Enum.number name)) c.as_str-name.ensures.value) c.tell.ensures)
+    (hears_then g.T.Listener.heard g.T.Listener.has_lost c.variant_number.new.out c.tell.new.out c.payload.new.out _ _
+    (hears_as g.T.Listener.heard g.T.Listener.has_lost c.variant_number.new.out c.tell.new.out _ _ (ap (λ (name : List ℕ). as_told (piece_at (way_of c.args.trail.now) c.args.cursor.now.place (take (c.variant_number.new.cursor.place - c.args.cursor.now.place) c.args.cursor.now.rest.now) (pieces.chosen c.in_ok-start-in-Enum.number name))) c.as_str-name.ensures.value) c.tell.ensures)
     (hears_as g.T.Listener.heard g.T.Listener.has_lost c.tell.new.out c.payload.new.out _ _
     (ap (λ (w : Way). tell_carried c.args.registry.now c.args.depth (tell_named c.args.registry.now c.args.depth) (carried (payload_of x.now.value)) w c.variant_number.new.cursor.place c.variant_number.new.cursor.nodes c.variant_number.new.cursor.rest.now) c.below.ensures ∙ ap (λ (name : List ℕ). tell_carried c.args.registry.now c.args.depth (tell_named c.args.registry.now c.args.depth) (carried (payload_of x.now.value)) (onto (way_of c.args.trail.now) (ways.variant c.in_ok-start-in-Enum.number name)) c.variant_number.new.cursor.place c.variant_number.new.cursor.nodes c.variant_number.new.cursor.rest.now) c.as_str-name.ensures.value)
-    c.payload.ensures.hears))
+    c.payload.ensures.hears)))
 
 pub content-returns-in-None-clause-passes : goal.content-returns-in-None-clause-passes
 content-returns-in-None-clause-passes g t c =
@@ -537,14 +548,16 @@ content-returns-in-None-clause-passes g t c =
     let none : choice_at c.in_ok-start-in-Enum.number cs ≡ no_content = choice_missing c.in_ok-start-in-Enum.number c.in-Enum.variants.entries c.get.result c.get.ensures.value c.in-None.is in
     content_as r d at.place at.nodes at.rest.now c.args.container.now _ c.in-Enum.is
     ∙ variant_unknown r d at.place at.nodes at.rest.now cs c.in_ok-start-in-Enum.start c.in_ok-start-in-Enum.number _ _ _ c.in_ok-start-in-Enum.ensures.passes none
+    ∙ ap₂ (λ (x : Reason) (y : ℕ). Err (x, y)) (sym c.unknown_variant.ensures.reason) (sym c.unknown_variant.ensures.place)
 
 pub content-returns-in-None-clause-hears : goal.content-returns-in-None-clause-hears
 content-returns-in-None-clause-hears g t c =
     let cs = map choice_of c.in-Enum.variants.entries in
-    hears_as g.T.Listener.heard g.T.Listener.has_lost c.args.out.now c.args.out.now [] _
+    hears_then g.T.Listener.heard g.T.Listener.has_lost c.args.out.now c.variant_number.new.out c.unknown_variant.new.out [] _ c.in_ok-start-in-Enum.ensures.hears
+    (hears_as g.T.Listener.heard g.T.Listener.has_lost c.variant_number.new.out c.unknown_variant.new.out _ _
     (chosen_none c.args.registry.now c.args.depth cs (way_of c.args.trail.now) c.in_ok-start-in-Enum.number c.args.cursor.now.place c.args.cursor.now.rest.now _ _ _ (numbered_missing c.in_ok-start-in-Enum.number c.in-Enum.variants.entries c.get.result c.get.ensures.value c.in-None.is)
     ∙ told_variant_on c.args.registry.now c.args.depth (way_of c.args.trail.now) c.args.cursor.now.place c.args.cursor.now.nodes c.args.cursor.now.rest.now cs _ c.in_ok-start-in-Enum.number _ _ _ c.in_ok-start-in-Enum.ensures.passes ∙ (ap (λ (h : Held). tell_held c.args.registry.now c.args.depth (tell_named c.args.registry.now c.args.depth) h (way_of c.args.trail.now) c.args.cursor.now.place c.args.cursor.now.nodes c.args.cursor.now.rest.now) (sym (ap (λ (k : Container). held (container_of k)) c.in-Enum.is))))
-    (hears_nothing g.T.Listener.heard g.T.Listener.has_lost c.args.out.now)
+    c.unknown_variant.ensures.hears)
 
 pub entries-loop-i-init : goal.entries-loop-i-init
 entries-loop-i-init g t c =
@@ -572,12 +585,12 @@ entries-returns-in_err-value-clause-onward g t c =
 pub entries-returns-in_err-value-clause-hears : goal.entries-returns-in_err-value-clause-hears
 entries-returns-in_err-value-clause-hears g t c =
     c.loop-i.invariant.heard c.value.new.out
-    (hears_as g.T.Listener.heard g.T.Listener.has_lost c.loop-i.out c.value.new.out _ _ (told_pairs_stop_key (skip c.args.registry.now c.args.depth (shape_of c.args.row.key.now)) (skip c.args.registry.now c.args.depth (shape_of c.args.row.content.now)) (λ w. told c.args.registry.now c.args.depth (shape_of c.args.row.key.now) w) (λ w. told c.args.registry.now c.args.depth (shape_of c.args.row.content.now) w) (way_of c.args.trail.now) (key_bytes c.loop-i.last) c.args.row.count c.loop-i.i _ _ _ _ c.loop-i-test.true (key_err (skip c.args.registry.now c.args.depth (shape_of c.args.row.key.now)) (key_bytes c.loop-i.last) _ _ _ _ c.in_err-value.ensures.passes)) (hears_as g.T.Listener.heard g.T.Listener.has_lost c.loop-i.out c.value.new.out _ _ (ap (λ (w : Way). told c.args.registry.now c.args.depth (shape_of c.args.row.key.now) w c.loop-i.cursor.place c.loop-i.cursor.nodes c.loop-i.cursor.rest.now) c.below-at.ensures) c.in_err-value.ensures.hears))
+    (hears_as g.T.Listener.heard g.T.Listener.has_lost c.loop-i.out c.value.new.out _ _ (told_pairs_stop_key (skip c.args.registry.now c.args.depth (shape_of c.args.row.key.now)) (skip c.args.registry.now c.args.depth (shape_of c.args.row.content.now)) (λ w. told c.args.registry.now c.args.depth (shape_of c.args.row.key.now) w) (λ w. told c.args.registry.now c.args.depth (shape_of c.args.row.content.now) w) (way_of c.args.trail.now) (key_bytes c.loop-i.last) c.args.row.count c.loop-i.i _ _ _ _ c.loop-i-test.true (key_err (skip c.args.registry.now c.args.depth (shape_of c.args.row.key.now)) (key_bytes c.loop-i.last) _ _ _ _ c.in_err-value.ensures.passes) c.in_err-value.ensures.passes) (hears_as g.T.Listener.heard g.T.Listener.has_lost c.loop-i.out c.value.new.out _ _ (ap (λ (w : Way). told c.args.registry.now c.args.depth (shape_of c.args.row.key.now) w c.loop-i.cursor.place c.loop-i.cursor.nodes c.loop-i.cursor.rest.now) c.below-at.ensures) c.in_err-value.ensures.hears))
 
 pub entries-returns-in_err-follows-clause-passes : goal.entries-returns-in_err-follows-clause-passes
 entries-returns-in_err-follows-clause-passes g t c =
     let p = err_from_is_err_and c.from_residual-in_err-follows.result c.from_residual-in_err-follows.ensures.1 in
-    rw (p.1, p.2) (c.loop-i.invariant.whole ∙ pairs_stop_key (skip c.args.registry.now c.args.depth (shape_of c.args.row.key.now)) (skip c.args.registry.now c.args.depth (shape_of c.args.row.content.now)) (key_bytes c.loop-i.last) c.args.row.count c.loop-i.i _ _ _ _ c.loop-i-test.true (key_wrong (skip c.args.registry.now c.args.depth (shape_of c.args.row.key.now)) (key_bytes c.loop-i.last) _ _ _ tt _ _ _ c.split_at.result.0.now _ c.in_ok-value.ensures.passes c.split_at.ensures.front c.in_err-follows.ensures))
+    rw (p.1, p.2) (c.loop-i.invariant.whole ∙ pairs_stop_key (skip c.args.registry.now c.args.depth (shape_of c.args.row.key.now)) (skip c.args.registry.now c.args.depth (shape_of c.args.row.content.now)) (key_bytes c.loop-i.last) c.args.row.count c.loop-i.i _ _ _ _ c.loop-i-test.true (key_wrong (skip c.args.registry.now c.args.depth (shape_of c.args.row.key.now)) (key_bytes c.loop-i.last) _ _ _ tt _ _ _ c.split_at.result.0.now _ c.in_ok-value.ensures.passes c.split_at.ensures.front c.in_err-follows.ensures.judges))
 
 pub entries-returns-in_err-follows-clause-onward : goal.entries-returns-in_err-follows-clause-onward
 entries-returns-in_err-follows-clause-onward g t c =
@@ -585,8 +598,10 @@ entries-returns-in_err-follows-clause-onward g t c =
 
 pub entries-returns-in_err-follows-clause-hears : goal.entries-returns-in_err-follows-clause-hears
 entries-returns-in_err-follows-clause-hears g t c =
-    c.loop-i.invariant.heard c.value.new.out
-    (hears_as g.T.Listener.heard g.T.Listener.has_lost c.loop-i.out c.value.new.out _ _ (told_pairs_stop_key (skip c.args.registry.now c.args.depth (shape_of c.args.row.key.now)) (skip c.args.registry.now c.args.depth (shape_of c.args.row.content.now)) (λ w. told c.args.registry.now c.args.depth (shape_of c.args.row.key.now) w) (λ w. told c.args.registry.now c.args.depth (shape_of c.args.row.content.now) w) (way_of c.args.trail.now) (key_bytes c.loop-i.last) c.args.row.count c.loop-i.i _ _ _ _ c.loop-i-test.true (key_wrong (skip c.args.registry.now c.args.depth (shape_of c.args.row.key.now)) (key_bytes c.loop-i.last) _ _ _ tt _ _ _ c.split_at.result.0.now _ c.in_ok-value.ensures.passes c.split_at.ensures.front c.in_err-follows.ensures)) (hears_as g.T.Listener.heard g.T.Listener.has_lost c.loop-i.out c.value.new.out _ _ (ap (λ (w : Way). told c.args.registry.now c.args.depth (shape_of c.args.row.key.now) w c.loop-i.cursor.place c.loop-i.cursor.nodes c.loop-i.cursor.rest.now) c.below-at.ensures) c.in_ok-value.ensures.hears))
+    c.loop-i.invariant.heard c.follows.new.out
+    (hears_as g.T.Listener.heard g.T.Listener.has_lost c.loop-i.out c.follows.new.out _ _ (told_pairs_misplaced (skip c.args.registry.now c.args.depth (shape_of c.args.row.key.now)) (skip c.args.registry.now c.args.depth (shape_of c.args.row.content.now)) (λ w. told c.args.registry.now c.args.depth (shape_of c.args.row.key.now) w) (λ w. told c.args.registry.now c.args.depth (shape_of c.args.row.content.now) w) (way_of c.args.trail.now) (key_bytes c.loop-i.last) c.args.row.count c.loop-i.i _ _ _ _ tt _ _ _ c.loop-i-test.true (key_wrong (skip c.args.registry.now c.args.depth (shape_of c.args.row.key.now)) (key_bytes c.loop-i.last) _ _ _ tt _ _ _ c.split_at.result.0.now _ c.in_ok-value.ensures.passes c.split_at.ensures.front c.in_err-follows.ensures.judges) c.in_ok-value.ensures.passes)
+    (hears_then g.T.Listener.heard g.T.Listener.has_lost c.loop-i.out c.value.new.out c.follows.new.out _ _ (hears_as g.T.Listener.heard g.T.Listener.has_lost c.loop-i.out c.value.new.out _ _ (ap (λ (w : Way). told c.args.registry.now c.args.depth (shape_of c.args.row.key.now) w c.loop-i.cursor.place c.loop-i.cursor.nodes c.loop-i.cursor.rest.now) c.below-at.ensures) c.in_ok-value.ensures.hears)
+    (hears_as g.T.Listener.heard g.T.Listener.has_lost c.value.new.out c.follows.new.out _ _ (ap (λ (w : Way). halt w wanted.later_key ∷ []) c.below-at.ensures) c.in_err-follows.ensures.hears)))
 
 pub entries-value-requires-in-loop-i : goal.entries-value-requires-in-loop-i
 entries-value-requires-in-loop-i g t c κs within =
@@ -595,7 +610,7 @@ entries-value-requires-in-loop-i g t c κs within =
 pub entries-returns-in_err-value-2-clause-passes : goal.entries-returns-in_err-value-2-clause-passes
 entries-returns-in_err-value-2-clause-passes g t c =
     let p = err_from_is_err_and c.from_residual-in_err-value-2.result c.from_residual-in_err-value-2.ensures.1 in
-    rw (p.1, p.2) (c.loop-i.invariant.whole ∙ pairs_stop_value (skip c.args.registry.now c.args.depth (shape_of c.args.row.key.now)) (skip c.args.registry.now c.args.depth (shape_of c.args.row.content.now)) (key_bytes c.loop-i.last) c.args.row.count c.loop-i.i _ _ _ c.split_at.result.0.now _ _ _ _ c.loop-i-test.true (key_right (skip c.args.registry.now c.args.depth (shape_of c.args.row.key.now)) (key_bytes c.loop-i.last) _ _ _ tt _ _ _ c.split_at.result.0.now c.in_ok-value.ensures.passes c.split_at.ensures.front c.in_ok-follows.ensures) c.in_err-value-2.ensures.passes)
+    rw (p.1, p.2) (c.loop-i.invariant.whole ∙ pairs_stop_value (skip c.args.registry.now c.args.depth (shape_of c.args.row.key.now)) (skip c.args.registry.now c.args.depth (shape_of c.args.row.content.now)) (key_bytes c.loop-i.last) c.args.row.count c.loop-i.i _ _ _ c.split_at.result.0.now _ _ _ _ c.loop-i-test.true (key_right (skip c.args.registry.now c.args.depth (shape_of c.args.row.key.now)) (key_bytes c.loop-i.last) _ _ _ tt _ _ _ c.split_at.result.0.now c.in_ok-value.ensures.passes c.split_at.ensures.front c.in_ok-follows.ensures.judges) c.in_err-value-2.ensures.passes)
 
 pub entries-returns-in_err-value-2-clause-onward : goal.entries-returns-in_err-value-2-clause-onward
 entries-returns-in_err-value-2-clause-onward g t c =
@@ -604,18 +619,18 @@ entries-returns-in_err-value-2-clause-onward g t c =
 pub entries-returns-in_err-value-2-clause-hears : goal.entries-returns-in_err-value-2-clause-hears
 entries-returns-in_err-value-2-clause-hears g t c =
     c.loop-i.invariant.heard c.value-in-loop-i.new.out
-    (hears_as g.T.Listener.heard g.T.Listener.has_lost c.loop-i.out c.value-in-loop-i.new.out _ _ (told_pairs_stop_value (skip c.args.registry.now c.args.depth (shape_of c.args.row.key.now)) (skip c.args.registry.now c.args.depth (shape_of c.args.row.content.now)) (λ w. told c.args.registry.now c.args.depth (shape_of c.args.row.key.now) w) (λ w. told c.args.registry.now c.args.depth (shape_of c.args.row.content.now) w) (way_of c.args.trail.now) (key_bytes c.loop-i.last) c.args.row.count c.loop-i.i _ _ _ c.split_at.result.0.now _ _ _ _ c.loop-i-test.true (key_right (skip c.args.registry.now c.args.depth (shape_of c.args.row.key.now)) (key_bytes c.loop-i.last) _ _ _ tt _ _ _ c.split_at.result.0.now c.in_ok-value.ensures.passes c.split_at.ensures.front c.in_ok-follows.ensures) c.in_err-value-2.ensures.passes)
-    (hears_then g.T.Listener.heard g.T.Listener.has_lost c.loop-i.out c.value.new.out c.value-in-loop-i.new.out _ _ (hears_as g.T.Listener.heard g.T.Listener.has_lost c.loop-i.out c.value.new.out _ _ (ap (λ (w : Way). told c.args.registry.now c.args.depth (shape_of c.args.row.key.now) w c.loop-i.cursor.place c.loop-i.cursor.nodes c.loop-i.cursor.rest.now) c.below-at.ensures) c.in_ok-value.ensures.hears) (hears_as g.T.Listener.heard g.T.Listener.has_lost c.value.new.out c.value-in-loop-i.new.out _ _ (ap (λ (w : Way). told c.args.registry.now c.args.depth (shape_of c.args.row.content.now) w c.value.new.cursor.place c.value.new.cursor.nodes c.value.new.cursor.rest.now) c.below-at-in-loop-i.ensures) c.in_err-value-2.ensures.hears)))
+    (hears_as g.T.Listener.heard g.T.Listener.has_lost c.loop-i.out c.value-in-loop-i.new.out _ _ (told_pairs_stop_value (skip c.args.registry.now c.args.depth (shape_of c.args.row.key.now)) (skip c.args.registry.now c.args.depth (shape_of c.args.row.content.now)) (λ w. told c.args.registry.now c.args.depth (shape_of c.args.row.key.now) w) (λ w. told c.args.registry.now c.args.depth (shape_of c.args.row.content.now) w) (way_of c.args.trail.now) (key_bytes c.loop-i.last) c.args.row.count c.loop-i.i _ _ _ c.split_at.result.0.now _ _ _ _ c.loop-i-test.true (key_right (skip c.args.registry.now c.args.depth (shape_of c.args.row.key.now)) (key_bytes c.loop-i.last) _ _ _ tt _ _ _ c.split_at.result.0.now c.in_ok-value.ensures.passes c.split_at.ensures.front c.in_ok-follows.ensures.judges) c.in_err-value-2.ensures.passes)
+    (hears_then g.T.Listener.heard g.T.Listener.has_lost c.loop-i.out c.value.new.out c.value-in-loop-i.new.out _ _ (hears_as g.T.Listener.heard g.T.Listener.has_lost c.loop-i.out c.value.new.out _ _ (ap (λ (w : Way). told c.args.registry.now c.args.depth (shape_of c.args.row.key.now) w c.loop-i.cursor.place c.loop-i.cursor.nodes c.loop-i.cursor.rest.now) c.below-at.ensures) c.in_ok-value.ensures.hears) (hears_then g.T.Listener.heard g.T.Listener.has_lost c.value.new.out c.follows.new.out c.value-in-loop-i.new.out [] _ c.in_ok-follows.ensures.hears (hears_as g.T.Listener.heard g.T.Listener.has_lost c.follows.new.out c.value-in-loop-i.new.out _ _ (ap (λ (w : Way). told c.args.registry.now c.args.depth (shape_of c.args.row.content.now) w c.value.new.cursor.place c.value.new.cursor.nodes c.value.new.cursor.rest.now) c.below-at-in-loop-i.ensures) c.in_err-value-2.ensures.hears))))
 
 pub entries-loop-i-preserved : goal.entries-loop-i-preserved
 entries-loop-i-preserved g t c =
     record {
       room = omega (arith, c.loop-i.invariant.room, c.in_ok-value.ensures.onward.0, c.in_ok-value-2.ensures.onward.0);
       onward = (omega (arith, c.loop-i.invariant.onward.0, c.in_ok-value.ensures.onward.0, c.in_ok-value-2.ensures.onward.0), omega (arith, c.loop-i.invariant.onward.1, c.in_ok-value.ensures.onward.1, c.in_ok-value-2.ensures.onward.1));
-      whole = c.loop-i.invariant.whole ∙ pairs_on (skip c.args.registry.now c.args.depth (shape_of c.args.row.key.now)) (skip c.args.registry.now c.args.depth (shape_of c.args.row.content.now)) (key_bytes c.loop-i.last) c.args.row.count c.loop-i.i _ _ _ c.split_at.result.0.now _ _ _ _ _ _ c.loop-i-test.true (key_right (skip c.args.registry.now c.args.depth (shape_of c.args.row.key.now)) (key_bytes c.loop-i.last) _ _ _ tt _ _ _ c.split_at.result.0.now c.in_ok-value.ensures.passes c.split_at.ensures.front c.in_ok-follows.ensures) c.in_ok-value-2.ensures.passes;
+      whole = c.loop-i.invariant.whole ∙ pairs_on (skip c.args.registry.now c.args.depth (shape_of c.args.row.key.now)) (skip c.args.registry.now c.args.depth (shape_of c.args.row.content.now)) (key_bytes c.loop-i.last) c.args.row.count c.loop-i.i _ _ _ c.split_at.result.0.now _ _ _ _ _ _ c.loop-i-test.true (key_right (skip c.args.registry.now c.args.depth (shape_of c.args.row.key.now)) (key_bytes c.loop-i.last) _ _ _ tt _ _ _ c.split_at.result.0.now c.in_ok-value.ensures.passes c.split_at.ensures.front c.in_ok-follows.ensures.judges) c.in_ok-value-2.ensures.passes;
       heard = λ new h. c.loop-i.invariant.heard new
-          (hears_as g.T.Listener.heard g.T.Listener.has_lost c.loop-i.out new _ _ (told_pairs_on (skip c.args.registry.now c.args.depth (shape_of c.args.row.key.now)) (skip c.args.registry.now c.args.depth (shape_of c.args.row.content.now)) (λ w. told c.args.registry.now c.args.depth (shape_of c.args.row.key.now) w) (λ w. told c.args.registry.now c.args.depth (shape_of c.args.row.content.now) w) (way_of c.args.trail.now) (key_bytes c.loop-i.last) c.args.row.count c.loop-i.i _ _ _ c.split_at.result.0.now _ _ _ _ _ _ c.loop-i-test.true (key_right (skip c.args.registry.now c.args.depth (shape_of c.args.row.key.now)) (key_bytes c.loop-i.last) _ _ _ tt _ _ _ c.split_at.result.0.now c.in_ok-value.ensures.passes c.split_at.ensures.front c.in_ok-follows.ensures) c.in_ok-value-2.ensures.passes)
-          (hears_then g.T.Listener.heard g.T.Listener.has_lost c.loop-i.out c.value.new.out new _ _ (hears_as g.T.Listener.heard g.T.Listener.has_lost c.loop-i.out c.value.new.out _ _ (ap (λ (w : Way). told c.args.registry.now c.args.depth (shape_of c.args.row.key.now) w c.loop-i.cursor.place c.loop-i.cursor.nodes c.loop-i.cursor.rest.now) c.below-at.ensures) c.in_ok-value.ensures.hears) (hears_then g.T.Listener.heard g.T.Listener.has_lost c.value.new.out c.value-in-loop-i.new.out new _ _ (hears_as g.T.Listener.heard g.T.Listener.has_lost c.value.new.out c.value-in-loop-i.new.out _ _ (ap (λ (w : Way). told c.args.registry.now c.args.depth (shape_of c.args.row.content.now) w c.value.new.cursor.place c.value.new.cursor.nodes c.value.new.cursor.rest.now) c.below-at-in-loop-i.ensures) c.in_ok-value-2.ensures.hears) h)));
+          (hears_as g.T.Listener.heard g.T.Listener.has_lost c.loop-i.out new _ _ (told_pairs_on (skip c.args.registry.now c.args.depth (shape_of c.args.row.key.now)) (skip c.args.registry.now c.args.depth (shape_of c.args.row.content.now)) (λ w. told c.args.registry.now c.args.depth (shape_of c.args.row.key.now) w) (λ w. told c.args.registry.now c.args.depth (shape_of c.args.row.content.now) w) (way_of c.args.trail.now) (key_bytes c.loop-i.last) c.args.row.count c.loop-i.i _ _ _ c.split_at.result.0.now _ _ _ _ _ _ c.loop-i-test.true (key_right (skip c.args.registry.now c.args.depth (shape_of c.args.row.key.now)) (key_bytes c.loop-i.last) _ _ _ tt _ _ _ c.split_at.result.0.now c.in_ok-value.ensures.passes c.split_at.ensures.front c.in_ok-follows.ensures.judges) c.in_ok-value-2.ensures.passes)
+          (hears_then g.T.Listener.heard g.T.Listener.has_lost c.loop-i.out c.value.new.out new _ _ (hears_as g.T.Listener.heard g.T.Listener.has_lost c.loop-i.out c.value.new.out _ _ (ap (λ (w : Way). told c.args.registry.now c.args.depth (shape_of c.args.row.key.now) w c.loop-i.cursor.place c.loop-i.cursor.nodes c.loop-i.cursor.rest.now) c.below-at.ensures) c.in_ok-value.ensures.hears) (hears_then g.T.Listener.heard g.T.Listener.has_lost c.value.new.out c.value-in-loop-i.new.out new _ _ (hears_then g.T.Listener.heard g.T.Listener.has_lost c.value.new.out c.follows.new.out c.value-in-loop-i.new.out [] _ c.in_ok-follows.ensures.hears (hears_as g.T.Listener.heard g.T.Listener.has_lost c.follows.new.out c.value-in-loop-i.new.out _ _ (ap (λ (w : Way). told c.args.registry.now c.args.depth (shape_of c.args.row.content.now) w c.value.new.cursor.place c.value.new.cursor.nodes c.value.new.cursor.rest.now) c.below-at-in-loop-i.ensures) c.in_ok-value-2.ensures.hears)) h)));
     }
 
 pub entries-returns-clause-passes : goal.entries-returns-clause-passes
@@ -650,7 +665,7 @@ payload-returns-in-Unit-clause-passes g t c =
 
 pub payload-returns-in-Unit-clause-hears : goal.payload-returns-in-Unit-clause-hears
 payload-returns-in-Unit-clause-hears g t c =
-    hears_as g.T.Listener.heard g.T.Listener.has_lost c.args.out.now c.args.out.now [] _ (carried_unit c.args.registry.now c.args.depth (carried (payload_of c.args.payload.now)) (way_of c.args.trail.now) c.args.cursor.now.place c.args.cursor.now.nodes c.args.cursor.now.rest.now (ap (λ (k : VariantFormat). carried (payload_of k)) c.in-Unit.is)) (hears_nothing g.T.Listener.heard g.T.Listener.has_lost c.args.out.now)
+    hears_as g.T.Listener.heard g.T.Listener.has_lost c.args.out.now c.node.new.out _ _ (needed (way_of c.args.trail.now) wanted.node (λ x. x) c.node.result node_here c.args.cursor.now c.node.new.cursor c.node.ensures.passes ∙ carried_unit c.args.registry.now c.args.depth (carried (payload_of c.args.payload.now)) (way_of c.args.trail.now) c.args.cursor.now.place c.args.cursor.now.nodes c.args.cursor.now.rest.now (ap (λ (k : VariantFormat). carried (payload_of k)) c.in-Unit.is)) c.node.ensures.hears
 
 pub payload-returns-in-NewType-clause-hears : goal.payload-returns-in-NewType-clause-hears
 payload-returns-in-NewType-clause-hears g t c =
@@ -696,8 +711,8 @@ pub value-returns-in_ok-count-in-Map-clause-hears : goal.value-returns-in_ok-cou
 value-returns-in_ok-count-in-Map-clause-hears g t c =
     let n = c.in_ok-count-in-Map.count in
     hears_as g.T.Listener.heard g.T.Listener.has_lost c.args.out.now c.entries.new.out _ _
-    (ap (λ (f : Format). noting (way_of c.args.trail.now) (pieces.counted pieces.entries) counted_here c.args.cursor.now.place c.args.cursor.now.nodes c.args.cursor.now.rest.now ++ tell_pairs (skip c.args.registry.now c.args.depth (shape_of f)) (skip c.args.registry.now c.args.depth (shape_of c.deref-in-Map-2.result.now)) (λ w. told c.args.registry.now c.args.depth (shape_of f) w) (λ w. told c.args.registry.now c.args.depth (shape_of c.deref-in-Map-2.result.now) w) (way_of c.args.trail.now) None 0 n c.tell_count-in-Map.new.cursor.place c.tell_count-in-Map.new.cursor.nodes c.tell_count-in-Map.new.cursor.rest.now) c.deref-in-Map.ensures
-    ∙ ap (λ (f : Format). noting (way_of c.args.trail.now) (pieces.counted pieces.entries) counted_here c.args.cursor.now.place c.args.cursor.now.nodes c.args.cursor.now.rest.now ++ tell_pairs (skip c.args.registry.now c.args.depth (shape_of c.in-Map.key.value)) (skip c.args.registry.now c.args.depth (shape_of f)) (λ w. told c.args.registry.now c.args.depth (shape_of c.in-Map.key.value) w) (λ w. told c.args.registry.now c.args.depth (shape_of f) w) (way_of c.args.trail.now) None 0 n c.tell_count-in-Map.new.cursor.place c.tell_count-in-Map.new.cursor.nodes c.tell_count-in-Map.new.cursor.rest.now) c.deref-in-Map-2.ensures
+    (ap (λ (f : Format). noting (way_of c.args.trail.now) (pieces.counted pieces.entries) (wanted.count pieces.entries) counted_here c.args.cursor.now.place c.args.cursor.now.nodes c.args.cursor.now.rest.now ++ tell_pairs (skip c.args.registry.now c.args.depth (shape_of f)) (skip c.args.registry.now c.args.depth (shape_of c.deref-in-Map-2.result.now)) (λ w. told c.args.registry.now c.args.depth (shape_of f) w) (λ w. told c.args.registry.now c.args.depth (shape_of c.deref-in-Map-2.result.now) w) (way_of c.args.trail.now) None 0 n c.tell_count-in-Map.new.cursor.place c.tell_count-in-Map.new.cursor.nodes c.tell_count-in-Map.new.cursor.rest.now) c.deref-in-Map.ensures
+    ∙ ap (λ (f : Format). noting (way_of c.args.trail.now) (pieces.counted pieces.entries) (wanted.count pieces.entries) counted_here c.args.cursor.now.place c.args.cursor.now.nodes c.args.cursor.now.rest.now ++ tell_pairs (skip c.args.registry.now c.args.depth (shape_of c.in-Map.key.value)) (skip c.args.registry.now c.args.depth (shape_of f)) (λ w. told c.args.registry.now c.args.depth (shape_of c.in-Map.key.value) w) (λ w. told c.args.registry.now c.args.depth (shape_of f) w) (way_of c.args.trail.now) None 0 n c.tell_count-in-Map.new.cursor.place c.tell_count-in-Map.new.cursor.nodes c.tell_count-in-Map.new.cursor.rest.now) c.deref-in-Map-2.ensures
     ∙ told_map_on c.args.registry.now c.args.depth (way_of c.args.trail.now) c.args.cursor.now.place c.args.cursor.now.nodes c.args.cursor.now.rest.now c.args.format.now c.in-Map.key c.in-Map.content n _ _ _ c.in-Map.is c.in_ok-count-in-Map.ensures.passes)
     (hears_then g.T.Listener.heard g.T.Listener.has_lost c.args.out.now c.tell_count-in-Map.new.out c.entries.new.out _ _ c.in_ok-count-in-Map.ensures.hears c.entries.ensures.hears)
 

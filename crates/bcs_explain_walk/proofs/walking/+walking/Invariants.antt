@@ -46,9 +46,9 @@ abbrev pub invariant-elements-loop-i : goal.invariant-elements-loop-i
 invariant-elements-loop-i g l = record {
   room : l.cursor.place + length l.cursor.rest.now < 2 ^ 64;
   onward : Onward l.initial.cursor l.cursor;
-  whole : items_here skipping (skip l.registry l.depth (shape_of l.row.element.now)) l.row.count l.initial.cursor.place l.initial.cursor.nodes l.initial.cursor.rest.now
+  whole : items_here skipping (skip l.registry l.depth (shape_of l.row.element.now)) (l.row.count - l.row.first) l.initial.cursor.place l.initial.cursor.nodes l.initial.cursor.rest.now
       ≡ items_here skipping (skip l.registry l.depth (shape_of l.row.element.now)) (l.row.count - l.i) l.cursor.place l.cursor.nodes l.cursor.rest.now;
-  heard : (new : g.row.T.Denot) → Hears g.T.Listener.heard g.T.Listener.has_lost l.out new (tell_items (skip l.registry l.depth (shape_of l.row.element.now)) (λ w. told l.registry l.depth (shape_of l.row.element.now) w) (way_of l.trail) l.i (l.row.count - l.i) l.cursor.place l.cursor.nodes l.cursor.rest.now) → Hears g.T.Listener.heard g.T.Listener.has_lost l.initial.out new (tell_items (skip l.registry l.depth (shape_of l.row.element.now)) (λ w. told l.registry l.depth (shape_of l.row.element.now) w) (way_of l.trail) 0 l.row.count l.initial.cursor.place l.initial.cursor.nodes l.initial.cursor.rest.now);
+  heard : (new : g.row.T.Denot) → Hears g.T.Listener.heard g.T.Listener.has_lost l.out new (tell_items (skip l.registry l.depth (shape_of l.row.element.now)) (λ w. told l.registry l.depth (shape_of l.row.element.now) w) (way_of l.trail) l.i (l.row.count - l.i) l.cursor.place l.cursor.nodes l.cursor.rest.now) → Hears g.T.Listener.heard g.T.Listener.has_lost l.initial.out new (tell_items (skip l.registry l.depth (shape_of l.row.element.now)) (λ w. told l.registry l.depth (shape_of l.row.element.now) w) (way_of l.trail) l.row.first (l.row.count - l.row.first) l.initial.cursor.place l.initial.cursor.nodes l.initial.cursor.rest.now);
 }
 
 abbrev pub invariant-entries-loop-i : goal.invariant-entries-loop-i
