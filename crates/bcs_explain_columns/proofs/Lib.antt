@@ -1,3 +1,4 @@
 pub mod Digits
 pub mod EscapedUnits
+pub mod Painting
 pub mod Printable

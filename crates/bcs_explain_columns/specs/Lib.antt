@@ -1,3 +1,4 @@
 pub mod Columns
 pub mod Escaped
 pub mod Laws
+pub mod Painted

@@ -1,6 +1,8 @@
 //! Parts of a printed line: escaped text, numbers, hexadecimal digits, and the blanks between columns.
 #![tactic(auto)]
 
+pub mod colors;
 pub mod columns;
 pub mod escaping;
 pub mod laws;
+pub mod style;

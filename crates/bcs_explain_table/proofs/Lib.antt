@@ -1,4 +1,6 @@
 pub mod Texts
+pub mod Levels
+pub mod Markers
 pub mod TrailViews
 pub mod Hearing
 pub mod Explained

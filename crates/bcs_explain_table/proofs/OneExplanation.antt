@@ -12,6 +12,7 @@ use Rattle.bcs_explain_spec.specs.Pieces.{pieces}
 use Rattle.bcs_explain_spec.specs.Telling.{tell}
 use Rattle.bcs_explain_spec.proofs.StoppedTold.{told_at_a_stop_is}
 use Rattle.bcs_explain_spec.proofs.Told.{told_at_an_encoding_is}
+use Rattle.bcs_explain_columns.specs.declared.style.Style.{Style}
 use Rattle.bcs_explain_spec.specs.Stopped.{stopped}
 use Rattle.bcs_explain_table.specs.Heard.{pieces_of}
 use Rattle.bcs_explain_table.proofs.Hearing.{pieces_halted, pieces_told}
@@ -29,15 +30,16 @@ module _ (r : Entries) (l : Bounds) (s : Shape) (b : List ℕ) where
   pub one_before : (e : Reason) (o : ℕ) (h k : StopsAll r l s b e o) → pieces_before r l s b e o h ≡ pieces_before r l s b e o k
   one_before e o h k = sym (before_told e o h) ∙ before_told e o k
 
+module _ (style : Style) (r : Entries) (l : Bounds) (s : Shape) (b : List ℕ) where
   same_damage : (e f : Reason) (o i : ℕ) (h : StopsAll r l s b e o) (k : StopsAll r l s b f i) → e ≡ f → o ≡ i
-      → damaged_text r l s b e o (pieces_before r l s b e o h) ≡ damaged_text r l s b f i (pieces_before r l s b f i k)
+      → damaged_text style r l s b e o (pieces_before r l s b e o h) ≡ damaged_text style r l s b f i (pieces_before r l s b f i k)
   same_damage e f o i h k same at =
-      ap₂ (λ (x : Reason) (y : ℕ). damaged_text r l s b x y (pieces_before r l s b e o h)) same at
-      ∙ ap (damaged_text r l s b f i) (sym (before_told e o h) ∙ before_told f i k)
+      ap₂ (λ (x : Reason) (y : ℕ). damaged_text style r l s b x y (pieces_before r l s b e o h)) same at
+      ∙ ap (damaged_text style r l s b f i) (sym (before_told r l s b e o h) ∙ before_told r l s b f i k)
 
-  pub explains_once : (t u : List ℕ) (x y : Option Stop) → Explains r l s b t x → Explains r l s b u y → (t ≡ u) × (x ≡ y)
+  pub explains_once : (t u : List ℕ) (x y : Option Stop) → Explains style r l s b t x → Explains style r l s b u y → (t ≡ u) × (x ≡ y)
   explains_once t u x y (explains.whole c a) (explains.whole d k) =
-      (ap (λ z. table (pieces r [] 0 z (of s))) (accepts_once_is r l s b (length b) (length b) c d a k).1, refl)
+      (ap (λ z. table style (pieces r [] 0 z (of s))) (accepts_once_is r l s b (length b) (length b) c d a k).1, refl)
   explains_once t u x y (explains.whole c a) (explains.damaged e o h) = absurd (no_two_verdicts_of_all_are r l s b c e o a h)
   explains_once t u x y (explains.damaged e o h) (explains.whole c a) = absurd (no_two_verdicts_of_all_are r l s b c e o a h)
   explains_once t u x y (explains.damaged e o h) (explains.damaged f i k) =

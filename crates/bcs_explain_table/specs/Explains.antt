@@ -13,7 +13,12 @@ use Rattle.bcs_explain_spec.specs.Held.{of}
 use Rattle.bcs_explain_spec.specs.Piece.{Piece, pieces_bytes}
 use Rattle.bcs_explain_spec.specs.Pieces.{pieces}
 use Rattle.bcs_explain_spec.specs.Stopped.{stop_pieces}
+use Rattle.bcs_explain_columns.specs.declared.style.Style.{Style}
 use Rattle.bcs_explain_table.specs.Table.{damage_text, table}
+
+-- how many bytes pieces have, which is where the last one ends
+abbrev pub told : List Piece → ℕ
+told ps = length (pieces_bytes ps)
 
 module _ (registry : Entries) (limits : Bounds) (s : Shape) (b : List ℕ) where
   -- the pieces before the bytes stop: those of the whole value where bytes come after it
@@ -21,15 +26,12 @@ module _ (registry : Entries) (limits : Bounds) (s : Shape) (b : List ℕ) where
   pieces_before e o (inl h) = stop_pieces registry limits s b e o h
   pieces_before e o (inr (n, c, h, lt, x, y)) = pieces registry [] 0 c (of s)
 
-  -- how many bytes these pieces have, which is where the last one ends
-  abbrev pub told : List Piece → ℕ
-  told ps = length (pieces_bytes ps)
-
+module _ (style : Style) (registry : Entries) (limits : Bounds) (s : Shape) (b : List ℕ) where
   -- the pieces, and then what comes after them
   abbrev pub damaged_text : Reason → ℕ → List Piece → List ℕ
-  damaged_text e o ps = table ps ++ damage_text (told ps) (drop (told ps) b) e o
+  damaged_text e o ps = table style ps ++ damage_text style (told ps) (drop (told ps) b) e o
 
   -- the text that is printed, and where the bytes stop
   pub data Explains : List ℕ → Option Stop → Type 0 where
-    whole : (c : Tree) → Accepts registry limits s b (length b) c → Explains (table (pieces registry [] 0 c (of s))) None
-    damaged : (e : Reason) (o : ℕ) (h : StopsAll registry limits s b e o) → Explains (damaged_text e o (pieces_before e o h)) (Some (record { reason = e; place = o }))
+    whole : (c : Tree) → Accepts registry limits s b (length b) c → Explains (table style (pieces registry [] 0 c (of s))) None
+    damaged : (e : Reason) (o : ℕ) (h : StopsAll registry limits s b e o) → Explains (damaged_text e o (pieces_before registry limits s b e o h)) (Some (record { reason = e; place = o }))

@@ -1,3 +1,4 @@
+pub mod Ways
 pub mod Table
 pub mod Heard
 pub mod Explains

@@ -4,34 +4,14 @@ use Rattle.std.specs.Fmt.{decimal, signed_decimal}
 use Rattle.hex.specs.Hex.{encode_lower}
 use Rattle.bcs_decode_spec.specs.Stop.{reason_name}
 use Rattle.bcs_decode_spec.specs.declared.reason.Reason.{Reason}
-use Rattle.bcs_explain_spec.specs.Way.{Label, Way, item, field, inner, opening, variant, key, value}
+use Rattle.bcs_explain_spec.specs.Way.{Label, Way, opening}
 use Rattle.bcs_explain_spec.specs.Piece.{Counted, Meaning, Piece, truth, unsigned, signed, counted, text, bytes, octets, option, chosen, text_bytes, raw_bytes, elements, entries}
 use Rattle.bcs_explain_columns.specs.Columns.{blanks, left_in, right_in}
 use Rattle.bcs_explain_columns.specs.Escaped.{escaped}
-
--- ---- the way to a piece
-
--- a step down; what a container holds is reached without one that is written
-abbrev pub step_text : Label → List ℕ
-step_text (item i) = codes "[" ++ decimal i ++ codes "]"
-step_text (field i name) = codes "." ++ escaped name
-step_text inner = codes "?"
-step_text (opening name) = []
-step_text (variant n name) = codes "::" ++ escaped name
-step_text (key i) = codes "[key " ++ decimal i ++ codes "]"
-step_text (value b) = codes "[key:" ++ encode_lower b ++ codes "]"
-
-abbrev pub steps_text : Way → List ℕ
-steps_text [] = []
-steps_text (l ∷ way) = step_text l ++ steps_text way
-
--- the whole value is `.`
-abbrev pub or_whole : List ℕ → List ℕ
-or_whole [] = codes "."
-or_whole (c ∷ cs) = c ∷ cs
-
-abbrev pub way_text : Way → List ℕ
-way_text way = or_whole (steps_text way)
+use Rattle.bcs_explain_columns.specs.Painted.{painted, painted_in}
+use Rattle.bcs_explain_columns.specs.declared.style.Paint.{Paint}
+use Rattle.bcs_explain_columns.specs.declared.style.Style.{Style}
+use Rattle.bcs_explain_table.specs.Ways.{led_text}
 
 -- ---- what a piece is
 
@@ -86,32 +66,64 @@ meaning_width = 30
 abbrev pub row_size : ℕ
 row_size = 32
 
+-- places are cyan
+abbrev pub place_color : List ℕ
+place_color = codes "36"
+
+-- lengths are yellow, options and variants magenta, and the rest is green
+abbrev pub meaning_color : Meaning → List ℕ
+meaning_color (truth b) = codes "32"
+meaning_color (unsigned n) = codes "32"
+meaning_color (signed z) = codes "32"
+meaning_color (counted c n) = codes "33"
+meaning_color (text s) = codes "32"
+meaning_color (bytes s) = codes "32"
+meaning_color octets = codes "32"
+meaning_color (option b) = codes "35"
+meaning_color (chosen n name) = codes "35"
+
+-- a place in its column
+abbrev pub place_text : Paint → ℕ → List ℕ
+place_text paint p = painted paint place_color (right_in place_width (decimal p))
+
 -- a place, and the digits of the bytes that stand there
-abbrev pub row : ℕ → List ℕ → List ℕ
-row p b = right_in place_width (decimal p) ++ blanks 2 ++ encode_lower b
+abbrev pub row : Paint → ℕ → List ℕ → List ℕ
+row paint p b = place_text paint p ++ blanks 2 ++ encode_lower b
 
 -- the bytes from p on, so many on a line and with a line each for at most k rows
-abbrev pub more_rows : ℕ → ℕ → List ℕ → List ℕ
-more_rows zero p b = []
-more_rows (suc k) p [] = []
-more_rows (suc k) p (x ∷ b) = row p (take row_size (x ∷ b)) ++ 10 ∷ more_rows k (p + row_size) (drop row_size (x ∷ b))
+abbrev pub more_rows : Paint → ℕ → ℕ → List ℕ → List ℕ
+more_rows paint zero p b = []
+more_rows paint (suc k) p [] = []
+more_rows paint (suc k) p (x ∷ b) = row paint p (take row_size (x ∷ b)) ++ 10 ∷ more_rows paint k (p + row_size) (drop row_size (x ∷ b))
 
 -- a place, and the digits of the bytes that stand there, in a column of their own
-abbrev pub wide_row : ℕ → List ℕ → List ℕ
-wide_row p b = right_in place_width (decimal p) ++ blanks 2 ++ left_in digits_width (encode_lower b) ++ blanks 2
+abbrev pub wide_row : Paint → ℕ → List ℕ → List ℕ
+wide_row paint p b = place_text paint p ++ blanks 2 ++ left_in digits_width (encode_lower b) ++ blanks 2
 
-abbrev pub piece_text : Piece → List ℕ
-piece_text x =
-    wide_row x.place (take row_size x.bytes)
-    ++ left_in meaning_width (meaning_text x.way (length x.bytes) x.meaning) ++ blanks 2 ++ way_text x.way ++ 10
-    ∷ more_rows (length x.bytes) (x.place + row_size) (drop row_size x.bytes)
+-- what a piece is, in a column of its own
+abbrev pub meaning_column : Paint → Way → ℕ → Meaning → List ℕ
+meaning_column paint way size m = painted_in meaning_width paint (meaning_color m) (meaning_text way size m) ++ blanks 2
+
+-- the lines of a piece, with this text at the end of the first
+abbrev pub lines_text : Paint → List ℕ → Piece → List ℕ
+lines_text paint led x =
+    wide_row paint x.place (take row_size x.bytes)
+    ++ meaning_column paint x.way (length x.bytes) x.meaning ++ led ++ 10
+    ∷ more_rows paint (length x.bytes) (x.place + row_size) (drop row_size x.bytes)
+
+abbrev pub piece_text : Style → Piece → List ℕ
+piece_text style x = lines_text style.paint (led_text style.form x.way) x
 
 -- a line for each piece, and more where it has more bytes than stand on a line
-abbrev pub table : List Piece → List ℕ
-table [] = []
-table (x ∷ xs) = piece_text x ++ table xs
+abbrev pub table : Style → List Piece → List ℕ
+table style [] = []
+table style (x ∷ xs) = piece_text style x ++ table style xs
 
 -- ---- where bytes stop being a value
+
+-- damage is red and bold
+abbrev pub damage_color : List ℕ
+damage_color = codes "1;31"
 
 abbrev pub left_out : ℕ → List ℕ
 left_out zero = []
@@ -119,8 +131,9 @@ left_out (suc n) = blanks place_width ++ codes "  ... " ++ so_many (suc n) (code
 
 -- why bytes are no value, at the end of a line
 abbrev pub stop_mark : Reason → ℕ → List ℕ
-stop_mark reason place = codes "! " ++ reason_name reason ++ codes " at " ++ decimal place ++ 10 ∷ []
+stop_mark reason place = codes "! " ++ reason_name reason ++ codes " at " ++ decimal place
 
 -- the first ones of the bytes that are no piece, which stand at p, why they are none, and how many come after them
-abbrev pub damage_text : ℕ → List ℕ → Reason → ℕ → List ℕ
-damage_text p rest reason place = wide_row p (take row_size rest) ++ stop_mark reason place ++ left_out (length rest - row_size)
+abbrev pub damage_text : Style → ℕ → List ℕ → Reason → ℕ → List ℕ
+damage_text style p rest reason place =
+    wide_row style.paint p (take row_size rest) ++ (painted style.paint damage_color (stop_mark reason place) ++ 10 ∷ []) ++ left_out (length rest - row_size)

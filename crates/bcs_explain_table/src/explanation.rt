@@ -8,6 +8,7 @@ ghost use Rattle.bcs_explain_table.specs.Table.{damage_text};
 use crate::damage::put_damage;
 use crate::table::Table;
 use bcs_explain::{Reason, Stop, explain};
+use bcs_explain_columns::style::Style;
 use bcs_registry::{Format, Registry};
 use bcs_value::Limits;
 use std::alloc::{AllocError, Global};
@@ -28,12 +29,13 @@ pub fn explain_text(
     registry: &Registry,
     format: &Format,
     limits: &Limits,
+    style: Style,
     bytes: &[u8],
 ) -> Result<Explanation, AllocError>
     requires admitted { Admits registry.now (shape_of format.now) }
-    ensures { IfOk result (λ x. Explains registry.now limits.now (shape_of format.now) bytes.now x.text.items x.stop) }
+    ensures { IfOk result (λ x. Explains style registry.now limits.now (shape_of format.now) bytes.now x.text.items x.stop) }
 {
-    let mut table = Table::new(alloc);
+    let mut table = Table::new(alloc, style);
     match explain(registry, format, limits, bytes, &mut table) {
         Ok(end) if end < bytes.len() => {
             let stop = Stop {
@@ -64,14 +66,14 @@ fn whole(table: Table) -> Result<Explanation, AllocError>
 fn damaged(table: Table, bytes: &[u8], stop: Stop) -> Result<Explanation, AllocError>
     requires within { table.has_lost ≡ false → table.told ≤ length bytes.now }
     ensures { IfOk result (λ x. (table.has_lost ≡ false) × (x.stop ≡ Some stop)
-        × (x.text.items ≡ table.text.items ++ damage_text table.told (drop table.told bytes.now) stop.reason stop.place)) }
+        × (x.text.items ≡ table.text.items ++ damage_text table.style table.told (drop table.told bytes.now) stop.reason stop.place)) }
 {
     if table.has_lost {
         return Err(AllocError);
     }
     let mut text = table.text;
     let (_, rest) = bytes.split_at(table.told as usize);
-    put_damage(table.told, rest, stop, &mut text)?;
+    put_damage(table.style, table.told, rest, stop, &mut text)?;
     Ok(Explanation {
         text,
         stop: Some(stop),

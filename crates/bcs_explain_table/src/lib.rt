@@ -3,9 +3,11 @@
 
 mod damage;
 mod explanation;
+mod led;
 mod meaning;
 mod rows;
 mod table;
+mod tree;
 mod way;
 
 pub use explanation::{Explanation, explain_text};

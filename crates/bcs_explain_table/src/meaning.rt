@@ -4,16 +4,54 @@ ghost use Rattle.std.specs.Fmt.{decimal};
 ghost use Rattle.bcs_explain_columns.specs.Escaped.{escaped};
 ghost use Rattle.bcs_explain_steps.specs.Hearing.{counted_of, meaning_of};
 ghost use Rattle.bcs_explain_steps.specs.Trail.{way_of};
-ghost use Rattle.bcs_explain_table.specs.Table.{count_text, meaning_text, so_many};
+ghost use Rattle.bcs_explain_table.specs.Table.{count_text, meaning_color, meaning_column, meaning_text, so_many};
 
 use crate::way::container_name;
 use bcs_explain::{Counted, Meaning, Trail};
+use bcs_explain_columns::colors::{end_painted, start_color};
 use bcs_explain_columns::columns::{put_decimal, put_signed};
 use bcs_explain_columns::escaping::put_escaped;
+use bcs_explain_columns::style::Paint;
 use std::alloc::AllocError;
 
-/// What a piece of so many bytes is, where the trail leads to it.
-pub(crate) fn put_meaning(
+const MEANING_WIDTH: usize = 30;
+
+/// What a piece of so many bytes is, where the trail leads to it, in a column of its own.
+pub(crate) fn put_meaning_column(
+    paint: Paint,
+    trail: &Trail<'_, '_, '_>,
+    size: usize,
+    meaning: Meaning<'_>,
+    out: &mut Vec<u8>,
+) -> Result<(), AllocError>
+    ensures { OnOk result (out.new.items
+        ≡ out.old.items ++ meaning_column paint (way_of trail.now) size (meaning_of meaning.entry)) }
+{
+    start_color(paint, color_of(meaning), out)?;
+    let start = out.len();
+    put_meaning(trail, size, meaning, out)?;
+    end_painted(paint, start, MEANING_WIDTH, out)
+}
+
+// The colour of what a piece is: lengths are yellow, options and variants magenta, and the rest is green.
+fn color_of(meaning: Meaning<'_>) -> &'static str
+    ensures { result.now ≡ meaning_color (meaning_of meaning.entry) }
+{
+    match meaning {
+        Meaning::Truth(_) => "32",
+        Meaning::Unsigned(_) => "32",
+        Meaning::Signed(_, _) => "32",
+        Meaning::Length(_, _) => "33",
+        Meaning::Text(_) => "32",
+        Meaning::Bytes(_) => "32",
+        Meaning::Octets => "32",
+        Meaning::Option(_) => "35",
+        Meaning::Variant(_, _) => "35",
+    }
+}
+
+// What a piece of so many bytes is, where the trail leads to it.
+fn put_meaning(
     trail: &Trail<'_, '_, '_>,
     size: usize,
     meaning: Meaning<'_>,

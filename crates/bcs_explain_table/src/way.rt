@@ -1,7 +1,8 @@
 //! The way to a piece, as it is written.
 ghost use Rattle.std.specs.Prelude.{◌≡◌, ◌≤◌, ◌++◌, ℕ, List, OnOk, length, reverse};
 ghost use Rattle.bcs_explain_steps.specs.Trail.{label_of, way_of};
-ghost use Rattle.bcs_explain_table.specs.Table.{opened, opened_last, step_text, steps_text, way_text};
+ghost use Rattle.bcs_explain_table.specs.Table.{opened, opened_last};
+ghost use Rattle.bcs_explain_table.specs.Ways.{step_text, steps_text, way_text};
 
 use bcs_explain::{Step, Trail};
 use bcs_explain_columns::columns::{put_decimal, put_hex};
@@ -52,7 +53,8 @@ fn turn_from(start: usize, out: &mut Vec<u8>)
     out.slice_mut(start..).reverse();
 }
 
-fn put_step(step: &Step<'_, '_>, out: &mut Vec<u8>) -> Result<(), AllocError>
+/// A step.
+pub(crate) fn put_step(step: &Step<'_, '_>, out: &mut Vec<u8>) -> Result<(), AllocError>
     ensures { OnOk result (out.new.items ≡ out.old.items ++ step_text (label_of step.now)) }
 {
     match step {

@@ -78,7 +78,7 @@ module _ (registry : Entries) (limits : Bounds) (s : Shape) (bytes : List ℕ) (
 
 -- bytes that are explained, whether they are a value's or stop being one
 pub explains : (work : Work) (input : List ℕ) (registry : Entries) (s : Shape) (bytes text : List ℕ) (stop : Option Stop) → IsAsked work input Explain registry s
-    → Gives work.raw input bytes → Explains registry work.limits s bytes text stop → Answers work input (explained_status stop) (explained_text text stop)
+    → Gives work.raw input bytes → Explains work.style registry work.limits s bytes text stop → Answers work input (explained_status stop) (explained_text work.style.form text stop)
 explains work input registry s bytes text None asked gives is = explained registry s bytes text asked gives is
 explains work input registry s bytes text (Some stop) asked gives is = damaged registry s bytes text stop.reason stop.place asked gives is
 

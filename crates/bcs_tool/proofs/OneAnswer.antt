@@ -39,7 +39,7 @@ use Rattle.bcs_tool_line.specs.declared.command.Command.TheVariants.{Check, Enco
 use Rattle.bcs_tool_line.specs.declared.command.Command.TheVariants as command
 use Rattle.bcs_tool.specs.AnswerLaws.{OneAnswer}
 use Rattle.bcs_json_spec.specs.FaultNames.{json_fault_name}
-use Rattle.bcs_tool.specs.Answers.{Answers, IsAsked, count_line, explained_status, explained_text, line_of, printed, printed_none, refusal_line, stop_line}
+use Rattle.bcs_tool.specs.Answers.{Answers, IsAsked, count_line, explained_status, explained_text, line_of, printed, printed_none, refusal_line, stop_end, stop_line}
 use Rattle.bcs_tool.specs.Answers as answer
 use Rattle.bcs_tool.specs.Input as given
 use Rattle.bcs_tool.specs.Judging.{IsFormat, IsPath, IsRegistry, RefusesAt, RefusesFormatted, job_fault_name}
@@ -96,7 +96,7 @@ module _ (work : Work) (input : List ℕ) where
     Decoded s p = Given Shown s p
 
     abbrev Pieced : List ℕ → ℕ → List ℕ → Type 0
-    Pieced bytes s p = (t : List ℕ) × (x : Option Stop) × Explains r work.limits f bytes t x × (s ≡ explained_status x) × (p ≡ explained_text t x)
+    Pieced bytes s p = (t : List ℕ) × (x : Option Stop) × Explains work.style r work.limits f bytes t x × (s ≡ explained_status x) × (p ≡ explained_text work.style.form t x)
 
     abbrev Explained : ℕ → List ℕ → Type 0
     Explained s p = Given Pieced s p
@@ -167,7 +167,7 @@ module _ (work : Work) (input : List ℕ) where
       by command.Explain 0 t a.is_command (valued Explained command.Explain r f 0 t a (inl (b, g, (t, None, h, refl, refl))))
   told (answer.damaged r f b t e o a g h) =
       by command.Explain 2 (t ++ stop_line e o) a.is_command
-      (valued Explained command.Explain r f 2 (t ++ stop_line e o) a (inl (b, g, (t, Some (record { reason = e; place = o }), h, refl, refl))))
+      (valued Explained command.Explain r f 2 (t ++ stop_end work.style.form e o) a (inl (b, g, (t, Some (record { reason = e; place = o }), h, refl, refl))))
   told (answer.no_bytes c r f (inl is) a h) = by Decode 2 (refusal_line (codes "BadHex")) (a.is_command ∙ is) (valued Decoded c r f 2 (refusal_line (codes "BadHex")) a (inr (h, refl, refl)))
   told (answer.no_bytes c r f (inr (inr is)) a h) =
       by command.Explain 2 (refusal_line (codes "BadHex")) (a.is_command ∙ is) (valued Explained c r f 2 (refusal_line (codes "BadHex")) a (inr (h, refl, refl)))
@@ -302,7 +302,7 @@ module _ (work : Work) (input : List ℕ) where
     one_pieced : (bytes : List ℕ) (s z : ℕ) (p q : List ℕ) → Pieced r f bytes s p → Pieced r f bytes z q → Agrees s p z q
     one_pieced bytes s z p q (t, x, h, hs, hp) (u, y, k, ks, kq) =
         let same = explains_once r work.limits f bytes t u x y h k in
-        (hs ∙ ap explained_status same.1 ∙ sym ks, hp ∙ ap₂ explained_text same.0 same.1 ∙ sym kq)
+        (hs ∙ ap explained_status same.1 ∙ sym ks, hp ∙ ap₂ (explained_text work.style.form) same.0 same.1 ∙ sym kq)
 
     one_explained : (s z : ℕ) (p q : List ℕ) → Explained r f s p → Explained r f z q → Agrees s p z q
     one_explained s z p q h k = one_given_answer (Pieced r f) one_pieced s z p q h k

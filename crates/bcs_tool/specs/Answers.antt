@@ -15,6 +15,8 @@ use Rattle.bcs_decode_spec.specs.declared.stop.Stop.{Stop}
 use Rattle.bcs_decode_spec.specs.Accepting.{Accepts}
 use Rattle.bcs_decode_spec.specs.Stopping.{Stops, StopsAll}
 use Rattle.bcs_decode_parts.specs.Parts.{Step, Part, part_at}
+use Rattle.bcs_explain_columns.specs.declared.style.Form.{Form}
+use Rattle.bcs_explain_columns.specs.declared.style.Form.TheVariants as forms
 use Rattle.bcs_explain_table.specs.Explains.{Explains}
 use Rattle.bcs_json_spec.specs.Headline.{Compares, HasBytes, Normalises, ShowsBytes}
 use Rattle.bcs_json_spec.specs.FaultNames.{json_fault_name}
@@ -48,9 +50,16 @@ abbrev pub explained_status : Option Stop → ℕ
 explained_status None = 0
 explained_status (Some stop) = 2
 
-abbrev pub explained_text : List ℕ → Option Stop → List ℕ
-explained_text text None = text
-explained_text text (Some stop) = text ++ stop_line stop.reason stop.place
+-- behind the pieces stands the line of `decode`, but for JSON, which has an object for it
+abbrev pub stop_end : Form → Reason → ℕ → List ℕ
+stop_end forms.Json reason place = []
+stop_end forms.Ways reason place = stop_line reason place
+stop_end forms.Paths reason place = stop_line reason place
+stop_end forms.Tree reason place = stop_line reason place
+
+abbrev pub explained_text : Form → List ℕ → Option Stop → List ℕ
+explained_text form text None = text
+explained_text form text (Some stop) = text ++ stop_end form stop.reason stop.place
 
 -- bytes as they are, or as a line of hexadecimal digits
 abbrev pub printed : Bool → List ℕ → List ℕ
@@ -105,9 +114,9 @@ pub data Answers (work : Work) (input : List ℕ) : ℕ → List ℕ → Type 0 
   -- `decode`: they are a value's, and its text would nest deeper than a text may
   too_nested : (registry : Entries) (s : Shape) (bytes : List ℕ) (c : Tree) → IsAsked work input command.Decode registry s → given.Gives work.raw input bytes → Accepts registry work.limits s bytes (length bytes) c → nesting_limit < depth (shown registry c (of s)) → Answers work input 2 (refusal_line (codes "TooNested"))
   -- `explain`: the pieces of the one value whose bytes the input gives
-  explained : (registry : Entries) (s : Shape) (bytes text : List ℕ) → IsAsked work input command.Explain registry s → given.Gives work.raw input bytes → Explains registry work.limits s bytes text None → Answers work input 0 text
+  explained : (registry : Entries) (s : Shape) (bytes text : List ℕ) → IsAsked work input command.Explain registry s → given.Gives work.raw input bytes → Explains work.style registry work.limits s bytes text None → Answers work input 0 text
   -- `explain`: the pieces before the bytes stop being a value at a place, and behind them the line of `decode`
-  damaged : (registry : Entries) (s : Shape) (bytes text : List ℕ) (reason : Reason) (place : ℕ) → IsAsked work input command.Explain registry s → given.Gives work.raw input bytes → Explains registry work.limits s bytes text (Some (record { reason = reason; place = place })) → Answers work input 2 (text ++ stop_line reason place)
+  damaged : (registry : Entries) (s : Shape) (bytes text : List ℕ) (reason : Reason) (place : ℕ) → IsAsked work input command.Explain registry s → given.Gives work.raw input bytes → Explains work.style registry work.limits s bytes text (Some (record { reason = reason; place = place })) → Answers work input 2 (text ++ stop_end work.style.form reason place)
   -- `decode`, `explain` and `part`: the input gives no bytes
   no_bytes : (asked : Command) (registry : Entries) (s : Shape) → TakesBytes asked → IsAsked work input asked registry s → ((bytes : List ℕ) → given.Gives work.raw input bytes → ⊥) → Answers work input 2 (refusal_line (codes "BadHex"))
   -- `part`: a value stands at the front of the bytes, and the steps of PATH lead to a part of it, whose bytes these are

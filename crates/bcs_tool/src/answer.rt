@@ -4,6 +4,7 @@ ghost use Rattle.hex.specs.Hex.{encode_lower};
 ghost use Rattle.bcs_tool.specs.Answers.{count_line, explained_status, explained_text, line_of, printed, printed_none, refusal_line, stop_line};
 
 use bcs_decode::Stop;
+use bcs_explain_columns::style::Form;
 use bcs_explain_table::Explanation;
 use std::alloc::{AllocError, Global};
 
@@ -46,10 +47,11 @@ pub fn stopped(alloc: Global, stop: Stop) -> Result<Answer, AllocError>
     refused(alloc, text.as_str())
 }
 
-/// The pieces of bytes; where the bytes stop being a value, the line of this stands behind them.
-pub fn explained(alloc: Global, explanation: Explanation) -> Result<Answer, AllocError>
+/// The pieces of bytes; where the bytes stop being a value, the line of this stands behind them, but for JSON, which has
+/// an object for it.
+pub fn explained(alloc: Global, form: Form, explanation: Explanation) -> Result<Answer, AllocError>
     ensures { IfOk result (λ a. (a.status ≡ explained_status explanation.stop)
-        × (a.output.items ≡ explained_text explanation.text.items explanation.stop)) }
+        × (a.output.items ≡ explained_text form explanation.text.items explanation.stop)) }
 {
     let Explanation { mut text, stop } = explanation;
     let Some(stop) = stop else {
@@ -59,7 +61,9 @@ pub fn explained(alloc: Global, explanation: Explanation) -> Result<Answer, Allo
         });
     };
     let line = stopped(alloc, stop)?;
-    text.extend_from_slice(line.output.as_slice())?;
+    if form != Form::Json {
+        text.extend_from_slice(line.output.as_slice())?;
+    }
     Ok(Answer {
         status: line.status,
         output: text,

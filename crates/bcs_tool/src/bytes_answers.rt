@@ -123,8 +123,8 @@ fn answer_explain(
         format,
         ..
     } = asked;
-    let explanation = explain_text(alloc, registry, format, &work.limits, bytes)?;
-    explained(alloc, explanation)
+    let explanation = explain_text(alloc, registry, format, &work.limits, work.style, bytes)?;
+    explained(alloc, work.style.form, explanation)
 }
 
 // The bytes of the part to which the path leads in the value at the front of these bytes.

@@ -30,7 +30,7 @@ pub fn program(rt: &HostRuntime) -> ExitCode
 }
 
 /// Does what the words ask for, or tells why there are none, and gives the status.
-pub fn start<R: Files + AllocGlobal, S: ByteSource, O: ByteSink, E: ByteSink>(
+pub fn start<R: Files + Env + AllocGlobal, S: ByteSource, O: ByteSink, E: ByteSink>(
     rt: &R,
     words: Result<Vec<String>, LineFault>,
     input: &mut S,

@@ -18,11 +18,12 @@ mod value_answers;
 
 pub use bcs_decode::{ByteSource, ReadSource};
 pub use bcs_encode::{ByteSink, WriteSink};
+pub use bcs_explain_columns::style::{Form, Paint, Style};
 pub use bcs_io::put_all;
 pub use bcs_tool_files::{
     FileFault, Outcome, TakeFault, Work, read_named, read_opened, read_work, take_all,
 };
-pub use bcs_tool_line::{Command, Job, LineFault, line};
+pub use bcs_tool_line::{Color, Command, Job, LineFault, line};
 pub use entry::{program, start, words_of};
 pub use responding::respond;
 pub use running::run;

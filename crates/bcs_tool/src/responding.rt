@@ -12,12 +12,13 @@ use bcs_decode::{ByteSource, ReadSource};
 use bcs_encode::ByteSink;
 use bcs_tool_files::{FileFault, Outcome, read_work};
 use bcs_tool_line::{Job, LineFault, line};
+use std::env::Env;
 use std::fs::File;
 use std::rt::Files;
 
 /// Does what the words ask for, of which the first is the program's own name, and gives the status.
 /// `input` is read where the job has an input and names no file for it.
-pub fn respond<R: Files + AllocGlobal, S: ByteSource, O: ByteSink, E: ByteSink>(
+pub fn respond<R: Files + Env + AllocGlobal, S: ByteSource, O: ByteSink, E: ByteSink>(
     rt: &R,
     words: &[String],
     input: &mut S,
@@ -47,7 +48,7 @@ pub fn respond<R: Files + AllocGlobal, S: ByteSource, O: ByteSink, E: ByteSink>(
 }
 
 // Reads the files that the job names, opens its input, and puts the answer.
-fn perform<R: Files + AllocGlobal, S: ByteSource, O: ByteSink>(
+fn perform<R: Files + Env + AllocGlobal, S: ByteSource, O: ByteSink>(
     rt: &R,
     job: Job,
     input: &mut S,

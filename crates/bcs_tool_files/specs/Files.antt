@@ -1,6 +1,9 @@
 -- The files that a job names.
 use Rattle.std.specs.Prelude.{◌≡◌, ◌≢◌, ◌≤◌, ◌<◌, ◌==◌, ℕ, List, [], ◌∷◌, Bool, true, false, codes, length, IfSome, Option, Some, None, String, string_bytes}
 use Rattle.std.specs.declared.alloc.Global.{Global}
+use Rattle.bcs_explain_columns.specs.declared.style.Paint.TheVariants.{Plain, Colored}
+use Rattle.bcs_explain_columns.specs.declared.style.Style.{Style}
+use Rattle.bcs_tool_line.specs.declared.color.Color.TheVariants.{Always, Never}
 use Rattle.bcs_tool_line.specs.declared.command.Command.{Command}
 use Rattle.bcs_tool_line.specs.declared.command.Command.TheVariants.{Check, Grows, Encode, Decode, Explain, Normalise, Same, Part}
 use Rattle.bcs_tool_files.specs.declared.file_fault.FileFault.{FileFault}
@@ -38,6 +41,12 @@ IsContent (Some content) bytes = bytes ≡ content
 abbrev pub NamesNoFile : Job → Type 0
 NamesNoFile job = (is_registry_text (string_bytes job.registry) ≡ true) × (job.command ≢ Same)
     × (job.command ≡ Grows → is_registry_text (string_bytes job.second) ≡ true)
+
+-- pieces are printed in the form that the job says, and in color where it says so; where it says nothing of color, either way
+pub record IsStyleOf (job : Job) (style : Style) : Type 0 where
+  pub form : style.form ≡ job.form
+  pub always : job.color ≡ Always → style.paint ≡ Colored
+  pub never : job.color ≡ Never → style.paint ≡ Plain
 
 -- What files gave. Which file a name opens, no clause of std says: it is known what an opened file gave, and
 -- not which it is.
@@ -80,5 +89,6 @@ module _ {F : Type 0} (remaining : F → Option (List ℕ)) where
     pub format : work.format ≡ job.format
     pub path : work.path ≡ job.path
     pub raw : work.raw ≡ job.raw
+    pub style : IsStyleOf job work.style
     pub limits : work.limits ≡ job.limits
     pub input : file ≡ job.file

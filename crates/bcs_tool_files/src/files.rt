@@ -7,11 +7,13 @@ ghost use Rattle.bcs_tool_files.specs.Files.{IsFaultOfFiles, IsFileText, IsTextO
 
 use crate::file_fault::FileFault;
 use crate::limits::SIZE_LIMIT;
+use crate::styling::style_of;
 use crate::taking::{TakeFault, take_all};
 use crate::work::Work;
 use bcs_io::{ByteSource, ReadSource};
 use bcs_tool_line::{Command, Job};
 use std::alloc::{AllocError, Global};
+use std::env::Env;
 use std::fs::File;
 use std::rt::Files;
 
@@ -45,7 +47,7 @@ pub fn read_opened<S: ByteSource>(alloc: Global, file: &mut S) -> Result<Vec<u8>
 
 /// The work of a job, and the name of the input's file. The files that the job names are read, that
 /// of REG or OLD before that of NEW or A.
-pub fn read_work<R: Files + AllocGlobal>(
+pub fn read_work<R: Files + Env + AllocGlobal>(
     rt: &R,
     job: Job,
 ) -> Result<(Work, Option<String>), FileFault>
@@ -64,6 +66,7 @@ pub fn read_work<R: Files + AllocGlobal>(
         | Command::Normalise
         | Command::Part => Vec::new(rt.alloc()),
     };
+    let style = style_of(rt, &job);
     let work = Work {
         command: job.command,
         registry,
@@ -71,6 +74,7 @@ pub fn read_work<R: Files + AllocGlobal>(
         format: job.format,
         path: job.path,
         raw: job.raw,
+        style,
         limits: job.limits,
     };
     Ok((work, job.file))

@@ -4,6 +4,7 @@
 mod file_fault;
 mod files;
 pub mod limits;
+mod styling;
 mod taking;
 mod work;
 

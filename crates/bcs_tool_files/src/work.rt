@@ -1,5 +1,6 @@
 //! What a run is given, and how it ends.
 
+use bcs_explain_columns::style::Style;
 use bcs_tool_line::Command;
 use bcs_value::Limits;
 
@@ -17,6 +18,8 @@ pub struct Work {
     pub path: String,
     /// Whether bytes are read and written as they are, and not as hexadecimal digits.
     pub raw: bool,
+    /// How pieces are printed.
+    pub style: Style,
     /// What a value may hold.
     pub limits: Limits,
 }

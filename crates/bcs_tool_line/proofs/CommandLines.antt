@@ -5,7 +5,7 @@ use Rattle.clap.specs.Words.{Text, fault_of, first_of, subcommand_of}
 use Rattle.clap.specs.declared.error.kind.ErrorKind.TheVariants as kind
 use Rattle.clap.proofs.OnLiterals.{clap_on_literals}
 use Rattle.bcs_tool_words.specs.CommandLine.{bcs_app}
-use Rattle.bcs_tool_line.specs.Jobs.{command_named, is_raw}
+use Rattle.bcs_tool_line.specs.Jobs.{command_named, is_set}
 use Rattle.bcs_tool_line.specs.declared.command.Command.{Command}
 use Rattle.bcs_tool_line.specs.declared.command.Command.TheVariants.{Check, Grows, Encode, Explain, Same, Part}
 
@@ -17,7 +17,7 @@ abbrev given_in : Text → List Text → Option (Option Text)
 given_in argument words = option_map (λ p. first_of argument p.1) (subcommand_of bcs_app words)
 
 abbrev raw_in : List Text → Option Bool
-raw_in words = option_map (λ p. is_raw p.1) (subcommand_of bcs_app words)
+raw_in words = option_map (λ p. is_set (codes "raw") p.1) (subcommand_of bcs_app words)
 
 -- ---- `bcs encode {} "I16"`, where the quotes belong to the word
 

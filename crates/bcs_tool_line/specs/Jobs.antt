@@ -5,7 +5,11 @@ use Rattle.std.specs.Str.Parse.{IsNumeral, digits_value, without_leading_plus}
 use Rattle.std.specs.Option.{option_or}
 use Rattle.clap.specs.Words.{Row, Text, first_of, one_of, subcommand_of}
 use Rattle.bcs_value_spec.specs.Limits.{Bounds}
+use Rattle.bcs_explain_columns.specs.declared.style.Form.{Form}
+use Rattle.bcs_explain_columns.specs.declared.style.Form.TheVariants.{Ways, Paths, Tree, Json}
 use Rattle.bcs_tool_words.specs.CommandLine.{bcs_app}
+use Rattle.bcs_tool_line.specs.declared.color.Color.{Color}
+use Rattle.bcs_tool_line.specs.declared.color.Color.TheVariants.{Auto, Always, Never}
 use Rattle.bcs_tool_line.specs.declared.command.Command.{Command}
 use Rattle.bcs_tool_line.specs.declared.command.Command.TheVariants.{Check, Grows, Encode, Decode, Explain, Normalise, Same, Part}
 use Rattle.bcs_tool_line.specs.declared.job.Job.{Job}
@@ -25,9 +29,19 @@ command_named name = if bytes_eq name (codes "check") then Some Check
 abbrev pub text_or_empty : Option Text → Text
 text_or_empty word = unwrap_or word []
 
--- clap gives `--raw` the value `true` where it was used, and `false` else
-abbrev pub is_raw : List Row → Bool
-is_raw found = bytes_eq (text_or_empty (first_of (codes "raw") found)) (codes "true")
+-- clap gives an option without a value the text `true` where it was used, and `false` else
+abbrev pub is_set : Text → List Row → Bool
+is_set name found = bytes_eq (text_or_empty (first_of name found)) (codes "true")
+
+-- how pieces are printed: `--json` goes before `--tree`, and that before `--paths`
+abbrev pub form_of : List Row → Form
+form_of found = if is_set (codes "json") found then Json
+    else (if is_set (codes "tree") found then Tree
+    else (if is_set (codes "paths") found then Paths else Ways))
+
+-- what is said of color: `--no-color` goes before `--color`
+abbrev pub color_of : List Row → Color
+color_of found = if is_set (codes "no-color") found then Never else (if is_set (codes "color") found then Always else Auto)
 
 -- the word writes the number n, of at most `most`, or there is none and n is `most`
 abbrev pub WritesLimit : ℕ → Option Text → ℕ → Type 0
@@ -48,7 +62,9 @@ pub record IsJob (command : Command) (found : List Row) (job : Job) : Type 0 whe
   pub format : string_bytes job.format ≡ text_or_empty (first_of (codes "FORMAT") found)
   pub path : string_bytes job.path ≡ text_or_empty (first_of (codes "PATH") found)
   pub file : option_map string_bytes job.file ≡ option_or (first_of (codes "FILE") found) (first_of (codes "B") found)
-  pub raw : job.raw ≡ is_raw found
+  pub raw : job.raw ≡ is_set (codes "raw") found
+  pub form : job.form ≡ form_of found
+  pub color : job.color ≡ color_of found
   pub limits : WritesLimits found job.limits
 
 -- the job that the words ask for, of which the first is the program's own name: that of the

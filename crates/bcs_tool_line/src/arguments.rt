@@ -2,10 +2,12 @@
 ghost use Rattle.std.specs.Prelude.{◌≡◌, ℕ, IfOk, option_map, string_bytes};
 ghost use Rattle.clap.specs.Words.{found_of, one_of, rows_of};
 ghost use Rattle.bcs_value_spec.specs.Limits.{Bounds};
-ghost use Rattle.bcs_tool_line.specs.Jobs.{IsJob, WritesLimit, WritesLimits, text_or_empty};
+ghost use Rattle.bcs_tool_line.specs.Jobs.{IsJob, WritesLimit, WritesLimits, color_of as color_in, form_of as form_in, is_set as is_set_in, text_or_empty};
 
+use crate::color::Color;
 use crate::command::Command;
 use crate::job::Job;
+use bcs_explain_columns::style::Form;
 use bcs_value::Limits;
 use clap::ArgMatches;
 use std::alloc::{AllocError, Global};
@@ -22,9 +24,46 @@ pub fn job_of(alloc: Global, command: Command, given: &ArgMatches<'_>) -> Result
         format: text_of(alloc, given.get_str("FORMAT"))?,
         path: text_of(alloc, given.get_str("PATH"))?,
         file: file_name(alloc, given.get_str("FILE").or(given.get_str("B")))?,
-        raw: given.get_str("raw").unwrap_or("") == "true",
+        raw: is_set(given, "raw"),
+        form: form_of(given),
+        color: color_of(given),
         limits: limits_of(given),
     })
+}
+
+// Whether an option without a value was given.
+fn is_set(given: &ArgMatches<'_>, option: &str) -> bool
+    ensures { result ≡ is_set_in option.now (rows_of (found_of given.now)) }
+{
+    given.get_str(option).unwrap_or("") == "true"
+}
+
+// How pieces are printed.
+fn form_of(given: &ArgMatches<'_>) -> Form
+    ensures { result ≡ form_in (rows_of (found_of given.now)) }
+{
+    if is_set(given, "json") {
+        Form::Json
+    } else if is_set(given, "tree") {
+        Form::Tree
+    } else if is_set(given, "paths") {
+        Form::Paths
+    } else {
+        Form::Ways
+    }
+}
+
+// What is said of color.
+fn color_of(given: &ArgMatches<'_>) -> Color
+    ensures { result ≡ color_in (rows_of (found_of given.now)) }
+{
+    if is_set(given, "no-color") {
+        Color::Never
+    } else if is_set(given, "color") {
+        Color::Always
+    } else {
+        Color::Auto
+    }
 }
 
 // The text of a word, which is empty where there is none.

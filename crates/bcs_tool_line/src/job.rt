@@ -1,6 +1,8 @@
 //! A command with its words.
 
+use crate::color::Color;
 use crate::command::Command;
+use bcs_explain_columns::style::Form;
 use bcs_value::Limits;
 
 /// What a command line asks for: the command, and its words as they stand. A word that the command
@@ -20,6 +22,10 @@ pub struct Job {
     pub file: Option<String>,
     /// Whether `--raw` was given: bytes are read and written as they are, and not as hexadecimal digits.
     pub raw: bool,
+    /// `--paths`, `--tree`, `--json`: how pieces are printed. Of several the last one of these is meant.
+    pub form: Form,
+    /// `--color`, `--no-color`: whether they are printed in color. Of both the latter is meant.
+    pub color: Color,
     /// `--depth` and `--nodes`: what a value may hold. The standard limits where they weren't given.
     pub limits: Limits,
 }

@@ -2,11 +2,13 @@
 #![tactic(auto)]
 
 mod arguments;
+mod color;
 mod command;
 mod command_line;
 mod job;
 mod line_fault;
 
+pub use color::Color;
 pub use command::Command;
 pub use command_line::line;
 pub use job::Job;

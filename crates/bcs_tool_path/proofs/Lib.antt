@@ -2,3 +2,4 @@ pub mod Steps
 pub mod Parts
 pub mod PathReading
 pub mod SomePath
+pub mod WayWords

@@ -1,5 +1,5 @@
 -- The command line of `bcs`, in the terms of clap's contracts: which words each command takes.
-use Rattle.std.specs.Prelude.{ℕ, List, [], ◌∷◌, ◌++◌, Some, true, codes, map, fold, pos, String, string_bytes}
+use Rattle.std.specs.Prelude.{ℕ, List, [], ◌∷◌, Some, true, codes, map, fold, pos, String, string_bytes}
 use Rattle.std.specs.declared.alloc.Global.{Global}
 use Rattle.clap.specs.Words.{App, Rule, Text, new_app, new_rule, with_rule, with_subcommand}
 use Rattle.clap.specs.Simple.{on_top}
@@ -14,9 +14,9 @@ required name = record (new_rule name) { required = true }
 abbrev pub optional : Text → Rule
 optional name = new_rule name
 
--- `--raw`, which takes no value
-abbrev pub raw_flag : Rule
-raw_flag = record (new_rule (codes "raw")) { long = Some (codes "raw"); action = Some SetTrue }
+-- an option of this name, which takes no value
+abbrev pub flag_option : Text → Rule
+flag_option name = record (new_rule name) { long = Some name; action = Some SetTrue }
 
 -- an option of this name with a value, which is a whole number from 0 to `most`
 abbrev pub number_option : Text → ℕ → Rule
@@ -39,13 +39,21 @@ value_app name = command_with name (required (codes "REG") ∷ required (codes "
     ∷ number_option (codes "depth") 500 ∷ number_option (codes "nodes") 4294967295 ∷ [])
 
 abbrev pub encode_app : App
-encode_app = fold with_rule (value_app (codes "encode")) (optional (codes "FILE") ∷ raw_flag ∷ [])
+encode_app = fold with_rule (value_app (codes "encode")) (optional (codes "FILE") ∷ flag_option (codes "raw") ∷ [])
 
 abbrev pub decode_app : App
-decode_app = fold with_rule (value_app (codes "decode")) (optional (codes "FILE") ∷ raw_flag ∷ [])
+decode_app = fold with_rule (value_app (codes "decode")) (optional (codes "FILE") ∷ flag_option (codes "raw") ∷ [])
+
+-- how pieces are printed
+abbrev pub form_options : List Rule
+form_options = flag_option (codes "paths") ∷ flag_option (codes "tree") ∷ flag_option (codes "json") ∷ []
+
+-- whether they are in color
+abbrev pub color_options : List Rule
+color_options = flag_option (codes "color") ∷ flag_option (codes "no-color") ∷ []
 
 abbrev pub explain_app : App
-explain_app = fold with_rule (value_app (codes "explain")) (optional (codes "FILE") ∷ raw_flag ∷ [])
+explain_app = fold with_rule (fold with_rule (fold with_rule (value_app (codes "explain")) (optional (codes "FILE") ∷ flag_option (codes "raw") ∷ [])) form_options) color_options
 
 abbrev pub normalise_app : App
 normalise_app = fold with_rule (value_app (codes "normalise")) (optional (codes "FILE") ∷ [])
@@ -54,7 +62,7 @@ abbrev pub same_app : App
 same_app = fold with_rule (value_app (codes "same")) (required (codes "A") ∷ optional (codes "B") ∷ [])
 
 abbrev pub part_app : App
-part_app = fold with_rule (value_app (codes "part")) (required (codes "PATH") ∷ optional (codes "FILE") ∷ raw_flag ∷ [])
+part_app = fold with_rule (value_app (codes "part")) (required (codes "PATH") ∷ optional (codes "FILE") ∷ flag_option (codes "raw") ∷ [])
 
 -- one of its commands has to be there
 abbrev pub wants_command : App → App

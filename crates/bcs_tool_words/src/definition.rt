@@ -1,8 +1,8 @@
 //! What words each command takes, in clap's terms.
-ghost use Rattle.std.specs.Prelude.{◌≡◌, IfOk, codes, false};
-ghost use Rattle.clap.specs.Words.{app_of, rule_of};
+ghost use Rattle.std.specs.Prelude.{◌≡◌, IfOk, codes, false, fold};
+ghost use Rattle.clap.specs.Words.{app_of, rule_of, with_rule};
 ghost use Rattle.clap.specs.declared.builder.command.Command.TheViews.{out-Command};
-ghost use Rattle.bcs_tool_words.specs.CommandLine.{bcs_app, check_app, decode_app, encode_app, explain_app, grows_app, normalise_app, number_option, optional, part_app, raw_flag, required, same_app, value_app};
+ghost use Rattle.bcs_tool_words.specs.CommandLine.{bcs_app, check_app, color_options, decode_app, encode_app, explain_app, flag_option, form_options, grows_app, normalise_app, number_option, optional, part_app, required, same_app, value_app};
 
 use crate::texts;
 use crate::version::VERSION;
@@ -81,7 +81,7 @@ fn explain_command<'a>(alloc: Global) -> Result<Command<'a>, AllocError>
     ensures app { IfOk result (λ c. app_of c ≡ explain_app) }
     ensures global { IfOk result (λ c. (out-Command c).has_globals ≡ false) }
 {
-    value_command(alloc, "explain")?
+    let command = value_command(alloc, "explain")?
         .about(
             "Prints a value's bytes, piece by piece: place, bytes, what they are, and the way to them",
         )
@@ -90,7 +90,30 @@ fn explain_command<'a>(alloc: Global) -> Result<Command<'a>, AllocError>
         .arg(raw_option(
             alloc,
             "Reads the bytes as they are, and not as hexadecimal digits",
-        ))
+        ))?;
+    with_color_options(alloc, with_form_options(alloc, command)?)
+}
+
+// How pieces are printed.
+fn with_form_options<'a>(alloc: Global, command: Command<'a>) -> Result<Command<'a>, AllocError>
+    requires global { (out-Command command).has_globals ≡ false }
+    ensures app { IfOk result (λ c. app_of c ≡ fold with_rule (app_of command.entry) form_options) }
+    ensures global { IfOk result (λ c. (out-Command c).has_globals ≡ false) }
+{
+    command
+        .arg(flag(alloc, "paths", texts::PATHS))?
+        .arg(flag(alloc, "tree", texts::TREE))?
+        .arg(flag(alloc, "json", texts::JSON))
+}
+
+fn with_color_options<'a>(alloc: Global, command: Command<'a>) -> Result<Command<'a>, AllocError>
+    requires global { (out-Command command).has_globals ≡ false }
+    ensures app { IfOk result (λ c. app_of c ≡ fold with_rule (app_of command.entry) color_options) }
+    ensures global { IfOk result (λ c. (out-Command c).has_globals ≡ false) }
+{
+    command
+        .arg(flag(alloc, "color", texts::COLOR))?
+        .arg(flag(alloc, "no-color", texts::NO_COLOR))
 }
 
 fn normalise_command<'a>(alloc: Global) -> Result<Command<'a>, AllocError>
@@ -158,11 +181,19 @@ fn optional_word<'a>(alloc: Global, name: &'a str, help: &'a str) -> Arg<'a>
 }
 
 fn raw_option<'a>(alloc: Global, help: &'a str) -> Arg<'a>
-    ensures rule { rule_of result ≡ raw_flag }
+    ensures rule { rule_of result ≡ flag_option (codes "raw") }
     ensures global { result.global ≡ false }
 {
-    Arg::new(alloc, "raw")
-        .long("raw")
+    flag(alloc, "raw", help)
+}
+
+// An option of this name without a value.
+fn flag<'a>(alloc: Global, name: &'a str, help: &'a str) -> Arg<'a>
+    ensures rule { rule_of result ≡ flag_option name.entry.now }
+    ensures global { result.global ≡ false }
+{
+    Arg::new(alloc, name)
+        .long(name)
         .action(ArgAction::SetTrue)
         .help(help)
 }

@@ -24,6 +24,23 @@ pub const FIRST_FILE: &str = "The file of the first value's JSON text";
 
 pub const SECOND_FILE: &str = "The file of the second value's, in place of the standard input";
 
+// ---- the options of `explain`
+
+pub const PATHS: &str =
+    "Prints behind each way the word PATH that leads `part` there, or - where none does";
+
+pub const TREE: &str =
+    "Prints the last step of each way alone, set in by how deep it lies. It goes before --paths";
+
+pub const JSON: &str =
+    "Prints a JSON object for each piece, one a line, which has its PATH and all its bytes. It goes \
+    before --tree and --paths";
+
+pub const COLOR: &str =
+    "Prints in color. Without it, that is done on a terminal, if NO_COLOR isn't set";
+
+pub const NO_COLOR: &str = "Prints without color. It goes before --color";
+
 // ---- the ends of the helps
 
 pub const PROGRAM_END: &str = "Example:

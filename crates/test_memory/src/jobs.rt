@@ -4,7 +4,7 @@ use crate::tally::Tally;
 use crate::told::Told;
 use bcs_decode::SliceSource;
 use bcs_encode::pieces::PieceSink;
-use bcs_tool::{Command, Outcome, Work, run};
+use bcs_tool::{Command, Form, Outcome, Paint, Style, Work, run};
 use bcs_value::Limits;
 use std::alloc::{AllocError, Global};
 use std::str;
@@ -24,6 +24,10 @@ pub(crate) fn job(
         format: String::from_str(alloc, format)?,
         path: String::new(alloc),
         raw: false,
+        style: Style {
+            form: Form::Ways,
+            paint: Paint::Plain,
+        },
         limits: Limits::standard(),
     })
 }

@@ -6,16 +6,22 @@ use crate::words::{bytes, word_of};
 use bcs_decode::SliceSource;
 use bcs_decode::pieces::PieceSource;
 use bcs_encode::pieces::PieceSink;
-use bcs_tool::{ByteSource, Command, Outcome, Work, run};
+use bcs_tool::{ByteSource, Command, Form, Outcome, Paint, Style, Work, run};
 use bcs_value::Limits;
 use std::alloc::{AllocError, Global};
 use std::str;
+
+const PLAIN: Style = Style {
+    form: Form::Ways,
+    paint: Paint::Plain,
+};
 
 pub(crate) fn answer(alloc: Global, words: &[&str]) -> Result<String, RowFault> {
     match words {
         ["check", registry] => judge(alloc, Command::Check, registry, ""),
         ["grows", older, newer] => judge(alloc, Command::Grows, older, newer),
         ["part", words @ ..] => on_parts(alloc, words),
+        ["explain", words @ ..] => on_pieces(alloc, words),
         [name, words @ ..] => match Command::named(name) {
             Some(command) => on_values(alloc, command, words),
             None => Err(RowFault::NotUnderstood),
@@ -38,6 +44,7 @@ fn judge(
         format: String::new(alloc),
         path: String::new(alloc),
         raw: false,
+        style: PLAIN,
         limits: Limits::standard(),
     };
     without_input(alloc, &work)
@@ -48,6 +55,7 @@ fn judge(
 struct ValueJob<'a> {
     command: Command,
     raw: bool,
+    style: Style,
     registry: &'a str,
     format: &'a str,
     second: &'a str,
@@ -64,6 +72,7 @@ fn asked<'a>(
     ValueJob {
         command,
         raw: false,
+        style: PLAIN,
         registry,
         format,
         second: "",
@@ -96,6 +105,30 @@ fn on_values(alloc: Global, command: Command, words: &[&str]) -> Result<String, 
     }
 }
 
+// The answer to a job on pieces, and to its input: how they are printed comes first.
+fn on_pieces(alloc: Global, words: &[&str]) -> Result<String, RowFault> {
+    match words {
+        [form, registry, format, input, limits @ ..] => {
+            let mut asked = asked(Command::Explain, registry, format, limits);
+            asked.style = style_of(form)?;
+            with_input(alloc, asked, input)
+        }
+        _ => Err(RowFault::NotUnderstood),
+    }
+}
+
+fn style_of(form: &str) -> Result<Style, RowFault> {
+    let (form, paint) = match form {
+        "--ways" => (Form::Ways, Paint::Plain),
+        "--paths" => (Form::Paths, Paint::Plain),
+        "--tree" => (Form::Tree, Paint::Plain),
+        "--json" => (Form::Json, Paint::Plain),
+        "--color" => (Form::Ways, Paint::Colored),
+        _ => return Err(RowFault::NotUnderstood),
+    };
+    Ok(Style { form, paint })
+}
+
 fn asked_part<'a>(
     raw: bool,
     registry: &'a str,
@@ -106,6 +139,7 @@ fn asked_part<'a>(
     ValueJob {
         command: Command::Part,
         raw,
+        style: PLAIN,
         registry,
         format,
         second: "",
@@ -146,6 +180,7 @@ fn work_of(alloc: Global, asked: ValueJob<'_>) -> Result<Work, RowFault> {
         format: String::from_str(alloc, asked.format)?,
         path: path_of(alloc, asked.path)?,
         raw: asked.raw,
+        style: asked.style,
         limits,
     })
 }

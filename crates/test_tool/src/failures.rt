@@ -2,7 +2,7 @@
 use bcs_decode::ByteSource;
 use bcs_decode::pieces::RepeatSource;
 use bcs_encode::pieces::PieceSink;
-use bcs_tool::{Command, Work, run};
+use bcs_tool::{Command, Form, Paint, Style, Work, run};
 use bcs_value::Limits;
 use std::alloc::{AllocError, Global};
 use std::test::Fail;
@@ -16,6 +16,10 @@ fn encoding(alloc: Global) -> Result<Work, AllocError> {
         format: String::from_str(alloc, "\"I16\"")?,
         path: String::new(alloc),
         raw: false,
+        style: Style {
+            form: Form::Ways,
+            paint: Paint::Plain,
+        },
         limits: Limits::standard(),
     })
 }

@@ -1,5 +1,5 @@
 //! Files that are named, and the work of jobs.
-use bcs_tool::{Command, FileFault, Job, Work, read_named, read_work};
+use bcs_tool::{Color, Command, FileFault, Form, Job, Paint, Work, read_named, read_work};
 use bcs_value::Limits;
 use std::alloc::{AllocError, Global};
 use std::fs;
@@ -28,6 +28,8 @@ fn job(alloc: Global, command: Command) -> Result<Job, AllocError> {
         path: String::from_str(alloc, "P")?,
         file: Some(String::from_str(alloc, "I")?),
         raw: true,
+        form: Form::Tree,
+        color: Color::Always,
         limits: Limits::new(7, 9).unwrap_or(Limits::standard()),
     })
 }
@@ -40,6 +42,8 @@ fn is_work(work: &Work, command: Command) -> bool {
         && work.format.as_str() == "F"
         && work.path.as_str() == "P"
         && work.raw
+        && work.style.form == Form::Tree
+        && work.style.paint == Paint::Colored
         && work.limits.depth() == 7
         && work.limits.nodes() == 9
 }

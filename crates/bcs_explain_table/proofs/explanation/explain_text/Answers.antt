@@ -11,8 +11,8 @@ damaged-requires c =
     let h = inr (c.in-Ok.end, found.0, found.1, c.if-end-bytes.true, refl, refl) in
     record {
       within = λ kept.
-          counted_within c.args.registry.now c.args.limits.now (shape_of c.args.format.now) c.args.bytes.now TrailingBytes c.in-Ok.end h c.explain.new.out
-          (heard c.new-table.result c.new-table.ensures.text c.new-table.ensures.told c.explain.new.out _ (c.in-Ok.ensures.told c.in-Ok.end found.0 found.1) kept) (omega arith);
+          counted_within c.args.style c.args.registry.now c.args.limits.now (shape_of c.args.format.now) c.args.bytes.now TrailingBytes c.in-Ok.end h c.explain.new.out
+          (heard c.args.style c.new-table.result c.new-table.ensures.style c.new-table.ensures.text c.new-table.ensures.told c.explain.new.out _ (c.in-Ok.ensures.told c.in-Ok.end found.0 found.1) kept) (omega arith);
     }
 
 pub damaged-requires-in-Err : goal.damaged-requires-in-Err
@@ -21,8 +21,8 @@ damaged-requires-in-Err c =
     let h = c.in-Err.ensures.stops in
     record {
       within = λ kept.
-          counted_within c.args.registry.now c.args.limits.now (shape_of c.args.format.now) c.args.bytes.now stop.reason stop.place (inl h) c.explain.new.out
-          (heard_halt c.new-table.result c.new-table.ensures.text c.new-table.ensures.told c.explain.new.out _ (c.in-Err.ensures.told_before stop.reason stop.place h) kept) (omega arith);
+          counted_within c.args.style c.args.registry.now c.args.limits.now (shape_of c.args.format.now) c.args.bytes.now stop.reason stop.place (inl h) c.explain.new.out
+          (heard_halt c.args.style c.new-table.result c.new-table.ensures.style c.new-table.ensures.text c.new-table.ensures.told c.explain.new.out _ (c.in-Err.ensures.told_before stop.reason stop.place h) kept) (omega arith);
     }
 
 pub returns-in-Ok : goal.returns-in-Ok
@@ -30,8 +30,8 @@ returns-in-Ok c =
     let found = c.in-Ok.ensures.found in
     let h = inr (c.in-Ok.end, found.0, found.1, c.if-end-bytes.true, refl, refl) in
     IfOk-weaker c.damaged.result _ _ (λ x is.
-    damage_explains c.args.registry.now c.args.limits.now (shape_of c.args.format.now) c.args.bytes.now TrailingBytes c.in-Ok.end h c.explain.new.out
-    (heard c.new-table.result c.new-table.ensures.text c.new-table.ensures.told c.explain.new.out _ (c.in-Ok.ensures.told c.in-Ok.end found.0 found.1) is.0) (omega arith)
+    damage_explains c.args.style c.args.registry.now c.args.limits.now (shape_of c.args.format.now) c.args.bytes.now TrailingBytes c.in-Ok.end h c.explain.new.out
+    (heard c.args.style c.new-table.result c.new-table.ensures.style c.new-table.ensures.text c.new-table.ensures.told c.explain.new.out _ (c.in-Ok.ensures.told c.in-Ok.end found.0 found.1) is.0) (omega arith)
     x.text.items x.stop is.1 is.2)
     c.damaged.ensures
 
@@ -39,9 +39,9 @@ pub returns-in-Ok-2 : goal.returns-in-Ok-2
 returns-in-Ok-2 c =
     let found = c.in-Ok.ensures.found in
     IfOk-weaker c.whole.result _ _ (λ x is.
-    whole_explains c.args.registry.now c.args.limits.now (shape_of c.args.format.now) c.args.bytes.now found.0 c.in-Ok.end c.explain.new.out found.1
+    whole_explains c.args.style c.args.registry.now c.args.limits.now (shape_of c.args.format.now) c.args.bytes.now found.0 c.in-Ok.end c.explain.new.out found.1
     (omega (arith, found.1.within, c.if-end-bytes.false))
-    (heard c.new-table.result c.new-table.ensures.text c.new-table.ensures.told c.explain.new.out _ (c.in-Ok.ensures.told c.in-Ok.end found.0 found.1) is.0)
+    (heard c.args.style c.new-table.result c.new-table.ensures.style c.new-table.ensures.text c.new-table.ensures.told c.explain.new.out _ (c.in-Ok.ensures.told c.in-Ok.end found.0 found.1) is.0)
     x.text.items x.stop is.2 is.1)
     c.whole.ensures
 
@@ -50,7 +50,7 @@ returns-in-Err c =
     let stop = c.in-Err.stop in
     let h = c.in-Err.ensures.stops in
     IfOk-weaker c.damaged-in-Err.result _ _ (λ x is.
-    damage_explains c.args.registry.now c.args.limits.now (shape_of c.args.format.now) c.args.bytes.now stop.reason stop.place (inl h) c.explain.new.out
-    (heard_halt c.new-table.result c.new-table.ensures.text c.new-table.ensures.told c.explain.new.out _ (c.in-Err.ensures.told_before stop.reason stop.place h) is.0) (omega arith)
+    damage_explains c.args.style c.args.registry.now c.args.limits.now (shape_of c.args.format.now) c.args.bytes.now stop.reason stop.place (inl h) c.explain.new.out
+    (heard_halt c.args.style c.new-table.result c.new-table.ensures.style c.new-table.ensures.text c.new-table.ensures.told c.explain.new.out _ (c.in-Err.ensures.told_before stop.reason stop.place h) is.0) (omega arith)
     x.text.items x.stop is.1 is.2)
     c.damaged-in-Err.ensures

@@ -22,15 +22,15 @@ loop-rest-preserved c =
     let place = c.loop-rest.place in
     let o = c.loop-rest.out.items in
     let some : length rest ≡ 0 → ⊥ = λ h. omega (arith, h, c.loop-rest-test.true) in
-    let line = row place (take row_size rest) in
-    let behind = more_rows (length (drop row_size rest)) (place + length (take row_size rest)) (drop row_size rest) in (
+    let line = row c.args.paint place (take row_size rest) in
+    let behind = more_rows c.args.paint (length (drop row_size rest)) (place + length (take row_size rest)) (drop row_size rest) in (
       omega (arith, ap length first, ap length left, row_sizes rest, c.loop-rest.invariant.0),
       rw (c.in_ok-put_row.ensures, first, left) (append_assoc (o ++ line) (10 ∷ []) behind ∙ append_assoc o line (10 ∷ behind)
-          ∙ ap (λ t. o ++ t) (sym (rows_on place rest some ∙ append_assoc line (10 ∷ []) behind)) ∙ c.loop-rest.invariant.1),
+          ∙ ap (λ t. o ++ t) (sym (rows_on c.args.paint place rest some ∙ append_assoc line (10 ∷ []) behind)) ∙ c.loop-rest.invariant.1),
     )
 
 pub returns : goal.returns
 returns c =
     let rest = c.loop-rest.rest.now in
-    let none = no_rows (length rest) c.loop-rest.place rest (nothing rest c.loop-rest-test.false) in
+    let none = no_rows c.args.paint (length rest) c.loop-rest.place rest (nothing rest c.loop-rest-test.false) in
     sym (append-nil c.loop-rest.out.items) ∙ ap (λ t. c.loop-rest.out.items ++ t) (sym none) ∙ c.loop-rest.invariant.1

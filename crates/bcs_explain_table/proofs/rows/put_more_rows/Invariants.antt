@@ -6,7 +6,7 @@ use Rattle.bcs_explain_table.proofs.rows.put_more_rows.Given as goal
 abbrev pub invariant-loop-rest : goal.invariant-loop-rest
 invariant-loop-rest l =
     (l.place + length l.rest ≡ l.place-2 + length l.bytes)
-    × (l.out.items ++ more_rows (length l.rest) l.place l.rest ≡ l.initial.out.items ++ more_rows (length l.bytes) l.place-2 l.bytes)
+    × (l.out.items ++ more_rows l.paint (length l.rest) l.place l.rest ≡ l.initial.out.items ++ more_rows l.paint (length l.bytes) l.place-2 l.bytes)
 
 abbrev pub decreases-loop-rest : goal.decreases-loop-rest
 decreases-loop-rest l = length l.rest

@@ -1,7 +1,7 @@
 use Rattle.std.proofs.Common.{◌∙◌, ◌++◌, append_assoc, ap, reverse, sym}
 use Rattle.std.proofs.lemmas.List.{reverse-append}
 use Rattle.bcs_explain_steps.specs.Trail.{label_of, way_of}
-use Rattle.bcs_explain_table.specs.Table.{step_text, steps_text}
+use Rattle.bcs_explain_table.specs.Ways.{step_text, steps_text}
 use Rattle.bcs_explain_table.proofs.Texts.{steps_onto}
 use Rattle.bcs_explain_table.proofs.TrailViews.{way_Below}
 use Rattle.bcs_explain_table.proofs.way.put_steps_back.Goals as goal

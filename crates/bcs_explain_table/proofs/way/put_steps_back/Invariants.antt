@@ -1,6 +1,6 @@
 use Rattle.std.proofs.Common.{◌≡◌, ◌++◌, length, reverse}
 use Rattle.bcs_explain_steps.specs.Trail.{way_of}
-use Rattle.bcs_explain_table.specs.Table.{steps_text}
+use Rattle.bcs_explain_table.specs.Ways.{steps_text}
 use Rattle.bcs_explain_table.proofs.way.put_steps_back.Given as goal
 
 -- what is put, and what is still to come, are the whole

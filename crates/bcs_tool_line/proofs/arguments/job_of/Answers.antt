@@ -1,6 +1,5 @@
-use Rattle.std.proofs.Common.{◌≡◌, ◌∙◌, ap, ap₂, refl, codes, Option, Some, None, option_map, unwrap_or, Bor, List, ℕ, rules}
+use Rattle.std.proofs.Common.{◌≡◌, ◌∙◌, ap, ap₂, refl, codes, Option, Some, None, option_map, Bor, List, ℕ, rules}
 use Rattle.std.specs.Option.{option_or}
-use Rattle.std.specs.Str.{bytes_eq}
 use Rattle.clap.specs.Words.{found_of}
 use Rattle.clap.proofs.WalkLemmas.{first_value-rows}
 use Rattle.bcs_tool_line.specs.Jobs.{text_or_empty}
@@ -10,11 +9,6 @@ option_map-option_or : {X Y : Type 0} (f : X → Y) (o p : Option X)
     → option_map f (option_or o p) ≡ option_or (option_map f o) (option_map f p)
 option_map-option_or f None p = refl
 option_map-option_or f (Some x) p = refl
-
-unwrap_or-option_map : {X Y : Type 0} (f : X → Y) (o : Option X) (d : X)
-    → f (unwrap_or o d) ≡ unwrap_or (option_map f o) (f d)
-unwrap_or-option_map f None d = refl
-unwrap_or-option_map f (Some x) d = refl
 
 -- the texts of one word or of the other
 either : (o p q : Option (Bor (List ℕ))) (s t : Option (List ℕ)) → q ≡ option_or o p → option_map (λ t. t.now) o ≡ s → option_map (λ t. t.now) p ≡ t
@@ -34,10 +28,9 @@ returns c =
       path = c.in_ok-text_of-4.ensures ∙ ap text_or_empty (c.get_str-6.ensures ∙ first_value-rows f (codes "PATH"));
       file = c.in_ok-file_name.ensures ∙ either c.get_str-7.result c.get_str-8.result c.or-3.result _ _ c.or-3.ensures (c.get_str-7.ensures ∙ first_value-rows f (codes "FILE"))
           (c.get_str-8.ensures ∙ first_value-rows f (codes "B"));
-      raw = c.eq.ensures ∙ ap (λ t. bytes_eq t (codes "true"))
-          (ap (λ (t : Bor (List ℕ)). t.now) c.unwrap_or.ensures
-          ∙ (unwrap_or-option_map (λ t. t.now) c.get_str-9.result _
-          ∙ ap text_or_empty (c.get_str-9.ensures ∙ first_value-rows f (codes "raw"))));
+      raw = c.is_set.ensures;
+      form = c.form_of.ensures;
+      color = c.color_of.ensures;
       limits = c.limits_of.ensures;
     }
 
