@@ -32,7 +32,7 @@ use Rattle.bcs_explain_spec.specs.Told as wanted
 use Rattle.bcs_explain_spec.specs.Told.{Told, as_told}
 use Rattle.bcs_explain_spec.specs.Held.{Held, held, carried, held_at, carried_at, choice_name, of, fields, one_of, nothing}
 use Rattle.bcs_explain_spec.specs.Pieces.{is_octet, pieces, pieces_items, pieces_each, pieces_fields, pieces_pairs}
-use Rattle.bcs_explain_spec.specs.Telling.{Telling, silent, halting, need, begun, noting, noting_then, going, tell_row, tell_pairs, tell_shape, tell_each, tell_fields, tell_carried, tell_choice, tell_variant, tell_held, tell_named, tell}
+use Rattle.bcs_explain_spec.specs.Telling.{Telling, silent, halting, begun, noting, noting_then, going, tell_row, tell_pairs, tell_shape, tell_each, tell_fields, tell_carried, tell_choice, tell_variant, tell_held, tell_named, tell}
 use Rattle.bcs_explain_spec.proofs.AsTold.{as_told-append}
 use Rattle.bcs_explain_spec.proofs.Past.{Past, gone, value_past}
 use Rattle.bcs_explain_spec.proofs.Tells.{Tells, tells_silent, tells_begun, tells_noting, tells_beside, tells_then}

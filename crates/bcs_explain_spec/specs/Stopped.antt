@@ -1,7 +1,7 @@
 -- What stands before a stop, in the words of `Stops`: the pieces of what is in front of it, the way to where it is, and what
 -- was wanted there. A length, a variant's number and an option's mark are among the pieces where what comes after them stops.
 -- Of `U8` in a row that stop there is none.
-use Rattle.std.specs.Prelude.{ℕ, zero, suc, ◌+◌, true, if◌then◌else◌, Option, Some, None, List, [], ◌∷◌, ◌++◌, length}
+use Rattle.std.specs.Prelude.{ℕ, zero, suc, ◌+◌, true, if◌then◌else◌, Option, Some, None, List, [], ◌∷◌, length}
 use mathlib.Core.Logic.{inl, inr}
 use Rattle.std.specs.Option.{option_map_or}
 use Rattle.bcs_num.specs.Uleb.{uleb}
@@ -77,9 +77,9 @@ module _ (registry : Entries) where
       shape_before (shape.unsigned w) way = none_before (Stop (shape.unsigned w)) way (wanted.unsigned w)
       shape_before (shape.signed w) way = none_before (Stop (shape.signed w)) way (wanted.signed w)
       shape_before (shape.unsupported u) way = none_before (Stop (shape.unsupported u)) way wanted.nothing
-      shape_before shape.text way = 
+      shape_before shape.text way =
           node_before (AfterLength TextStop) way (wanted.count text_bytes) (length_before TextStop way text_bytes (λ n. none_before (TextStop n) way (wanted.text n)))
-      shape_before shape.bytes way = 
+      shape_before shape.bytes way =
           node_before (AfterLength BytesStop) way (wanted.count raw_bytes) (length_before BytesStop way raw_bytes (λ n. none_before (BytesStop n) way (wanted.bytes n)))
       shape_before (shape.name n) way = r way n
       shape_before (shape.option s) way = node_before (OptionStop (Stop s)) way wanted.option (option_before (Stop s) way (shape_before s (onto way inner)))

@@ -1,5 +1,5 @@
 -- Values that have no bytes, of which nothing is told.
-use Rattle.std.proofs.Common.{◌≡◌, ◌≤◌, ℕ, zero, suc, ◌+◌, ◌-◌, ◌*◌, List, [], ◌++◌, drop, Ok, refl, sym, ap, ap₂, ◌∙◌, arith}
+use Rattle.std.proofs.Common.{◌≡◌, ◌≤◌, ℕ, zero, suc, ◌+◌, ◌-◌, ◌*◌, List, [], ◌++◌, drop, refl, ap, ap₂, ◌∙◌, arith}
 use Rattle.std.proofs.Math.Nat.{suc-mul}
 use Rattle.bcs_registry_formats.specs.Shape.{Shape}
 use Rattle.bcs_registry_formats.specs.Container.{Entries}
@@ -7,7 +7,7 @@ use Rattle.bcs_decode_spec.specs.Reading.{Parser}
 use Rattle.bcs_decode_slice_steps.specs.Fixed.{GoesPast, IsFixed}
 use Rattle.bcs_explain_spec.specs.Way.{Way, onto, item}
 use Rattle.bcs_explain_spec.specs.Told.{Told}
-use Rattle.bcs_explain_spec.specs.Telling.{Telling, going, tell, tell_items}
+use Rattle.bcs_explain_spec.specs.Telling.{Telling, tell, tell_items}
 use Rattle.bcs_explain_spec.proofs.Silence.{nothing_taken}
 use Rattle.bcs_explain_steps.proofs.Noted.{going_ok}
 

@@ -42,8 +42,8 @@ leaf_told shape.unit way = needing way wanted.node node_here
 leaf_told shape.truth way = noting way pieces.truth wanted.truth (flag_node BadBool)
 leaf_told (shape.unsigned w) way = noting way (λ s. pieces.unsigned (from_le_bytes w s)) (wanted.unsigned w) (bytes_node (byte_len w))
 leaf_told (shape.signed w) way = noting way (λ s. pieces.signed (cast_signed w (from_le_bytes w s))) (wanted.signed w) (bytes_node (byte_len w))
-leaf_told shape.text way = 
+leaf_told shape.text way =
     noting_then way (pieces.counted text_bytes) (wanted.count text_bytes) counted_here (λ n. noting way pieces.text (wanted.text n) (text_here n))
-leaf_told shape.bytes way = 
+leaf_told shape.bytes way =
     noting_then way (pieces.counted raw_bytes) (wanted.count raw_bytes) counted_here (λ n. noting way pieces.bytes (wanted.bytes n) (bytes_here n))
 leaf_told _ way = halting way wanted.nothing

@@ -1,5 +1,9 @@
 //! Steps that tell of no piece, but of the stop where they find one. None stands in the cycle of calls.
 ghost use Rattle.std.specs.Prelude.{◌≡◌, ◌∷◌, ◌+◌, ◌<◌, ◌≤◌, ◌^◌, [], IfOk, length};
+ghost use Rattle.std.specs.Ordering.{nat_cmp};
+ghost use Rattle.std.specs.Map.{lookup};
+ghost use Rattle.std.specs.Option.{option_copied};
+ghost use Rattle.std.specs.BTreeMap.{is_at};
 ghost use Rattle.bcs_decode_spec.specs.Reading.{key_after};
 ghost use Rattle.bcs_decode_slice_steps.specs.Passing.{Passes, Onward, Judges, key_bytes, node_here, enter_here, unsupported_here, variant_past};
 ghost use Rattle.bcs_explain_spec.specs.Told as wanted;
@@ -13,6 +17,8 @@ use crate::trail::Trail;
 use bcs_decode_slice_steps::cursor::{self, Cursor};
 use bcs_decode_slice_steps::shallow;
 use bcs_decode_spec::{Reason, Stop};
+use bcs_registry_formats::{Named, VariantFormat};
+use std::collections::BTreeMap;
 
 /// The stop, where there is one.
 fn tell_stop<X, T: Listener>(
@@ -97,6 +103,16 @@ pub fn follows<T: Listener>(
     let result = shallow::follows(last, key, start);
     tell_stop(&result, trail, Wanted::LaterKey, out);
     result
+}
+
+/// The variant of this number, if there is one.
+pub fn variant_numbered<'r>(
+    variants: &'r BTreeMap<u32, Named<VariantFormat>>,
+    number: u32,
+) -> Option<&'r Named<VariantFormat>>
+    ensures { option_copied result ≡ lookup (is_at (nat_cmp number)) variants.now.entries }
+{
+    variants.get(&number)
 }
 
 /// No variant has the number that begins at the place.

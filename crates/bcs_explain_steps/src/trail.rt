@@ -1,6 +1,10 @@
 //! The way down to a piece. It stands on the stack, so it takes no memory.
 ghost use Rattle.std.specs.Prelude.{◌≡◌, ◌++◌, ◌∷◌, []};
+ghost use Rattle.bcs_registry_formats.specs.View.{field_of};
+ghost use Rattle.bcs_explain_spec.specs.Way as ways;
 ghost use Rattle.bcs_explain_steps.specs.Trail.{way_of, label_of};
+
+use bcs_registry_formats::{Format, Named};
 
 /// A step down.
 #[derive(Clone, Copy)]
@@ -33,6 +37,13 @@ pub fn below<'t, 'r, 'a>(trail: &'t Trail<'t, 'r, 'a>, step: Step<'r, 'a>) -> Tr
     ensures { way_of result ≡ way_of trail.now ++ label_of step.entry ∷ [] }
 {
     Trail::Below(trail, step)
+}
+
+/// The step to a field, which has this number.
+pub fn to_field<'r, 'a>(number: usize, field: &'r Named<Format>) -> Step<'r, 'a>
+    ensures { label_of result ≡ ways.field number (field_of field.now).0 }
+{
+    Step::Field(number as u64, field.name.as_str())
 }
 
 /// No step down.

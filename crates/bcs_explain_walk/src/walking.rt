@@ -20,8 +20,10 @@ use bcs_explain_steps::empty_row::empty_row;
 use bcs_explain_steps::leaf::{is_octet, tell_leaf};
 use bcs_explain_steps::leaves::{tell, tell_count, tell_flag, tell_octets};
 use bcs_explain_steps::listener::{Counted, Listener, Meaning};
-use bcs_explain_steps::opening::{enter, follows, node, unknown_name, unknown_variant, variant_number};
-use bcs_explain_steps::trail::{Step, Trail, below};
+use bcs_explain_steps::opening::{
+    enter, follows, node, unknown_name, unknown_variant, variant_number, variant_numbered,
+};
+use bcs_explain_steps::trail::{Step, Trail, below, to_field};
 use bcs_registry::{Container, Format, Named, Registry, VariantFormat};
 
 /// So many values of one format.
@@ -268,7 +270,7 @@ fn structure<'r, 'a, T: Listener>(
 {
     node(cursor, trail, out)?;
     for (i, field) in fields.iter().enumerate() {
-        let at = below(&*trail, Step::Field(i as u64, field.name.as_str()));
+        let at = below(&*trail, to_field(i, field));
         value(registry, &field.value, depth, cursor, &at, out)?;
     }
     Ok(())
@@ -326,7 +328,7 @@ fn content<'r, 'a, T: Listener>(
         Container::Enum(variants) => {
             let (place, from) = (cursor.place, cursor.rest);
             let (start, number) = variant_number(cursor, trail, out)?;
-            match variants.get(&number) {
+            match variant_numbered(variants, number) {
                 Some(variant) => {
                     let name = variant.name.as_str();
                     tell(

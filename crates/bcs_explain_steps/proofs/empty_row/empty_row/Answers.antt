@@ -1,4 +1,4 @@
-use Rattle.std.proofs.Common.{◌≡◌, ◌-◌, ◌+◌, ◌*◌, ℕ, List, ap, ap₂, sym, ◌∙◌, refl, drop, arith}
+use Rattle.std.proofs.Common.{◌≡◌, ◌-◌, ◌+◌, ◌*◌, ℕ, ap, ◌∙◌, drop, arith}
 use Rattle.bcs_registry_formats.specs.View.{shape_of}
 use Rattle.bcs_decode_slice_steps.specs.Passing.{skip}
 use Rattle.bcs_decode_slice_steps.proofs.Reaching.{items_reach}

@@ -1,5 +1,5 @@
 use Rattle.std.proofs.Common.{ap, sym, ◌∙◌, ◌-◌, ℕ, take}
-use Rattle.std.specs.Int.{byte_len, from_le_bytes, cast_signed}
+use Rattle.std.specs.Int.{byte_len, from_le_bytes}
 use Rattle.bcs_num.specs.Le.{width_of}
 use Rattle.bcs_explain_spec.specs.Piece as pieces
 use Rattle.bcs_explain_spec.specs.Piece.{piece_at}

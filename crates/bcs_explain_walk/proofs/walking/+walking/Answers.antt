@@ -26,7 +26,7 @@ use Rattle.bcs_explain_spec.specs.Piece.{piece_at}
 use Rattle.bcs_explain_spec.specs.Held as hold
 use Rattle.bcs_explain_spec.specs.Held.{Held, held, held_at, carried, nothing}
 use Rattle.bcs_explain_spec.specs.Pieces.{is_octet}
-use Rattle.bcs_explain_spec.specs.Telling.{tell as told, tell_carried, tell_items, tell_row, tell_pairs, tell_held, tell_named, noting}
+use Rattle.bcs_explain_spec.specs.Telling.{tell as told, tell_carried, tell_row, tell_pairs, tell_held, tell_named, noting}
 use Rattle.bcs_explain_steps.specs.Trail.{way_of}
 use Rattle.bcs_explain_steps.specs.Leaf.{flag_node, leaf_past}
 use Rattle.bcs_explain_steps.proofs.Noted.{hears_nothing, hears_as, hears_then, needed}
@@ -217,7 +217,7 @@ structure-returns-in_err-value-clause-hears g t c =
     let next = named_next c.args.fields.now l.i c.index-fields-i.result (omega arith) c.index-fields-i.is in
     hears_then g.T.Listener.heard g.T.Listener.has_lost c.args.out.now c.node.new.out c.value.new.out [] _ c.in_ok-node.ensures.hears
     (hears_as g.T.Listener.heard g.T.Listener.has_lost c.node.new.out c.value.new.out _ _ (told_fields_begin c.args.registry.now c.args.depth (way_of c.args.trail.now) c.args.cursor.now.place c.args.cursor.now.nodes c.args.cursor.now.rest.now (map field_of c.args.fields.now) _ _ _ c.in_ok-node.ensures.passes)
-    (l.invariant.heard c.value.new.out (hears_as g.T.Listener.heard g.T.Listener.has_lost l.out c.value.new.out _ _ (told_fields_stop c.args.registry.now c.args.depth (way_of c.args.trail.now) _ _ _ (map field_of (drop l.i c.args.fields.now)) (field_of c.index-fields-i.result) (map field_of (drop (l.i + 1) c.args.fields.now)) l.i _ next c.in_err-value.ensures.passes) (hears_as g.T.Listener.heard g.T.Listener.has_lost c.loop-i.out c.value.new.out _ _ (ap (λ (w : Way). told c.args.registry.now c.args.depth (shape_of c.index-fields-i.result.value) w c.loop-i.cursor.place c.loop-i.cursor.nodes c.loop-i.cursor.rest.now) (c.below-at.ensures ∙ ap (λ (name : List ℕ). onto (way_of c.args.trail.now) (ways.field c.loop-i.i name)) c.as_str.ensures.value)) c.in_err-value.ensures.hears))))
+    (l.invariant.heard c.value.new.out (hears_as g.T.Listener.heard g.T.Listener.has_lost l.out c.value.new.out _ _ (told_fields_stop c.args.registry.now c.args.depth (way_of c.args.trail.now) _ _ _ (map field_of (drop l.i c.args.fields.now)) (field_of c.index-fields-i.result) (map field_of (drop (l.i + 1) c.args.fields.now)) l.i _ next c.in_err-value.ensures.passes) (hears_as g.T.Listener.heard g.T.Listener.has_lost c.loop-i.out c.value.new.out _ _ (ap (λ (w : Way). told c.args.registry.now c.args.depth (shape_of c.index-fields-i.result.value) w c.loop-i.cursor.place c.loop-i.cursor.nodes c.loop-i.cursor.rest.now) (c.below-at.ensures ∙ ap (λ (step : ways.Label). onto (way_of c.args.trail.now) step) c.to_field.ensures)) c.in_err-value.ensures.hears))))
 
 pub structure-loop-i-preserved : goal.structure-loop-i-preserved
 structure-loop-i-preserved g t c =
@@ -231,7 +231,7 @@ structure-loop-i-preserved g t c =
       onward = (omega (arith, l.invariant.onward.0, c.in_ok-value.ensures.onward.0), omega (arith, l.invariant.onward.1, c.in_ok-value.ensures.onward.1));
       whole = l.invariant.whole ∙ each_on c.args.registry.now c.args.depth _ _ _ _ _ _ _ _ _ next_shape c.in_ok-value.ensures.passes;
       heard = λ new h. l.invariant.heard new
-          (hears_as g.T.Listener.heard g.T.Listener.has_lost l.out new _ _ (told_fields_on c.args.registry.now c.args.depth (way_of c.args.trail.now) _ _ _ (map field_of (drop l.i c.args.fields.now)) (field_of c.index-fields-i.result) (map field_of (drop (l.i + 1) c.args.fields.now)) l.i _ _ _ next c.in_ok-value.ensures.passes) (hears_then g.T.Listener.heard g.T.Listener.has_lost l.out c.value.new.out new _ _ (hears_as g.T.Listener.heard g.T.Listener.has_lost c.loop-i.out c.value.new.out _ _ (ap (λ (w : Way). told c.args.registry.now c.args.depth (shape_of c.index-fields-i.result.value) w c.loop-i.cursor.place c.loop-i.cursor.nodes c.loop-i.cursor.rest.now) (c.below-at.ensures ∙ ap (λ (name : List ℕ). onto (way_of c.args.trail.now) (ways.field c.loop-i.i name)) c.as_str.ensures.value)) c.in_ok-value.ensures.hears) h));
+          (hears_as g.T.Listener.heard g.T.Listener.has_lost l.out new _ _ (told_fields_on c.args.registry.now c.args.depth (way_of c.args.trail.now) _ _ _ (map field_of (drop l.i c.args.fields.now)) (field_of c.index-fields-i.result) (map field_of (drop (l.i + 1) c.args.fields.now)) l.i _ _ _ next c.in_ok-value.ensures.passes) (hears_then g.T.Listener.heard g.T.Listener.has_lost l.out c.value.new.out new _ _ (hears_as g.T.Listener.heard g.T.Listener.has_lost c.loop-i.out c.value.new.out _ _ (ap (λ (w : Way). told c.args.registry.now c.args.depth (shape_of c.index-fields-i.result.value) w c.loop-i.cursor.place c.loop-i.cursor.nodes c.loop-i.cursor.rest.now) (c.below-at.ensures ∙ ap (λ (step : ways.Label). onto (way_of c.args.trail.now) step) c.to_field.ensures)) c.in_ok-value.ensures.hears) h));
     }
 
 pub structure-returns-clause-passes : goal.structure-returns-clause-passes
@@ -449,7 +449,7 @@ content-payload-requires g t c κs within =
     let cs = map choice_of c.in-Enum.variants.entries in
     let s : Shape = payload_shape (payload_of c.in-Some.variant.now.value) in
     let is : content_at c.requires.found.0 r ≡ one_of cs = c.requires.found.1 ∙ ap (λ k. content (container_of k)) c.in-Enum.is in
-    let at : choice_at c.in_ok-start-in-Enum.number cs ≡ of s = choice_found c.in_ok-start-in-Enum.number c.in-Enum.variants.entries c.in-Some.variant c.get.result c.get.ensures.value c.in-Some.is in
+    let at : choice_at c.in_ok-start-in-Enum.number cs ≡ of s = choice_found c.in_ok-start-in-Enum.number c.in-Enum.variants.entries c.in-Some.variant c.variant_numbered.result c.variant_numbered.ensures c.in-Some.is in
     let low : levels s ≤ 33 = (choice_at-inside r c.requires.well_formed c.requires.found.0 cs is c.in_ok-start-in-Enum.number s at).1 in
     (omega (arith, low), (within, omega (arith, c.requires.room, c.in_ok-start-in-Enum.ensures.onward.0)))
 
@@ -518,7 +518,7 @@ content-returns-in-Some-clause-passes g t c =
     let at = c.args.cursor.now in
     let cs = map choice_of c.in-Enum.variants.entries in
     let s : Shape = payload_shape (payload_of c.in-Some.variant.now.value) in
-    let chosen : choice_at c.in_ok-start-in-Enum.number cs ≡ of s = choice_found c.in_ok-start-in-Enum.number c.in-Enum.variants.entries c.in-Some.variant c.get.result c.get.ensures.value c.in-Some.is in
+    let chosen : choice_at c.in_ok-start-in-Enum.number cs ≡ of s = choice_found c.in_ok-start-in-Enum.number c.in-Enum.variants.entries c.in-Some.variant c.variant_numbered.result c.variant_numbered.ensures c.in-Some.is in
     passes_from (λ x. x) c.payload.result _ (skip r d s) c.args.cursor.now c.variant_number.new.cursor c.payload.new.cursor
     (content_as r d at.place at.nodes at.rest.now c.args.container.now _ c.in-Enum.is
     ∙ variant_on r d at.place at.nodes at.rest.now cs c.in_ok-start-in-Enum.start c.in_ok-start-in-Enum.number _ _ _ s c.in_ok-start-in-Enum.ensures.passes chosen)
@@ -531,7 +531,7 @@ content-returns-in-Some-clause-hears g t c =
     hears_then g.T.Listener.heard g.T.Listener.has_lost c.args.out.now c.variant_number.new.out c.payload.new.out [] _ c.in_ok-start-in-Enum.ensures.hears
     (hears_as g.T.Listener.heard g.T.Listener.has_lost c.variant_number.new.out c.payload.new.out _ _
     (chosen_told c.args.registry.now c.args.depth cs (way_of c.args.trail.now) c.in_ok-start-in-Enum.number c.args.cursor.now.place c.args.cursor.now.rest.now _ _ _ (payload_of x.now.value) (string_bytes x.now.name)
-    (numbered_found c.in_ok-start-in-Enum.number c.in-Enum.variants.entries c.get.result c.get.ensures.value x c.in-Some.is)
+    (numbered_found c.in_ok-start-in-Enum.number c.in-Enum.variants.entries c.variant_numbered.result c.variant_numbered.ensures x c.in-Some.is)
     ∙ told_variant_on c.args.registry.now c.args.depth (way_of c.args.trail.now) c.args.cursor.now.place c.args.cursor.now.nodes c.args.cursor.now.rest.now cs _ c.in_ok-start-in-Enum.number _ _ _ c.in_ok-start-in-Enum.ensures.passes ∙ (ap (λ (h : Held). tell_held c.args.registry.now c.args.depth (tell_named c.args.registry.now c.args.depth) h (way_of c.args.trail.now) c.args.cursor.now.place c.args.cursor.now.nodes c.args.cursor.now.rest.now) (sym (ap (λ (k : Container). held (container_of k)) c.in-Enum.is))))
     (hears_then g.T.Listener.heard g.T.Listener.has_lost c.variant_number.new.out c.tell.new.out c.payload.new.out _ _
     (hears_as g.T.Listener.heard g.T.Listener.has_lost c.variant_number.new.out c.tell.new.out _ _ (ap (λ (name : List ℕ). as_told (piece_at (way_of c.args.trail.now) c.args.cursor.now.place (take (c.variant_number.new.cursor.place - c.args.cursor.now.place) c.args.cursor.now.rest.now) (pieces.chosen c.in_ok-start-in-Enum.number name))) c.as_str-name.ensures.value) c.tell.ensures)
@@ -545,7 +545,7 @@ content-returns-in-None-clause-passes g t c =
     let d = c.args.depth in
     let at = c.args.cursor.now in
     let cs = map choice_of c.in-Enum.variants.entries in
-    let none : choice_at c.in_ok-start-in-Enum.number cs ≡ no_content = choice_missing c.in_ok-start-in-Enum.number c.in-Enum.variants.entries c.get.result c.get.ensures.value c.in-None.is in
+    let none : choice_at c.in_ok-start-in-Enum.number cs ≡ no_content = choice_missing c.in_ok-start-in-Enum.number c.in-Enum.variants.entries c.variant_numbered.result c.variant_numbered.ensures c.in-None.is in
     content_as r d at.place at.nodes at.rest.now c.args.container.now _ c.in-Enum.is
     ∙ variant_unknown r d at.place at.nodes at.rest.now cs c.in_ok-start-in-Enum.start c.in_ok-start-in-Enum.number _ _ _ c.in_ok-start-in-Enum.ensures.passes none
     ∙ ap₂ (λ (x : Reason) (y : ℕ). Err (x, y)) (sym c.unknown_variant.ensures.reason) (sym c.unknown_variant.ensures.place)
@@ -555,7 +555,7 @@ content-returns-in-None-clause-hears g t c =
     let cs = map choice_of c.in-Enum.variants.entries in
     hears_then g.T.Listener.heard g.T.Listener.has_lost c.args.out.now c.variant_number.new.out c.unknown_variant.new.out [] _ c.in_ok-start-in-Enum.ensures.hears
     (hears_as g.T.Listener.heard g.T.Listener.has_lost c.variant_number.new.out c.unknown_variant.new.out _ _
-    (chosen_none c.args.registry.now c.args.depth cs (way_of c.args.trail.now) c.in_ok-start-in-Enum.number c.args.cursor.now.place c.args.cursor.now.rest.now _ _ _ (numbered_missing c.in_ok-start-in-Enum.number c.in-Enum.variants.entries c.get.result c.get.ensures.value c.in-None.is)
+    (chosen_none c.args.registry.now c.args.depth cs (way_of c.args.trail.now) c.in_ok-start-in-Enum.number c.args.cursor.now.place c.args.cursor.now.rest.now _ _ _ (numbered_missing c.in_ok-start-in-Enum.number c.in-Enum.variants.entries c.variant_numbered.result c.variant_numbered.ensures c.in-None.is)
     ∙ told_variant_on c.args.registry.now c.args.depth (way_of c.args.trail.now) c.args.cursor.now.place c.args.cursor.now.nodes c.args.cursor.now.rest.now cs _ c.in_ok-start-in-Enum.number _ _ _ c.in_ok-start-in-Enum.ensures.passes ∙ (ap (λ (h : Held). tell_held c.args.registry.now c.args.depth (tell_named c.args.registry.now c.args.depth) h (way_of c.args.trail.now) c.args.cursor.now.place c.args.cursor.now.nodes c.args.cursor.now.rest.now) (sym (ap (λ (k : Container). held (container_of k)) c.in-Enum.is))))
     c.unknown_variant.ensures.hears)
 
