@@ -13,7 +13,7 @@ use Rattle.bcs_explain_columns.specs.declared.style.Paint.{Paint}
 use Rattle.bcs_explain_columns.specs.declared.style.Style.{Style}
 use Rattle.bcs_explain_columns.specs.declared.style.Form.{Form}
 use Rattle.bcs_explain_columns.specs.declared.style.Form.TheVariants.{Json, Paths, Tree, Ways}
-use Rattle.bcs_explain_table.specs.Objects.{end_object, object_line, piece_object, stop_object}
+use Rattle.bcs_explain_table.specs.Objects.{end_object, object_line, piece_object}
 use Rattle.bcs_explain_table.specs.Ways.{led_text, opened_last}
 
 -- ---- what a piece is
