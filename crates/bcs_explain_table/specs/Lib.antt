@@ -3,3 +3,4 @@ pub mod Objects
 pub mod Table
 pub mod Heard
 pub mod Explains
+pub mod ReadBack

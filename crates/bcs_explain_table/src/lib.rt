@@ -3,6 +3,7 @@
 
 mod damage;
 mod explanation;
+pub mod laws;
 mod led;
 mod meaning;
 mod members;
