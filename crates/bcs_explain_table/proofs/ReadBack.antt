@@ -1,5 +1,5 @@
 -- The bytes of the pieces are read back from the plain table.
-use Rattle.std.proofs.Common.{◌≡◌, ◌∙◌, ◌≤◌, ◌<◌, ℕ, zero, suc, ◌+◌, ◌-◌, ◌*◌, ◌/◌, ◌%◌, ◌==◌, false, List, [], ◌∷◌, ◌++◌, append_assoc, append-nil, Option, None, ap, ap₂, arith, decimal, drop, flat_map, length, refl, subst, sym, take}
+use Rattle.std.proofs.Common.{◌≡◌, ◌∙◌, ◌≤◌, ◌<◌, ℕ, zero, suc, ◌+◌, ◌-◌, ◌*◌, ◌/◌, ◌%◌, ◌==◌, false, List, [], ◌∷◌, ◌++◌, append_assoc, append-nil, Option, None, ap, ap₂, arith, codes, decimal, drop, flat_map, length, refl, subst, sym, take}
 use Rattle.std.specs.List.{All}
 use Rattle.std.proofs.lemmas.Bool.{ne_eqb}
 use Rattle.std.proofs.lemmas.List.{length-drop, take-append-drop}
@@ -200,3 +200,11 @@ module _ (form : Form) (registry : Entries) (limits : Bounds) (s : Shape) (b : L
 
 pub explanation_reads_back : ExplanationReadsBack
 explanation_reads_back form registry limits s b text other bytes h = explained_back form registry limits s b other bytes text None h refl
+
+-- ---- lines, by computation
+
+short_line : line_bytes (codes "     0  02  SEQ, 2 elements  .") ≡ 2 ∷ []
+short_line = refl
+
+wide_place : line_bytes (codes "1000000  01ff") ≡ 1 ∷ 255 ∷ []
+wide_place = refl
