@@ -1,5 +1,5 @@
 -- A text that stands between what turns a colour on and off is the painted one.
-use Rattle.std.proofs.Common.{◌≡◌, ◌∙◌, ℕ, List, [], ◌∷◌, ◌++◌, append_assoc, append-nil, ap, codes}
+use Rattle.std.proofs.Common.{◌≡◌, ◌∙◌, ℕ, List, [], ◌++◌, append_assoc, append-nil, ap}
 use Rattle.bcs_explain_columns.specs.Painted.{color_off, color_on, painted}
 use Rattle.bcs_explain_columns.specs.declared.style.Paint.{Paint}
 use Rattle.bcs_explain_columns.specs.declared.style.Paint.TheVariants.{Colored, Plain}

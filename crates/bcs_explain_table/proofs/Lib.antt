@@ -6,3 +6,5 @@ pub mod TrailViews
 pub mod Hearing
 pub mod Explained
 pub mod OneExplanation
+pub mod LineTexts
+pub mod ReadBack

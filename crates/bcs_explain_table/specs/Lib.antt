@@ -7,3 +7,4 @@ pub mod StopObject
 pub mod Damage
 pub mod Heard
 pub mod Explains
+pub mod ReadBack

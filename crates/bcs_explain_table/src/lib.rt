@@ -4,6 +4,7 @@
 mod damage;
 mod explanation;
 mod halt;
+pub mod laws;
 mod led;
 mod meaning;
 mod members;
