@@ -44,7 +44,7 @@ returns-in_ok-table-in-Ok c =
     IfOk-weaker c.damaged.result _ _ (λ x is.
     damage_explains c.args.style r c.args.limits.now s c.args.bytes.now TrailingBytes c.in-Ok.end h new
     (with_halt c.args.style old new (pieces r [] 0 found.0 (of s)) no_halt end_halt
-          (heard c.args.style c.new-table.result c.new-table.ensures.style c.new-table.ensures.text c.new-table.ensures.told c.new-table.ensures.halt c.explain.new.out _ (c.in-Ok.ensures.told c.in-Ok.end found.0 found.1) is.0) refl refl refl c.in_ok-table-in-Ok.ensures) (omega arith)
+    (heard c.args.style c.new-table.result c.new-table.ensures.style c.new-table.ensures.text c.new-table.ensures.told c.new-table.ensures.halt c.explain.new.out _ (c.in-Ok.ensures.told c.in-Ok.end found.0 found.1) is.0) refl refl refl c.in_ok-table-in-Ok.ensures) (omega arith)
     x.text.items x.stop is.1 is.2)
     c.damaged.ensures
 
