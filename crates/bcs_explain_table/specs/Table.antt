@@ -1,9 +1,7 @@
 -- What is printed of pieces: for each a line with its place, its bytes, what it is and the way to it.
-use Rattle.std.specs.Prelude.{ℕ, zero, suc, ◌+◌, ◌-◌, ◌*◌, ◌==◌, true, false, if◌then◌else◌, List, [], ◌∷◌, ◌++◌, codes, length, take, drop}
+use Rattle.std.specs.Prelude.{ℕ, zero, suc, ◌+◌, ◌*◌, ◌==◌, true, false, if◌then◌else◌, List, [], ◌∷◌, ◌++◌, codes, length, take, drop}
 use Rattle.std.specs.Fmt.{decimal, signed_decimal}
 use Rattle.hex.specs.Hex.{encode_lower}
-use Rattle.bcs_decode_spec.specs.Stop.{reason_name}
-use Rattle.bcs_decode_spec.specs.declared.reason.Reason.{Reason}
 use Rattle.bcs_explain_spec.specs.Way.{Way}
 use Rattle.bcs_explain_spec.specs.Piece.{Counted, Meaning, Piece, truth, unsigned, signed, counted, text, bytes, octets, option, chosen, text_bytes, raw_bytes, elements, entries}
 use Rattle.bcs_explain_columns.specs.Columns.{blanks, left_in, right_in}
