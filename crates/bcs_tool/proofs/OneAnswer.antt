@@ -166,7 +166,7 @@ module _ (work : Work) (input : List ℕ) where
   told (answer.explained r f b t a g h) =
       by command.Explain 0 t a.is_command (valued Explained command.Explain r f 0 t a (inl (b, g, (t, None, h, refl, refl))))
   told (answer.damaged r f b t e o a g h) =
-      by command.Explain 2 (t ++ stop_line e o) a.is_command
+      by command.Explain 2 (t ++ stop_end work.style.form e o) a.is_command
       (valued Explained command.Explain r f 2 (t ++ stop_end work.style.form e o) a (inl (b, g, (t, Some (record { reason = e; place = o }), h, refl, refl))))
   told (answer.no_bytes c r f (inl is) a h) = by Decode 2 (refusal_line (codes "BadHex")) (a.is_command ∙ is) (valued Decoded c r f 2 (refusal_line (codes "BadHex")) a (inr (h, refl, refl)))
   told (answer.no_bytes c r f (inr (inr is)) a h) =
