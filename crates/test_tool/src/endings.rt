@@ -4,6 +4,7 @@ use bcs_decode::pieces::{PieceSource, RepeatSource};
 use bcs_encode::pieces::PieceSink;
 use bcs_tool::respond;
 use std::alloc::{AllocError, Global};
+use std::env::Env;
 use std::fs;
 use std::fs::File;
 use std::process::Abort;
@@ -32,7 +33,7 @@ fn is_told(taken: &[u8], told: &str) -> bool {
 
 // The command line ends so, where the input, the output and the errors fail from these calls on.
 fn ends(
-    rt: &(impl Abort + AllocGlobal + Files),
+    rt: &(impl Abort + AllocGlobal + Env + Files),
     fails: [Option<u64>; 3],
     ending: Ending,
 ) -> Result<(), Fail> {
@@ -42,7 +43,7 @@ fn ends(
 
 // The command line ends so over this input, where the output and the errors fail from these calls on.
 fn ends_over(
-    rt: &(impl Abort + AllocGlobal + Files),
+    rt: &(impl Abort + AllocGlobal + Env + Files),
     input: &mut impl ByteSource,
     fails: [Option<u64>; 2],
     ending: Ending,
