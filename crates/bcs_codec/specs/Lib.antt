@@ -18,8 +18,15 @@ pub use Rattle.bcs_decode.specs.Stopping
 pub use Rattle.bcs_decode.specs.Sliced
 pub use Rattle.bcs_decode.specs.Whole
 pub use Rattle.bcs_decode.specs.Parts
+pub use Rattle.bcs_explain.specs.Piece
+pub use Rattle.bcs_explain.specs.Pieces
+pub use Rattle.bcs_explain.specs.Told
+pub use Rattle.bcs_explain.specs.Stopped
+pub use Rattle.bcs_explain_table.specs.Explains
+pub use Rattle.bcs_explain_table.specs.StopPlace
 pub use Rattle.bcs_json.specs.Spells
 pub use Rattle.bcs_json.specs.Refuses
+pub use Rattle.bcs_json.specs.Place
 pub use Rattle.bcs_json.specs.Texts
 pub use Rattle.bcs_json.specs.Headline
 pub use Rattle.bcs_json.specs.Printing
@@ -33,3 +40,4 @@ pub use Rattle.bcs_value.specs.Laws as ValueLaws
 pub use Rattle.bcs_encode.specs.Laws as EncodeLaws
 pub use Rattle.bcs_decode.specs.Laws as DecodeLaws
 pub use Rattle.bcs_json.specs.Laws as JsonLaws
+pub use Rattle.bcs_explain.specs.Laws as ExplainLaws

@@ -7,12 +7,15 @@ pub use bcs_decode::{
     part, scan,
 };
 pub use bcs_encode::{EncodeFault, WriteFault, canonicalise, encode, encode_by_entries, write};
+pub use bcs_explain::{Counted, Listener, Meaning, Step as TrailStep, Trail, Wanted, explain};
+pub use bcs_explain_columns::style::{Form, Paint, Style};
+pub use bcs_explain_table::{Explanation, explain_text, stop_place};
 pub use bcs_io::{
     ByteSink, ByteSource, ReadSource, SinkFailed, SliceSource, SourceFailed, WriteSink, pieces,
 };
 pub use bcs_json::{
-    FromFault, JsonFault, PrintFault, Shown, compare, from_bcs, normalise, print_value, read_value,
-    to_bcs,
+    FromFault, JsonFault, JsonStep, PrintFault, Shown, compare, fault_place, from_bcs, normalise,
+    print_value, read_value, to_bcs,
 };
 pub use bcs_num::{NumFault, Width};
 pub use bcs_registry::{

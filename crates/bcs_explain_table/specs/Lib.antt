@@ -7,4 +7,6 @@ pub mod StopObject
 pub mod Damage
 pub mod Heard
 pub mod Explains
+pub mod StopPlace
+pub mod StopKept
 pub mod ReadBack

@@ -9,9 +9,12 @@ mod led;
 mod meaning;
 mod members;
 mod objects;
+mod placing;
 mod rows;
+mod stop_keeper;
 mod table;
 mod tree;
 mod way;
 
 pub use explanation::{Explanation, explain_text};
+pub use placing::stop_place;

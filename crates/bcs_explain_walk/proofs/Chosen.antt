@@ -15,9 +15,8 @@ use Rattle.bcs_registry_formats.specs.declared.format.Format as format
 use Rattle.bcs_registry_formats.specs.declared.named.Named.{Named}
 use Rattle.bcs_registry_formats.specs.declared.container.Container as declared
 use Rattle.bcs_decode_spec.specs.declared.reason.Reason.{Reason}
-use Rattle.bcs_decode_spec.specs.declared.reason.Reason.TheVariants.{BadOption}
 use Rattle.bcs_decode_spec.specs.Reading.{Parser, node, give, key_after, key_here}
-use Rattle.bcs_decode_slice_steps.specs.Passing.{node_here, option_past}
+use Rattle.bcs_decode_slice_steps.specs.Passing.{node_here}
 use Rattle.bcs_explain_spec.specs.Way.{Way, onto, variant}
 use Rattle.bcs_explain_spec.specs.Piece as pieces
 use Rattle.bcs_explain_spec.specs.Told as wanted
@@ -25,7 +24,7 @@ use Rattle.bcs_explain_spec.specs.Told.{Told, halt, as_told}
 use Rattle.bcs_explain_spec.specs.Piece.{piece_at}
 use Rattle.bcs_explain_spec.specs.Held.{Held, held, held_at, nothing, of, fields, carried}
 use Rattle.bcs_explain_spec.specs.Telling.{tell, tell_shape, tell_carried, tell_choice, tell_held, tell_named, begun, halting, silent}
-use Rattle.bcs_explain_steps.specs.Leaf.{flag_node, needing}
+use Rattle.bcs_explain_steps.specs.Leaf.{needing}
 
 pub held_found : (registry : Entries) (name : List ℕ) (o : Option (Bor declared.Container)) (c : Bor declared.Container)
     → option_map (λ c. container_of c.now) o ≡ container_at name registry → o ≡ Some c → held_at name registry ≡ held (container_of c.now)
@@ -41,10 +40,6 @@ held_nothing registry d h way p m b is = rw is refl
 
 pub named_next : (fs : List (Named format.Format)) (i : ℕ) (f : Named format.Format) → i < length fs → f ≡ get_or fs i f → map field_of (drop i fs) ≡ field_of f ∷ map field_of (drop (i + 1) fs)
 named_next fs i f lt is = ap (λ (gs : List (Named format.Format)). map field_of gs) (drop_more fs i f lt ∙ ap (λ y. y ∷ drop (i + 1) fs) (sym is))
-
-pub option_flag : (p m : ℕ) (b : List ℕ) → option_past p m b ≡ flag_node BadOption p m b
-unfolding option_past flag_node
-option_flag p m b = refl
 
 -- ---- variants
 

@@ -1,11 +1,8 @@
 -- What is told of a value with values inside, part by part.
-use Rattle.std.proofs.Common.{◌≡◌, ℕ, zero, suc, ◌+◌, ◌-◌, ◌<◌, ◌≤◌, List, [], ◌∷◌, ◌++◌, Option, Some, None, Bool, true, false, if◌then◌else◌, Box, Global, Ok, Err, refl, sym, ap, ◌∙◌, append-nil, ap₂, arith}
+use Rattle.std.proofs.Common.{◌≡◌, ℕ, zero, suc, ◌+◌, ◌-◌, ◌<◌, ◌≤◌, List, [], ◌∷◌, ◌++◌, Option, Some, None, Bool, true, false, if◌then◌else◌, Ok, Err, refl, sym, ap, ◌∙◌, append-nil, ap₂, arith}
 use Rattle.bcs_registry_formats.specs.Shape as shape
 use Rattle.bcs_registry_formats.specs.Shape.{Shape, Shapes}
 use Rattle.bcs_registry_formats.specs.Container.{Entries, Field, Choice, choice_numbered}
-use Rattle.bcs_registry_formats.specs.View.{shape_of}
-use Rattle.bcs_registry_formats.specs.declared.format.Format as format
-use Rattle.bcs_registry_formats.proofs.FormatViews.{shape-Opt, shape-Seq, shape-Map, shape-TupleArray}
 use Rattle.bcs_decode_spec.specs.declared.reason.Reason.{Reason}
 use Rattle.bcs_decode_spec.specs.declared.reason.Reason.TheVariants.{BadOption}
 use Rattle.bcs_decode_spec.specs.Reading.{Read, Parser, follow, chain, give, node, number_here, length_here, flag_here, items_here, skipping, key_here}
@@ -147,67 +144,66 @@ variant_at registry d way cs p (suc m) b = refl
 -- ---- formats
 
 module _ (registry : Entries) (d : ℕ) (way : Way) (p m : ℕ) (b : List ℕ) where
-  module _ (f : format.Format) where
-    pub told_option_stop : (o : Box format.Format Global) (e : Reason × ℕ) → f ≡ format.Opt o → flag_node BadOption p m b ≡ Err e
-        → noting way pieces.option wanted.option (flag_node BadOption) p m b ≡ tell registry d (shape_of f) way p m b
-    unfolding tell tell_shape
-    told_option_stop o e h g = rw (shape-Opt f o h) (then_err way pieces.option wanted.option (flag_node BadOption) _ p m b e g ∙ flag_then way pieces.option wanted.option BadOption (λ some. if some then tell_shape registry d (tell_named registry d) (shape_of o.value) (onto way inner) else silent) p m b)
+  pub told_option_stop : (s : Shape) (e : Reason × ℕ) → flag_node BadOption p m b ≡ Err e
+      → noting way pieces.option wanted.option (flag_node BadOption) p m b ≡ tell registry d (shape.option s) way p m b
+  unfolding tell tell_shape
+  told_option_stop s e g = then_err way pieces.option wanted.option (flag_node BadOption) _ p m b e g ∙ flag_then way pieces.option wanted.option BadOption (λ some. if some then tell_shape registry d (tell_named registry d) s (onto way inner) else silent) p m b
 
-    pub told_option_some : (o : Box format.Format Global) (q l : ℕ) (c : List ℕ) → f ≡ format.Opt o → flag_node BadOption p m b ≡ Ok (true, q, l, c)
-        → noting way pieces.option wanted.option (flag_node BadOption) p m b ++ tell registry d (shape_of o.value) (onto way inner) q l c ≡ tell registry d (shape_of f) way p m b
-    unfolding tell tell_shape
-    told_option_some o q l c h g =
-        rw (shape-Opt f o h) (then_ok way pieces.option wanted.option (flag_node BadOption) (λ some. if some then tell_shape registry d (tell_named registry d) (shape_of o.value) (onto way inner) else silent) p m b true q l c g ∙ flag_then way pieces.option wanted.option BadOption (λ some. if some then tell_shape registry d (tell_named registry d) (shape_of o.value) (onto way inner) else silent) p m b)
+  pub told_option_some : (s : Shape) (q l : ℕ) (c : List ℕ) → flag_node BadOption p m b ≡ Ok (true, q, l, c)
+      → noting way pieces.option wanted.option (flag_node BadOption) p m b ++ tell registry d s (onto way inner) q l c ≡ tell registry d (shape.option s) way p m b
+  unfolding tell tell_shape
+  told_option_some s q l c g =
+      then_ok way pieces.option wanted.option (flag_node BadOption) (λ some. if some then tell_shape registry d (tell_named registry d) s (onto way inner) else silent) p m b true q l c g ∙ flag_then way pieces.option wanted.option BadOption (λ some. if some then tell_shape registry d (tell_named registry d) s (onto way inner) else silent) p m b
 
-    pub told_option_none : (o : Box format.Format Global) (q l : ℕ) (c : List ℕ) → f ≡ format.Opt o → flag_node BadOption p m b ≡ Ok (false, q, l, c)
-        → noting way pieces.option wanted.option (flag_node BadOption) p m b ≡ tell registry d (shape_of f) way p m b
-    unfolding tell tell_shape silent
-    told_option_none o q l c h g =
-        rw (shape-Opt f o h) (sym (append-nil (noting way pieces.option wanted.option (flag_node BadOption) p m b))
-        ∙ then_ok way pieces.option wanted.option (flag_node BadOption) (λ some. if some then tell_shape registry d (tell_named registry d) (shape_of o.value) (onto way inner) else silent) p m b false q l c g ∙ flag_then way pieces.option wanted.option BadOption (λ some. if some then tell_shape registry d (tell_named registry d) (shape_of o.value) (onto way inner) else silent) p m b)
+  pub told_option_none : (s : Shape) (q l : ℕ) (c : List ℕ) → flag_node BadOption p m b ≡ Ok (false, q, l, c)
+      → noting way pieces.option wanted.option (flag_node BadOption) p m b ≡ tell registry d (shape.option s) way p m b
+  unfolding tell tell_shape silent
+  told_option_none s q l c g =
+      sym (append-nil (noting way pieces.option wanted.option (flag_node BadOption) p m b))
+      ∙ then_ok way pieces.option wanted.option (flag_node BadOption) (λ some. if some then tell_shape registry d (tell_named registry d) s (onto way inner) else silent) p m b false q l c g ∙ flag_then way pieces.option wanted.option BadOption (λ some. if some then tell_shape registry d (tell_named registry d) s (onto way inner) else silent) p m b
 
-    pub told_option_yes : (o : Box format.Format Global) (some : Bool) (q l : ℕ) (c : List ℕ) → f ≡ format.Opt o → flag_node BadOption p m b ≡ Ok (some, q, l, c) → some ≡ true
-        → noting way pieces.option wanted.option (flag_node BadOption) p m b ++ tell registry d (shape_of o.value) (onto way inner) q l c ≡ tell registry d (shape_of f) way p m b
-    told_option_yes o some q l c h g is = told_option_some o q l c h (g ∙ ap (λ (x : Bool). Ok (x, q, l, c)) is)
+  pub told_option_yes : (s : Shape) (some : Bool) (q l : ℕ) (c : List ℕ) → flag_node BadOption p m b ≡ Ok (some, q, l, c) → some ≡ true
+      → noting way pieces.option wanted.option (flag_node BadOption) p m b ++ tell registry d s (onto way inner) q l c ≡ tell registry d (shape.option s) way p m b
+  told_option_yes s some q l c g is = told_option_some s q l c (g ∙ ap (λ (x : Bool). Ok (x, q, l, c)) is)
 
-    pub told_option_no : (o : Box format.Format Global) (some : Bool) (q l : ℕ) (c : List ℕ) → f ≡ format.Opt o → flag_node BadOption p m b ≡ Ok (some, q, l, c) → some ≡ false
-        → noting way pieces.option wanted.option (flag_node BadOption) p m b ≡ tell registry d (shape_of f) way p m b
-    told_option_no o some q l c h g is = told_option_none o q l c h (g ∙ ap (λ (x : Bool). Ok (x, q, l, c)) is)
+  pub told_option_no : (s : Shape) (some : Bool) (q l : ℕ) (c : List ℕ) → flag_node BadOption p m b ≡ Ok (some, q, l, c) → some ≡ false
+      → noting way pieces.option wanted.option (flag_node BadOption) p m b ≡ tell registry d (shape.option s) way p m b
+  told_option_no s some q l c g is = told_option_none s q l c (g ∙ ap (λ (x : Bool). Ok (x, q, l, c)) is)
 
-    pub told_seq_stop : (o : Box format.Format Global) (e : Reason × ℕ) → f ≡ format.Seq o → counted_here p m b ≡ Err e
-        → noting way (pieces.counted elements) (wanted.count elements) counted_here p m b ≡ tell registry d (shape_of f) way p m b
-    unfolding tell tell_shape
-    told_seq_stop o e h g = rw (shape-Seq f o h) (then_err way (pieces.counted elements) (wanted.count elements) counted_here _ p m b e g ∙ count_then way (pieces.counted elements) (wanted.count elements) (λ n. tell_row (is_octet (shape_of o.value)) (skip registry d (shape_of o.value)) (λ w. tell_shape registry d (tell_named registry d) (shape_of o.value) w) way n) p m b)
+  pub told_seq_stop : (s : Shape) (e : Reason × ℕ) → counted_here p m b ≡ Err e
+      → noting way (pieces.counted elements) (wanted.count elements) counted_here p m b ≡ tell registry d (shape.seq s) way p m b
+  unfolding tell tell_shape
+  told_seq_stop s e g = then_err way (pieces.counted elements) (wanted.count elements) counted_here _ p m b e g ∙ count_then way (pieces.counted elements) (wanted.count elements) (λ n. tell_row (is_octet s) (skip registry d s) (λ w. tell_shape registry d (tell_named registry d) s w) way n) p m b
 
-    pub told_seq_on : (o : Box format.Format Global) (n q l : ℕ) (c : List ℕ) → f ≡ format.Seq o → counted_here p m b ≡ Ok (n, q, l, c)
-        → noting way (pieces.counted elements) (wanted.count elements) counted_here p m b ++ tell_row (is_octet (shape_of o.value)) (skip registry d (shape_of o.value)) (λ w. tell registry d (shape_of o.value) w) way n q l c ≡ tell registry d (shape_of f) way p m b
-    unfolding tell tell_shape
-    told_seq_on o n q l c h g =
-        rw (shape-Seq f o h) (then_ok way (pieces.counted elements) (wanted.count elements) counted_here (λ n. tell_row (is_octet (shape_of o.value)) (skip registry d (shape_of o.value)) (λ w. tell_shape registry d (tell_named registry d) (shape_of o.value) w) way n) p m b n q l c g ∙ count_then way (pieces.counted elements) (wanted.count elements) (λ n. tell_row (is_octet (shape_of o.value)) (skip registry d (shape_of o.value)) (λ w. tell_shape registry d (tell_named registry d) (shape_of o.value) w) way n) p m b)
+  pub told_seq_on : (s : Shape) (n q l : ℕ) (c : List ℕ) → counted_here p m b ≡ Ok (n, q, l, c)
+      → noting way (pieces.counted elements) (wanted.count elements) counted_here p m b ++ tell_row (is_octet s) (skip registry d s) (λ w. tell registry d s w) way n q l c ≡ tell registry d (shape.seq s) way p m b
+  unfolding tell tell_shape
+  told_seq_on s n q l c g =
+      then_ok way (pieces.counted elements) (wanted.count elements) counted_here (λ n. tell_row (is_octet s) (skip registry d s) (λ w. tell_shape registry d (tell_named registry d) s w) way n) p m b n q l c g ∙ count_then way (pieces.counted elements) (wanted.count elements) (λ n. tell_row (is_octet s) (skip registry d s) (λ w. tell_shape registry d (tell_named registry d) s w) way n) p m b
 
-    pub told_map_stop : (k v : Box format.Format Global) (e : Reason × ℕ) → f ≡ format.Map k v → counted_here p m b ≡ Err e
-        → noting way (pieces.counted entries) (wanted.count entries) counted_here p m b ≡ tell registry d (shape_of f) way p m b
-    unfolding tell tell_shape
-    told_map_stop k v e h g = rw (shape-Map f k v h) (then_err way (pieces.counted entries) (wanted.count entries) counted_here _ p m b e g ∙ count_then way (pieces.counted entries) (wanted.count entries) (λ n. tell_pairs (skip registry d (shape_of k.value)) (skip registry d (shape_of v.value)) (λ w. tell_shape registry d (tell_named registry d) (shape_of k.value) w) (λ w. tell_shape registry d (tell_named registry d) (shape_of v.value) w) way None 0 n) p m b)
+  pub told_map_stop : (k v : Shape) (e : Reason × ℕ) → counted_here p m b ≡ Err e
+      → noting way (pieces.counted entries) (wanted.count entries) counted_here p m b ≡ tell registry d (shape.map k v) way p m b
+  unfolding tell tell_shape
+  told_map_stop k v e g = then_err way (pieces.counted entries) (wanted.count entries) counted_here _ p m b e g ∙ count_then way (pieces.counted entries) (wanted.count entries) (λ n. tell_pairs (skip registry d k) (skip registry d v) (λ w. tell_shape registry d (tell_named registry d) k w) (λ w. tell_shape registry d (tell_named registry d) v w) way None 0 n) p m b
 
-    pub told_map_on : (k v : Box format.Format Global) (n q l : ℕ) (c : List ℕ) → f ≡ format.Map k v → counted_here p m b ≡ Ok (n, q, l, c)
-        → noting way (pieces.counted entries) (wanted.count entries) counted_here p m b
-        ++ tell_pairs (skip registry d (shape_of k.value)) (skip registry d (shape_of v.value)) (λ w. tell registry d (shape_of k.value) w) (λ w. tell registry d (shape_of v.value) w) way None 0 n q l c
-        ≡ tell registry d (shape_of f) way p m b
-    unfolding tell tell_shape
-    told_map_on k v n q l c h g =
-        rw (shape-Map f k v h) (then_ok way (pieces.counted entries) (wanted.count entries) counted_here
-        (λ n. tell_pairs (skip registry d (shape_of k.value)) (skip registry d (shape_of v.value)) (λ w. tell_shape registry d (tell_named registry d) (shape_of k.value) w) (λ w. tell_shape registry d (tell_named registry d) (shape_of v.value) w) way None 0 n) p m b n q l c g ∙ count_then way (pieces.counted entries) (wanted.count entries) (λ n. tell_pairs (skip registry d (shape_of k.value)) (skip registry d (shape_of v.value)) (λ w. tell_shape registry d (tell_named registry d) (shape_of k.value) w) (λ w. tell_shape registry d (tell_named registry d) (shape_of v.value) w) way None 0 n) p m b)
+  pub told_map_on : (k v : Shape) (n q l : ℕ) (c : List ℕ) → counted_here p m b ≡ Ok (n, q, l, c)
+      → noting way (pieces.counted entries) (wanted.count entries) counted_here p m b
+      ++ tell_pairs (skip registry d k) (skip registry d v) (λ w. tell registry d k w) (λ w. tell registry d v w) way None 0 n q l c
+      ≡ tell registry d (shape.map k v) way p m b
+  unfolding tell tell_shape
+  told_map_on k v n q l c g =
+      then_ok way (pieces.counted entries) (wanted.count entries) counted_here
+      (λ n. tell_pairs (skip registry d k) (skip registry d v) (λ w. tell_shape registry d (tell_named registry d) k w) (λ w. tell_shape registry d (tell_named registry d) v w) way None 0 n) p m b n q l c g ∙ count_then way (pieces.counted entries) (wanted.count entries) (λ n. tell_pairs (skip registry d k) (skip registry d v) (λ w. tell_shape registry d (tell_named registry d) k w) (λ w. tell_shape registry d (tell_named registry d) v w) way None 0 n) p m b
 
-    pub told_array_stop : (o : Box format.Format Global) (n : ℕ) (e : Reason × ℕ) → f ≡ format.TupleArray o n → node_here p m b ≡ Err e → halt way wanted.node ∷ [] ≡ tell registry d (shape_of f) way p m b
-    unfolding tell tell_shape
-    told_array_stop o n e h g = rw (shape-TupleArray f o n h) (node_stop way wanted.node (tell_row (is_octet (shape_of o.value)) (skip registry d (shape_of o.value)) (λ w. tell_shape registry d (tell_named registry d) (shape_of o.value) w) way n) p m b e g)
+  pub told_array_stop : (s : Shape) (n : ℕ) (e : Reason × ℕ) → node_here p m b ≡ Err e → halt way wanted.node ∷ [] ≡ tell registry d (shape.array s n) way p m b
+  unfolding tell tell_shape
+  told_array_stop s n e g = node_stop way wanted.node (tell_row (is_octet s) (skip registry d s) (λ w. tell_shape registry d (tell_named registry d) s w) way n) p m b e g
 
-    pub told_array_on : (o : Box format.Format Global) (n q l : ℕ) (c : List ℕ) → f ≡ format.TupleArray o n → node_here p m b ≡ Ok (tt, q, l, c)
-        → tell_row (is_octet (shape_of o.value)) (skip registry d (shape_of o.value)) (λ w. tell registry d (shape_of o.value) w) way n q l c ≡ tell registry d (shape_of f) way p m b
-    unfolding tell tell_shape
-    told_array_on o n q l c h g =
-        rw (shape-TupleArray f o n h) (node_on way wanted.node (tell_row (is_octet (shape_of o.value)) (skip registry d (shape_of o.value)) (λ w. tell_shape registry d (tell_named registry d) (shape_of o.value) w) way n) p m b q l c g)
+  pub told_array_on : (s : Shape) (n q l : ℕ) (c : List ℕ) → node_here p m b ≡ Ok (tt, q, l, c)
+      → tell_row (is_octet s) (skip registry d s) (λ w. tell registry d s w) way n q l c ≡ tell registry d (shape.array s n) way p m b
+  unfolding tell tell_shape
+  told_array_on s n q l c g =
+      node_on way wanted.node (tell_row (is_octet s) (skip registry d s) (λ w. tell_shape registry d (tell_named registry d) s w) way n) p m b q l c g
 
   -- ---- tuples and fields
 

@@ -1,5 +1,6 @@
 -- What the calls answer, from what the crates below tell.
-use Rattle.std.proofs.Common.{◌≡◌, ◌≢◌, ◌≤◌, ◌↔◌, ℕ, List, Ok, Err, Result, IfOk, IfErr, Bool, Decides, refl}
+use Rattle.std.proofs.Common.{◌≡◌, ◌≢◌, ◌≤◌, ◌↔◌, ℕ, List, Ok, Err, Result, Some, None, IfOk, IfErr, IfSome, Bool, Decides, refl, ap, sym, subst}
+use Rattle.std.specs.Result.{result_ok, result_err}
 use Rattle.serde_json.specs.Data.{Data, depth}
 use Rattle.bcs_registry_formats.specs.Container.{Entries}
 use Rattle.bcs_registry_formats.specs.Container as container
@@ -23,12 +24,31 @@ use Rattle.bcs_json_spec.specs.declared.json_fault.JsonFault.{JsonFault}
 use Rattle.bcs_json_spec.specs.declared.json_fault.JsonFault.TheVariants.{OutOfMemory}
 use Rattle.bcs_json_spec.specs.Headline.{HasBytes, Compares, Normalises}
 use Rattle.bcs_json_spec.specs.JsonContent.{of}
+use Rattle.bcs_json_spec.specs.Place.{Step, value, parts, IsPlaceOf}
 use Rattle.bcs_json_spec.specs.Reading.{Tells, read_data}
 use Rattle.bcs_json_spec.specs.Shown.{shown}
-use Rattle.bcs_json_spec.specs.Texts.{nesting_limit, IsReadAs, SpelledBy, RefusesText, IsTextOf}
+use Rattle.bcs_json_spec.specs.Texts.{nesting_limit, IsReadAs, SpelledBy, MisspellsAt, RefusesText, IsTextOf}
 use Rattle.bcs_json_spec.proofs.Printed.{shown_denotes, form_is_sound, form_nests}
+use Rattle.bcs_json_spec.proofs.Verdict.{exact_data}
 use Rattle.bcs_json_spec.proofs.TextOutcomes.{read_is_spelled, stop_is_refusal, refused_value}
+use Rattle.bcs_json_reader_steps.specs.Refused.{steps, IsPlaced}
+use Rattle.bcs_json_reader_steps.specs.declared.refusal.Refusal.{Refusal}
 use Rattle.bcs_json.specs.Printing.{Prints}
+
+some_is : {A : Type 0} (x y : A) → Some x ≡ Some y → x ≡ y
+some_is x y h = cc
+
+some≢none : {A : Type 0} (x : A) → Some x ≡ None → ⊥
+some≢none x h = cc
+
+-- results that were looked at by `ok` and `err`
+pub was_ok : {A E : Type 0} (r : Result A E) (x : A) (P : A → Type 0) → Some x ≡ result_ok r → IfOk r P → P x
+was_ok (Ok y) x P is h = subst P (some_is y x (sym is)) h
+was_ok (Err e) x P is h = absurd (some≢none x is)
+
+pub was_err : {A E : Type 0} (r : Result A E) (e : E) → Some e ≡ result_err r → r ≡ Err e
+was_err (Ok y) e is = absurd (some≢none e is)
+was_err (Err g) e is = ap Err (some_is g e (sym is))
 
 module _ (registry : Entries) (limits : Bounds) (s : Shape) (text : List ℕ) where
   -- what the reader gave is spelled
@@ -40,6 +60,14 @@ module _ (registry : Entries) (limits : Bounds) (s : Shape) (text : List ℕ) wh
   pub told_fault : (d : Data) → IsReadAs text d → (r : Result Value JsonFault) → Tells tree_of r (read_data registry limits.depth (of s) d) → IfErr r (λ e. e ≢ OutOfMemory → RefusesText registry limits s text e)
   told_fault d is (Ok v) h = tt
   told_fault d is (Err e) h = λ other. stop_is_refusal registry limits s text d is e (h other)
+
+  -- and a known way leads to where it is
+  pub told_place : (d : Data) → IsReadAs text d → (n : ℕ) → n ≡ limits.depth → (r : Refusal) → Tells {X = Value} tree_of (Err r.fault) (read_data registry n (of s) d)
+      → IsPlaced {X = Value} registry (parts registry n (value (of s)) d) (Err r) → r.fault ≢ OutOfMemory → (path : List Step) → steps r.way ≡ Some path → MisspellsAt registry limits s text path r.fault
+  told_place d is n depth r tells placed other path known =
+      let read : read_data registry limits.depth (of s) d ≡ Err r.fault = subst (λ m. read_data registry m (of s) d ≡ Err r.fault) depth (tells other) in
+      let place : IsPlaceOf registry n (value (of s)) d path = subst (λ o. IfSome o (λ way. IsPlaceOf registry n (value (of s)) d way)) known (placed other) in
+      (d, is, ((exact_data registry limits.depth (of s)).err d r.fault read, subst (λ m. IsPlaceOf registry m (value (of s)) d path) depth place))
 
   -- a fault of encoding what is spelled is one of the text
   pub value_fault : IsOrderly registry → (t : Tree) → SpelledBy registry limits s text t → (e : EncodeFault) → (e ≢ encode_fault.OutOfMemory → encode.Refuses registry limits s t e)

@@ -18,6 +18,7 @@ pub use Rattle.bcs_json_spec.specs.Bytes
 pub use Rattle.bcs_json_spec.specs.Spells
 pub use Rattle.bcs_json_spec.specs.ArraySpells
 pub use Rattle.bcs_json_spec.specs.Refuses
+pub use Rattle.bcs_json_spec.specs.Place
 pub use Rattle.bcs_json_spec.specs.FaultNames
 pub use Rattle.bcs_json_spec.specs.Shown
 pub use Rattle.bcs_json_spec.specs.Texts

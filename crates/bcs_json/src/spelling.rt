@@ -28,5 +28,6 @@ pub(crate) fn spelled(
     if !nests_within(&json, NESTING_LIMIT) {
         return Err(JsonFault::TooNested);
     }
-    read(alloc, registry, format, limits.depth(), json)
+    let value = read(alloc, registry, format, limits.depth(), json)?;
+    Ok(value)
 }

@@ -5,6 +5,7 @@ use Rattle.serde_json.specs.Data.{Data, Items, null, boolean, number, string, ar
 use Rattle.serde_json.specs.View.{items_view}
 use Rattle.serde_json.specs.declared.value.Value.{Value as Json}
 use Rattle.bcs_registry_formats.specs.Shape as shape
+use Rattle.bcs_registry_formats.specs.Shape.{Shape}
 use Rattle.bcs_registry_formats.specs.View.{formats_shapes}
 use Rattle.bcs_registry_formats.specs.declared.format.Format.{Format}
 use Rattle.bcs_value_tree.specs.Tree.{Tree, Trees, items}
@@ -14,11 +15,12 @@ use Rattle.bcs_value_tree.specs.declared.value.Value.{Value, the_lemmas}
 use Rattle.bcs_json_spec.specs.declared.json_fault.JsonFault.{JsonFault}
 use Rattle.bcs_json_spec.specs.declared.json_fault.JsonFault.TheVariants.{BadShape}
 use Rattle.bcs_json_spec.specs.Look.{item_count, shape_count}
+use Rattle.bcs_json_spec.specs.Place.{item_parts, each_parts, array_parts, tuple_parts}
 use Rattle.bcs_json_spec.specs.Reading.{Read, follow, read_all, read_array, read_map, read_tuple, read_shape, read_each}
 use Rattle.bcs_json_spec.proofs.Exact.{when_true, when_false}
 use Rattle.bcs_json_reader_steps.proofs.OtherCounts.{count_items}
 
-count_formats : (fs : List Format) → shape_count (formats_shapes fs) ≡ length fs
+pub count_formats : (fs : List Format) → shape_count (formats_shapes fs) ≡ length fs
 count_formats [] = refl
 count_formats (f ∷ fs) = ap suc (count_formats fs)
 
@@ -62,6 +64,27 @@ module _ (bytes : Bool) (n : ℕ) (r : Data → Read Tree) (j : Data) (v : Vec J
   array_row same =
       ap (read_array bytes n r) is
       ∙ when_true (item_count (items_view v.items) == n) elements (Err BadShape) (Decides-eqb (item_count (items_view v.items)) n) (count_items v.items ∙ same)
+
+-- the parts of an array of so many elements, or of another number
+module _ (left : ℕ) (s : Shape) (n : ℕ) (j : Data) (v : Vec Json Global) (is : j ≡ array (items_view v.items)) where
+  pub array_other_none : (length v.items ≡ n → ⊥) → array_parts left s n j ≡ []
+  array_other_none other =
+      ap (array_parts left s n) is
+      ∙ when_false (item_count (items_view v.items) == n) (item_parts left s 0 (items_view v.items)) [] (Decides-eqb (item_count (items_view v.items)) n)
+      (λ same. other (sym (count_items v.items) ∙ same))
+
+  pub array_items : length v.items ≡ n → array_parts left s n j ≡ item_parts left s 0 (items_view v.items)
+  array_items same =
+      ap (array_parts left s n) is
+      ∙ when_true (item_count (items_view v.items) == n) (item_parts left s 0 (items_view v.items)) [] (Decides-eqb (item_count (items_view v.items)) n) (count_items v.items ∙ same)
+
+-- and of a tuple
+pub tuple_items : (left : ℕ) (fs : List Format) (j : Data) (v : Vec Json Global) → j ≡ array (items_view v.items) → length v.items ≡ length fs
+    → tuple_parts left (formats_shapes fs) j ≡ each_parts left (formats_shapes fs) 0 (items_view v.items)
+tuple_items left fs j v is same =
+    ap (tuple_parts left (formats_shapes fs)) is
+    ∙ when_true (item_count (items_view v.items) == shape_count (formats_shapes fs)) (each_parts left (formats_shapes fs) 0 (items_view v.items)) [] (Decides-eqb (item_count (items_view v.items)) (shape_count (formats_shapes fs)))
+    (count_items v.items ∙ same ∙ sym (count_formats fs))
 
 -- another kind of JSON than an array is no map
 pub map_other : (k v : Data → Read Tree) (j : Data) → ((ds : Items) → j ≡ array ds → ⊥) → read_map k v j ≡ Err BadShape

@@ -4,3 +4,6 @@ pub mod Rows
 pub mod PairRows
 pub mod FieldRows
 pub mod Names
+pub mod Placed
+pub mod OwnKind
+pub mod PlacedRows

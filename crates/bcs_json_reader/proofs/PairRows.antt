@@ -26,6 +26,26 @@ step : (es : List (Value × Value)) (e : Value × Value) (rest : Read Pairs)
 step es e (Ok ps) = ap Ok (sym (joined_pairs-more es e ps))
 step es e (Err f) = refl
 
+-- ---- an entry
+
+module _ (k v : Data → Read Tree) (j a b : Data) (two : j ≡ array (item a (item b no_items))) where
+  -- its key is refused
+  pub key_fault : (e : JsonFault) → k a ≡ Err e → read_pair k v j ≡ Err e
+  key_fault e h = ap (read_pair k v) two ∙ ap (λ (x : Read Tree). follow x (λ s. follow (v b) (λ t. Ok (s, t)))) h
+
+  key_read : (s : Tree) → k a ≡ Ok s → read_pair k v j ≡ follow {B = Tree × Tree} (v b) (λ t. Ok (s, t))
+  key_read s h = ap (read_pair k v) two ∙ ap (λ (x : Read Tree). follow x (λ s. follow (v b) (λ t. Ok (s, t)))) h
+
+  -- or its value
+  pub value_fault : (s : Tree) (e : JsonFault) → k a ≡ Ok s → v b ≡ Err e → read_pair k v j ≡ Err e
+  value_fault s e g h = key_read s g ∙ ap (λ (y : Read Tree). follow {B = Tree × Tree} y (λ t. Ok (s, t))) h
+
+  -- or both are read
+  pub both_read : (s t : Tree) → k a ≡ Ok s → v b ≡ Ok t → read_pair k v j ≡ Ok (s, t)
+  both_read s t g h = key_read s g ∙ ap (λ (y : Read Tree). follow {B = Tree × Tree} y (λ t. Ok (s, t))) h
+
+-- ---- entries in a row
+
 module _ (k v : Data → Read Tree) (js : List Json) (es : List (Value × Value)) where
   abbrev pairs_from : List Json → Read Pairs
   pairs_from ls = follow (read_pairs k v (items_view ls)) (λ ps. Ok (joined_pairs es ps))
@@ -37,27 +57,10 @@ module _ (k v : Data → Read Tree) (js : List Json) (es : List (Value × Value)
   pub pair_fault : (left : List Json) (j : Json) (e : JsonFault) → js ≡ j ∷ left → read_pair k v (view j) ≡ Err e → pairs_from js ≡ Err e
   pair_fault left j e h f = ap pairs_from h ∙ ap (after left) f
 
-  module _ (left : List Json) (j : Json) (here : js ≡ j ∷ left) (a b : Data) (two : view j ≡ array (item a (item b no_items))) where
-    -- for its key
-    pub key_fault : (e : JsonFault) → k a ≡ Err e → pairs_from js ≡ Err e
-    key_fault e h = pair_fault left j e here (ap (read_pair k v) two ∙ ap (λ (x : Read Tree). follow x (λ s. follow (v b) (λ t. Ok (s, t)))) h)
-
-    -- for its value
-    pub value_fault : (x : Value) (e : JsonFault) → k a ≡ Ok (tree_of x) → v b ≡ Err e → pairs_from js ≡ Err e
-    value_fault x e g h =
-        pair_fault left j e here
-        (ap (read_pair k v) two ∙ ap (λ (x : Read Tree). follow x (λ s. follow (v b) (λ t. Ok (s, t)))) g
-        ∙ ap (λ (y : Read Tree). follow {B = Tree × Tree} y (λ t. Ok (tree_of x, t))) h)
-
-    -- or read
-    pub pair_more : (x y : Value) → k a ≡ Ok (tree_of x) → v b ≡ Ok (tree_of y)
-        → pairs_from js ≡ follow (read_pairs k v (items_view left)) (λ ps. Ok (joined_pairs (es ++ (x, y) ∷ []) ps))
-    pair_more x y g h =
-        ap pairs_from here
-        ∙ ap (after left)
-        (ap (read_pair k v) two ∙ ap (λ (x : Read Tree). follow x (λ s. follow (v b) (λ t. Ok (s, t)))) g
-        ∙ ap (λ (y : Read Tree). follow {B = Tree × Tree} y (λ t. Ok (tree_of x, t))) h)
-        ∙ step es (x, y) (read_pairs k v (items_view left))
+  -- or read
+  pub pair_more : (left : List Json) (j : Json) (x : Value × Value) → js ≡ j ∷ left → read_pair k v (view j) ≡ Ok (tree_of x.0, tree_of x.1)
+      → pairs_from js ≡ follow (read_pairs k v (items_view left)) (λ ps. Ok (joined_pairs (es ++ x ∷ []) ps))
+  pair_more left j x h r = ap pairs_from h ∙ ap (after left) r ∙ step es x (read_pairs k v (items_view left))
 
   -- or there is none
   pub pairs_done : js ≡ [] → pairs_from js ≡ Ok (entries_pairs es)

@@ -7,8 +7,10 @@ ghost use Rattle.bcs_registry_formats.specs.View.{field_of, payload_of, choice_o
 ghost use Rattle.bcs_registry_formats.specs.WellFormed.{IsWellFormed};
 ghost use Rattle.bcs_value_tree.specs.View.{tree_of};
 ghost use Rattle.bcs_json_spec.specs.JsonContent.{json_content_at, payload_content};
+ghost use Rattle.bcs_json_spec.specs.Place.{value, struct_parts, enum_parts, named_parts, parts};
 ghost use Rattle.bcs_json_spec.specs.Reading as spec;
 ghost use Rattle.bcs_json_spec.specs.Reading.{Tells, read_data};
+ghost use Rattle.bcs_json_reader_steps.specs.Refused.{fault_alone, IsPlaced};
 
 use crate::parts::read_fields;
 use crate::reading::{read, read_tuple};
@@ -17,8 +19,8 @@ use bcs_json_reader_steps::enums::{EnumJson, enum_of};
 use bcs_json_reader_steps::leaves::read_unit;
 use bcs_json_reader_steps::objects::object_of;
 use bcs_json_reader_steps::opening::open_container;
+use bcs_json_reader_steps::refusal::{Refusal, at_member};
 use bcs_json_reader_steps::variants::{read_word, variant_called};
-use bcs_json_spec::JsonFault;
 use bcs_registry::{Container, Format, Named, Registry, VariantFormat};
 use bcs_value_tree::Value;
 use serde_json::Value as Json;
@@ -33,8 +35,9 @@ pub(crate) fn read_named(
     name: &str,
     left: u32,
     json: Json,
-) -> Result<Value, JsonFault>
-    ensures { Tells tree_of result (spec.read_named registry.now left name.now (view json)) }
+) -> Result<Value, Refusal>
+    ensures tells { Tells tree_of (fault_alone result) (spec.read_named registry.now left name.now (view json)) }
+    ensures placed { IsPlaced registry.now (named_parts registry.now left name.now (view json)) result }
 {
     let inside = open_container(left)?;
     let value = read_content(alloc, registry, name, inside, json)?;
@@ -49,11 +52,12 @@ fn read_content(
     name: &str,
     left: u32,
     json: Json,
-) -> Result<Value, JsonFault>
-    ensures { Tells tree_of result (read_data registry.now left (json_content_at name.now registry.now) (view json)) }
+) -> Result<Value, Refusal>
+    ensures tells { Tells tree_of (fault_alone result) (read_data registry.now left (json_content_at name.now registry.now) (view json)) }
+    ensures placed { IsPlaced registry.now (parts registry.now left (value (json_content_at name.now registry.now)) (view json)) result }
 {
     match container_called(registry, name)? {
-        Container::UnitStruct => read_unit(json),
+        Container::UnitStruct => Ok(read_unit(json)?),
         Container::NewTypeStruct(format) => read(alloc, registry, format, left, json),
         Container::TupleStruct(formats) => read_tuple(alloc, registry, formats, left, json),
         Container::Struct(fields) => read_struct(alloc, registry, fields, left, json),
@@ -69,8 +73,9 @@ fn read_struct(
     fields: &[Named<Format>],
     left: u32,
     json: Json,
-) -> Result<Value, JsonFault>
-    ensures { Tells tree_of result (spec.read_struct (spec.read_named registry.now left) (map field_of fields.now) (view json)) }
+) -> Result<Value, Refusal>
+    ensures tells { Tells tree_of (fault_alone result) (spec.read_struct (spec.read_named registry.now left) (map field_of fields.now) (view json)) }
+    ensures placed { IsPlaced registry.now (struct_parts left (map field_of fields.now) (view json)) result }
 {
     let members = object_of(json)?;
     Ok(Value::Items(read_fields(alloc, registry, fields, left, members)?))
@@ -85,17 +90,19 @@ fn read_enum(
     variants: &BTreeMap<u32, Named<VariantFormat>>,
     left: u32,
     json: Json,
-) -> Result<Value, JsonFault>
+) -> Result<Value, Refusal>
     requires stands { container_at name.now registry.now ≡ Some (enumeration (map choice_of variants.now.entries)) }
     requires well_formed { IsWellFormed registry.now }
     requires orderly { IsOrderly registry.now }
-    ensures { Tells tree_of result (spec.read_enum (spec.read_named registry.now left) (map choice_of variants.now.entries) (view json)) }
+    ensures tells { Tells tree_of (fault_alone result) (spec.read_enum (spec.read_named registry.now left) (map choice_of variants.now.entries) (view json)) }
+    ensures placed { IsPlaced registry.now (enum_parts left (map choice_of variants.now.entries) (view json)) result }
 {
     match enum_of(json)? {
-        EnumJson::Name(word) => read_word(alloc, registry, name, variants, word),
+        EnumJson::Name(word) => Ok(read_word(alloc, registry, name, variants, word)?),
         EnumJson::Member(word, part) => {
             let (number, variant) = variant_called(registry, name, variants, word.as_str())?;
-            let value = read_payload(alloc, registry, &variant.value, left, part)?;
+            let outcome = read_payload(alloc, registry, &variant.value, left, part);
+            let value = at_member(alloc, word.as_str(), outcome)?;
             Ok(Value::Variant(number, Box::new(alloc, value)?))
         }
     }
@@ -109,11 +116,12 @@ fn read_payload(
     payload: &VariantFormat,
     left: u32,
     json: Json,
-) -> Result<Value, JsonFault>
-    ensures { Tells tree_of result (spec.read_part (spec.read_named registry.now left) (payload_content (payload_of payload.now)) (view json)) }
+) -> Result<Value, Refusal>
+    ensures tells { Tells tree_of (fault_alone result) (spec.read_part (spec.read_named registry.now left) (payload_content (payload_of payload.now)) (view json)) }
+    ensures placed { IsPlaced registry.now (parts registry.now left (value (payload_content (payload_of payload.now))) (view json)) result }
 {
     match payload {
-        VariantFormat::Unit => read_unit(json),
+        VariantFormat::Unit => Ok(read_unit(json)?),
         VariantFormat::NewType(format) => read(alloc, registry, format, left, json),
         VariantFormat::Tuple(formats) => read_tuple(alloc, registry, formats, left, json),
         VariantFormat::Struct(fields) => read_struct(alloc, registry, fields, left, json),

@@ -1,13 +1,15 @@
 //! Reading a value's JSON, front to back. Each call takes its JSON and gives the value of the tree that it spells, or
-//! the first fault.
+//! the first fault with the way to it, which is written from the fault back.
 ghost use Rattle.serde_json.specs.View.{view};
 ghost use Rattle.bcs_registry_formats.specs.View.{shape_of, formats_shapes};
 ghost use Rattle.bcs_registry_formats.specs.Shape.{tuple as tuple_shape};
 ghost use Rattle.bcs_value_tree.specs.View.{tree_of};
 ghost use Rattle.bcs_json_spec.specs.Bytes.{is_byte};
 ghost use Rattle.bcs_json_spec.specs.JsonContent.{of};
+ghost use Rattle.bcs_json_spec.specs.Place.{value, option_parts, seq_parts, map_parts, tuple_parts, array_parts, parts};
 ghost use Rattle.bcs_json_spec.specs.Reading as spec;
 ghost use Rattle.bcs_json_spec.specs.Reading.{Tells, read_data};
+ghost use Rattle.bcs_json_reader_steps.specs.Refused.{fault_alone, IsPlaced};
 
 use crate::containers::read_named;
 use crate::parts::{read_all, read_each, read_pairs};
@@ -16,7 +18,7 @@ use bcs_json_reader_steps::hexadecimal::{read_byte_array, read_byte_text};
 use bcs_json_reader_steps::leaf::read_leaf;
 use bcs_json_reader_steps::lists::{ListJson, list_of};
 use bcs_json_reader_steps::options::option_of;
-use bcs_json_spec::JsonFault;
+use bcs_json_reader_steps::refusal::{Refusal, at_member};
 use bcs_registry::{Format, Registry};
 use bcs_value_tree::Value;
 use serde_json::Value as Json;
@@ -30,8 +32,9 @@ pub fn read(
     format: &Format,
     left: u32,
     json: Json,
-) -> Result<Value, JsonFault>
-    ensures { Tells tree_of result (read_data registry.now left (of (shape_of format.now)) (view json)) }
+) -> Result<Value, Refusal>
+    ensures tells { Tells tree_of (fault_alone result) (read_data registry.now left (of (shape_of format.now)) (view json)) }
+    ensures placed { IsPlaced registry.now (parts registry.now left (value (of (shape_of format.now))) (view json)) result }
 {
     match format {
         Format::TypeName(name) => read_named(alloc, registry, name.as_str(), left, json),
@@ -58,7 +61,7 @@ pub fn read(
         | Format::F64
         | Format::Char
         | Format::Str
-        | Format::Bytes => read_leaf(alloc, format, json),
+        | Format::Bytes => Ok(read_leaf(alloc, format, json)?),
     }
 }
 
@@ -70,13 +73,15 @@ fn read_option(
     content: &Format,
     left: u32,
     json: Json,
-) -> Result<Value, JsonFault>
-    ensures { Tells tree_of result (spec.read_option (read_data registry.now left (of (shape_of content.now))) (view json)) }
+) -> Result<Value, Refusal>
+    ensures tells { Tells tree_of (fault_alone result) (spec.read_option (read_data registry.now left (of (shape_of content.now))) (view json)) }
+    ensures placed { IsPlaced registry.now (option_parts left (shape_of content.now) (view json)) result }
 {
     match option_of(json)? {
         None => Ok(Value::Absent),
         Some(part) => {
-            let value = read(alloc, registry, content, left, part)?;
+            let outcome = read(alloc, registry, content, left, part);
+            let value = at_member(alloc, "some", outcome)?;
             Ok(Value::Present(Box::new(alloc, value)?))
         }
     }
@@ -90,9 +95,10 @@ fn read_list(
     element: &Format,
     left: u32,
     json: Json,
-) -> Result<Value, JsonFault>
-    ensures { Tells tree_of result
+) -> Result<Value, Refusal>
+    ensures tells { Tells tree_of (fault_alone result)
         (spec.read_seq (is_byte (shape_of element.now)) (read_data registry.now left (of (shape_of element.now))) (view json)) }
+    ensures placed { IsPlaced registry.now (seq_parts left (shape_of element.now) (view json)) result }
 {
     match list_of(json)? {
         ListJson::Array(items) => {
@@ -111,9 +117,10 @@ fn read_array(
     size: u64,
     left: u32,
     json: Json,
-) -> Result<Value, JsonFault>
-    ensures { Tells tree_of result
+) -> Result<Value, Refusal>
+    ensures tells { Tells tree_of (fault_alone result)
         (spec.read_array (is_byte (shape_of element.now)) size (read_data registry.now left (of (shape_of element.now))) (view json)) }
+    ensures placed { IsPlaced registry.now (array_parts left (shape_of element.now) size (view json)) result }
 {
     match list_of(json)? {
         ListJson::Array(items) => {
@@ -132,8 +139,9 @@ pub(crate) fn read_tuple(
     formats: &[Format],
     left: u32,
     json: Json,
-) -> Result<Value, JsonFault>
-    ensures { Tells tree_of result (read_data registry.now left (of (tuple_shape (formats_shapes formats.now))) (view json)) }
+) -> Result<Value, Refusal>
+    ensures tells { Tells tree_of (fault_alone result) (read_data registry.now left (of (tuple_shape (formats_shapes formats.now))) (view json)) }
+    ensures placed { IsPlaced registry.now (tuple_parts left (formats_shapes formats.now) (view json)) result }
 {
     let items = array_of_exactly(json, formats.len() as u64)?;
     Ok(Value::Items(read_each(alloc, registry, formats, left, items)?))
@@ -148,9 +156,10 @@ fn read_map(
     content: &Format,
     left: u32,
     json: Json,
-) -> Result<Value, JsonFault>
-    ensures { Tells tree_of result
+) -> Result<Value, Refusal>
+    ensures tells { Tells tree_of (fault_alone result)
         (spec.read_map (read_data registry.now left (of (shape_of key.now))) (read_data registry.now left (of (shape_of content.now))) (view json)) }
+    ensures placed { IsPlaced registry.now (map_parts left (shape_of key.now) (shape_of content.now) (view json)) result }
 {
     let items = array_of(json)?;
     Ok(Value::Pairs(read_pairs(alloc, registry, key, content, left, items)?))

@@ -4,3 +4,4 @@ pub mod Texts
 pub mod Taken
 pub mod OtherCounts
 pub mod Called
+pub mod Ways

@@ -12,5 +12,7 @@ pub mod lists;
 pub mod objects;
 pub mod opening;
 pub mod options;
+pub mod refusal;
 pub mod variants;
+pub mod way;
 pub mod whole_number;

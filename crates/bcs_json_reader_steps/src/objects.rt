@@ -1,6 +1,6 @@
 //! Objects, taken apart, so that their members are moved and not copied.
 ghost use Rattle.std.specs.Prelude.{◌≡◌, ◌≢◌, ℕ, List, IfOk, IfErr, OnOk, OnErr, Err, Some, None, string_bytes};
-ghost use Rattle.serde_json.specs.Data.{Data, object, member, no_members};
+ghost use Rattle.serde_json.specs.Data.{Data, Members, object, member, no_members};
 ghost use Rattle.serde_json.specs.Find.{get_member};
 ghost use Rattle.serde_json.specs.View.{view, members_view};
 ghost use Rattle.bcs_registry_formats.specs.Container.{Field};
@@ -16,6 +16,7 @@ use serde_json::{Map, Value as Json};
 /// The members of an object. `BadShape`: another kind of JSON.
 pub fn object_of(json: Json) -> Result<Map<String, Json>, JsonFault>
     ensures ok { IfOk result (λ ms. view json ≡ object (members_view ms.entries)) }
+    ensures other { IfErr result (λ _. (ms : Members) → view json ≢ object ms) }
     ensures fault { IfErr result (λ e. (named : List ℕ → Data → Read Tree) (fs : List Field) → spec.read_struct named fs (view json) ≡ Err e) }
 {
     match json {

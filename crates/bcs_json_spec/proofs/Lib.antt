@@ -5,6 +5,10 @@ pub mod RowVerdicts
 pub mod PartVerdicts
 pub mod Verdict
 pub mod WorkedRows
+pub mod Places
+pub mod PlaceFaults
+pub mod SomePlace
+pub mod PlaceRows
 pub mod Numbering
 pub mod Fitting
 pub mod Lowest

@@ -5,6 +5,7 @@ pub mod Bytes
 pub mod Spells
 pub mod Refuses
 pub mod Reading
+pub mod Place
 pub mod Shown
 pub mod Texts
 pub mod Headline

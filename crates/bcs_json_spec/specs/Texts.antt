@@ -12,6 +12,7 @@ use Rattle.bcs_encode_spec.specs.Refused as encode
 use Rattle.bcs_encode_spec.specs.Sound.{IsSound}
 use Rattle.bcs_encode_spec.specs.declared.fault.EncodeFault.TheVariants as encode_fault
 use Rattle.bcs_json_spec.specs.JsonContent.{of}
+use Rattle.bcs_json_spec.specs.Place.{Step, RefusesAt}
 use Rattle.bcs_json_spec.specs.Refuses.{Refuses}
 use Rattle.bcs_json_spec.specs.Shown.{shown}
 use Rattle.bcs_json_spec.specs.Spells.{Spells, SpellsWithin}
@@ -42,6 +43,10 @@ pub record SpelledBy (registry : Entries) (limits : Bounds) (s : Shape) (text : 
 -- JSON that spells no value
 abbrev pub Misspells : Entries → Bounds → Shape → List ℕ → JsonFault → Type 0
 Misspells registry limits s text e = (d : Data) × IsReadAs text d × Refuses registry limits.depth (of s) d e
+
+-- and where it doesn't
+abbrev pub MisspellsAt : Entries → Bounds → Shape → List ℕ → List Step → JsonFault → Type 0
+MisspellsAt registry limits s text path e = (d : Data) × IsReadAs text d × RefusesAt registry limits.depth (of s) d path e
 
 -- the text is refused for this reason: each speaks where no earlier one does
 abbrev pub RefusesText : Entries → Bounds → Shape → List ℕ → JsonFault → Type 0

@@ -1,5 +1,5 @@
 //! What holds of spellings and texts, whatever the code: each law is the contract of a function that does nothing.
-ghost use Rattle.bcs_json_spec.specs.Laws.{ArraySpellingStillSpells, DenotedIsNotRefused, DenotesOnce, EqualValuesEqualBytes, GrowthKeepsDenoting, GrowthKeepsShowing, GrowthKeepsSpelling, NormalTextIsStable, OneTree, OneVerdict, ShownBytesComeBack, ShownIsLowest, ShownIsReadBack, SomeNormalText, SpelledFits, TextDenotesOrIsRefused};
+ghost use Rattle.bcs_json_spec.specs.Laws.{ArraySpellingStillSpells, DenotedIsNotRefused, DenotesOnce, EqualValuesEqualBytes, GrowthKeepsDenoting, GrowthKeepsShowing, GrowthKeepsSpelling, NormalTextIsStable, OnePlace, OneTree, OneVerdict, PlaceIsRefusedAlone, ShownBytesComeBack, ShownIsLowest, ShownIsReadBack, SomeNormalText, SomePlace, SpelledFits, TextDenotesOrIsRefused};
 
 /// JSON spells at most one tree.
 pub fn one_tree()
@@ -9,6 +9,21 @@ pub fn one_tree()
 /// Within so many containers JSON spells a tree or is refused, never both, and for one reason.
 pub fn one_verdict()
     ensures { OneVerdict }
+{}
+
+/// JSON that is refused is so at one place at most.
+pub fn one_place()
+    ensures { OnePlace }
+{}
+
+/// What stands at the place is refused with the fault of the whole, and no part of it is refused.
+pub fn place_is_refused_alone()
+    ensures { PlaceIsRefusedAlone }
+{}
+
+/// JSON that is refused is so at a place.
+pub fn some_place()
+    ensures { SomePlace }
 {}
 
 /// What is spelled is a value of the format.

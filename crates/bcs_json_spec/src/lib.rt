@@ -3,7 +3,9 @@
 
 mod causes;
 mod json_fault;
+mod json_step;
 pub mod laws;
 mod out_of_memory;
 
 pub use json_fault::JsonFault;
+pub use json_step::JsonStep;

@@ -1,5 +1,6 @@
 -- An answer of an equal status and equal output; which content there may be; and what is asked of an input.
-use Rattle.std.proofs.Common.{◌≡◌, ◌≢◌, ◌≤◌, ◌<◌, ◌⊎◌, Err, Ok, arith, inl, inr, ℕ, List, [], Option, Some, None, length, refl, sym, subst, true}
+use Rattle.std.specs.Io.KnownBytes.{Consumes, IsAtEnd}
+use Rattle.std.proofs.Common.{ap, append-nil, ◌++◌, ◌∙◌, ◌≡◌, ◌≢◌, ◌≤◌, ◌<◌, ◌⊎◌, Err, Ok, arith, inl, inr, ℕ, List, [], IfSome, Option, Some, None, length, refl, sym, subst, true}
 use Rattle.bcs_registry_formats.specs.Container.{Entries}
 use Rattle.bcs_registry_formats.specs.Shape.{Shape}
 use Rattle.bcs_value_tree.specs.Tree.{Tree}
@@ -8,7 +9,8 @@ use Rattle.serde_json.specs.Data.{depth}
 use Rattle.bcs_value_spec.specs.Limits.{Bounds}
 use Rattle.bcs_decode_spec.specs.declared.stop.Stop.{Stop}
 use Rattle.bcs_decode_spec.specs.Accepting.{Accepts}
-use Rattle.bcs_decode_spec.specs.Stopping.{StopsAll}
+use Rattle.bcs_decode_spec.specs.Stopping.{Stops, StopsAll}
+use Rattle.bcs_decode_spec.specs.declared.reason.Reason.{Reason}
 use Rattle.bcs_explain_table.specs.Explains.{Explains}
 use Rattle.bcs_json.specs.Showing.{Shows}
 use Rattle.bcs_json.specs.declared.from_fault.FromFault.{FromFault}
@@ -20,9 +22,12 @@ use Rattle.hex.specs.Hex.{decode_of}
 use Rattle.hex.specs.declared.error.FromHexError.{FromHexError}
 use Rattle.hex.specs.declared.error.FromHexError.TheVariants.{OutOfMemory}
 use Rattle.bcs_json_spec.specs.FaultNames.{json_fault_name}
-use Rattle.bcs_tool.specs.Answers.{Answers, IsAsked, checked, damaged, decoded, different, encoded, equal, explained, explained_status, explained_text, first_refused, found, front_stopped, grown, no_bytes, normalised, nowhere, refusal_line, refused, refused_early, second_refused, stopped, too_nested}
+use Rattle.bcs_tool.specs.Answers.{Answers, IsAsked, IsOneText, checked, damaged, decoded, different, encoded, equal, explained, explained_status, explained_text, first_refused, found, front_stopped, grown, no_bytes, normalised, nowhere, refusal_line, refused, refused_early, second_refused, stop_line, stopped, too_nested}
+use Rattle.bcs_tool.specs.Places as places
+use Rattle.bcs_tool.specs.Places.{IsAnswer, Places, Prints, TellsStop, TellsText, TellsWords}
+use Rattle.bcs_tool.specs.declared.answer.Answer.{Answer}
 use Rattle.bcs_tool.specs.Input.{Gives}
-use Rattle.bcs_tool.specs.Judging.{Asks, RefusesAt, RefusesFormatted, RefusesPart, works_on_values}
+use Rattle.bcs_tool.specs.Judging.{Asks, RefusesAt, RefusesEarly, RefusesFormatted, RefusesPart, job_fault_name, works_on_values}
 use Rattle.bcs_tool.specs.declared.job_fault.JobFault.{JobFault}
 use Rattle.bcs_tool.specs.declared.job_fault.JobFault.TheVariants.{BadPath, Growth, Registry}
 use Rattle.bcs_tool_files.specs.Files.{IsContent, size_limit}
@@ -30,14 +35,71 @@ use Rattle.bcs_tool_files.specs.declared.work.Work.{Work}
 use Rattle.bcs_tool_line.specs.declared.command.Command.{Command}
 use Rattle.bcs_tool_line.specs.declared.command.Command.TheVariants.{Check, Grows, Encode, Decode, Explain, Normalise, Same, Part}
 
-pub same_answer : (work : Work) (input : List ℕ) (s t : ℕ) (p q : List ℕ) → t ≡ s → q ≡ p → Answers work input s p → Answers work input t q
-same_answer work input s t p q same_status same_output is =
+same_print : (work : Work) (input : List ℕ) (s t : ℕ) (p q : List ℕ) → t ≡ s → q ≡ p → Answers work input s p → Answers work input t q
+same_print work input s t p q same_status same_output is =
     subst (λ (n : ℕ). Answers work input n q) (sym same_status) (subst (λ (bytes : List ℕ). Answers work input s bytes) (sym same_output) is)
+
+-- what is printed answers, and there is no place
+pub same_answer : (work : Work) (input : List ℕ) (a : Answer) (s : ℕ) (p : List ℕ) → Prints a s p → Answers work input s p → IsAnswer work input a
+same_answer work input a s p h is = (same_print work input s a.status p a.output.items h.same_status h.same_output is, places.nothing h.no_place)
+
+-- the line for bytes that stop being a value, and the place of that
+module _ (work : Work) (input : List ℕ) (registry : Entries) (s : Shape) (bytes : List ℕ) (gives : Gives work.raw input bytes)
+    (reason : Reason) (o : ℕ) (a : Answer) (same_status : a.status ≡ 2) (same_output : a.output.items ≡ stop_line reason o)
+    (tells : TellsStop work registry s bytes a.place.items) where
+  pub decode_stop : IsAsked work input Decode registry s → StopsAll registry work.limits s bytes reason o → IsAnswer work input a
+  decode_stop asked stop = (same_print work input 2 a.status _ a.output.items same_status same_output (stopped registry s bytes reason o asked gives stop), go tells)
+    where
+      go : TellsStop work registry s bytes a.place.items → Places work input a.place.items
+      go (inl none) = places.nothing none
+      go (inr told) = places.stopped registry s bytes (record { is_loud = told.0; is_asked = asked; gives = gives }) told.1
+
+  pub part_stop : IsAsked work input Part registry s → Stops registry work.limits s bytes reason o → IsAnswer work input a
+  part_stop asked stop = (same_print work input 2 a.status _ a.output.items same_status same_output (front_stopped registry s bytes reason o asked gives stop), go tells)
+    where
+      go : TellsStop work registry s bytes a.place.items → Places work input a.place.items
+      go (inl none) = places.nothing none
+      go (inr told) = places.front_stopped registry s bytes reason o (record { is_loud = told.0; is_asked = asked; gives = gives }) stop told.1
+
+-- the words are refused, with the place of that
+pub words_answer : (work : Work) (input : List ℕ) (fault : JobFault) (a b : Answer) → Prints a 2 (refusal_line (job_fault_name fault)) → b.status ≡ a.status → b.output.items ≡ a.output.items
+    → TellsWords work b.place.items → RefusesEarly work fault → IsAnswer work input b
+words_answer work input fault a b prints status output tells refuses = (
+  same_print work input 2 b.status _ b.output.items (status ∙ prints.same_status) (output ∙ prints.same_output) (refused_early fault refuses),
+  go tells,
+)
+  where
+    go : TellsWords work b.place.items → Places work input b.place.items
+    go (inl none) = places.nothing none
+    go (inr told) = places.refused_early told.0 told.1
+
+-- the text is refused, with the place of that
+module _ (work : Work) (input : List ℕ) (command : Command) (registry : Entries) (s : Shape) (one : IsOneText command) (asked : IsAsked work input command registry s) where
+  pub text_answer : (fault : JsonFault) (a b : Answer) → RefusesText registry work.limits s input fault → Prints a 2 (refusal_line (json_fault_name fault)) → b.status ≡ a.status → b.output.items ≡ a.output.items
+      → TellsText work registry s input b.place.items → IsAnswer work input b
+  text_answer fault a b refuses prints status output tells = (
+    same_print work input 2 b.status _ b.output.items (status ∙ prints.same_status) (output ∙ prints.same_output) (refused command registry s fault one asked refuses),
+    go tells,
+  )
+    where
+      go : TellsText work registry s input b.place.items → Places work input b.place.items
+      go (inl none) = places.nothing none
+      go (inr told) = places.misspelled command registry s told.0 one asked told.1
+
+pub if_some_weaker : {T : Type 0} (P Q : T → Type 0) → ((t : T) → P t → Q t) → (x : Option T) → IfSome x P → IfSome x Q
+if_some_weaker P Q f None h = h
+if_some_weaker P Q f (Some t) h = f t h
 
 -- there are bytes that may be the content
 pub some_content : (content : Option (List ℕ)) → (bytes : List ℕ) × IsContent content bytes
 some_content None = ([], tt)
 some_content (Some bytes) = (bytes, refl)
+
+-- bytes that were taken to the end are the content
+pub whole_content : (old left : Option (List ℕ)) (bytes : List ℕ) → Consumes old left bytes → IsAtEnd left → IsContent old bytes
+whole_content None left bytes taken end = tt
+whole_content (Some xs) None bytes taken end = absurd taken
+whole_content (Some xs) (Some ys) bytes taken end = sym (taken ∙ (ap (λ t. bytes ++ t) end ∙ append-nil bytes))
 
 pub is_asked : (work : Work) (input : List ℕ) (asked : Command) (registry : Entries) (s : Shape) → work.command ≡ asked → Asks work registry s
     → length input ≤ size_limit → IsAsked work input asked registry s

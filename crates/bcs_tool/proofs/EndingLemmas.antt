@@ -1,6 +1,6 @@
 -- What a stream was told: a text in one piece or in two, or a front of it.
 use Rattle.std.proofs.Common.{◌≡◌, ◌<◌, ◌+◌, ◌++◌, ◌⊎◌, ◌∙◌, Ok, Err, Result, ap, arith, codes, inl, inr, refl, ℕ, List, [], Bool, false, true≢false, Option, Some, None, is_some, length, length-append, sym, subst, take}
-use Rattle.std.specs.Prelude.{String, string_bytes}
+use Rattle.std.specs.Prelude.{String}
 use Rattle.std.specs.Str.{bytes_eq}
 use Rattle.std.specs.declared.alloc.Global.{Global}
 use Rattle.std.proofs.lemmas.Slice.Eq.{bytes_eq-Decides}
@@ -19,8 +19,9 @@ use Rattle.bcs_tool_files.specs.declared.file_fault.FileFault.TheVariants.{Open,
 use Rattle.bcs_tool_files.specs.declared.taking.TakeFault.TheVariants as fault
 use Rattle.bcs_tool_files.specs.declared.work.Outcome.{Outcome}
 use Rattle.bcs_tool_files.specs.declared.work.Work.{Work}
-use Rattle.bcs_tool.specs.Answers.{Answers, IsFaultNote, line_of}
-use Rattle.bcs_tool.specs.Endings.{HasAnswer, IsNote, Performs, PutFront, ReadsNoFile, TellsFault, TellsOutcome, IsInput, Told}
+use Rattle.bcs_tool.specs.Answers.{Answers, IsFaultNote}
+use Rattle.bcs_tool.specs.Places.{Places}
+use Rattle.bcs_tool.specs.Endings.{HasAnswer, HasPlacedAnswer, IsNote, Performs, PutFront, ReadsNoFile, TellsFault, IsInput, Told}
 
 module _ {K : Type 0} (taken : K → Option (List ℕ)) (is_failed : K → Bool) where
   -- a text that is put, or else in part
@@ -54,31 +55,6 @@ module _ {O E : Type 0} (taken : O → Option (List ℕ)) (is_failed : O → Boo
   fault_status (Help text) out out' errors errors' status (inr h) = omega (arith, h.0)
   fault_status OutOfMemory out out' errors errors' status h = omega (arith, h.0)
 
-  -- a note that is told
-  pub note_told : (outcome : Outcome) (errors errors' : E) (status : ℕ) (note : List ℕ) → TellsOutcome told has_failed outcome errors errors' status
-      → outcome.status ≡ 4 → outcome.note.now ≡ note → bytes_eq note [] ≡ false → (status ≡ 4) × Told told has_failed errors errors' (line_of note)
-  note_told outcome errors errors' status note h is same full =
-      let P : List ℕ → Type 0 = λ text. Told told has_failed errors errors' (line_of text) in
-      (h.0 ∙ is, subst P same (h.2 (λ empty. differ note [] full (sym same ∙ empty))))
-
-  -- the standard output failed before the end of a text that was asked for
-  pub cut_help : (fault : LineFault) (text : String Global) (out out' : O) (outcome : Outcome) (errors errors' : E) (status : ℕ)
-      → fault ≡ Help text → PutFront taken is_failed out out' (string_bytes text) → TellsOutcome told has_failed outcome errors errors' status
-      → outcome.status ≡ 4 → outcome.note.now ≡ codes "fault: write" → TellsFault taken is_failed told has_failed fault out out' errors errors' status
-  cut_help fault text out out' outcome errors errors' status asked front h is same =
-      let P : LineFault → Type 0 = λ f. TellsFault taken is_failed told has_failed f out out' errors errors' status in
-      let n = note_told outcome errors errors' status (codes "fault: write") h is same refl in
-      subst P (sym asked) (inr (n.0, front, n.1))
-
-  -- there was no memory for the words
-  pub no_memory : (fault : LineFault) (out : O) (outcome : Outcome) (errors errors' : E) (status : ℕ)
-      → fault ≡ OutOfMemory → TellsOutcome told has_failed outcome errors errors' status
-      → outcome.status ≡ 4 → outcome.note.now ≡ codes "fault: memory" → TellsFault taken is_failed told has_failed fault out out errors errors' status
-  no_memory fault out outcome errors errors' status asked h is same =
-      let P : LineFault → Type 0 = λ f. TellsFault taken is_failed told has_failed f out out errors errors' status in
-      let n = note_told outcome errors errors' status (codes "fault: memory") h is same refl in
-      subst P (sym asked) (n.0, refl, n.1)
-
 -- ---- the answer of a job
 
 module _ {F : Type 0} (remaining : F → Option (List ℕ)) where
@@ -98,6 +74,21 @@ module _ {F : Type 0} (remaining : F → Option (List ℕ)) where
       let P : Option (String Global) → Type 0 = λ f. IsWorkOf remaining job work f in
       let Q : Option (String Global) → Type 0 = λ f. IsInput remaining f content bytes in
       (work, bytes, subst P is.input is, subst Q (sym some ∙ is.input) (opened, known), answers)
+
+  -- a place stands beside it
+  pub has_placed_answer : (job : Job) (work : Work) (file : Option (String Global)) (content : Option (List ℕ)) (bytes output place : List ℕ) (status : ℕ)
+      → IsWorkOf remaining job work file → file ≡ None → IsContent content bytes → Answers work bytes status output → Places work bytes place
+      → HasPlacedAnswer remaining job content status output place
+  unfolding has_answer
+  has_placed_answer job work file content bytes output place status is none known answers places =
+      let h = has_answer job work file content bytes output status is none known answers in (work, bytes, h.2, h.3, answers, places)
+
+  pub has_placed_file_answer : (job : Job) (work : Work) (file : Option (String Global)) (name : String Global) (content : Option (List ℕ)) (bytes output place : List ℕ)
+      (status : ℕ) (opened : F) → IsWorkOf remaining job work file → file ≡ Some name → IsContent (remaining opened) bytes → Answers work bytes status output
+      → Places work bytes place → HasPlacedAnswer remaining job content status output place
+  unfolding has_file_answer
+  has_placed_file_answer job work file name content bytes output place status opened is some known answers places =
+      let h = has_file_answer job work file name content bytes output status opened is some known answers in (work, bytes, h.2, h.3, answers, places)
 
   -- the work is one of the job's, with the name of its file
   pub is_work : (job : Job) (work : Work) (file : Option (String Global)) → IsWorkOf remaining job work file → IsWorkOf remaining job work job.file
@@ -146,9 +137,9 @@ not_write (Take fault.OutOfMemory) e = differ (codes "fault: memory") (codes "fa
 module _ {S O F : Type 0} (content : S → Option (List ℕ)) (has_stopped : S → Bool) (allowance : S → ℕ)
     (taken : O → Option (List ℕ)) (is_failed : O → Bool) (remaining : F → Option (List ℕ)) where
   pub no_answer : (job : Job) (input : S) (out : O) (outcome : Outcome) (f : FileFault) → outcome.status ≡ 4
-      → outcome.note.now ≡ file_note f → (ReadsNoFile job → f ≡ Take fault.OutOfMemory) → IsFaultOfFiles remaining f
+      → outcome.place.items ≡ [] → outcome.note.now ≡ file_note f → (ReadsNoFile job → f ≡ Take fault.OutOfMemory) → IsFaultOfFiles remaining f
       → Performs content has_stopped allowance taken is_failed remaining job input input out out outcome
-  no_answer job input out outcome f is note none known =
+  no_answer job input out outcome f is unplaced note none known =
       let memory : ReadsNoFile job → outcome.note.now ≡ codes "fault: memory" = λ no_file. note ∙ ap file_note (none no_file) in
       let named : (text : List ℕ) → bytes_eq (codes "fault: memory") text ≡ false → outcome.note.now ≡ text → ¬ ReadsNoFile job =
       λ text other e no_file. differ (codes "fault: memory") text other (sym (memory no_file) ∙ e) in
@@ -156,6 +147,7 @@ module _ {S O F : Type 0} (content : S → Option (List ℕ)) (has_stopped : S �
         status = inr is;
         answered = λ below. absurd (omega (arith, is, below));
         noted = λ _. subst P (sym note) (is_note f);
+        unplaced = λ _. unplaced;
         apart = λ _. refl;
         untouched = λ _. refl;
         unopened = λ e. (named (codes "fault: open") refl e, refl, refl);

@@ -12,6 +12,7 @@ use Rattle.bcs_tool_files.specs.declared.work.Work.{Work}
 use Rattle.bcs_tool.specs.Answers.{Answers, IsFaultNote, line_of}
 use Rattle.bcs_tool.specs.Input.{IsUnhurt}
 use Rattle.bcs_tool.specs.Judging.{ReadsInput}
+use Rattle.bcs_tool.specs.Places.{Places}
 
 -- ---- one stream
 
@@ -24,10 +25,12 @@ module _ {K : Type 0} (taken : K → Option (List ℕ)) (is_failed : K → Bool)
   abbrev pub Told : K → K → List ℕ → Type 0
   Told old new text = sink.Took taken is_failed old new text ⊎ PutFront old new text
 
-  -- the program ends with the outcome's status, and its note stands on a line of the standard error
+  -- the program ends with the outcome's status, and its note stands on a line of the standard error, or else its place
   abbrev pub TellsOutcome : Outcome → K → K → ℕ → Type 0
-  TellsOutcome outcome old new status = (status ≡ outcome.status) × (outcome.note.now ≡ [] → new ≡ old)
+  TellsOutcome outcome old new status = (status ≡ outcome.status)
+      × (outcome.note.now ≡ [] → outcome.place.items ≡ [] → new ≡ old)
       × (outcome.note.now ≢ [] → Told old new (line_of outcome.note.now))
+      × (outcome.note.now ≡ [] → outcome.place.items ≢ [] → Told old new (line_of outcome.place.items))
 
 -- ---- words that are no job
 
@@ -66,6 +69,11 @@ module _ {F : Type 0} (remaining : F → Option (List ℕ)) where
   HasAnswer job content status output = (work : Work) × (bytes : List ℕ) × IsWorkOf remaining job work job.file
       × IsInput job.file content bytes × Answers work bytes status output
 
+  -- it has this answer, and this place may stand beside it
+  abbrev pub HasPlacedAnswer : Job → Option (List ℕ) → ℕ → List ℕ → List ℕ → Type 0
+  HasPlacedAnswer job content status output place = (work : Work) × (bytes : List ℕ) × IsWorkOf remaining job work job.file
+      × IsInput job.file content bytes × Answers work bytes status output × Places work bytes place
+
 -- the note of a job that has no answer
 abbrev pub IsNote : List ℕ → Type 0
 IsNote note = (note ≡ codes "fault: open") ⊎ IsFaultNote note
@@ -76,8 +84,10 @@ module _ {S O F : Type 0} (content : S → Option (List ℕ)) (has_stopped : S �
   pub record Performs (job : Job) (input input' : S) (out out' : O) (outcome : Outcome) : Type 0 where
     pub status : (outcome.status < 3) ⊎ (outcome.status ≡ 4)
     pub answered : outcome.status < 3 → (outcome.note.now ≡ [])
-        × ((output : List ℕ) × HasAnswer remaining job (content input) outcome.status output × sink.Took taken is_failed out out' output)
+        × ((output : List ℕ) × HasPlacedAnswer remaining job (content input) outcome.status output outcome.place.items
+        × sink.Took taken is_failed out out' output)
     pub noted : outcome.status ≡ 4 → IsNote outcome.note.now
+    pub unplaced : outcome.status ≡ 4 → outcome.place.items ≡ []
     pub apart : job.file ≢ None → input' ≡ input
     -- the input is read only where the work that the files make of the job reads one
     pub untouched : ((work : Work) → IsWorkOf remaining job work job.file → ¬ ReadsInput work) → input' ≡ input

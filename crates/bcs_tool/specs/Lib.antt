@@ -2,6 +2,7 @@ pub mod Judging
 pub mod Input
 pub mod Answers
 pub mod AnswerLaws
+pub mod Places
 pub mod Endings
 pub use Rattle.bcs_tool_files.specs.Files
 pub use Rattle.bcs_tool_path.specs.Path

@@ -1,15 +1,16 @@
 //! The answer to a job and its input.
 ghost use Rattle.std.specs.Prelude.{◌≡◌, ◌≢◌, ◌+◌, ℕ, List, length, true, Err, IfOk};
 ghost use Rattle.bcs_io.specs.Giving.{Took};
-ghost use Rattle.bcs_tool.specs.Answers.{Answers};
 ghost use Rattle.bcs_tool.specs.Input.{IsUnhurt};
 ghost use Rattle.bcs_tool_files.specs.Files.{IsContent, size_limit};
 ghost use Rattle.bcs_tool.specs.Judging.{ReadsInput, works_on_values};
+ghost use Rattle.bcs_tool.specs.Places.{IsAnswer};
 
-use crate::answer::{Answer, counted, told};
+use crate::answer::{Answer, counted, placed, told};
 use crate::judging::{judge_asked, judge_check, judge_growth};
 use crate::run_fault::RunFault;
 use crate::value_answers::answer_values;
+use crate::word_places::place_of_words;
 use bcs_decode::ByteSource;
 use bcs_tool_files::limits::SIZE_LIMIT;
 use bcs_tool_files::{TakeFault, Work, take_all};
@@ -19,7 +20,7 @@ use std::alloc::{AllocError, Global};
 /// The answer to the job. The input is read only where the job has one and its own words are not refused.
 pub fn answer<S: ByteSource>(alloc: Global, work: &Work, input: &mut S) -> Result<Answer, RunFault>
     ensures ok { IfOk result (λ a. (bytes : List ℕ) × IsContent (S.content input.old) bytes
-        × Answers work.now bytes a.status a.output.items) }
+        × IsAnswer work.now bytes a) }
     ensures untouched { ¬ ReadsInput work.now → input.new ≡ input.old }
     ensures read { result ≡ Err (RunFault.Take TakeFault.Read) → ReadsInput work.now × (S.is_failed input.new ≡ true) }
     ensures too_large { result ≡ Err (RunFault.Take TakeFault.TooLarge) → ReadsInput work.now
@@ -44,22 +45,22 @@ pub fn answer<S: ByteSource>(alloc: Global, work: &Work, input: &mut S) -> Resul
 // How many containers the registry has, whatever the input.
 fn answer_check(alloc: Global, work: &Work) -> Result<Answer, AllocError>
     requires { work.now.command ≡ Command.Check }
-    ensures { IfOk result (λ a. (bytes : List ℕ) → Answers work.now bytes a.status a.output.items) }
+    ensures { IfOk result (λ a. (bytes : List ℕ) → IsAnswer work.now bytes a) }
 {
     match judge_check(alloc, work) {
         Ok(count) => counted(alloc, count),
-        Err(fault) => fault.answer(alloc),
+        Err(fault) => Ok(placed(fault.answer(alloc)?, place_of_words(alloc, work))),
     }
 }
 
 // Whether the older registry has grown into the newer, whatever the input.
 fn answer_growth(alloc: Global, work: &Work) -> Result<Answer, AllocError>
     requires { work.now.command ≡ Command.Grows }
-    ensures { IfOk result (λ a. (bytes : List ℕ) → Answers work.now bytes a.status a.output.items) }
+    ensures { IfOk result (λ a. (bytes : List ℕ) → IsAnswer work.now bytes a) }
 {
     match judge_growth(alloc, work) {
         Ok(()) => told(alloc, 0, "grows"),
-        Err(fault) => fault.answer(alloc),
+        Err(fault) => Ok(placed(fault.answer(alloc)?, place_of_words(alloc, work))),
     }
 }
 
@@ -71,7 +72,7 @@ fn answer_asked<S: ByteSource>(
 ) -> Result<Answer, RunFault>
     requires { works_on_values work.now.command ≡ true }
     ensures ok { IfOk result (λ a. (bytes : List ℕ) × IsContent (S.content input.old) bytes
-        × Answers work.now bytes a.status a.output.items) }
+        × IsAnswer work.now bytes a) }
     ensures untouched { ¬ ReadsInput work.now → input.new ≡ input.old }
     ensures read { result ≡ Err (RunFault.Take TakeFault.Read) → ReadsInput work.now × (S.is_failed input.new ≡ true) }
     ensures too_large { result ≡ Err (RunFault.Take TakeFault.TooLarge) → ReadsInput work.now
@@ -86,6 +87,6 @@ fn answer_asked<S: ByteSource>(
             let bytes = take_all(alloc, input, SIZE_LIMIT)?;
             Ok(answer_values(alloc, work, &asked, bytes.as_slice())?)
         }
-        Err(fault) => Ok(fault.answer(alloc)?),
+        Err(fault) => Ok(placed(fault.answer(alloc)?, place_of_words(alloc, work))),
     }
 }

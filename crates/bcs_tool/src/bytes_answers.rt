@@ -4,14 +4,16 @@ ghost use Rattle.bcs_registry_formats.specs.View.{shape_of};
 ghost use Rattle.bcs_registry_formats.specs.WellFormed.{Admits};
 ghost use Rattle.bcs_tool_path.specs.PathSteps.{all_spelled};
 ghost use Rattle.bcs_tool_files.specs.Files.{size_limit};
-ghost use Rattle.bcs_tool.specs.Answers.{Answers, TakesBytes, refusal_line};
+ghost use Rattle.bcs_tool.specs.Answers.{TakesBytes, refusal_line, stop_line};
 ghost use Rattle.bcs_tool.specs.Input.{Gives};
 ghost use Rattle.bcs_tool.specs.Judging.{Asks, IsPath};
+ghost use Rattle.bcs_tool.specs.Places.{IsAnswer, Prints, TellsStop};
 
 use crate::answer::{Answer, explained, found, nowhere, refused, shown, stopped};
 use crate::blanks::without_blanks;
 use crate::judging::Asked;
-use bcs_decode::part;
+use crate::places::place_of_stop;
+use bcs_decode::{Stop, part};
 use bcs_explain_table::explain_text;
 use bcs_json::{FromFault, from_bcs};
 use bcs_tool_files::Work;
@@ -32,7 +34,7 @@ pub fn answer_given(
     requires admitted { Admits asked.now.registry (shape_of asked.now.format) }
     requires path { IsPath work.now.command (string_bytes work.now.path) (all_spelled asked.now.path.items) }
     requires within { length input.now ≤ size_limit }
-    ensures { IfOk result (λ a. Answers work.now input.now a.status a.output.items) }
+    ensures { IfOk result (λ a. IsAnswer work.now input.now a) }
 {
     if work.raw {
         return answer_bytes(alloc, work, asked, input);
@@ -45,8 +47,8 @@ pub fn answer_given(
 
 // The answer to text that is no hexadecimal digits. Want of memory is no refusal.
 fn refused_digits(alloc: Global, fault: FromHexError) -> Result<Answer, AllocError>
-    ensures { IfOk result (λ a. (fault ≢ FromHexError.OutOfMemory) × (a.status ≡ 2)
-        × (a.output.items ≡ refusal_line (codes "BadHex"))) }
+    ensures { IfOk result (λ a. (fault ≢ FromHexError.OutOfMemory)
+        × Prints a 2 (refusal_line (codes "BadHex"))) }
 {
     match fault {
         FromHexError::OutOfMemory => Err(AllocError),
@@ -68,7 +70,7 @@ fn answer_bytes(
     requires admitted { Admits asked.now.registry (shape_of asked.now.format) }
     requires path { IsPath work.now.command (string_bytes work.now.path) (all_spelled asked.now.path.items) }
     ensures { IfOk result (λ a. (input : List ℕ) → length input ≤ size_limit → Gives work.now.raw input bytes.now
-        → Answers work.now input a.status a.output.items) }
+        → IsAnswer work.now input a) }
 {
     match work.command {
         Command::Part => answer_part(alloc, work, asked, bytes),
@@ -90,7 +92,7 @@ fn answer_decode(
     requires asks { Asks work.now asked.now.registry (shape_of asked.now.format) }
     requires admitted { Admits asked.now.registry (shape_of asked.now.format) }
     ensures { IfOk result (λ a. (input : List ℕ) → length input ≤ size_limit → Gives work.now.raw input bytes.now
-        → Answers work.now input a.status a.output.items) }
+        → IsAnswer work.now input a) }
 {
     let Asked {
         registry,
@@ -98,8 +100,8 @@ fn answer_decode(
         ..
     } = asked;
     match from_bcs(alloc, registry, format, &work.limits, bytes) {
-        Ok(text) => shown(text),
-        Err(FromFault::Stop(stop)) => stopped(alloc, stop),
+        Ok(text) => shown(alloc, text),
+        Err(FromFault::Stop(stop)) => answer_stop(alloc, work, asked, bytes, stop),
         Err(FromFault::TooNested) => refused(alloc, "TooNested"),
         Err(FromFault::OutOfMemory) => Err(AllocError),
     }
@@ -116,7 +118,7 @@ fn answer_explain(
     requires asks { Asks work.now asked.now.registry (shape_of asked.now.format) }
     requires admitted { Admits asked.now.registry (shape_of asked.now.format) }
     ensures { IfOk result (λ a. (input : List ℕ) → length input ≤ size_limit → Gives work.now.raw input bytes.now
-        → Answers work.now input a.status a.output.items) }
+        → IsAnswer work.now input a) }
 {
     let Asked {
         registry,
@@ -139,7 +141,7 @@ fn answer_part(
     requires admitted { Admits asked.now.registry (shape_of asked.now.format) }
     requires path { IsPath work.now.command (string_bytes work.now.path) (all_spelled asked.now.path.items) }
     ensures { IfOk result (λ a. (input : List ℕ) → length input ≤ size_limit → Gives work.now.raw input bytes.now
-        → Answers work.now input a.status a.output.items) }
+        → IsAnswer work.now input a) }
 {
     let Asked {
         registry,
@@ -150,6 +152,23 @@ fn answer_part(
     match part(registry, format, &work.limits, bytes, steps.as_slice()) {
         Ok(Some(part)) => found(alloc, part.bytes, work.raw),
         Ok(None) => nowhere(alloc, work.raw),
-        Err(stop) => stopped(alloc, stop),
+        Err(stop) => answer_stop(alloc, work, asked, bytes, stop),
     }
+}
+
+// The line for bytes that stop being a value, and the place of that.
+fn answer_stop(
+    alloc: Global,
+    work: &Work,
+    asked: &Asked,
+    bytes: &[u8],
+    stop: Stop,
+) -> Result<Answer, AllocError>
+    requires admitted { Admits asked.now.registry (shape_of asked.now.format) }
+    ensures { IfOk result (λ a. (a.status ≡ 2) × (a.output.items ≡ stop_line stop.reason stop.place)
+        × TellsStop work.now asked.now.registry (shape_of asked.now.format) bytes.now a.place.items) }
+{
+    let mut answer = stopped(alloc, stop)?;
+    answer.place = place_of_stop(alloc, work, asked, bytes);
+    Ok(answer)
 }

@@ -3,6 +3,7 @@ ghost use Rattle.std.specs.Prelude.{◌≡◌, ◌≢◌, IfOk};
 ghost use Rattle.bcs_registry_formats.specs.declared.fault.RegistryFault.TheVariants.{OutOfMemory};
 ghost use Rattle.bcs_tool.specs.Answers.{refusal_line};
 ghost use Rattle.bcs_tool.specs.Judging.{job_fault_name};
+ghost use Rattle.bcs_tool.specs.Places.{Prints};
 
 use crate::answer::{Answer, refused};
 use bcs_registry::{GrowthFault, RegistryFault};
@@ -26,8 +27,8 @@ pub enum JobFault {
 impl JobFault {
     /// The answer to a job that is refused. Want of memory is no refusal.
     pub fn answer(self, alloc: Global) -> Result<Answer, AllocError>
-        ensures { IfOk result (λ a. (self ≢ JobFault.Registry OutOfMemory) × (a.status ≡ 2)
-            × (a.output.items ≡ refusal_line (job_fault_name self))) }
+        ensures { IfOk result (λ a. (self ≢ JobFault.Registry OutOfMemory)
+            × Prints a 2 (refusal_line (job_fault_name self))) }
     {
         match self {
             JobFault::Registry(RegistryFault::OutOfMemory) => Err(AllocError),

@@ -9,12 +9,15 @@ mod entry;
 mod job_fault;
 mod judging;
 pub mod laws;
+mod places;
 mod responding;
 mod run_fault;
 mod running;
 mod telling;
+mod text_places;
 mod text_refusal;
 mod value_answers;
+mod word_places;
 
 pub use bcs_decode::{ByteSource, ReadSource};
 pub use bcs_encode::{ByteSink, WriteSink};

@@ -59,13 +59,13 @@ fn perform<R: Files + Env + AllocGlobal, S: ByteSource, O: ByteSink>(
 {
     let (work, file) = match read_work(rt, job) {
         Ok(read) => read,
-        Err(fault) => return failed(fault.note()),
+        Err(fault) => return failed(rt.alloc(), fault.note()),
     };
     let Some(name) = file else {
         return run(rt.alloc(), &work, input, out);
     };
     match File::open(rt, name.as_str()) {
         Ok(file) => run(rt.alloc(), &work, &mut ReadSource::new(file), out),
-        Err(_) => failed(FileFault::Open.note()),
+        Err(_) => failed(rt.alloc(), FileFault::Open.note()),
     }
 }

@@ -1,11 +1,12 @@
 //! A job, its input and its output.
-ghost use Rattle.std.specs.Prelude.{◌≡◌, ◌⊎◌, ◌<◌, ◌+◌, ℕ, List, length, take, true, Err, IfOk, codes};
+ghost use Rattle.std.specs.Prelude.{◌≡◌, ◌⊎◌, ◌<◌, ◌+◌, [], ℕ, List, length, take, true, Err, IfOk, codes};
 ghost use Rattle.bcs_io.specs.Taking as sink;
 ghost use Rattle.bcs_io.specs.Giving as source;
 ghost use Rattle.bcs_tool.specs.Answers.{Answers, IsFaultNote};
 ghost use Rattle.bcs_tool.specs.Input.{IsUnhurt};
 ghost use Rattle.bcs_tool_files.specs.Files.{IsContent, size_limit};
 ghost use Rattle.bcs_tool.specs.Judging.{ReadsInput};
+ghost use Rattle.bcs_tool.specs.Places.{Places};
 
 use crate::answering::answer;
 use crate::run_fault::RunFault;
@@ -26,8 +27,10 @@ pub fn run<S: ByteSource, K: ByteSink>(
     ensures answered { result.status < 3 → (result.note.now ≡ codes "")
         × ((bytes : List ℕ) × (output : List ℕ) × IsContent (S.content input.old) bytes
         × Answers work.now bytes result.status output
+        × Places work.now bytes result.place.items
         × sink.Took K.taken K.is_failed out.old out.new output) }
     ensures noted { result.status ≡ 4 → IsFaultNote result.note.now }
+    ensures unplaced { result.status ≡ 4 → result.place.items ≡ [] }
 
     // A job that has no input, or that its own words refuse, leaves the input as it was.
     ensures untouched { ¬ ReadsInput work.now → input.new ≡ input.old }
@@ -47,29 +50,35 @@ pub fn run<S: ByteSource, K: ByteSink>(
         × sink.Lost K.taken K.is_failed out.old out.new (take n output) }
 {
     match put_answer(alloc, work, input, out) {
-        Ok(status) => Outcome { status, note: "" },
-        Err(RunFault::Take(fault)) => failed(fault.note()),
-        Err(RunFault::Write) => failed("fault: write"),
+        Ok(outcome) => outcome,
+        Err(RunFault::Take(fault)) => failed(alloc, fault.note()),
+        Err(RunFault::Write) => failed(alloc, "fault: write"),
     }
 }
 
 /// The outcome of a job that has no answer.
-pub fn failed(note: &'static str) -> Outcome
+pub fn failed(alloc: Global, note: &'static str) -> Outcome
     ensures status { result.status ≡ 4 }
     ensures note { result.note.now ≡ note.now }
+    ensures unplaced { result.place.items ≡ [] }
 {
-    Outcome { status: 4, note }
+    Outcome {
+        status: 4,
+        note,
+        place: Vec::new(alloc),
+    }
 }
 
-// Puts the answer, and gives its status.
+// Puts the answer, and gives its status and its place.
 fn put_answer<S: ByteSource, K: ByteSink>(
     alloc: Global,
     work: &Work,
     input: &mut S,
     out: &mut K,
-) -> Result<u8, RunFault>
-    ensures ok { IfOk result (λ status. (status < 3) × ((bytes : List ℕ) × (output : List ℕ)
-        × IsContent (S.content input.old) bytes × Answers work.now bytes status output
+) -> Result<Outcome, RunFault>
+    ensures ok { IfOk result (λ o. (o.status < 3) × (o.note.now ≡ codes "")
+        × ((bytes : List ℕ) × (output : List ℕ) × IsContent (S.content input.old) bytes
+        × Answers work.now bytes o.status output × Places work.now bytes o.place.items
         × sink.Took K.taken K.is_failed out.old out.new output)) }
     ensures untouched { ¬ ReadsInput work.now → input.new ≡ input.old }
     ensures read { result ≡ Err (RunFault.Take TakeFault.Read) → ReadsInput work.now
@@ -87,7 +96,11 @@ fn put_answer<S: ByteSource, K: ByteSink>(
 {
     let answer = answer(alloc, work, input)?;
     match put_all(answer.output.as_slice(), out) {
-        Ok(()) => Ok(answer.status),
+        Ok(()) => Ok(Outcome {
+            status: answer.status,
+            note: "",
+            place: answer.place,
+        }),
         Err(_) => Err(RunFault::Write),
     }
 }

@@ -1,8 +1,8 @@
 //! What the standard output and the standard error are told, and the status.
+ghost use Rattle.std.specs.Prelude.{◌≡◌};
 ghost use Rattle.bcs_tool.specs.Answers.{line_of};
 ghost use Rattle.bcs_tool.specs.Endings.{Told, TellsFault, TellsOutcome};
 
-use crate::running::failed;
 use bcs_encode::ByteSink;
 use bcs_io::put_all;
 use bcs_tool_files::Outcome;
@@ -20,27 +20,37 @@ pub fn tell_fault<O: ByteSink, E: ByteSink>(fault: &LineFault, out: &mut O, erro
         }
         LineFault::Help(text) => match put_all(text.as_bytes(), out) {
             Ok(()) => 0,
-            Err(_) => tell_outcome(failed("fault: write"), errors),
+            Err(_) => tell_note("fault: write", errors),
         },
-        LineFault::OutOfMemory => tell_outcome(failed("fault: memory"), errors),
+        LineFault::OutOfMemory => tell_note("fault: memory", errors),
     }
 }
 
-/// Tells the note of an outcome that has one, on a line, and gives its status.
+/// Tells the note of an outcome that has one, on a line, or else its place where it has one, and gives its status.
 pub fn tell_outcome<E: ByteSink>(outcome: Outcome, errors: &mut E) -> u8
     ensures { TellsOutcome E.taken E.is_failed outcome errors.old errors.new result }
 {
     if !outcome.note.is_empty() {
-        tell_line(outcome.note, errors);
+        tell_line(outcome.note.as_bytes(), errors);
+    } else if !outcome.place.is_empty() {
+        tell_line(outcome.place.as_slice(), errors);
     }
     outcome.status
 }
 
+// Tells the note of a fault on a line, and gives its status.
+fn tell_note<E: ByteSink>(note: &str, errors: &mut E) -> u8
+    ensures { (result ≡ 4) × Told E.taken E.is_failed errors.old errors.new (line_of note.now) }
+{
+    tell_line(note.as_bytes(), errors);
+    4
+}
+
 // Tells a text and a line end, without memory.
-fn tell_line<E: ByteSink>(text: &str, errors: &mut E)
+fn tell_line<E: ByteSink>(text: &[u8], errors: &mut E)
     ensures { Told E.taken E.is_failed errors.old errors.new (line_of text.now) }
 {
-    match put_all(text.as_bytes(), errors) {
+    match put_all(text, errors) {
         Ok(()) => tell("\n", errors),
         Err(_) => {}
     }

@@ -2,6 +2,7 @@
 ghost use Rattle.std.specs.Prelude.{◌≡◌, ◌≢◌, IfOk};
 ghost use Rattle.bcs_json_spec.specs.FaultNames.{json_fault_name};
 ghost use Rattle.bcs_tool.specs.Answers.{refusal_line};
+ghost use Rattle.bcs_tool.specs.Places.{Prints};
 
 use crate::answer::{Answer, refused};
 use bcs_json::JsonFault;
@@ -9,8 +10,8 @@ use std::alloc::{AllocError, Global};
 
 /// The answer to a text that is refused. Want of memory is no refusal.
 pub fn refused_text(alloc: Global, fault: JsonFault) -> Result<Answer, AllocError>
-    ensures { IfOk result (λ a. (fault ≢ JsonFault.OutOfMemory) × (a.status ≡ 2)
-        × (a.output.items ≡ refusal_line (json_fault_name fault))) }
+    ensures { IfOk result (λ a. (fault ≢ JsonFault.OutOfMemory)
+        × Prints a 2 (refusal_line (json_fault_name fault))) }
 {
     match fault {
         JsonFault::OutOfMemory => Err(AllocError),

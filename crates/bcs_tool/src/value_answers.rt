@@ -4,12 +4,13 @@ ghost use Rattle.bcs_registry_formats.specs.View.{shape_of};
 ghost use Rattle.bcs_registry_formats.specs.WellFormed.{Admits};
 ghost use Rattle.bcs_tool_path.specs.PathSteps.{all_spelled};
 ghost use Rattle.bcs_tool_files.specs.Files.{size_limit};
-ghost use Rattle.bcs_tool.specs.Answers.{Answers};
 ghost use Rattle.bcs_tool.specs.Judging.{Asks, IsPath};
+ghost use Rattle.bcs_tool.specs.Places.{IsAnswer};
 
-use crate::answer::{Answer, encoded, shown, told};
+use crate::answer::{Answer, encoded, placed, shown, told};
 use crate::bytes_answers::answer_given;
 use crate::judging::Asked;
+use crate::text_places::place_of_misspelling;
 use crate::text_refusal::refused_text;
 use bcs_json::{compare, normalise, to_bcs};
 use bcs_tool_files::Work;
@@ -27,7 +28,7 @@ pub fn answer_values(
     requires admitted { Admits asked.now.registry (shape_of asked.now.format) }
     requires path { IsPath work.now.command (string_bytes work.now.path) (all_spelled asked.now.path.items) }
     requires within { length input.now ≤ size_limit }
-    ensures { IfOk result (λ a. Answers work.now input.now a.status a.output.items) }
+    ensures { IfOk result (λ a. IsAnswer work.now input.now a) }
 {
     match work.command {
         Command::Encode => answer_encode(alloc, work, asked, input),
@@ -50,7 +51,7 @@ fn answer_encode(
     requires command { work.now.command ≡ Command.Encode }
     requires asks { Asks work.now asked.now.registry (shape_of asked.now.format) }
     requires within { length text.now ≤ size_limit }
-    ensures { IfOk result (λ a. Answers work.now text.now a.status a.output.items) }
+    ensures { IfOk result (λ a. IsAnswer work.now text.now a) }
 {
     let Asked {
         registry,
@@ -59,7 +60,10 @@ fn answer_encode(
     } = asked;
     match to_bcs(alloc, registry, format, &work.limits, text) {
         Ok(bytes) => encoded(alloc, bytes, work.raw),
-        Err(fault) => refused_text(alloc, fault),
+        Err(fault) => {
+            let place = place_of_misspelling(alloc, work, asked, text);
+            Ok(placed(refused_text(alloc, fault)?, place))
+        }
     }
 }
 
@@ -73,7 +77,7 @@ fn answer_normalise(
     requires command { work.now.command ≡ Command.Normalise }
     requires asks { Asks work.now asked.now.registry (shape_of asked.now.format) }
     requires within { length text.now ≤ size_limit }
-    ensures { IfOk result (λ a. Answers work.now text.now a.status a.output.items) }
+    ensures { IfOk result (λ a. IsAnswer work.now text.now a) }
 {
     let Asked {
         registry,
@@ -81,8 +85,11 @@ fn answer_normalise(
         ..
     } = asked;
     match normalise(alloc, registry, format, &work.limits, text) {
-        Ok(normal) => shown(normal),
-        Err(fault) => refused_text(alloc, fault),
+        Ok(normal) => shown(alloc, normal),
+        Err(fault) => {
+            let place = place_of_misspelling(alloc, work, asked, text);
+            Ok(placed(refused_text(alloc, fault)?, place))
+        }
     }
 }
 
@@ -91,7 +98,7 @@ fn answer_same(alloc: Global, work: &Work, asked: &Asked, text: &[u8]) -> Result
     requires command { work.now.command ≡ Command.Same }
     requires asks { Asks work.now asked.now.registry (shape_of asked.now.format) }
     requires within { length text.now ≤ size_limit }
-    ensures { IfOk result (λ a. Answers work.now text.now a.status a.output.items) }
+    ensures { IfOk result (λ a. IsAnswer work.now text.now a) }
 {
     let Asked {
         registry,

@@ -89,6 +89,7 @@ module _ {F : Type 0} (remaining : F → Option (List ℕ)) where
     pub format : work.format ≡ job.format
     pub path : work.path ≡ job.path
     pub raw : work.raw ≡ job.raw
+    pub quiet : work.quiet ≡ job.quiet
     pub style : IsStyleOf job work.style
     pub limits : work.limits ≡ job.limits
     pub input : file ≡ job.file

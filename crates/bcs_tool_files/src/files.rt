@@ -74,6 +74,7 @@ pub fn read_work<R: Files + Env + AllocGlobal>(
         format: job.format,
         path: job.path,
         raw: job.raw,
+        quiet: job.quiet,
         style,
         limits: job.limits,
     };

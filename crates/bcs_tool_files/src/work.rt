@@ -18,6 +18,8 @@ pub struct Work {
     pub path: String,
     /// Whether bytes are read and written as they are, and not as hexadecimal digits.
     pub raw: bool,
+    /// Whether the line that says where a refusal stands is left out.
+    pub quiet: bool,
     /// How pieces are printed.
     pub style: Style,
     /// What a value may hold.
@@ -25,11 +27,14 @@ pub struct Work {
 }
 
 /// How a run ended.
-#[derive(Clone, Copy, Debug, Drop)]
+#[derive(Debug, Drop)]
 pub struct Outcome {
     /// 0 where it is done, 1 where the answer is a no, 2 where it is refused, and 4 where a read, a
     /// write or memory failed or the input is too large.
     pub status: u8,
     /// The line for the standard error: empty except with status 4.
     pub note: &'static str,
+    /// Where the refusal stands, and what was wanted there: the line for the standard error in place of a note.
+    /// Empty where there is none, and with status 4.
+    pub place: Vec<u8>,
 }

@@ -63,6 +63,7 @@ pub record IsJob (command : Command) (found : List Row) (job : Job) : Type 0 whe
   pub path : string_bytes job.path ≡ text_or_empty (first_of (codes "PATH") found)
   pub file : option_map string_bytes job.file ≡ option_or (first_of (codes "FILE") found) (first_of (codes "B") found)
   pub raw : job.raw ≡ is_set (codes "raw") found
+  pub quiet : job.quiet ≡ is_set (codes "quiet") found
   pub form : job.form ≡ form_of found
   pub color : job.color ≡ color_of found
   pub limits : WritesLimits found job.limits

@@ -22,6 +22,8 @@ pub struct Job {
     pub file: Option<String>,
     /// Whether `--raw` was given: bytes are read and written as they are, and not as hexadecimal digits.
     pub raw: bool,
+    /// Whether `--quiet` was given: the line that says where a refusal stands is left out.
+    pub quiet: bool,
     /// `--paths`, `--tree`, `--json`: how pieces are printed. Of several the last one of these is meant.
     pub form: Form,
     /// `--color`, `--no-color`: whether they are printed in color. Of both the latter is meant.

@@ -27,16 +27,23 @@ number_option name most =
 abbrev pub command_with : Text → List Rule → App
 command_with name rules = fold with_rule (new_app name) rules
 
+-- whether the line that says where a refusal stands is left out
+abbrev pub quiet_option : Rule
+quiet_option = flag_option (codes "quiet")
+
 abbrev pub check_app : App
-check_app = command_with (codes "check") (required (codes "REG") ∷ [])
+check_app = command_with (codes "check") (required (codes "REG") ∷ quiet_option ∷ [])
 
 abbrev pub grows_app : App
-grows_app = command_with (codes "grows") (required (codes "OLD") ∷ required (codes "NEW") ∷ [])
+grows_app = command_with (codes "grows") (required (codes "OLD") ∷ required (codes "NEW") ∷ quiet_option ∷ [])
+
+-- what each command on values takes
+abbrev pub value_options : List Rule
+value_options = number_option (codes "depth") 500 ∷ number_option (codes "nodes") 4294967295 ∷ quiet_option ∷ []
 
 -- a command on values of a format, within limits
 abbrev pub value_app : Text → App
-value_app name = command_with name (required (codes "REG") ∷ required (codes "FORMAT")
-    ∷ number_option (codes "depth") 500 ∷ number_option (codes "nodes") 4294967295 ∷ [])
+value_app name = fold with_rule (command_with name (required (codes "REG") ∷ required (codes "FORMAT") ∷ [])) value_options
 
 abbrev pub encode_app : App
 encode_app = fold with_rule (value_app (codes "encode")) (optional (codes "FILE") ∷ flag_option (codes "raw") ∷ [])

@@ -2,7 +2,7 @@
 ghost use Rattle.std.specs.Prelude.{◌≡◌, IfOk, codes, false, fold};
 ghost use Rattle.clap.specs.Words.{app_of, rule_of, with_rule};
 ghost use Rattle.clap.specs.declared.builder.command.Command.TheViews.{out-Command};
-ghost use Rattle.bcs_tool_words.specs.CommandLine.{bcs_app, check_app, color_options, decode_app, encode_app, explain_app, flag_option, form_options, grows_app, normalise_app, number_option, optional, part_app, required, same_app, value_app};
+ghost use Rattle.bcs_tool_words.specs.CommandLine.{bcs_app, check_app, color_options, decode_app, encode_app, explain_app, flag_option, form_options, grows_app, normalise_app, number_option, optional, part_app, quiet_option, required, same_app, value_app, value_options};
 
 use crate::texts;
 use crate::version::VERSION;
@@ -35,7 +35,8 @@ fn check_command<'a>(alloc: Global) -> Result<Command<'a>, AllocError>
     Command::new(alloc, "check")
         .about("Checks a registry and prints how many containers it has")
         .after_help(texts::CHECK_END)
-        .arg(required_word(alloc, "REG", texts::REGISTRY))
+        .arg(required_word(alloc, "REG", texts::REGISTRY))?
+        .arg(quiet_option(alloc))
 }
 
 fn grows_command<'a>(alloc: Global) -> Result<Command<'a>, AllocError>
@@ -46,7 +47,8 @@ fn grows_command<'a>(alloc: Global) -> Result<Command<'a>, AllocError>
         .about("Tells whether a registry only adds to an older one")
         .after_help(texts::GROWS_END)
         .arg(required_word(alloc, "OLD", texts::OLD_REGISTRY))?
-        .arg(required_word(alloc, "NEW", texts::NEW_REGISTRY))
+        .arg(required_word(alloc, "NEW", texts::NEW_REGISTRY))?
+        .arg(quiet_option(alloc))
 }
 
 fn encode_command<'a>(alloc: Global) -> Result<Command<'a>, AllocError>
@@ -157,11 +159,21 @@ fn value_command<'a>(alloc: Global, name: &'a str) -> Result<Command<'a>, AllocE
     ensures app { IfOk result (λ c. app_of c ≡ value_app name.entry.now) }
     ensures global { IfOk result (λ c. (out-Command c).has_globals ≡ false) }
 {
-    Command::new(alloc, name)
+    let command = Command::new(alloc, name)
         .arg(required_word(alloc, "REG", texts::REGISTRY))?
-        .arg(required_word(alloc, "FORMAT", texts::FORMAT))?
+        .arg(required_word(alloc, "FORMAT", texts::FORMAT))?;
+    with_value_options(alloc, command)
+}
+
+fn with_value_options<'a>(alloc: Global, command: Command<'a>) -> Result<Command<'a>, AllocError>
+    requires global { (out-Command command).has_globals ≡ false }
+    ensures app { IfOk result (λ c. app_of c ≡ fold with_rule (app_of command.entry) value_options) }
+    ensures global { IfOk result (λ c. (out-Command c).has_globals ≡ false) }
+{
+    command
         .arg(depth_option(alloc))?
-        .arg(nodes_option(alloc))
+        .arg(nodes_option(alloc))?
+        .arg(quiet_option(alloc))
 }
 
 // A word that has to be there, known by its place.
@@ -185,6 +197,13 @@ fn raw_option<'a>(alloc: Global, help: &'a str) -> Arg<'a>
     ensures global { result.global ≡ false }
 {
     flag(alloc, "raw", help)
+}
+
+fn quiet_option<'a>(alloc: Global) -> Arg<'a>
+    ensures rule { rule_of result ≡ quiet_option }
+    ensures global { result.global ≡ false }
+{
+    flag(alloc, "quiet", texts::QUIET)
 }
 
 // An option of this name without a value.

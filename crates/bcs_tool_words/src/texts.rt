@@ -24,6 +24,10 @@ pub const FIRST_FILE: &str = "The file of the first value's JSON text";
 
 pub const SECOND_FILE: &str = "The file of the second value's, in place of the standard input";
 
+// ---- the option of every command
+
+pub const QUIET: &str = "Leave out the line on standard error that says where a refusal stands";
+
 // ---- the options of `explain`
 
 pub const PATHS: &str =

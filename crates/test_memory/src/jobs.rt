@@ -24,6 +24,7 @@ pub(crate) fn job(
         format: String::from_str(alloc, format)?,
         path: String::new(alloc),
         raw: false,
+        quiet: true,
         style: Style {
             form: Form::Ways,
             paint: Paint::Plain,
@@ -52,6 +53,7 @@ pub(crate) fn ask(
         Outcome {
             status: 4,
             note: "fault: memory",
+            ..
         } if out.taken().is_empty() => Told::NoMemory,
         ended => Told::of(ended.status == status && is_line(out.taken(), answer)),
     };

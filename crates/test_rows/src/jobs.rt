@@ -18,12 +18,19 @@ const PLAIN: Style = Style {
 
 pub(crate) fn answer(alloc: Global, words: &[&str]) -> Result<String, RowFault> {
     match words {
-        ["check", registry] => judge(alloc, Command::Check, registry, ""),
-        ["grows", older, newer] => judge(alloc, Command::Grows, older, newer),
-        ["part", words @ ..] => on_parts(alloc, words),
-        ["explain", words @ ..] => on_pieces(alloc, words),
+        ["--where", words @ ..] => answer_job(alloc, false, words),
+        _ => answer_job(alloc, true, words),
+    }
+}
+
+fn answer_job(alloc: Global, quiet: bool, words: &[&str]) -> Result<String, RowFault> {
+    match words {
+        ["check", registry] => judge(alloc, Command::Check, quiet, registry, ""),
+        ["grows", older, newer] => judge(alloc, Command::Grows, quiet, older, newer),
+        ["part", words @ ..] => on_parts(alloc, quiet, words),
+        ["explain", words @ ..] => on_pieces(alloc, quiet, words),
         [name, words @ ..] => match Command::named(name) {
-            Some(command) => on_values(alloc, command, words),
+            Some(command) => on_values(alloc, command, quiet, words),
             None => Err(RowFault::NotUnderstood),
         },
         _ => Err(RowFault::NotUnderstood),
@@ -34,6 +41,7 @@ pub(crate) fn answer(alloc: Global, words: &[&str]) -> Result<String, RowFault> 
 fn judge(
     alloc: Global,
     command: Command,
+    quiet: bool,
     registry: &str,
     second: &str,
 ) -> Result<String, RowFault> {
@@ -44,6 +52,7 @@ fn judge(
         format: String::new(alloc),
         path: String::new(alloc),
         raw: false,
+        quiet,
         style: PLAIN,
         limits: Limits::standard(),
     };
@@ -55,6 +64,7 @@ fn judge(
 struct ValueJob<'a> {
     command: Command,
     raw: bool,
+    quiet: bool,
     style: Style,
     registry: &'a str,
     format: &'a str,
@@ -65,6 +75,7 @@ struct ValueJob<'a> {
 
 fn asked<'a>(
     command: Command,
+    quiet: bool,
     registry: &'a str,
     format: &'a str,
     limits: &'a [&'a str],
@@ -72,6 +83,7 @@ fn asked<'a>(
     ValueJob {
         command,
         raw: false,
+        quiet,
         style: PLAIN,
         registry,
         format,
@@ -82,34 +94,43 @@ fn asked<'a>(
 }
 
 // The answer to a job on values, and to its input where it has one.
-fn on_values(alloc: Global, command: Command, words: &[&str]) -> Result<String, RowFault> {
+fn on_values(
+    alloc: Global,
+    command: Command,
+    quiet: bool,
+    words: &[&str],
+) -> Result<String, RowFault> {
     match (command, words) {
         (_, [registry, format]) => {
-            let work = work_of(alloc, asked(command, registry, format, &[]))?;
+            let work = work_of(alloc, asked(command, quiet, registry, format, &[]))?;
             without_input(alloc, &work)
         }
         (Command::Same, [registry, format, second, input, limits @ ..]) => {
-            let mut asked = asked(command, registry, format, limits);
+            let mut asked = asked(command, quiet, registry, format, limits);
             asked.second = second;
             with_input(alloc, asked, input)
         }
         (_, ["--raw", registry, format, input, limits @ ..]) => {
-            let mut asked = asked(command, registry, format, limits);
+            let mut asked = asked(command, quiet, registry, format, limits);
             asked.raw = true;
             with_input(alloc, asked, input)
         }
         (_, [registry, format, input, limits @ ..]) => {
-            with_input(alloc, asked(command, registry, format, limits), input)
+            with_input(
+                alloc,
+                asked(command, quiet, registry, format, limits),
+                input,
+            )
         }
         _ => Err(RowFault::NotUnderstood),
     }
 }
 
 // The answer to a job on pieces, and to its input: how they are printed comes first.
-fn on_pieces(alloc: Global, words: &[&str]) -> Result<String, RowFault> {
+fn on_pieces(alloc: Global, quiet: bool, words: &[&str]) -> Result<String, RowFault> {
     match words {
         [form, registry, format, input, limits @ ..] => {
-            let mut asked = asked(Command::Explain, registry, format, limits);
+            let mut asked = asked(Command::Explain, quiet, registry, format, limits);
             asked.style = style_of(form)?;
             with_input(alloc, asked, input)
         }
@@ -130,39 +151,33 @@ fn style_of(form: &str) -> Result<Style, RowFault> {
 }
 
 fn asked_part<'a>(
-    raw: bool,
+    quiet: bool,
     registry: &'a str,
     format: &'a str,
     path: &'a str,
     limits: &'a [&'a str],
 ) -> ValueJob<'a> {
     ValueJob {
-        command: Command::Part,
-        raw,
-        style: PLAIN,
-        registry,
-        format,
-        second: "",
         path,
-        limits,
+        ..asked(Command::Part, quiet, registry, format, limits)
     }
 }
 
 // The answer to a job on a part of a value, and to its input where it has one.
-fn on_parts(alloc: Global, words: &[&str]) -> Result<String, RowFault> {
+fn on_parts(alloc: Global, quiet: bool, words: &[&str]) -> Result<String, RowFault> {
     match words {
         [registry, format, path] => {
-            let work = work_of(alloc, asked_part(false, registry, format, path, &[]))?;
+            let work = work_of(alloc, asked_part(quiet, registry, format, path, &[]))?;
             without_input(alloc, &work)
         }
-        ["--raw", registry, format, path, input, limits @ ..] => with_input(
-            alloc,
-            asked_part(true, registry, format, path, limits),
-            input,
-        ),
+        ["--raw", registry, format, path, input, limits @ ..] => {
+            let mut asked = asked_part(quiet, registry, format, path, limits);
+            asked.raw = true;
+            with_input(alloc, asked, input)
+        }
         [registry, format, path, input, limits @ ..] => with_input(
             alloc,
-            asked_part(false, registry, format, path, limits),
+            asked_part(quiet, registry, format, path, limits),
             input,
         ),
         _ => Err(RowFault::NotUnderstood),
@@ -180,6 +195,7 @@ fn work_of(alloc: Global, asked: ValueJob<'_>) -> Result<Work, RowFault> {
         format: String::from_str(alloc, asked.format)?,
         path: path_of(alloc, asked.path)?,
         raw: asked.raw,
+        quiet: asked.quiet,
         style: asked.style,
         limits,
     })
@@ -212,16 +228,25 @@ fn without_input(alloc: Global, work: &Work) -> Result<String, RowFault> {
     told(alloc, outcome, out.taken())
 }
 
-// The status, what was put, and the note where there is one.
+// The status, what was put, and the note or the place where there is one.
 fn told(alloc: Global, outcome: Outcome, output: &[u8]) -> Result<String, RowFault> {
-    let Outcome { status, note } = outcome;
+    let Outcome {
+        status,
+        note,
+        place,
+    } = outcome;
     let output = match str::from_utf8(output) {
         Ok(text) => format!(in alloc; "{text:?}")?,
         Err(_) => word_of(alloc, output)?,
     };
-    if note.is_empty() {
+    let line = if note.is_empty() {
+        str::from_utf8(place.as_slice()).unwrap_or("no text")
+    } else {
+        note
+    };
+    if line.is_empty() {
         Ok(format!(in alloc; "{status} {output}")?)
     } else {
-        Ok(format!(in alloc; "{status} {output} {note}")?)
+        Ok(format!(in alloc; "{status} {output} {line}")?)
     }
 }

@@ -9,6 +9,7 @@ mod lines;
 mod numbers;
 mod pairs;
 mod parts;
+mod places;
 mod question;
 mod registries;
 mod row_fault;

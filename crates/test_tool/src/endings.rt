@@ -59,9 +59,33 @@ fn ends_over(
     Ok(())
 }
 
-const NONE_FAILS: [Ending; 12] = [
+const NONE_FAILS: [Ending; 16] = [
     (&["encode", "{}", "\"I16\""], 0, "cced\n", ""),
     (&["check", "{"], 2, "refused: NotJson\n", ""),
+    (
+        &["decode", "--raw", "{}", "\"BOOL\""],
+        2,
+        "refused: BadBool at 0\n",
+        "at .: BadBool: wanted BOOL\n",
+    ),
+    (
+        &["decode", "--raw", "--quiet", "{}", "\"BOOL\""],
+        2,
+        "refused: BadBool at 0\n",
+        "",
+    ),
+    (
+        &["part", "--raw", "{}", "\"BOOL\"", "."],
+        2,
+        "refused: BadBool at 0\n",
+        "at .: BadBool: wanted BOOL\n",
+    ),
+    (
+        &["part", "--quiet", "--raw", "{}", "\"BOOL\"", "."],
+        2,
+        "refused: BadBool at 0\n",
+        "",
+    ),
     (&["--help"], 0, "Binary Canonical Serialization..", ""),
     (&["help", "encode"], 0, "Prints the bytes of..", ""),
     (&["encode", "--help"], 0, "Prints the bytes of..", ""),
@@ -93,7 +117,7 @@ fn streams_that_are_good(rt: HostRuntime) -> Result<(), Fail> {
 }
 
 // What is told where the input fails, the output, or the errors.
-const ONE_FAILS: [([Option<u64>; 3], Ending); 8] = [
+const ONE_FAILS: [([Option<u64>; 3], Ending); 10] = [
     ([Some(1), None, None], (&["check", "{}"], 0, "ok 0\n", "")),
     (
         [Some(1), None, None],
@@ -117,6 +141,24 @@ const ONE_FAILS: [([Option<u64>; 3], Ending); 8] = [
         [None, None, Some(2)],
         (&["check", "no.test"], 4, "", "fault: open"),
     ),
+    (
+        [None, None, Some(1)],
+        (
+            &["decode", "--raw", "{}", "\"BOOL\""],
+            2,
+            "refused: BadBool at 0\n",
+            "",
+        ),
+    ),
+    (
+        [None, Some(1), None],
+        (
+            &["decode", "--raw", "{}", "\"BOOL\""],
+            4,
+            "",
+            "fault: write\n",
+        ),
+    ),
 ];
 
 #[test]
@@ -127,16 +169,39 @@ fn streams_that_fail(rt: HostRuntime) -> Result<(), Fail> {
     Ok(())
 }
 
+const NO_CONTAINER: &str =
+    "at FORMAT: UnknownName: no container is called N; a format without a name is written as JSON, as '\"U64\"'\n";
+
 // Words of each command that are refused, so that the input is never looked at.
 const REFUSED: [Ending; 9] = [
     (&["check", "{"], 2, "refused: NotJson\n", ""),
     (&["grows", "{}", "{"], 2, "refused: NotJson\n", ""),
-    (&["encode", "{}", "N"], 2, "refused: UnknownName\n", ""),
-    (&["decode", "{}", "N"], 2, "refused: UnknownName\n", ""),
-    (&["explain", "{}", "N"], 2, "refused: UnknownName\n", ""),
-    (&["normalise", "{}", "N"], 2, "refused: UnknownName\n", ""),
     (
-        &["same", "{}", "N", "first.test"],
+        &["encode", "{}", "N"],
+        2,
+        "refused: UnknownName\n",
+        NO_CONTAINER,
+    ),
+    (
+        &["decode", "{}", "N"],
+        2,
+        "refused: UnknownName\n",
+        NO_CONTAINER,
+    ),
+    (
+        &["explain", "{}", "N"],
+        2,
+        "refused: UnknownName\n",
+        NO_CONTAINER,
+    ),
+    (
+        &["normalise", "{}", "N"],
+        2,
+        "refused: UnknownName\n",
+        NO_CONTAINER,
+    ),
+    (
+        &["same", "--quiet", "{}", "N", "first.test"],
         2,
         "refused: UnknownName\n",
         "",

@@ -16,6 +16,7 @@ fn encoding(alloc: Global) -> Result<Work, AllocError> {
         format: String::from_str(alloc, "\"I16\"")?,
         path: String::new(alloc),
         raw: false,
+        quiet: true,
         style: Style {
             form: Form::Ways,
             paint: Paint::Plain,

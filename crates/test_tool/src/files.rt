@@ -28,6 +28,7 @@ fn job(alloc: Global, command: Command) -> Result<Job, AllocError> {
         path: String::from_str(alloc, "P")?,
         file: Some(String::from_str(alloc, "I")?),
         raw: true,
+        quiet: true,
         form: Form::Tree,
         color: Color::Always,
         limits: Limits::new(7, 9).unwrap_or(Limits::standard()),
@@ -42,6 +43,7 @@ fn is_work(work: &Work, command: Command) -> bool {
         && work.format.as_str() == "F"
         && work.path.as_str() == "P"
         && work.raw
+        && work.quiet
         && work.style.form == Form::Tree
         && work.style.paint == Paint::Colored
         && work.limits.depth() == 7

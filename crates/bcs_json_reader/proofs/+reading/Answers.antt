@@ -1,4 +1,4 @@
-use Rattle.std.proofs.Common.{◌≡◌, ◌∙◌, ◌+◌, ◌≤◌, List, ◌∷◌, map, drop, Some, Ok, Err, refl, ap, sym, arith}
+use Rattle.std.proofs.Common.{◌≡◌, ◌∙◌, ◌+◌, ◌≤◌, List, ◌∷◌, length, map, drop, Some, Ok, Err, option_map, string_bytes, refl, ap, sym, arith}
 use Rattle.std.specs.Vec.Iter.{into_iter_items}
 use Rattle.std.proofs.lemmas.List.{drop_more, drop_all, nil_from_length}
 use Rattle.std.proofs.lemmas.Result.{err_from_is_err_and}
@@ -12,257 +12,345 @@ use Rattle.bcs_value_tree.specs.declared.value.Value.{Value}
 use Rattle.bcs_json_spec.specs.Bytes.{is_byte}
 use Rattle.bcs_json_spec.specs.JsonContent.{of}
 use Rattle.bcs_json_spec.specs.Look.{without}
-use Rattle.bcs_json_spec.specs.Reading.{follow, read_data, read_all, read_each, read_pairs, read_fields, read_named}
-use Rattle.bcs_json_reader_steps.specs.Kinds.{list_json}
+use Rattle.bcs_json_spec.specs.Place.{value, parts, field_parts}
+use Rattle.bcs_json_spec.specs.Reading.{follow, read_data, read_all, read_each, read_pairs, read_fields, read_named, read_tuple}
+use Rattle.bcs_json_reader_steps.specs.Kinds.{option_json, list_json, enum_json}
 use Rattle.bcs_json_reader_steps.proofs.Joined.{joined}
-use Rattle.bcs_json_reader.proofs.Counts.{items_read, items_fault, tuple_refused, tuple_row, array_other, array_row, map_other}
-use Rattle.bcs_json_reader.proofs.FieldRows.{field_more, field_fault, field_missing, fields_done, member_left}
-use Rattle.bcs_json_reader.proofs.Formats.{tells_as, option_read, seq_read, array_read, map_read, levels_here, field_levels_here}
+use Rattle.bcs_json_reader.proofs.Counts.{count_formats, items_read, items_fault, tuple_refused, tuple_row, tuple_items, array_other, array_row, array_other_none, array_items}
+use Rattle.bcs_json_reader.proofs.FieldRows.{field_more, fields_done}
+use Rattle.bcs_json_reader.proofs.Formats.{tells_as, option_shape, seq_shape, array_shape, map_shape, levels_here, field_levels_here}
 use Rattle.bcs_json_reader.proofs.Names.{container_found, newtype_levels, tuple_levels, struct_levels, variant_levels}
-use Rattle.bcs_json_reader.proofs.PairRows.{joined_pairs, pair_more, pair_fault, key_fault, value_fault, pairs_done}
-use Rattle.bcs_json_reader.proofs.Rows.{item_more, item_fault, items_done, each_more, each_fault, each_done}
+use Rattle.bcs_json_reader.proofs.OwnKind.{no_array, option_none, seq_none, array_none, map_none, tuple_none, pair_none, struct_none, enum_none}
+use Rattle.bcs_json_reader.proofs.PairRows.{joined_pairs, pair_more, pairs_done}
+use Rattle.bcs_json_reader.proofs.Placed.{told_ok, placed_on, placed_none, placed_as, way_as}
+use Rattle.bcs_json_reader.proofs.PlacedRows.{found_more, outside_at, outside_named, some_placed, payload_placed, item_placed, item_onward, each_placed, each_onward, entry_placed, entry_onward, key_placed, value_placed, field_placed, field_onward, missing_none, each_none}
+use Rattle.bcs_json_reader.proofs.Rows.{item_more, items_done, each_more, each_done}
 use Rattle.bcs_json_reader.proofs.+reading.Goals as goal
 
 -- ---- formats with formats inside
 
-pub reading::read-returns-in-Opt : goal.reading::read-returns-in-Opt
-reading::read-returns-in-Opt t c =
-    tells_as tree_of c.read_option.result _ _
-    (option_read c.args.registry.now c.args.left c.args.format.now (view c.args.json) c.in-Opt.content c.deref.result.now c.in-Opt.is c.deref.ensures) c.read_option.ensures
+pub reading::read-returns-in-Opt-clause-tells : goal.reading::read-returns-in-Opt-clause-tells
+reading::read-returns-in-Opt-clause-tells t c =
+    tells_as tree_of _ _ _ (ap (λ s. read_data c.args.registry.now c.args.left (of s) (view c.args.json)) (option_shape c.args.format.now c.in-Opt.content c.deref.result.now c.in-Opt.is c.deref.ensures)) c.read_option.ensures.tells
 
-pub reading::read-returns-in-Seq : goal.reading::read-returns-in-Seq
-reading::read-returns-in-Seq t c =
-    tells_as tree_of c.read_list.result _ _
-    (seq_read c.args.registry.now c.args.left c.args.format.now (view c.args.json) c.in-Seq.element c.deref-in-Seq.result.now c.in-Seq.is c.deref-in-Seq.ensures) c.read_list.ensures
+pub reading::read-returns-in-Opt-clause-placed : goal.reading::read-returns-in-Opt-clause-placed
+reading::read-returns-in-Opt-clause-placed t c =
+    placed_as c.args.registry.now _ _ c.read_option.result (ap (λ s. parts c.args.registry.now c.args.left (value (of s)) (view c.args.json)) (option_shape c.args.format.now c.in-Opt.content c.deref.result.now c.in-Opt.is c.deref.ensures)) c.read_option.ensures.placed
 
-pub reading::read-returns-in-Map : goal.reading::read-returns-in-Map
-reading::read-returns-in-Map t c =
-    tells_as tree_of c.read_map.result _ _
-    (map_read c.args.registry.now c.args.left c.args.format.now (view c.args.json) c.in-Map.key c.in-Map.content c.deref-in-Map.result.now c.deref-in-Map-2.result.now c.in-Map.is c.deref-in-Map.ensures c.deref-in-Map-2.ensures)
-    c.read_map.ensures
+pub reading::read-returns-in-Seq-clause-tells : goal.reading::read-returns-in-Seq-clause-tells
+reading::read-returns-in-Seq-clause-tells t c =
+    tells_as tree_of _ _ _ (ap (λ s. read_data c.args.registry.now c.args.left (of s) (view c.args.json)) (seq_shape c.args.format.now c.in-Seq.element c.deref-in-Seq.result.now c.in-Seq.is c.deref-in-Seq.ensures)) c.read_list.ensures.tells
 
-pub reading::read-returns-in-TupleArray : goal.reading::read-returns-in-TupleArray
-reading::read-returns-in-TupleArray t c =
-    tells_as tree_of c.read_array.result _ _
-    (array_read c.args.registry.now c.args.left c.args.format.now (view c.args.json) c.in-TupleArray.element c.in-TupleArray.size c.deref-in-TupleArray.result.now c.in-TupleArray.is c.deref-in-TupleArray.ensures)
-    c.read_array.ensures
+pub reading::read-returns-in-Seq-clause-placed : goal.reading::read-returns-in-Seq-clause-placed
+reading::read-returns-in-Seq-clause-placed t c =
+    placed_as c.args.registry.now _ _ c.read_list.result (ap (λ s. parts c.args.registry.now c.args.left (value (of s)) (view c.args.json)) (seq_shape c.args.format.now c.in-Seq.element c.deref-in-Seq.result.now c.in-Seq.is c.deref-in-Seq.ensures)) c.read_list.ensures.placed
+
+pub reading::read-returns-in-Map-clause-tells : goal.reading::read-returns-in-Map-clause-tells
+reading::read-returns-in-Map-clause-tells t c =
+    tells_as tree_of _ _ _ (ap (λ s. read_data c.args.registry.now c.args.left (of s) (view c.args.json)) (map_shape c.args.format.now c.in-Map.key c.in-Map.content c.deref-in-Map.result.now c.deref-in-Map-2.result.now c.in-Map.is c.deref-in-Map.ensures c.deref-in-Map-2.ensures)) c.read_map.ensures.tells
+
+pub reading::read-returns-in-Map-clause-placed : goal.reading::read-returns-in-Map-clause-placed
+reading::read-returns-in-Map-clause-placed t c =
+    placed_as c.args.registry.now _ _ c.read_map.result (ap (λ s. parts c.args.registry.now c.args.left (value (of s)) (view c.args.json)) (map_shape c.args.format.now c.in-Map.key c.in-Map.content c.deref-in-Map.result.now c.deref-in-Map-2.result.now c.in-Map.is c.deref-in-Map.ensures c.deref-in-Map-2.ensures)) c.read_map.ensures.placed
+
+pub reading::read-returns-in-TupleArray-clause-tells : goal.reading::read-returns-in-TupleArray-clause-tells
+reading::read-returns-in-TupleArray-clause-tells t c =
+    tells_as tree_of _ _ _ (ap (λ s. read_data c.args.registry.now c.args.left (of s) (view c.args.json)) (array_shape c.args.format.now c.in-TupleArray.element c.in-TupleArray.size c.deref-in-TupleArray.result.now c.in-TupleArray.is c.deref-in-TupleArray.ensures)) c.read_array.ensures.tells
+
+pub reading::read-returns-in-TupleArray-clause-placed : goal.reading::read-returns-in-TupleArray-clause-placed
+reading::read-returns-in-TupleArray-clause-placed t c =
+    placed_as c.args.registry.now _ _ c.read_array.result (ap (λ s. parts c.args.registry.now c.args.left (value (of s)) (view c.args.json)) (array_shape c.args.format.now c.in-TupleArray.element c.in-TupleArray.size c.deref-in-TupleArray.result.now c.in-TupleArray.is c.deref-in-TupleArray.ensures)) c.read_array.ensures.placed
+
+-- ---- JSON that is refused for its own kind
+
+pub reading::read_option-returns-in_err-option_of-clause-placed : goal.reading::read_option-returns-in_err-option_of-clause-placed
+reading::read_option-returns-in_err-option_of-clause-placed t c =
+    let p = err_from_is_err_and c.from_residual.result c.from_residual.ensures.1 in
+    rw p.1 (placed_none c.args.registry.now _ _ p.2.1 (option_none c.args.left (shape_of c.args.content.now) (view c.args.json) _ c.in_err-option_of.ensures.fault))
+
+pub reading::read_list-returns-in_err-items-clause-placed : goal.reading::read_list-returns-in_err-items-clause-placed
+reading::read_list-returns-in_err-items-clause-placed t c =
+    let p = err_from_is_err_and c.from_residual.result c.from_residual.ensures.1 in
+    rw p.1 (placed_none c.args.registry.now _ _ p.2.1 (seq_none c.args.left (shape_of c.args.element.now) (view c.args.json) (no_array (view c.args.json) _ c.in_err-items.ensures.fault)))
+
+pub reading::read_array-returns-in_err-items-clause-placed : goal.reading::read_array-returns-in_err-items-clause-placed
+reading::read_array-returns-in_err-items-clause-placed t c =
+    let p = err_from_is_err_and c.from_residual.result c.from_residual.ensures.1 in
+    rw p.1 (placed_none c.args.registry.now _ _ p.2.1 (array_none c.args.left (shape_of c.args.element.now) c.args.size (view c.args.json) (no_array (view c.args.json) _ c.in_err-items.ensures.fault)))
+
+pub reading::read_map-returns-in_err-items-clause-placed : goal.reading::read_map-returns-in_err-items-clause-placed
+reading::read_map-returns-in_err-items-clause-placed t c =
+    let p = err_from_is_err_and c.from_residual.result c.from_residual.ensures.1 in
+    rw p.1 (placed_none c.args.registry.now _ _ p.2.1 (map_none c.args.left (shape_of c.args.key.now) (shape_of c.args.content.now) (view c.args.json) c.in_err-items.ensures.other))
+
+pub parts::read_entry-returns-in_err-first-clause-placed : goal.parts::read_entry-returns-in_err-first-clause-placed
+parts::read_entry-returns-in_err-first-clause-placed t c =
+    let p = err_from_is_err_and c.from_residual.result c.from_residual.ensures.1 in
+    rw p.1 (placed_none c.args.registry.now _ _ p.2.1 (pair_none c.args.left (shape_of c.args.key.now) (shape_of c.args.content.now) (view c.args.json) _ c.in_err-first.ensures.fault))
+
+pub containers::read_struct-returns-in_err-members-clause-placed : goal.containers::read_struct-returns-in_err-members-clause-placed
+containers::read_struct-returns-in_err-members-clause-placed t c =
+    let p = err_from_is_err_and c.from_residual.result c.from_residual.ensures.1 in
+    rw p.1 (placed_none c.args.registry.now _ _ p.2.1 (struct_none c.args.left (map field_of c.args.fields.now) (view c.args.json) c.in_err-members.ensures.other))
+
+pub containers::read_enum-returns-in_err-word-clause-placed : goal.containers::read_enum-returns-in_err-word-clause-placed
+containers::read_enum-returns-in_err-word-clause-placed t c =
+    let p = err_from_is_err_and c.from_residual.result c.from_residual.ensures.1 in
+    rw p.1 (placed_none c.args.registry.now _ _ p.2.1 (enum_none c.args.left (map choice_of c.args.variants.now.entries) (view c.args.json) _ c.in_err-word.ensures.fault))
 
 -- ---- arrays of so many items
 
-pub reading::read_array-returns-in_err-exactly-in-Array : goal.reading::read_array-returns-in_err-exactly-in-Array
-reading::read_array-returns-in_err-exactly-in-Array t c =
+pub reading::read_array-returns-in_err-exactly-in-Array-clause-tells : goal.reading::read_array-returns-in_err-exactly-in-Array-clause-tells
+reading::read_array-returns-in_err-exactly-in-Array-clause-tells t c =
     let p = err_from_is_err_and c.from_residual-in_err-exactly-in-Array.result c.from_residual-in_err-exactly-in-Array.ensures.1 in
-    rw (p.1, p.2) (λ _. array_other (is_byte (shape_of c.args.element.now)) c.args.size (read_data c.args.registry.now c.args.left (of (shape_of c.args.element.now))) (view c.args.json) c.in-Array.items
-    (c.in_ok-items.ensures.ok ∙ ap list_json c.in-Array.is)
+    rw (p.1, p.2.0) (λ _. array_other (is_byte (shape_of c.args.element.now)) c.args.size (read_data c.args.registry.now c.args.left (of (shape_of c.args.element.now))) (view c.args.json) c.in-Array.items (c.in_ok-items.ensures.ok ∙ ap list_json c.in-Array.is)
     (λ is. c.in_err-exactly-in-Array.ensures.other (omega (arith, c.len.ensures, c.in-Array.items.ok, is))) ∙ ap Err (sym c.in_err-exactly-in-Array.ensures.fault))
 
-pub reading::read_array-returns-in_err-read_all-in-Array : goal.reading::read_array-returns-in_err-read_all-in-Array
-reading::read_array-returns-in_err-read_all-in-Array t c =
+pub reading::read_array-returns-in_err-exactly-in-Array-clause-placed : goal.reading::read_array-returns-in_err-exactly-in-Array-clause-placed
+reading::read_array-returns-in_err-exactly-in-Array-clause-placed t c =
+    let p = err_from_is_err_and c.from_residual-in_err-exactly-in-Array.result c.from_residual-in_err-exactly-in-Array.ensures.1 in
+    rw p.1 (placed_none c.args.registry.now _ _ p.2.1 (array_other_none c.args.left (shape_of c.args.element.now) c.args.size (view c.args.json) c.in-Array.items (c.in_ok-items.ensures.ok ∙ ap list_json c.in-Array.is)
+    (λ is. c.in_err-exactly-in-Array.ensures.other (omega (arith, c.len.ensures, c.in-Array.items.ok, is)))))
+
+pub reading::read_array-returns-in_err-read_all-in-Array-clause-tells : goal.reading::read_array-returns-in_err-read_all-in-Array-clause-tells
+reading::read_array-returns-in_err-read_all-in-Array-clause-tells t c =
     let p = err_from_is_err_and c.from_residual-in_err-read_all-in-Array.result c.from_residual-in_err-read_all-in-Array.ensures.1 in
-    rw (p.1, p.2) (λ other. array_row (is_byte (shape_of c.args.element.now)) c.args.size (read_data c.args.registry.now c.args.left (of (shape_of c.args.element.now))) (view c.args.json) c.in-Array.items
-    (c.in_ok-items.ensures.ok ∙ ap list_json c.in-Array.is)
-    (omega (arith, c.len.ensures, c.in-Array.items.ok, c.in_ok-exactly-in-Array.ensures.ok)) ∙ items_fault _ _ (c.in_err-read_all-in-Array.ensures other))
+    rw (p.1, p.2) (λ other. array_row (is_byte (shape_of c.args.element.now)) c.args.size (read_data c.args.registry.now c.args.left (of (shape_of c.args.element.now))) (view c.args.json) c.in-Array.items (c.in_ok-items.ensures.ok ∙ ap list_json c.in-Array.is)
+    (omega (arith, c.len.ensures, c.in-Array.items.ok, c.in_ok-exactly-in-Array.ensures.ok)) ∙ items_fault _ _ (c.in_err-read_all-in-Array.ensures.tells other))
 
-pub reading::read_array-returns-in_ok-read_all-in-Array : goal.reading::read_array-returns-in_ok-read_all-in-Array
-reading::read_array-returns-in_ok-read_all-in-Array t c =
-    array_row (is_byte (shape_of c.args.element.now)) c.args.size (read_data c.args.registry.now c.args.left (of (shape_of c.args.element.now))) (view c.args.json) c.in-Array.items
-    (c.in_ok-items.ensures.ok ∙ ap list_json c.in-Array.is)
-    (omega (arith, c.len.ensures, c.in-Array.items.ok, c.in_ok-exactly-in-Array.ensures.ok)) ∙ items_read _ c.in_ok-read_all-in-Array.field-0 c.in_ok-read_all-in-Array.ensures
+pub reading::read_array-returns-in_err-read_all-in-Array-clause-placed : goal.reading::read_array-returns-in_err-read_all-in-Array-clause-placed
+reading::read_array-returns-in_err-read_all-in-Array-clause-placed t c =
+    let p = err_from_is_err_and c.from_residual-in_err-read_all-in-Array.result c.from_residual-in_err-read_all-in-Array.ensures.1 in
+    rw (p.1, p.2) (way_as c.args.registry.now _ _ c.in_err-read_all-in-Array.field-0.0 (array_items c.args.left (shape_of c.args.element.now) c.args.size (view c.args.json) c.in-Array.items (c.in_ok-items.ensures.ok ∙ ap list_json c.in-Array.is)
+    (omega (arith, c.len.ensures, c.in-Array.items.ok, c.in_ok-exactly-in-Array.ensures.ok))) c.in_err-read_all-in-Array.ensures.placed)
 
-pub reading::read_tuple-returns-in_err-items : goal.reading::read_tuple-returns-in_err-items
-reading::read_tuple-returns-in_err-items t c =
+pub reading::read_array-returns-in_ok-read_all-in-Array-clause-tells : goal.reading::read_array-returns-in_ok-read_all-in-Array-clause-tells
+reading::read_array-returns-in_ok-read_all-in-Array-clause-tells t c =
+    array_row (is_byte (shape_of c.args.element.now)) c.args.size (read_data c.args.registry.now c.args.left (of (shape_of c.args.element.now))) (view c.args.json) c.in-Array.items (c.in_ok-items.ensures.ok ∙ ap list_json c.in-Array.is)
+    (omega (arith, c.len.ensures, c.in-Array.items.ok, c.in_ok-exactly-in-Array.ensures.ok)) ∙ items_read _ c.in_ok-read_all-in-Array.field-0 c.in_ok-read_all-in-Array.ensures.tells
+
+pub reading::read_tuple-returns-in_err-items-clause-tells : goal.reading::read_tuple-returns-in_err-items-clause-tells
+reading::read_tuple-returns-in_err-items-clause-tells t c =
     let p = err_from_is_err_and c.from_residual.result c.from_residual.ensures.1 in
-    rw (p.1, p.2) (λ _. tuple_refused (read_named c.args.registry.now c.args.left) c.args.formats.now (view c.args.json) _ _ refl c.in_err-items.ensures.fault)
+    rw (p.1, p.2.0) (λ _. tuple_refused (read_named c.args.registry.now c.args.left) c.args.formats.now (view c.args.json) _ _ refl c.in_err-items.ensures.fault)
 
-pub reading::read_tuple-returns-in_err-read_each : goal.reading::read_tuple-returns-in_err-read_each
-reading::read_tuple-returns-in_err-read_each t c =
+pub reading::read_tuple-returns-in_err-items-clause-placed : goal.reading::read_tuple-returns-in_err-items-clause-placed
+reading::read_tuple-returns-in_err-items-clause-placed t c =
+    let p = err_from_is_err_and c.from_residual.result c.from_residual.ensures.1 in
+    rw p.1 (placed_none c.args.registry.now _ _ p.2.1 (tuple_none c.args.left (formats_shapes c.args.formats.now) (view c.args.json) _ (λ r. ap (λ n. read_tuple n r (view c.args.json)) (count_formats c.args.formats.now) ∙ c.in_err-items.ensures.fault r)))
+
+pub reading::read_tuple-returns-in_err-read_each-clause-tells : goal.reading::read_tuple-returns-in_err-read_each-clause-tells
+reading::read_tuple-returns-in_err-read_each-clause-tells t c =
     let p = err_from_is_err_and c.from_residual-in_err-read_each.result c.from_residual-in_err-read_each.ensures.1 in
-    rw (p.1, p.2) (λ other. tuple_row (read_named c.args.registry.now c.args.left) c.args.formats.now (view c.args.json) c.in_ok-items.items c.in_ok-items.ensures.ok
-    c.in_ok-items.ensures.count ∙ items_fault _ _ (c.in_err-read_each.ensures other))
+    rw (p.1, p.2) (λ other. tuple_row (read_named c.args.registry.now c.args.left) c.args.formats.now (view c.args.json) c.in_ok-items.items c.in_ok-items.ensures.ok c.in_ok-items.ensures.count ∙ items_fault _ _ (c.in_err-read_each.ensures.tells other))
 
-pub reading::read_tuple-returns : goal.reading::read_tuple-returns
-reading::read_tuple-returns t c =
-    tuple_row (read_named c.args.registry.now c.args.left) c.args.formats.now (view c.args.json) c.in_ok-items.items c.in_ok-items.ensures.ok
-    c.in_ok-items.ensures.count ∙ items_read _ c.in_ok-read_each.field-0 c.in_ok-read_each.ensures
+pub reading::read_tuple-returns-in_err-read_each-clause-placed : goal.reading::read_tuple-returns-in_err-read_each-clause-placed
+reading::read_tuple-returns-in_err-read_each-clause-placed t c =
+    let p = err_from_is_err_and c.from_residual-in_err-read_each.result c.from_residual-in_err-read_each.ensures.1 in
+    rw (p.1, p.2) (way_as c.args.registry.now _ _ c.in_err-read_each.field-0.0 (tuple_items c.args.left c.args.formats.now (view c.args.json) c.in_ok-items.items c.in_ok-items.ensures.ok c.in_ok-items.ensures.count) c.in_err-read_each.ensures.placed)
 
-pub reading::read_map-returns-in_err-items : goal.reading::read_map-returns-in_err-items
-reading::read_map-returns-in_err-items t c =
-    let p = err_from_is_err_and c.from_residual.result c.from_residual.ensures.1 in
-    rw (p.1, p.2) (λ _. map_other (read_data c.args.registry.now c.args.left (of (shape_of c.args.key.now))) (read_data c.args.registry.now c.args.left (of (shape_of c.args.content.now))) (view c.args.json) c.in_err-items.ensures.other
-    ∙ ap Err (sym c.in_err-items.ensures.fault))
+pub reading::read_tuple-returns-clause-tells : goal.reading::read_tuple-returns-clause-tells
+reading::read_tuple-returns-clause-tells t c =
+    tuple_row (read_named c.args.registry.now c.args.left) c.args.formats.now (view c.args.json) c.in_ok-items.items c.in_ok-items.ensures.ok c.in_ok-items.ensures.count ∙ items_read _ c.in_ok-read_each.field-0 c.in_ok-read_each.ensures.tells
 
--- ---- parts
+-- ---- one part
+
+pub reading::read_option-returns-in_err-value-in-Some-clause-placed : goal.reading::read_option-returns-in_err-value-in-Some-clause-placed
+reading::read_option-returns-in_err-value-in-Some-clause-placed t c =
+    let p = err_from_is_err_and c.from_residual-in_err-value-in-Some.result c.from_residual-in_err-value-in-Some.ensures.1 in
+    rw (p.1, p.2) (some_placed c.args.registry.now c.args.left (shape_of c.args.content.now) (view c.args.json) (view c.in-Some.part) (c.in_ok-option_of.ensures.ok ∙ ap (λ o. option_json (option_map view o)) c.in-Some.is)
+    tree_of c.read-outcome.result c.in_err-value-in-Some.field-0.0 (record { tells = c.read-outcome.ensures.tells; placed = c.read-outcome.ensures.placed }) (record { same = c.in_err-value-in-Some.ensures.same; way = c.in_err-value-in-Some.ensures.way }))
+
+pub containers::read_enum-returns-in_err-value-in-Member-clause-placed : goal.containers::read_enum-returns-in_err-value-in-Member-clause-placed
+containers::read_enum-returns-in_err-value-in-Member-clause-placed t c =
+    let v = c.in_ok-number-in-Member in
+    let chosen : Choice = choice_of (v.number, v.variant.now) in
+    let p = err_from_is_err_and c.from_residual-in_err-value-in-Member.result c.from_residual-in_err-value-in-Member.ensures.1 in
+    rw (p.1, p.2) (payload_placed c.args.registry.now c.args.left (map choice_of c.args.variants.now.entries) (string_bytes c.in-Member.word) chosen (view c.args.json) (view c.in-Member.part) (c.in_ok-word.ensures.ok ∙ ap enum_json c.in-Member.is)
+    (ap (λ w. choice_called w (map choice_of c.args.variants.now.entries)) (sym c.as_str.ensures.value) ∙ v.ensures.ok) tree_of c.read_payload-outcome.result c.in_err-value-in-Member.field-0.0
+    (record { tells = c.read_payload-outcome.ensures.tells; placed = c.read_payload-outcome.ensures.placed })
+    (outside_named _ _ _ _ c.as_str-in-Member.ensures.value (record { same = c.in_err-value-in-Member.ensures.same; way = c.in_err-value-in-Member.ensures.way })))
+
+-- ---- parts in a row
 
 pub parts::read_all-loop-item-preserved : goal.parts::read_all-loop-item-preserved
 parts::read_all-loop-item-preserved t c =
     let l = c.loop-item in
-    let left = into_iter_items c.next.new.self in
-    let r = read_data c.args.registry.now c.args.left (of (shape_of c.args.element.now)) in
-    l.invariant
-    ∙ item_more r (into_iter_items l.item-iterator) l.found.items left c.in-Some.item c.in_ok-read.field-0 c.in-Some.ensures.steps.0 c.in_ok-read.ensures
-    ∙ ap (λ (vs : List Value). follow (read_all r (items_view left)) (λ ts. Ok (joined vs ts))) (sym c.in_ok-push.ensures.items)
+    let r = (read_data c.args.registry.now c.args.left (of (shape_of c.args.element.now))) in
+    let read = (told_ok tree_of c.read-outcome.result _ c.in_ok-value.value c.in_ok-value.ensures.same c.read-outcome.ensures.tells) in (
+      l.invariant.0
+          ∙ item_more r (into_iter_items l.item-iterator) l.found.items (into_iter_items c.next.new.self) c.in-Some.item c.in_ok-value.value c.in-Some.ensures.steps.0 read
+          ∙ ap (λ (vs : List Value). follow (read_all r (items_view (into_iter_items c.next.new.self))) (λ ts. Ok (joined vs ts))) (sym c.in_ok-push.ensures.items),
+      λ path h. l.invariant.1 path (item_onward c.args.registry.now c.args.left (shape_of c.args.element.now) (length l.found.items) (into_iter_items l.item-iterator) (into_iter_items c.next.new.self) c.in-Some.item c.in-Some.ensures.steps.0 _ (tree_of c.in_ok-value.value)
+          (found_more l.found.items c.push.new.self.items c.in_ok-value.value c.in_ok-push.ensures.items) read path h),
+    )
 
-pub parts::read_all-returns-in_err-read : goal.parts::read_all-returns-in_err-read
-parts::read_all-returns-in_err-read t c =
+pub parts::read_all-returns-in_err-value-clause-placed : goal.parts::read_all-returns-in_err-value-clause-placed
+parts::read_all-returns-in_err-value-clause-placed t c =
     let l = c.loop-item in
-    let p = err_from_is_err_and c.from_residual-in_err-read.result c.from_residual-in_err-read.ensures.1 in
-    rw (p.1, p.2) (λ other. l.invariant
-    ∙ item_fault (read_data c.args.registry.now c.args.left (of (shape_of c.args.element.now))) (into_iter_items l.item-iterator) l.found.items (into_iter_items c.next.new.self) c.in-Some.item _ c.in-Some.ensures.steps.0 (c.in_err-read.ensures other))
+    let p = err_from_is_err_and c.from_residual-in_err-value.result c.from_residual-in_err-value.ensures.1 in
+    rw (p.1, p.2) (placed_on c.args.registry.now _ _ c.in_err-value.field-0.0 l.invariant.1 (item_placed c.args.registry.now c.args.left (shape_of c.args.element.now) (length l.found.items) (into_iter_items l.item-iterator) (into_iter_items c.next.new.self) c.in-Some.item c.in-Some.ensures.steps.0
+    tree_of c.read-outcome.result c.in_err-value.field-0.0 (record { tells = c.read-outcome.ensures.tells; placed = c.read-outcome.ensures.placed }) (outside_at (length l.found.items) c.len-in-loop-item.result _ _ (omega (arith, c.len-in-loop-item.ensures, l.found.ok)) (record { same = c.in_err-value.ensures.same; way = c.in_err-value.ensures.way }))))
 
-pub parts::read_all-returns : goal.parts::read_all-returns
-parts::read_all-returns t c =
+pub parts::read_all-returns-clause-tells : goal.parts::read_all-returns-clause-tells
+parts::read_all-returns-clause-tells t c =
     let l = c.loop-item in
-    l.invariant
+    l.invariant.0
     ∙ items_done (read_data c.args.registry.now c.args.left (of (shape_of c.args.element.now))) (into_iter_items l.item-iterator) l.found.items
     (nil_from_length (into_iter_items l.item-iterator) (omega (arith, l.item-iterator.rest.ok, c.in-None.ensures.steps.0)))
 
-pub parts::read_each-read-requires : goal.parts::read_each-read-requires
-parts::read_each-read-requires t c =
-    let i = c.loop-format.format-index in
+pub parts::read_each-read-outcome-requires : goal.parts::read_each-read-outcome-requires
+parts::read_each-read-outcome-requires t c =
     let fs = c.args.formats.now in
     let f = c.format-item.result in
-    let gs = drop (i + 1) fs in
-    let here : drop i fs ≡ f ∷ gs = drop_more fs i f (omega (arith, c.loop-format-test.true)) ∙ ap (λ y. y ∷ gs) (sym c.format-item.is) in
-    (omega (arith, levels_here fs i f gs here), tt)
+    let gs = drop (c.loop-format.format-index + 1) fs in
+    let here : drop c.loop-format.format-index fs ≡ f ∷ gs = drop_more fs c.loop-format.format-index f (omega (arith, c.loop-format-test.true)) ∙ ap (λ y. y ∷ gs) (sym c.format-item.is) in
+    (omega (arith, levels_here fs c.loop-format.format-index f gs here), tt)
 
 pub parts::read_each-loop-format-preserved : goal.parts::read_each-loop-format-preserved
 parts::read_each-loop-format-preserved t c =
     let l = c.loop-format in
     let fs = c.args.formats.now in
     let f = c.format-item.result in
-    let gs = drop (l.format-index + 1) fs in
-    let here : drop l.format-index fs ≡ f ∷ gs = drop_more fs l.format-index f (omega (arith, c.loop-format-test.true)) ∙ ap (λ y. y ∷ gs) (sym c.format-item.is) in
-    let named = read_named c.args.registry.now c.args.left in
-    let left = into_iter_items c.next.new.self in
-    l.invariant
-    ∙ each_more named (drop l.format-index fs) (into_iter_items l.rest) l.found.items f gs c.in-Some.item left c.in_ok-read.field-0 here c.in-Some.ensures.items c.in_ok-read.ensures
-    ∙ ap (λ (vs : List Value). follow (read_each named (formats_shapes gs) (items_view left)) (λ ts. Ok (joined vs ts))) (sym c.in_ok-push.ensures.items)
+    let gs = drop (c.loop-format.format-index + 1) fs in
+    let here : drop c.loop-format.format-index fs ≡ f ∷ gs = drop_more fs c.loop-format.format-index f (omega (arith, c.loop-format-test.true)) ∙ ap (λ y. y ∷ gs) (sym c.format-item.is) in
+    let named = (read_named c.args.registry.now c.args.left) in
+    let read = (told_ok tree_of c.read-outcome.result _ c.in_ok-value.value c.in_ok-value.ensures.same c.read-outcome.ensures.tells) in (
+      l.invariant.0
+          ∙ each_more named (drop l.format-index fs) (into_iter_items l.rest) l.found.items f gs c.in-Some.item (into_iter_items c.next.new.self) c.in_ok-value.value here c.in-Some.ensures.items read
+          ∙ ap (λ (vs : List Value). follow (read_each named (formats_shapes gs) (items_view (into_iter_items c.next.new.self))) (λ ts. Ok (joined vs ts))) (sym c.in_ok-push.ensures.items),
+      λ path h. l.invariant.1 path (each_onward c.args.registry.now c.args.left (length l.found.items) (drop l.format-index fs) gs f here (into_iter_items l.rest) (into_iter_items c.next.new.self) c.in-Some.item c.in-Some.ensures.items _ (tree_of c.in_ok-value.value)
+          (found_more l.found.items c.push.new.self.items c.in_ok-value.value c.in_ok-push.ensures.items) read path h),
+    )
 
-pub parts::read_each-returns-in_err-read : goal.parts::read_each-returns-in_err-read
-parts::read_each-returns-in_err-read t c =
+pub parts::read_each-returns-in_err-value-clause-placed : goal.parts::read_each-returns-in_err-value-clause-placed
+parts::read_each-returns-in_err-value-clause-placed t c =
     let l = c.loop-format in
     let fs = c.args.formats.now in
     let f = c.format-item.result in
-    let gs = drop (l.format-index + 1) fs in
-    let here : drop l.format-index fs ≡ f ∷ gs = drop_more fs l.format-index f (omega (arith, c.loop-format-test.true)) ∙ ap (λ y. y ∷ gs) (sym c.format-item.is) in
-    let p = err_from_is_err_and c.from_residual-in_err-read.result c.from_residual-in_err-read.ensures.1 in
-    rw (p.1, p.2) (λ other. l.invariant
-    ∙ each_fault (read_named c.args.registry.now c.args.left) (drop l.format-index fs) (into_iter_items l.rest) l.found.items f gs c.in-Some.item (into_iter_items c.next.new.self) _ here c.in-Some.ensures.items (c.in_err-read.ensures other))
+    let gs = drop (c.loop-format.format-index + 1) fs in
+    let here : drop c.loop-format.format-index fs ≡ f ∷ gs = drop_more fs c.loop-format.format-index f (omega (arith, c.loop-format-test.true)) ∙ ap (λ y. y ∷ gs) (sym c.format-item.is) in
+    let p = err_from_is_err_and c.from_residual-in_err-value.result c.from_residual-in_err-value.ensures.1 in
+    rw (p.1, p.2) (placed_on c.args.registry.now _ _ c.in_err-value.field-0.0 l.invariant.1 (each_placed c.args.registry.now c.args.left (length l.found.items) (drop l.format-index fs) gs f here (into_iter_items l.rest) (into_iter_items c.next.new.self) c.in-Some.item c.in-Some.ensures.items
+    tree_of c.read-outcome.result c.in_err-value.field-0.0 (record { tells = c.read-outcome.ensures.tells; placed = c.read-outcome.ensures.placed }) (outside_at (length l.found.items) c.len.result _ _ (omega (arith, c.len.ensures, l.found.ok)) (record { same = c.in_err-value.ensures.same; way = c.in_err-value.ensures.way }))))
 
-pub parts::read_each-returns : goal.parts::read_each-returns
-parts::read_each-returns t c =
+pub parts::read_each-returns-in_default-clause-placed : goal.parts::read_each-returns-in_default-clause-placed
+parts::read_each-returns-in_default-clause-placed t c =
     let l = c.loop-format in
-    l.invariant
+    placed_on c.args.registry.now _ _ c.from.result l.invariant.1 (placed_none c.args.registry.now _ c.from.result c.from.ensures.1 (each_none c.args.registry.now c.args.left (drop l.format-index c.args.formats.now) (length l.found.items) (into_iter_items l.rest) (nil_from_length (into_iter_items l.rest) (omega (arith, l.rest.rest.ok, c.in_default.ensures.cases.0)))))
+
+pub parts::read_each-returns-clause-tells : goal.parts::read_each-returns-clause-tells
+parts::read_each-returns-clause-tells t c =
+    let l = c.loop-format in
+    l.invariant.0
     ∙ each_done (read_named c.args.registry.now c.args.left) (drop l.format-index c.args.formats.now) (into_iter_items l.rest) l.found.items
     (drop_all l.format-index c.args.formats.now c.loop-format-test.false)
 
-pub parts::read_fields-read-requires : goal.parts::read_fields-read-requires
-parts::read_fields-read-requires t c =
-    let i = c.loop-field.field-index in
-    let fs = c.args.fields.now in
-    let f = c.field-item.result in
-    let gs = drop (i + 1) fs in
-    let here : drop i fs ≡ f ∷ gs = drop_more fs i f (omega (arith, c.loop-field-test.true)) ∙ ap (λ y. y ∷ gs) (sym c.field-item.is) in
-    (omega (arith, field_levels_here fs i f gs here), tt)
+pub parts::read_pairs-loop-item-preserved : goal.parts::read_pairs-loop-item-preserved
+parts::read_pairs-loop-item-preserved t c =
+    let l = c.loop-item in
+    let k = (read_data c.args.registry.now c.args.left (of (shape_of c.args.key.now))) in
+    let v = (read_data c.args.registry.now c.args.left (of (shape_of c.args.content.now))) in
+    let read = (told_ok (λ e. (tree_of e.0, tree_of e.1)) c.read_entry-outcome.result _ c.in_ok-entry.entry c.in_ok-entry.ensures.same c.read_entry-outcome.ensures.tells) in (
+      l.invariant.0
+          ∙ pair_more k v (into_iter_items l.item-iterator) l.found.items (into_iter_items c.next.new.self) c.in-Some.item c.in_ok-entry.entry c.in-Some.ensures.steps.0 read
+          ∙ ap (λ (es : List (Value × Value)). follow (read_pairs k v (items_view (into_iter_items c.next.new.self))) (λ ps. Ok (joined_pairs es ps))) (sym c.in_ok-push.ensures.items),
+      λ path h. l.invariant.1 path (entry_onward c.args.registry.now c.args.left (shape_of c.args.key.now) (shape_of c.args.content.now) (length l.found.items) (into_iter_items l.item-iterator) (into_iter_items c.next.new.self) c.in-Some.item c.in-Some.ensures.steps.0 _ (tree_of c.in_ok-entry.entry.0, tree_of c.in_ok-entry.entry.1)
+          (found_more l.found.items c.push.new.self.items c.in_ok-entry.entry c.in_ok-push.ensures.items) read path h),
+    )
+
+pub parts::read_pairs-returns-in_err-entry-clause-placed : goal.parts::read_pairs-returns-in_err-entry-clause-placed
+parts::read_pairs-returns-in_err-entry-clause-placed t c =
+    let l = c.loop-item in
+    let p = err_from_is_err_and c.from_residual-in_err-entry.result c.from_residual-in_err-entry.ensures.1 in
+    rw (p.1, p.2) (placed_on c.args.registry.now _ _ c.in_err-entry.field-0.0 l.invariant.1 (entry_placed c.args.registry.now c.args.left (shape_of c.args.key.now) (shape_of c.args.content.now) (length l.found.items) (into_iter_items l.item-iterator) (into_iter_items c.next.new.self) c.in-Some.item c.in-Some.ensures.steps.0
+    (λ e. (tree_of e.0, tree_of e.1)) c.read_entry-outcome.result c.in_err-entry.field-0.0 (record { tells = c.read_entry-outcome.ensures.tells; placed = c.read_entry-outcome.ensures.placed }) (outside_at (length l.found.items) c.len-in-loop-item.result _ _ (omega (arith, c.len-in-loop-item.ensures, l.found.ok)) (record { same = c.in_err-entry.ensures.same; way = c.in_err-entry.ensures.way }))))
+
+pub parts::read_pairs-returns-clause-tells : goal.parts::read_pairs-returns-clause-tells
+parts::read_pairs-returns-clause-tells t c =
+    let l = c.loop-item in
+    l.invariant.0
+    ∙ pairs_done (read_data c.args.registry.now c.args.left (of (shape_of c.args.key.now))) (read_data c.args.registry.now c.args.left (of (shape_of c.args.content.now))) (into_iter_items l.item-iterator) l.found.items
+    (nil_from_length (into_iter_items l.item-iterator) (omega (arith, l.item-iterator.rest.ok, c.in-None.ensures.steps.0)))
+
+pub parts::read_entry-returns-in_err-name-clause-placed : goal.parts::read_entry-returns-in_err-name-clause-placed
+parts::read_entry-returns-in_err-name-clause-placed t c =
+    let p = err_from_is_err_and c.from_residual-in_err-name.result c.from_residual-in_err-name.ensures.1 in
+    rw (p.1, p.2) (key_placed c.args.registry.now c.args.left (shape_of c.args.key.now) (shape_of c.args.content.now) (view c.args.json) (view c.in_ok-first.first) (view c.in_ok-first.second) c.in_ok-first.ensures.ok tree_of c.read.result c.in_err-name.field-0.0
+    (record { tells = c.read.ensures.tells; placed = c.read.ensures.placed }) (record { same = c.in_err-name.ensures.same; way = c.in_err-name.ensures.way }))
+
+pub parts::read_entry-returns-in_err-value-clause-placed : goal.parts::read_entry-returns-in_err-value-clause-placed
+parts::read_entry-returns-in_err-value-clause-placed t c =
+    let p = err_from_is_err_and c.from_residual-in_err-value.result c.from_residual-in_err-value.ensures.1 in
+    rw (p.1, p.2) (value_placed c.args.registry.now c.args.left (shape_of c.args.key.now) (shape_of c.args.content.now) (view c.args.json) (view c.in_ok-first.first) (view c.in_ok-first.second) c.in_ok-first.ensures.ok tree_of c.read-2.result c.in_err-value.field-0.0 (tree_of c.in_ok-name.name)
+    (told_ok tree_of c.read.result _ c.in_ok-name.name c.in_ok-name.ensures.same c.read.ensures.tells)
+    (record { tells = c.read-2.ensures.tells; placed = c.read-2.ensures.placed }) (record { same = c.in_err-value.ensures.same; way = c.in_err-value.ensures.way }))
+
+pub parts::read_fields-read-outcome-requires : goal.parts::read_fields-read-outcome-requires
+parts::read_fields-read-outcome-requires t c =
+    let xs = c.args.fields.now in
+    let x = c.field-item.result in
+    let rest = drop (c.loop-field.field-index + 1) xs in
+    let here : drop c.loop-field.field-index xs ≡ x ∷ rest = drop_more xs c.loop-field.field-index x (omega (arith, c.loop-field-test.true)) ∙ ap (λ y. y ∷ rest) (sym c.field-item.is) in
+    (omega (arith, field_levels_here xs c.loop-field.field-index x rest here), tt)
 
 pub parts::read_fields-loop-field-preserved : goal.parts::read_fields-loop-field-preserved
 parts::read_fields-loop-field-preserved t c =
     let l = c.loop-field in
     let xs = c.args.fields.now in
     let x = c.field-item.result in
-    let rest = drop (l.field-index + 1) xs in
-    let here : drop l.field-index xs ≡ x ∷ rest = drop_more xs l.field-index x (omega (arith, c.loop-field-test.true)) ∙ ap (λ y. y ∷ rest) (sym c.field-item.is) in
-    let named = read_named c.args.registry.now c.args.left in
+    let rest = drop (c.loop-field.field-index + 1) xs in
+    let here : drop c.loop-field.field-index xs ≡ x ∷ rest = drop_more xs c.loop-field.field-index x (omega (arith, c.loop-field-test.true)) ∙ ap (λ y. y ∷ rest) (sym c.field-item.is) in
     let ms = members_view l.members.entries in
+    let found = ap (λ s. get_member s ms) (sym c.as_str.ensures.value) ∙ c.in_ok-member.ensures.ok in
+    let named = (read_named c.args.registry.now c.args.left) in
     let less = members_view c.take_field.new.members.entries in
-    let found = ap (λ s. get_member s ms) (sym c.as_str.ensures.value) ∙ c.in_ok-member.ensures.ok in
     let left = c.in_ok-member.ensures.left ∙ ap (λ s. without s ms) c.as_str.ensures.value in
-    l.invariant
-    ∙ field_more named x rest (drop l.field-index xs) here ms l.found.items less (view c.in_ok-member.member) c.in_ok-read.field-0 found left c.in_ok-read.ensures
-    ∙ ap (λ (vs : List Value). follow (read_fields named (map field_of rest) less) (λ ts. Ok (joined vs ts))) (sym c.in_ok-push.ensures.items)
+    let read = (told_ok tree_of c.read-outcome.result _ c.in_ok-value.value c.in_ok-value.ensures.same c.read-outcome.ensures.tells) in (
+      l.invariant.0
+          ∙ field_more named x rest (drop l.field-index xs) here ms l.found.items less (view c.in_ok-member.member) c.in_ok-value.value found left read
+          ∙ ap (λ (vs : List Value). follow (read_fields named (map field_of rest) less) (λ ts. Ok (joined vs ts))) (sym c.in_ok-push.ensures.items),
+      λ path h. l.invariant.1 path (field_onward c.args.registry.now c.args.left x rest (drop l.field-index xs) here ms (view c.in_ok-member.member) found less (tree_of c.in_ok-value.value) left read path h),
+    )
 
-pub parts::read_fields-returns-in_err-read : goal.parts::read_fields-returns-in_err-read
-parts::read_fields-returns-in_err-read t c =
+pub parts::read_fields-returns-in_err-value-clause-placed : goal.parts::read_fields-returns-in_err-value-clause-placed
+parts::read_fields-returns-in_err-value-clause-placed t c =
     let l = c.loop-field in
     let xs = c.args.fields.now in
     let x = c.field-item.result in
-    let rest = drop (l.field-index + 1) xs in
-    let here : drop l.field-index xs ≡ x ∷ rest = drop_more xs l.field-index x (omega (arith, c.loop-field-test.true)) ∙ ap (λ y. y ∷ rest) (sym c.field-item.is) in
+    let rest = drop (c.loop-field.field-index + 1) xs in
+    let here : drop c.loop-field.field-index xs ≡ x ∷ rest = drop_more xs c.loop-field.field-index x (omega (arith, c.loop-field-test.true)) ∙ ap (λ y. y ∷ rest) (sym c.field-item.is) in
     let ms = members_view l.members.entries in
     let found = ap (λ s. get_member s ms) (sym c.as_str.ensures.value) ∙ c.in_ok-member.ensures.ok in
-    let p = err_from_is_err_and c.from_residual-in_err-read.result c.from_residual-in_err-read.ensures.1 in
-    rw (p.1, p.2) (λ other. l.invariant
-    ∙ field_fault (read_named c.args.registry.now c.args.left) x rest (drop l.field-index xs) here ms l.found.items (view c.in_ok-member.member) _ found (c.in_err-read.ensures other))
+    let p = err_from_is_err_and c.from_residual-in_err-value.result c.from_residual-in_err-value.ensures.1 in
+    rw (p.1, p.2) (placed_on c.args.registry.now _ _ c.in_err-value.field-0.0 l.invariant.1 (field_placed c.args.registry.now c.args.left x rest (drop l.field-index xs) here ms (view c.in_ok-member.member) found
+    tree_of c.read-outcome.result c.in_err-value.field-0.0 (record { tells = c.read-outcome.ensures.tells; placed = c.read-outcome.ensures.placed }) (outside_named _ _ _ _ c.as_str-in-loop-field.ensures.value (record { same = c.in_err-value.ensures.same; way = c.in_err-value.ensures.way }))))
 
-pub parts::read_fields-returns-in_err-member : goal.parts::read_fields-returns-in_err-member
-parts::read_fields-returns-in_err-member t c =
+pub parts::read_fields-returns-in_err-member-clause-placed : goal.parts::read_fields-returns-in_err-member-clause-placed
+parts::read_fields-returns-in_err-member-clause-placed t c =
     let l = c.loop-field in
     let xs = c.args.fields.now in
     let x = c.field-item.result in
-    let rest = drop (l.field-index + 1) xs in
-    let here : drop l.field-index xs ≡ x ∷ rest = drop_more xs l.field-index x (omega (arith, c.loop-field-test.true)) ∙ ap (λ y. y ∷ rest) (sym c.field-item.is) in
+    let rest = drop (c.loop-field.field-index + 1) xs in
+    let here : drop c.loop-field.field-index xs ≡ x ∷ rest = drop_more xs c.loop-field.field-index x (omega (arith, c.loop-field-test.true)) ∙ ap (λ y. y ∷ rest) (sym c.field-item.is) in
     let ms = members_view l.members.entries in
-    let none = ap (λ s. get_member s ms) (sym c.as_str.ensures.value) ∙ c.in_err-member.ensures.missing in
     let p = err_from_is_err_and c.from_residual-in_err-member.result c.from_residual-in_err-member.ensures.1 in
-    rw (p.1, p.2) (λ _. l.invariant
-    ∙ field_missing (read_named c.args.registry.now c.args.left) x rest (drop l.field-index xs) here ms l.found.items none ∙ ap Err (sym c.in_err-member.ensures.fault))
+    let none = ap (λ s. get_member s ms) (sym c.as_str.ensures.value) ∙ c.in_err-member.ensures.missing in
+    rw p.1 (placed_on c.args.registry.now _ _ p.0 l.invariant.1 (placed_none c.args.registry.now _ p.0 p.2.1 (missing_none c.args.registry.now c.args.left x rest (drop l.field-index xs) here ms none)))
 
-pub parts::read_fields-returns-in_err-no_member_left : goal.parts::read_fields-returns-in_err-no_member_left
-parts::read_fields-returns-in_err-no_member_left t c =
+pub parts::read_fields-returns-in_err-no_member_left-clause-placed : goal.parts::read_fields-returns-in_err-no_member_left-clause-placed
+parts::read_fields-returns-in_err-no_member_left-clause-placed t c =
     let l = c.loop-field in
     let done = drop_all l.field-index c.args.fields.now c.loop-field-test.false in
     let p = err_from_is_err_and c.from_residual-in_err-no_member_left.result c.from_residual-in_err-no_member_left.ensures.1 in
-    rw (p.1, p.2) (λ _. l.invariant
-    ∙ member_left (read_named c.args.registry.now c.args.left) _ done l.found.items (members_view l.members.entries) c.in_err-no_member_left.ensures.left
-    ∙ ap Err (sym c.in_err-no_member_left.ensures.fault))
+    rw p.1 (placed_on c.args.registry.now _ _ p.0 l.invariant.1 (placed_none c.args.registry.now _ p.0 p.2.1 (ap (λ hs. field_parts c.args.left (map field_of hs) (members_view l.members.entries)) done)))
 
-pub parts::read_fields-returns : goal.parts::read_fields-returns
-parts::read_fields-returns t c =
+pub parts::read_fields-returns-clause-tells : goal.parts::read_fields-returns-clause-tells
+parts::read_fields-returns-clause-tells t c =
     let l = c.loop-field in
     let done = drop_all l.field-index c.args.fields.now c.loop-field-test.false in
-    l.invariant
+    l.invariant.0
     ∙ fields_done (read_named c.args.registry.now c.args.left) _ done l.found.items (members_view l.members.entries) c.in_ok-no_member_left.ensures.ok
-
-pub parts::read_pairs-loop-item-preserved : goal.parts::read_pairs-loop-item-preserved
-parts::read_pairs-loop-item-preserved t c =
-    let l = c.loop-item in
-    let left = into_iter_items c.next.new.self in
-    let k = read_data c.args.registry.now c.args.left (of (shape_of c.args.key.now)) in
-    let v = read_data c.args.registry.now c.args.left (of (shape_of c.args.content.now)) in
-    l.invariant
-    ∙ pair_more k v (into_iter_items l.item-iterator) l.found.items left c.in-Some.item c.in-Some.ensures.steps.0 (view c.in_ok-first.first) (view c.in_ok-first.second) c.in_ok-first.ensures.ok c.in_ok-name.name c.in_ok-value.value c.in_ok-name.ensures c.in_ok-value.ensures
-    ∙ ap (λ (es : List (Value × Value)). follow (read_pairs k v (items_view left)) (λ ps. Ok (joined_pairs es ps))) (sym c.in_ok-push.ensures.items)
-
-pub parts::read_pairs-returns-in_err-first : goal.parts::read_pairs-returns-in_err-first
-parts::read_pairs-returns-in_err-first t c =
-    let l = c.loop-item in
-    let k = read_data c.args.registry.now c.args.left (of (shape_of c.args.key.now)) in
-    let v = read_data c.args.registry.now c.args.left (of (shape_of c.args.content.now)) in
-    let p = err_from_is_err_and c.from_residual-in_err-first.result c.from_residual-in_err-first.ensures.1 in
-    rw (p.1, p.2) (λ other. l.invariant ∙ pair_fault k v (into_iter_items l.item-iterator) l.found.items (into_iter_items c.next.new.self) c.in-Some.item _ c.in-Some.ensures.steps.0 (c.in_err-first.ensures.fault k v))
-
-pub parts::read_pairs-returns-in_err-name : goal.parts::read_pairs-returns-in_err-name
-parts::read_pairs-returns-in_err-name t c =
-    let l = c.loop-item in
-    let k = read_data c.args.registry.now c.args.left (of (shape_of c.args.key.now)) in
-    let v = read_data c.args.registry.now c.args.left (of (shape_of c.args.content.now)) in
-    let p = err_from_is_err_and c.from_residual-in_err-name.result c.from_residual-in_err-name.ensures.1 in
-    rw (p.1, p.2) (λ other. l.invariant ∙ key_fault k v (into_iter_items l.item-iterator) l.found.items (into_iter_items c.next.new.self) c.in-Some.item c.in-Some.ensures.steps.0 (view c.in_ok-first.first) (view c.in_ok-first.second) c.in_ok-first.ensures.ok _ (c.in_err-name.ensures other))
-
-pub parts::read_pairs-returns-in_err-value : goal.parts::read_pairs-returns-in_err-value
-parts::read_pairs-returns-in_err-value t c =
-    let l = c.loop-item in
-    let k = read_data c.args.registry.now c.args.left (of (shape_of c.args.key.now)) in
-    let v = read_data c.args.registry.now c.args.left (of (shape_of c.args.content.now)) in
-    let p = err_from_is_err_and c.from_residual-in_err-value.result c.from_residual-in_err-value.ensures.1 in
-    rw (p.1, p.2) (λ other. l.invariant ∙ value_fault k v (into_iter_items l.item-iterator) l.found.items (into_iter_items c.next.new.self) c.in-Some.item c.in-Some.ensures.steps.0 (view c.in_ok-first.first) (view c.in_ok-first.second) c.in_ok-first.ensures.ok c.in_ok-name.name _ c.in_ok-name.ensures (c.in_err-value.ensures other))
-
-pub parts::read_pairs-returns : goal.parts::read_pairs-returns
-parts::read_pairs-returns t c =
-    let l = c.loop-item in
-    l.invariant
-    ∙ pairs_done (read_data c.args.registry.now c.args.left (of (shape_of c.args.key.now))) (read_data c.args.registry.now c.args.left (of (shape_of c.args.content.now))) (into_iter_items l.item-iterator) l.found.items
-    (nil_from_length (into_iter_items l.item-iterator) (omega (arith, l.item-iterator.rest.ok, c.in-None.ensures.steps.0)))
 
 -- ---- containers
 
@@ -294,8 +382,8 @@ containers::read_content-read_struct-requires t c =
     let same : shapes_levels (field_shapes (map field_of c.deref-in-Struct.result.now)) ≡ shapes_levels (field_shapes fs) = ap (λ gs. shapes_levels (field_shapes (map field_of gs))) c.deref-in-Struct.ensures.value in
     (omega (arith, low, same), tt)
 
-pub containers::read_enum-read_payload-requires : goal.containers::read_enum-read_payload-requires
-containers::read_enum-read_payload-requires t c =
+pub containers::read_enum-read_payload-outcome-requires : goal.containers::read_enum-read_payload-outcome-requires
+containers::read_enum-read_payload-outcome-requires t c =
     let asked = c.requires.1.1 in
     let cs = map choice_of c.args.variants.now.entries in
     let v = c.in_ok-number-in-Member in

@@ -11,6 +11,6 @@ returns c =
     let registry = c.args.asked.now.registry in
     let s = shape_of c.args.asked.now.format in
     let x = c.in_ok-explanation.explanation in
-    IfOk-weaker c.explained.result _ _ (λ a is input within gives. same_answer work input (explained_status x.stop) a.status (explained_text work.style.form x.text.items x.stop) a.output.items is.0 is.1
+    IfOk-weaker c.explained.result _ _ (λ a is input within gives. same_answer work input a (explained_status x.stop) (explained_text work.style.form x.text.items x.stop) is
     (explains work input registry s c.args.bytes.now x.text.items x.stop (is_asked work input Explain registry s c.requires.command c.requires.asks within) gives
     c.in_ok-explanation.ensures)) c.explained.ensures

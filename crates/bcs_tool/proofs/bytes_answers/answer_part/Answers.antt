@@ -3,9 +3,9 @@ use Rattle.std.proofs.lemmas.Result.{IfOk-weaker}
 use Rattle.bcs_registry_formats.specs.View.{shape_of}
 use Rattle.bcs_decode_parts.specs.Steps.{step_of}
 use Rattle.bcs_tool_path.specs.PathSteps.{all_spelled}
-use Rattle.bcs_tool.specs.Answers.{front_stopped, printed, printed_none, stop_line}
+use Rattle.bcs_tool.specs.Answers.{printed, printed_none}
 use Rattle.bcs_tool_line.specs.declared.command.Command.TheVariants.{Part}
-use Rattle.bcs_tool.proofs.AnswerLemmas.{is_asked, same_answer}
+use Rattle.bcs_tool.proofs.AnswerLemmas.{is_asked, part_stop, same_answer}
 use Rattle.bcs_tool.proofs.PartAnswers.{finds, leads_nowhere, spells}
 use Rattle.bcs_tool.proofs.bytes_answers.answer_part.Goals as goal
 
@@ -20,7 +20,7 @@ returns-in-Ok-Some c =
     let led = c.in-Ok-Some.ensures.found in
     let spelled = spells work.command (string_bytes work.path) (all_spelled c.args.asked.now.path.items) path c.requires.command
     (ap (map step_of) c.as_slice-2.ensures.value ∙ c.in_ok-steps.ensures ∙ ap all_spelled c.as_slice.ensures.value) c.requires.path in
-    IfOk-weaker c.found.result _ _ (λ a is input within gives. same_answer work input 0 a.status (printed work.raw part.bytes.now) a.output.items is.0 is.1
+    IfOk-weaker c.found.result _ _ (λ a is input within gives. same_answer work input a 0 (printed work.raw part.bytes.now) is
     (finds work input registry s bytes led.0 led.1 path (is_asked work input Part registry s c.requires.command c.requires.asks within) spelled gives led.2
     c.in-Ok-Some.field-0 part c.in-Ok-Some.field-0-is led.3)) c.found.ensures
 
@@ -34,7 +34,7 @@ returns-in-Ok-None c =
     let led = c.in-Ok-None.ensures.found in
     let spelled = spells work.command (string_bytes work.path) (all_spelled c.args.asked.now.path.items) path c.requires.command
     (ap (map step_of) c.as_slice-2.ensures.value ∙ c.in_ok-steps.ensures ∙ ap all_spelled c.as_slice.ensures.value) c.requires.path in
-    IfOk-weaker c.nowhere.result _ _ (λ a is input within gives. same_answer work input 1 a.status (printed_none work.raw) a.output.items is.0 is.1
+    IfOk-weaker c.nowhere.result _ _ (λ a is input within gives. same_answer work input a 1 (printed_none work.raw) is
     (leads_nowhere work input registry s bytes led.0 led.1 path (is_asked work input Part registry s c.requires.command c.requires.asks within) spelled gives led.2
     c.in-Ok-None.field-0 c.in-Ok-None.field-0-is led.3)) c.nowhere.ensures
 
@@ -44,6 +44,5 @@ returns c =
     let registry = c.args.asked.now.registry in
     let s = shape_of c.args.asked.now.format in
     let stop = c.in-Err.stop in
-    IfOk-weaker c.stopped.result _ _ (λ a is input within gives. same_answer work input 2 a.status (stop_line stop.reason stop.place) a.output.items is.0 is.1
-    (front_stopped registry s c.args.bytes.now stop.reason stop.place (is_asked work input Part registry s c.requires.command c.requires.asks within) gives
-    c.in-Err.ensures.stops)) c.stopped.ensures
+    IfOk-weaker c.answer_stop.result _ _ (λ a is input within gives. part_stop work input registry s c.args.bytes.now gives stop.reason stop.place a is.0 is.1 is.2
+    (is_asked work input Part registry s c.requires.command c.requires.asks within) c.in-Err.ensures.stops) c.answer_stop.ensures

@@ -18,7 +18,7 @@ returns-in-Ok-true c =
     let s = shape_of c.args.asked.now.format in
     let answered = subst (λ (answer : Bool). Compares registry work.limits s c.as_slice-first.result.now text answer) c.in-Ok-true.field-0-test c.in-Ok-true.ensures.compares in
     let compares = subst (λ (first : List ℕ). Compares registry work.limits s first text true) c.as_slice-first.ensures.value answered in
-    IfOk-weaker c.told.result _ _ (λ a is. same_answer work text 0 a.status (line_of (codes "equal")) a.output.items is.0 is.1
+    IfOk-weaker c.told.result _ _ (λ a is. same_answer work text a 0 (line_of (codes "equal")) is
     (equal registry s (is_asked work text Same registry s c.requires.command c.requires.asks c.requires.within) compares)) c.told.ensures
 
 pub returns-in-Ok-false : goal.returns-in-Ok-false
@@ -29,7 +29,7 @@ returns-in-Ok-false c =
     let s = shape_of c.args.asked.now.format in
     let answered = subst (λ (answer : Bool). Compares registry work.limits s c.as_slice-first.result.now text answer) c.in-Ok-false.field-0-test c.in-Ok-false.ensures.compares in
     let compares = subst (λ (first : List ℕ). Compares registry work.limits s first text false) c.as_slice-first.ensures.value answered in
-    IfOk-weaker c.told-in-Ok-false.result _ _ (λ a is. same_answer work text 1 a.status (line_of (codes "different")) a.output.items is.0 is.1
+    IfOk-weaker c.told-in-Ok-false.result _ _ (λ a is. same_answer work text a 1 (line_of (codes "different")) is
     (different registry s (is_asked work text Same registry s c.requires.command c.requires.asks c.requires.within) compares)) c.told-in-Ok-false.ensures
 
 pub returns-in-Err : goal.returns-in-Err
@@ -40,7 +40,7 @@ returns-in-Err c =
     let s = shape_of c.args.asked.now.format in
     let fault = c.in-Err.fault in
     let asked = is_asked work text Same registry s c.requires.command c.requires.asks c.requires.within in
-    IfOk-weaker c.refused_text.result _ _ (λ a is. same_answer work text 2 a.status (refusal_line (json_fault_name fault)) a.output.items is.1 is.2
+    IfOk-weaker c.refused_text.result _ _ (λ a is. same_answer work text a 2 (refusal_line (json_fault_name fault)) is.1
     (refused_texts work text registry s fault asked (subst (λ (first : List ℕ). RefusesText registry work.limits s first fault
     ⊎ (((t : Tree) × Denotes registry work.limits s first t) × RefusesText registry work.limits s text fault)) c.as_slice-first.ensures.value
     (c.in-Err.ensures.fault is.0)))) c.refused_text.ensures

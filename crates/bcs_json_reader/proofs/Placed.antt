@@ -1,0 +1,83 @@
+-- Ways to where JSON is refused, part by part.
+use Rattle.std.proofs.Common.{◌≡◌, ◌≢◌, ◌∙◌, List, [], ◌∷◌, Option, Some, None, Result, Ok, Err, IfSome, All, option_map, refl, ap, sym, subst}
+use Rattle.std.specs.Result.{result_err}
+use Rattle.std.proofs.lemmas.List.Elements.{All-nil}
+use Rattle.bcs_registry_formats.specs.Container.{Entries}
+use Rattle.bcs_json_spec.specs.Place.{Step, Part, parts, fault_at, IsGood, IsPlaceAmong}
+use Rattle.bcs_json_spec.specs.Reading.{Read, Tells}
+use Rattle.bcs_json_spec.specs.declared.json_fault.JsonFault.{JsonFault}
+use Rattle.bcs_json_spec.specs.declared.json_fault.JsonFault.TheVariants.{OutOfMemory}
+use Rattle.bcs_json_spec.proofs.Places.{place-here, place-later}
+use Rattle.bcs_json_reader_steps.specs.Refused.{steps, fault_alone, way_of, IsPlaced}
+use Rattle.bcs_json_reader_steps.specs.declared.refusal.Refusal.{Refusal}
+use Rattle.bcs_json_reader_steps.specs.declared.way.Way.TheVariants.{Here}
+
+-- what was told stays so, seen from outside
+pub told_ok : {X A : Type 0} (see : X → A) (inner : Result X Refusal) (read : Read A) (v : X) → Ok v ≡ fault_alone inner → Tells see (fault_alone inner) read → read ≡ Ok (see v)
+told_ok see inner read v same h = subst (λ y. Tells see y read) (sym same) h
+
+pub told_err : {X A : Type 0} (see : X → A) (inner : Result X Refusal) (read : Read A) (e : JsonFault) → Err e ≡ fault_alone inner → Tells see (fault_alone inner) read → e ≢ OutOfMemory → read ≡ Err e
+told_err see inner read e same h = subst (λ y. Tells see y read) (sym same) h
+
+some_is : {A : Type 0} (x y : A) → Some x ≡ Some y → x ≡ y
+some_is x y h = cc
+
+not_none : {A : Type 0} (x : A) (o : Option A) → o ≡ Some x → o ≡ None → ⊥
+not_none x o h g = cc
+
+err_is : {X : Type 0} (e g : JsonFault) (r : Result X JsonFault) → r ≡ Err e → r ≡ Err g → e ≡ g
+err_is e g r h k = cc
+
+module _ (registry : Entries) where
+  -- a known way leads to the place among these parts
+  abbrev pub IsWay : List Part → Refusal → Type 0
+  IsWay ps r = r.fault ≢ OutOfMemory → IfSome (steps r.way) (λ path. IsPlaceAmong registry path ps)
+
+  -- JSON that is refused for its own kind, or once all of its parts are read
+  pub placed_own : (ps : List Part) (r : Refusal) → r.way ≡ Here → All (IsGood registry) ps → IsWay ps r
+  placed_own ps r here good other = subst (λ w. IfSome (steps w) (λ path. IsPlaceAmong registry path ps)) (sym here) good
+
+  pub placed_none : (ps : List Part) (r : Refusal) → r.way ≡ Here → ps ≡ [] → IsWay ps r
+  placed_none ps r here none = placed_own ps r here (subst (All (IsGood registry)) (sym none) (All-nil (IsGood registry)))
+
+  pub placed_memory : (ps : List Part) (r : Refusal) → r.fault ≡ OutOfMemory → IsWay ps r
+  placed_memory ps r is other = absurd (other is)
+
+  pub way_as : (ps qs : List Part) (r : Refusal) → ps ≡ qs → IsWay qs r → IsWay ps r
+  way_as ps qs r same h = subst (λ os. IsWay os r) (sym same) h
+
+  pub placed_as : {X : Type 0} (ps qs : List Part) (r : Result X Refusal) → ps ≡ qs → IsPlaced registry qs r → IsPlaced registry ps r
+  placed_as ps qs r same h = subst (λ os. IsPlaced registry os r) (sym same) h
+
+  -- from some parts to others
+  pub placed_on : (ps qs : List Part) (r : Refusal) → ((path : List Step) → IsPlaceAmong registry path ps → IsPlaceAmong registry path qs)
+      → IsWay ps r → IsWay qs r
+  placed_on ps qs r on h other = step (steps r.way) (h other)
+    where
+      step : (o : Option (List Step)) → IfSome o (λ path. IsPlaceAmong registry path ps) → IfSome o (λ path. IsPlaceAmong registry path qs)
+      step None g = tt
+      step (Some path) g = on path g
+
+  module _ (p : Part) (ps : List Part) where
+    way_here : (s : Step) → p.step ≡ s → ¬ IsGood registry p → (outer inner : Option (List Step))
+        → IfSome outer (λ path. option_map (λ way. s ∷ way) inner ≡ Some path) → IfSome inner (λ path. IsPlaceAmong registry path (parts registry p.left p.target p.json))
+        → IfSome outer (λ path. IsPlaceAmong registry path (p ∷ ps))
+    way_here s is bad None inner h g = tt
+    way_here s is bad (Some path) None h g = absurd (not_none path None h refl)
+    way_here s is bad (Some path) (Some way) h g =
+        subst (λ w. IsPlaceAmong registry w (p ∷ ps)) (ap (λ t. t ∷ way) is ∙ some_is (s ∷ way) path h) (place-here registry way p ps bad g)
+
+    -- the first part is refused
+    pub placed_here : {X A : Type 0} (see : X → A) (s : Step) (inner : Result X Refusal) (r : Refusal) (read : Read A) → p.step ≡ s → fault_at registry p.left p.target p.json ≡ result_err read
+        → Tells see (fault_alone inner) read → IsPlaced registry (parts registry p.left p.target p.json) inner
+        → Err r.fault ≡ fault_alone inner → IfSome (steps r.way) (λ path. option_map (λ way. s ∷ way) (way_of inner) ≡ Some path)
+        → IsWay (p ∷ ps) r
+    placed_here see s (Ok v) r read is fault tells placed same way other = cc
+    placed_here see s (Err g) r read is fault tells placed same way other =
+        let bad : g.fault ≢ OutOfMemory = subst (λ e. e ≢ OutOfMemory) (err_is r.fault g.fault (fault_alone (Err g)) (sym same) refl) other in
+        way_here s is (not_none g.fault (fault_at registry p.left p.target p.json) (fault ∙ ap result_err (tells bad))) (steps r.way) (steps g.way) way (placed bad)
+
+  -- the first part is read
+  pub read_later : {A : Type 0} (p : Part) (ps : List Part) (read : Read A) (t : A) → fault_at registry p.left p.target p.json ≡ result_err read → read ≡ Ok t
+      → (path : List Step) → IsPlaceAmong registry path ps → IsPlaceAmong registry path (p ∷ ps)
+  read_later p ps read t fault is path h = place-later registry path p ps (fault ∙ ap result_err is) h

@@ -1,0 +1,156 @@
+-- Where JSON is refused: the way down to it, as a JSON Pointer has it (RFC 6901).
+use Rattle.std.specs.Prelude.{◌≡◌, ℕ, zero, suc, List, [], ◌∷◌, codes, Option, None, Some, All, Contains, string_bytes, ◌==◌, if◌then◌else◌}
+use Rattle.std.specs.Option.{option_map_or}
+use Rattle.std.specs.Result.{result_err}
+use Rattle.std.specs.Str.{bytes_eq}
+use Rattle.serde_json.specs.Data.{Data, array, object, Items, no_items, Members, no_members}
+use Rattle.serde_json.specs.Data as json
+use Rattle.serde_json.specs.Find.{get_member}
+use Rattle.bcs_registry_formats.specs.Shape as shape
+use Rattle.bcs_registry_formats.specs.Shape.{Shape, Shapes, no_shapes, shape}
+use Rattle.bcs_registry_formats.specs.Container.{Field, Choice, Entries, choice_called}
+use Rattle.bcs_registry_formats.specs.Grows.{IsFirst}
+use Rattle.bcs_json_spec.specs.JsonContent.{JsonContent, of, fields, one_of, nothing, json_content_at, payload_content}
+use Rattle.bcs_json_spec.specs.Look.{item_count, shape_count, without}
+use Rattle.bcs_json_spec.specs.Reading.{read_pair, read_data}
+use Rattle.bcs_json_spec.specs.Refuses.{Refuses}
+use Rattle.bcs_json_spec.specs.declared.json_fault.JsonFault.{JsonFault}
+use Rattle.bcs_json_spec.specs.declared.json_step.JsonStep.{JsonStep}
+use Rattle.bcs_json_spec.specs.declared.json_step.JsonStep.TheVariants.{Item, Member}
+
+-- to an item by its number, from 0, or to a member by its name
+pub data Step : Type 0 where
+  item : ℕ → Step
+  member : List ℕ → Step
+
+abbrev pub step_of : JsonStep → Step
+step_of (Item n) = item n
+step_of (Member name) = member (string_bytes name)
+
+-- what JSON is to be: a value of what stands there, or a map's entry, which is an array of a key and its value
+pub data Target : Type 0 where
+  value : JsonContent → Target
+  entry : Shape → Shape → Target
+
+-- JSON right inside other JSON: the step to it, how many containers may still open in it, what it is to be, and the JSON
+pub record Part : Type 0 where
+  pub step : Step
+  pub left : ℕ
+  pub target : Target
+  pub json : Data
+
+-- ---- the parts that are looked into, in their order, where all before them are good. JSON that is refused for its own
+-- kind has none
+
+module _ (left : ℕ) where
+  abbrev pub part : Step → JsonContent → Data → Part
+  part s f j = record { step = s; left = left; target = value f; json = j }
+
+  -- the items from the one of this number on
+  abbrev pub item_parts : Shape → ℕ → Items → List Part
+  item_parts s i no_items = []
+  item_parts s i (json.item d ds) = part (item i) (of s) d ∷ item_parts s (suc i) ds
+
+  abbrev pub each_parts : Shapes → ℕ → Items → List Part
+  each_parts (shape s ss) i (json.item d ds) = part (item i) (of s) d ∷ each_parts ss (suc i) ds
+  each_parts (shape s ss) i no_items = []
+  each_parts no_shapes i ds = []
+
+  abbrev pub entry_parts : Shape → Shape → ℕ → Items → List Part
+  entry_parts k v i no_items = []
+  entry_parts k v i (json.item d ds) = record { step = item i; left = left; target = entry k v; json = d } ∷ entry_parts k v (suc i) ds
+
+  -- the fields' members in the registry's order, up to the first field that has none
+  abbrev pub field_parts : List Field → Members → List Part
+  field_parts [] ms = []
+  field_parts (f ∷ fs) ms = option_map_or (λ d. part (member f.0) (of f.1) d ∷ field_parts fs (without f.0 ms)) (get_member f.0 ms) []
+
+  abbrev pub option_parts : Shape → Data → List Part
+  option_parts s (object (json.member k d no_members)) = if bytes_eq k (codes "some") then part (member k) (of s) d ∷ [] else []
+  option_parts s _ = []
+
+  abbrev pub seq_parts : Shape → Data → List Part
+  seq_parts s (array ds) = item_parts s 0 ds
+  seq_parts s _ = []
+
+  abbrev pub map_parts : Shape → Shape → Data → List Part
+  map_parts k v (array ds) = entry_parts k v 0 ds
+  map_parts k v _ = []
+
+  abbrev pub tuple_parts : Shapes → Data → List Part
+  tuple_parts ss (array ds) = if item_count ds == shape_count ss then each_parts ss 0 ds else []
+  tuple_parts ss _ = []
+
+  abbrev pub array_parts : Shape → ℕ → Data → List Part
+  array_parts s n (array ds) = if item_count ds == n then item_parts s 0 ds else []
+  array_parts s n _ = []
+
+  abbrev pub struct_parts : List Field → Data → List Part
+  struct_parts fs (object ms) = field_parts fs ms
+  struct_parts fs _ = []
+
+  -- what the variant of this name carries
+  abbrev pub enum_parts : List Choice → Data → List Part
+  enum_parts cs (object (json.member word d no_members)) = option_map_or (λ c. part (member word) (payload_content c.1.1) d ∷ []) (choice_called word cs) []
+  enum_parts cs _ = []
+
+  -- the key and the value
+  abbrev pub pair_parts : Shape → Shape → Data → List Part
+  pair_parts k v (array (json.item a (json.item b no_items))) = part (item 0) (of k) a ∷ part (item 1) (of v) b ∷ []
+  pair_parts k v _ = []
+
+  -- a name has no step of its own: it has the parts of what stands inside
+  module _ (named : List ℕ → Data → List Part) where
+    abbrev pub shape_parts : Shape → Data → List Part
+    shape_parts (shape.name n) = named n
+    shape_parts (shape.option s) = option_parts s
+    shape_parts (shape.seq s) = seq_parts s
+    shape_parts (shape.map k v) = map_parts k v
+    shape_parts (shape.tuple ss) = tuple_parts ss
+    shape_parts (shape.array s n) = array_parts s n
+    shape_parts _ = λ j. []
+
+    abbrev pub content_parts : JsonContent → Data → List Part
+    content_parts (of s) = shape_parts s
+    content_parts (fields fs) = struct_parts fs
+    content_parts (one_of cs) = enum_parts cs
+    content_parts nothing = λ j. []
+
+module _ (registry : Entries) where
+  -- what stands under a name, in which one container less may open
+  abbrev pub named_parts : ℕ → List ℕ → Data → List Part
+  named_parts zero n j = []
+  named_parts (suc d) n j = content_parts d (named_parts d) (json_content_at n registry) j
+
+  abbrev pub parts : ℕ → Target → Data → List Part
+  parts d (value f) = content_parts d (named_parts d) f
+  parts d (entry k v) = pair_parts d k v
+
+  -- ---- the place
+
+  -- what JSON is refused with, if it is
+  abbrev pub fault_at : ℕ → Target → Data → Option JsonFault
+  fault_at d (value f) j = result_err (read_data registry d f j)
+  fault_at d (entry k v) j = result_err (read_pair (read_data registry d (of k)) (read_data registry d (of v)) j)
+
+  abbrev pub IsGood : Part → Type 0
+  IsGood p = fault_at p.left p.target p.json ≡ None
+
+  -- the way leads to the first of the parts that is refused, on to the first of its own parts that is, and so on, until
+  -- none is
+  abbrev pub IsPlaceAmong : List Step → List Part → Type 0
+  IsPlaceAmong [] ps = All IsGood ps
+  IsPlaceAmong (s ∷ path) ps = IsFirst IsGood (λ p. ¬ IsGood p × (p.step ≡ s) × IsPlaceAmong path (parts p.left p.target p.json)) ps
+
+  abbrev pub IsPlaceOf : ℕ → Target → Data → List Step → Type 0
+  IsPlaceOf d t j path = IsPlaceAmong path (parts d t j)
+
+  -- the JSON is refused with this fault, where at most so many containers may be open at once, and this way leads to
+  -- where it is
+  abbrev pub RefusesAt : ℕ → JsonContent → Data → List Step → JsonFault → Type 0
+  RefusesAt d f j path e = Refuses registry d f j e × IsPlaceOf d (value f) j path
+
+  -- at the end of the way the JSON is refused with this fault, and no part of it is refused
+  abbrev pub IsRefusedAlone : JsonFault → List Step → ℕ → Target → Data → Type 0
+  IsRefusedAlone e [] d t j = (fault_at d t j ≡ Some e) × All IsGood (parts d t j)
+  IsRefusedAlone e (s ∷ path) d t j = (p : Part) × Contains (parts d t j) p × (p.step ≡ s) × IsRefusedAlone e path p.left p.target p.json
