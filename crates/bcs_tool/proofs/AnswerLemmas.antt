@@ -1,6 +1,7 @@
 -- An answer of an equal status and equal output; which content there may be; and what is asked of an input.
 use Rattle.std.specs.Io.KnownBytes.{Consumes, IsAtEnd}
-use Rattle.std.proofs.Common.{ap, append-nil, ◌++◌, ◌∙◌, ◌≡◌, ◌≢◌, ◌≤◌, ◌<◌, ◌⊎◌, Err, Ok, arith, inl, inr, ℕ, List, [], IfSome, Option, Some, None, length, refl, sym, subst, true}
+use Rattle.std.proofs.Common.{ap, append-nil, ◌++◌, ◌∙◌, ◌≡◌, ◌≢◌, ◌≤◌, ◌<◌, ◌⊎◌, Err, Ok, arith, inl, inr, ℕ, List, [], IfOk, IfSome, Option, Result, Some, None, length, refl, sym, subst, true}
+use Rattle.std.specs.Result.{result_ok}
 use Rattle.bcs_registry_formats.specs.Container.{Entries}
 use Rattle.bcs_registry_formats.specs.Shape.{Shape}
 use Rattle.bcs_value_tree.specs.Tree.{Tree}
@@ -24,7 +25,7 @@ use Rattle.hex.specs.declared.error.FromHexError.TheVariants.{OutOfMemory}
 use Rattle.bcs_json_spec.specs.FaultNames.{json_fault_name}
 use Rattle.bcs_tool.specs.Answers.{Answers, IsAsked, IsOneText, checked, damaged, decoded, different, encoded, equal, explained, explained_status, explained_text, first_refused, found, front_stopped, grown, no_bytes, normalised, nowhere, refusal_line, refused, refused_early, second_refused, stop_line, stopped, too_nested}
 use Rattle.bcs_tool.specs.Places as places
-use Rattle.bcs_tool.specs.Places.{IsAnswer, Places, Prints, TellsStop, TellsText, TellsWords}
+use Rattle.bcs_tool.specs.Places.{IsAnswer, Places, Prints, TellsPair, TellsStop, TellsText, TellsWords}
 use Rattle.bcs_tool.specs.declared.answer.Answer.{Answer}
 use Rattle.bcs_tool.specs.Input.{Gives}
 use Rattle.bcs_tool.specs.Judging.{Asks, RefusesAt, RefusesEarly, RefusesFormatted, RefusesPart, job_fault_name, works_on_values}
@@ -84,7 +85,15 @@ module _ (work : Work) (input : List ℕ) (command : Command) (registry : Entrie
     where
       go : TellsText work registry s input b.place.items → Places work input b.place.items
       go (inl none) = places.nothing none
-      go (inr told) = places.misspelled command registry s told.0 one asked told.1
+      go (inr told) = places.text_refused command registry s told.0 one asked told.1
+
+pub if_some_holds : {T : Type 0} (P : T → Type 0) (x : Option T) (t : T) → x ≡ Some t → IfSome x P → P t
+if_some_holds P x t is h = subst (λ y. IfSome y P) is h
+
+-- what is known where a call is done is known where its fault is let go
+pub if_ok_some : {T E : Type 0} (P Q : T → Type 0) → ((t : T) → P t → Q t) → (r : Result T E) → IfOk r P → IfSome (result_ok r) Q
+if_ok_some P Q f (Ok t) h = f t h
+if_ok_some P Q f (Err e) h = tt
 
 pub if_some_weaker : {T : Type 0} (P Q : T → Type 0) → ((t : T) → P t → Q t) → (x : Option T) → IfSome x P → IfSome x Q
 if_some_weaker P Q f None h = h
@@ -106,12 +115,27 @@ pub is_asked : (work : Work) (input : List ℕ) (asked : Command) (registry : En
 is_asked work input asked registry s command asks within = record { is_command = command; asks = asks; within = within }
 
 -- of two texts the first is refused, or the second after it
-pub refused_texts : (work : Work) (input : List ℕ) (registry : Entries) (s : Shape) (fault : JsonFault) → IsAsked work input Same registry s
+refused_texts : (work : Work) (input : List ℕ) (registry : Entries) (s : Shape) (fault : JsonFault) → IsAsked work input Same registry s
     → RefusesText registry work.limits s work.second.items fault
     ⊎ (((t : Tree) × Denotes registry work.limits s work.second.items t) × RefusesText registry work.limits s input fault)
     → Answers work input 2 (refusal_line (json_fault_name fault))
 refused_texts work input registry s fault asked (inl first) = first_refused registry s fault asked first
 refused_texts work input registry s fault asked (inr both) = second_refused registry s both.0.0 fault asked both.0.1 both.1
+
+-- and with the place of that
+pub pair_answer : (work : Work) (input : List ℕ) (registry : Entries) (s : Shape) (fault : JsonFault) (a b : Answer) → IsAsked work input Same registry s
+    → RefusesText registry work.limits s work.second.items fault
+    ⊎ (((t : Tree) × Denotes registry work.limits s work.second.items t) × RefusesText registry work.limits s input fault)
+    → Prints a 2 (refusal_line (json_fault_name fault)) → b.status ≡ a.status → b.output.items ≡ a.output.items
+    → TellsPair work registry s input b.place.items → IsAnswer work input b
+pair_answer work input registry s fault a b asked refuses prints status output tells = (
+  same_print work input 2 b.status _ b.output.items (status ∙ prints.same_status) (output ∙ prints.same_output) (refused_texts work input registry s fault asked refuses),
+  go tells,
+)
+  where
+    go : TellsPair work registry s input b.place.items → Places work input b.place.items
+    go (inl none) = places.nothing none
+    go (inr told) = places.pair_refused registry s told.0 asked told.1
 
 refuses_part : (work : Work) (fault : JobFault) → RefusesFormatted work fault → RefusesPart work fault
 refuses_part work (Registry e) h = h

@@ -1,6 +1,6 @@
 -- What a stream was told: a text in one piece or in two, or a front of it.
-use Rattle.std.proofs.Common.{◌≡◌, ◌<◌, ◌+◌, ◌++◌, ◌⊎◌, ◌∙◌, Ok, Err, Result, ap, arith, codes, inl, inr, refl, ℕ, List, [], Bool, false, true≢false, Option, Some, None, is_some, length, length-append, sym, subst, take}
-use Rattle.std.specs.Prelude.{String}
+use Rattle.std.proofs.Common.{◌≡◌, ◌≢◌, ◌<◌, ◌+◌, ◌++◌, ◌⊎◌, ◌∙◌, Ok, Err, Result, ap, arith, codes, inl, inr, refl, ℕ, List, [], Bool, false, true≢false, Option, Some, None, is_some, length, length-append, option_map, sym, subst, take}
+use Rattle.std.specs.Prelude.{String, string_bytes}
 use Rattle.std.specs.Str.{bytes_eq}
 use Rattle.std.specs.declared.alloc.Global.{Global}
 use Rattle.std.proofs.lemmas.Slice.Eq.{bytes_eq-Decides}
@@ -13,15 +13,17 @@ use Rattle.bcs_io.proofs.TakingLemmas.{Lost-then, Took-then}
 use Rattle.bcs_tool_line.specs.declared.job.Job.{Job}
 use Rattle.bcs_tool_line.specs.declared.line_fault.LineFault.{LineFault}
 use Rattle.bcs_tool_line.specs.declared.line_fault.LineFault.TheVariants.{Usage, Help, OutOfMemory}
+use Rattle.bcs_tool_files.specs.FaultPlaces.{TellsPlace, file_place}
 use Rattle.bcs_tool_files.specs.Files.{HasLargeFile, IsContent, IsFaultOfFiles, IsWorkOf, file_note, size_limit}
 use Rattle.bcs_tool_files.specs.declared.file_fault.FileFault.{FileFault}
 use Rattle.bcs_tool_files.specs.declared.file_fault.FileFault.TheVariants.{Open, Take}
+use Rattle.bcs_tool_files.specs.declared.open_cause.OpenCause.{OpenCause}
 use Rattle.bcs_tool_files.specs.declared.taking.TakeFault.TheVariants as fault
 use Rattle.bcs_tool_files.specs.declared.work.Outcome.{Outcome}
 use Rattle.bcs_tool_files.specs.declared.work.Work.{Work}
 use Rattle.bcs_tool.specs.Answers.{Answers, IsFaultNote}
 use Rattle.bcs_tool.specs.Places.{Places}
-use Rattle.bcs_tool.specs.Endings.{HasAnswer, HasPlacedAnswer, IsNote, Performs, PutFront, ReadsNoFile, TellsFault, IsInput, Told}
+use Rattle.bcs_tool.specs.Endings.{HasAnswer, HasPlacedAnswer, IsNote, NamesFile, Performs, PutFront, ReadsNoFile, TellsFault, TellsFile, IsInput, Told}
 
 module _ {K : Type 0} (taken : K → Option (List ℕ)) (is_failed : K → Bool) where
   -- a text that is put, or else in part
@@ -98,6 +100,11 @@ module _ {F : Type 0} (remaining : F → Option (List ℕ)) where
   pub names_file : (job : Job) (work : Work) (file : Option (String Global)) (name : String Global) → IsWorkOf remaining job work file → file ≡ Some name → ReadsNoFile job → ⊥
   names_file job work file name is some no_file = true≢false (ap is_some (sym some ∙ (is.input ∙ no_file.1)))
 
+  -- it names that one, as its input's
+  pub names_input : (job : Job) (work : Work) (file : Option (String Global)) (name : String Global) → IsWorkOf remaining job work file → file ≡ Some name
+      → NamesFile job (string_bytes name)
+  names_input job work file name is some = inr (ap (option_map string_bytes) (sym is.input ∙ some))
+
 -- a run opens no file
 pub opens_none : (outcome : Outcome) → (outcome.status < 3) ⊎ (outcome.status ≡ 4) → (outcome.status < 3 → outcome.note.now ≡ [])
     → (outcome.status ≡ 4 → IsFaultNote outcome.note.now) → outcome.note.now ≡ codes "fault: open" → ⊥
@@ -123,23 +130,24 @@ too_many_given (Some xs) None bytes given many = absurd given
 too_many_given (Some xs) (Some ys) bytes given many = omega (arith, many, ap (λ all. length all) given, length-append bytes ys)
 
 is_note : (f : FileFault) → IsNote (file_note f)
-is_note Open = inl refl
+is_note (Open cause) = inl refl
 is_note (Take fault.Read) = inr (inl refl)
 is_note (Take fault.TooLarge) = inr (inr (inr (inr refl)))
 is_note (Take fault.OutOfMemory) = inr (inr (inr (inl refl)))
 
 not_write : (f : FileFault) → file_note f ≡ codes "fault: write" → ⊥
-not_write Open e = differ (codes "fault: open") (codes "fault: write") refl e
+not_write (Open cause) e = differ (codes "fault: open") (codes "fault: write") refl e
 not_write (Take fault.Read) e = differ (codes "fault: read") (codes "fault: write") refl e
 not_write (Take fault.TooLarge) e = differ (codes "fault: too large") (codes "fault: write") refl e
 not_write (Take fault.OutOfMemory) e = differ (codes "fault: memory") (codes "fault: write") refl e
 
 module _ {S O F : Type 0} (content : S → Option (List ℕ)) (has_stopped : S → Bool) (allowance : S → ℕ)
     (taken : O → Option (List ℕ)) (is_failed : O → Bool) (remaining : F → Option (List ℕ)) where
-  pub no_answer : (job : Job) (input : S) (out : O) (outcome : Outcome) (f : FileFault) → outcome.status ≡ 4
-      → outcome.place.items ≡ [] → outcome.note.now ≡ file_note f → (ReadsNoFile job → f ≡ Take fault.OutOfMemory) → IsFaultOfFiles remaining f
+  pub no_answer : (job : Job) (input : S) (out : O) (outcome : Outcome) (f : FileFault) (name : List ℕ) → outcome.status ≡ 4
+      → outcome.note.now ≡ file_note f → (ReadsNoFile job → f ≡ Take fault.OutOfMemory) → IsFaultOfFiles remaining f
+      → (f ≢ Take fault.OutOfMemory → NamesFile job name) → TellsPlace job.quiet (file_place f name) outcome.place.items
       → Performs content has_stopped allowance taken is_failed remaining job input input out out outcome
-  no_answer job input out outcome f is unplaced note none known =
+  no_answer job input out outcome f name is note none known names tells =
       let memory : ReadsNoFile job → outcome.note.now ≡ codes "fault: memory" = λ no_file. note ∙ ap file_note (none no_file) in
       let named : (text : List ℕ) → bytes_eq (codes "fault: memory") text ≡ false → outcome.note.now ≡ text → ¬ ReadsNoFile job =
       λ text other e no_file. differ (codes "fault: memory") text other (sym (memory no_file) ∙ e) in
@@ -147,27 +155,46 @@ module _ {S O F : Type 0} (content : S → Option (List ℕ)) (has_stopped : S �
         status = inr is;
         answered = λ below. absurd (omega (arith, is, below));
         noted = λ _. subst P (sym note) (is_note f);
-        unplaced = λ _. unplaced;
         apart = λ _. refl;
         untouched = λ _. refl;
-        unopened = λ e. (named (codes "fault: open") refl e, refl, refl);
-        read = λ e. (refl, inr (named (codes "fault: read") refl e, not_read f (sym note ∙ e) known));
-        too_large = λ e. (refl, inr (named (codes "fault: too large") refl e, is_large f (sym note ∙ e) known));
-        memory = λ e. (refl, inl refl);
+        unopened = λ e. (named (codes "fault: open") refl e, refl, refl, not_open f (sym note ∙ e) names tells);
+        read = λ e.
+            let r = not_read f (sym note ∙ e) known names tells in
+            (refl, inr (named (codes "fault: read") refl e, r.0, r.1));
+        too_large = λ e.
+            let l = is_large f (sym note ∙ e) known names tells in
+            (refl, inr (named (codes "fault: too large") refl e, l.0, l.1));
+        memory = λ e. (refl, inl refl, has_none f (sym note ∙ e) tells);
         write = λ e. absurd (not_write f (sym note ∙ e));
       }
     where
-      not_read : (f : FileFault) → file_note f ≡ codes "fault: read" → IsFaultOfFiles remaining f → F
-      not_read Open e known = absurd (differ (codes "fault: open") (codes "fault: read") refl e)
-      not_read (Take fault.Read) e known = known
-      not_read (Take fault.TooLarge) e known = absurd (differ (codes "fault: too large") (codes "fault: read") refl e)
-      not_read (Take fault.OutOfMemory) e known = absurd (differ (codes "fault: memory") (codes "fault: read") refl e)
+      not_open : (f : FileFault) → file_note f ≡ codes "fault: open" → (f ≢ Take fault.OutOfMemory → NamesFile job name)
+          → TellsPlace job.quiet (file_place f name) outcome.place.items → (cause : OpenCause) × TellsFile job (Open cause) outcome.place.items
+      not_open (Open cause) e names tells = (cause, (name, names (λ same. cc), tells))
+      not_open (Take fault.Read) e names tells = absurd (differ (codes "fault: read") (codes "fault: open") refl e)
+      not_open (Take fault.TooLarge) e names tells = absurd (differ (codes "fault: too large") (codes "fault: open") refl e)
+      not_open (Take fault.OutOfMemory) e names tells = absurd (differ (codes "fault: memory") (codes "fault: open") refl e)
 
-      is_large : (f : FileFault) → file_note f ≡ codes "fault: too large" → IsFaultOfFiles remaining f → HasLargeFile remaining
-      is_large Open e known = absurd (differ (codes "fault: open") (codes "fault: too large") refl e)
-      is_large (Take fault.Read) e known = absurd (differ (codes "fault: read") (codes "fault: too large") refl e)
-      is_large (Take fault.TooLarge) e known = known
-      is_large (Take fault.OutOfMemory) e known = absurd (differ (codes "fault: memory") (codes "fault: too large") refl e)
+      not_read : (f : FileFault) → file_note f ≡ codes "fault: read" → IsFaultOfFiles remaining f → (f ≢ Take fault.OutOfMemory → NamesFile job name)
+          → TellsPlace job.quiet (file_place f name) outcome.place.items → F × TellsFile job (Take fault.Read) outcome.place.items
+      not_read (Open cause) e known names tells = absurd (differ (codes "fault: open") (codes "fault: read") refl e)
+      not_read (Take fault.Read) e known names tells = (known, (name, names (λ same. cc), tells))
+      not_read (Take fault.TooLarge) e known names tells = absurd (differ (codes "fault: too large") (codes "fault: read") refl e)
+      not_read (Take fault.OutOfMemory) e known names tells = absurd (differ (codes "fault: memory") (codes "fault: read") refl e)
+
+      is_large : (f : FileFault) → file_note f ≡ codes "fault: too large" → IsFaultOfFiles remaining f → (f ≢ Take fault.OutOfMemory → NamesFile job name)
+          → TellsPlace job.quiet (file_place f name) outcome.place.items → HasLargeFile remaining × TellsFile job (Take fault.TooLarge) outcome.place.items
+      is_large (Open cause) e known names tells = absurd (differ (codes "fault: open") (codes "fault: too large") refl e)
+      is_large (Take fault.Read) e known names tells = absurd (differ (codes "fault: read") (codes "fault: too large") refl e)
+      is_large (Take fault.TooLarge) e known names tells = (known, (name, names (λ same. cc), tells))
+      is_large (Take fault.OutOfMemory) e known names tells = absurd (differ (codes "fault: memory") (codes "fault: too large") refl e)
+
+      has_none : (f : FileFault) → file_note f ≡ codes "fault: memory" → TellsPlace job.quiet (file_place f name) outcome.place.items → outcome.place.items ≡ []
+      has_none (Open cause) e tells = absurd (differ (codes "fault: open") (codes "fault: memory") refl e)
+      has_none (Take fault.Read) e tells = absurd (differ (codes "fault: read") (codes "fault: memory") refl e)
+      has_none (Take fault.TooLarge) e tells = absurd (differ (codes "fault: too large") (codes "fault: memory") refl e)
+      has_none (Take fault.OutOfMemory) e (inl nothing) = nothing
+      has_none (Take fault.OutOfMemory) e (inr told) = told.1
 
   pub outcome_status : (job : Job) (input input' : S) (out out' : O) (outcome : Outcome) (status : ℕ)
       → Performs content has_stopped allowance taken is_failed remaining job input input' out out' outcome → status ≡ outcome.status → status < 5

@@ -1,5 +1,5 @@
--- Faults that a `?` hands on.
-use Rattle.std.proofs.Common.{◌≡◌, ◌≢◌, ◌∙◌, Result, IfErr, ap, refl, sym, subst}
+-- Faults that a `?` hands on, and commands that work on values.
+use Rattle.std.proofs.Common.{◌≡◌, ◌≢◌, ◌⊎◌, ◌∙◌, Result, IfErr, ap, inl, inr, refl, sym, subst, true}
 use Rattle.std.specs.Result.{IsErrAnd}
 use Rattle.std.proofs.lemmas.Result.{err_from_is_err_and}
 use Rattle.bcs_registry_formats.specs.declared.fault.RegistryFault.{RegistryFault}
@@ -7,7 +7,9 @@ use Rattle.bcs_registry_formats.specs.declared.fault.RegistryFault.TheVariants.{
 use Rattle.bcs_registry_formats.specs.declared.growth_fault.GrowthFault.{GrowthFault}
 use Rattle.bcs_tool_path.specs.declared.path_fault.PathFault.{PathFault}
 use Rattle.bcs_tool_path.specs.declared.path_fault.PathFault.TheVariants as path
-use Rattle.bcs_tool.specs.Judging.{path_job_fault}
+use Rattle.bcs_tool_line.specs.declared.command.Command.{Command}
+use Rattle.bcs_tool_line.specs.declared.command.Command.TheVariants.{Encode, Decode, Explain, Normalise, Same, Part}
+use Rattle.bcs_tool.specs.Judging.{path_job_fault, works_on_values}
 use Rattle.bcs_tool.specs.declared.job_fault.JobFault.{JobFault}
 use Rattle.bcs_tool.specs.declared.job_fault.JobFault.TheVariants.{BadPath, Registry, Growth}
 
@@ -28,3 +30,13 @@ refused_by_path P r path.BadPath is why =
     let p = err_from_is_err_and r is in rw p.1 (λ differs. subst P (sym p.2) (why refl))
 refused_by_path P r path.OutOfMemory is why =
     let p = err_from_is_err_and r is in rw p.1 (λ differs. absurd (differs p.2))
+
+-- a command of one of these works on values
+pub works : (command : Command) → (command ≡ Encode) ⊎ (command ≡ Decode) ⊎ (command ≡ Explain) ⊎ (command ≡ Normalise) ⊎ (command ≡ Same) ⊎ (command ≡ Part)
+    → works_on_values command ≡ true
+works command (inl is) = ap works_on_values is
+works command (inr (inl is)) = ap works_on_values is
+works command (inr (inr (inl is))) = ap works_on_values is
+works command (inr (inr (inr (inl is)))) = ap works_on_values is
+works command (inr (inr (inr (inr (inl is))))) = ap works_on_values is
+works command (inr (inr (inr (inr (inr is))))) = ap works_on_values is

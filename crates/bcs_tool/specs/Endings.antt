@@ -1,12 +1,19 @@
 -- How the program ends: what the standard output and the standard error are told, and its status.
-use Rattle.std.specs.Prelude.{◌≡◌, ◌≢◌, ◌⊎◌, ◌<◌, ◌+◌, ℕ, List, [], Bool, true, Option, Some, None, String, codes, length, take, string_bytes}
+use Rattle.std.specs.Prelude.{◌≡◌, ◌≢◌, ◌⊎◌, ◌<◌, ◌+◌, ◌++◌, ℕ, List, [], Bool, true, Option, Some, None, String, codes, length, option_map, take, string_bytes}
 use Rattle.std.specs.declared.alloc.Global.{Global}
 use Rattle.bcs_io.specs.Taking as sink
 use Rattle.bcs_io.specs.Giving as source
 use Rattle.bcs_tool_line.specs.declared.job.Job.{Job}
 use Rattle.bcs_tool_line.specs.declared.line_fault.LineFault.{LineFault}
 use Rattle.bcs_tool_line.specs.declared.line_fault.LineFault.TheVariants.{Usage, Help, OutOfMemory}
-use Rattle.bcs_tool_files.specs.Files.{HasLargeFile, IsContent, IsWorkOf, NamesNoFile, size_limit}
+use Rattle.bcs_tool_files.specs.FaultPlaces.{TellsPlace, file_place, origin_text, output_text, take_place}
+use Rattle.bcs_tool_files.specs.Files.{HasLargeFile, IsContent, IsWorkOf, NamesForWork, NamesNoFile, size_limit}
+use Rattle.bcs_tool_files.specs.declared.file_fault.FileFault.{FileFault}
+use Rattle.bcs_tool_files.specs.declared.file_fault.FileFault.TheVariants.{Open, Take}
+use Rattle.bcs_tool_files.specs.declared.open_cause.OpenCause.{OpenCause}
+use Rattle.bcs_tool_files.specs.declared.origin.Origin.TheVariants.{StandardInput}
+use Rattle.bcs_tool_files.specs.declared.taking.TakeFault.{TakeFault}
+use Rattle.bcs_tool_files.specs.declared.taking.TakeFault.TheVariants.{Read, TooLarge}
 use Rattle.bcs_tool_files.specs.declared.work.Outcome.{Outcome}
 use Rattle.bcs_tool_files.specs.declared.work.Work.{Work}
 use Rattle.bcs_tool.specs.Answers.{Answers, IsFaultNote, line_of}
@@ -25,12 +32,14 @@ module _ {K : Type 0} (taken : K → Option (List ℕ)) (is_failed : K → Bool)
   abbrev pub Told : K → K → List ℕ → Type 0
   Told old new text = sink.Took taken is_failed old new text ⊎ PutFront old new text
 
-  -- the program ends with the outcome's status, and its note stands on a line of the standard error, or else its place
+  -- the program ends with the outcome's status; its note stands on a line of the standard error, and then its place on one,
+  -- each where it has one
   abbrev pub TellsOutcome : Outcome → K → K → ℕ → Type 0
   TellsOutcome outcome old new status = (status ≡ outcome.status)
       × (outcome.note.now ≡ [] → outcome.place.items ≡ [] → new ≡ old)
-      × (outcome.note.now ≢ [] → Told old new (line_of outcome.note.now))
+      × (outcome.note.now ≢ [] → outcome.place.items ≡ [] → Told old new (line_of outcome.note.now))
       × (outcome.note.now ≡ [] → outcome.place.items ≢ [] → Told old new (line_of outcome.place.items))
+      × (outcome.note.now ≢ [] → outcome.place.items ≢ [] → Told old new (line_of outcome.note.now ++ line_of outcome.place.items))
 
 -- ---- words that are no job
 
@@ -74,6 +83,18 @@ module _ {F : Type 0} (remaining : F → Option (List ℕ)) where
   HasPlacedAnswer job content status output place = (work : Work) × (bytes : List ℕ) × IsWorkOf remaining job work job.file
       × IsInput job.file content bytes × Answers work bytes status output × Places work bytes place
 
+-- the job names the file of this name: for its work, or for its input
+abbrev pub NamesFile : Job → List ℕ → Type 0
+NamesFile job name = NamesForWork job name ⊎ (option_map string_bytes job.file ≡ Some name)
+
+-- the place of a fault of a file that the job names
+abbrev pub TellsFile : Job → FileFault → List ℕ → Type 0
+TellsFile job fault place = (name : List ℕ) × NamesFile job name × TellsPlace job.quiet (file_place fault name) place
+
+-- the place of a fault of the standard input, which the job has
+abbrev pub TellsInput : Job → TakeFault → List ℕ → Type 0
+TellsInput job fault place = (job.file ≡ None) × TellsPlace job.quiet (take_place fault (origin_text StandardInput)) place
+
 -- the note of a job that has no answer
 abbrev pub IsNote : List ℕ → Type 0
 IsNote note = (note ≡ codes "fault: open") ⊎ IsFaultNote note
@@ -87,16 +108,21 @@ module _ {S O F : Type 0} (content : S → Option (List ℕ)) (has_stopped : S �
         × ((output : List ℕ) × HasPlacedAnswer remaining job (content input) outcome.status output outcome.place.items
         × sink.Took taken is_failed out out' output)
     pub noted : outcome.status ≡ 4 → IsNote outcome.note.now
-    pub unplaced : outcome.status ≡ 4 → outcome.place.items ≡ []
     pub apart : job.file ≢ None → input' ≡ input
     -- the input is read only where the work that the files make of the job reads one
     pub untouched : ((work : Work) → IsWorkOf remaining job work job.file → ¬ ReadsInput work) → input' ≡ input
     pub unopened : outcome.note.now ≡ codes "fault: open" → (¬ ReadsNoFile job) × (input' ≡ input) × (out' ≡ out)
-    -- the input failed, or was too large; or a file was that the job names
-    pub read : outcome.note.now ≡ codes "fault: read" → (out' ≡ out) × ((has_stopped input' ≡ true) ⊎ ((¬ ReadsNoFile job) × F))
+        × ((cause : OpenCause) × TellsFile job (Open cause) outcome.place.items)
+    -- the input failed, or was too large; or a file was that the job names; and the place tells which of both
+    pub read : outcome.note.now ≡ codes "fault: read" → (out' ≡ out)
+        × (((has_stopped input' ≡ true) × TellsInput job Read outcome.place.items)
+        ⊎ ((¬ ReadsNoFile job) × F × TellsFile job (Take Read) outcome.place.items))
     pub too_large : outcome.note.now ≡ codes "fault: too large" → (out' ≡ out)
-        × (((bytes : List ℕ) × (length bytes ≡ size_limit + 1) × source.Took content has_stopped allowance input input' bytes)
-        ⊎ ((¬ ReadsNoFile job) × HasLargeFile remaining))
+        × ((((bytes : List ℕ) × (length bytes ≡ size_limit + 1) × source.Took content has_stopped allowance input input' bytes)
+        × TellsInput job TooLarge outcome.place.items)
+        ⊎ ((¬ ReadsNoFile job) × HasLargeFile remaining × TellsFile job (Take TooLarge) outcome.place.items))
     pub memory : outcome.note.now ≡ codes "fault: memory" → (out' ≡ out) × IsUnhurt content has_stopped allowance input input'
+        × (outcome.place.items ≡ [])
     pub write : outcome.note.now ≡ codes "fault: write" → (status : ℕ) × (output : List ℕ)
         × HasAnswer remaining job (content input) status output × PutFront taken is_failed out out' output
+        × TellsPlace job.quiet output_text outcome.place.items

@@ -49,7 +49,7 @@ fn answer_check(alloc: Global, work: &Work) -> Result<Answer, AllocError>
 {
     match judge_check(alloc, work) {
         Ok(count) => counted(alloc, count),
-        Err(fault) => Ok(placed(fault.answer(alloc)?, place_of_words(alloc, work))),
+        Err(fault) => Ok(placed(fault.answer(alloc)?, place_of_words(alloc, work, fault))),
     }
 }
 
@@ -60,7 +60,7 @@ fn answer_growth(alloc: Global, work: &Work) -> Result<Answer, AllocError>
 {
     match judge_growth(alloc, work) {
         Ok(()) => told(alloc, 0, "grows"),
-        Err(fault) => Ok(placed(fault.answer(alloc)?, place_of_words(alloc, work))),
+        Err(fault) => Ok(placed(fault.answer(alloc)?, place_of_words(alloc, work, fault))),
     }
 }
 
@@ -87,6 +87,6 @@ fn answer_asked<S: ByteSource>(
             let bytes = take_all(alloc, input, SIZE_LIMIT)?;
             Ok(answer_values(alloc, work, &asked, bytes.as_slice())?)
         }
-        Err(fault) => Ok(placed(fault.answer(alloc)?, place_of_words(alloc, work))),
+        Err(fault) => Ok(placed(fault.answer(alloc)?, place_of_words(alloc, work, fault))),
     }
 }

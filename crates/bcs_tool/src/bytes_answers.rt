@@ -2,6 +2,7 @@
 ghost use Rattle.std.specs.Prelude.{◌≡◌, ◌≢◌, ◌≤◌, ℕ, List, codes, length, string_bytes, IfOk};
 ghost use Rattle.bcs_registry_formats.specs.View.{shape_of};
 ghost use Rattle.bcs_registry_formats.specs.WellFormed.{Admits};
+ghost use Rattle.bcs_decode_spec.specs.Stopping.{StopsAll};
 ghost use Rattle.bcs_tool_path.specs.PathSteps.{all_spelled};
 ghost use Rattle.bcs_tool_files.specs.Files.{size_limit};
 ghost use Rattle.bcs_tool.specs.Answers.{TakesBytes, refusal_line, stop_line};
@@ -165,10 +166,11 @@ fn answer_stop(
     stop: Stop,
 ) -> Result<Answer, AllocError>
     requires admitted { Admits asked.now.registry (shape_of asked.now.format) }
+    requires stops { StopsAll asked.now.registry work.now.limits (shape_of asked.now.format) bytes.now stop.reason stop.place }
     ensures { IfOk result (λ a. (a.status ≡ 2) × (a.output.items ≡ stop_line stop.reason stop.place)
         × TellsStop work.now asked.now.registry (shape_of asked.now.format) bytes.now a.place.items) }
 {
     let mut answer = stopped(alloc, stop)?;
-    answer.place = place_of_stop(alloc, work, asked, bytes);
+    answer.place = place_of_stop(alloc, work, asked, bytes, stop);
     Ok(answer)
 }

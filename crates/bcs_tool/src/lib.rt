@@ -7,8 +7,10 @@ mod blanks;
 mod bytes_answers;
 mod entry;
 mod job_fault;
+mod json_places;
 mod judging;
 pub mod laws;
+mod pair_places;
 mod places;
 mod responding;
 mod run_fault;
@@ -16,6 +18,7 @@ mod running;
 mod telling;
 mod text_places;
 mod text_refusal;
+mod two_texts;
 mod value_answers;
 mod word_places;
 
@@ -24,7 +27,8 @@ pub use bcs_encode::{ByteSink, WriteSink};
 pub use bcs_explain_columns::style::{Form, Paint, Style};
 pub use bcs_io::put_all;
 pub use bcs_tool_files::{
-    FileFault, Outcome, TakeFault, Work, read_named, read_opened, read_work, take_all,
+    FileFault, FileRefusal, OpenCause, Origin, Outcome, TakeFault, Work, read_named, read_opened,
+    read_work, take_all,
 };
 pub use bcs_tool_line::{Color, Command, Job, LineFault, line};
 pub use entry::{program, start, words_of};

@@ -1,19 +1,22 @@
 //! A command line, its input, and what the standard output and the standard error are told.
-ghost use Rattle.std.specs.Prelude.{◌≡◌, ◌≢◌, ◌⊎◌, ◌<◌, []};
+ghost use Rattle.std.specs.Prelude.{◌≡◌, ◌≢◌, ◌⊎◌, ◌<◌, [], codes};
 ghost use Rattle.clap.specs.Words.{fault_of};
 ghost use Rattle.bcs_tool_words.specs.CommandLine.{bcs_app, texts_of};
 ghost use Rattle.bcs_tool_line.specs.Jobs.{IsJobOf};
 ghost use Rattle.bcs_tool_line.specs.LineFaults.{IsFaultOf};
+ghost use Rattle.bcs_tool_files.specs.FaultPlaces.{TellsPlace, file_place};
 ghost use Rattle.bcs_tool.specs.Endings.{Performs, TellsFault, TellsOutcome};
 
 use crate::running::{failed, run};
 use crate::telling::{tell_fault, tell_outcome};
 use bcs_decode::{ByteSource, ReadSource};
 use bcs_encode::ByteSink;
-use bcs_tool_files::{FileFault, Outcome, read_work};
+use bcs_tool_files::{FileFault, OpenCause, Origin, Outcome, place_of_file, read_work};
 use bcs_tool_line::{Job, LineFault, line};
+use std::alloc::Global;
 use std::env::Env;
 use std::fs::File;
+use std::io::ErrorKind;
 use std::rt::Files;
 
 /// Does what the words ask for, of which the first is the program's own name, and gives the status.
@@ -57,15 +60,33 @@ fn perform<R: Files + Env + AllocGlobal, S: ByteSource, O: ByteSink>(
     ensures { Performs S.content S.is_failed S.allowance O.taken O.is_failed R.File.remaining
         job input.old input.new out.old out.new result }
 {
+    let quiet = job.quiet;
     let (work, file) = match read_work(rt, job) {
         Ok(read) => read,
-        Err(fault) => return failed(rt.alloc(), fault.note()),
+        Err(refusal) => return failed(refusal.fault.note(), refusal.place(rt.alloc(), quiet)),
     };
     let Some(name) = file else {
-        return run(rt.alloc(), &work, input, out);
+        return run(rt.alloc(), &work, Origin::StandardInput, input, out);
     };
-    match File::open(rt, name.as_str()) {
-        Ok(file) => run(rt.alloc(), &work, &mut ReadSource::new(file), out),
-        Err(_) => failed(rt.alloc(), FileFault::Open.note()),
+    let name = name.as_str();
+    match File::open(rt, name) {
+        Ok(file) => run(
+            rt.alloc(),
+            &work,
+            Origin::File(name),
+            &mut ReadSource::new(file),
+            out,
+        ),
+        Err(error) => unopened(rt.alloc(), quiet, name, error.kind()),
     }
+}
+
+// The outcome of a job whose input is a file that was not opened.
+fn unopened(alloc: Global, quiet: bool, name: &str, kind: ErrorKind) -> Outcome
+    ensures status { result.status ≡ 4 }
+    ensures note { result.note.now ≡ codes "fault: open" }
+    ensures place { (cause : OpenCause) × TellsPlace quiet (file_place (FileFault.Open cause) name.now) result.place.items }
+{
+    let fault = FileFault::Open(OpenCause::of(kind));
+    failed(fault.note(), place_of_file(alloc, quiet, fault, name))
 }

@@ -4,6 +4,7 @@ ghost use Rattle.bcs_io.specs.Taking as sink;
 ghost use Rattle.bcs_io.specs.Giving as source;
 ghost use Rattle.bcs_tool.specs.Answers.{Answers, IsFaultNote};
 ghost use Rattle.bcs_tool.specs.Input.{IsUnhurt};
+ghost use Rattle.bcs_tool_files.specs.FaultPlaces.{TellsPlace, origin_text, output_text};
 ghost use Rattle.bcs_tool_files.specs.Files.{IsContent, size_limit};
 ghost use Rattle.bcs_tool.specs.Judging.{ReadsInput};
 ghost use Rattle.bcs_tool.specs.Places.{Places};
@@ -13,13 +14,15 @@ use crate::run_fault::RunFault;
 use bcs_decode::ByteSource;
 use bcs_encode::ByteSink;
 use bcs_io::put_all;
-use bcs_tool_files::{Outcome, TakeFault, Work};
+use bcs_tool_files::{Origin, Outcome, TakeFault, Work, place_of_input, place_of_output};
 use std::alloc::Global;
 
-/// Puts the answer to a job and its input. The whole answer is made before its first byte is put.
+/// Puts the answer to a job and its input, which is this file or the standard input. The whole answer is made before its
+/// first byte is put.
 pub fn run<S: ByteSource, K: ByteSink>(
     alloc: Global,
     work: &Work,
+    origin: Origin<'_>,
     input: &mut S,
     out: &mut K,
 ) -> Outcome
@@ -30,7 +33,6 @@ pub fn run<S: ByteSource, K: ByteSink>(
         × Places work.now bytes result.place.items
         × sink.Took K.taken K.is_failed out.old out.new output) }
     ensures noted { result.status ≡ 4 → IsFaultNote result.note.now }
-    ensures unplaced { result.status ≡ 4 → result.place.items ≡ [] }
 
     // A job that has no input, or that its own words refuse, leaves the input as it was.
     ensures untouched { ¬ ReadsInput work.now → input.new ≡ input.old }
@@ -48,24 +50,33 @@ pub fn run<S: ByteSource, K: ByteSink>(
         × (output : List ℕ) × (n : ℕ) × IsContent (S.content input.old) bytes
         × Answers work.now bytes status output × (n < length output)
         × sink.Lost K.taken K.is_failed out.old out.new (take n output) }
+
+    // The place tells which stream is at fault, if the job isn't quiet; want of memory has none.
+    ensures read_place { result.note.now ≡ codes "fault: read" → TellsPlace work.now.quiet (origin_text origin.entry) result.place.items }
+    ensures large_place { result.note.now ≡ codes "fault: too large" → TellsPlace work.now.quiet (origin_text origin.entry) result.place.items }
+    ensures memory_place { result.note.now ≡ codes "fault: memory" → result.place.items ≡ [] }
+    ensures write_place { result.note.now ≡ codes "fault: write" → TellsPlace work.now.quiet output_text result.place.items }
 {
     match put_answer(alloc, work, input, out) {
         Ok(outcome) => outcome,
-        Err(RunFault::Take(fault)) => failed(alloc, fault.note()),
-        Err(RunFault::Write) => failed(alloc, "fault: write"),
+        Err(RunFault::Take(fault)) => failed(
+            fault.note(),
+            place_of_input(alloc, work.quiet, fault, origin),
+        ),
+        Err(RunFault::Write) => failed("fault: write", place_of_output(alloc, work.quiet)),
     }
 }
 
 /// The outcome of a job that has no answer.
-pub fn failed(alloc: Global, note: &'static str) -> Outcome
+pub fn failed(note: &'static str, place: Vec<u8>) -> Outcome
     ensures status { result.status ≡ 4 }
     ensures note { result.note.now ≡ note.now }
-    ensures unplaced { result.place.items ≡ [] }
+    ensures place { result.place.items ≡ place.items }
 {
     Outcome {
         status: 4,
         note,
-        place: Vec::new(alloc),
+        place,
     }
 }
 

@@ -1,5 +1,5 @@
 //! What the standard output and the standard error are told, and the status.
-ghost use Rattle.std.specs.Prelude.{◌≡◌};
+ghost use Rattle.std.specs.Prelude.{◌≡◌, ◌++◌, codes};
 ghost use Rattle.bcs_tool.specs.Answers.{line_of};
 ghost use Rattle.bcs_tool.specs.Endings.{Told, TellsFault, TellsOutcome};
 
@@ -26,14 +26,18 @@ pub fn tell_fault<O: ByteSink, E: ByteSink>(fault: &LineFault, out: &mut O, erro
     }
 }
 
-/// Tells the note of an outcome that has one, on a line, or else its place where it has one, and gives its status.
+/// Tells the note of an outcome on a line, and then its place on one, each where it has one, and gives its status.
 pub fn tell_outcome<E: ByteSink>(outcome: Outcome, errors: &mut E) -> u8
     ensures { TellsOutcome E.taken E.is_failed outcome errors.old errors.new result }
 {
-    if !outcome.note.is_empty() {
+    if outcome.note.is_empty() {
+        if !outcome.place.is_empty() {
+            tell_line(outcome.place.as_slice(), errors);
+        }
+    } else if outcome.place.is_empty() {
         tell_line(outcome.note.as_bytes(), errors);
-    } else if !outcome.place.is_empty() {
-        tell_line(outcome.place.as_slice(), errors);
+    } else {
+        tell_lines(outcome.note.as_bytes(), outcome.place.as_slice(), errors);
     }
     outcome.status
 }
@@ -44,6 +48,26 @@ fn tell_note<E: ByteSink>(note: &str, errors: &mut E) -> u8
 {
     tell_line(note.as_bytes(), errors);
     4
+}
+
+// Tells two texts, each with a line end.
+fn tell_lines<E: ByteSink>(text: &[u8], next: &[u8], errors: &mut E)
+    ensures { Told E.taken E.is_failed errors.old errors.new (line_of text.now ++ line_of next.now) }
+{
+    match put_all(text, errors) {
+        Ok(()) => tell_next(next, errors),
+        Err(_) => {}
+    }
+}
+
+// Tells a line end, and then a text with another.
+fn tell_next<E: ByteSink>(next: &[u8], errors: &mut E)
+    ensures { Told E.taken E.is_failed errors.old errors.new (codes "\n" ++ line_of next.now) }
+{
+    match put_all(b"\n", errors) {
+        Ok(()) => tell_line(next, errors),
+        Err(_) => {}
+    }
 }
 
 // Tells a text and a line end, without memory.

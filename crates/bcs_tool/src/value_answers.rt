@@ -10,7 +10,8 @@ ghost use Rattle.bcs_tool.specs.Places.{IsAnswer};
 use crate::answer::{Answer, encoded, placed, shown, told};
 use crate::bytes_answers::answer_given;
 use crate::judging::Asked;
-use crate::text_places::place_of_misspelling;
+use crate::pair_places::place_of_pair;
+use crate::text_places::place_of_refusal;
 use crate::text_refusal::refused_text;
 use bcs_json::{compare, normalise, to_bcs};
 use bcs_tool_files::Work;
@@ -61,7 +62,7 @@ fn answer_encode(
     match to_bcs(alloc, registry, format, &work.limits, text) {
         Ok(bytes) => encoded(alloc, bytes, work.raw),
         Err(fault) => {
-            let place = place_of_misspelling(alloc, work, asked, text);
+            let place = place_of_refusal(alloc, work, asked, text, fault);
             Ok(placed(refused_text(alloc, fault)?, place))
         }
     }
@@ -87,7 +88,7 @@ fn answer_normalise(
     match normalise(alloc, registry, format, &work.limits, text) {
         Ok(normal) => shown(alloc, normal),
         Err(fault) => {
-            let place = place_of_misspelling(alloc, work, asked, text);
+            let place = place_of_refusal(alloc, work, asked, text, fault);
             Ok(placed(refused_text(alloc, fault)?, place))
         }
     }
@@ -109,6 +110,9 @@ fn answer_same(alloc: Global, work: &Work, asked: &Asked, text: &[u8]) -> Result
     match compare(alloc, registry, format, &work.limits, first, text) {
         Ok(true) => told(alloc, 0, "equal"),
         Ok(false) => told(alloc, 1, "different"),
-        Err(fault) => refused_text(alloc, fault),
+        Err(fault) => {
+            let place = place_of_pair(alloc, work, asked, text);
+            Ok(placed(refused_text(alloc, fault)?, place))
+        }
     }
 }

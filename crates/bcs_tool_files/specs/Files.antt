@@ -1,5 +1,5 @@
 -- The files that a job names.
-use Rattle.std.specs.Prelude.{◌≡◌, ◌≢◌, ◌≤◌, ◌<◌, ◌==◌, ℕ, List, [], ◌∷◌, Bool, true, false, codes, length, IfSome, Option, Some, None, String, string_bytes}
+use Rattle.std.specs.Prelude.{◌≡◌, ◌≢◌, ◌⊎◌, ◌≤◌, ◌<◌, ◌==◌, ℕ, List, [], ◌∷◌, Bool, true, false, codes, length, IfSome, Option, Some, None, String, string_bytes}
 use Rattle.std.specs.declared.alloc.Global.{Global}
 use Rattle.bcs_explain_columns.specs.declared.style.Paint.TheVariants.{Plain, Colored}
 use Rattle.bcs_explain_columns.specs.declared.style.Style.{Style}
@@ -8,6 +8,7 @@ use Rattle.bcs_tool_line.specs.declared.command.Command.{Command}
 use Rattle.bcs_tool_line.specs.declared.command.Command.TheVariants.{Check, Grows, Encode, Decode, Explain, Normalise, Same, Part}
 use Rattle.bcs_tool_files.specs.declared.file_fault.FileFault.{FileFault}
 use Rattle.bcs_tool_files.specs.declared.file_fault.FileFault.TheVariants.{Open, Take}
+use Rattle.bcs_tool_files.specs.declared.file_refusal.FileRefusal.{FileRefusal}
 use Rattle.bcs_tool_line.specs.declared.job.Job.{Job}
 use Rattle.bcs_tool_files.specs.declared.taking.TakeFault.{TakeFault}
 use Rattle.bcs_tool_files.specs.declared.taking.TakeFault.TheVariants.{Read, TooLarge, OutOfMemory}
@@ -24,7 +25,7 @@ take_note TooLarge = codes "fault: too large"
 take_note OutOfMemory = codes "fault: memory"
 
 abbrev pub file_note : FileFault → List ℕ
-file_note Open = codes "fault: open"
+file_note (Open cause) = codes "fault: open"
 file_note (Take fault) = take_note fault
 
 -- a word for a registry that begins with a brace is its text, and any other names a file
@@ -41,6 +42,12 @@ IsContent (Some content) bytes = bytes ≡ content
 abbrev pub NamesNoFile : Job → Type 0
 NamesNoFile job = (is_registry_text (string_bytes job.registry) ≡ true) × (job.command ≢ Same)
     × (job.command ≡ Grows → is_registry_text (string_bytes job.second) ≡ true)
+
+-- the job's work needs the file of this name: that of REG or OLD, of NEW, or of A
+abbrev pub NamesForWork : Job → List ℕ → Type 0
+NamesForWork job name = ((is_registry_text name ≡ false) × (name ≡ string_bytes job.registry))
+    ⊎ ((job.command ≡ Grows) × (is_registry_text name ≡ false) × (name ≡ string_bytes job.second))
+    ⊎ ((job.command ≡ Same) × (name ≡ string_bytes job.second))
 
 -- pieces are printed in the form that the job says, and in color where it says so; where it says nothing of color, either way
 pub record IsStyleOf (job : Job) (style : Style) : Type 0 where
@@ -61,10 +68,14 @@ module _ {F : Type 0} (remaining : F → Option (List ℕ)) where
 
   -- what is known of the files where one of them is at fault
   abbrev pub IsFaultOfFiles : FileFault → Type 0
-  IsFaultOfFiles Open = Unit {0}
+  IsFaultOfFiles (Open cause) = Unit {0}
   IsFaultOfFiles (Take Read) = F
   IsFaultOfFiles (Take TooLarge) = HasLargeFile
   IsFaultOfFiles (Take OutOfMemory) = Unit {0}
+
+  -- a fault of the job's files, and whose it is, unless memory ran out
+  abbrev pub IsRefusalOf : Job → FileRefusal → Type 0
+  IsRefusalOf job refusal = IsFaultOfFiles refusal.fault × (refusal.fault ≢ Take OutOfMemory → NamesForWork job (string_bytes refusal.name))
 
   -- bytes that were read for a word: the word itself where it is the text, and else those of a file
   abbrev pub IsTextOf : List ℕ → List ℕ → Type 0

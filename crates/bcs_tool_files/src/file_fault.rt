@@ -2,6 +2,7 @@
 ghost use Rattle.std.specs.Prelude.{◌≡◌};
 ghost use Rattle.bcs_tool_files.specs.Files.{file_note};
 
+use crate::open_cause::OpenCause;
 use crate::taking::TakeFault;
 use thiserror::Error;
 
@@ -10,7 +11,7 @@ use thiserror::Error;
 pub enum FileFault {
     /// The file could not be opened.
     #[error("Open")]
-    Open,
+    Open(OpenCause),
     /// Its content was not taken.
     #[error(transparent)]
     Take(TakeFault),
@@ -22,7 +23,7 @@ impl FileFault {
         ensures { result.now ≡ file_note self }
     {
         match self {
-            FileFault::Open => "fault: open",
+            FileFault::Open(_) => "fault: open",
             FileFault::Take(fault) => fault.note(),
         }
     }

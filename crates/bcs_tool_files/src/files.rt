@@ -1,12 +1,14 @@
 //! The files that a job names.
-ghost use Rattle.std.specs.Prelude.{◌≡◌, ◌≢◌, ◌≤◌, ◌+◌, ℕ, List, Err, false, true, length, vec_len, IfErr, IfOk, IsOkUnless};
+ghost use Rattle.std.specs.Prelude.{◌≡◌, ◌≢◌, ◌⊎◌, ◌≤◌, ◌+◌, ℕ, List, Err, false, true, length, vec_len, IfErr, IfOk, IsOkUnless};
 ghost use Rattle.std.specs.Io.KnownBytes.{IsAtEnd};
 ghost use Rattle.bcs_io.specs.Giving.{Took, Lost};
 ghost use Rattle.bcs_tool_files.specs.Files.{size_limit};
-ghost use Rattle.bcs_tool_files.specs.Files.{IsFaultOfFiles, IsFileText, IsTextOf, IsWorkOf, NamesNoFile, is_registry_text};
+ghost use Rattle.bcs_tool_files.specs.Files.{IsFaultOfFiles, IsFileText, IsRefusalOf, IsSecondOf, IsTextOf, IsWorkOf, NamesNoFile, is_registry_text};
 
 use crate::file_fault::FileFault;
+use crate::file_refusal::FileRefusal;
 use crate::limits::SIZE_LIMIT;
+use crate::open_cause::OpenCause;
 use crate::styling::style_of;
 use crate::taking::{TakeFault, take_all};
 use crate::work::Work;
@@ -25,7 +27,7 @@ pub fn read_named<R: Files + AllocGlobal>(rt: &R, name: &str) -> Result<Vec<u8>,
 {
     match File::open(rt, name) {
         Ok(file) => read_opened(rt.alloc(), &mut ReadSource::new(file)),
-        Err(_) => Err(FileFault::Open),
+        Err(error) => Err(FileFault::Open(OpenCause::of(error.kind()))),
     }
 }
 
@@ -33,7 +35,7 @@ pub fn read_named<R: Files + AllocGlobal>(rt: &R, name: &str) -> Result<Vec<u8>,
 pub fn read_opened<S: ByteSource>(alloc: Global, file: &mut S) -> Result<Vec<u8>, FileFault>
     ensures whole { IfOk result (λ v. Took S.content S.is_failed S.allowance file.old file.new v.items
         × IsAtEnd (S.content file.new) × (S.is_failed file.new ≡ false) × (vec_len v ≤ size_limit)) }
-    ensures is_open { result ≢ Err FileFault.Open }
+    ensures is_open { (cause : OpenCause) → result ≢ Err (FileFault.Open cause) }
     ensures read { result ≡ Err (FileFault.Take TakeFault.Read) → (bytes : List ℕ)
         × Lost S.content S.is_failed S.allowance file.old file.new bytes × (length bytes ≤ size_limit) }
     ensures too_large { result ≡ Err (FileFault.Take TakeFault.TooLarge) → (bytes : List ℕ)
@@ -50,21 +52,28 @@ pub fn read_opened<S: ByteSource>(alloc: Global, file: &mut S) -> Result<Vec<u8>
 pub fn read_work<R: Files + Env + AllocGlobal>(
     rt: &R,
     job: Job,
-) -> Result<(Work, Option<String>), FileFault>
+) -> Result<(Work, Option<String>), FileRefusal>
     ensures work { IfOk result (λ r. IsWorkOf R.File.remaining job r.0 r.1) }
-    ensures fault { IfErr result (IsFaultOfFiles R.File.remaining) }
-    ensures good { NamesNoFile job → IsOkUnless result (FileFault.Take TakeFault.OutOfMemory) }
+    ensures fault { IfErr result (IsRefusalOf R.File.remaining job) }
+    ensures good { NamesNoFile job → IfErr result (λ e. e.fault ≡ FileFault.Take TakeFault.OutOfMemory) }
 {
-    let registry = read_registry(rt, job.registry.as_str())?;
-    let second = match job.command {
-        Command::Grows => read_registry(rt, job.second.as_str())?,
-        Command::Same => read_named(rt, job.second.as_str())?,
-        Command::Check
-        | Command::Encode
-        | Command::Decode
-        | Command::Explain
-        | Command::Normalise
-        | Command::Part => Vec::new(rt.alloc()),
+    let registry = match read_registry(rt, job.registry.as_str()) {
+        Ok(text) => text,
+        Err(fault) => {
+            return Err(FileRefusal {
+                fault,
+                name: job.registry,
+            });
+        }
+    };
+    let second = match read_second(rt, job.command, job.second.as_str()) {
+        Ok(text) => text,
+        Err(fault) => {
+            return Err(FileRefusal {
+                fault,
+                name: job.second,
+            });
+        }
     };
     let style = style_of(rt, &job);
     let work = Work {
@@ -81,11 +90,37 @@ pub fn read_work<R: Files + Env + AllocGlobal>(
     Ok((work, job.file))
 }
 
+// What a command reads for its second word: a registry, a file, or nothing.
+fn read_second<R: Files + AllocGlobal>(
+    rt: &R,
+    command: Command,
+    word: &str,
+) -> Result<Vec<u8>, FileFault>
+    ensures text { IfOk result (λ v. IsSecondOf R.File.remaining command word.now v.items) }
+    ensures fault { IfErr result (IsFaultOfFiles R.File.remaining) }
+    ensures good { command ≢ Command.Same → (command ≡ Command.Grows → is_registry_text word.now ≡ true)
+        → IsOkUnless result (FileFault.Take TakeFault.OutOfMemory) }
+    ensures named { IfErr result (λ e. e ≢ FileFault.Take TakeFault.OutOfMemory
+        → (command ≡ Command.Same) ⊎ ((command ≡ Command.Grows) × (is_registry_text word.now ≡ false))) }
+{
+    match command {
+        Command::Grows => read_registry(rt, word),
+        Command::Same => read_named(rt, word),
+        Command::Check
+        | Command::Encode
+        | Command::Decode
+        | Command::Explain
+        | Command::Normalise
+        | Command::Part => Ok(Vec::new(rt.alloc())),
+    }
+}
+
 // The text of a registry: the word itself, or the content of the file that it names.
 fn read_registry<R: Files + AllocGlobal>(rt: &R, word: &str) -> Result<Vec<u8>, FileFault>
     ensures text { IfOk result (λ v. IsTextOf R.File.remaining word.now v.items) }
     ensures fault { IfErr result (IsFaultOfFiles R.File.remaining) }
     ensures good { is_registry_text word.now ≡ true → IsOkUnless result (FileFault.Take TakeFault.OutOfMemory) }
+    ensures named { IfErr result (λ e. e ≢ FileFault.Take TakeFault.OutOfMemory → is_registry_text word.now ≡ false) }
 {
     if is_registry_text(word) {
         copy(rt.alloc(), word)

@@ -18,7 +18,7 @@ pub struct Work {
     pub path: String,
     /// Whether bytes are read and written as they are, and not as hexadecimal digits.
     pub raw: bool,
-    /// Whether the line that says where a refusal stands is left out.
+    /// Whether the line that says where a refusal or a fault stands is left out.
     pub quiet: bool,
     /// How pieces are printed.
     pub style: Style,
@@ -34,7 +34,7 @@ pub struct Outcome {
     pub status: u8,
     /// The line for the standard error: empty except with status 4.
     pub note: &'static str,
-    /// Where the refusal stands, and what was wanted there: the line for the standard error in place of a note.
-    /// Empty where there is none, and with status 4.
+    /// Where the refusal stands, and what was wanted there; or which file or stream is at fault: the line for the
+    /// standard error behind the note. Empty where there is none.
     pub place: Vec<u8>,
 }

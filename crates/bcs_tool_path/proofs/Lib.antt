@@ -2,4 +2,6 @@ pub mod Steps
 pub mod Parts
 pub mod PathReading
 pub mod SomePath
+pub mod BadSteps
+pub mod PathPassing
 pub mod WayWords

@@ -50,7 +50,7 @@ some_key text = at (equal_or_not text (codes "key:" ++ drop 4 text)) (decode_of 
     at (inl same) (Err e) is = inr (λ bytes h. let ok : Ok bytes ≡ Err e = sym h.2 ∙ ap decode_of (sym (tail bytes h)) ∙ is in cc)
     at (inr other) o is = inr (λ bytes h. other (h.1 ∙ ap (λ (digits : List ℕ). codes "key:" ++ digits) (sym (tail bytes h))))
 
-some_step : (text : List ℕ) → ((s : Step) × SpellsStep text s) ⊎ ((s : Step) → SpellsStep text s → ⊥)
+pub some_step : (text : List ℕ) → ((s : Step) × SpellsStep text s) ⊎ ((s : Step) → SpellsStep text s → ⊥)
 some_step text = at (some_number text) (equal_or_not text (codes "inner")) (some_key text)
   where
     none : ((n : ℕ) → SpellsStep text (item n) → ⊥) → (text ≡ codes "inner" → ⊥) → ((bytes : List ℕ) → SpellsStep text (key bytes) → ⊥) → (s : Step) → SpellsStep text s → ⊥

@@ -1,3 +1,4 @@
 pub mod Path
 pub mod PathSteps
+pub mod BadStep
 pub mod PathLaws

@@ -15,7 +15,8 @@ use Rattle.bcs_explain_spec.specs.Held.{of}
 use Rattle.bcs_explain_spec.specs.Pieces.{pieces}
 use Rattle.bcs_explain_paths.specs.Laws.{IsOfPart}
 use Rattle.bcs_explain_paths.specs.Paths.{IsInRange, path_text, steps_to}
-use Rattle.bcs_tool_path.specs.Path.{SpellsPath}
+use Rattle.bcs_tool_path.specs.BadStep.{IsFirstBadStep}
+use Rattle.bcs_tool_path.specs.Path.{SpellsNoPath, SpellsPath}
 
 -- a word spells the steps of one path at most
 abbrev pub OnePath : Type 0
@@ -30,3 +31,12 @@ abbrev pub PathTextLeads : Type 0
 PathTextLeads = (registry : Entries) (limits : Bounds) (s : Shape) (b : List ℕ) (n : ℕ) (c : Tree) → limits.nodes ≤ 2 ^ 64 → AreBytes b
     → Accepts registry limits s b n c
     → All (λ (x : Piece). (path : List Step) → SpellsPath (path_text x.way) path → IsOfPart registry (container.of s) c path x) (pieces registry [] 0 c (of s))
+
+-- a word has one first step at most that is none
+abbrev pub OneBadStep : Type 0
+OneBadStep = (word : List ℕ) (number other_number : ℕ) (text other : List ℕ) → IsFirstBadStep word number text → IsFirstBadStep word other_number other
+    → (number ≡ other_number) × (text ≡ other)
+
+-- it has one exactly if it spells no path
+abbrev pub BadStepOrPath : Type 0
+BadStepOrPath = (word : List ℕ) → SpellsNoPath word ↔ ((number : ℕ) × (text : List ℕ) × IsFirstBadStep word number text)

@@ -1,5 +1,5 @@
 //! What holds of paths: laws that a proof may cite. No call does anything.
-ghost use Rattle.bcs_tool_path.specs.PathLaws.{OnePath, PathTextLeads, PathTextSpells};
+ghost use Rattle.bcs_tool_path.specs.PathLaws.{BadStepOrPath, OneBadStep, OnePath, PathTextLeads, PathTextSpells};
 
 /// A word spells the steps of one path at most.
 pub fn one_path()
@@ -14,4 +14,14 @@ pub fn path_text_spells()
 /// The path that is read of this word leads to the part that the piece is of.
 pub fn path_text_leads()
     ensures { PathTextLeads }
+{}
+
+/// A word has one first step at most that is none.
+pub fn one_bad_step()
+    ensures { OneBadStep }
+{}
+
+/// It has one exactly if it spells no path.
+pub fn bad_step_or_path()
+    ensures { BadStepOrPath }
 {}

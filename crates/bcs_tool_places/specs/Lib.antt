@@ -1,6 +1,12 @@
+pub mod NameText
 pub mod OwnerText
 pub mod GrowthText
 pub mod RuleText
 pub mod FormatText
+pub mod PathText
 pub mod Places
 pub mod PointerText
+pub mod WholeText
+pub mod LimitText
+pub mod WantText
+pub mod ShapeText

@@ -2,7 +2,7 @@
 ghost use Rattle.std.specs.Prelude.{◌≡◌, IfOk};
 ghost use Rattle.bcs_tool_places.specs.FormatText.{unknown_format_text, unknown_word_text};
 
-use bcs_explain_columns::escaping::put_escaped;
+use crate::names::put_name;
 use std::alloc::{AllocError, Global};
 
 /// The name in a format that no container has.
@@ -10,7 +10,7 @@ pub fn unknown_format_line(alloc: Global, name: &str) -> Result<Vec<u8>, AllocEr
     ensures { IfOk result (λ line. line.items ≡ unknown_format_text name.now) }
 {
     let mut line = Vec::from_slice(alloc, b"at FORMAT: UnknownName: no container is called ")?;
-    put_escaped(name, &mut line)?;
+    put_name(name, &mut line)?;
     Ok(line)
 }
 

@@ -3,8 +3,8 @@ ghost use Rattle.std.specs.Prelude.{◌≡◌, ◌++◌, IfOk, OnOk, string_byte
 ghost use Rattle.bcs_registry_places.specs.GrowthPlaces.{difference_of, place_of};
 ghost use Rattle.bcs_tool_places.specs.GrowthText.{difference_text, growth_text, other_text};
 
+use crate::names::put_name;
 use crate::owner::put_variant;
-use bcs_explain_columns::escaping::put_escaped;
 use bcs_registry::{Named, VariantFormat};
 use bcs_registry_places::{Change, GrowthPlace};
 use std::alloc::{AllocError, Global};
@@ -14,7 +14,7 @@ pub fn growth_line(alloc: Global, place: &GrowthPlace<'_>) -> Result<Vec<u8>, Al
     ensures { IfOk result (λ line. line.items ≡ growth_text (place_of place.now)) }
 {
     let mut line = Vec::from_slice(alloc, b"at ")?;
-    put_escaped(place.container, &mut line)?;
+    put_name(place.container, &mut line)?;
     put_change(&place.change, &mut line)?;
     Ok(line)
 }
@@ -59,7 +59,7 @@ fn put_other(
     if older.name == newer.name {
         out.extend_from_slice(b"another payload there")
     } else {
-        put_escaped(newer.name.as_str(), out)?;
+        put_name(newer.name.as_str(), out)?;
         out.extend_from_slice(b" there")
     }
 }

@@ -3,8 +3,8 @@ ghost use Rattle.std.specs.Prelude.{◌≡◌, ◌++◌, OnOk};
 ghost use Rattle.bcs_registry_places.specs.RulePlaces.{owner_of, slot_of};
 ghost use Rattle.bcs_tool_places.specs.OwnerText.{owner_text, slot_text, variant_text};
 
+use crate::names::put_name;
 use bcs_explain_columns::columns::put_decimal;
-use bcs_explain_columns::escaping::put_escaped;
 use bcs_registry_places::{Owner, Slot};
 use std::alloc::AllocError;
 
@@ -12,7 +12,7 @@ use std::alloc::AllocError;
 pub(crate) fn put_owner(owner: &Owner<'_>, out: &mut Vec<u8>) -> Result<(), AllocError>
     ensures { OnOk result (out.new.items ≡ out.old.items ++ owner_text (owner_of owner.now)) }
 {
-    put_escaped(owner.container, out)?;
+    put_name(owner.container, out)?;
     match owner.variant {
         Some((number, name)) => put_variant(number, name, out),
         None => Ok(()),
@@ -26,7 +26,7 @@ pub(crate) fn put_variant(number: u32, name: &str, out: &mut Vec<u8>) -> Result<
     out.extend_from_slice(b", variant ")?;
     put_decimal(u128::from(number), out)?;
     out.extend_from_slice(b" ")?;
-    put_escaped(name, out)
+    put_name(name, out)
 }
 
 /// Where a format stands, behind its owner.
@@ -41,7 +41,7 @@ pub(crate) fn put_slot(slot: &Slot<'_>, out: &mut Vec<u8>) -> Result<(), AllocEr
         }
         Slot::Field(name) => {
             out.extend_from_slice(b", field ")?;
-            put_escaped(name, out)
+            put_name(name, out)
         }
     }
 }

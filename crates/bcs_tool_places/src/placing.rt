@@ -1,22 +1,28 @@
 //! Where texts are refused.
-ghost use Rattle.std.specs.Prelude.{◌≡◌, IfOk, IfSome, None, is_some, true};
+ghost use Rattle.std.specs.Prelude.{◌≡◌, IfOk, IfSome, List, None, is_some, true};
+ghost use Rattle.bcs_decode_parts.specs.Parts.{Step};
 ghost use Rattle.bcs_registry_formats.specs.Container.{Entries, container_at};
 ghost use Rattle.bcs_registry_formats.specs.Grows.{Grows};
 ghost use Rattle.bcs_registry_formats.specs.Shape.{Shape};
 ghost use Rattle.bcs_registry_formats.specs.View.{shape_of};
 ghost use Rattle.bcs_registry_formats.specs.WellFormed.{IsWellFormed, is_known};
 ghost use Rattle.bcs_registry_text.specs.Text.{WritesFormat, WritesRegistry};
-ghost use Rattle.bcs_tool_places.specs.Places.{PlacesGrowth, PlacesName, PlacesRule, PlacesText, PlacesWord};
+ghost use Rattle.bcs_tool_path.specs.Path.{SpellsPath};
+ghost use Rattle.bcs_tool_places.specs.Places.{PlacesGrowth, PlacesName, PlacesPath, PlacesRule, PlacesText, PlacesWord};
 
 use crate::formats::{unknown_format_line, unknown_word_line};
 use crate::growth::growth_line;
+use crate::paths::bad_step_line;
 use crate::pointers::refused_line;
 use crate::rules::rule_line;
 use bcs_json::fault_place;
+use bcs_json_places::wanted;
+use bcs_json_text::read_json;
 use bcs_registry::{Format, Registry, RegistryFault};
 use bcs_registry_places::{containers_in, format_in, growth_place, rule_place, unknown_name};
+use bcs_tool_path::first_bad_step;
 use bcs_value::Limits;
-use std::alloc::Global;
+use std::alloc::{AllocError, Global};
 
 /// Where the containers that a registry's text writes down break a rule. `None`: they break none.
 pub fn place_of_rule(alloc: Global, text: &[u8]) -> Result<Option<Vec<u8>>, RegistryFault>
@@ -80,8 +86,19 @@ pub fn place_of_name(
     }
 }
 
-/// Where a JSON text of a value is refused. `None`: it isn't by the tests that go through it with the format, or memory
-/// ran out.
+/// The first step of PATH that is none. `None`: the word spells a path.
+pub fn place_of_path(alloc: Global, word: &str) -> Result<Option<Vec<u8>>, AllocError>
+    ensures place { IfOk result (λ x. IfSome x (λ line. PlacesPath word.now line.items)) }
+    ensures none { IfOk result (λ x. x ≡ None → (path : List Step) × SpellsPath word.now path) }
+{
+    match first_bad_step(alloc, word)? {
+        Some(step) => Ok(Some(bad_step_line(alloc, &step)?)),
+        None => Ok(None),
+    }
+}
+
+/// Where a JSON text of a value is refused, and what was wanted there. `None`: it isn't refused by the tests that go
+/// through it with the format, or memory ran out.
 pub fn place_of_text(
     alloc: Global,
     registry: &Registry,
@@ -92,5 +109,7 @@ pub fn place_of_text(
     ensures { IfSome result (λ line. PlacesText registry.now limits.now (shape_of format.now) text.now line.items) }
 {
     let (fault, steps) = fault_place(alloc, registry, format, limits, text)?;
-    refused_line(alloc, steps.as_slice(), fault).ok()
+    let json = read_json(alloc, text).ok()?;
+    let want = wanted(registry, format, limits, &json, steps.as_slice());
+    refused_line(alloc, steps.as_slice(), fault, want).ok()
 }

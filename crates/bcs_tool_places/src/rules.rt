@@ -3,8 +3,8 @@ ghost use Rattle.std.specs.Prelude.{◌≡◌, ◌++◌, IfOk, OnOk};
 ghost use Rattle.bcs_registry_places.specs.RulePlaces.{owner_of, rule_place_of, slot_of};
 ghost use Rattle.bcs_tool_places.specs.RuleText.{breach_text, called_text, rule_text, spot_text};
 
+use crate::names::put_name;
 use crate::owner::{put_owner, put_slot};
-use bcs_explain_columns::escaping::put_escaped;
 use bcs_registry_places::{Owner, RulePlace, Slot};
 use std::alloc::{AllocError, Global};
 
@@ -31,7 +31,7 @@ fn put_breach(place: &RulePlace<'_>, out: &mut Vec<u8>) -> Result<(), AllocError
             put_called(": RepeatedName: two fields are called ", name, out)
         }
         RulePlace::RepeatedVariant { container, name } => {
-            put_escaped(container, out)?;
+            put_name(container, out)?;
             put_called(": RepeatedName: two variants are called ", name, out)
         }
         RulePlace::UnknownName { owner, slot, name } => {
@@ -54,5 +54,5 @@ fn put_called(what: &str, name: &str, out: &mut Vec<u8>) -> Result<(), AllocErro
     ensures { OnOk result (out.new.items ≡ out.old.items ++ called_text what.now name.now) }
 {
     out.extend_from_slice(what.as_bytes())?;
-    put_escaped(name, out)
+    put_name(name, out)
 }

@@ -4,7 +4,7 @@ use crate::tally::Tally;
 use crate::told::Told;
 use bcs_decode::SliceSource;
 use bcs_encode::pieces::PieceSink;
-use bcs_tool::{Command, Form, Outcome, Paint, Style, Work, run};
+use bcs_tool::{Command, Form, Origin, Outcome, Paint, Style, Work, run};
 use bcs_value::Limits;
 use std::alloc::{AllocError, Global};
 use std::str;
@@ -46,6 +46,7 @@ pub(crate) fn ask(
     let outcome = run(
         alloc,
         work,
+        Origin::StandardInput,
         &mut SliceSource::new(input.as_bytes()),
         &mut out,
     );

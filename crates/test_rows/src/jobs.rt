@@ -6,7 +6,7 @@ use crate::words::{bytes, word_of};
 use bcs_decode::SliceSource;
 use bcs_decode::pieces::PieceSource;
 use bcs_encode::pieces::PieceSink;
-use bcs_tool::{ByteSource, Command, Form, Outcome, Paint, Style, Work, run};
+use bcs_tool::{ByteSource, Command, Form, Origin, Outcome, Paint, Style, Work, run};
 use bcs_value::Limits;
 use std::alloc::{AllocError, Global};
 use std::str;
@@ -213,7 +213,13 @@ fn with_input(alloc: Global, asked: ValueJob<'_>, input: &str) -> Result<String,
     let work = work_of(alloc, asked)?;
     let input = bytes(alloc, input)?;
     let mut out = PieceSink::<1000>::new(7, None);
-    let outcome = run(alloc, &work, &mut SliceSource::new(&input), &mut out);
+    let outcome = run(
+        alloc,
+        &work,
+        Origin::StandardInput,
+        &mut SliceSource::new(&input),
+        &mut out,
+    );
     told(alloc, outcome, out.taken())
 }
 
@@ -221,7 +227,7 @@ fn with_input(alloc: Global, asked: ValueJob<'_>, input: &str) -> Result<String,
 fn without_input(alloc: Global, work: &Work) -> Result<String, RowFault> {
     let mut input = PieceSource::new(b"x", 1, Some(1));
     let mut out = PieceSink::<80>::new(7, None);
-    let outcome = run(alloc, work, &mut input, &mut out);
+    let outcome = run(alloc, work, Origin::StandardInput, &mut input, &mut out);
     if input.failed() {
         return Err(RowFault::Disagreement("input"));
     }

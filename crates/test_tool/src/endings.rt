@@ -59,9 +59,17 @@ fn ends_over(
     Ok(())
 }
 
-const NONE_FAILS: [Ending; 16] = [
+const NO_FILE: &str = "fault: open\nin the file no.test: No such file or directory\n";
+
+const A_FOLDER: &str = "fault: read\nin the file .\n";
+
+const LARGE_FILE: &str = "fault: too large\nin the file large.test\n";
+
+const NO_JSON: &str = "at line 1, column 1: NotJson: serde_json stops reading there\n";
+
+const NONE_FAILS: [Ending; 19] = [
     (&["encode", "{}", "\"I16\""], 0, "cced\n", ""),
-    (&["check", "{"], 2, "refused: NotJson\n", ""),
+    (&["check", "{"], 2, "refused: NotJson\n", NO_JSON),
     (
         &["decode", "--raw", "{}", "\"BOOL\""],
         2,
@@ -98,14 +106,22 @@ const NONE_FAILS: [Ending; 16] = [
     (&[], 3, "", "error: .."),
     (&["frobnicate"], 3, "", "error: .."),
     (&["help", "frobnicate"], 3, "", "error: .."),
-    (&["check", "no.test"], 4, "", "fault: open\n"),
+    (&["check", "no.test"], 4, "", NO_FILE),
+    (&["check", "--quiet", "no.test"], 4, "", "fault: open\n"),
     (
-        &["encode", "{}", "\"I16\"", "no.test"],
+        &["check", "a\"\u{e9}.test"],
         4,
         "",
-        "fault: open\n",
+        "fault: open\nin the file a\\\"\\u00e9.test: No such file or directory\n",
     ),
-    (&["encode", "{}", "\"I16\"", "."], 4, "", "fault: read\n"),
+    (&["encode", "{}", "\"I16\"", "no.test"], 4, "", NO_FILE),
+    (&["encode", "{}", "\"I16\"", "."], 4, "", A_FOLDER),
+    (
+        &["encode", "--quiet", "{}", "\"I16\"", "."],
+        4,
+        "",
+        "fault: read\n",
+    ),
 ];
 
 #[test]
@@ -117,15 +133,34 @@ fn streams_that_are_good(rt: HostRuntime) -> Result<(), Fail> {
 }
 
 // What is told where the input fails, the output, or the errors.
-const ONE_FAILS: [([Option<u64>; 3], Ending); 10] = [
+const ONE_FAILS: [([Option<u64>; 3], Ending); 13] = [
     ([Some(1), None, None], (&["check", "{}"], 0, "ok 0\n", "")),
     (
         [Some(1), None, None],
-        (&["encode", "{}", "\"I16\""], 4, "", "fault: read\n"),
+        (
+            &["encode", "{}", "\"I16\""],
+            4,
+            "",
+            "fault: read\nin the standard input\n",
+        ),
     ),
     (
         [None, Some(1), None],
-        (&["encode", "{}", "\"I16\""], 4, "", "fault: write\n"),
+        (
+            &["encode", "{}", "\"I16\""],
+            4,
+            "",
+            "fault: write\nin the standard output\n",
+        ),
+    ),
+    (
+        [None, Some(1), None],
+        (
+            &["encode", "--quiet", "{}", "\"I16\""],
+            4,
+            "",
+            "fault: write\n",
+        ),
     ),
     (
         [None, Some(1), None],
@@ -142,6 +177,19 @@ const ONE_FAILS: [([Option<u64>; 3], Ending); 10] = [
         (&["check", "no.test"], 4, "", "fault: open"),
     ),
     (
+        [None, None, Some(3)],
+        (&["check", "no.test"], 4, "", "fault: open\n"),
+    ),
+    (
+        [None, None, Some(4)],
+        (
+            &["check", "no.test"],
+            4,
+            "",
+            "fault: open\nin the file no.test: No such file or directory",
+        ),
+    ),
+    (
         [None, None, Some(1)],
         (
             &["decode", "--raw", "{}", "\"BOOL\""],
@@ -156,7 +204,7 @@ const ONE_FAILS: [([Option<u64>; 3], Ending); 10] = [
             &["decode", "--raw", "{}", "\"BOOL\""],
             4,
             "",
-            "fault: write\n",
+            "fault: write\nin the standard output\n",
         ),
     ),
 ];
@@ -174,8 +222,13 @@ const NO_CONTAINER: &str =
 
 // Words of each command that are refused, so that the input is never looked at.
 const REFUSED: [Ending; 9] = [
-    (&["check", "{"], 2, "refused: NotJson\n", ""),
-    (&["grows", "{}", "{"], 2, "refused: NotJson\n", ""),
+    (&["check", "{"], 2, "refused: NotJson\n", NO_JSON),
+    (
+        &["grows", "{}", "{"],
+        2,
+        "refused: NotJson\n",
+        "in NEW, at line 1, column 1: NotJson: serde_json stops reading there\n",
+    ),
     (
         &["encode", "{}", "N"],
         2,
@@ -206,7 +259,12 @@ const REFUSED: [Ending; 9] = [
         "refused: UnknownName\n",
         "",
     ),
-    (&["part", "{}", "\"U8\"", "01"], 2, "refused: BadPath\n", ""),
+    (
+        &["part", "{}", "\"U8\"", "01"],
+        2,
+        "refused: BadPath\n",
+        "at PATH, step 1 01: BadPath: wanted a number, inner, or key: and hexadecimal digits\n",
+    ),
     (&["frobnicate"], 3, "", "error: .."),
 ];
 
@@ -236,47 +294,22 @@ fn refused_words_over_an_endless_input(rt: HostRuntime) -> Result<(), Fail> {
 
 // `large.test` has a byte too many, `.` is a folder, and `no.test` isn't there.
 const FILES: [Ending; 11] = [
-    (
-        &["grows", "large.test", "no.test"],
-        4,
-        "",
-        "fault: too large\n",
-    ),
-    (&["grows", "no.test", "large.test"], 4, "", "fault: open\n"),
-    (&["grows", ".", "no.test"], 4, "", "fault: read\n"),
-    (&["grows", "no.test", "."], 4, "", "fault: open\n"),
-    (&["grows", "{}", "."], 4, "", "fault: read\n"),
-    (&["same", ".", "\"U8\"", "no.test"], 4, "", "fault: read\n"),
-    (
-        &["same", "{}", "\"U8\"", "no.test", "."],
-        4,
-        "",
-        "fault: open\n",
-    ),
-    (
-        &["decode", "no.test", "\"U8\"", "."],
-        4,
-        "",
-        "fault: open\n",
-    ),
-    (
-        &["decode", ".", "\"U8\"", "no.test"],
-        4,
-        "",
-        "fault: read\n",
-    ),
+    (&["grows", "large.test", "no.test"], 4, "", LARGE_FILE),
+    (&["grows", "no.test", "large.test"], 4, "", NO_FILE),
+    (&["grows", ".", "no.test"], 4, "", A_FOLDER),
+    (&["grows", "no.test", "."], 4, "", NO_FILE),
+    (&["grows", "{}", "."], 4, "", A_FOLDER),
+    (&["same", ".", "\"U8\"", "no.test"], 4, "", A_FOLDER),
+    (&["same", "{}", "\"U8\"", "no.test", "."], 4, "", NO_FILE),
+    (&["decode", "no.test", "\"U8\"", "."], 4, "", NO_FILE),
+    (&["decode", ".", "\"U8\"", "no.test"], 4, "", A_FOLDER),
     (
         &["decode", "large.test", "\"U8\"", "no.test"],
         4,
         "",
-        "fault: too large\n",
+        LARGE_FILE,
     ),
-    (
-        &["decode", "{}", "\"U8\"", "large.test"],
-        4,
-        "",
-        "fault: too large\n",
-    ),
+    (&["decode", "{}", "\"U8\"", "large.test"], 4, "", LARGE_FILE),
 ];
 
 #[test]

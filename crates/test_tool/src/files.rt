@@ -1,5 +1,7 @@
 //! Files that are named, and the work of jobs.
-use bcs_tool::{Color, Command, FileFault, Form, Job, Paint, Work, read_named, read_work};
+use bcs_tool::{
+    Color, Command, FileFault, Form, Job, OpenCause, Paint, Work, read_named, read_work,
+};
 use bcs_value::Limits;
 use std::alloc::{AllocError, Global};
 use std::fs;
@@ -14,7 +16,7 @@ fn named_files(rt: HostRuntime) -> Result<(), Fail> {
     assert!(rt; bytes == content);
     fs::remove_file(&rt, "bcs_tool_named.test")?;
     let answer = read_named(&rt, "bcs_tool_named.test");
-    assert!(rt; matches!(answer, Err(FileFault::Open)));
+    assert!(rt; matches!(answer, Err(FileFault::Open(OpenCause::Missing))));
     Ok(())
 }
 

@@ -1,5 +1,5 @@
 //! The messages of faults, which are their names, and the notes of files' faults.
-use bcs_tool::{FileFault, LineFault, TakeFault};
+use bcs_tool::{FileFault, LineFault, OpenCause, TakeFault};
 use std::alloc::AllocGlobal;
 use std::fmt::Display;
 use std::process::Abort;
@@ -25,8 +25,9 @@ fn is_noted(
 
 #[test]
 fn of_files(rt: HostRuntime) -> Result<(), Fail> {
-    assert!(rt; FileFault::Open.note() == "fault: open");
-    is_named(&rt, &FileFault::Open, "Open")?;
+    let missing = FileFault::Open(OpenCause::Missing);
+    assert!(rt; missing.note() == "fault: open");
+    is_named(&rt, &missing, "Open")?;
     is_noted(&rt, TakeFault::Read, "Read", "fault: read")?;
     is_noted(&rt, TakeFault::TooLarge, "TooLarge", "fault: too large")?;
     is_noted(&rt, TakeFault::OutOfMemory, "OutOfMemory", "fault: memory")

@@ -25,4 +25,4 @@ returns-in_ok-refused_text-in-Err c =
     let s = shape_of c.args.asked.now.format in
     let is = c.in_ok-refused_text-in-Err.ensures in
     text_answer work text Normalise registry s (inr refl) (is_asked work text Normalise registry s c.requires.command c.requires.asks c.requires.within) c.in-Err.fault c.in_ok-refused_text-in-Err.field-0 c.placed.result (c.in-Err.ensures.fault is.0) is.1
-    c.placed.ensures.status c.placed.ensures.output (subst (λ (v : List ℕ). TellsText work registry s text v) (sym c.placed.ensures.place) c.place_of_misspelling-place.ensures)
+    c.placed.ensures.status c.placed.ensures.output (subst (λ (v : List ℕ). TellsText work registry s text v) (sym c.placed.ensures.place) c.place_of_refusal-place.ensures)

@@ -1,13 +1,13 @@
-use Rattle.std.proofs.Common.{◌⊎◌, Bool, List, codes, false, subst, true, ℕ}
+use Rattle.std.proofs.Common.{◌⊎◌, Bool, List, codes, false, subst, sym, true, ℕ}
 use Rattle.std.proofs.lemmas.Result.{IfOk-weaker}
 use Rattle.bcs_registry_formats.specs.View.{shape_of}
 use Rattle.bcs_value_tree.specs.Tree.{Tree}
 use Rattle.bcs_json_spec.specs.Headline.{Compares}
 use Rattle.bcs_json_spec.specs.Texts.{Denotes, RefusesText}
-use Rattle.bcs_json_spec.specs.FaultNames.{json_fault_name}
-use Rattle.bcs_tool.specs.Answers.{different, equal, line_of, refusal_line}
+use Rattle.bcs_tool.specs.Answers.{different, equal, line_of}
+use Rattle.bcs_tool.specs.Places.{TellsPair}
 use Rattle.bcs_tool_line.specs.declared.command.Command.TheVariants.{Same}
-use Rattle.bcs_tool.proofs.AnswerLemmas.{is_asked, refused_texts, same_answer}
+use Rattle.bcs_tool.proofs.AnswerLemmas.{is_asked, pair_answer, same_answer}
 use Rattle.bcs_tool.proofs.value_answers.answer_same.Goals as goal
 
 pub returns-in-Ok-true : goal.returns-in-Ok-true
@@ -32,15 +32,17 @@ returns-in-Ok-false c =
     IfOk-weaker c.told-in-Ok-false.result _ _ (λ a is. same_answer work text a 1 (line_of (codes "different")) is
     (different registry s (is_asked work text Same registry s c.requires.command c.requires.asks c.requires.within) compares)) c.told-in-Ok-false.ensures
 
-pub returns-in-Err : goal.returns-in-Err
-returns-in-Err c =
+pub returns-in_ok-refused_text-in-Err : goal.returns-in_ok-refused_text-in-Err
+returns-in_ok-refused_text-in-Err c =
     let work = c.args.work.now in
     let text = c.args.text.now in
     let registry = c.args.asked.now.registry in
     let s = shape_of c.args.asked.now.format in
     let fault = c.in-Err.fault in
-    let asked = is_asked work text Same registry s c.requires.command c.requires.asks c.requires.within in
-    IfOk-weaker c.refused_text.result _ _ (λ a is. same_answer work text a 2 (refusal_line (json_fault_name fault)) is.1
-    (refused_texts work text registry s fault asked (subst (λ (first : List ℕ). RefusesText registry work.limits s first fault
+    let is = c.in_ok-refused_text-in-Err.ensures in
+    pair_answer work text registry s fault c.in_ok-refused_text-in-Err.field-0 c.placed.result
+    (is_asked work text Same registry s c.requires.command c.requires.asks c.requires.within)
+    (subst (λ (first : List ℕ). RefusesText registry work.limits s first fault
     ⊎ (((t : Tree) × Denotes registry work.limits s first t) × RefusesText registry work.limits s text fault)) c.as_slice-first.ensures.value
-    (c.in-Err.ensures.fault is.0)))) c.refused_text.ensures
+    (c.in-Err.ensures.fault is.0)) is.1
+    c.placed.ensures.status c.placed.ensures.output (subst (λ (v : List ℕ). TellsPair work registry s text v) (sym c.placed.ensures.place) c.place_of_pair-place.ensures)

@@ -3,6 +3,3 @@ use Rattle.bcs_tool_files.proofs.files.read_work.Goals as goal
 
 pub returns-clause-work : goal.returns-clause-work
 returns-clause-work g c = search rules
-
-pub returns-in_err-registry-clause-good : goal.returns-in_err-registry-clause-good
-returns-in_err-registry-clause-good g c = search rules

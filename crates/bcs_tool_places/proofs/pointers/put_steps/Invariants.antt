@@ -1,4 +1,4 @@
-use Rattle.std.proofs.Common.{◌≡◌, ◌++◌, drop, flat_map, map}
+use Rattle.std.proofs.Common.{◌≡◌, ◌++◌, drop, flat_map}
 use Rattle.bcs_json_spec.specs.Place.{step_of}
 use Rattle.bcs_tool_places.specs.PointerText.{step_text}
 use Rattle.bcs_tool_places.proofs.pointers.put_steps.Given as goal

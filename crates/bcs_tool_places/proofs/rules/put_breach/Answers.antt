@@ -1,6 +1,6 @@
 use Rattle.std.proofs.Common.{◌∙◌, ◌++◌, List, ℕ, append_assoc, ap, codes, sym}
 use Rattle.std.proofs.lemmas.Result.{on_ok_weaker}
-use Rattle.bcs_explain_columns.specs.Escaped.{escaped}
+use Rattle.bcs_tool_places.specs.NameText.{short}
 use Rattle.bcs_registry_places.specs.RulePlaces.{owner_of, rule_place_of, slot_of}
 use Rattle.bcs_registry_places.specs.declared.breach.RulePlace.{RulePlace}
 use Rattle.bcs_tool_places.specs.OwnerText.{owner_text}
@@ -16,13 +16,13 @@ returns-in_ok-put_owner-in-RepeatedField c =
     (λ is. is ∙ ap (λ (v : List ℕ). v ++ said) c.in_ok-put_owner-in-RepeatedField.ensures ∙ append_assoc o of said ∙ ap (λ (p : RulePlace). o ++ breach_text (rule_place_of p)) (sym c.in-RepeatedField.is))
     c.put_called.ensures
 
-pub returns-in_ok-put_escaped-in-RepeatedVariant : goal.returns-in_ok-put_escaped-in-RepeatedVariant
-returns-in_ok-put_escaped-in-RepeatedVariant c =
+pub returns-in_ok-put_name-in-RepeatedVariant : goal.returns-in_ok-put_name-in-RepeatedVariant
+returns-in_ok-put_name-in-RepeatedVariant c =
     let o = c.args.out.now.items in
-    let of = escaped c.in-RepeatedVariant.container.now in
+    let of = short c.in-RepeatedVariant.container.now in
     let said = called_text (codes ": RepeatedName: two variants are called ") c.in-RepeatedVariant.name.now in
     on_ok_weaker c.put_called-in-RepeatedVariant.result
-    (λ is. is ∙ ap (λ (v : List ℕ). v ++ said) c.in_ok-put_escaped-in-RepeatedVariant.ensures ∙ append_assoc o of said ∙ ap (λ (p : RulePlace). o ++ breach_text (rule_place_of p)) (sym c.in-RepeatedVariant.is))
+    (λ is. is ∙ ap (λ (v : List ℕ). v ++ said) c.in_ok-put_name-in-RepeatedVariant.ensures ∙ append_assoc o of said ∙ ap (λ (p : RulePlace). o ++ breach_text (rule_place_of p)) (sym c.in-RepeatedVariant.is))
     c.put_called-in-RepeatedVariant.ensures
 
 pub returns-in_ok-put_spot-in-UnknownName : goal.returns-in_ok-put_spot-in-UnknownName

@@ -1,0 +1,4 @@
+pub mod Called
+pub mod Counts
+pub mod Missing
+pub mod Leading

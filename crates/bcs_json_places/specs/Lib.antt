@@ -1,0 +1,4 @@
+pub mod Going
+pub mod Want
+pub mod Views
+pub mod WantLaws

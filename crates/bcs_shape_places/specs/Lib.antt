@@ -1,0 +1,4 @@
+pub mod ShapePlace
+pub mod ShapePlaces
+pub mod ShapeSearch
+pub mod ShapePlaceLaws
