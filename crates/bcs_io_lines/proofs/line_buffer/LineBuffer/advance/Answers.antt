@@ -1,0 +1,38 @@
+use Rattle.std.proofs.Common.{◌≡◌, ◌+◌, ◌<◌, ◌≤◌, true, List, ℕ, length, take, Ok, Err, sym, ap, subst, ◌∙◌, arith, rules}
+use Rattle.std.proofs.lemmas.List.{take-take}
+use Rattle.std.proofs.lemmas.Result.{err_from_is_err_and}
+use Rattle.bcs_io_lines.specs.Lines.{HasNoLineFeed}
+use Rattle.bcs_io_lines.proofs.Searching.{plain-take}
+use Rattle.bcs_io_lines.proofs.Reading.{Reads-too_long, Reads-runs_out, Reads-last}
+use Rattle.bcs_io_lines.specs.declared.next_fault.NextFault.TheVariants.{OutOfMemory}
+use Rattle.bcs_io_lines.proofs.line_buffer.LineBuffer.advance.Goals as goal
+
+-- the first line feed stands behind more bytes than are allowed
+pub returns-then-limit-count-clause-too_long : goal.returns-then-limit-count-clause-too_long
+returns-then-limit-count-clause-too_long g c _ =
+    let found = c.in-Some.ensures in
+    let rest = c.loop-count.self.rest in
+    let more : c.args.limit + 1 ≤ c.in-Some.count = omega arith in
+    Reads-too_long g.S.ByteSource.content g.S.ByteSource.is_failed g.S.ByteSource.allowance c.args.limit c.args.source.now c.loop-count.source c.args.self.now c.loop-count.self
+    c.loop-count.invariant.reads (omega (arith, found.inside))
+    (subst HasNoLineFeed (take-take (c.args.limit + 1) c.in-Some.count rest more) (plain-take (c.args.limit + 1) (take c.in-Some.count rest) found.before))
+
+pub returns-then-limit-searched-clause-too_long : goal.returns-then-limit-searched-clause-too_long
+returns-then-limit-searched-clause-too_long g c _ =
+    let plain : HasNoLineFeed c.loop-count.self.rest = search rules in
+    Reads-too_long g.S.ByteSource.content g.S.ByteSource.is_failed g.S.ByteSource.allowance c.args.limit c.args.source.now c.loop-count.source c.args.self.now c.loop-count.self
+    c.loop-count.invariant.reads (omega arith) (plain-take (c.args.limit + 1) c.loop-count.self.rest plain)
+
+pub returns-in_err-read_block-clause-memory : goal.returns-in_err-read_block-clause-memory
+returns-in_err-read_block-clause-memory g c is =
+    let same : c.read_block.result ≡ Err OutOfMemory = search rules in
+    Reads-runs_out g.S.ByteSource.content g.S.ByteSource.is_failed g.S.ByteSource.allowance c.args.source.now c.loop-count.source c.read_block.new.source
+    c.args.self.now.rest c.loop-count.self.rest c.read_block.new.self.rest c.read_block.result c.loop-count.invariant.reads c.read_block.ensures same
+
+pub returns-then-branch-eq0-clause-line : goal.returns-then-branch-eq0-clause-line
+returns-then-branch-eq0-clause-line g c is =
+    let plain : HasNoLineFeed c.loop-count.self.rest = search rules in
+    let some : c.take_rest.result ≡ true = cc in
+    Reads-last g.S.ByteSource.content g.S.ByteSource.is_failed g.S.ByteSource.allowance c.args.limit c.args.source.now c.loop-count.source c.read_block.new.source
+    c.args.self.now c.loop-count.self c.read_block.new.self c.take_rest.new.self c.in_ok-read_block.field-0
+    c.loop-count.invariant.reads c.in_ok-read_block.ensures (search rules) plain (omega arith) c.take_rest.ensures.after (sym c.take_rest.ensures.some ∙ some)

@@ -1,0 +1,17 @@
+-- The lines of a text.
+use Rattle.std.specs.Prelude.{◌≡◌, ℕ, ◌==◌, false, if◌then◌else◌, List, [], ◌∷◌}
+use Rattle.std.specs.List.{list_any}
+
+-- a byte before the first of the lines
+abbrev pub onto : ℕ → List (List ℕ) → List (List ℕ)
+onto c [] = (c ∷ []) ∷ []
+onto c (l ∷ ls) = (c ∷ l) ∷ ls
+
+-- each line feed ends a line, and what stands behind the last line feed is one more, if there is anything
+abbrev pub lines_of : List ℕ → List (List ℕ)
+lines_of [] = []
+lines_of (c ∷ cs) = if c == 10 then [] ∷ lines_of cs else onto c (lines_of cs)
+
+-- no byte is a line feed
+abbrev pub HasNoLineFeed : List ℕ → Type 0
+HasNoLineFeed bytes = list_any (λ c. c == 10) bytes ≡ false
