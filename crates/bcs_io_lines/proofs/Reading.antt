@@ -1,9 +1,9 @@
 -- Blocks that were read one after the other.
-use Rattle.std.proofs.Common.{◌≡◌, ℕ, suc, ◌+◌, ◌<◌, ◌≤◌, Bool, true, false, List, [], ◌∷◌, ◌++◌, length, take, Option, Result, Ok, Err, nat_lt, refl, sym, ap, subst, ◌∙◌, inl, inr, append_assoc, arith}
+use Rattle.std.proofs.Common.{◌≡◌, ℕ, ◌+◌, ◌<◌, ◌≤◌, Bool, true, List, [], ◌∷◌, ◌++◌, length, take, Option, Result, Ok, Err, nat_lt, refl, sym, ap, subst, ◌∙◌, inr, append_assoc, arith}
 use Rattle.std.proofs.lemmas.List.{append-nil}
-use Rattle.bcs_io.specs.Giving.{Took, Lost}
-use Rattle.bcs_io.proofs.GivingLemmas.{Took-nothing, Took-then, Lost-then}
-use Rattle.bcs_io_lines.specs.Advancing.{TakesLine, IsLastLine, HasNoLine, IsTooLong, RunsOut}
+use Rattle.bcs_io.specs.Giving.{Took}
+use Rattle.bcs_io.proofs.GivingLemmas.{Took-nothing, Took-then}
+use Rattle.bcs_io_lines.specs.Advancing.{TakesLine, IsTooLong, RunsOut}
 use Rattle.bcs_io_lines.specs.Blocks.{GivesBlock, ReadsBlock}
 use Rattle.bcs_io_lines.specs.Held.{Held}
 use Rattle.bcs_io_lines.specs.Lines.{HasNoLineFeed}

@@ -1,5 +1,5 @@
 -- What reading one block takes of a source.
-use Rattle.std.specs.Prelude.{◌≡◌, ℕ, ◌<◌, Bool, false, List, [], ◌++◌, length, Option, Result, Ok, Err}
+use Rattle.std.specs.Prelude.{◌≡◌, ℕ, Bool, false, List, [], ◌++◌, length, Option, Result, Ok, Err}
 use Rattle.std.specs.Io.KnownBytes.{IsAtEnd}
 use Rattle.bcs_io.specs.Giving.{Took, Lost}
 use Rattle.bcs_io_lines.specs.declared.next_fault.NextFault.{NextFault}

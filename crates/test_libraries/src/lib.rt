@@ -1,4 +1,4 @@
-//! Tests of the registries, the values, the encoder and the decoder that aren't rows of `test_rows`. There is nothing
+//! Tests of the registries, the values, the encoder, the decoder and the lines of sources that aren't rows of `test_rows`. There is nothing
 //! to call.
 #![tactic(auto)]
 
@@ -10,6 +10,8 @@ mod deepest;
 mod hostile_sources;
 #[cfg(test)]
 mod large_values;
+#[cfg(test)]
+mod line_buffers;
 #[cfg(test)]
 mod messages;
 #[cfg(test)]

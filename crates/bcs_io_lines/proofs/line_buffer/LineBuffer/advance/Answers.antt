@@ -1,6 +1,5 @@
-use Rattle.std.proofs.Common.{◌≡◌, ◌+◌, ◌<◌, ◌≤◌, true, List, ℕ, length, take, Ok, Err, sym, ap, subst, ◌∙◌, arith, rules}
+use Rattle.std.proofs.Common.{◌≡◌, ◌+◌, ◌≤◌, true, take, Err, sym, subst, ◌∙◌, arith, rules}
 use Rattle.std.proofs.lemmas.List.{take-take}
-use Rattle.std.proofs.lemmas.Result.{err_from_is_err_and}
 use Rattle.bcs_io_lines.specs.Lines.{HasNoLineFeed}
 use Rattle.bcs_io_lines.proofs.Searching.{plain-take}
 use Rattle.bcs_io_lines.proofs.Reading.{Reads-too_long, Reads-runs_out, Reads-last}

@@ -1,5 +1,4 @@
-use Rattle.std.proofs.Common.{◌≡◌, ◌≤◌, ◌++◌, length, take, List, ℕ}
-use Rattle.bcs_io.specs.Giving.{Took}
+use Rattle.std.proofs.Common.{◌≤◌, length, take}
 use Rattle.bcs_io_lines.specs.Lines.{HasNoLineFeed}
 use Rattle.bcs_io_lines.proofs.Reading.{Reads}
 use Rattle.bcs_io_lines.proofs.line_buffer.LineBuffer.advance.Given as goal

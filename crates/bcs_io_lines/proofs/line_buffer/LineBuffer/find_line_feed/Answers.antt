@@ -1,6 +1,6 @@
-use Rattle.std.proofs.Common.{◌≡◌, ◌+◌, List, ℕ, length, take, drop, sym, ap, ◌∙◌, subst}
+use Rattle.std.proofs.Common.{◌≡◌, List, ℕ, length, drop, ap, ◌∙◌, subst}
 use Rattle.memchr.specs.Find.{Nowhere, NoneBefore, Passes, is_byte}
-use Rattle.bcs_io_lines.specs.Held.{Held, FindsLineFeed}
+use Rattle.bcs_io_lines.specs.Held.{Held}
 use Rattle.bcs_io_lines.proofs.Searching.{searched_part, searched_none, searched_found}
 use Rattle.bcs_io_lines.proofs.line_buffer.LineBuffer.find_line_feed.Goals as goal
 
