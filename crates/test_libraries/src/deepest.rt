@@ -2,6 +2,7 @@
 use crate::building::{items, map, named, present, variant};
 use bcs_decode::pieces::PieceSource;
 use bcs_decode::{decode_all, decode_from, decode_slice, scan};
+use bcs_decode_source_scan::scan_from;
 use bcs_encode::{canonicalise, encode, encode_by_entries};
 use bcs_registry::{Format, Registry, RegistryFault};
 use bcs_value::{Limits, Value, depth, has_format, nodes};
@@ -191,6 +192,28 @@ fn decodes_whole(
     Ok(())
 }
 
+// The front of a source is a value of these bytes, and no byte more is given.
+fn scans_front(
+    rt: &(impl Abort + AllocGlobal),
+    registry: &Registry,
+    format: &Format,
+    bytes: &[u8],
+    piece: usize,
+) -> Result<(), Fail> {
+    assert!(rt; 1 <= piece && registry.admits(format));
+    let mut source = PieceSource::new(bytes, piece, None);
+    let length = scan_from(
+        rt.alloc(),
+        registry,
+        format,
+        &Limits::standard(),
+        &mut source,
+    )?;
+    assert!(rt; length == bytes.len() as u64, "by {piece}");
+    assert!(rt; source.given() == length, "by {piece}");
+    Ok(())
+}
+
 // Each call decodes the deepest value of the level, in pieces of 1, 2 and 3 bytes and whole.
 fn decodes_however(
     rt: &(impl Abort + AllocGlobal),
@@ -203,6 +226,7 @@ fn decodes_however(
     for piece in [1, 2, 3, 65536] {
         decodes_front(rt, &registry, &format, bytes, piece)?;
         decodes_whole(rt, &registry, &format, bytes, piece)?;
+        scans_front(rt, &registry, &format, bytes, piece)?;
     }
     Ok(())
 }

@@ -17,6 +17,8 @@ mod messages;
 #[cfg(test)]
 mod registries;
 #[cfg(test)]
+mod scans;
+#[cfg(test)]
 mod sinks;
 #[cfg(test)]
 mod sources;

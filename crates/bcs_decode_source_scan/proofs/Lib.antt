@@ -1,0 +1,9 @@
+pub mod Leading
+pub mod PastBlocks
+pub mod PastEntries
+pub mod PastKeys
+pub mod PastParts
+pub mod PastRows
+pub mod PastTexts
+pub mod Scans
+pub mod Utf8Fronts

@@ -1,0 +1,68 @@
+//! Going past values from a source, front to back. `value` is part of its callers, and no leaf is part of one, so that
+//! each level of a format takes little of the stack: 384 bytes where maps nest as keys, and less elsewhere.
+ghost use Rattle.bcs_registry_formats.specs.View.{shape_of};
+ghost use Rattle.bcs_decode_slice_steps.specs.Passing.{skip};
+ghost use Rattle.bcs_decode_source_steps.specs.Reads.{Ready, Reads};
+ghost use Rattle.bcs_decode_source_steps.specs.Sees.{Spares, takes_no_memory};
+ghost use Rattle.bcs_decode_source_scan.specs.Past.{option_past};
+
+use crate::containers::named;
+use crate::leaves::{bytes, text, truth, unsupported, whole};
+use crate::maps::pairs;
+use crate::rows::{items, tuple};
+use bcs_decode_source_steps::bytes::begin;
+use bcs_decode_source_steps::leaves::flag_node;
+use bcs_decode_source_steps::reader::Reader;
+use bcs_decode_spec::DecodeFault;
+use bcs_io::ByteSource;
+use bcs_registry::Format;
+
+/// Goes past a value of the format, inside which so many containers may open.
+#[inline(always)]
+#[cycle(scanning)]
+pub fn value<S: ByteSource>(
+    reader: &mut Reader<'_, S>,
+    format: &Format,
+    depth: u32,
+) -> Result<(), DecodeFault>
+    requires ready { Ready S.is_failed S.allowance reader.old }
+    ensures reads { Reads S.content S.is_failed S.allowance (λ x. x) result reader.old (skip reader.old.registry.now depth (shape_of format.now)) reader.new }
+    ensures spares { Spares (takes_no_memory (shape_of format.now)) result reader.old.at.now }
+{
+    match format {
+        Format::Unit => begin(reader),
+        Format::Bool => truth(reader),
+        Format::I8 | Format::U8 => whole(reader, 1),
+        Format::I16 | Format::U16 => whole(reader, 2),
+        Format::I32 | Format::U32 => whole(reader, 4),
+        Format::I64 | Format::U64 => whole(reader, 8),
+        Format::I128 | Format::U128 => whole(reader, 16),
+        Format::F32 | Format::F64 | Format::Char => unsupported(reader),
+        Format::Str => text(reader),
+        Format::Bytes => bytes(reader),
+        Format::TypeName(name) => named(reader, name.as_str(), depth),
+        Format::Opt(part) => option(reader, part, depth),
+        Format::Seq(element) => items(reader, element, None, depth),
+        Format::Map(key, part) => pairs(reader, key, part, depth),
+        Format::Tuple(formats) => tuple(reader, formats, depth),
+        Format::TupleArray(element, size) => items(reader, element, Some(*size), depth),
+    }
+}
+
+/// An option.
+#[inline(never)]
+#[cycle(scanning)]
+fn option<S: ByteSource>(
+    reader: &mut Reader<'_, S>,
+    part: &Format,
+    depth: u32,
+) -> Result<(), DecodeFault>
+    requires ready { Ready S.is_failed S.allowance reader.old }
+    ensures reads { Reads S.content S.is_failed S.allowance (λ x. x) result reader.old (option_past (skip reader.old.registry.now depth (shape_of part.now))) reader.new }
+{
+    if flag_node(reader)? {
+        value(reader, part, depth)
+    } else {
+        Ok(())
+    }
+}
