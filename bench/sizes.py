@@ -70,6 +70,10 @@ def cases():
     yield "bytes, 500 containers of 32 levels, explained", ["explain", "--raw", deep, "L"], lambda: b"\x01" * (31 * 500) + b"\x00"
     keys = '{"K":{"NEWTYPESTRUCT":' + key_of_keys('{"OPTION":{"TYPENAME":"K"}}', 30) + "}}"
     yield "bytes, 15,000 maps nested as keys", ["decode", "--raw", keys, "K"], lambda: b"\x01" * (31 * 500 - 1) + b"\x00"
+    text = b'"' + b"a" * (LIMIT - 2) + b'"'
+    yield "lines, one of 256 MiB behind a short one", ["encode", "--lines", "{}", '"STR"'], lambda: b'"a"\n' + text + b"\n"
+    yield "lines, one a byte too long behind a short one", ["encode", "--lines", "{}", '"STR"'], lambda: b'"a"\n ' + text + b"\n"
+    yield "lines, 32 million of one digit", ["encode", "--lines", "{}", '"U8"'], lambda: b"7\n" * 32_000_000
     yield "part, the last of 32 Mi numbers", ["part", "--raw", "{}", '{"SEQ":"U16"}', str(32 * MIB - 1)], lambda: uleb(32 * MIB) + b"ab" * (32 * MIB)
 
 
@@ -125,18 +129,58 @@ def run(program, words, given):
         return os.waitstatus_to_exitcode(status), answer or note, usage
 
 
+def streams():
+    """The same of inputs that come by a pipe, each a maker of blocks and their bytes in all."""
+    most = 2**31 - 1
+    yield "scan, 4 GiB of two byte strings by a pipe", ["scan", "--raw", "{}", '{"TUPLE":["BYTES","BYTES"]}'], lambda: strings(b"a", most, 2), 2 * (most + 5)
+    yield "scan, 4 GiB of two texts by a pipe", ["scan", "--raw", "{}", '{"TUPLE":["STR","STR"]}'], lambda: strings("é".encode(), most - 1, 2), 2 * (most + 4)
+    yield "scan, 4 GiB of 512 Mi numbers by a pipe", ["scan", "--raw", "{}", '{"SEQ":"U64"}'], lambda: strings(b"a", 2**32, 1, 2**29), 2**32 + 5
+
+
+def strings(unit, size, count, announced=None):
+    block = unit * (MIB // len(unit))
+    for _ in range(count):
+        yield uleb(announced or size)
+        for _ in range(size // MIB):
+            yield block
+        yield block[: size % MIB]
+
+
+def feed(process, blocks):
+    try:
+        for block in blocks:
+            process.stdin.write(block)
+        process.stdin.close()
+    except BrokenPipeError:
+        pass
+
+
+def run_stream(program, words, blocks):
+    process = subprocess.Popen([program, *words], stdin=subprocess.PIPE, stdout=subprocess.PIPE, stderr=subprocess.PIPE,
+                               preexec_fn=limit)
+    feed(process, blocks)
+    answer, note = process.stdout.read(24), process.stderr.read(24)
+    _, status, usage = os.wait4(process.pid, 0)
+    return os.waitstatus_to_exitcode(status), answer or note, usage
+
+
 def main():
     print("| Case | Input, MB | Status | Answer begins | Processor s | MiB | MiB for each MiB of input |")
     print("|---|---|---|---|---|---|---|")
     for name, words, make in cases():
         given = make()
-        status, answer, usage = run(sys.argv[1], words, given)
-        size = max(len(given), sum(map(len, words)))
-        memory = usage.ru_maxrss / 1024
-        shown = answer.decode(errors="replace").strip().replace("|", "\\|")
-        multiple = f"{memory * MIB / size:.1f}" if size > MIB else ""
-        print(f"| {name} | {size / 1e6:.1f} | {status} | `{shown}` | {usage.ru_utime + usage.ru_stime:.2f}"
-              f" | {memory:.0f} | {multiple} |", flush=True)
+        tell(name, max(len(given), sum(map(len, words))), run(sys.argv[1], words, given))
+    for name, words, make, size in streams():
+        tell(name, size, run_stream(sys.argv[1], words, make()))
+
+
+def tell(name, size, ended):
+    status, answer, usage = ended
+    memory = usage.ru_maxrss / 1024
+    shown = answer.decode(errors="replace").strip().replace("|", "\\|").replace("\n", " ")
+    multiple = f"{memory * MIB / size:.1f}" if size > MIB else ""
+    print(f"| {name} | {size / 1e6:.1f} | {status} | `{shown}` | {usage.ru_utime + usage.ru_stime:.2f}"
+          f" | {memory:.0f} | {multiple} |", flush=True)
 
 
 main()

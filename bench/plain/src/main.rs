@@ -1,9 +1,10 @@
 //! The yardstick of the timings: an ordinary Rust program over the real `serde_json`, with a tree of values, for the same
 //! commands as `bcs`. It makes few of its tests: no limits of depth and nodes, and one error for each fault. Beside them it
 //! has `parse` and `pass`, the least that reading a text or bytes can take, and `calls`, which times encoding and decoding
-//! alone.
+//! alone. `--lines` takes each line of the input of `encode` and `decode` as an input of its own.
 
 mod bytes;
+mod lines;
 mod registry;
 mod text;
 mod value;
@@ -20,7 +21,12 @@ type Outcome<T> = Result<T, &'static str>;
 fn main() {
     let words: Vec<String> = env::args().skip(1).collect();
     let raw = words.iter().any(|word| word == "--raw");
-    let words: Vec<&str> = words.iter().map(String::as_str).filter(|word| *word != "--raw").collect();
+    let by_line = words.iter().any(|word| word == "--lines");
+    let words: Vec<&str> =
+        words.iter().map(String::as_str).filter(|word| !["--raw", "--lines"].contains(word)).collect();
+    if by_line {
+        process::exit(lines::answer_lines(&words).unwrap_or(4));
+    }
     match answer(&words, raw) {
         Ok(answer) => io::stdout().write_all(&answer).expect("the output takes the answer"),
         Err(fault) => {
@@ -102,9 +108,12 @@ fn fastest(call: impl Fn() -> Outcome<()>) -> Outcome<f64> {
 }
 
 fn encoded(registry: &Registry, format: &str, input: &[u8]) -> Outcome<Vec<u8>> {
-    let format = read_format(format)?;
+    encoded_by(registry, &read_format(format)?, input)
+}
+
+fn encoded_by(registry: &Registry, format: &Format, input: &[u8]) -> Outcome<Vec<u8>> {
     let json = serde_json::from_slice(input).map_err(|_| "NotJson")?;
-    let value = text::read(registry, &format, json)?;
+    let value = text::read(registry, format, json)?;
     bytes::encode(&value)
 }
 
