@@ -1,9 +1,6 @@
-pub mod AnswerLemmas
-pub mod PartAnswers
-pub mod JudgingLemmas
-pub mod OneRefusal
-pub mod OneAnswer
-pub mod SomeRefusal
-pub mod SomeInput
-pub mod SomeAnswer
+pub mod LineLemmas
+pub mod SoFarLemmas
+pub mod TallyLemmas
+pub mod RunLemmas
+pub mod ScanLemmas
 pub mod EndingLemmas

@@ -1,10 +1,10 @@
 //! The program, as the system starts it.
-ghost use Rattle.std.specs.Prelude.{◌≡◌, ◌≢◌, ◌⊎◌, ◌<◌, [], IfErr, IfOk};
+ghost use Rattle.std.specs.Prelude.{◌≡◌, ◌⊎◌, ◌<◌, IfErr, IfOk};
 ghost use Rattle.std.specs.Process.{exit_status};
-ghost use Rattle.clap.specs.Words.{fault_of};
-ghost use Rattle.bcs_tool_words.specs.CommandLine.{bcs_app, texts_of};
+ghost use Rattle.bcs_tool_words.specs.CommandLine.{texts_of};
 ghost use Rattle.bcs_tool_line.specs.Jobs.{IsJobOf};
 ghost use Rattle.bcs_tool_line.specs.LineFaults.{IsFaultOf};
+ghost use Rattle.bcs_tool_line.specs.TakenWords.{TakesWords};
 ghost use Rattle.bcs_tool.specs.Endings.{IsWordsFault, Performs, TellsFault, TellsOutcome};
 
 use crate::responding::respond;
@@ -44,10 +44,10 @@ pub fn start<R: Files + Env + AllocGlobal, S: ByteSource, O: ByteSink, E: ByteSi
         × TellsFault O.taken O.is_failed E.taken E.is_failed fault out.old out.new errors.old errors.new result) }
 
     // The rest is as `respond` has it.
-    ensures no_job { IfOk words (λ given. fault_of bcs_app (texts_of given.items) ≢ [] → (fault : LineFault)
+    ensures no_job { IfOk words (λ given. ¬ TakesWords (texts_of given.items) → (fault : LineFault)
         × IsFaultOf (texts_of given.items) fault × (input.new ≡ input.old)
         × TellsFault O.taken O.is_failed E.taken E.is_failed fault out.old out.new errors.old errors.new result) }
-    ensures job { IfOk words (λ given. fault_of bcs_app (texts_of given.items) ≡ [] →
+    ensures job { IfOk words (λ given. TakesWords (texts_of given.items) →
         ((input.new ≡ input.old) × TellsFault O.taken O.is_failed E.taken E.is_failed
         LineFault.OutOfMemory out.old out.new errors.old errors.new result)
         ⊎ ((job : Job) × (outcome : Outcome) × IsJobOf (texts_of given.items) job

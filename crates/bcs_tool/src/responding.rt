@@ -1,9 +1,9 @@
 //! A command line, its input, and what the standard output and the standard error are told.
-ghost use Rattle.std.specs.Prelude.{◌≡◌, ◌≢◌, ◌⊎◌, ◌<◌, [], codes};
-ghost use Rattle.clap.specs.Words.{fault_of};
-ghost use Rattle.bcs_tool_words.specs.CommandLine.{bcs_app, texts_of};
+ghost use Rattle.std.specs.Prelude.{◌≡◌, ◌⊎◌, ◌<◌, codes};
+ghost use Rattle.bcs_tool_words.specs.CommandLine.{texts_of};
 ghost use Rattle.bcs_tool_line.specs.Jobs.{IsJobOf};
 ghost use Rattle.bcs_tool_line.specs.LineFaults.{IsFaultOf};
+ghost use Rattle.bcs_tool_line.specs.TakenWords.{TakesWords};
 ghost use Rattle.bcs_tool_files.specs.FaultPlaces.{TellsPlace, file_place};
 ghost use Rattle.bcs_tool.specs.Endings.{Performs, TellsFault, TellsOutcome};
 
@@ -30,13 +30,13 @@ pub fn respond<R: Files + Env + AllocGlobal, S: ByteSource, O: ByteSink, E: Byte
 ) -> u8
     ensures status { result < 5 }
 
-    // clap finds a fault in the words, or they ask for help or the version.
-    ensures no_job { fault_of bcs_app (texts_of words.now) ≢ [] → (fault : LineFault)
+    // There is a fault in the words, or they ask for help or the version.
+    ensures no_job { ¬ TakesWords (texts_of words.now) → (fault : LineFault)
         × IsFaultOf (texts_of words.now) fault × (input.new ≡ input.old)
         × TellsFault O.taken O.is_failed E.taken E.is_failed fault out.old out.new errors.old errors.new result }
 
     // They ask for a job, which is done, unless there is no memory for its words.
-    ensures job { fault_of bcs_app (texts_of words.now) ≡ [] →
+    ensures job { TakesWords (texts_of words.now) →
         ((input.new ≡ input.old) × TellsFault O.taken O.is_failed E.taken E.is_failed
         LineFault.OutOfMemory out.old out.new errors.old errors.new result)
         ⊎ ((job : Job) × (outcome : Outcome) × IsJobOf (texts_of words.now) job

@@ -1,11 +1,12 @@
-//! Why a run has no answer.
+//! Why a run is broken off.
 ghost use Rattle.std.specs.Prelude.{◌≡◌};
+ghost use Rattle.bcs_tool.specs.Running.{fault_note, of_next};
 
+use bcs_io_lines::NextFault;
 use bcs_tool_files::TakeFault;
-use std::alloc::AllocError;
 use thiserror::Error;
 
-/// Why a run has not put its answer. The message is the fault's name alone.
+/// Why a run has not put all of its answers. The message is the fault's name alone.
 #[derive(Clone, Copy, Debug, Drop, Error)]
 pub enum RunFault {
     /// The input was not taken, or memory ran out.
@@ -16,23 +17,25 @@ pub enum RunFault {
     Write,
 }
 
-impl From<TakeFault> for RunFault {
-    ghost use Rattle.bcs_tool.specs.declared.run_fault.RunFault.TheVariants.{Take};
-
-    ghost from_gives = { λ fault result. result ≡ Take fault };
-
-    fn from(fault: TakeFault) -> RunFault {
-        RunFault::Take(fault)
+impl RunFault {
+    /// Why a line was not read.
+    pub fn of_next(fault: NextFault) -> RunFault
+        ensures { result ≡ of_next fault }
+    {
+        RunFault::Take(match fault {
+            NextFault::Read => TakeFault::Read,
+            NextFault::TooLong => TakeFault::TooLarge,
+            NextFault::OutOfMemory => TakeFault::OutOfMemory,
+        })
     }
-}
 
-impl From<AllocError> for RunFault {
-    ghost use Rattle.bcs_tool.specs.declared.run_fault.RunFault.TheVariants.{Take};
-    ghost use Rattle.bcs_tool_files.specs.declared.taking.TakeFault.TheVariants.{OutOfMemory};
-
-    ghost from_gives = { λ _ result. result ≡ Take OutOfMemory };
-
-    fn from(_: AllocError) -> RunFault {
-        RunFault::Take(TakeFault::OutOfMemory)
+    /// The line for the standard error.
+    pub fn note(self) -> &'static str
+        ensures { result.now ≡ fault_note self }
+    {
+        match self {
+            RunFault::Take(fault) => fault.note(),
+            RunFault::Write => "fault: write",
+        }
     }
 }

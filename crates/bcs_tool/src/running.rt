@@ -1,24 +1,25 @@
 //! A job, its input and its output.
-ghost use Rattle.std.specs.Prelude.{◌≡◌, ◌⊎◌, ◌<◌, ◌+◌, [], ℕ, List, length, take, true, Err, IfOk, codes};
-ghost use Rattle.bcs_io.specs.Taking as sink;
-ghost use Rattle.bcs_io.specs.Giving as source;
-ghost use Rattle.bcs_tool.specs.Answers.{Answers, IsFaultNote};
-ghost use Rattle.bcs_tool.specs.Input.{IsUnhurt};
-ghost use Rattle.bcs_tool_files.specs.FaultPlaces.{TellsPlace, origin_text, output_text};
-ghost use Rattle.bcs_tool_files.specs.Files.{IsContent, size_limit};
-ghost use Rattle.bcs_tool.specs.Judging.{ReadsInput};
-ghost use Rattle.bcs_tool.specs.Places.{Places};
+ghost use Rattle.std.specs.Prelude.{◌≡◌, false};
+ghost use Rattle.bcs_tool.specs.Running.{Ends, Runs};
+ghost use Rattle.bcs_tool_answers.specs.Judging.{ReadsInput};
+ghost use Rattle.bcs_tool_answers.specs.Preparing.{IsAskedBy};
+ghost use Rattle.bcs_tool_files.specs.FaultPlaces.{origin_text};
 
-use crate::answering::answer;
-use crate::run_fault::RunFault;
+use crate::interruption::Interruption;
+use crate::line_running::run_lines;
+use crate::put_answer::put_answer;
+use crate::run_places::place_of_interruption;
+use crate::scan_running::run_scan;
 use bcs_decode::ByteSource;
 use bcs_encode::ByteSink;
-use bcs_io::put_all;
-use bcs_tool_files::{Origin, Outcome, TakeFault, Work, place_of_input, place_of_output};
+use bcs_tool_answers::{Asked, Prepared, answer_values, is_unlimited, prepare};
+use bcs_tool_files::limits::SIZE_LIMIT;
+use bcs_tool_files::{Origin, Outcome, Work, take_all};
 use std::alloc::Global;
 
-/// Puts the answer to a job and its input, which is this file or the standard input. The whole answer is made before its
-/// first byte is put.
+/// Puts the answer to a job and its input, which is this file or the standard input; or, where the job is for lines, the
+/// answer to each line of it. A whole answer is made before its first byte is put, and it is put before the next line is
+/// read. The input is read only where the job has one and its own words are not refused.
 pub fn run<S: ByteSource, K: ByteSink>(
     alloc: Global,
     work: &Work,
@@ -26,44 +27,15 @@ pub fn run<S: ByteSource, K: ByteSink>(
     input: &mut S,
     out: &mut K,
 ) -> Outcome
-    ensures status { (result.status < 3) ⊎ (result.status ≡ 4) }
-    ensures answered { result.status < 3 → (result.note.now ≡ codes "")
-        × ((bytes : List ℕ) × (output : List ℕ) × IsContent (S.content input.old) bytes
-        × Answers work.now bytes result.status output
-        × Places work.now bytes result.place.items
-        × sink.Took K.taken K.is_failed out.old out.new output) }
-    ensures noted { result.status ≡ 4 → IsFaultNote result.note.now }
-
-    // A job that has no input, or that its own words refuse, leaves the input as it was.
-    ensures untouched { ¬ ReadsInput work.now → input.new ≡ input.old }
-    ensures read { result.note.now ≡ codes "fault: read" → ReadsInput work.now
-        × (S.is_failed input.new ≡ true) × (out.new ≡ out.old) }
-    ensures too_large { result.note.now ≡ codes "fault: too large" → ReadsInput work.now
-        × ((bytes : List ℕ) × (length bytes ≡ size_limit + 1)
-        × source.Took S.content S.is_failed S.allowance input.old input.new bytes)
-        × (out.new ≡ out.old) }
-    ensures memory { result.note.now ≡ codes "fault: memory"
-        → IsUnhurt S.content S.is_failed S.allowance input.old input.new × (out.new ≡ out.old) }
-
-    // Less than the whole answer was put.
-    ensures write { result.note.now ≡ codes "fault: write" → (bytes : List ℕ) × (status : ℕ)
-        × (output : List ℕ) × (n : ℕ) × IsContent (S.content input.old) bytes
-        × Answers work.now bytes status output × (n < length output)
-        × sink.Lost K.taken K.is_failed out.old out.new (take n output) }
-
-    // The place tells which stream is at fault, if the job isn't quiet; want of memory has none.
-    ensures read_place { result.note.now ≡ codes "fault: read" → TellsPlace work.now.quiet (origin_text origin.entry) result.place.items }
-    ensures large_place { result.note.now ≡ codes "fault: too large" → TellsPlace work.now.quiet (origin_text origin.entry) result.place.items }
-    ensures memory_place { result.note.now ≡ codes "fault: memory" → result.place.items ≡ [] }
-    ensures write_place { result.note.now ≡ codes "fault: write" → TellsPlace work.now.quiet output_text result.place.items }
+    ensures { Runs S.content S.is_failed S.allowance K.taken K.is_failed work.now (origin_text origin.entry)
+        input.old input.new out.old out.new result }
 {
-    match put_answer(alloc, work, input, out) {
+    match put_answers(alloc, work, input, out) {
         Ok(outcome) => outcome,
-        Err(RunFault::Take(fault)) => failed(
-            fault.note(),
-            place_of_input(alloc, work.quiet, fault, origin),
+        Err(interruption) => failed(
+            interruption.fault.note(),
+            place_of_interruption(alloc, work, interruption, origin),
         ),
-        Err(RunFault::Write) => failed("fault: write", place_of_output(alloc, work.quiet)),
     }
 }
 
@@ -80,38 +52,45 @@ pub fn failed(note: &'static str, place: Vec<u8>) -> Outcome
     }
 }
 
-// Puts the answer, and gives its status and its place.
-fn put_answer<S: ByteSource, K: ByteSink>(
+// Judges the words of the job, and then answers its input, or each line of it.
+fn put_answers<S: ByteSource, K: ByteSink>(
     alloc: Global,
     work: &Work,
     input: &mut S,
     out: &mut K,
-) -> Result<Outcome, RunFault>
-    ensures ok { IfOk result (λ o. (o.status < 3) × (o.note.now ≡ codes "")
-        × ((bytes : List ℕ) × (output : List ℕ) × IsContent (S.content input.old) bytes
-        × Answers work.now bytes o.status output × Places work.now bytes o.place.items
-        × sink.Took K.taken K.is_failed out.old out.new output)) }
+) -> Result<Outcome, Interruption>
+    ensures ends { Ends S.content S.is_failed S.allowance K.taken K.is_failed work.now
+        input.old input.new out.old out.new result }
     ensures untouched { ¬ ReadsInput work.now → input.new ≡ input.old }
-    ensures read { result ≡ Err (RunFault.Take TakeFault.Read) → ReadsInput work.now
-        × (S.is_failed input.new ≡ true) × (out.new ≡ out.old) }
-    ensures too_large { result ≡ Err (RunFault.Take TakeFault.TooLarge) → ReadsInput work.now
-        × ((bytes : List ℕ) × (length bytes ≡ size_limit + 1)
-        × source.Took S.content S.is_failed S.allowance input.old input.new bytes)
-        × (out.new ≡ out.old) }
-    ensures memory { result ≡ Err (RunFault.Take TakeFault.OutOfMemory)
-        → IsUnhurt S.content S.is_failed S.allowance input.old input.new × (out.new ≡ out.old) }
-    ensures write { result ≡ Err RunFault.Write → (bytes : List ℕ) × (status : ℕ)
-        × (output : List ℕ) × (n : ℕ) × IsContent (S.content input.old) bytes
-        × Answers work.now bytes status output × (n < length output)
-        × sink.Lost K.taken K.is_failed out.old out.new (take n output) }
 {
-    let answer = answer(alloc, work, input)?;
-    match put_all(answer.output.as_slice(), out) {
-        Ok(()) => Ok(Outcome {
-            status: answer.status,
-            note: "",
-            place: answer.place,
-        }),
-        Err(_) => Err(RunFault::Write),
+    match prepare(alloc, work)? {
+        Prepared::Answered(answer) => put_answer(answer, out),
+        Prepared::Asked(asked) => {
+            if work.lines {
+                run_lines(alloc, work, &asked, input, out)
+            } else if is_unlimited(work) {
+                run_scan(alloc, work, &asked, input, out)
+            } else {
+                run_whole(alloc, work, &asked, input, out)
+            }
+        }
     }
+}
+
+// Puts the answer to the whole input.
+fn run_whole<S: ByteSource, K: ByteSink>(
+    alloc: Global,
+    work: &Work,
+    asked: &Asked,
+    input: &mut S,
+    out: &mut K,
+) -> Result<Outcome, Interruption>
+    requires asked { IsAskedBy work.now asked.now }
+    requires whole { work.now.lines ≡ false }
+    ensures { Ends S.content S.is_failed S.allowance K.taken K.is_failed work.now
+        input.old input.new out.old out.new result }
+{
+    let bytes = take_all(alloc, input, SIZE_LIMIT)?;
+    let answer = answer_values(alloc, work, asked, bytes.as_slice())?;
+    put_answer(answer, out)
 }

@@ -1,6 +1,6 @@
 //! What the standard output and the standard error are told, and the status.
 ghost use Rattle.std.specs.Prelude.{◌≡◌, ◌++◌, codes};
-ghost use Rattle.bcs_tool.specs.Answers.{line_of};
+ghost use Rattle.bcs_tool_answers.specs.Answers.{line_of};
 ghost use Rattle.bcs_tool.specs.Endings.{Told, TellsFault, TellsOutcome};
 
 use bcs_encode::ByteSink;

@@ -5,7 +5,7 @@ use Rattle.bcs_explain_columns.specs.declared.style.Paint.TheVariants.{Plain, Co
 use Rattle.bcs_explain_columns.specs.declared.style.Style.{Style}
 use Rattle.bcs_tool_line.specs.declared.color.Color.TheVariants.{Always, Never}
 use Rattle.bcs_tool_line.specs.declared.command.Command.{Command}
-use Rattle.bcs_tool_line.specs.declared.command.Command.TheVariants.{Check, Grows, Encode, Decode, Explain, Normalise, Same, Part}
+use Rattle.bcs_tool_line.specs.declared.command.Command.TheVariants.{Check, Grows, Encode, Decode, Explain, Normalise, Same, Part, Scan}
 use Rattle.bcs_tool_files.specs.declared.file_fault.FileFault.{FileFault}
 use Rattle.bcs_tool_files.specs.declared.file_fault.FileFault.TheVariants.{Open, Take}
 use Rattle.bcs_tool_files.specs.declared.file_refusal.FileRefusal.{FileRefusal}
@@ -91,6 +91,7 @@ module _ {F : Type 0} (remaining : F → Option (List ℕ)) where
   IsSecondOf Normalise word text = text ≡ []
   IsSecondOf Same word text = IsFileText text
   IsSecondOf Part word text = text ≡ []
+  IsSecondOf Scan word text = text ≡ []
 
   -- the job's work, and the name of the input's file
   pub record IsWorkOf (job : Job) (work : Work) (file : Option (String Global)) : Type 0 where
@@ -100,6 +101,8 @@ module _ {F : Type 0} (remaining : F → Option (List ℕ)) where
     pub format : work.format ≡ job.format
     pub path : work.path ≡ job.path
     pub raw : work.raw ≡ job.raw
+    pub lines : work.lines ≡ job.lines
+    pub front : work.front ≡ job.front
     pub quiet : work.quiet ≡ job.quiet
     pub style : IsStyleOf job work.style
     pub limits : work.limits ≡ job.limits

@@ -23,43 +23,8 @@ pub fn place_of_file(alloc: Global, quiet: bool, fault: FileFault, name: &str) -
     }
 }
 
-/// The input, which was not taken. It is empty where that of a file is.
-pub fn place_of_input(alloc: Global, quiet: bool, fault: TakeFault, origin: Origin<'_>) -> Vec<u8>
-    ensures { TellsPlace quiet (take_place fault (origin_text origin.entry)) result.items }
-{
-    if quiet {
-        return Vec::new(alloc);
-    }
-    match input_fault_line(alloc, fault, origin) {
-        Ok(line) => line,
-        Err(AllocError) => Vec::new(alloc),
-    }
-}
-
-/// The standard output, which didn't take the answer. It is empty at a quiet job, and where no memory is left for it.
-pub fn place_of_output(alloc: Global, quiet: bool) -> Vec<u8>
-    ensures { TellsPlace quiet output_text result.items }
-{
-    if quiet {
-        return Vec::new(alloc);
-    }
-    match Vec::from_slice(alloc, b"in the standard output") {
-        Ok(line) => line,
-        Err(AllocError) => Vec::new(alloc),
-    }
-}
-
-fn file_fault_line(alloc: Global, fault: FileFault, name: &str) -> Result<Vec<u8>, AllocError>
-    ensures { IfOk result (λ line. line.items ≡ file_place fault name.now) }
-{
-    match fault {
-        FileFault::Open(cause) => unopened_line(alloc, name, cause),
-        FileFault::Take(TakeFault::Read | TakeFault::TooLarge) => file_line(alloc, name),
-        FileFault::Take(TakeFault::OutOfMemory) => Ok(Vec::new(alloc)),
-    }
-}
-
-fn input_fault_line(
+/// The input, which was not taken; nothing at want of memory.
+pub fn input_line(
     alloc: Global,
     fault: TakeFault,
     origin: Origin<'_>,
@@ -69,6 +34,23 @@ fn input_fault_line(
     match fault {
         TakeFault::Read | TakeFault::TooLarge => origin_line(alloc, origin),
         TakeFault::OutOfMemory => Ok(Vec::new(alloc)),
+    }
+}
+
+/// The standard output, which didn't take an answer.
+pub fn output_line(alloc: Global) -> Result<Vec<u8>, AllocError>
+    ensures { IfOk result (λ line. line.items ≡ output_text) }
+{
+    Vec::from_slice(alloc, b"in the standard output")
+}
+
+fn file_fault_line(alloc: Global, fault: FileFault, name: &str) -> Result<Vec<u8>, AllocError>
+    ensures { IfOk result (λ line. line.items ≡ file_place fault name.now) }
+{
+    match fault {
+        FileFault::Open(cause) => unopened_line(alloc, name, cause),
+        FileFault::Take(TakeFault::Read | TakeFault::TooLarge) => file_line(alloc, name),
+        FileFault::Take(TakeFault::OutOfMemory) => Ok(Vec::new(alloc)),
     }
 }
 

@@ -83,6 +83,8 @@ pub fn read_work<R: Files + Env + AllocGlobal>(
         format: job.format,
         path: job.path,
         raw: job.raw,
+        lines: job.lines,
+        front: job.front,
         quiet: job.quiet,
         style,
         limits: job.limits,
@@ -111,7 +113,8 @@ fn read_second<R: Files + AllocGlobal>(
         | Command::Decode
         | Command::Explain
         | Command::Normalise
-        | Command::Part => Ok(Vec::new(rt.alloc())),
+        | Command::Part
+        | Command::Scan => Ok(Vec::new(rt.alloc())),
     }
 }
 

@@ -12,7 +12,7 @@ mod styling;
 mod taking;
 mod work;
 
-pub use fault_places::{place_of_file, place_of_input, place_of_output};
+pub use fault_places::{input_line, output_line, place_of_file};
 pub use file_fault::FileFault;
 pub use file_refusal::FileRefusal;
 pub use files::{read_named, read_opened, read_work};

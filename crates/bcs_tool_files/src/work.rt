@@ -18,6 +18,10 @@ pub struct Work {
     pub path: String,
     /// Whether bytes are read and written as they are, and not as hexadecimal digits.
     pub raw: bool,
+    /// Whether each line of the input is an input of its own.
+    pub lines: bool,
+    /// Whether a value is taken at the front of the bytes, and the rest is left.
+    pub front: bool,
     /// Whether the line that says where a refusal or a fault stands is left out.
     pub quiet: bool,
     /// How pieces are printed.

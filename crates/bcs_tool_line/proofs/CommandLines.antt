@@ -6,8 +6,9 @@ use Rattle.clap.specs.declared.error.kind.ErrorKind.TheVariants as kind
 use Rattle.clap.proofs.OnLiterals.{clap_on_literals}
 use Rattle.bcs_tool_words.specs.CommandLine.{bcs_app}
 use Rattle.bcs_tool_line.specs.Jobs.{command_named, is_set}
+use Rattle.bcs_tool_line.specs.TakenWords.{joins_raw_and_lines}
 use Rattle.bcs_tool_line.specs.declared.command.Command.{Command}
-use Rattle.bcs_tool_line.specs.declared.command.Command.TheVariants.{Check, Grows, Encode, Explain, Same, Part}
+use Rattle.bcs_tool_line.specs.declared.command.Command.TheVariants.{Check, Grows, Encode, Explain, Same, Part, Scan}
 
 -- the command of the words, and what it was given
 abbrev command_in : List Text → Option (Option Command)
@@ -16,8 +17,11 @@ command_in words = option_map (λ p. command_named p.0) (subcommand_of bcs_app w
 abbrev given_in : Text → List Text → Option (Option Text)
 given_in argument words = option_map (λ p. first_of argument p.1) (subcommand_of bcs_app words)
 
+abbrev set_in : Text → List Text → Option Bool
+set_in option words = option_map (λ p. is_set option p.1) (subcommand_of bcs_app words)
+
 abbrev raw_in : List Text → Option Bool
-raw_in words = option_map (λ p. is_set (codes "raw") p.1) (subcommand_of bcs_app words)
+raw_in words = set_in (codes "raw") words
 
 -- ---- `bcs encode {} "I16"`, where the quotes belong to the word
 
@@ -280,6 +284,73 @@ part_raw = refl
 wants_path : fault_of bcs_app (codes "bcs" ∷ codes "part" ∷ codes "{}" ∷ codes "S" ∷ []) ≡ kind.MissingRequiredArgument ∷ []
 unfolding clap_on_literals
 wants_path = refl
+
+-- ---- values at the front of bytes
+
+abbrev scan_words : List Text
+scan_words = codes "bcs" ∷ codes "scan" ∷ codes "{}" ∷ codes "S" ∷ codes "--front" ∷ codes "f" ∷ []
+
+scan_is_taken : fault_of bcs_app scan_words ≡ []
+unfolding clap_on_literals
+scan_is_taken = refl
+
+scan_command : command_in scan_words ≡ Some (Some Scan)
+unfolding clap_on_literals
+scan_command = refl
+
+scan_file : given_in (codes "FILE") scan_words ≡ Some (Some (codes "f"))
+unfolding clap_on_literals
+scan_file = refl
+
+scan_front : set_in (codes "front") scan_words ≡ Some true
+unfolding clap_on_literals
+scan_front = refl
+
+scan_lines : set_in (codes "lines") scan_words ≡ Some false
+unfolding clap_on_literals
+scan_lines = refl
+
+decode_front : fault_of bcs_app (codes "bcs" ∷ codes "decode" ∷ codes "{}" ∷ codes "S" ∷ codes "--front" ∷ []) ≡ kind.UnknownArgument ∷ []
+unfolding clap_on_literals
+decode_front = refl
+
+-- ---- the lines of an input
+
+abbrev lines_words : List Text
+lines_words = codes "bcs" ∷ codes "normalise" ∷ codes "{}" ∷ codes "S" ∷ codes "--lines" ∷ []
+
+lines_are_taken : fault_of bcs_app lines_words ≡ []
+unfolding clap_on_literals
+lines_are_taken = refl
+
+lines_are_given : set_in (codes "lines") lines_words ≡ Some true
+unfolding clap_on_literals
+lines_are_given = refl
+
+lines_are_apart : joins_raw_and_lines lines_words ≡ false
+unfolding clap_on_literals
+lines_are_apart = refl
+
+-- `explain` has none, since a value has a line for each piece
+explain_lines : fault_of bcs_app (codes "bcs" ∷ codes "explain" ∷ codes "{}" ∷ codes "S" ∷ codes "--lines" ∷ []) ≡ kind.UnknownArgument ∷ []
+unfolding clap_on_literals
+explain_lines = refl
+
+-- clap takes `--raw` with `--lines`, and `line` refuses it
+abbrev joined_words : List Text
+joined_words = codes "bcs" ∷ codes "scan" ∷ codes "--lines" ∷ codes "{}" ∷ codes "S" ∷ codes "--raw" ∷ []
+
+joined_are_taken : fault_of bcs_app joined_words ≡ []
+unfolding clap_on_literals
+joined_are_taken = refl
+
+joined_are_joined : joins_raw_and_lines joined_words ≡ true
+unfolding clap_on_literals
+joined_are_joined = refl
+
+raw_is_apart : joins_raw_and_lines raw_words ≡ false
+unfolding clap_on_literals
+raw_is_apart = refl
 
 -- ---- limits
 

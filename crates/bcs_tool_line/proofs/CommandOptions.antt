@@ -92,8 +92,11 @@ depths =
                   (
                     (no id q _ refl, (no id q _ refl, (λ same. record { action = refl; parser = refl; exact = refl; defaults = refl }, none id q (drop 3 (rules_at 7)) refl))),
                     (
-                      none id q (rules_at 8) refl,
-                      tt,
+                      (no id q _ refl, (no id q _ refl, (λ same. record { action = refl; parser = refl; exact = refl; defaults = refl }, none id q (drop 3 (rules_at 8)) refl))),
+                      (
+                        none id q (rules_at 9) refl,
+                        tt,
+                      ),
                     ),
                   ),
                 ),
@@ -124,8 +127,11 @@ nodes =
                   (
                     (no id q _ refl, (no id q _ refl, (no id q _ refl, (λ same. record { action = refl; parser = refl; exact = refl; defaults = refl }, none id q (drop 4 (rules_at 7)) refl)))),
                     (
-                      none id q (rules_at 8) refl,
-                      tt,
+                      (no id q _ refl, (no id q _ refl, (no id q _ refl, (λ same. record { action = refl; parser = refl; exact = refl; defaults = refl }, none id q (drop 4 (rules_at 8)) refl)))),
+                      (
+                        none id q (rules_at 9) refl,
+                        tt,
+                      ),
                     ),
                   ),
                 ),

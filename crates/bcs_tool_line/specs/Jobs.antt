@@ -11,7 +11,7 @@ use Rattle.bcs_tool_words.specs.CommandLine.{bcs_app}
 use Rattle.bcs_tool_line.specs.declared.color.Color.{Color}
 use Rattle.bcs_tool_line.specs.declared.color.Color.TheVariants.{Auto, Always, Never}
 use Rattle.bcs_tool_line.specs.declared.command.Command.{Command}
-use Rattle.bcs_tool_line.specs.declared.command.Command.TheVariants.{Check, Grows, Encode, Decode, Explain, Normalise, Same, Part}
+use Rattle.bcs_tool_line.specs.declared.command.Command.TheVariants.{Check, Grows, Encode, Decode, Explain, Normalise, Same, Part, Scan}
 use Rattle.bcs_tool_line.specs.declared.job.Job.{Job}
 
 -- the command of a name
@@ -23,7 +23,8 @@ command_named name = if bytes_eq name (codes "check") then Some Check
     else (if bytes_eq name (codes "explain") then Some Explain
     else (if bytes_eq name (codes "normalise") then Some Normalise
     else (if bytes_eq name (codes "same") then Some Same
-    else (if bytes_eq name (codes "part") then Some Part else None)))))))
+    else (if bytes_eq name (codes "part") then Some Part
+    else (if bytes_eq name (codes "scan") then Some Scan else None))))))))
 
 -- the text of a word, which is empty where there is none
 abbrev pub text_or_empty : Option Text → Text
@@ -63,6 +64,8 @@ pub record IsJob (command : Command) (found : List Row) (job : Job) : Type 0 whe
   pub path : string_bytes job.path ≡ text_or_empty (first_of (codes "PATH") found)
   pub file : option_map string_bytes job.file ≡ option_or (first_of (codes "FILE") found) (first_of (codes "B") found)
   pub raw : job.raw ≡ is_set (codes "raw") found
+  pub lines : job.lines ≡ is_set (codes "lines") found
+  pub front : job.front ≡ is_set (codes "front") found
   pub quiet : job.quiet ≡ is_set (codes "quiet") found
   pub form : job.form ≡ form_of found
   pub color : job.color ≡ color_of found

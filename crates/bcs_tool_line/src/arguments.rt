@@ -25,6 +25,8 @@ pub fn job_of(alloc: Global, command: Command, given: &ArgMatches<'_>) -> Result
         path: text_of(alloc, given.get_str("PATH"))?,
         file: file_name(alloc, given.get_str("FILE").or(given.get_str("B")))?,
         raw: is_set(given, "raw"),
+        lines: is_set(given, "lines"),
+        front: is_set(given, "front"),
         quiet: is_set(given, "quiet"),
         form: form_of(given),
         color: color_of(given),

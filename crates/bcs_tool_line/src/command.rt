@@ -21,6 +21,8 @@ pub enum Command {
     Same,
     /// `part`: gives the bytes of a part of a value, out of the value's bytes.
     Part,
+    /// `scan`: checks the bytes of a value and counts them.
+    Scan,
 }
 
 impl Command {
@@ -37,6 +39,7 @@ impl Command {
             "normalise" => Some(Command::Normalise),
             "same" => Some(Command::Same),
             "part" => Some(Command::Part),
+            "scan" => Some(Command::Scan),
             _ => None,
         }
     }

@@ -22,6 +22,10 @@ pub struct Job {
     pub file: Option<String>,
     /// Whether `--raw` was given: bytes are read and written as they are, and not as hexadecimal digits.
     pub raw: bool,
+    /// Whether `--lines` was given: each line of the input is an input of its own.
+    pub lines: bool,
+    /// Whether `--front` was given: a value is taken at the front of the bytes, and the rest is left.
+    pub front: bool,
     /// Whether `--quiet` was given: the line that says where a refusal stands is left out.
     pub quiet: bool,
     /// `--paths`, `--tree`, `--json`: how pieces are printed. Of several the last one of these is meant.

@@ -7,8 +7,8 @@ use thiserror::Error;
 /// Why the words of a command line give no job. The message is the variant's name alone.
 #[derive(Debug, Drop, Error)]
 pub enum LineFault {
-    /// The words are no command line of `bcs`. It holds clap's text on what is wrong, for the
-    /// standard error.
+    /// The words are no command line of `bcs`. It holds a text on what is wrong, clap's or one of its
+    /// form, for the standard error.
     #[error("Usage")]
     Usage(String),
     /// The words ask for help, or for the version. It holds clap's text of it, for the standard output.

@@ -45,11 +45,19 @@ value_options = number_option (codes "depth") 500 ∷ number_option (codes "node
 abbrev pub value_app : Text → App
 value_app name = fold with_rule (command_with name (required (codes "REG") ∷ required (codes "FORMAT") ∷ [])) value_options
 
+-- whether each line of the input is an input of its own
+abbrev pub lines_option : Rule
+lines_option = flag_option (codes "lines")
+
+-- where the input is from, and how it is read
+abbrev pub input_options : List Rule
+input_options = optional (codes "FILE") ∷ flag_option (codes "raw") ∷ lines_option ∷ []
+
 abbrev pub encode_app : App
-encode_app = fold with_rule (value_app (codes "encode")) (optional (codes "FILE") ∷ flag_option (codes "raw") ∷ [])
+encode_app = fold with_rule (value_app (codes "encode")) input_options
 
 abbrev pub decode_app : App
-decode_app = fold with_rule (value_app (codes "decode")) (optional (codes "FILE") ∷ flag_option (codes "raw") ∷ [])
+decode_app = fold with_rule (value_app (codes "decode")) input_options
 
 -- how pieces are printed
 abbrev pub form_options : List Rule
@@ -63,13 +71,16 @@ abbrev pub explain_app : App
 explain_app = fold with_rule (fold with_rule (fold with_rule (value_app (codes "explain")) (optional (codes "FILE") ∷ flag_option (codes "raw") ∷ [])) form_options) color_options
 
 abbrev pub normalise_app : App
-normalise_app = fold with_rule (value_app (codes "normalise")) (optional (codes "FILE") ∷ [])
+normalise_app = fold with_rule (value_app (codes "normalise")) (optional (codes "FILE") ∷ lines_option ∷ [])
 
 abbrev pub same_app : App
 same_app = fold with_rule (value_app (codes "same")) (required (codes "A") ∷ optional (codes "B") ∷ [])
 
 abbrev pub part_app : App
-part_app = fold with_rule (value_app (codes "part")) (required (codes "PATH") ∷ optional (codes "FILE") ∷ flag_option (codes "raw") ∷ [])
+part_app = fold with_rule (fold with_rule (value_app (codes "part")) (required (codes "PATH") ∷ [])) input_options
+
+abbrev pub scan_app : App
+scan_app = fold with_rule (fold with_rule (value_app (codes "scan")) input_options) (flag_option (codes "front") ∷ [])
 
 -- one of its commands has to be there
 abbrev pub wants_command : App → App
@@ -81,7 +92,7 @@ tells_version = on_top (λ s. record s { has_version = true })
 
 abbrev pub bcs_app : App
 bcs_app = fold (λ program command. with_subcommand program command.top) (wants_command (tells_version (new_app (codes "bcs"))))
-    (check_app ∷ grows_app ∷ encode_app ∷ decode_app ∷ explain_app ∷ normalise_app ∷ same_app ∷ part_app ∷ [])
+    (check_app ∷ grows_app ∷ encode_app ∷ decode_app ∷ explain_app ∷ normalise_app ∷ same_app ∷ part_app ∷ scan_app ∷ [])
 
 -- the words as texts
 abbrev pub texts_of : List (String Global) → List Text

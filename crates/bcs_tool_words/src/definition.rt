@@ -2,7 +2,7 @@
 ghost use Rattle.std.specs.Prelude.{◌≡◌, IfOk, codes, false, fold};
 ghost use Rattle.clap.specs.Words.{app_of, rule_of, with_rule};
 ghost use Rattle.clap.specs.declared.builder.command.Command.TheViews.{out-Command};
-ghost use Rattle.bcs_tool_words.specs.CommandLine.{bcs_app, check_app, color_options, decode_app, encode_app, explain_app, flag_option, form_options, grows_app, normalise_app, number_option, optional, part_app, quiet_option, required, same_app, value_app, value_options};
+ghost use Rattle.bcs_tool_words.specs.CommandLine.{bcs_app, check_app, color_options, decode_app, encode_app, explain_app, flag_option, form_options, grows_app, input_options, lines_option, normalise_app, number_option, optional, part_app, quiet_option, required, same_app, scan_app, value_app, value_options};
 
 use crate::texts;
 use crate::version::VERSION;
@@ -25,7 +25,8 @@ pub fn bcs_command<'a>(alloc: Global) -> Result<Command<'a>, AllocError>
         .subcommand(explain_command(alloc)?)?
         .subcommand(normalise_command(alloc)?)?
         .subcommand(same_command(alloc)?)?
-        .subcommand(part_command(alloc)?)
+        .subcommand(part_command(alloc)?)?
+        .subcommand(scan_command(alloc)?)
 }
 
 fn check_command<'a>(alloc: Global) -> Result<Command<'a>, AllocError>
@@ -55,28 +56,20 @@ fn encode_command<'a>(alloc: Global) -> Result<Command<'a>, AllocError>
     ensures app { IfOk result (λ c. app_of c ≡ encode_app) }
     ensures global { IfOk result (λ c. (out-Command c).has_globals ≡ false) }
 {
-    value_command(alloc, "encode")?
+    let command = value_command(alloc, "encode")?
         .about("Prints the bytes of a value's JSON text")
-        .after_help(texts::ENCODE_END)
-        .arg(optional_word(alloc, "FILE", texts::FILE))?
-        .arg(raw_option(
-            alloc,
-            "Writes the bytes as they are, and not as hexadecimal digits",
-        ))
+        .after_help(texts::ENCODE_END);
+    with_input_options(alloc, command, texts::RAW_OUTPUT)
 }
 
 fn decode_command<'a>(alloc: Global) -> Result<Command<'a>, AllocError>
     ensures app { IfOk result (λ c. app_of c ≡ decode_app) }
     ensures global { IfOk result (λ c. (out-Command c).has_globals ≡ false) }
 {
-    value_command(alloc, "decode")?
+    let command = value_command(alloc, "decode")?
         .about("Prints the JSON text of a value's bytes")
-        .after_help(texts::DECODE_END)
-        .arg(optional_word(alloc, "FILE", texts::FILE))?
-        .arg(raw_option(
-            alloc,
-            "Reads the bytes as they are, and not as hexadecimal digits",
-        ))
+        .after_help(texts::DECODE_END);
+    with_input_options(alloc, command, texts::RAW_INPUT)
 }
 
 fn explain_command<'a>(alloc: Global) -> Result<Command<'a>, AllocError>
@@ -89,10 +82,7 @@ fn explain_command<'a>(alloc: Global) -> Result<Command<'a>, AllocError>
         )
         .after_help(texts::EXPLAIN_END)
         .arg(optional_word(alloc, "FILE", texts::FILE))?
-        .arg(raw_option(
-            alloc,
-            "Reads the bytes as they are, and not as hexadecimal digits",
-        ))?;
+        .arg(raw_option(alloc, texts::RAW_INPUT))?;
     with_color_options(alloc, with_form_options(alloc, command)?)
 }
 
@@ -125,7 +115,8 @@ fn normalise_command<'a>(alloc: Global) -> Result<Command<'a>, AllocError>
     value_command(alloc, "normalise")?
         .about("Prints the one normal JSON text of a value's JSON text")
         .after_help(texts::NORMALISE_END)
-        .arg(optional_word(alloc, "FILE", texts::FILE))
+        .arg(optional_word(alloc, "FILE", texts::FILE))?
+        .arg(lines_option(alloc))
 }
 
 fn same_command<'a>(alloc: Global) -> Result<Command<'a>, AllocError>
@@ -143,15 +134,37 @@ fn part_command<'a>(alloc: Global) -> Result<Command<'a>, AllocError>
     ensures app { IfOk result (λ c. app_of c ≡ part_app) }
     ensures global { IfOk result (λ c. (out-Command c).has_globals ≡ false) }
 {
-    value_command(alloc, "part")?
+    let command = value_command(alloc, "part")?
         .about("Prints the bytes of a part of a value, out of the value's bytes")
         .after_help(texts::PART_END)
-        .arg(required_word(alloc, "PATH", texts::PATH))?
+        .arg(required_word(alloc, "PATH", texts::PATH))?;
+    with_input_options(alloc, command, texts::RAW_BOTH)
+}
+
+fn scan_command<'a>(alloc: Global) -> Result<Command<'a>, AllocError>
+    ensures app { IfOk result (λ c. app_of c ≡ scan_app) }
+    ensures global { IfOk result (λ c. (out-Command c).has_globals ≡ false) }
+{
+    let command = value_command(alloc, "scan")?
+        .about("Checks the bytes of a value and prints how many there are")
+        .after_help(texts::SCAN_END);
+    with_input_options(alloc, command, texts::RAW_INPUT)?.arg(flag(alloc, "front", texts::FRONT))
+}
+
+// Where the input is from, and how it is read. `raw` is the help of `--raw`.
+fn with_input_options<'a>(
+    alloc: Global,
+    command: Command<'a>,
+    raw: &'a str,
+) -> Result<Command<'a>, AllocError>
+    requires global { (out-Command command).has_globals ≡ false }
+    ensures app { IfOk result (λ c. app_of c ≡ fold with_rule (app_of command.entry) input_options) }
+    ensures global { IfOk result (λ c. (out-Command c).has_globals ≡ false) }
+{
+    command
         .arg(optional_word(alloc, "FILE", texts::FILE))?
-        .arg(raw_option(
-            alloc,
-            "Reads and writes the bytes as they are, and not as hexadecimal digits",
-        ))
+        .arg(raw_option(alloc, raw))?
+        .arg(lines_option(alloc))
 }
 
 // A command on values of a format, within limits.
@@ -197,6 +210,13 @@ fn raw_option<'a>(alloc: Global, help: &'a str) -> Arg<'a>
     ensures global { result.global ≡ false }
 {
     flag(alloc, "raw", help)
+}
+
+fn lines_option<'a>(alloc: Global) -> Arg<'a>
+    ensures rule { rule_of result ≡ lines_option }
+    ensures global { result.global ≡ false }
+{
+    flag(alloc, "lines", texts::LINES)
 }
 
 fn quiet_option<'a>(alloc: Global) -> Arg<'a>

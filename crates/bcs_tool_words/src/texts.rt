@@ -24,6 +24,19 @@ pub const FIRST_FILE: &str = "The file of the first value's JSON text";
 
 pub const SECOND_FILE: &str = "The file of the second value's, in place of the standard input";
 
+// ---- how the input is read, and bytes are written
+
+pub const RAW_INPUT: &str = "Reads the bytes as they are, and not as hexadecimal digits";
+
+pub const RAW_OUTPUT: &str = "Writes the bytes as they are, and not as hexadecimal digits";
+
+pub const RAW_BOTH: &str = "Reads and writes the bytes as they are, and not as hexadecimal digits";
+
+pub const LINES: &str =
+    "Takes each line of the input as an input of its own, and answers each by a line";
+
+pub const FRONT: &str = "Takes a value at the front of the bytes, and leaves the rest";
+
 // ---- the option of every command
 
 pub const QUIET: &str = "Leave out the line on standard error that says where a refusal stands";
@@ -96,3 +109,8 @@ pub const PART_END: &str = "Example:
   echo 02000100010001 | bcs part '{}' '{\"MAP\":{\"KEY\":\"U16\",\"VALUE\":\"BOOL\"}}' key:0100  # 01
 
 Status: 0 done, 1 none, 2 refused, 3 usage, 4 file or memory";
+
+pub const SCAN_END: &str = "Example:
+  echo cced | bcs scan '{}' '\"I16\"'  # ok 2
+
+Status: 0 done, 2 refused, 3 usage, 4 file or memory";

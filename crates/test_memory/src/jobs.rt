@@ -24,6 +24,8 @@ pub(crate) fn job(
         format: String::from_str(alloc, format)?,
         path: String::new(alloc),
         raw: false,
+        lines: false,
+        front: false,
         quiet: true,
         style: Style {
             form: Form::Ways,

@@ -3,7 +3,6 @@
 use crate::question::limits_of;
 use crate::row_fault::RowFault;
 use crate::words::{bytes, word_of};
-use bcs_decode::SliceSource;
 use bcs_decode::pieces::PieceSource;
 use bcs_encode::pieces::PieceSink;
 use bcs_tool::{ByteSource, Command, Form, Origin, Outcome, Paint, Style, Work, run};
@@ -52,6 +51,8 @@ fn judge(
         format: String::new(alloc),
         path: String::new(alloc),
         raw: false,
+        lines: false,
+        front: false,
         quiet,
         style: PLAIN,
         limits: Limits::standard(),
@@ -59,12 +60,51 @@ fn judge(
     without_input(alloc, &work)
 }
 
+// The options that stand before the words of a job on values.
+#[derive(Clone, Copy)]
+struct Options {
+    quiet: bool,
+    raw: bool,
+    lines: bool,
+    front: bool,
+}
+
+fn options_of<'a>(quiet: bool, words: &'a [&'a str]) -> (Options, &'a [&'a str]) {
+    let none = Options {
+        quiet,
+        raw: false,
+        lines: false,
+        front: false,
+    };
+    match words {
+        ["--raw", "--front", words @ ..] => {
+            let options = Options {
+                raw: true,
+                front: true,
+                ..none
+            };
+            (options, words)
+        }
+        ["--lines", "--front", words @ ..] => {
+            let options = Options {
+                lines: true,
+                front: true,
+                ..none
+            };
+            (options, words)
+        }
+        ["--raw", words @ ..] => (Options { raw: true, ..none }, words),
+        ["--lines", words @ ..] => (Options { lines: true, ..none }, words),
+        ["--front", words @ ..] => (Options { front: true, ..none }, words),
+        _ => (none, words),
+    }
+}
+
 // The words of a job on values, but for its input.
 #[derive(Clone, Copy)]
 struct ValueJob<'a> {
     command: Command,
-    raw: bool,
-    quiet: bool,
+    options: Options,
     style: Style,
     registry: &'a str,
     format: &'a str,
@@ -75,15 +115,14 @@ struct ValueJob<'a> {
 
 fn asked<'a>(
     command: Command,
-    quiet: bool,
+    options: Options,
     registry: &'a str,
     format: &'a str,
     limits: &'a [&'a str],
 ) -> ValueJob<'a> {
     ValueJob {
         command,
-        raw: false,
-        quiet,
+        options,
         style: PLAIN,
         registry,
         format,
@@ -100,25 +139,21 @@ fn on_values(
     quiet: bool,
     words: &[&str],
 ) -> Result<String, RowFault> {
+    let (options, words) = options_of(quiet, words);
     match (command, words) {
         (_, [registry, format]) => {
-            let work = work_of(alloc, asked(command, quiet, registry, format, &[]))?;
+            let work = work_of(alloc, asked(command, options, registry, format, &[]))?;
             without_input(alloc, &work)
         }
         (Command::Same, [registry, format, second, input, limits @ ..]) => {
-            let mut asked = asked(command, quiet, registry, format, limits);
+            let mut asked = asked(command, options, registry, format, limits);
             asked.second = second;
-            with_input(alloc, asked, input)
-        }
-        (_, ["--raw", registry, format, input, limits @ ..]) => {
-            let mut asked = asked(command, quiet, registry, format, limits);
-            asked.raw = true;
             with_input(alloc, asked, input)
         }
         (_, [registry, format, input, limits @ ..]) => {
             with_input(
                 alloc,
-                asked(command, quiet, registry, format, limits),
+                asked(command, options, registry, format, limits),
                 input,
             )
         }
@@ -130,7 +165,8 @@ fn on_values(
 fn on_pieces(alloc: Global, quiet: bool, words: &[&str]) -> Result<String, RowFault> {
     match words {
         [form, registry, format, input, limits @ ..] => {
-            let mut asked = asked(Command::Explain, quiet, registry, format, limits);
+            let (options, _) = options_of(quiet, &[]);
+            let mut asked = asked(Command::Explain, options, registry, format, limits);
             asked.style = style_of(form)?;
             with_input(alloc, asked, input)
         }
@@ -150,37 +186,24 @@ fn style_of(form: &str) -> Result<Style, RowFault> {
     Ok(Style { form, paint })
 }
 
-fn asked_part<'a>(
-    quiet: bool,
-    registry: &'a str,
-    format: &'a str,
-    path: &'a str,
-    limits: &'a [&'a str],
-) -> ValueJob<'a> {
-    ValueJob {
-        path,
-        ..asked(Command::Part, quiet, registry, format, limits)
-    }
-}
-
 // The answer to a job on a part of a value, and to its input where it has one.
 fn on_parts(alloc: Global, quiet: bool, words: &[&str]) -> Result<String, RowFault> {
-    match words {
-        [registry, format, path] => {
-            let work = work_of(alloc, asked_part(quiet, registry, format, path, &[]))?;
-            without_input(alloc, &work)
+    let (options, words) = options_of(quiet, words);
+    let (registry, format, path, rest) = match words {
+        [registry, format, path, rest @ ..] => (registry, format, path, rest),
+        _ => return Err(RowFault::NotUnderstood),
+    };
+    match rest {
+        [] => {
+            let mut asked = asked(Command::Part, options, registry, format, &[]);
+            asked.path = path;
+            without_input(alloc, &work_of(alloc, asked)?)
         }
-        ["--raw", registry, format, path, input, limits @ ..] => {
-            let mut asked = asked_part(quiet, registry, format, path, limits);
-            asked.raw = true;
+        [input, limits @ ..] => {
+            let mut asked = asked(Command::Part, options, registry, format, limits);
+            asked.path = path;
             with_input(alloc, asked, input)
         }
-        [registry, format, path, input, limits @ ..] => with_input(
-            alloc,
-            asked_part(quiet, registry, format, path, limits),
-            input,
-        ),
-        _ => Err(RowFault::NotUnderstood),
     }
 }
 
@@ -194,8 +217,10 @@ fn work_of(alloc: Global, asked: ValueJob<'_>) -> Result<Work, RowFault> {
         second: bytes(alloc, asked.second)?,
         format: String::from_str(alloc, asked.format)?,
         path: path_of(alloc, asked.path)?,
-        raw: asked.raw,
-        quiet: asked.quiet,
+        raw: asked.options.raw,
+        lines: asked.options.lines,
+        front: asked.options.front,
+        quiet: asked.options.quiet,
         style: asked.style,
         limits,
     })
@@ -217,7 +242,7 @@ fn with_input(alloc: Global, asked: ValueJob<'_>, input: &str) -> Result<String,
         alloc,
         &work,
         Origin::StandardInput,
-        &mut SliceSource::new(&input),
+        &mut PieceSource::new(&input, 3, None),
         &mut out,
     );
     told(alloc, outcome, out.taken())

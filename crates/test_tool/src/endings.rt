@@ -15,7 +15,7 @@ use std::test::Fail;
 // error are told: all of it, or a front where it ends in `..`.
 type Ending = (&'static [&'static str], u8, &'static str, &'static str);
 
-fn words_of(alloc: Global, arguments: &[&str]) -> Result<Vec<String>, AllocError> {
+pub(crate) fn words_of(alloc: Global, arguments: &[&str]) -> Result<Vec<String>, AllocError> {
     let mut words = Vec::new(alloc);
     words.push(String::from_str(alloc, "bcs")?)?;
     for argument in arguments {

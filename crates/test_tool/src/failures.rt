@@ -1,4 +1,4 @@
-//! A job whose input never ends.
+//! Jobs whose input never ends.
 use bcs_decode::ByteSource;
 use bcs_decode::pieces::RepeatSource;
 use bcs_encode::pieces::PieceSink;
@@ -7,8 +7,8 @@ use bcs_value::Limits;
 use std::alloc::{AllocError, Global};
 use std::test::Fail;
 
-// The job to encode a number of two bytes.
-fn encoding(alloc: Global) -> Result<Work, AllocError> {
+// The job to encode a number of two bytes, or one on each line.
+fn encoding(alloc: Global, lines: bool) -> Result<Work, AllocError> {
     Ok(Work {
         command: Command::Encode,
         registry: Vec::from_slice(alloc, b"{}")?,
@@ -16,6 +16,8 @@ fn encoding(alloc: Global) -> Result<Work, AllocError> {
         format: String::from_str(alloc, "\"I16\"")?,
         path: String::new(alloc),
         raw: false,
+        lines,
+        front: false,
         quiet: true,
         style: Style {
             form: Form::Ways,
@@ -27,7 +29,7 @@ fn encoding(alloc: Global) -> Result<Work, AllocError> {
 
 #[test]
 fn an_endless_input(rt: HostRuntime) -> Result<(), Fail> {
-    let work = encoding(rt.alloc())?;
+    let work = encoding(rt.alloc(), false)?;
     let mut input = RepeatSource::new(b' ');
     let mut out = PieceSink::<16>::new(1, None);
     let outcome = run(
@@ -40,5 +42,24 @@ fn an_endless_input(rt: HostRuntime) -> Result<(), Fail> {
     assert!(rt; outcome.status == 4 && outcome.note == "fault: too large");
     assert!(rt; out.taken().is_empty());
     assert!(rt; input.given() == 268435457);
+    Ok(())
+}
+
+// It is given up at the first block behind the most bytes that a line may have.
+#[test]
+fn an_endless_line(rt: HostRuntime) -> Result<(), Fail> {
+    let work = encoding(rt.alloc(), true)?;
+    let mut input = RepeatSource::new(b' ');
+    let mut out = PieceSink::<16>::new(1, None);
+    let outcome = run(
+        rt.alloc(),
+        &work,
+        Origin::StandardInput,
+        &mut input,
+        &mut out,
+    );
+    assert!(rt; outcome.status == 4 && outcome.note == "fault: too large");
+    assert!(rt; out.taken().is_empty());
+    assert!(rt; input.given() == 268435456 + 65536);
     Ok(())
 }

@@ -10,6 +10,8 @@ mod failures;
 #[cfg(test)]
 mod files;
 #[cfg(test)]
+mod line_runs;
+#[cfg(test)]
 mod messages;
 #[cfg(test)]
 mod whole_contents;

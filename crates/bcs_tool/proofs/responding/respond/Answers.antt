@@ -14,7 +14,7 @@ returns-in-Ok-clause-no_job g c = λ wrong. absurd (wrong c.in-Ok.ensures.taken)
 
 pub returns-in-Ok-clause-job : goal.returns-in-Ok-clause-job
 returns-in-Ok-clause-job g c =
-    λ none. inr (c.in-Ok.job, c.perform.result, c.in-Ok.ensures.job, c.perform.ensures, c.tell_outcome.ensures)
+    λ good. inr (c.in-Ok.job, c.perform.result, c.in-Ok.ensures.job, c.perform.ensures, c.tell_outcome.ensures)
 
 pub returns-in-Err-clause-status : goal.returns-in-Err-clause-status
 returns-in-Err-clause-status g c =
@@ -27,4 +27,4 @@ pub returns-in-Err-clause-job : goal.returns-in-Err-clause-job
 returns-in-Err-clause-job g c =
     let P : LineFault → Type 0 = λ f. TellsFault g.O.ByteSink.taken g.O.ByteSink.is_failed g.E.ByteSink.taken g.E.ByteSink.is_failed
     f c.args.out.now c.tell_fault.new.out c.args.errors.now c.tell_fault.new.errors c.tell_fault.result in
-    λ none. inl (refl, subst P (c.in-Err.ensures.good none) c.tell_fault.ensures)
+    λ good. inl (refl, subst P (c.in-Err.ensures.good good) c.tell_fault.ensures)

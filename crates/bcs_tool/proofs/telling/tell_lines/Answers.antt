@@ -1,5 +1,5 @@
 use Rattle.std.proofs.Common.{◌∷◌, ◌++◌, List, [], append_assoc, inr, subst, sym, ℕ}
-use Rattle.bcs_tool.specs.Answers.{line_of}
+use Rattle.bcs_tool_answers.specs.Answers.{line_of}
 use Rattle.bcs_tool.specs.Endings.{Told}
 use Rattle.bcs_tool.proofs.EndingLemmas.{front_of_more, told_then}
 use Rattle.bcs_tool.proofs.telling.tell_lines.Goals as goal

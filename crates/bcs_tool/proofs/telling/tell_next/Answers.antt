@@ -1,5 +1,5 @@
 use Rattle.std.proofs.Common.{◌∷◌, [], inr}
-use Rattle.bcs_tool.specs.Answers.{line_of}
+use Rattle.bcs_tool_answers.specs.Answers.{line_of}
 use Rattle.bcs_tool.proofs.EndingLemmas.{front_of_more, told_then}
 use Rattle.bcs_tool.proofs.telling.tell_next.Goals as goal
 

@@ -29,7 +29,9 @@ returns c =
       file = c.in_ok-file_name.ensures ∙ either c.get_str-7.result c.get_str-8.result c.or-3.result _ _ c.or-3.ensures (c.get_str-7.ensures ∙ first_value-rows f (codes "FILE"))
           (c.get_str-8.ensures ∙ first_value-rows f (codes "B"));
       raw = c.is_set.ensures;
-      quiet = c.is_set-2.ensures;
+      lines = c.is_set-2.ensures;
+      front = c.is_set-3.ensures;
+      quiet = c.is_set-4.ensures;
       form = c.form_of.ensures;
       color = c.color_of.ensures;
       limits = c.limits_of.ensures;

@@ -34,6 +34,8 @@ returns c =
     c.in_ok-normalise_command.ensures.global explain c.in_ok-normalise_command.ensures.app in
     let same = added _ _ _ c.in_ok-subcommand-7.ensures
     c.in_ok-same_command.ensures.global normalise c.in_ok-same_command.ensures.app in
-    IfOk-weaker c.subcommand-8.result _ _
-    (λ r h. added _ _ r h c.in_ok-part_command.ensures.global same c.in_ok-part_command.ensures.app)
-    c.subcommand-8.ensures
+    let part = added _ _ _ c.in_ok-subcommand-8.ensures
+    c.in_ok-part_command.ensures.global same c.in_ok-part_command.ensures.app in
+    IfOk-weaker c.subcommand-9.result _ _
+    (λ r h. added _ _ r h c.in_ok-scan_command.ensures.global part c.in_ok-scan_command.ensures.app)
+    c.subcommand-9.ensures

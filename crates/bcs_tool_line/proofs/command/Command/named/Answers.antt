@@ -25,5 +25,8 @@ returns-in-same c = search rules
 pub returns-in-part : goal.returns-in-part
 returns-in-part c = search rules
 
+pub returns-in-scan : goal.returns-in-scan
+returns-in-scan c = search rules
+
 pub returns-in_default : goal.returns-in_default
 returns-in_default c = search rules

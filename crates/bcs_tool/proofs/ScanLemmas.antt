@@ -1,0 +1,186 @@
+-- Bytes that are judged as they come: the answer to them, and what comes of it.
+use Rattle.std.proofs.Common.{◌≡◌, ◌⊎◌, ◌≤◌, ◌∙◌, ◌&&◌, ℕ, suc, Bool, true, false, List, [], ◌∷◌, Option, Some, None, Result, Ok, Err, ap, arith, drop, inl, inr, length, refl, subst, sym, true≢false}
+use Rattle.bcs_decode.specs.Whole.{FrontGone, GoneTo, Trails}
+use Rattle.bcs_decode_spec.specs.Stopping.{Stops}
+use Rattle.bcs_decode_spec.specs.Accepting.{Accepts}
+use Rattle.bcs_decode_spec.specs.declared.decode_fault.DecodeFault.{DecodeFault}
+use Rattle.bcs_decode_spec.specs.declared.decode_fault.DecodeFault.TheVariants as decode_fault
+use Rattle.bcs_decode_spec.specs.declared.stop.Stop.{Stop}
+use Rattle.bcs_registry_formats.specs.Container.{Entries}
+use Rattle.bcs_registry_formats.specs.Shape.{Shape}
+use Rattle.bcs_registry_formats.specs.View.{shape_of}
+use Rattle.bcs_io.specs.Taking as sink
+use Rattle.bcs_tool_answers.specs.Answers.{Answers, IsAsked, count_line, scan_stopped, scanned, stop_line}
+use Rattle.bcs_tool_answers.specs.Input.{Gives}
+use Rattle.bcs_tool_answers.specs.Judging.{Asks, is_scan, is_unlimited}
+use Rattle.bcs_tool_answers.specs.LineAnswers.{none}
+use Rattle.bcs_tool_answers.specs.Places as places
+use Rattle.bcs_tool_answers.specs.Places.{Places, Prints}
+use Rattle.bcs_tool_answers.specs.Preparing.{IsAskedBy}
+use Rattle.bcs_tool_answers.specs.declared.answer.Answer.{Answer}
+use Rattle.bcs_tool_answers.specs.declared.judging.Asked.{Asked}
+use Rattle.bcs_tool_files.specs.declared.taking.TakeFault.TheVariants as take_fault
+use Rattle.bcs_tool_files.specs.declared.work.Outcome.{Outcome}
+use Rattle.bcs_tool_files.specs.declared.work.Work.{Work}
+use Rattle.bcs_tool_line.specs.declared.command.Command.{Command}
+use Rattle.bcs_tool_line.specs.declared.command.Command.TheVariants as command
+use Rattle.bcs_tool_line.specs.declared.command.Command.TheVariants.{Scan}
+use Rattle.bcs_tool.specs.Running.{Ends, FailsAt, HasLines, IfTold, PutsAnswer, Responds, Streams, once}
+use Rattle.bcs_tool.specs.Scanning.{AnswersScan, FaultOfScan, IsScanned, RefusesScan, Scans}
+use Rattle.bcs_tool.specs.declared.interruption.Interruption.{Interruption}
+use Rattle.bcs_tool.specs.declared.run_fault.RunFault.{RunFault}
+use Rattle.bcs_tool.specs.declared.run_fault.RunFault.TheVariants.{Take, Write}
+use Rattle.bcs_tool.proofs.RunLemmas.{nothing_before}
+
+-- ---- the answer
+
+module _ (work : Work) (registry : Entries) (s : Shape) (asks : Asks work registry s) (is : work.command ≡ Scan) (raw : work.raw ≡ true) (unlimited : is_unlimited work ≡ true) where
+  asked : (input : List ℕ) → IsAsked work input Scan registry s
+  asked input = record { is_command = is; asks = asks; within = λ limited. absurd (true≢false (sym unlimited ∙ limited)) }
+
+  given : (input : List ℕ) → Gives work.raw input input
+  given input = subst (λ (b : Bool). Gives b input input) (sym raw) refl
+
+  pub counts : (front : Bool) → work.front ≡ front → (content left : Option (List ℕ)) (n : ℕ) → Scans front registry work.limits s content left (Ok n)
+      → IfTold content (λ all. Answers work all 0 (count_line n))
+  counts front of None left n told = tt
+  counts true of (Some all) left n told =
+      λ are. let h = told.2 are in scanned registry s all n h.0 (asked all) (given all) h.1 (λ whole. absurd (true≢false (sym of ∙ whole)))
+  counts false of (Some all) left n told =
+      λ are. let h = told.2 are in
+      scanned registry s all n h.0 (asked all) (given all) (subst (λ (m : ℕ). Accepts registry work.limits s all m h.0) (sym told.1) h.1.accepted) (λ whole. told.1)
+
+  pub stops_at : (front : Bool) → work.front ≡ front → (content left : Option (List ℕ)) (stop : Stop) → Scans front registry work.limits s content left (Err (decode_fault.Stop stop))
+      → IfTold content (λ all. Answers work all 2 (stop_line stop.reason stop.place))
+  stops_at front of None left stop told = tt
+  stops_at true of (Some all) left stop told = λ are. scan_stopped registry s all stop.reason stop.place (asked all) (given all) (rw of (told are).0)
+  stops_at false of (Some all) left stop told = λ are. scan_stopped registry s all stop.reason stop.place (asked all) (given all) (rw of (told are).0)
+
+-- a front of the content is gone
+drop_all : (xs : List ℕ) → drop (length xs) xs ≡ []
+drop_all [] = refl
+drop_all (x ∷ xs) = drop_all xs
+
+pub gone_at : (front : Bool) (work : Work) (registry : Entries) (s : Shape) (content left : Option (List ℕ)) (n : ℕ) → Scans front registry work.limits s content left (Ok n)
+    → IfTold content (λ all. FrontGone all left)
+gone_at front work registry s None left n told = tt
+gone_at true work registry s (Some all) left n told = λ are. (n, told.1, told.0)
+gone_at false work registry s (Some all) left n told = λ are. (length all, omega arith, told.0 ∙ ap Some (sym (drop_all all)))
+
+pub gone_at_stop : (front : Bool) (work : Work) (registry : Entries) (s : Shape) (content left : Option (List ℕ)) (stop : Stop)
+    → Scans front registry work.limits s content left (Err (decode_fault.Stop stop)) → IfTold content (λ all. FrontGone all left)
+gone_at_stop front work registry s None left stop told = tt
+gone_at_stop true work registry s (Some all) left stop told = λ are. let g = (told are).1 in (g.0, g.2, g.3)
+gone_at_stop false work registry s (Some all) left stop told = λ are. go (told are).2
+  where
+    go : (Stops registry work.limits s all stop.reason stop.place × GoneTo all left stop.place) ⊎ Trails registry work.limits s all left stop → FrontGone all left
+    go (inl h) = (h.1.0, h.1.2, h.1.3)
+    go (inr h) = (suc stop.place, omega (arith, h.after), h.gone)
+
+pub gone_at_want : (front : Bool) (work : Work) (registry : Entries) (s : Shape) (content left : Option (List ℕ))
+    → Scans front registry work.limits s content left (Err decode_fault.OutOfMemory) → IfTold content (λ all. FrontGone all left)
+gone_at_want front work registry s None left told = tt
+gone_at_want true work registry s (Some all) left told = λ _. told
+gone_at_want false work registry s (Some all) left told = λ _. told
+
+pub is_scanned : (work : Work) (content : Option (List ℕ)) (a : Answer) (status : ℕ) (output : List ℕ) → status ≤ 2 → Prints a status output
+    → IfTold content (λ all. Answers work all status output) → IsScanned work content a
+is_scanned work content a status output within prints told = record {
+  below = omega (arith, within, prints.same_status);
+  place = prints.no_place;
+  told = go content told;
+}
+  where
+    go : (c : Option (List ℕ)) → IfTold c (λ all. Answers work all status output) → IfTold c (λ all. Answers work all a.status a.output.items)
+    go None told = tt
+    go (Some all) told = λ are. rw prints.same_status (rw prints.same_output (told are))
+
+-- such a job scans bytes as they are
+scan_raw : (c : Command) (raw : Bool) → (is_scan c && raw) ≡ true → (c ≡ command.Scan) × (raw ≡ true)
+scan_raw command.Check raw is = cc
+scan_raw command.Grows raw is = cc
+scan_raw command.Encode raw is = cc
+scan_raw command.Decode raw is = cc
+scan_raw command.Explain raw is = cc
+scan_raw command.Normalise raw is = cc
+scan_raw command.Same raw is = cc
+scan_raw command.Part raw is = cc
+scan_raw command.Scan raw is = (refl, is)
+
+module _ (work : Work) (asked : Asked) (asks : IsAskedBy work asked) (streams : Streams work) where
+  pub scanned_count : (content left : Option (List ℕ)) (n : ℕ) (a : Answer) → Scans work.front asked.registry work.limits (shape_of asked.format) content left (Ok n)
+      → Prints a 0 (count_line n) → IsScanned work content a
+  scanned_count content left n a told prints =
+      let is = scan_raw work.command work.raw streams.0 in
+      is_scanned work content a 0 (count_line n) (omega arith) prints
+      (counts work asked.registry (shape_of asked.format) asks.asks is.0 is.1 streams.0 work.front refl content left n told)
+
+  pub scanned_refusal : {S : Type 0} (content : S → Option (List ℕ)) (has_stopped : S → Bool) (input input' : S) (fault : DecodeFault) (r : Result Answer Interruption)
+      → Scans work.front asked.registry work.limits (shape_of asked.format) (content input) (content input') (Err fault)
+      → (fault ≡ decode_fault.Read → has_stopped input' ≡ true) → RefusesScan fault r → AnswersScan content has_stopped work input input' r
+  scanned_refusal content has_stopped input input' (decode_fault.Stop stop) (Ok a) told read refuses =
+      let is = scan_raw work.command work.raw streams.0 in
+      is_scanned work (content input) a 2 (stop_line stop.reason stop.place) (omega arith) refuses
+      (stops_at work asked.registry (shape_of asked.format) asks.asks is.0 is.1 streams.0 work.front refl (content input) (content input') stop told)
+  scanned_refusal content has_stopped input input' (decode_fault.Stop stop) (Err e) told read refuses =
+      let P : Interruption → Type 0 = λ i. AnswersScan content has_stopped work input input' (Err i) in
+      subst P (sym refuses) (gone_at_stop work.front work asked.registry (shape_of asked.format) (content input) (content input') stop told, refl)
+  scanned_refusal content has_stopped input input' decode_fault.Read (Ok a) told read refuses = absurd refuses
+  scanned_refusal content has_stopped input input' decode_fault.Read (Err e) told read refuses =
+      let P : Interruption → Type 0 = λ i. AnswersScan content has_stopped work input input' (Err i) in
+      subst P (sym refuses) (read refl, refl)
+  scanned_refusal content has_stopped input input' decode_fault.OutOfMemory (Ok a) told read refuses = absurd refuses
+  scanned_refusal content has_stopped input input' decode_fault.OutOfMemory (Err e) told read refuses =
+      let P : Interruption → Type 0 = λ i. AnswersScan content has_stopped work input input' (Err i) in
+      subst P (sym refuses) (gone_at_want work.front work asked.registry (shape_of asked.format) (content input) (content input') told, refl)
+
+-- ---- the run
+
+module _ {S K : Type 0} (content : S → Option (List ℕ)) (has_stopped : S → Bool) (allowance : S → ℕ)
+    (taken : K → Option (List ℕ)) (is_failed : K → Bool) (work : Work) (streams : Streams work) where
+  whole : ¬ HasLines work
+  whole lines = true≢false (sym lines.0 ∙ streams.1)
+
+  pub scan_fails : (input input' : S) (out : K) (e : Interruption) → FaultOfScan content has_stopped input input' e.fault → e.answered ≡ 0
+      → Ends content has_stopped allowance taken is_failed work input input' out out (Err e)
+  scan_fails input input' out e of first = subst (λ (n : ℕ). FailsAt content has_stopped allowance taken is_failed work input input' out out e.fault n) (sym first) (go e.fault of)
+    where
+      go : (fault : RunFault) → FaultOfScan content has_stopped input input' fault → FailsAt content has_stopped allowance taken is_failed work input input' out out fault 0
+      go (Take take_fault.Read) of = (streams.2, of, nothing_before content has_stopped allowance taken is_failed work input out)
+      go (Take take_fault.TooLarge) of = absurd of
+      go (Take take_fault.OutOfMemory) of = (inr (inr (streams, of)), nothing_before content has_stopped allowance taken is_failed work input out)
+      go Write of = absurd of
+
+  -- the answer was put, or a front of it
+  pub put_scan : (input input' : S) (out out' : K) (answer : Answer) (result : Result Outcome Interruption) → IsScanned work (content input) answer
+      → PutsAnswer taken is_failed answer out out' result → Ends content has_stopped allowance taken is_failed work input input' out out' result
+  put_scan input input' out out' answer (Ok outcome) is puts = record {
+    note = puts.note;
+    below = omega (arith, puts.status, is.below);
+    output = answer.output.items;
+    put = puts.put;
+    responds = inr (streams, responds (content input) is.told);
+  }
+    where
+      responds : (c : Option (List ℕ)) → IfTold c (λ all. Answers work all answer.status answer.output.items)
+          → IfTold c (λ all. Responds work all outcome.status answer.output.items outcome.place.items)
+      responds None told = tt
+      responds (Some all) told =
+          λ are. subst (λ (status : ℕ). Responds work all status answer.output.items outcome.place.items) (sym puts.status)
+          (once answer.status answer.output.items outcome.place.items whole (told are) (places.nothing (puts.place ∙ is.place)))
+  put_scan input input' out out' answer (Err e) is puts =
+      let P : Interruption → Type 0 = λ i. FailsAt content has_stopped allowance taken is_failed work input input' out out' i.fault i.answered in
+      subst P (sym puts.0) (record {
+        lines = [];
+        statuses = [];
+        before = [];
+        many = refl;
+        answers = none;
+        status = answer.status;
+        output = answer.output.items;
+        next = inr (inr (streams, is.told));
+        shown = puts.1.0;
+        short = puts.1.1;
+        put = puts.1.2;
+        once = λ whole. refl;
+      })

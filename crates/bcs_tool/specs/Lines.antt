@@ -1,0 +1,56 @@
+-- What is known of a run over lines, between two of them.
+use Rattle.std.specs.Prelude.{◌≡◌, ◌+◌, ◌≤◌, ◌++◌, ℕ, List, Bool, All, Option, Some, None, Result, Ok, Err, length}
+use Rattle.bcs_io.specs.Giving as source
+use Rattle.bcs_io.specs.Taking as sink
+use Rattle.bcs_io_lines.specs.Lines.{HasNoLineFeed, lines_of}
+use Rattle.bcs_tool_answers.specs.LineAnswers.{AnswersAll, count_of, greatest}
+use Rattle.bcs_tool_files.specs.Files.{IsContent}
+use Rattle.bcs_tool_files.specs.declared.work.Work.{Work}
+use Rattle.bcs_tool.specs.Running.{FailsAt}
+use Rattle.bcs_tool.specs.declared.interruption.Interruption.{Interruption}
+use Rattle.bcs_tool.specs.declared.tally.Tally.{Tally}
+
+-- how many lines have which status, and which one is the greatest
+pub record IsTally (tally : Tally) (statuses : List ℕ) : Type 0 where
+  pub answered : tally.answered ≡ length statuses
+  pub done : tally.done ≡ count_of 0 statuses
+  pub negative : tally.negative ≡ count_of 1 statuses
+  pub refused : tally.refused ≡ count_of 2 statuses
+  pub status : tally.status ≡ greatest statuses
+
+-- behind these lines of the content stand what was read already and what is left, where that is known
+abbrev pub StandBefore : Option (List ℕ) → Option (List ℕ) → List (List ℕ) → List ℕ → Type 0
+StandBefore None left lines rest = Unit {0}
+StandBefore (Some all) None lines rest = ⊥
+StandBefore (Some all) (Some left) lines rest = lines_of all ≡ lines ++ lines_of (rest ++ left)
+
+module _ {S K : Type 0} (content : S → Option (List ℕ)) (has_stopped : S → Bool) (allowance : S → ℕ)
+    (taken : K → Option (List ℕ)) (is_failed : K → Bool) where
+  -- some lines were answered, and behind them these bytes were read
+  pub record IsSoFar (work : Work) (input now : S) (out out' : K) (rest : List ℕ) (tally : Tally) : Type 0 where
+    pub lines : List (List ℕ)
+    pub statuses : List ℕ
+    pub output : List ℕ
+    pub given : List ℕ
+    pub took : source.Took content has_stopped allowance input now given
+    pub stand : StandBefore (content input) (content now) lines rest
+    pub plain : All HasNoLineFeed lines
+    pub answers : AnswersAll work lines statuses output
+    pub put : sink.Took taken is_failed out out' output
+    pub counted : IsTally tally statuses
+    -- each line took a byte at least, so that they can be counted
+    pub room : length lines + length rest + allowance now ≤ allowance input
+
+  -- each line of the input was answered
+  pub record AllAnswered (work : Work) (input : S) (out out' : K) (tally : Tally) : Type 0 where
+    pub bytes : List ℕ
+    pub statuses : List ℕ
+    pub output : List ℕ
+    pub known : IsContent (content input) bytes
+    pub answers : AnswersAll work (lines_of bytes) statuses output
+    pub put : sink.Took taken is_failed out out' output
+    pub counted : IsTally tally statuses
+
+  abbrev pub EndsLines : Work → S → S → K → K → Result Tally Interruption → Type 0
+  EndsLines work input input' out out' (Ok tally) = AllAnswered work input out out' tally
+  EndsLines work input input' out out' (Err e) = FailsAt content has_stopped allowance taken is_failed work input input' out out' e.fault e.answered

@@ -1,0 +1,198 @@
+-- What comes of a job and its input: what is put of the answers, and why that isn't all of them.
+use Rattle.std.specs.Prelude.{◌≡◌, ◌≢◌, ◌⊎◌, ◌≤◌, ◌<◌, ◌+◌, ◌++◌, ℕ, List, [], ◌∷◌, Bool, true, false, IfSome, Option, Result, Ok, Err, codes, length, take}
+use Rattle.std.specs.Fmt.{decimal}
+use Rattle.bcs_decode.specs.Whole.{FrontGone}
+use Rattle.bcs_decode_spec.specs.Exact.{AreBytes}
+use Rattle.bcs_io.specs.Giving as source
+use Rattle.bcs_io.specs.Taking as sink
+use Rattle.bcs_io_lines.specs.Lines.{lines_of}
+use Rattle.bcs_io_lines.specs.declared.next_fault.NextFault.{NextFault}
+use Rattle.bcs_io_lines.specs.declared.next_fault.NextFault.TheVariants as next
+use Rattle.bcs_tool_answers.specs.Answers.{Answers}
+use Rattle.bcs_tool_answers.specs.Judging.{ReadsInput, is_unlimited}
+use Rattle.bcs_tool_answers.specs.LineAnswers.{AnswersAll, greatest, summary}
+use Rattle.bcs_tool_answers.specs.Places.{Places}
+use Rattle.bcs_tool_answers.specs.declared.answer.Answer.{Answer}
+use Rattle.bcs_tool_files.specs.FaultPlaces.{TellsPlace, output_text, take_place}
+use Rattle.bcs_tool_files.specs.Files.{IsContent, size_limit, take_note}
+use Rattle.bcs_tool_files.specs.declared.taking.TakeFault.{TakeFault}
+use Rattle.bcs_tool_files.specs.declared.taking.TakeFault.TheVariants.{Read, TooLarge, OutOfMemory}
+use Rattle.bcs_tool_files.specs.declared.work.Outcome.{Outcome}
+use Rattle.bcs_tool_files.specs.declared.work.Work.{Work}
+use Rattle.bcs_tool.specs.declared.interruption.Interruption.{Interruption}
+use Rattle.bcs_tool.specs.declared.run_fault.RunFault.{RunFault}
+use Rattle.bcs_tool.specs.declared.run_fault.RunFault.TheVariants.{Take, Write}
+
+-- ---- the answers
+
+-- each line of the job's input is an input of its own
+abbrev pub HasLines : Work → Type 0
+HasLines work = (work.lines ≡ true) × ReadsInput work
+
+-- the job scans bytes as they are, which are judged as they come and not held
+abbrev pub Streams : Work → Type 0
+Streams work = (is_unlimited work ≡ true) × (work.lines ≡ false) × ReadsInput work
+
+-- what is put for these bytes, the status, and what the standard error may be told beside: one answer, or one to each line
+pub data Responds (work : Work) (bytes : List ℕ) : ℕ → List ℕ → List ℕ → Type 0 where
+  once : (status : ℕ) (output place : List ℕ) → ¬ HasLines work → Answers work bytes status output → Places work bytes place → Responds work bytes status output place
+  -- the status is the greatest one; beside stands how many lines have which
+  by_line : (statuses output place : List ℕ) → HasLines work → AnswersAll work (lines_of bytes) statuses output → TellsPlace work.quiet (summary statuses) place
+      → Responds work bytes (greatest statuses) output place
+
+-- ---- faults
+
+-- the line of the standard error
+abbrev pub fault_note : RunFault → List ℕ
+fault_note (Take fault) = take_note fault
+fault_note Write = codes "fault: write"
+
+-- which stream is at fault, where the input has this text; want of memory has none
+abbrev pub stream_text : RunFault → List ℕ → List ℕ
+stream_text (Take fault) name = take_place fault name
+stream_text Write name = output_text
+
+-- with a comma behind it, if it has any sign
+abbrev pub before_more : List ℕ → List ℕ
+before_more [] = []
+before_more (c ∷ cs) = c ∷ cs ++ codes ", "
+
+-- where a run is broken off: the stream, and, where lines are answered, which line it is, behind so many
+abbrev pub run_place : Bool → RunFault → List ℕ → ℕ → List ℕ
+run_place false fault name count = stream_text fault name
+run_place true fault name count = before_more (stream_text fault name) ++ codes "line " ++ decimal (count + 1)
+
+-- the fault of a run whose next line isn't there
+abbrev pub of_next : NextFault → RunFault
+of_next next.Read = Take Read
+of_next next.TooLong = Take TooLarge
+of_next next.OutOfMemory = Take OutOfMemory
+
+-- ---- lines of a content
+
+-- these are the first lines of the content, where that is known
+abbrev pub AreFirst : Option (List ℕ) → List (List ℕ) → Type 0
+AreFirst content lines = IfSome content (λ all. (more : List (List ℕ)) × (lines_of all ≡ lines ++ more))
+
+-- behind so many lines of the content stands one that is too long
+pub record IsLongBehind (count : ℕ) (all : List ℕ) : Type 0 where
+  pub lines : List (List ℕ)
+  pub long : List ℕ
+  pub more : List (List ℕ)
+  pub parts : lines_of all ≡ lines ++ long ∷ more
+  pub many : length lines ≡ count
+  pub longer : size_limit < length long
+
+-- what holds of the bytes of a content, where they are known
+abbrev pub IfTold : Option (List ℕ) → (List ℕ → Type 0) → Type 0
+IfTold content P = IfSome content (λ all. AreBytes all → P all)
+
+-- the answer to the input behind these lines: to the next line, or to all of the content
+abbrev pub AnswersNext : Work → Option (List ℕ) → List (List ℕ) → ℕ → List ℕ → Type 0
+AnswersNext work content lines status output =
+    (HasLines work × ((line : List ℕ) × AreFirst content (lines ++ line ∷ []) × Answers work line status output))
+    ⊎ ((¬ HasLines work) × ((bytes : List ℕ) × IsContent content bytes × Answers work bytes status output))
+    ⊎ (Streams work × IfTold content (λ all. Answers work all status output))
+
+-- ---- one answer
+
+module _ {K : Type 0} (taken : K → Option (List ℕ)) (is_failed : K → Bool) where
+  -- the answer was put, and its status and its place are handed on
+  pub record IsPut (answer : Answer) (out out' : K) (outcome : Outcome) : Type 0 where
+    pub status : outcome.status ≡ answer.status
+    pub note : outcome.note.now ≡ []
+    pub place : outcome.place.items ≡ answer.place.items
+    pub put : sink.Took taken is_failed out out' answer.output.items
+
+  -- a front of the text was put, less than the whole, and then the output failed
+  abbrev pub PutFront : K → K → List ℕ → Type 0
+  PutFront out out' text = (n : ℕ) × (n < length text) × sink.Lost taken is_failed out out' (take n text)
+
+  abbrev pub PutsAnswer : Answer → K → K → Result Outcome Interruption → Type 0
+  PutsAnswer answer out out' (Ok outcome) = IsPut answer out out' outcome
+  PutsAnswer answer out out' (Err e) = (e ≡ record { fault = Write; answered = 0 }) × PutFront out out' answer.output.items
+
+  -- the answer to a line was put, or a front of it; or there was no memory for it
+  abbrev pub PutsLine : Work → List ℕ → K → K → Result ℕ RunFault → Type 0
+  PutsLine work line out out' (Ok status) = (output : List ℕ) × Answers work line status output × sink.Took taken is_failed out out' output
+  PutsLine work line out out' (Err (Take fault)) = (fault ≡ OutOfMemory) × (out' ≡ out)
+  PutsLine work line out out' (Err Write) = (status : ℕ) × (output : List ℕ) × Answers work line status output × PutFront out out' output
+
+-- ---- the run
+
+module _ {S K : Type 0} (content : S → Option (List ℕ)) (has_stopped : S → Bool) (allowance : S → ℕ)
+    (taken : K → Option (List ℕ)) (is_failed : K → Bool) where
+  -- the answers to the first lines, so many, were put, and nothing else; nothing, where the input is one
+  pub record PutBefore (work : Work) (input : S) (out out' : K) (count : ℕ) : Type 0 where
+    pub lines : List (List ℕ)
+    pub statuses : List ℕ
+    pub output : List ℕ
+    pub many : length lines ≡ count
+    pub first : AreFirst (content input) lines
+    pub answers : AnswersAll work lines statuses output
+    pub put : sink.Took taken is_failed out out' output
+    pub once : ¬ HasLines work → (lines ≡ []) × (out' ≡ out)
+
+  -- behind the answers to the first lines, so many, a front of the next answer was put, less than the whole
+  pub record PutPart (work : Work) (input : S) (out out' : K) (count : ℕ) : Type 0 where
+    pub lines : List (List ℕ)
+    pub statuses : List ℕ
+    pub before : List ℕ
+    pub many : length lines ≡ count
+    pub answers : AnswersAll work lines statuses before
+    pub status : ℕ
+    pub output : List ℕ
+    pub next : AnswersNext work (content input) lines status output
+    pub shown : ℕ
+    pub short : shown < length output
+    pub put : sink.Lost taken is_failed out out' (before ++ take shown output)
+    pub once : ¬ HasLines work → lines ≡ []
+
+  -- the input gave a byte more than an input may have; or the line behind so many has one
+  abbrev pub IsTooLarge : Work → S → S → ℕ → Type 0
+  IsTooLarge work input input' count =
+      ((¬ HasLines work) × ((bytes : List ℕ) × (length bytes ≡ size_limit + 1) × source.Took content has_stopped allowance input input' bytes))
+      ⊎ (HasLines work × ((bytes : List ℕ) × source.Took content has_stopped allowance input input' bytes) × IfSome (content input) (IsLongBehind count))
+
+  -- what is left of the input where memory ran out: it is as it was, or no call of it failed, and where it is one input, it
+  -- gave no more than is allowed; or, of bytes that are judged as they come, a front is gone
+  abbrev pub IsUnhurt : Work → S → S → Type 0
+  IsUnhurt work input input' = (input' ≡ input)
+      ⊎ ((bytes : List ℕ) × source.Took content has_stopped allowance input input' bytes
+      × (¬ HasLines work → (length bytes ≤ size_limit) × (has_stopped input' ≡ false)))
+      ⊎ (Streams work × IfTold (content input) (λ all. FrontGone all (content input')))
+
+  -- the run stopped with this fault, behind so many lines
+  abbrev pub FailsAt : Work → S → S → K → K → RunFault → ℕ → Type 0
+  FailsAt work input input' out out' (Take Read) count = ReadsInput work × (has_stopped input' ≡ true) × PutBefore work input out out' count
+  FailsAt work input input' out out' (Take TooLarge) count = ReadsInput work × IsTooLarge work input input' count × PutBefore work input out out' count
+  FailsAt work input input' out out' (Take OutOfMemory) count = IsUnhurt work input input' × PutBefore work input out out' count
+  FailsAt work input input' out out' Write count = PutPart work input out out' count
+
+  -- the answers to the whole input were put; of bytes that are judged as they come something is said where they are known
+  pub record IsAnswered (work : Work) (input : S) (out out' : K) (outcome : Outcome) : Type 0 where
+    pub note : outcome.note.now ≡ []
+    pub below : outcome.status < 3
+    pub output : List ℕ
+    pub put : sink.Took taken is_failed out out' output
+    pub responds : ((bytes : List ℕ) × IsContent (content input) bytes × Responds work bytes outcome.status output outcome.place.items)
+        ⊎ (Streams work × IfTold (content input) (λ all. Responds work all outcome.status output outcome.place.items))
+
+  -- all answers were put, or an interruption came
+  abbrev pub Ends : Work → S → S → K → K → Result Outcome Interruption → Type 0
+  Ends work input input' out out' (Ok outcome) = IsAnswered work input out out' outcome
+  Ends work input input' out out' (Err e) = FailsAt work input input' out out' e.fault e.answered
+
+  -- the outcome tells of this fault, behind so many lines, where the input has this text
+  pub record IsFailed (work : Work) (name : List ℕ) (input input' : S) (out out' : K) (outcome : Outcome) : Type 0 where
+    pub fault : RunFault
+    pub count : ℕ
+    pub status : outcome.status ≡ 4
+    pub note : outcome.note.now ≡ fault_note fault
+    pub tells : TellsPlace work.quiet (run_place work.lines fault name count) outcome.place.items
+    pub fails : FailsAt work input input' out out' fault count
+
+  -- what comes of a run; a job that has no input, or that its own words refuse, leaves the input as it was
+  pub record Runs (work : Work) (name : List ℕ) (input input' : S) (out out' : K) (outcome : Outcome) : Type 0 where
+    pub ends : IsAnswered work input out out' outcome ⊎ IsFailed work name input input' out out' outcome
+    pub untouched : ¬ ReadsInput work → input' ≡ input

@@ -1,0 +1,50 @@
+-- What is answered of bytes that are judged as they come.
+use Rattle.std.specs.Prelude.{◌≡◌, ◌<◌, ℕ, List, [], Bool, true, false, Option, Result, Ok, Err}
+use Rattle.bcs_registry_formats.specs.Container.{Entries}
+use Rattle.bcs_registry_formats.specs.Shape.{Shape}
+use Rattle.bcs_value_spec.specs.Limits.{Bounds}
+use Rattle.bcs_decode.specs.Whole.{FrontGone}
+use Rattle.bcs_decode_source_scan.specs.Scanned.{ScansAll, ScansFrom}
+use Rattle.bcs_decode_spec.specs.declared.decode_fault.DecodeFault.{DecodeFault}
+use Rattle.bcs_decode_spec.specs.declared.decode_fault.DecodeFault.TheVariants as decode_fault
+use Rattle.bcs_tool_answers.specs.Answers.{Answers, stop_line}
+use Rattle.bcs_tool_answers.specs.Places.{Prints}
+use Rattle.bcs_tool_answers.specs.declared.answer.Answer.{Answer}
+use Rattle.bcs_tool_files.specs.declared.taking.TakeFault.TheVariants.{OutOfMemory, Read, TooLarge}
+use Rattle.bcs_tool_files.specs.declared.work.Work.{Work}
+use Rattle.bcs_tool.specs.Running.{IfTold}
+use Rattle.bcs_tool.specs.declared.interruption.Interruption.{Interruption}
+use Rattle.bcs_tool.specs.declared.run_fault.RunFault.{RunFault}
+use Rattle.bcs_tool.specs.declared.run_fault.RunFault.TheVariants.{Take, Write}
+
+-- the verdict on a content: on its front alone, or on all of it
+abbrev pub Scans : Bool → Entries → Bounds → Shape → Option (List ℕ) → Option (List ℕ) → Result ℕ DecodeFault → Type 0
+Scans true = ScansFrom
+Scans false = ScansAll
+
+-- the line of a stop; or why there is none
+abbrev pub RefusesScan : DecodeFault → Result Answer Interruption → Type 0
+RefusesScan (decode_fault.Stop stop) (Ok a) = Prints a 2 (stop_line stop.reason stop.place)
+RefusesScan (decode_fault.Stop stop) (Err e) = e ≡ record { fault = Take OutOfMemory; answered = 0 }
+RefusesScan decode_fault.Read (Ok a) = ⊥
+RefusesScan decode_fault.Read (Err e) = e ≡ record { fault = Take Read; answered = 0 }
+RefusesScan decode_fault.OutOfMemory (Ok a) = ⊥
+RefusesScan decode_fault.OutOfMemory (Err e) = e ≡ record { fault = Take OutOfMemory; answered = 0 }
+
+-- the answer to the content, where it is known
+pub record IsScanned (work : Work) (content : Option (List ℕ)) (answer : Answer) : Type 0 where
+  pub below : answer.status < 3
+  pub place : answer.place.items ≡ []
+  pub told : IfTold content (λ all. Answers work all answer.status answer.output.items)
+
+module _ {S : Type 0} (content : S → Option (List ℕ)) (has_stopped : S → Bool) where
+  -- a call of the input failed; or memory ran out, and a front of the input is gone
+  abbrev pub FaultOfScan : S → S → RunFault → Type 0
+  FaultOfScan input input' (Take Read) = has_stopped input' ≡ true
+  FaultOfScan input input' (Take TooLarge) = ⊥
+  FaultOfScan input input' (Take OutOfMemory) = IfTold (content input) (λ all. FrontGone all (content input'))
+  FaultOfScan input input' Write = ⊥
+
+  abbrev pub AnswersScan : Work → S → S → Result Answer Interruption → Type 0
+  AnswersScan work input input' (Ok answer) = IsScanned work (content input) answer
+  AnswersScan work input input' (Err e) = FaultOfScan input input' e.fault × (e.answered ≡ 0)

@@ -1,0 +1,40 @@
+//! Where a run is broken off.
+
+use crate::run_fault::RunFault;
+use bcs_tool_files::TakeFault;
+use std::alloc::AllocError;
+use thiserror::Error;
+
+/// Why a run is broken off, and how many lines were answered before; none where the input is one.
+#[derive(Clone, Copy, Debug, Drop, Error)]
+#[error("{fault}")]
+pub struct Interruption {
+    pub fault: RunFault,
+    pub answered: u64,
+}
+
+impl From<TakeFault> for Interruption {
+    ghost use Rattle.std.specs.Prelude.{◌≡◌};
+    ghost use Rattle.bcs_tool.specs.declared.run_fault.RunFault.TheVariants.{Take};
+
+    ghost from_gives = { λ fault result. result ≡ record { fault = Take fault; answered = 0 } };
+
+    fn from(fault: TakeFault) -> Interruption {
+        Interruption {
+            fault: RunFault::Take(fault),
+            answered: 0,
+        }
+    }
+}
+
+impl From<AllocError> for Interruption {
+    ghost use Rattle.std.specs.Prelude.{◌≡◌};
+    ghost use Rattle.bcs_tool.specs.declared.run_fault.RunFault.TheVariants.{Take};
+    ghost use Rattle.bcs_tool_files.specs.declared.taking.TakeFault.TheVariants.{OutOfMemory};
+
+    ghost from_gives = { λ _ result. result ≡ record { fault = Take OutOfMemory; answered = 0 } };
+
+    fn from(_: AllocError) -> Interruption {
+        Interruption::from(TakeFault::OutOfMemory)
+    }
+}

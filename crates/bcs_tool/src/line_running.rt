@@ -1,0 +1,99 @@
+//! The lines of an input, each answered by itself.
+ghost use Rattle.std.specs.Prelude.{◌≡◌, ◌≤◌, length, true};
+ghost use Rattle.bcs_tool.specs.Lines.{EndsLines};
+ghost use Rattle.bcs_tool.specs.Running.{Ends, PutsLine};
+ghost use Rattle.bcs_tool_answers.specs.Preparing.{IsAskedBy};
+ghost use Rattle.bcs_tool_files.specs.Files.{size_limit};
+
+use crate::interruption::Interruption;
+use crate::run_fault::RunFault;
+use crate::run_places::place_of_tally;
+use crate::tally::Tally;
+use bcs_decode::ByteSource;
+use bcs_encode::ByteSink;
+use bcs_io::put_all;
+use bcs_io_lines::LineBuffer;
+use bcs_tool_answers::{Asked, answer_values};
+use bcs_tool_files::limits::SIZE_LIMIT;
+use bcs_tool_files::{Outcome, TakeFault, Work};
+use std::alloc::Global;
+
+/// Puts the answer to each line of the input, and tells how many have which status.
+pub fn run_lines<S: ByteSource, K: ByteSink>(
+    alloc: Global,
+    work: &Work,
+    asked: &Asked,
+    input: &mut S,
+    out: &mut K,
+) -> Result<Outcome, Interruption>
+    requires asked { IsAskedBy work.now asked.now }
+    requires by_line { work.now.lines ≡ true }
+    ensures { Ends S.content S.is_failed S.allowance K.taken K.is_failed work.now
+        input.old input.new out.old out.new result }
+{
+    let tally = put_lines(alloc, work, asked, input, out)?;
+    Ok(Outcome {
+        status: tally.status,
+        note: "",
+        place: place_of_tally(alloc, work.quiet, tally),
+    })
+}
+
+// Reads line after line, and puts the answer to each before the next one is read.
+fn put_lines<S: ByteSource, K: ByteSink>(
+    alloc: Global,
+    work: &Work,
+    asked: &Asked,
+    input: &mut S,
+    out: &mut K,
+) -> Result<Tally, Interruption>
+    requires asked { IsAskedBy work.now asked.now }
+    requires by_line { work.now.lines ≡ true }
+    ensures { EndsLines S.content S.is_failed S.allowance K.taken K.is_failed work.now
+        input.old input.new out.old out.new result }
+{
+    let mut buffer = LineBuffer::new(alloc);
+    let mut tally = Tally::new();
+    loop {
+        match buffer.advance(input, SIZE_LIMIT) {
+            Ok(true) => {}
+            Ok(false) => return Ok(tally),
+            Err(fault) => {
+                return Err(Interruption {
+                    fault: RunFault::of_next(fault),
+                    answered: tally.answered,
+                });
+            }
+        }
+        match put_line(alloc, work, asked, buffer.line(), out) {
+            Ok(status) => tally = tally.with(status),
+            Err(fault) => {
+                return Err(Interruption {
+                    fault,
+                    answered: tally.answered,
+                });
+            }
+        }
+    }
+}
+
+// Puts the answer to one line, and gives its status. Where it stands is not told.
+fn put_line<K: ByteSink>(
+    alloc: Global,
+    work: &Work,
+    asked: &Asked,
+    line: &[u8],
+    out: &mut K,
+) -> Result<u8, RunFault>
+    requires asked { IsAskedBy work.now asked.now }
+    requires within { length line.now ≤ size_limit }
+    ensures { PutsLine K.taken K.is_failed work.now line.now out.old out.new result }
+{
+    let Ok(answer) = answer_values(alloc, work, asked, line) else {
+        return Err(RunFault::Take(TakeFault::OutOfMemory));
+    };
+    match put_all(answer.output.as_slice(), out) {
+        Ok(()) => Ok(answer.status),
+        Err(_) => Err(RunFault::Write),
+    }
+}

@@ -1,0 +1,85 @@
+//! Bytes that are judged as they come, of which none is held but those of open keys.
+ghost use Rattle.std.specs.Prelude.{◌≡◌, ◌↔◌, true, IsErrOf};
+ghost use Rattle.bcs_registry_formats.specs.View.{shape_of};
+ghost use Rattle.bcs_registry_formats.specs.WellFormed.{Admits};
+ghost use Rattle.bcs_tool.specs.Running.{Ends, Streams};
+ghost use Rattle.bcs_tool.specs.Scanning.{AnswersScan, RefusesScan, Scans};
+ghost use Rattle.bcs_tool_answers.specs.Preparing.{IsAskedBy};
+
+use crate::interruption::Interruption;
+use crate::put_answer::put_answer;
+use bcs_decode::{ByteSource, DecodeFault};
+use bcs_decode_source_scan::{scan_all, scan_from};
+use bcs_encode::ByteSink;
+use bcs_tool_answers::{Answer, Asked, counted, stopped};
+use bcs_tool_files::{Outcome, TakeFault, Work};
+use std::alloc::Global;
+
+/// Puts how many bytes the value has that the input gives, or where they stop being one. Where they stand in the value is
+/// not told.
+pub fn run_scan<S: ByteSource, K: ByteSink>(
+    alloc: Global,
+    work: &Work,
+    asked: &Asked,
+    input: &mut S,
+    out: &mut K,
+) -> Result<Outcome, Interruption>
+    requires asked { IsAskedBy work.now asked.now }
+    requires streams { Streams work.now }
+    ensures { Ends S.content S.is_failed S.allowance K.taken K.is_failed work.now
+        input.old input.new out.old out.new result }
+{
+    let answer = scan_answer(alloc, work, asked, input)?;
+    put_answer(answer, out)
+}
+
+fn scan_answer<S: ByteSource>(
+    alloc: Global,
+    work: &Work,
+    asked: &Asked,
+    input: &mut S,
+) -> Result<Answer, Interruption>
+    requires asked { IsAskedBy work.now asked.now }
+    requires streams { Streams work.now }
+    ensures { AnswersScan S.content S.is_failed work.now input.old input.new result }
+{
+    match scanned(alloc, work, asked, input) {
+        Ok(length) => Ok(counted(alloc, length as usize)?),
+        Err(fault) => refusal(alloc, fault),
+    }
+}
+
+// The answer to bytes that stop being a value. Another fault is no refusal.
+fn refusal(alloc: Global, fault: DecodeFault) -> Result<Answer, Interruption>
+    ensures { RefusesScan fault result }
+{
+    match fault {
+        DecodeFault::Stop(stop) => Ok(stopped(alloc, stop)?),
+        DecodeFault::Read => Err(Interruption::from(TakeFault::Read)),
+        DecodeFault::OutOfMemory => Err(Interruption::from(TakeFault::OutOfMemory)),
+    }
+}
+
+// How many bytes the value has, at the front of what the input gives or of all of it.
+fn scanned<S: ByteSource>(
+    alloc: Global,
+    work: &Work,
+    asked: &Asked,
+    input: &mut S,
+) -> Result<u64, DecodeFault>
+    requires admitted { Admits asked.now.registry (shape_of asked.now.format) }
+    ensures told { Scans work.now.front asked.now.registry work.now.limits (shape_of asked.now.format)
+        (S.content input.old) (S.content input.new) result }
+    ensures read { IsErrOf result DecodeFault.Read ↔ S.is_failed input.new ≡ true }
+{
+    let Asked {
+        registry,
+        format,
+        ..
+    } = asked;
+    if work.front {
+        scan_from(alloc, registry, format, &work.limits, input)
+    } else {
+        scan_all(alloc, registry, format, &work.limits, input)
+    }
+}

@@ -1,0 +1,48 @@
+//! How many lines were answered with which status.
+ghost use Rattle.std.specs.Prelude.{◌<◌, ◌+◌, ◌^◌, ◌++◌, ◌∷◌, [], ℕ, List};
+ghost use Rattle.bcs_tool.specs.Lines.{IsTally};
+
+/// How many lines were answered, how many of them with which status, and the greatest one.
+#[derive(Clone, Copy, Debug, Drop)]
+pub struct Tally {
+    pub answered: u64,
+    /// With status 0.
+    pub done: u64,
+    /// With status 1.
+    pub negative: u64,
+    /// With status 2.
+    pub refused: u64,
+    /// The greatest status, which is 0 where no line was answered.
+    pub status: u8,
+}
+
+impl Tally {
+    /// No line was answered yet.
+    pub fn new() -> Tally
+        ensures { IsTally result [] }
+    {
+        Tally {
+            answered: 0,
+            done: 0,
+            negative: 0,
+            refused: 0,
+            status: 0,
+        }
+    }
+
+    /// One line more was answered, with this status.
+    pub fn with(self, status: u8) -> Tally
+        requires below { status < 3 }
+        requires counted { (statuses : List ℕ) × IsTally self statuses }
+        requires room { self.answered + 1 < 2 ^ 64 }
+        ensures { (statuses : List ℕ) → IsTally self statuses → IsTally result (statuses ++ status ∷ []) }
+    {
+        Tally {
+            answered: self.answered + 1,
+            done: self.done + u64::from(status == 0),
+            negative: self.negative + u64::from(status == 1),
+            refused: self.refused + u64::from(status == 2),
+            status: self.status.max(status),
+        }
+    }
+}

@@ -1,0 +1,12 @@
+pub mod AnswerLemmas
+pub mod PartAnswers
+pub mod ScanAnswers
+pub mod JudgingLemmas
+pub mod OneRefusal
+pub mod OneKind
+pub mod OneAnswer
+pub mod SomeRefusal
+pub mod SomeInput
+pub mod SomeAnswer
+pub mod LineAnswerLemmas
+pub mod LineLaws

@@ -1,0 +1,154 @@
+-- A job has at most one answer to an input.
+use Rattle.std.proofs.Common.{◌≡◌, ◌∙◌, ◌⊎◌, ◌++◌, inl, inr, ℕ, List, true, false, Some, None, codes, length, string_bytes, ap, refl, sym, subst}
+use Rattle.bcs_registry_formats.specs.Container.{Entries}
+use Rattle.bcs_registry_formats.specs.Grows.{Grows}
+use Rattle.bcs_registry_formats.specs.Ranges.{IsOrderly}
+use Rattle.bcs_registry_formats.specs.Shape.{Shape}
+use Rattle.bcs_encode_spec.specs.Plain.{plain}
+use Rattle.bcs_decode_parts.specs.Parts.{Step}
+use Rattle.bcs_registry_spec.proofs.OneText.{same_registry}
+use Rattle.bcs_tool_path.specs.Path.{SpellsPath}
+use Rattle.bcs_tool_path.proofs.Parts.{one_path}
+use Rattle.bcs_tool_files.specs.declared.work.Work.{Work}
+use Rattle.bcs_tool_line.specs.declared.command.Command.{Command}
+use Rattle.bcs_tool_line.specs.declared.command.Command.TheVariants.{Check, Encode, Decode, Normalise}
+use Rattle.bcs_tool_line.specs.declared.command.Command.TheVariants as command
+use Rattle.bcs_tool_answers.specs.AnswerLaws.{OneAnswer}
+use Rattle.bcs_json_spec.specs.FaultNames.{json_fault_name}
+use Rattle.bcs_tool_answers.specs.Answers.{Answers, IsAsked, count_line, line_of, printed, printed_none, refusal_line, stop_end, stop_line}
+use Rattle.bcs_tool_answers.specs.Answers as answer
+use Rattle.bcs_tool_answers.specs.Judging.{IsFormat, IsPath, IsRegistry, RefusesAt, RefusesFormatted, job_fault_name}
+use Rattle.bcs_tool_answers.specs.declared.job_fault.JobFault.{JobFault}
+use Rattle.bcs_tool_answers.proofs.OneKind.{Agrees, Compared, Decoded, Encoded, Explained, Normalised, Parted, Scanned, one_compared, one_decoded, one_encoded, one_explained, one_normalised, one_parted, one_scanned}
+use Rattle.bcs_tool_answers.proofs.OneRefusal.{not_checked, not_formatted, not_grown, not_parted, one_format_word, one_refusal}
+
+module _ (work : Work) (input : List ℕ) where
+  -- ---- what is answered by each command
+
+  abbrev Valued : (Entries → Shape → ℕ → List ℕ → Type 0) → ℕ → List ℕ → Type 0
+  Valued P s p = (r : Entries) × (f : Shape) × IsRegistry work.registry.items r × IsFormat r (string_bytes work.format) f × P r f s p
+
+  abbrev Late : Command → ℕ → List ℕ → Type 0
+  Late Check s p = (r : Entries) × IsRegistry work.registry.items r × (s ≡ 0) × (p ≡ count_line (length r))
+  Late command.Grows s p = (r : Entries) × (n : Entries) × IsRegistry work.registry.items r × IsRegistry work.second.items n × Grows r n × (s ≡ 0) × (p ≡ line_of (codes "grows"))
+  Late Encode s p = Valued (Encoded work input) s p
+  Late Decode s p = Valued (Decoded work input) s p
+  Late command.Explain s p = Valued (Explained work input) s p
+  Late Normalise s p = Valued (Normalised work input) s p
+  Late command.Same s p = Valued (Compared work input) s p
+  Late command.Scan s p = Valued (Scanned work input) s p
+  Late command.Part s p = (path : List Step) × SpellsPath (string_bytes work.path) path × Valued (λ r f. Parted work input r f path) s p
+
+  abbrev Early : Command → ℕ → List ℕ → Type 0
+  Early c s p = (fault : JobFault) × RefusesAt c work fault × (s ≡ 2) × (p ≡ refusal_line (job_fault_name fault))
+
+  valued : (P : Entries → Shape → ℕ → List ℕ → Type 0) (c : Command) (r : Entries) (f : Shape) (s : ℕ) (p : List ℕ) → IsAsked work input c r f → P r f s p → Valued P s p
+  valued P c r f s p asked is = (r, f, asked.asks.is_registry, asked.asks.is_format, is)
+
+  -- `part`, whose PATH spells these steps
+  parted : (r : Entries) (f : Shape) (path : List Step) (s : ℕ) (p : List ℕ) → IsAsked work input command.Part r f
+      → SpellsPath (string_bytes work.path) path → Parted work input r f path s p → Late command.Part s p
+  parted r f path s p asked spells is = (path, spells, valued (λ r f. Parted work input r f path) command.Part r f s p asked is)
+
+  -- its PATH spells steps, since it is not refused
+  spelled : (c : Command) (r : Entries) (f : Shape) → c ≡ command.Part → IsAsked work input c r f → (path : List Step) × SpellsPath (string_bytes work.path) path
+  spelled c r f is asked =
+      let has = asked.asks.has_path in
+      (has.0, subst (λ (k : Command). IsPath k (string_bytes work.path) has.0) (asked.is_command ∙ is) has.1)
+
+  by : (c : Command) (s : ℕ) (p : List ℕ) → work.command ≡ c → Late c s p → Early work.command s p ⊎ Late work.command s p
+  by c s p is late = inr (subst (λ k. Late k s p) (sym is) late)
+
+  told : {s : ℕ} {p : List ℕ} → Answers work input s p → Early work.command s p ⊎ Late work.command s p
+  told (answer.refused_early fault h) = inl (fault, h, refl, refl)
+  told (answer.checked r c h) = by Check 0 (count_line (length r)) c (r, h, refl, refl)
+  told (answer.grown r n c h k g) = by command.Grows 0 (line_of (codes "grows")) c (r, n, h, k, g, refl, refl)
+  told (answer.encoded r f b a h) = by Encode 0 (printed work.raw b) a.is_command (valued (Encoded work input) Encode r f 0 (printed work.raw b) a (inl (b, h, refl, refl)))
+  told (answer.normalised r f t a h) = by Normalise 0 (line_of t) a.is_command (valued (Normalised work input) Normalise r f 0 (line_of t) a (inl (t, h, refl, refl)))
+  told (answer.refused c r f e (inl is) a h) = by Encode 2 (refusal_line (json_fault_name e)) (a.is_command ∙ is) (valued (Encoded work input) c r f 2 (refusal_line (json_fault_name e)) a (inr (e, h, refl, refl)))
+  told (answer.refused c r f e (inr is) a h) = by Normalise 2 (refusal_line (json_fault_name e)) (a.is_command ∙ is) (valued (Normalised work input) c r f 2 (refusal_line (json_fault_name e)) a (inr (e, h, refl, refl)))
+  told (answer.equal r f a h) = by command.Same 0 (line_of (codes "equal")) a.is_command (valued (Compared work input) command.Same r f 0 (line_of (codes "equal")) a (inl (true, h, refl, refl)))
+  told (answer.different r f a h) = by command.Same 1 (line_of (codes "different")) a.is_command (valued (Compared work input) command.Same r f 1 (line_of (codes "different")) a (inl (false, h, refl, refl)))
+  told (answer.first_refused r f e a h) = by command.Same 2 (refusal_line (json_fault_name e)) a.is_command (valued (Compared work input) command.Same r f 2 (refusal_line (json_fault_name e)) a (inr (inl (e, h, refl, refl))))
+  told (answer.second_refused r f t e a d h) = by command.Same 2 (refusal_line (json_fault_name e)) a.is_command (valued (Compared work input) command.Same r f 2 (refusal_line (json_fault_name e)) a (inr (inr (t, d, (e, h, refl, refl)))))
+  told (answer.decoded r f b t a g h) = by Decode 0 (line_of t) a.is_command (valued (Decoded work input) Decode r f 0 (line_of t) a (inl (b, g, inl (t, h, refl, refl))))
+  told (answer.stopped r f b e o a g h) = by Decode 2 (stop_line e o) a.is_command (valued (Decoded work input) Decode r f 2 (stop_line e o) a (inl (b, g, inr (inl (e, o, h, refl, refl)))))
+  told (answer.too_nested r f b c a g h n) = by Decode 2 (refusal_line (codes "TooNested")) a.is_command (valued (Decoded work input) Decode r f 2 (refusal_line (codes "TooNested")) a (inl (b, g, inr (inr (c, h, n, refl, refl)))))
+  told (answer.explained r f b t a g h) =
+      by command.Explain 0 t a.is_command (valued (Explained work input) command.Explain r f 0 t a (inl (b, g, (t, None, h, refl, refl))))
+  told (answer.damaged r f b t e o a g h) =
+      by command.Explain 2 (t ++ stop_end work.style.form e o) a.is_command
+      (valued (Explained work input) command.Explain r f 2 (t ++ stop_end work.style.form e o) a (inl (b, g, (t, Some (record { reason = e; place = o }), h, refl, refl))))
+  told (answer.no_bytes c r f (inl is) a h) = by Decode 2 (refusal_line (codes "BadHex")) (a.is_command ∙ is) (valued (Decoded work input) c r f 2 (refusal_line (codes "BadHex")) a (inr (h, refl, refl)))
+  told (answer.no_bytes c r f (inr (inr (inl is))) a h) =
+      by command.Explain 2 (refusal_line (codes "BadHex")) (a.is_command ∙ is) (valued (Explained work input) c r f 2 (refusal_line (codes "BadHex")) a (inr (h, refl, refl)))
+  told (answer.no_bytes c r f (inr (inr (inr is))) a h) =
+      by command.Scan 2 (refusal_line (codes "BadHex")) (a.is_command ∙ is) (valued (Scanned work input) c r f 2 (refusal_line (codes "BadHex")) a (inr (h, refl, refl)))
+  told (answer.no_bytes c r f (inr (inl is)) a h) =
+      let path = spelled c r f is a in
+      let own = subst (λ (k : Command). IsAsked work input k r f) is a in
+      by command.Part 2 (refusal_line (codes "BadHex")) own.is_command (parted r f path.0 2 (refusal_line (codes "BadHex")) own path.1 (inr (h, refl, refl)))
+  told (answer.found r f path b n c x a spells g h at) =
+      by command.Part 0 (printed work.raw (plain r x.value x.content)) a.is_command
+      (parted r f path 0 (printed work.raw (plain r x.value x.content)) a spells (inl (b, g, inl (n, c, h, inl (x, at, refl, refl)))))
+  told (answer.nowhere r f path b n c a spells g h at) =
+      by command.Part 1 (printed_none work.raw) a.is_command
+      (parted r f path 1 (printed_none work.raw) a spells (inl (b, g, inl (n, c, h, inr (at, refl, refl)))))
+  told (answer.front_stopped r f b e o a g h) =
+      let path = spelled command.Part r f refl a in
+      by command.Part 2 (stop_line e o) a.is_command (parted r f path.0 2 (stop_line e o) a path.1 (inl (b, g, inr (e, o, h, refl, refl))))
+  told (answer.scanned r f b n c a g h w) =
+      by command.Scan 0 (count_line n) a.is_command (valued (Scanned work input) command.Scan r f 0 (count_line n) a (inl (b, g, inl (n, c, (h, w), refl, refl))))
+  told (answer.scan_stopped r f b e o a g h) =
+      by command.Scan 2 (stop_line e o) a.is_command (valued (Scanned work input) command.Scan r f 2 (stop_line e o) a (inl (b, g, inr (e, o, h, refl, refl))))
+
+  -- ---- one of each command
+
+  abbrev IsOne : (ℕ → List ℕ → Type 0) → Type 0
+  IsOne P = (s z : ℕ) (p q : List ℕ) → P s p → P z q → Agrees s p z q
+
+  one_valued : (P : Entries → Shape → ℕ → List ℕ → Type 0) → ((r : Entries) (f : Shape) → IsOrderly r → IsOne (P r f)) → IsOne (Valued P)
+  one_valued P one s z p q (r, f, h, a, x) (n, g, k, b, y) =
+      let same : n ≡ r = same_registry work.registry.items n r k.0 h.0 in
+      let format : g ≡ f = one_format_word r (string_bytes work.format) g f (subst (λ (m : Entries). IsFormat m (string_bytes work.format) g) same b) a in
+      one r f h.0.2.orderly s z p q x (subst (λ (i : Shape). P r i z q) format (subst (λ (m : Entries). P m g z q) same y))
+
+  one_late : (c : Command) → IsOne (Late c)
+  one_late Check s z p q (r, h, hs, hp) (n, k, ks, kq) =
+      (hs ∙ sym ks, hp ∙ ap (λ (m : Entries). count_line (length m)) (same_registry work.registry.items r n h.0 k.0) ∙ sym kq)
+  one_late command.Grows s z p q (r, n, h, g, w, hs, hp) (r2, n2, k, i, x, ks, kq) = (hs ∙ sym ks, hp ∙ sym kq)
+  one_late Encode s z p q h k = one_valued (Encoded work input) (one_encoded work input) s z p q h k
+  one_late Decode s z p q h k = one_valued (Decoded work input) (one_decoded work input) s z p q h k
+  one_late command.Explain s z p q h k = one_valued (Explained work input) (one_explained work input) s z p q h k
+  one_late Normalise s z p q h k = one_valued (Normalised work input) (one_normalised work input) s z p q h k
+  one_late command.Same s z p q h k = one_valued (Compared work input) (one_compared work input) s z p q h k
+  one_late command.Part s z p q (path, spells, h) (other, also, k) =
+      let same : other ≡ path = one_path (string_bytes work.path) other path also spells in
+      one_valued (λ r f. Parted work input r f path) (λ r f orderly. one_parted work input r f orderly path) s z p q h
+      (subst (λ (t : List Step). Valued (λ r f. Parted work input r f t) z q) same k)
+  one_late command.Scan s z p q h k = one_valued (Scanned work input) (one_scanned work input) s z p q h k
+
+  -- a job that is refused for its words answers nothing else
+  of_valued : (P : Entries → Shape → ℕ → List ℕ → Type 0) (fault : JobFault) (s : ℕ) (p : List ℕ) → RefusesFormatted work fault → Valued P s p → ⊥
+  of_valued P fault s p h (r, f, is, a, x) = not_formatted work fault r f h is a
+
+  not_late : (c : Command) (fault : JobFault) (s : ℕ) (p : List ℕ) → RefusesAt c work fault → Late c s p → ⊥
+  not_late Check fault s p h (r, is, ks, kq) = not_checked work fault r h is
+  not_late command.Grows fault s p h (r, n, is, i, g, ks, kq) = not_grown work fault r n h is i g
+  not_late Encode fault s p h k = of_valued (Encoded work input) fault s p h k
+  not_late Decode fault s p h k = of_valued (Decoded work input) fault s p h k
+  not_late command.Explain fault s p h k = of_valued (Explained work input) fault s p h k
+  not_late Normalise fault s p h k = of_valued (Normalised work input) fault s p h k
+  not_late command.Same fault s p h k = of_valued (Compared work input) fault s p h k
+  not_late command.Scan fault s p h k = of_valued (Scanned work input) fault s p h k
+  not_late command.Part fault s p h (path, spells, (r, f, is, a, x)) = not_parted work fault r f path h is a spells
+
+  one_of_both : (c : Command) (s z : ℕ) (p q : List ℕ) → Early c s p ⊎ Late c s p → Early c z q ⊎ Late c z q → Agrees s p z q
+  one_of_both c s z p q (inl (e, h, hs, hp)) (inl (g, k, ks, kq)) =
+      (hs ∙ sym ks, hp ∙ ap (λ (x : JobFault). refusal_line (job_fault_name x)) (one_refusal c work e g h k) ∙ sym kq)
+  one_of_both c s z p q (inl (e, h, hs, hp)) (inr k) = absurd (not_late c e z q h k)
+  one_of_both c s z p q (inr h) (inl (g, k, ks, kq)) = absurd (not_late c g s p k h)
+  one_of_both c s z p q (inr h) (inr k) = one_late c s z p q h k
+
+pub one_answer : OneAnswer
+one_answer work input s z p q h k = one_of_both work input work.command s z p q (told work input h) (told work input k)

@@ -1,0 +1,271 @@
+-- At a registry and a format there is at most one answer of each kind.
+use Rattle.std.proofs.Common.{◌≡◌, ◌<◌, ◌∙◌, ◌⊎◌, inl, inr, ℕ, List, Bool, true, false, Option, Some, None, Ok, codes, length, ap, ap₂, arith, refl, sym, subst}
+use Rattle.std.proofs.lemmas.Bool.{true≢false}
+use Rattle.serde_json.specs.Data.{depth}
+use Rattle.serde_json.specs.Written.{compact_text}
+use Rattle.bcs_registry_formats.specs.Container.{Entries}
+use Rattle.bcs_registry_formats.specs.Container as container
+use Rattle.bcs_registry_formats.specs.Ranges.{IsOrderly}
+use Rattle.bcs_registry_formats.specs.Shape.{Shape}
+use Rattle.bcs_value_spec.proofs.Equivalence.{same-refl}
+use Rattle.bcs_value_tree.specs.Tree.{Tree}
+use Rattle.bcs_value_spec.specs.Same.{Same}
+use Rattle.bcs_encode_spec.proofs.FormLaws.{bytes_decide_same, forms_same}
+use Rattle.bcs_encode_spec.specs.Encodes.{Encodes, IsForm}
+use Rattle.bcs_encode_spec.specs.Plain.{plain}
+use Rattle.bcs_decode_spec.specs.Accepting.{Accepts}
+use Rattle.bcs_decode_spec.specs.Stopping.{Stops, StopsAll}
+use Rattle.bcs_decode_spec.proofs.Verdicts.{accepts_once_is, no_two_verdicts_are, no_two_verdicts_of_all_are, stops_all_once_is, stops_once_is}
+use Rattle.bcs_decode_parts.specs.Parts.{Step, Part, part_at}
+use Rattle.bcs_decode_spec.specs.declared.reason.Reason.{Reason}
+use Rattle.bcs_decode_spec.specs.declared.stop.Stop.{Stop}
+use Rattle.bcs_explain_table.specs.Explains.{Explains}
+use Rattle.bcs_explain_table.proofs.OneExplanation.{explains_once}
+use Rattle.bcs_json_spec.specs.declared.json_fault.JsonFault.{JsonFault}
+use Rattle.bcs_json_spec.specs.Headline.{Compares, HasBytes, Normalises, ShowsBytes}
+use Rattle.bcs_json_spec.specs.JsonContent.{of}
+use Rattle.bcs_json_spec.specs.Shown.{shown}
+use Rattle.bcs_json_spec.specs.Texts.{Denotes, RefusesText, nesting_limit}
+use Rattle.bcs_json_spec.proofs.Lowest.{shown_is_lowest}
+use Rattle.bcs_json_spec.proofs.OneAnswer as text
+use Rattle.bcs_json_spec.proofs.TextLaws.{denoted_is_not_refused, denotes_once}
+use Rattle.bcs_tool_files.specs.declared.work.Work.{Work}
+use Rattle.bcs_json_spec.specs.FaultNames.{json_fault_name}
+use Rattle.bcs_tool_answers.proofs.ScanAnswers.{Scans, not_scanned, one_count, one_scan_stop}
+use Rattle.bcs_tool_answers.specs.Answers.{ScanStops, count_line, explained_status, explained_text, line_of, printed, printed_none, refusal_line, stop_line}
+use Rattle.bcs_tool_answers.specs.Input as given
+
+-- the same status and the same output
+abbrev pub Agrees : ℕ → List ℕ → ℕ → List ℕ → Type 0
+Agrees s p z q = (s ≡ z) × (p ≡ q)
+
+-- the bytes that an input gives are its own
+one_given : (raw : Bool) (input b c : List ℕ) → given.Gives raw input b → given.Gives raw input c → b ≡ c
+one_given true input b c h k = h ∙ sym k
+one_given false input b c h k = let same : Ok b ≡ Ok c = sym h ∙ k in cc
+
+-- how `same` answers
+abbrev pub word_of : Bool → List ℕ
+word_of true = line_of (codes "equal")
+word_of false = line_of (codes "different")
+
+abbrev pub status_of : Bool → ℕ
+status_of true = 0
+status_of false = 1
+
+module _ (work : Work) (input : List ℕ) where
+  -- ---- what is answered at a registry and a format
+
+  module _ (r : Entries) (f : Shape) where
+    abbrev pub Refused : List ℕ → ℕ → List ℕ → Type 0
+    Refused words s p = (e : JsonFault) × RefusesText r work.limits f words e × (s ≡ 2) × (p ≡ refusal_line (json_fault_name e))
+
+    abbrev pub Encoded : ℕ → List ℕ → Type 0
+    Encoded s p = ((b : List ℕ) × HasBytes r work.limits f input b × (s ≡ 0) × (p ≡ printed work.raw b)) ⊎ Refused input s p
+
+    abbrev pub Normalised : ℕ → List ℕ → Type 0
+    Normalised s p = ((t : List ℕ) × Normalises r work.limits f input t × (s ≡ 0) × (p ≡ line_of t)) ⊎ Refused input s p
+
+    abbrev pub Compared : ℕ → List ℕ → Type 0
+    Compared s p = ((b : Bool) × Compares r work.limits f work.second.items input b × (s ≡ status_of b) × (p ≡ word_of b))
+        ⊎ (Refused work.second.items s p
+        ⊎ ((t : Tree) × Denotes r work.limits f work.second.items t × Refused input s p))
+
+    abbrev pub Shown : List ℕ → ℕ → List ℕ → Type 0
+    Shown bytes s p = ((t : List ℕ) × ShowsBytes r work.limits f bytes t × (s ≡ 0) × (p ≡ line_of t))
+        ⊎ (((e : Reason) × (o : ℕ) × StopsAll r work.limits f bytes e o × (s ≡ 2) × (p ≡ stop_line e o))
+        ⊎ ((c : Tree) × Accepts r work.limits f bytes (length bytes) c × (nesting_limit < depth (shown r c (of f))) × (s ≡ 2) × (p ≡ refusal_line (codes "TooNested"))))
+
+    -- where the input gives bytes, what is answered to these; and where it gives none
+    abbrev pub Given : (List ℕ → ℕ → List ℕ → Type 0) → ℕ → List ℕ → Type 0
+    Given P s p = ((bytes : List ℕ) × given.Gives work.raw input bytes × P bytes s p)
+        ⊎ (((bytes : List ℕ) → given.Gives work.raw input bytes → ⊥) × (s ≡ 2) × (p ≡ refusal_line (codes "BadHex")))
+
+    abbrev pub Decoded : ℕ → List ℕ → Type 0
+    Decoded s p = Given Shown s p
+
+    abbrev pub Pieced : List ℕ → ℕ → List ℕ → Type 0
+    Pieced bytes s p = (t : List ℕ) × (x : Option Stop) × Explains work.style r work.limits f bytes t x × (s ≡ explained_status x) × (p ≡ explained_text work.style.form t x)
+
+    abbrev pub Explained : ℕ → List ℕ → Type 0
+    Explained s p = Given Pieced s p
+
+    -- what is printed of the value at the front of the bytes
+    abbrev pub Led : List Step → Tree → ℕ → List ℕ → Type 0
+    Led path c s p = ((x : Part) × (part_at r path (container.of f) c ≡ Some x) × (s ≡ 0) × (p ≡ printed work.raw (plain r x.value x.content)))
+        ⊎ ((part_at r path (container.of f) c ≡ None) × (s ≡ 1) × (p ≡ printed_none work.raw))
+
+    abbrev pub Fronted : List Step → List ℕ → ℕ → List ℕ → Type 0
+    Fronted path bytes s p = ((n : ℕ) × (c : Tree) × Accepts r work.limits f bytes n c × Led path c s p)
+        ⊎ ((e : Reason) × (o : ℕ) × Stops r work.limits f bytes e o × (s ≡ 2) × (p ≡ stop_line e o))
+
+    abbrev pub Parted : List Step → ℕ → List ℕ → Type 0
+    Parted path s p = Given (Fronted path) s p
+
+    -- how many bytes the value has that is scanned
+    abbrev pub Counted : List ℕ → ℕ → List ℕ → Type 0
+    Counted bytes s p = ((n : ℕ) × (c : Tree) × Scans r work.limits f bytes work.front n c × (s ≡ 0) × (p ≡ count_line n))
+        ⊎ ((e : Reason) × (o : ℕ) × ScanStops work.front r work.limits f bytes e o × (s ≡ 2) × (p ≡ stop_line e o))
+
+    abbrev pub Scanned : ℕ → List ℕ → Type 0
+    Scanned s p = Given Counted s p
+
+  -- ---- one of each
+
+  module _ (r : Entries) (f : Shape) (orderly : IsOrderly r) where
+    one_refused : (words : List ℕ) (s z : ℕ) (p q : List ℕ) → Refused r f words s p → Refused r f words z q → Agrees s p z q
+    one_refused words s z p q (e, h, hs, hp) (g, k, ks, kq) =
+        let same : e ≡ g = (text.text_denotes_or_is_refused r work.limits f words orderly).once e g h k in
+        (hs ∙ sym ks, hp ∙ ap (λ (x : JsonFault). refusal_line (json_fault_name x)) same ∙ sym kq)
+
+    not_both : (words : List ℕ) (t : Tree) (s : ℕ) (p : List ℕ) → Denotes r work.limits f words t → Refused r f words s p → ⊥
+    not_both words t s p d h = denoted_is_not_refused r work.limits f words t h.0 d h.1
+
+    -- a text's value and another's are the same tree
+    one_value : (words : List ℕ) (t u : Tree) → Denotes r work.limits f words t → Denotes r work.limits f words u → t ≡ u
+    one_value words t u h k = denotes_once r work.limits f words t u h k
+
+    one_encoding : (b c : List ℕ) → HasBytes r work.limits f input b → HasBytes r work.limits f input c → b ≡ c
+    one_encoding b c h k =
+        let own : Encodes r work.limits f h.value c = subst (λ (t : Tree). Encodes r work.limits f t c) (one_value input k.value h.value k.denoted h.denoted) k.encoded in
+        (bytes_decide_same r work.limits f h.value h.value b c h.encoded own).0 (same-refl h.value)
+
+    one_normal : (t u : List ℕ) → Normalises r work.limits f input t → Normalises r work.limits f input u → t ≡ u
+    one_normal t u h k =
+        let own : IsForm r (container.of f) h.value k.form = subst (λ (v : Tree). IsForm r (container.of f) v k.form) (one_value input k.value h.value k.denoted h.denoted) k.is_form in
+        let same : h.form ≡ k.form = forms_same r (container.of f) h.value h.value h.form k.form h.is_form own (same-refl h.value) in
+        h.is ∙ ap (λ (c : Tree). compact_text (shown r c (of f))) same ∙ sym k.is
+
+    pub one_encoded : (s z : ℕ) (p q : List ℕ) → Encoded r f s p → Encoded r f z q → Agrees s p z q
+    one_encoded s z p q (inl (b, h, hs, hp)) (inl (c, k, ks, kq)) = (hs ∙ sym ks, hp ∙ ap (printed work.raw) (one_encoding b c h k) ∙ sym kq)
+    one_encoded s z p q (inl (b, h, hs, hp)) (inr k) = absurd (not_both input h.value z q h.denoted k)
+    one_encoded s z p q (inr h) (inl (c, k, ks, kq)) = absurd (not_both input k.value s p k.denoted h)
+    one_encoded s z p q (inr h) (inr k) = one_refused input s z p q h k
+
+    pub one_normalised : (s z : ℕ) (p q : List ℕ) → Normalised r f s p → Normalised r f z q → Agrees s p z q
+    one_normalised s z p q (inl (t, h, hs, hp)) (inl (u, k, ks, kq)) = (hs ∙ sym ks, hp ∙ ap line_of (one_normal t u h k) ∙ sym kq)
+    one_normalised s z p q (inl (t, h, hs, hp)) (inr k) = absurd (not_both input h.value z q h.denoted k)
+    one_normalised s z p q (inr h) (inl (u, k, ks, kq)) = absurd (not_both input k.value s p k.denoted h)
+    one_normalised s z p q (inr h) (inr k) = one_refused input s z p q h k
+
+    one_comparison : (b c : Bool) → Compares r work.limits f work.second.items input b → Compares r work.limits f work.second.items input c → b ≡ c
+    one_comparison true true h k = refl
+    one_comparison false false h k = refl
+    one_comparison true false h k = absurd (differ h k)
+      where
+        differ : Compares r work.limits f work.second.items input true → Compares r work.limits f work.second.items input false → ⊥
+        differ h k =
+            let one : h.one ≡ k.one = one_value work.second.items h.one k.one h.one_denoted k.one_denoted in
+            let other : h.other ≡ k.other = one_value input h.other k.other h.other_denoted k.other_denoted in
+            let same : Same k.one k.other = subst (λ (t : Tree). Same k.one t) other (subst (λ (t : Tree). Same t h.other) one (h.same.0 refl)) in
+            true≢false (sym (k.same.1 same))
+    one_comparison false true h k = absurd (differ k h)
+      where
+        differ : Compares r work.limits f work.second.items input true → Compares r work.limits f work.second.items input false → ⊥
+        differ h k =
+            let one : h.one ≡ k.one = one_value work.second.items h.one k.one h.one_denoted k.one_denoted in
+            let other : h.other ≡ k.other = one_value input h.other k.other h.other_denoted k.other_denoted in
+            let same : Same k.one k.other = subst (λ (t : Tree). Same k.one t) other (subst (λ (t : Tree). Same t h.other) one (h.same.0 refl)) in
+            true≢false (sym (k.same.1 same))
+
+    pub one_compared : (s z : ℕ) (p q : List ℕ) → Compared r f s p → Compared r f z q → Agrees s p z q
+    one_compared s z p q (inl (b, h, hs, hp)) (inl (c, k, ks, kq)) =
+        let same = one_comparison b c h k in (hs ∙ ap status_of same ∙ sym ks, hp ∙ ap word_of same ∙ sym kq)
+    one_compared s z p q (inl (b, h, hs, hp)) (inr (inl k)) = absurd (not_both work.second.items h.one z q h.one_denoted k)
+    one_compared s z p q (inl (b, h, hs, hp)) (inr (inr (t, d, k))) = absurd (not_both input h.other z q h.other_denoted k)
+    one_compared s z p q (inr (inl h)) (inl (c, k, ks, kq)) = absurd (not_both work.second.items k.one s p k.one_denoted h)
+    one_compared s z p q (inr (inl h)) (inr (inl k)) = one_refused work.second.items s z p q h k
+    one_compared s z p q (inr (inl h)) (inr (inr (t, d, k))) = absurd (not_both work.second.items t s p d h)
+    one_compared s z p q (inr (inr (t, d, h))) (inl (c, k, ks, kq)) = absurd (not_both input k.other s p k.other_denoted h)
+    one_compared s z p q (inr (inr (t, d, h))) (inr (inl k)) = absurd (not_both work.second.items t z q d k)
+    one_compared s z p q (inr (inr (t, d, h))) (inr (inr (u, e, k))) = one_refused input s z p q h k
+
+    -- ---- of bytes
+
+    one_tree : (bytes : List ℕ) (c d : Tree) → Accepts r work.limits f bytes (length bytes) c → Accepts r work.limits f bytes (length bytes) d → c ≡ d
+    one_tree bytes c d h k = (accepts_once_is r work.limits f bytes (length bytes) (length bytes) c d h k).1
+
+    never_both : (bytes : List ℕ) (c : Tree) (e : Reason) (o : ℕ) → Accepts r work.limits f bytes (length bytes) c → StopsAll r work.limits f bytes e o → ⊥
+    never_both bytes c e o h k = no_two_verdicts_of_all_are r work.limits f bytes c e o h k
+
+    -- what is shown of accepted bytes nests no deeper than a text that is read
+    not_nested : (bytes t : List ℕ) (c : Tree) → ShowsBytes r work.limits f bytes t → Accepts r work.limits f bytes (length bytes) c → nesting_limit < depth (shown r c (of f)) → ⊥
+    not_nested bytes t c h k deep =
+        let same : h.value ≡ c = one_tree bytes h.value c h.accepted k in
+        let lowest = (shown_is_lowest r f h.denoted.read h.value orderly h.denoted.spells) in
+        let within = h.denoted.is.1 in
+        let own : nesting_limit < depth (shown r h.value (of f)) = subst (λ (t : Tree). nesting_limit < depth (shown r t (of f))) (sym same) deep in
+        omega (arith, lowest, within, own)
+
+    one_shown : (bytes : List ℕ) (s z : ℕ) (p q : List ℕ) → Shown r f bytes s p → Shown r f bytes z q → Agrees s p z q
+    one_shown bytes s z p q (inl (t, h, hs, hp)) (inl (u, k, ks, kq)) =
+        let same : h.value ≡ k.value = one_tree bytes h.value k.value h.accepted k.accepted in
+        let text : t ≡ u = h.is ∙ ap (λ (c : Tree). compact_text (shown r c (of f))) same ∙ sym k.is in
+        (hs ∙ sym ks, hp ∙ ap line_of text ∙ sym kq)
+    one_shown bytes s z p q (inl (t, h, hs, hp)) (inr (inl (e, o, k, ks, kq))) = absurd (never_both bytes h.value e o h.accepted k)
+    one_shown bytes s z p q (inl (t, h, hs, hp)) (inr (inr (c, k, n, ks, kq))) = absurd (not_nested bytes t c h k n)
+    one_shown bytes s z p q (inr (inl (e, o, h, hs, hp))) (inl (u, k, ks, kq)) = absurd (never_both bytes k.value e o k.accepted h)
+    one_shown bytes s z p q (inr (inl (e, o, h, hs, hp))) (inr (inl (g, i, k, ks, kq))) =
+        let same = stops_all_once_is r work.limits f bytes e g o i h k in
+        (hs ∙ sym ks, hp ∙ ap₂ stop_line same.0 same.1 ∙ sym kq)
+    one_shown bytes s z p q (inr (inl (e, o, h, hs, hp))) (inr (inr (c, k, n, ks, kq))) = absurd (never_both bytes c e o k h)
+    one_shown bytes s z p q (inr (inr (c, h, n, hs, hp))) (inl (u, k, ks, kq)) = absurd (not_nested bytes u c k h n)
+    one_shown bytes s z p q (inr (inr (c, h, n, hs, hp))) (inr (inl (e, o, k, ks, kq))) = absurd (never_both bytes c e o h k)
+    one_shown bytes s z p q (inr (inr (c, h, n, hs, hp))) (inr (inr (d, k, m, ks, kq))) = (hs ∙ sym ks, hp ∙ sym kq)
+
+    one_given_answer : (P : List ℕ → ℕ → List ℕ → Type 0) → ((bytes : List ℕ) (s z : ℕ) (p q : List ℕ) → P bytes s p → P bytes z q → Agrees s p z q)
+        → (s z : ℕ) (p q : List ℕ) → Given r f P s p → Given r f P z q → Agrees s p z q
+    one_given_answer P one s z p q (inl (b, g, h)) (inl (c, e, k)) =
+        one b s z p q h (subst (λ (bytes : List ℕ). P bytes z q) (one_given work.raw input c b e g) k)
+    one_given_answer P one s z p q (inl (b, g, h)) (inr (none, ks, kq)) = absurd (none b g)
+    one_given_answer P one s z p q (inr (none, hs, hp)) (inl (c, e, k)) = absurd (none c e)
+    one_given_answer P one s z p q (inr (none, hs, hp)) (inr (none2, ks, kq)) = (hs ∙ sym ks, hp ∙ sym kq)
+
+    pub one_decoded : (s z : ℕ) (p q : List ℕ) → Decoded r f s p → Decoded r f z q → Agrees s p z q
+    one_decoded s z p q h k = one_given_answer (Shown r f) one_shown s z p q h k
+
+    one_pieced : (bytes : List ℕ) (s z : ℕ) (p q : List ℕ) → Pieced r f bytes s p → Pieced r f bytes z q → Agrees s p z q
+    one_pieced bytes s z p q (t, x, h, hs, hp) (u, y, k, ks, kq) =
+        let same = explains_once work.style r work.limits f bytes t u x y h k in
+        (hs ∙ ap explained_status same.1 ∙ sym ks, hp ∙ ap₂ (explained_text work.style.form) same.0 same.1 ∙ sym kq)
+
+    pub one_explained : (s z : ℕ) (p q : List ℕ) → Explained r f s p → Explained r f z q → Agrees s p z q
+    one_explained s z p q h k = one_given_answer (Pieced r f) one_pieced s z p q h k
+
+    -- ---- of a part
+
+    one_led : (path : List Step) (c : Tree) (s z : ℕ) (p q : List ℕ) → Led r f path c s p → Led r f path c z q → Agrees s p z q
+    one_led path c s z p q (inl (x, h, hs, hp)) (inl (y, k, ks, kq)) =
+        let both : Some x ≡ Some y = sym h ∙ k in
+        let same : x ≡ y = cc in
+        (hs ∙ sym ks, hp ∙ ap (λ (t : Part). printed work.raw (plain r t.value t.content)) same ∙ sym kq)
+    one_led path c s z p q (inl (x, h, hs, hp)) (inr (k, ks, kq)) = let both : Some x ≡ None = sym h ∙ k in absurd cc
+    one_led path c s z p q (inr (h, hs, hp)) (inl (y, k, ks, kq)) = let both : None ≡ Some y = sym h ∙ k in absurd cc
+    one_led path c s z p q (inr (h, hs, hp)) (inr (k, ks, kq)) = (hs ∙ sym ks, hp ∙ sym kq)
+
+    one_fronted : (path : List Step) (bytes : List ℕ) (s z : ℕ) (p q : List ℕ) → Fronted r f path bytes s p → Fronted r f path bytes z q → Agrees s p z q
+    one_fronted path bytes s z p q (inl (n, c, h, w)) (inl (m, d, k, x)) =
+        let same : d ≡ c = (accepts_once_is r work.limits f bytes m n d c k h).1 in
+        one_led path c s z p q w (subst (λ (t : Tree). Led r f path t z q) same x)
+    one_fronted path bytes s z p q (inl (n, c, h, w)) (inr (e, o, k, ks, kq)) = absurd (no_two_verdicts_are r work.limits f bytes n c e o h k)
+    one_fronted path bytes s z p q (inr (e, o, h, hs, hp)) (inl (m, d, k, x)) = absurd (no_two_verdicts_are r work.limits f bytes m d e o k h)
+    one_fronted path bytes s z p q (inr (e, o, h, hs, hp)) (inr (g, i, k, ks, kq)) =
+        let same = stops_once_is r work.limits f bytes e g o i h k in
+        (hs ∙ sym ks, hp ∙ ap₂ stop_line same.0 same.1 ∙ sym kq)
+
+    pub one_parted : (path : List Step) (s z : ℕ) (p q : List ℕ) → Parted r f path s p → Parted r f path z q → Agrees s p z q
+    one_parted path s z p q h k = one_given_answer (Fronted r f path) (one_fronted path) s z p q h k
+
+    -- ---- of what is scanned
+
+    one_counted : (bytes : List ℕ) (s z : ℕ) (p q : List ℕ) → Counted r f bytes s p → Counted r f bytes z q → Agrees s p z q
+    one_counted bytes s z p q (inl (n, c, h, hs, hp)) (inl (m, d, k, ks, kq)) =
+        (hs ∙ sym ks, hp ∙ ap count_line (one_count r work.limits f bytes work.front n m c d h k) ∙ sym kq)
+    one_counted bytes s z p q (inl (n, c, h, hs, hp)) (inr (e, o, k, ks, kq)) = absurd (not_scanned r work.limits f bytes work.front n c e o h k)
+    one_counted bytes s z p q (inr (e, o, h, hs, hp)) (inl (m, d, k, ks, kq)) = absurd (not_scanned r work.limits f bytes work.front m d e o k h)
+    one_counted bytes s z p q (inr (e, o, h, hs, hp)) (inr (g, i, k, ks, kq)) =
+        let same = one_scan_stop r work.limits f bytes work.front e g o i h k in
+        (hs ∙ sym ks, hp ∙ ap₂ stop_line same.0 same.1 ∙ sym kq)
+
+    pub one_scanned : (s z : ℕ) (p q : List ℕ) → Scanned r f s p → Scanned r f z q → Agrees s p z q
+    one_scanned s z p q h k = one_given_answer (Counted r f) one_counted s z p q h k

@@ -1,0 +1,40 @@
+-- The answers to a part, by what `part` hands out.
+use Rattle.std.proofs.Common.{◌≡◌, ℕ, List, Option, Some, None, refl, string_bytes, sym, subst}
+use Rattle.bcs_registry_formats.specs.Container.{Entries, of}
+use Rattle.bcs_registry_formats.specs.Shape.{Shape}
+use Rattle.bcs_value_tree.specs.Tree.{Tree}
+use Rattle.bcs_decode_spec.specs.Accepting.{Accepts}
+use Rattle.bcs_decode_parts.specs.Parts.{Step, Part, part_at}
+use Rattle.bcs_decode_parts.specs.Steps.{GivesPart}
+use Rattle.bcs_decode_parts.specs.declared.part.Part as handed
+use Rattle.bcs_tool_path.specs.Path.{SpellsPath}
+use Rattle.bcs_tool_answers.specs.Answers.{Answers, IsAsked, found, nowhere, printed, printed_none}
+use Rattle.bcs_tool_answers.specs.Input.{Gives}
+use Rattle.bcs_tool_answers.specs.Judging.{IsPath}
+use Rattle.bcs_tool_files.specs.declared.work.Work.{Work}
+use Rattle.bcs_tool_line.specs.declared.command.Command.{Command}
+use Rattle.bcs_tool_line.specs.declared.command.Command.TheVariants as command
+
+-- the steps of the job's PATH, which are these too
+pub spells : (k : Command) (word : List ℕ) (path steps : List Step) → k ≡ command.Part → steps ≡ path → IsPath k word path → SpellsPath word steps
+spells k word path steps is same h =
+    subst (λ (p : List Step). SpellsPath word p) (sym same) (subst (λ (c : Command). IsPath c word path) is h)
+
+module _ (work : Work) (input : List ℕ) (registry : Entries) (s : Shape) (bytes : List ℕ) (n : ℕ) (t : Tree) (path : List Step)
+    (asked : IsAsked work input command.Part registry s) (spelled : SpellsPath (string_bytes work.path) path)
+    (gives : Gives work.raw input bytes) (accepts : Accepts registry work.limits s bytes n t) where
+  pub finds : (o : Option handed.Part) (r : handed.Part) → o ≡ Some r → GivesPart registry bytes (part_at registry path (of s) t) o
+      → Answers work input 0 (printed work.raw r.bytes.now)
+  finds o r same h = at (part_at registry path (of s) t) refl (subst (λ (p : Option handed.Part). GivesPart registry bytes (part_at registry path (of s) t) p) same h)
+    where
+      at : (p : Option Part) → part_at registry path (of s) t ≡ p → GivesPart registry bytes p (Some r) → Answers work input 0 (printed work.raw r.bytes.now)
+      at (Some x) is k =
+          subst (λ (b : List ℕ). Answers work input 0 (printed work.raw b)) (sym k.1) (found registry s path bytes n t x asked spelled gives accepts is)
+      at None is k = absurd k
+
+  pub leads_nowhere : (o : Option handed.Part) → o ≡ None → GivesPart registry bytes (part_at registry path (of s) t) o → Answers work input 1 (printed_none work.raw)
+  leads_nowhere o same h = at (part_at registry path (of s) t) refl (subst (λ (p : Option handed.Part). GivesPart registry bytes (part_at registry path (of s) t) p) same h)
+    where
+      at : (p : Option Part) → part_at registry path (of s) t ≡ p → GivesPart registry bytes p None → Answers work input 1 (printed_none work.raw)
+      at None is k = nowhere registry s path bytes n t asked spelled gives accepts is
+      at (Some x) is k = absurd k

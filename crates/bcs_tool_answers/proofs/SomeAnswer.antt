@@ -1,0 +1,206 @@
+-- Each job has an answer to each input within the size, a lemma for each command.
+use Rattle.std.proofs.Common.{◌≡◌, ◌⊎◌, ◌≤◌, inl, inr, ℕ, List, length, Bool, true, false, refl, bytes_eq, string_bytes, subst, sym, [], Option, Some, None}
+use Rattle.std.proofs.lemmas.Bool.{cases_lt}
+use Rattle.std.proofs.lemmas.Slice.Eq.{bytes_eq-Decides}
+use Rattle.serde_json.specs.Data.{depth}
+use Rattle.bcs_registry_formats.specs.Container as container
+use Rattle.bcs_registry_formats.specs.Container.{Entries}
+use Rattle.bcs_registry_formats.specs.Shape.{Shape}
+use Rattle.bcs_value_tree.specs.Tree.{Tree}
+use Rattle.bcs_decode_spec.proofs.Verdicts.{some_verdict_is, some_verdict_of_all_is}
+use Rattle.bcs_decode_spec.specs.Accepting.{Accepts}
+use Rattle.bcs_decode_spec.specs.Exact.{AreBytes}
+use Rattle.bcs_decode_parts.specs.Parts.{Part, Step, part_at}
+use Rattle.bcs_explain_table.specs.Explains as explains
+use Rattle.bcs_json.proofs.Outcomes.{compares}
+use Rattle.bcs_json_spec.specs.Headline.{Compares}
+use Rattle.bcs_json_spec.specs.JsonContent.{of}
+use Rattle.bcs_json_spec.specs.Shown.{shown}
+use Rattle.bcs_json_spec.specs.Texts.{Denotes, RefusesText, nesting_limit}
+use Rattle.bcs_json_spec.proofs.OneAnswer.{text_denotes_or_is_refused}
+use Rattle.bcs_json_spec.proofs.SomeText.{some_bytes, some_normal_text, some_shown_text}
+use Rattle.bcs_json_spec.specs.declared.json_fault.JsonFault.{JsonFault}
+use Rattle.bcs_tool_answers.specs.AnswerLaws.{SomeAnswer}
+use Rattle.bcs_tool_answers.specs.Answers.{Answers, IsAsked, IsWithin, checked, damaged, decoded, different, encoded, equal, explained, first_refused, found, front_stopped, grown, no_bytes, normalised, nowhere, refused, refused_early, scan_stopped, scanned, second_refused, stopped, too_nested}
+use Rattle.bcs_tool_answers.specs.Input.{Gives}
+use Rattle.bcs_tool_answers.specs.Judging.{IsFormat, IsPath, IsRegistry, RefusesAt, works_on_values}
+use Rattle.bcs_tool_answers.specs.declared.job_fault.JobFault.{JobFault}
+use Rattle.bcs_tool_answers.specs.declared.job_fault.JobFault.TheVariants.{BadPath, Growth, Registry}
+use Rattle.bcs_tool_answers.proofs.AnswerLemmas.{refuses_formatted}
+use Rattle.bcs_tool_answers.proofs.ScanAnswers.{some_scan}
+use Rattle.bcs_tool_answers.proofs.SomeInput.{some_given}
+use Rattle.bcs_tool_answers.proofs.SomeRefusal.{some_formatted, some_growth, some_registry}
+use Rattle.bcs_tool_files.specs.declared.work.Work.{Work}
+use Rattle.bcs_tool_path.proofs.SomePath.{some_path}
+use Rattle.bcs_tool_path.specs.Path.{SpellsPath}
+use Rattle.bcs_tool_line.specs.declared.command.Command.{Command}
+use Rattle.bcs_tool_line.specs.declared.command.Command.TheVariants as command
+
+module _ (work : Work) (input : List ℕ) where
+  abbrev Answered : Type 0
+  Answered = (status : ℕ) × (output : List ℕ) × Answers work input status output
+
+  -- ---- the words
+
+  refused_words : (c : Command) → work.command ≡ c → (fault : JobFault) → RefusesAt c work fault → Answered
+  refused_words c is fault h = (_, _, refused_early fault (subst (λ (d : Command). RefusesAt d work fault) (sym is) h))
+
+  some_check : work.command ≡ command.Check → Answered
+  some_check is = elim (some_registry work.registry.items) [
+    | inl r ↦ (_, _, checked r.0 is r.1)
+    | inr h ↦ refused_words command.Check is (Registry h.0) h.1
+  ]
+
+  some_grows : work.command ≡ command.Grows → Answered
+  some_grows is = elim (some_registry work.registry.items) [
+    | inr h ↦ refused_words command.Grows is (Registry h.0) (inl h.1)
+    | inl older ↦ elim (some_registry work.second.items) [
+      | inr h ↦ refused_words command.Grows is (Registry h.0) (inr (older.0, older.1, h.1))
+      | inl newer ↦ elim (some_growth older.0 newer.0) [
+        | inl grows ↦ (_, _, grown older.0 newer.0 is older.1 newer.1 grows)
+        | inr h ↦ refused_words command.Grows is (Growth h.0) (older.0, newer.0, older.1, newer.1, h.1)
+      ]
+    ]
+  ]
+
+  -- ---- an input, at a format of a registry
+
+  module _ (r : Entries) (s : Shape) (registry : IsRegistry work.registry.items r) where
+    -- a text denotes a value, or is refused
+    judged : (text : List ℕ) → ((t : Tree) × Denotes r work.limits s text t) ⊎ ((e : JsonFault) × RefusesText r work.limits s text e)
+    judged text = (text_denotes_or_is_refused r work.limits s text registry.0.2.orderly).some
+
+    some_encode : IsAsked work input command.Encode r s → Answered
+    some_encode asked = elim (judged input) [
+      | inl h ↦ let bytes = some_bytes r work.limits s input h.0 h.1 in (_, _, encoded r s bytes.0 asked bytes.1)
+      | inr h ↦ (_, _, refused command.Encode r s h.0 (inl refl) asked h.1)
+    ]
+
+    some_normalise : IsAsked work input command.Normalise r s → Answered
+    some_normalise asked = elim (judged input) [
+      | inl h ↦
+          let normal = some_normal_text work.registry.items r work.limits s registry.0 registry.1 input h.0 h.1 in
+          (_, _, normalised r s normal.0 asked normal.1)
+      | inr h ↦ (_, _, refused command.Normalise r s h.0 (inr refl) asked h.1)
+    ]
+
+    -- two texts that denote values are equal or not
+    two_values : IsAsked work input command.Same r s → (answer : Bool) → Compares r work.limits s work.second.items input answer → Answered
+    two_values asked true h = (_, _, equal r s asked h)
+    two_values asked false h = (_, _, different r s asked h)
+
+    some_same : IsAsked work input command.Same r s → Answered
+    some_same asked = elim (judged work.second.items) [
+      | inr h ↦ (_, _, first_refused r s h.0 asked h.1)
+      | inl one ↦ elim (judged input) [
+        | inr h ↦ (_, _, second_refused r s one.0 h.0 asked one.1 h.1)
+        | inl other ↦
+            let first = some_bytes r work.limits s work.second.items one.0 one.1 in
+            let second = some_bytes r work.limits s input other.0 other.1 in
+            two_values asked (bytes_eq first.0 second.0)
+            (compares r work.limits s work.second.items input first.0 second.0 (bytes_eq first.0 second.0) first.1 second.1 (bytes_eq-Decides first.0 second.0))
+      ]
+    ]
+
+    -- bytes are a value's, of which the text nests within the limit or not, or they stop
+    bytes_answered : IsAsked work input command.Decode r s → (bytes : List ℕ) → AreBytes bytes → Gives work.raw input bytes → Answered
+    bytes_answered asked bytes are given = elim (some_verdict_of_all_is r work.limits s bytes are) [
+      | inr h ↦ (_, _, stopped r s bytes h.0 h.1 asked given h.2)
+      | inl h ↦ elim (cases_lt nesting_limit (depth (shown r h.0 (of s)))) [
+        | inl deep ↦ (_, _, too_nested r s bytes h.0 asked given h.1 deep)
+        | inr low ↦
+            let text = some_shown_text work.registry.items r work.limits s registry.0 registry.1 bytes h.0 h.1 low in
+            (_, _, decoded r s bytes text.0 asked given text.1)
+      ]
+    ]
+
+    some_decode : AreBytes input → IsAsked work input command.Decode r s → Answered
+    some_decode are asked = elim (some_given input work.raw are) [
+      | inl h ↦ bytes_answered asked h.0 h.1 h.2
+      | inr none ↦ (_, _, no_bytes command.Decode r s (inl refl) asked none)
+    ]
+
+    -- bytes are a value's, or stop being one, and are explained
+    explain_answered : IsAsked work input command.Explain r s → (bytes : List ℕ) → AreBytes bytes → Gives work.raw input bytes → Answered
+    explain_answered asked bytes are given = elim (some_verdict_of_all_is r work.limits s bytes are) [
+      | inl h ↦ (_, _, explained r s bytes _ asked given (explains.whole h.0 h.1))
+      | inr h ↦ (_, _, damaged r s bytes _ h.0 h.1 asked given (explains.damaged h.0 h.1 h.2))
+    ]
+
+    some_explain : AreBytes input → IsAsked work input command.Explain r s → Answered
+    some_explain are asked = elim (some_given input work.raw are) [
+      | inl h ↦ explain_answered asked h.0 h.1 h.2
+      | inr none ↦ (_, _, no_bytes command.Explain r s (inr (inr (inl refl))) asked none)
+    ]
+
+    -- a value stands at the front of bytes, and the steps lead to a part of it or nowhere; or the bytes stop
+    front_answered : IsAsked work input command.Part r s → (path : List Step) → SpellsPath (string_bytes work.path) path → (bytes : List ℕ) → AreBytes bytes → Gives work.raw input bytes → Answered
+    front_answered asked path spells bytes are given = elim (some_verdict_is r work.limits s bytes are) [
+      | inr h ↦ (_, _, front_stopped r s bytes h.0 h.1 asked given h.2)
+      | inl h ↦ at h.0 h.1 h.2 (part_at r path (container.of s) h.1) refl
+    ]
+      where
+        at : (n : ℕ) (c : Tree) → Accepts r work.limits s bytes n c → (o : Option Part) → part_at r path (container.of s) c ≡ o → Answered
+        at n c accepted None is = (_, _, nowhere r s path bytes n c asked spells given accepted is)
+        at n c accepted (Some x) is = (_, _, found r s path bytes n c x asked spells given accepted is)
+
+    some_part : AreBytes input → (path : List Step) → SpellsPath (string_bytes work.path) path → IsAsked work input command.Part r s → Answered
+    some_part are path spells asked = elim (some_given input work.raw are) [
+      | inl h ↦ front_answered asked path spells h.0 h.1 h.2
+      | inr none ↦ (_, _, no_bytes command.Part r s (inr (inl refl)) asked none)
+    ]
+
+    -- a value stands at the front of bytes, and is all of them where all are asked for; or the bytes stop
+    scan_answered : IsAsked work input command.Scan r s → (bytes : List ℕ) → AreBytes bytes → Gives work.raw input bytes → Answered
+    scan_answered asked bytes are given = elim (some_scan r work.limits s bytes work.front are) [
+      | inl h ↦ (_, _, scanned r s bytes h.0 h.1 asked given h.2.0 h.2.1)
+      | inr h ↦ (_, _, scan_stopped r s bytes h.0 h.1 asked given h.2)
+    ]
+
+    some_scanned : AreBytes input → IsAsked work input command.Scan r s → Answered
+    some_scanned are asked = elim (some_given input work.raw are) [
+      | inl h ↦ scan_answered asked h.0 h.1 h.2
+      | inr none ↦ (_, _, no_bytes command.Scan r s (inr (inr (inr refl))) asked none)
+    ]
+
+  -- ---- each command
+
+  -- a command on values asks for its input, where its words are good
+  asks_for : (c : Command) → works_on_values c ≡ true → IsWithin work input → work.command ≡ c → (r : Entries) (s : Shape) → IsRegistry work.registry.items r → IsFormat r (string_bytes work.format) s
+      → (path : List Step) → IsPath c (string_bytes work.path) path → IsAsked work input c r s
+  asks_for c values within is r s registry format path spells =
+      let works : works_on_values work.command ≡ true = subst (λ (d : Command). works_on_values d ≡ true) (sym is) values in
+      let has : IsPath work.command (string_bytes work.path) path = subst (λ (d : Command). IsPath d (string_bytes work.path) path) (sym is) spells in
+      record { is_command = is; asks = record { command = works; is_registry = registry; is_format = format; has_path = (path, has) }; within = within }
+
+  -- a command on values without a PATH, from its answer to an input that is asked for
+  valued : (c : Command) → works_on_values c ≡ true → IsPath c (string_bytes work.path) [] → IsWithin work input
+      → ((r : Entries) (s : Shape) → IsRegistry work.registry.items r → IsAsked work input c r s → Answered) → work.command ≡ c → Answered
+  valued c values none within answer is = elim (some_formatted work) [
+    | inr h ↦ refused_words c is h.0 (refuses_formatted c work h.0 values h.1)
+    | inl h ↦ answer h.0 h.1 h.2 (asks_for c values within is h.0 h.1 h.2 h.3 [] none)
+  ]
+
+  -- the one with a PATH
+  of_part : AreBytes input → IsWithin work input → work.command ≡ command.Part → Answered
+  of_part are within is = elim (some_formatted work) [
+    | inr h ↦ refused_words command.Part is h.0 (refuses_formatted command.Part work h.0 refl h.1)
+    | inl h ↦ elim (some_path (string_bytes work.path)) [
+      | inr none ↦ refused_words command.Part is BadPath (h.0, h.1, h.2, h.3, none)
+      | inl path ↦ some_part h.0 h.1 h.2 are path.0 path.1 (asks_for command.Part refl within is h.0 h.1 h.2 h.3 path.0 path.1)
+    ]
+  ]
+
+  of_command : AreBytes input → IsWithin work input → (c : Command) → work.command ≡ c → Answered
+  of_command are within command.Check is = some_check is
+  of_command are within command.Grows is = some_grows is
+  of_command are within command.Encode is = valued command.Encode refl refl within some_encode is
+  of_command are within command.Decode is = valued command.Decode refl refl within (λ r s registry asked. some_decode r s registry are asked) is
+  of_command are within command.Explain is = valued command.Explain refl refl within (λ r s registry asked. some_explain r s registry are asked) is
+  of_command are within command.Normalise is = valued command.Normalise refl refl within some_normalise is
+  of_command are within command.Same is = valued command.Same refl refl within some_same is
+  of_command are within command.Part is = of_part are within is
+  of_command are within command.Scan is = valued command.Scan refl refl within (λ r s registry asked. some_scanned r s registry are asked) is
+
+pub some_answer : SomeAnswer
+some_answer work input are within = of_command work input are within work.command refl

@@ -1,0 +1,22 @@
+-- An input gives bytes, or gives none.
+use Rattle.std.proofs.Common.{◌≡◌, ◌∙◌, ◌<◌, ◌⊎◌, inl, inr, ℕ, List, Bool, true, false, Result, Ok, Err, refl, sym}
+use Rattle.std.proofs.lemmas.List.Elements.{All-from_get_or}
+use Rattle.hex.proofs.HexLemmas.{decode_of-ok}
+use Rattle.hex.specs.Hex.{decode_of}
+use Rattle.hex.specs.declared.error.FromHexError.{FromHexError}
+use Rattle.bcs_decode_spec.specs.Exact.{AreBytes}
+use Rattle.bcs_json_spec.specs.Bytes.{IsHexOf}
+use Rattle.bcs_tool_answers.specs.Input.{Gives, without_blanks}
+
+-- digits are those of some bytes, or of none
+digits : (text : List ℕ) → ((b : List ℕ) × AreBytes b × IsHexOf text b) ⊎ ((b : List ℕ) → IsHexOf text b → ⊥)
+digits text = at (decode_of text) refl
+  where
+    at : (o : Result (List ℕ) FromHexError) → decode_of text ≡ o → ((b : List ℕ) × AreBytes b × IsHexOf text b) ⊎ ((b : List ℕ) → IsHexOf text b → ⊥)
+    at (Ok b) is = inl (b, All-from_get_or (λ x. x < 256) b 0 (λ i within. (decode_of-ok text b is).3 i), is)
+    at (Err e) is = inr (λ b h. cc (sym is ∙ h))
+
+-- an input of bytes gives bytes, or none
+pub some_given : (input : List ℕ) (raw : Bool) → AreBytes input → ((b : List ℕ) × AreBytes b × Gives raw input b) ⊎ ((b : List ℕ) → Gives raw input b → ⊥)
+some_given input true are = inl (input, are, refl)
+some_given input false are = digits (without_blanks input)

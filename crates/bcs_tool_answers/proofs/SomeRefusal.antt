@@ -1,0 +1,49 @@
+-- The words of a job are good, or are refused for a reason.
+use Rattle.std.proofs.Common.{◌≡◌, ◌⊎◌, inl, inr, ℕ, List, Option, Some, None, Ok, Err, Bool, true, false, refl, ap, string_bytes, sym}
+use Rattle.std.specs.Prelude.{is_some}
+use Rattle.bcs_registry_formats.specs.Container.{Container, Entries, container_at}
+use Rattle.bcs_registry_formats.specs.Growing.{growth_fault}
+use Rattle.bcs_registry_formats.specs.Grows.{Grows, IsFirstGrowthFault}
+use Rattle.bcs_registry_formats.specs.Shape.{Shape, name}
+use Rattle.bcs_registry_formats.specs.declared.fault.RegistryFault.{RegistryFault}
+use Rattle.bcs_registry_formats.specs.declared.fault.RegistryFault.TheVariants.{UnknownName}
+use Rattle.bcs_registry_formats.specs.declared.growth_fault.GrowthFault.{GrowthFault}
+use Rattle.bcs_registry_formats.proofs.FirstFaults.{fault_exactly, ok_exactly}
+use Rattle.bcs_registry_spec.specs.Faults.{IsLeastFault}
+use Rattle.bcs_registry_spec.proofs.OrFault.{format_or_fault, registry_or_fault}
+use Rattle.bcs_tool_answers.specs.Judging.{IsFormat, IsRegistry, RefusesFormat, RefusesFormatted, is_json_word}
+use Rattle.bcs_tool_answers.specs.declared.job_fault.JobFault.{JobFault}
+use Rattle.bcs_tool_answers.specs.declared.job_fault.JobFault.TheVariants.{Registry}
+use Rattle.bcs_tool_files.specs.declared.work.Work.{Work}
+
+-- a text is a registry, or has a fault
+pub some_registry : (text : List ℕ) → ((r : Entries) × IsRegistry text r) ⊎ ((e : RegistryFault) × IsLeastFault text e)
+some_registry text = elim (registry_or_fault text) [ inl h ↦ inl (h.0, (h.1, h.2)) | inr h ↦ inr h ]
+
+-- an older registry has grown into a newer one, or there is a first fault
+pub some_growth : (older newer : Entries) → Grows older newer ⊎ ((e : GrowthFault) × IsFirstGrowthFault older newer e)
+some_growth older newer = at (growth_fault older newer) refl
+  where
+    at : (o : Option GrowthFault) → growth_fault older newer ≡ o → Grows older newer ⊎ ((e : GrowthFault) × IsFirstGrowthFault older newer e)
+    at None is = inl ((ok_exactly older newer (Ok tt) (sym is)).0 refl)
+    at (Some e) is = inr (e, (fault_exactly older newer (Err e) (sym is) e).0 refl)
+
+-- a word is a format, or is refused
+module _ (registry : Entries) (word : List ℕ) where
+  named : (o : Option Container) → container_at word registry ≡ o → is_json_word word ≡ false → ((s : Shape) × IsFormat registry word s) ⊎ ((e : RegistryFault) × RefusesFormat registry word e)
+  named None is plain = inr (UnknownName, inr (plain, is, refl))
+  named (Some c) is plain = inl (name word, inr (plain, ap is_some is, refl))
+
+  pub some_format : ((s : Shape) × IsFormat registry word s) ⊎ ((e : RegistryFault) × RefusesFormat registry word e)
+  some_format = at (is_json_word word) refl
+    where
+      at : (b : Bool) → is_json_word word ≡ b → ((s : Shape) × IsFormat registry word s) ⊎ ((e : RegistryFault) × RefusesFormat registry word e)
+      at true is = elim (format_or_fault registry word) [ inl h ↦ inl (h.0, inl (is, h.1, h.2)) | inr h ↦ inr (h.0, inl (is, h.1)) ]
+      at false is = named (container_at word registry) refl is
+
+-- the words of a command on values ask for some format of some registry, or are refused
+pub some_formatted : (work : Work) → ((r : Entries) × (s : Shape) × IsRegistry work.registry.items r × IsFormat r (string_bytes work.format) s) ⊎ ((e : JobFault) × RefusesFormatted work e)
+some_formatted work = elim (some_registry work.registry.items) [
+  | inr h ↦ inr (Registry h.0, inl h.1)
+  | inl r ↦ elim (some_format r.0 (string_bytes work.format)) [ inl s ↦ inl (r.0, s.0, r.1, s.1) | inr h ↦ inr (Registry h.0, inr (r.0, r.1, h.1)) ]
+]

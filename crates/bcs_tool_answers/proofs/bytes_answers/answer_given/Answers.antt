@@ -1,0 +1,36 @@
+use Rattle.std.proofs.Common.{◌≡◌, ◌⊎◌, Bool, Err, List, Ok, codes, refl, subst, sym, ℕ}
+use Rattle.std.proofs.lemmas.Result.{IfOk-weaker}
+use Rattle.hex.specs.Hex.{decode_of}
+use Rattle.hex.specs.declared.error.FromHexError.TheVariants.{OutOfMemory}
+use Rattle.bcs_registry_formats.specs.View.{shape_of}
+use Rattle.bcs_tool_answers.specs.Answers.{no_bytes, refusal_line}
+use Rattle.bcs_tool_answers.specs.Input.{Gives, without_blanks}
+use Rattle.bcs_tool_answers.proofs.AnswerLemmas.{is_asked, no_digits, same_answer}
+use Rattle.bcs_tool_answers.proofs.bytes_answers.answer_given.Goals as goal
+
+pub returns-then-work : goal.returns-then-work
+returns-then-work c =
+    let input = c.args.input.now in
+    let gives = subst (λ (raw : Bool). Gives raw input input) (sym c.if-work.true) refl in
+    IfOk-weaker c.answer_bytes.result _ _ (λ a answers. answers input c.requires.within gives) c.answer_bytes.ensures
+
+pub returns-in-Ok : goal.returns-in-Ok
+returns-in-Ok c =
+    let input = c.args.input.now in
+    let bytes = c.as_slice.result.now in
+    let decoded = subst (λ (text : List ℕ). decode_of text ≡ Ok c.in-Ok.bytes.items) c.without_blanks.ensures c.in-Ok.ensures.ok in
+    let digits = subst (λ (b : List ℕ). decode_of (without_blanks input) ≡ Ok b) (sym c.as_slice.ensures.value) decoded in
+    let gives = subst (λ (raw : Bool). Gives raw input bytes) (sym c.if-work.false) digits in
+    IfOk-weaker c.answer_bytes-in-Ok.result _ _ (λ a answers. answers input c.requires.within gives) c.answer_bytes-in-Ok.ensures
+
+pub returns-in-Err : goal.returns-in-Err
+returns-in-Err c =
+    let work = c.args.work.now in
+    let input = c.args.input.now in
+    let registry = c.args.asked.now.registry in
+    let s = shape_of c.args.asked.now.format in
+    let fault = c.in-Err.fault in
+    let refused = subst (λ (text : List ℕ). (fault ≡ OutOfMemory) ⊎ (decode_of text ≡ Err fault)) c.without_blanks.ensures c.in-Err.ensures.err in
+    IfOk-weaker c.refused_digits.result _ _ (λ a is. same_answer work input a 2 (refusal_line (codes "BadHex")) is.1
+    (no_bytes work.command registry s c.requires.command (is_asked work input work.command registry s refl c.requires.asks c.requires.within)
+    (λ bytes gives. no_digits (without_blanks input) fault refused is.0 bytes (subst (λ (raw : Bool). Gives raw input bytes) c.if-work.false gives)))) c.refused_digits.ensures

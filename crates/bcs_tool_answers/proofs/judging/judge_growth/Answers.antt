@@ -1,0 +1,30 @@
+use Rattle.std.proofs.Common.{inr, refl, subst}
+use Rattle.bcs_registry_spec.specs.Faults.{IsLeastFault}
+use Rattle.bcs_tool_answers.specs.Judging.{IsRegistry, RefusesGrowth}
+use Rattle.bcs_tool_answers.proofs.JudgingLemmas.{refused_by_registry, refused_by_growth}
+use Rattle.bcs_tool_answers.proofs.judging.judge_growth.Goals as goal
+
+pub returns-in_err-newer-clause-fault : goal.returns-in_err-newer-clause-fault
+returns-in_err-newer-clause-fault c =
+    let older = c.in_ok-older.older in
+    let fault = c.in_err-newer.field-0.0 in
+    let is_older = subst (λ text. IsRegistry text older) c.as_slice.ensures.value c.in_ok-older.ensures.ok in
+    refused_by_registry (RefusesGrowth c.args.work.now) c.from_residual-in_err-newer.result fault c.from_residual-in_err-newer.ensures.1
+    (λ differs. inr (older, is_older, subst (λ text. IsLeastFault text fault) c.as_slice-2.ensures.value (c.in_err-newer.ensures.fault differs)))
+
+pub returns-in_err-grows-clause-fault : goal.returns-in_err-grows-clause-fault
+returns-in_err-grows-clause-fault c =
+    let older = c.in_ok-older.older in
+    let newer = c.in_ok-newer.newer in
+    let is_older = subst (λ text. IsRegistry text older) c.as_slice.ensures.value c.in_ok-older.ensures.ok in
+    let is_newer = subst (λ text. IsRegistry text newer) c.as_slice-2.ensures.value c.in_ok-newer.ensures.ok in
+    refused_by_growth (RefusesGrowth c.args.work.now) c.from_residual-in_err-grows.result c.in_err-grows.field-0.0 c.from_residual-in_err-grows.ensures.1
+    (older, newer, is_older, is_newer, (c.in_err-grows.ensures.fault c.in_err-grows.field-0.0).0 refl)
+
+pub returns-clause-ok : goal.returns-clause-ok
+returns-clause-ok c =
+    let older = c.in_ok-older.older in
+    let newer = c.in_ok-newer.newer in
+    let is_older = subst (λ text. IsRegistry text older) c.as_slice.ensures.value c.in_ok-older.ensures.ok in
+    let is_newer = subst (λ text. IsRegistry text newer) c.as_slice-2.ensures.value c.in_ok-newer.ensures.ok in
+    (older, newer, is_older, is_newer, c.in_ok-grows.ensures.ok.0 refl)

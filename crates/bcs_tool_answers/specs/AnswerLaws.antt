@@ -1,0 +1,31 @@
+-- What holds of the program's answers, whatever the job and the input are.
+use Rattle.std.specs.Prelude.{◌≡◌, ◌≤◌, ℕ, List, length}
+use Rattle.std.specs.List.{All}
+use Rattle.bcs_decode_spec.specs.Exact.{AreBytes}
+use Rattle.bcs_io_lines.specs.Lines.{lines_of}
+use Rattle.bcs_tool_answers.specs.Answers.{Answers, IsWithin}
+use Rattle.bcs_tool_answers.specs.LineAnswers.{AnswersLines}
+use Rattle.bcs_tool_files.specs.Files.{size_limit}
+use Rattle.bcs_tool_files.specs.declared.work.Work.{Work}
+
+-- there is at most one answer
+abbrev pub OneAnswer : Type 0
+OneAnswer = (work : Work) (input : List ℕ) (status other : ℕ) (output again : List ℕ)
+    → Answers work input status output → Answers work input other again → (status ≡ other) × (output ≡ again)
+
+-- and there is one, to each input of bytes within the size
+abbrev pub SomeAnswer : Type 0
+SomeAnswer = (work : Work) (input : List ℕ) → AreBytes input → IsWithin work input
+    → (status : ℕ) × (output : List ℕ) × Answers work input status output
+
+-- ---- each line as an input of its own
+
+-- there is at most one answer to the lines of an input
+abbrev pub OneAnswerALine : Type 0
+OneAnswerALine = (work : Work) (content : List ℕ) (status other : ℕ) (output again : List ℕ)
+    → AnswersLines work content status output → AnswersLines work content other again → (status ≡ other) × (output ≡ again)
+
+-- and there is one, to bytes of which each line is within the size
+abbrev pub SomeAnswerALine : Type 0
+SomeAnswerALine = (work : Work) (content : List ℕ) → AreBytes content → All (λ line. length line ≤ size_limit) (lines_of content)
+    → (status : ℕ) × (output : List ℕ) × AnswersLines work content status output

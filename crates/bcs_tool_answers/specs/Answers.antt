@@ -1,0 +1,142 @@
+-- What the program answers to a job and its input: a status, and the bytes of the standard output.
+use Rattle.std.specs.Prelude.{◌≡◌, ◌⊎◌, ◌≤◌, ◌<◌, ◌++◌, ◌∷◌, [], ℕ, List, Bool, true, false, Option, Some, None, codes, length, if◌then◌else◌, string_bytes}
+use Rattle.std.specs.Fmt.{decimal}
+use Rattle.hex.specs.Hex.{encode_lower}
+use Rattle.serde_json.specs.Data.{depth}
+use Rattle.bcs_registry_formats.specs.Container as container
+use Rattle.bcs_registry_formats.specs.Container.{Entries}
+use Rattle.bcs_registry_formats.specs.Grows.{Grows}
+use Rattle.bcs_registry_formats.specs.Shape.{Shape}
+use Rattle.bcs_value_tree.specs.Tree.{Tree}
+use Rattle.bcs_value_spec.specs.Limits.{Bounds}
+use Rattle.bcs_encode_spec.specs.Plain.{plain}
+use Rattle.bcs_decode_spec.specs.Stop.{reason_name}
+use Rattle.bcs_decode_spec.specs.declared.reason.Reason.{Reason}
+use Rattle.bcs_decode_spec.specs.declared.stop.Stop.{Stop}
+use Rattle.bcs_decode_spec.specs.Accepting.{Accepts}
+use Rattle.bcs_decode_spec.specs.Stopping.{Stops, StopsAll}
+use Rattle.bcs_decode_parts.specs.Parts.{Step, Part, part_at}
+use Rattle.bcs_explain_columns.specs.declared.style.Form.{Form}
+use Rattle.bcs_explain_columns.specs.declared.style.Form.TheVariants as forms
+use Rattle.bcs_explain_table.specs.Explains.{Explains}
+use Rattle.bcs_json_spec.specs.Headline.{Compares, HasBytes, Normalises, ShowsBytes}
+use Rattle.bcs_json_spec.specs.FaultNames.{json_fault_name}
+use Rattle.bcs_json_spec.specs.JsonContent.{of}
+use Rattle.bcs_json_spec.specs.Shown.{shown}
+use Rattle.bcs_json_spec.specs.Texts.{Denotes, RefusesText, nesting_limit}
+use Rattle.bcs_json_spec.specs.declared.json_fault.JsonFault.{JsonFault}
+use Rattle.bcs_tool_path.specs.Path.{SpellsPath}
+use Rattle.bcs_tool_files.specs.Files.{size_limit}
+use Rattle.bcs_tool_answers.specs.Input as given
+use Rattle.bcs_tool_answers.specs.Judging.{Asks, IsRegistry, RefusesEarly, is_unlimited, job_fault_name}
+use Rattle.bcs_tool_line.specs.declared.command.Command.{Command}
+use Rattle.bcs_tool_line.specs.declared.command.Command.TheVariants as command
+use Rattle.bcs_tool_answers.specs.declared.job_fault.JobFault.{JobFault}
+use Rattle.bcs_tool_files.specs.declared.work.Work.{Work}
+
+-- the text, and a line end
+abbrev pub line_of : List ℕ → List ℕ
+line_of text = text ++ 10 ∷ []
+
+-- the line for a refusal of this name
+abbrev pub refusal_line : List ℕ → List ℕ
+refusal_line name = line_of (codes "refused: " ++ name)
+
+-- the line for bytes that stop being a value
+abbrev pub stop_line : Reason → ℕ → List ℕ
+stop_line reason place = refusal_line (reason_name reason ++ codes " at " ++ decimal place)
+
+-- how the job ends whose bytes are explained, by where they stop being a value, and what it prints
+abbrev pub explained_status : Option Stop → ℕ
+explained_status None = 0
+explained_status (Some stop) = 2
+
+-- behind the pieces stands the line of `decode`, but for JSON, which has an object for it
+abbrev pub stop_end : Form → Reason → ℕ → List ℕ
+stop_end forms.Json reason place = []
+stop_end forms.Ways reason place = stop_line reason place
+stop_end forms.Paths reason place = stop_line reason place
+stop_end forms.Tree reason place = stop_line reason place
+
+abbrev pub explained_text : Form → List ℕ → Option Stop → List ℕ
+explained_text form text None = text
+explained_text form text (Some stop) = text ++ stop_end form stop.reason stop.place
+
+-- bytes as they are, or as a line of hexadecimal digits
+abbrev pub printed : Bool → List ℕ → List ℕ
+printed raw bytes = if raw then bytes else line_of (encode_lower bytes)
+
+-- what is printed where steps lead nowhere
+abbrev pub printed_none : Bool → List ℕ
+printed_none raw = if raw then [] else line_of (codes "none")
+
+-- the line for a registry of so many containers, and for a value of so many bytes
+abbrev pub count_line : ℕ → List ℕ
+count_line n = line_of (codes "ok " ++ decimal n)
+
+-- the input is no larger than is allowed
+abbrev pub IsWithin : Work → List ℕ → Type 0
+IsWithin work input = is_unlimited work ≡ false → length input ≤ size_limit
+
+-- the job is for this command on values of this format, and its input is no larger than is allowed
+pub record IsAsked (work : Work) (input : List ℕ) (asked : Command) (registry : Entries) (s : Shape) : Type 0 where
+  pub is_command : work.command ≡ asked
+  pub asks : Asks work registry s
+  pub within : IsWithin work input
+
+-- the one input is the text of a value, as that of these commands
+abbrev pub IsOneText : Command → Type 0
+IsOneText asked = (asked ≡ command.Encode) ⊎ (asked ≡ command.Normalise)
+
+-- the input gives the bytes of a value, as that of these commands
+abbrev pub TakesBytes : Command → Type 0
+TakesBytes asked = (asked ≡ command.Decode) ⊎ (asked ≡ command.Part) ⊎ (asked ≡ command.Explain) ⊎ (asked ≡ command.Scan)
+
+-- where bytes stop that are scanned: where no value stands at their front, if that alone is asked for; else where they are
+-- no value
+abbrev pub ScanStops : Bool → Entries → Bounds → Shape → List ℕ → Reason → ℕ → Type 0
+ScanStops true = Stops
+ScanStops false = StopsAll
+
+-- a case for each kind of answer
+pub data Answers (work : Work) (input : List ℕ) : ℕ → List ℕ → Type 0 where
+  -- the words are refused, whatever the input
+  refused_early : (fault : JobFault) → RefusesEarly work fault → Answers work input 2 (refusal_line (job_fault_name fault))
+  -- `check`: how many containers the registry has
+  checked : (registry : Entries) → work.command ≡ command.Check → IsRegistry work.registry.items registry → Answers work input 0 (count_line (length registry))
+  -- `grows`: the newer registry keeps all that the older one has
+  grown : (older newer : Entries) → work.command ≡ command.Grows → IsRegistry work.registry.items older → IsRegistry work.second.items newer → Grows older newer → Answers work input 0 (line_of (codes "grows"))
+  -- `encode`: the bytes of the value that the text denotes
+  encoded : (registry : Entries) (s : Shape) (bytes : List ℕ) → IsAsked work input command.Encode registry s → HasBytes registry work.limits s input bytes → Answers work input 0 (printed work.raw bytes)
+  -- `normalise`: its normal text
+  normalised : (registry : Entries) (s : Shape) (text : List ℕ) → IsAsked work input command.Normalise registry s → Normalises registry work.limits s input text → Answers work input 0 (line_of text)
+  -- `encode` and `normalise`: the text is refused
+  refused : (asked : Command) (registry : Entries) (s : Shape) (fault : JsonFault) → IsOneText asked → IsAsked work input asked registry s → RefusesText registry work.limits s input fault → Answers work input 2 (refusal_line (json_fault_name fault))
+  -- `same`: the two texts denote equal values, or different ones
+  equal : (registry : Entries) (s : Shape) → IsAsked work input command.Same registry s → Compares registry work.limits s work.second.items input true → Answers work input 0 (line_of (codes "equal"))
+  different : (registry : Entries) (s : Shape) → IsAsked work input command.Same registry s → Compares registry work.limits s work.second.items input false → Answers work input 1 (line_of (codes "different"))
+  -- `same`: the first text is refused; or it denotes a value, and the second is refused
+  first_refused : (registry : Entries) (s : Shape) (fault : JsonFault) → IsAsked work input command.Same registry s → RefusesText registry work.limits s work.second.items fault → Answers work input 2 (refusal_line (json_fault_name fault))
+  second_refused : (registry : Entries) (s : Shape) (t : Tree) (fault : JsonFault) → IsAsked work input command.Same registry s → Denotes registry work.limits s work.second.items t → RefusesText registry work.limits s input fault → Answers work input 2 (refusal_line (json_fault_name fault))
+  -- `decode`: the text of the one value whose bytes the input gives
+  decoded : (registry : Entries) (s : Shape) (bytes text : List ℕ) → IsAsked work input command.Decode registry s → given.Gives work.raw input bytes → ShowsBytes registry work.limits s bytes text → Answers work input 0 (line_of text)
+  -- `decode`: the bytes stop being a value at a place
+  stopped : (registry : Entries) (s : Shape) (bytes : List ℕ) (reason : Reason) (place : ℕ) → IsAsked work input command.Decode registry s → given.Gives work.raw input bytes → StopsAll registry work.limits s bytes reason place → Answers work input 2 (stop_line reason place)
+  -- `decode`: they are a value's, and its text would nest deeper than a text may
+  too_nested : (registry : Entries) (s : Shape) (bytes : List ℕ) (c : Tree) → IsAsked work input command.Decode registry s → given.Gives work.raw input bytes → Accepts registry work.limits s bytes (length bytes) c → nesting_limit < depth (shown registry c (of s)) → Answers work input 2 (refusal_line (codes "TooNested"))
+  -- `explain`: the pieces of the one value whose bytes the input gives
+  explained : (registry : Entries) (s : Shape) (bytes text : List ℕ) → IsAsked work input command.Explain registry s → given.Gives work.raw input bytes → Explains work.style registry work.limits s bytes text None → Answers work input 0 text
+  -- `explain`: the pieces before the bytes stop being a value at a place, and behind them the line of `decode`
+  damaged : (registry : Entries) (s : Shape) (bytes text : List ℕ) (reason : Reason) (place : ℕ) → IsAsked work input command.Explain registry s → given.Gives work.raw input bytes → Explains work.style registry work.limits s bytes text (Some (record { reason = reason; place = place })) → Answers work input 2 (text ++ stop_end work.style.form reason place)
+  -- `decode`, `explain`, `part` and `scan`: the input gives no bytes
+  no_bytes : (asked : Command) (registry : Entries) (s : Shape) → TakesBytes asked → IsAsked work input asked registry s → ((bytes : List ℕ) → given.Gives work.raw input bytes → ⊥) → Answers work input 2 (refusal_line (codes "BadHex"))
+  -- `part`: a value stands at the front of the bytes, and the steps of PATH lead to a part of it, whose bytes these are
+  found : (registry : Entries) (s : Shape) (path : List Step) (bytes : List ℕ) (n : ℕ) (c : Tree) (x : Part) → IsAsked work input command.Part registry s → SpellsPath (string_bytes work.path) path → given.Gives work.raw input bytes → Accepts registry work.limits s bytes n c → part_at registry path (container.of s) c ≡ Some x → Answers work input 0 (printed work.raw (plain registry x.value x.content))
+  -- `part`: they lead nowhere in it
+  nowhere : (registry : Entries) (s : Shape) (path : List Step) (bytes : List ℕ) (n : ℕ) (c : Tree) → IsAsked work input command.Part registry s → SpellsPath (string_bytes work.path) path → given.Gives work.raw input bytes → Accepts registry work.limits s bytes n c → part_at registry path (container.of s) c ≡ None → Answers work input 1 (printed_none work.raw)
+  -- `part`: no value stands at their front, since they stop being one at a place
+  front_stopped : (registry : Entries) (s : Shape) (bytes : List ℕ) (reason : Reason) (place : ℕ) → IsAsked work input command.Part registry s → given.Gives work.raw input bytes → Stops registry work.limits s bytes reason place → Answers work input 2 (stop_line reason place)
+  -- `scan`: a value stands at the front of the bytes, and it is all of them unless the front alone is asked for
+  scanned : (registry : Entries) (s : Shape) (bytes : List ℕ) (n : ℕ) (c : Tree) → IsAsked work input command.Scan registry s → given.Gives work.raw input bytes → Accepts registry work.limits s bytes n c → (work.front ≡ false → n ≡ length bytes) → Answers work input 0 (count_line n)
+  -- `scan`: they stop being one at a place
+  scan_stopped : (registry : Entries) (s : Shape) (bytes : List ℕ) (reason : Reason) (place : ℕ) → IsAsked work input command.Scan registry s → given.Gives work.raw input bytes → ScanStops work.front registry work.limits s bytes reason place → Answers work input 2 (stop_line reason place)

@@ -1,0 +1,10 @@
+pub mod Judging
+pub mod Input
+pub mod Answers
+pub mod LineAnswers
+pub mod AnswerLaws
+pub mod Places
+pub mod Preparing
+pub use Rattle.bcs_io_lines.specs.Lines
+pub use Rattle.bcs_tool_files.specs.Files
+pub use Rattle.bcs_tool_path.specs.Path

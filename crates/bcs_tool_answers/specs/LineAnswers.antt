@@ -1,0 +1,34 @@
+-- What the program answers to an input of which each line is an input of its own.
+use Rattle.std.specs.Prelude.{◌≡◌, ◌==◌, ◌++◌, ◌∷◌, [], ℕ, suc, List, codes, if◌then◌else◌, max}
+use Rattle.std.specs.Fmt.{decimal}
+use Rattle.bcs_io_lines.specs.Lines.{lines_of}
+use Rattle.bcs_tool_answers.specs.Answers.{Answers}
+use Rattle.bcs_tool_files.specs.declared.work.Work.{Work}
+
+-- the answers to these lines in turn: their statuses, and their outputs joined
+pub data AnswersAll (work : Work) : List (List ℕ) → List ℕ → List ℕ → Type 0 where
+  none : AnswersAll work [] [] []
+  next : (line : List ℕ) (lines : List (List ℕ)) (status : ℕ) (statuses output outputs : List ℕ) → Answers work line status output → AnswersAll work lines statuses outputs → AnswersAll work (line ∷ lines) (status ∷ statuses) (output ++ outputs)
+
+-- the greatest of the statuses, or 0 of none
+abbrev pub greatest : List ℕ → ℕ
+greatest [] = 0
+greatest (s ∷ ss) = max s (greatest ss)
+
+-- how many of them are this one
+abbrev pub count_of : ℕ → List ℕ → ℕ
+count_of n [] = 0
+count_of n (s ∷ ss) = if s == n then suc (count_of n ss) else count_of n ss
+
+-- how many lines there are of each status
+abbrev pub tally_text : ℕ → ℕ → ℕ → List ℕ
+tally_text done denied refused = codes "lines with status 0: " ++ decimal done
+    ++ codes ", with status 1: " ++ decimal denied
+    ++ codes ", with status 2: " ++ decimal refused
+
+abbrev pub summary : List ℕ → List ℕ
+summary statuses = tally_text (count_of 0 statuses) (count_of 1 statuses) (count_of 2 statuses)
+
+-- the answers to the lines of this content, with the greatest of their statuses
+abbrev pub AnswersLines : Work → List ℕ → ℕ → List ℕ → Type 0
+AnswersLines work content status output = (statuses : List ℕ) × AnswersAll work (lines_of content) statuses output × (status ≡ greatest statuses)

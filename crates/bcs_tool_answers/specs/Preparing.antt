@@ -1,0 +1,23 @@
+-- What the words of a job come to, before its input is read.
+use Rattle.std.specs.Prelude.{◌≡◌, ℕ, List, string_bytes, true}
+use Rattle.bcs_registry_formats.specs.View.{shape_of}
+use Rattle.bcs_registry_formats.specs.WellFormed.{Admits}
+use Rattle.bcs_tool_path.specs.PathSteps.{all_spelled}
+use Rattle.bcs_tool_files.specs.declared.work.Work.{Work}
+use Rattle.bcs_tool_answers.specs.Judging.{Asks, IsPath, ReadsInput, works_on_values}
+use Rattle.bcs_tool_answers.specs.Places.{IsAnswer}
+use Rattle.bcs_tool_answers.specs.declared.judging.Asked.{Asked}
+use Rattle.bcs_tool_answers.specs.declared.preparing.Prepared.{Prepared}
+use Rattle.bcs_tool_answers.specs.declared.preparing.Prepared.TheVariants as prepared
+
+-- the job works on values of this format of this registry, and its PATH spells these steps
+pub record IsAskedBy (work : Work) (asked : Asked) : Type 0 where
+  pub on_values : works_on_values work.command ≡ true
+  pub asks : Asks work asked.registry (shape_of asked.format)
+  pub admitted : Admits asked.registry (shape_of asked.format)
+  pub path : IsPath work.command (string_bytes work.path) (all_spelled asked.path.items)
+
+-- the job reads no input and has this answer, whatever the input; or it asks for this of its input
+abbrev pub IsPrepared : Work → Prepared → Type 0
+IsPrepared work (prepared.Answered a) = (¬ ReadsInput work) × ((bytes : List ℕ) → IsAnswer work bytes a)
+IsPrepared work (prepared.Asked asked) = IsAskedBy work asked

@@ -1,0 +1,146 @@
+//! What is printed.
+ghost use Rattle.std.specs.Prelude.{◌≡◌, IfOk, string_bytes};
+ghost use Rattle.hex.specs.Hex.{encode_lower};
+ghost use Rattle.bcs_tool_answers.specs.Answers.{count_line, explained_status, explained_text, line_of, printed, printed_none, refusal_line, stop_line};
+ghost use Rattle.bcs_tool_answers.specs.Places.{Prints};
+
+use bcs_decode::Stop;
+use bcs_explain_columns::style::Form;
+use bcs_explain_table::Explanation;
+use std::alloc::{AllocError, Global};
+
+/// The program's status, and what it prints.
+#[derive(Debug, Drop)]
+pub struct Answer {
+    pub status: u8,
+    pub output: Vec<u8>,
+    /// Where a refusal stands, without a line's end; empty where that isn't told.
+    pub place: Vec<u8>,
+}
+
+/// The line of a refusal.
+pub fn refused(alloc: Global, name: &str) -> Result<Answer, AllocError>
+    ensures { IfOk result (λ a. Prints a 2 (refusal_line name.now)) }
+{
+    let mut text = String::from_str(alloc, "refused: ")?;
+    text.push_str(name)?;
+    Ok(unplaced(alloc, 2, with_line_end(text)?))
+}
+
+/// The line for a registry of so many containers.
+pub fn counted(alloc: Global, count: usize) -> Result<Answer, AllocError>
+    ensures { IfOk result (λ a. Prints a 0 (count_line count)) }
+{
+    let text = format!(in alloc; "ok {count}")?;
+    Ok(unplaced(alloc, 0, with_line_end(text)?))
+}
+
+/// The line for bytes that stop being a value.
+pub fn stopped(alloc: Global, stop: Stop) -> Result<Answer, AllocError>
+    ensures { IfOk result (λ a. Prints a 2 (stop_line stop.reason stop.place)) }
+{
+    let reason = stop.reason.name();
+    let text = format!(in alloc; "{reason} at {}", stop.place)?;
+    refused(alloc, text.as_str())
+}
+
+/// The pieces of bytes; where the bytes stop being a value, the line of this stands behind them, but for JSON, which has
+/// an object for it.
+pub fn explained(alloc: Global, form: Form, explanation: Explanation) -> Result<Answer, AllocError>
+    ensures { IfOk result (λ a. Prints a (explained_status explanation.stop)
+        (explained_text form explanation.text.items explanation.stop)) }
+{
+    let Explanation { mut text, stop } = explanation;
+    let Some(stop) = stop else {
+        return Ok(unplaced(alloc, 0, text));
+    };
+    let line = stopped(alloc, stop)?;
+    if form != Form::Json {
+        text.extend_from_slice(line.output.as_slice())?;
+    }
+    Ok(unplaced(alloc, line.status, text))
+}
+
+/// A word on a line of its own.
+pub fn told(alloc: Global, status: u8, word: &str) -> Result<Answer, AllocError>
+    ensures { IfOk result (λ a. Prints a status (line_of word.now)) }
+{
+    let text = String::from_str(alloc, word)?;
+    Ok(unplaced(alloc, status, with_line_end(text)?))
+}
+
+/// The text of a value.
+pub fn shown(alloc: Global, text: String) -> Result<Answer, AllocError>
+    ensures { IfOk result (λ a. Prints a 0 (line_of (string_bytes text))) }
+{
+    Ok(unplaced(alloc, 0, with_line_end(text)?))
+}
+
+/// The bytes of a value, as they are where `raw` is asked for, or as a line of hexadecimal digits.
+pub fn encoded(alloc: Global, bytes: Vec<u8>, raw: bool) -> Result<Answer, AllocError>
+    ensures { IfOk result (λ a. Prints a 0 (printed raw bytes.items)) }
+{
+    let output = if raw {
+        bytes
+    } else {
+        digits_line(alloc, bytes.as_slice())?
+    };
+    Ok(unplaced(alloc, 0, output))
+}
+
+/// The bytes of a part, in the same way.
+pub fn found(alloc: Global, bytes: &[u8], raw: bool) -> Result<Answer, AllocError>
+    ensures { IfOk result (λ a. Prints a 0 (printed raw bytes.now)) }
+{
+    let output = if raw {
+        Vec::from_slice(alloc, bytes)?
+    } else {
+        digits_line(alloc, bytes)?
+    };
+    Ok(unplaced(alloc, 0, output))
+}
+
+/// What is printed where there is no part: nothing where `raw` is asked for.
+pub fn nowhere(alloc: Global, raw: bool) -> Result<Answer, AllocError>
+    ensures { IfOk result (λ a. Prints a 1 (printed_none raw)) }
+{
+    if raw {
+        return Ok(unplaced(alloc, 1, Vec::new(alloc)));
+    }
+    told(alloc, 1, "none")
+}
+
+/// The answer with the place of its refusal.
+pub fn placed(answer: Answer, place: Vec<u8>) -> Answer
+    ensures status { result.status ≡ answer.status }
+    ensures output { result.output.items ≡ answer.output.items }
+    ensures place { result.place.items ≡ place.items }
+{
+    Answer { place, ..answer }
+}
+
+// An answer with no place.
+fn unplaced(alloc: Global, status: u8, output: Vec<u8>) -> Answer
+    ensures { Prints result status output.items }
+{
+    Answer {
+        status,
+        output,
+        place: Vec::new(alloc),
+    }
+}
+
+// The bytes as a line of hexadecimal digits.
+fn digits_line(alloc: Global, bytes: &[u8]) -> Result<Vec<u8>, AllocError>
+    ensures { IfOk result (λ v. v.items ≡ line_of (encode_lower bytes.now)) }
+{
+    with_line_end(hex::encode(alloc, bytes)?)
+}
+
+// The text and a line end.
+fn with_line_end(mut text: String) -> Result<Vec<u8>, AllocError>
+    ensures { IfOk result (λ bytes. bytes.items ≡ line_of (string_bytes text)) }
+{
+    text.push_str("\n")?;
+    Ok(text.into_bytes())
+}

@@ -1,0 +1,159 @@
+//! The answers to the bytes of a value.
+ghost use Rattle.std.specs.Prelude.{◌≡◌, ◌≢◌, ◌≤◌, ℕ, List, codes, length, string_bytes, IfOk};
+ghost use Rattle.bcs_registry_formats.specs.View.{shape_of};
+ghost use Rattle.bcs_registry_formats.specs.WellFormed.{Admits};
+ghost use Rattle.bcs_tool_path.specs.PathSteps.{all_spelled};
+ghost use Rattle.bcs_tool_files.specs.Files.{size_limit};
+ghost use Rattle.bcs_tool_answers.specs.Answers.{TakesBytes, refusal_line};
+ghost use Rattle.bcs_tool_answers.specs.Input.{Gives};
+ghost use Rattle.bcs_tool_answers.specs.Judging.{Asks, IsPath};
+ghost use Rattle.bcs_tool_answers.specs.Places.{IsAnswer, Prints};
+
+use crate::answer::{Answer, explained, found, nowhere, refused, shown};
+use crate::blanks::without_blanks;
+use crate::judging::Asked;
+use crate::scan_answers::answer_scan;
+use crate::stop_answers::answer_stop;
+use bcs_decode::part;
+use bcs_explain_table::explain_text;
+use bcs_json::{FromFault, from_bcs};
+use bcs_tool_files::Work;
+use bcs_tool_line::Command;
+use bcs_tool_path::steps_of;
+use hex::FromHexError;
+use std::alloc::{AllocError, Global};
+
+/// The answer to the input of a job that takes a value's bytes, which are given as they are or as digits.
+pub fn answer_given(
+    alloc: Global,
+    work: &Work,
+    asked: &Asked,
+    input: &[u8],
+) -> Result<Answer, AllocError>
+    requires command { TakesBytes work.now.command }
+    requires asks { Asks work.now asked.now.registry (shape_of asked.now.format) }
+    requires admitted { Admits asked.now.registry (shape_of asked.now.format) }
+    requires path { IsPath work.now.command (string_bytes work.now.path) (all_spelled asked.now.path.items) }
+    requires within { length input.now ≤ size_limit }
+    ensures { IfOk result (λ a. IsAnswer work.now input.now a) }
+{
+    if work.raw {
+        return answer_bytes(alloc, work, asked, input);
+    }
+    match hex::decode(alloc, without_blanks(input)) {
+        Ok(bytes) => answer_bytes(alloc, work, asked, bytes.as_slice()),
+        Err(fault) => refused_digits(alloc, fault),
+    }
+}
+
+// The answer to text that is no hexadecimal digits. Want of memory is no refusal.
+fn refused_digits(alloc: Global, fault: FromHexError) -> Result<Answer, AllocError>
+    ensures { IfOk result (λ a. (fault ≢ FromHexError.OutOfMemory)
+        × Prints a 2 (refusal_line (codes "BadHex"))) }
+{
+    match fault {
+        FromHexError::OutOfMemory => Err(AllocError),
+        FromHexError::OddLength
+        | FromHexError::InvalidHexCharacter { .. }
+        | FromHexError::InvalidStringLength => refused(alloc, "BadHex"),
+    }
+}
+
+// The answer to these bytes, whatever the input that gives them.
+fn answer_bytes(
+    alloc: Global,
+    work: &Work,
+    asked: &Asked,
+    bytes: &[u8],
+) -> Result<Answer, AllocError>
+    requires command { TakesBytes work.now.command }
+    requires asks { Asks work.now asked.now.registry (shape_of asked.now.format) }
+    requires admitted { Admits asked.now.registry (shape_of asked.now.format) }
+    requires path { IsPath work.now.command (string_bytes work.now.path) (all_spelled asked.now.path.items) }
+    ensures { IfOk result (λ a. (input : List ℕ) → length input ≤ size_limit → Gives work.now.raw input bytes.now
+        → IsAnswer work.now input a) }
+{
+    match work.command {
+        Command::Part => answer_part(alloc, work, asked, bytes),
+        Command::Decode => answer_decode(alloc, work, asked, bytes),
+        Command::Explain => answer_explain(alloc, work, asked, bytes),
+        Command::Scan => answer_scan(alloc, work, asked, bytes),
+        Command::Check | Command::Grows | Command::Encode | Command::Normalise | Command::Same =>
+            unreachable!(),
+    }
+}
+
+// The text of the value whose bytes these are.
+fn answer_decode(
+    alloc: Global,
+    work: &Work,
+    asked: &Asked,
+    bytes: &[u8],
+) -> Result<Answer, AllocError>
+    requires command { work.now.command ≡ Command.Decode }
+    requires asks { Asks work.now asked.now.registry (shape_of asked.now.format) }
+    requires admitted { Admits asked.now.registry (shape_of asked.now.format) }
+    ensures { IfOk result (λ a. (input : List ℕ) → length input ≤ size_limit → Gives work.now.raw input bytes.now
+        → IsAnswer work.now input a) }
+{
+    let Asked {
+        registry,
+        format,
+        ..
+    } = asked;
+    match from_bcs(alloc, registry, format, &work.limits, bytes) {
+        Ok(text) => shown(alloc, text),
+        Err(FromFault::Stop(stop)) => answer_stop(alloc, work, asked, bytes, stop),
+        Err(FromFault::TooNested) => refused(alloc, "TooNested"),
+        Err(FromFault::OutOfMemory) => Err(AllocError),
+    }
+}
+
+// The pieces of the value whose bytes these are; where they are none, those before they stop being one.
+fn answer_explain(
+    alloc: Global,
+    work: &Work,
+    asked: &Asked,
+    bytes: &[u8],
+) -> Result<Answer, AllocError>
+    requires command { work.now.command ≡ Command.Explain }
+    requires asks { Asks work.now asked.now.registry (shape_of asked.now.format) }
+    requires admitted { Admits asked.now.registry (shape_of asked.now.format) }
+    ensures { IfOk result (λ a. (input : List ℕ) → length input ≤ size_limit → Gives work.now.raw input bytes.now
+        → IsAnswer work.now input a) }
+{
+    let Asked {
+        registry,
+        format,
+        ..
+    } = asked;
+    let explanation = explain_text(alloc, registry, format, &work.limits, work.style, bytes)?;
+    explained(alloc, work.style.form, explanation)
+}
+
+// The bytes of the part to which the path leads in the value at the front of these bytes.
+fn answer_part(
+    alloc: Global,
+    work: &Work,
+    asked: &Asked,
+    bytes: &[u8],
+) -> Result<Answer, AllocError>
+    requires command { work.now.command ≡ Command.Part }
+    requires asks { Asks work.now asked.now.registry (shape_of asked.now.format) }
+    requires admitted { Admits asked.now.registry (shape_of asked.now.format) }
+    requires path { IsPath work.now.command (string_bytes work.now.path) (all_spelled asked.now.path.items) }
+    ensures { IfOk result (λ a. (input : List ℕ) → length input ≤ size_limit → Gives work.now.raw input bytes.now
+        → IsAnswer work.now input a) }
+{
+    let Asked {
+        registry,
+        format,
+        path,
+    } = asked;
+    let steps = steps_of(alloc, path.as_slice())?;
+    match part(registry, format, &work.limits, bytes, steps.as_slice()) {
+        Ok(Some(part)) => found(alloc, part.bytes, work.raw),
+        Ok(None) => nowhere(alloc, work.raw),
+        Err(stop) => answer_stop(alloc, work, asked, bytes, stop),
+    }
+}

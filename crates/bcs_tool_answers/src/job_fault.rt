@@ -1,0 +1,84 @@
+//! Why a job is refused by its words alone.
+ghost use Rattle.std.specs.Prelude.{◌≡◌, ◌≢◌, IfOk};
+ghost use Rattle.bcs_registry_formats.specs.declared.fault.RegistryFault.TheVariants.{OutOfMemory};
+ghost use Rattle.bcs_tool_answers.specs.Answers.{refusal_line};
+ghost use Rattle.bcs_tool_answers.specs.Judging.{job_fault_name};
+ghost use Rattle.bcs_tool_answers.specs.Places.{Prints};
+
+use crate::answer::{Answer, refused};
+use bcs_registry::{GrowthFault, RegistryFault};
+use bcs_tool_path::PathFault;
+use std::alloc::{AllocError, Global};
+use thiserror::Error;
+
+/// Why a job is refused before its input is read. Want of memory is a `Registry` fault, whatever
+/// asked for the memory.
+#[derive(Clone, Copy, Debug, Drop, PartialEq, Eq, Error)]
+#[error("{}", self.name())]
+pub enum JobFault {
+    /// A registry's text or FORMAT is refused.
+    Registry(RegistryFault),
+    /// The newer registry doesn't keep all that the older one has.
+    Growth(GrowthFault),
+    /// PATH spells no steps.
+    BadPath,
+}
+
+impl JobFault {
+    /// The answer to a job that is refused. Want of memory is no refusal.
+    pub fn answer(self, alloc: Global) -> Result<Answer, AllocError>
+        ensures { IfOk result (λ a. (self ≢ JobFault.Registry OutOfMemory)
+            × Prints a 2 (refusal_line (job_fault_name self))) }
+    {
+        match self {
+            JobFault::Registry(RegistryFault::OutOfMemory) => Err(AllocError),
+            _ => refused(alloc, self.name()),
+        }
+    }
+
+    /// The fault's name, which is printed.
+    pub fn name(self) -> &'static str
+        ensures { result.now ≡ job_fault_name self }
+    {
+        match self {
+            JobFault::Registry(fault) => fault.name(),
+            JobFault::Growth(fault) => fault.name(),
+            JobFault::BadPath => "BadPath",
+        }
+    }
+}
+
+impl From<RegistryFault> for JobFault {
+    ghost use Rattle.std.specs.Prelude.{◌≡◌};
+    ghost use Rattle.bcs_tool_answers.specs.declared.job_fault.JobFault.TheVariants.{Registry};
+
+    ghost from_gives = { λ fault result. result ≡ Registry fault };
+
+    fn from(fault: RegistryFault) -> JobFault {
+        JobFault::Registry(fault)
+    }
+}
+
+impl From<PathFault> for JobFault {
+    ghost use Rattle.bcs_tool_answers.specs.Judging.{path_job_fault};
+
+    ghost from_gives = { λ fault result. result ≡ path_job_fault fault };
+
+    fn from(fault: PathFault) -> JobFault {
+        match fault {
+            PathFault::BadPath => JobFault::BadPath,
+            PathFault::OutOfMemory => JobFault::Registry(RegistryFault::OutOfMemory),
+        }
+    }
+}
+
+impl From<GrowthFault> for JobFault {
+    ghost use Rattle.std.specs.Prelude.{◌≡◌};
+    ghost use Rattle.bcs_tool_answers.specs.declared.job_fault.JobFault.TheVariants.{Growth};
+
+    ghost from_gives = { λ fault result. result ≡ Growth fault };
+
+    fn from(fault: GrowthFault) -> JobFault {
+        JobFault::Growth(fault)
+    }
+}

@@ -1,0 +1,117 @@
+//! What is judged of a job before its input is read: its registries, then the format, and then the path.
+ghost use Rattle.std.specs.Prelude.{◌≡◌, ◌≢◌, ℕ, length, string_bytes, true, Err, IfOk, IfErr, OnOk};
+ghost use Rattle.bcs_registry_formats.specs.Container.{Entries};
+ghost use Rattle.bcs_registry_formats.specs.Grows.{Grows};
+ghost use Rattle.bcs_registry_formats.specs.Shape as shape;
+ghost use Rattle.bcs_registry_formats.specs.View.{shape_of};
+ghost use Rattle.bcs_registry_formats.specs.WellFormed.{Admits};
+ghost use Rattle.bcs_registry_formats.specs.declared.fault.RegistryFault.TheVariants.{OutOfMemory};
+ghost use Rattle.bcs_tool_path.specs.Path.{SpellsNoPath};
+ghost use Rattle.bcs_tool_path.specs.PathSteps.{all_spelled};
+ghost use Rattle.bcs_tool_answers.specs.Judging.{Asks, IsFormat, IsPath, IsRegistry, RefusesCheck, RefusesEarly, RefusesFormat, RefusesGrowth, is_json_word, works_on_values};
+
+use crate::job_fault::JobFault;
+use bcs_registry::{Format, Registry, RegistryFault};
+use bcs_tool_files::Work;
+use bcs_tool_line::Command;
+use bcs_tool_path::{PathFault, PathStep, read_path};
+use std::alloc::{AllocError, Global};
+
+/// How many containers the registry has.
+pub fn judge_check(alloc: Global, work: &Work) -> Result<usize, JobFault>
+    ensures ok { IfOk result (λ count. (registry : Entries) × IsRegistry work.now.registry.items registry
+        × (count ≡ length registry)) }
+    ensures fault { IfErr result (λ e. e ≢ JobFault.Registry OutOfMemory → RefusesCheck work.now e) }
+{
+    let registry = Registry::read(alloc, work.registry.as_slice())?;
+    Ok(registry.len())
+}
+
+/// Finds whether the older registry has grown into the newer. A fault of the older comes before one of the newer.
+pub fn judge_growth(alloc: Global, work: &Work) -> Result<(), JobFault>
+    ensures ok { OnOk result ((older : Entries) × (newer : Entries) × IsRegistry work.now.registry.items older
+        × IsRegistry work.now.second.items newer × Grows older newer) }
+    ensures fault { IfErr result (λ e. e ≢ JobFault.Registry OutOfMemory → RefusesGrowth work.now e) }
+{
+    let older = Registry::read(alloc, work.registry.as_slice())?;
+    let newer = Registry::read(alloc, work.second.as_slice())?;
+    older.grows(&newer)?;
+    Ok(())
+}
+
+/// Values of which format of a registry a job works on, and which steps into them it takes.
+#[derive(Drop)]
+pub struct Asked {
+    pub registry: Registry,
+    pub format: Format,
+    /// The steps of PATH; none where the command has no PATH.
+    pub path: Vec<PathStep>,
+}
+
+/// What the job asks for. The registry's fault comes before the format's, and this before that of PATH.
+pub fn judge_asked(alloc: Global, work: &Work) -> Result<Asked, JobFault>
+    requires { works_on_values work.now.command ≡ true }
+    ensures ok { IfOk result (λ asked. Asks work.now asked.registry (shape_of asked.format)) }
+    ensures admitted { IfOk result (λ asked. Admits asked.registry (shape_of asked.format)) }
+    ensures path { IfOk result (λ asked. IsPath work.now.command (string_bytes work.now.path) (all_spelled asked.path.items)) }
+    ensures fault { IfErr result (λ e. e ≢ JobFault.Registry OutOfMemory → RefusesEarly work.now e) }
+{
+    let registry = Registry::read(alloc, work.registry.as_slice())?;
+    let format = judge_format(alloc, &registry, work.format.as_str())?;
+    let path = judge_path(alloc, work)?;
+    Ok(Asked {
+        registry,
+        format,
+        path,
+    })
+}
+
+// The steps of the job's PATH; none where the command has no PATH.
+fn judge_path(alloc: Global, work: &Work) -> Result<Vec<PathStep>, PathFault>
+    ensures ok { IfOk result (λ path. IsPath work.now.command (string_bytes work.now.path) (all_spelled path.items)) }
+    ensures bad { result ≡ Err PathFault.BadPath → (work.now.command ≡ Command.Part) × SpellsNoPath (string_bytes work.now.path) }
+{
+    match work.command {
+        Command::Part => read_path(alloc, work.path.as_str()),
+        Command::Check
+        | Command::Grows
+        | Command::Encode
+        | Command::Decode
+        | Command::Explain
+        | Command::Normalise
+        | Command::Same
+        | Command::Scan => Ok(Vec::new(alloc)),
+    }
+}
+
+// The format of a word: its JSON, or a container's name.
+fn judge_format(alloc: Global, registry: &Registry, word: &str) -> Result<Format, RegistryFault>
+    ensures ok { IfOk result (λ format. IsFormat registry.now word.now (shape_of format)) }
+    ensures fault { IfErr result (λ e. e ≢ OutOfMemory → RefusesFormat registry.now word.now e) }
+{
+    if begins_json(word) {
+        return registry.read_format(alloc, word.as_bytes());
+    }
+    match registry.container(word) {
+        Some(_) => named(alloc, word),
+        None => Err(RegistryFault::UnknownName),
+    }
+}
+
+// The format of a container's values.
+fn named(alloc: Global, name: &str) -> Result<Format, RegistryFault>
+    ensures ok { IfOk result (λ format. shape_of format ≡ shape.name name.now) }
+    ensures fault { IfErr result (λ e. e ≡ OutOfMemory) }
+{
+    match String::from_str(alloc, name) {
+        Ok(name) => Ok(Format::TypeName(name)),
+        Err(AllocError) => Err(RegistryFault::OutOfMemory),
+    }
+}
+
+/// Whether a format's word is JSON, and no name of a container.
+pub fn begins_json(word: &str) -> bool
+    ensures { result ≡ is_json_word word.now }
+{
+    matches!(word.as_bytes().first(), Some(b'{' | b'"'))
+}

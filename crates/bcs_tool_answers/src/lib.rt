@@ -1,0 +1,27 @@
+//! The answer to a job and its input: what is judged of the job's words, the answer, and where a refusal stands.
+#![tactic(auto)]
+
+mod answer;
+mod blanks;
+mod bytes_answers;
+mod job_fault;
+mod json_places;
+mod judging;
+pub mod laws;
+mod pair_places;
+mod places;
+mod preparing;
+mod scan_answers;
+mod stop_answers;
+mod text_places;
+mod text_refusal;
+mod two_texts;
+mod value_answers;
+mod word_places;
+
+pub use answer::{Answer, counted, stopped};
+pub use job_fault::JobFault;
+pub use judging::Asked;
+pub use preparing::{Prepared, prepare};
+pub use scan_answers::is_unlimited;
+pub use value_answers::answer_values;

@@ -1,0 +1,83 @@
+//! What the words of a job come to, before its input is read.
+ghost use Rattle.std.specs.Prelude.{◌≡◌, ◌≢◌, ℕ, List, IfOk, true};
+ghost use Rattle.bcs_registry_formats.specs.declared.fault.RegistryFault.TheVariants.{OutOfMemory};
+ghost use Rattle.bcs_tool_answers.specs.Judging.{RefusesEarly, works_on_values};
+ghost use Rattle.bcs_tool_answers.specs.Places.{IsAnswer};
+ghost use Rattle.bcs_tool_answers.specs.Preparing.{IsPrepared};
+
+use crate::answer::{Answer, counted, placed, told};
+use crate::job_fault::JobFault;
+use crate::judging::{Asked, judge_asked, judge_check, judge_growth};
+use crate::word_places::place_of_words;
+use bcs_tool_files::Work;
+use bcs_tool_line::Command;
+use std::alloc::{AllocError, Global};
+
+/// A job whose words were judged.
+#[derive(Drop)]
+pub enum Prepared {
+    /// Its answer, whatever the input: it has no input, or its words are refused.
+    Answered(Answer),
+    /// What it asks for of its input.
+    Asked(Asked),
+}
+
+/// Judges the words of the job. No input is read before.
+pub fn prepare(alloc: Global, work: &Work) -> Result<Prepared, AllocError>
+    ensures { IfOk result (λ prepared. IsPrepared work.now prepared) }
+{
+    match work.command {
+        Command::Check => Ok(Prepared::Answered(answer_check(alloc, work)?)),
+        Command::Grows => Ok(Prepared::Answered(answer_growth(alloc, work)?)),
+        Command::Encode
+        | Command::Decode
+        | Command::Explain
+        | Command::Normalise
+        | Command::Same
+        | Command::Part
+        | Command::Scan => prepare_asked(alloc, work),
+    }
+}
+
+// How many containers the registry has, whatever the input.
+fn answer_check(alloc: Global, work: &Work) -> Result<Answer, AllocError>
+    requires { work.now.command ≡ Command.Check }
+    ensures { IfOk result (λ a. (bytes : List ℕ) → IsAnswer work.now bytes a) }
+{
+    match judge_check(alloc, work) {
+        Ok(count) => counted(alloc, count),
+        Err(fault) => refused_words(alloc, work, fault),
+    }
+}
+
+// Whether the older registry has grown into the newer, whatever the input.
+fn answer_growth(alloc: Global, work: &Work) -> Result<Answer, AllocError>
+    requires { work.now.command ≡ Command.Grows }
+    ensures { IfOk result (λ a. (bytes : List ℕ) → IsAnswer work.now bytes a) }
+{
+    match judge_growth(alloc, work) {
+        Ok(()) => told(alloc, 0, "grows"),
+        Err(fault) => refused_words(alloc, work, fault),
+    }
+}
+
+// What a job that works on values asks for; or the answer to it, whatever the input, where its words are refused.
+fn prepare_asked(alloc: Global, work: &Work) -> Result<Prepared, AllocError>
+    requires { works_on_values work.now.command ≡ true }
+    ensures { IfOk result (λ prepared. IsPrepared work.now prepared) }
+{
+    match judge_asked(alloc, work) {
+        Ok(asked) => Ok(Prepared::Asked(asked)),
+        Err(fault) => Ok(Prepared::Answered(refused_words(alloc, work, fault)?)),
+    }
+}
+
+// The answer to a job whose words are refused with this fault. Want of memory is no refusal.
+fn refused_words(alloc: Global, work: &Work, fault: JobFault) -> Result<Answer, AllocError>
+    requires refused { fault ≢ JobFault.Registry OutOfMemory → RefusesEarly work.now fault }
+    ensures refuses { IfOk result (λ _. RefusesEarly work.now fault) }
+    ensures answers { IfOk result (λ a. (bytes : List ℕ) → IsAnswer work.now bytes a) }
+{
+    let place = place_of_words(alloc, work, fault);
+    Ok(placed(fault.answer(alloc)?, place))
+}

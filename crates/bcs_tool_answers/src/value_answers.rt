@@ -1,0 +1,115 @@
+//! The answers to the input of a job that works on values.
+ghost use Rattle.std.specs.Prelude.{◌≡◌, ◌≤◌, length, IfOk};
+ghost use Rattle.bcs_registry_formats.specs.View.{shape_of};
+ghost use Rattle.bcs_tool_files.specs.Files.{size_limit};
+ghost use Rattle.bcs_tool_answers.specs.Judging.{Asks};
+ghost use Rattle.bcs_tool_answers.specs.Places.{IsAnswer};
+ghost use Rattle.bcs_tool_answers.specs.Preparing.{IsAskedBy};
+
+use crate::answer::{Answer, encoded, placed, shown, told};
+use crate::bytes_answers::answer_given;
+use crate::judging::Asked;
+use crate::pair_places::place_of_pair;
+use crate::text_places::place_of_refusal;
+use crate::text_refusal::refused_text;
+use bcs_json::{compare, normalise, to_bcs};
+use bcs_tool_files::Work;
+use bcs_tool_line::Command;
+use std::alloc::{AllocError, Global};
+
+/// The answer to the input, where the job asks for this format.
+pub fn answer_values(
+    alloc: Global,
+    work: &Work,
+    asked: &Asked,
+    input: &[u8],
+) -> Result<Answer, AllocError>
+    requires asked { IsAskedBy work.now asked.now }
+    requires within { length input.now ≤ size_limit }
+    ensures { IfOk result (λ a. IsAnswer work.now input.now a) }
+{
+    match work.command {
+        Command::Encode => answer_encode(alloc, work, asked, input),
+        Command::Normalise => answer_normalise(alloc, work, asked, input),
+        Command::Same => answer_same(alloc, work, asked, input),
+        Command::Decode | Command::Explain | Command::Part | Command::Scan => {
+            answer_given(alloc, work, asked, input)
+        }
+        Command::Check | Command::Grows => unreachable!(),
+    }
+}
+
+// The bytes of the text's value.
+fn answer_encode(
+    alloc: Global,
+    work: &Work,
+    asked: &Asked,
+    text: &[u8],
+) -> Result<Answer, AllocError>
+    requires command { work.now.command ≡ Command.Encode }
+    requires asks { Asks work.now asked.now.registry (shape_of asked.now.format) }
+    requires within { length text.now ≤ size_limit }
+    ensures { IfOk result (λ a. IsAnswer work.now text.now a) }
+{
+    let Asked {
+        registry,
+        format,
+        ..
+    } = asked;
+    match to_bcs(alloc, registry, format, &work.limits, text) {
+        Ok(bytes) => encoded(alloc, bytes, work.raw),
+        Err(fault) => {
+            let place = place_of_refusal(alloc, work, asked, text, fault);
+            Ok(placed(refused_text(alloc, fault)?, place))
+        }
+    }
+}
+
+// The normal text of the text's value.
+fn answer_normalise(
+    alloc: Global,
+    work: &Work,
+    asked: &Asked,
+    text: &[u8],
+) -> Result<Answer, AllocError>
+    requires command { work.now.command ≡ Command.Normalise }
+    requires asks { Asks work.now asked.now.registry (shape_of asked.now.format) }
+    requires within { length text.now ≤ size_limit }
+    ensures { IfOk result (λ a. IsAnswer work.now text.now a) }
+{
+    let Asked {
+        registry,
+        format,
+        ..
+    } = asked;
+    match normalise(alloc, registry, format, &work.limits, text) {
+        Ok(normal) => shown(alloc, normal),
+        Err(fault) => {
+            let place = place_of_refusal(alloc, work, asked, text, fault);
+            Ok(placed(refused_text(alloc, fault)?, place))
+        }
+    }
+}
+
+// Whether the job's text and this one have the same value.
+fn answer_same(alloc: Global, work: &Work, asked: &Asked, text: &[u8]) -> Result<Answer, AllocError>
+    requires command { work.now.command ≡ Command.Same }
+    requires asks { Asks work.now asked.now.registry (shape_of asked.now.format) }
+    requires within { length text.now ≤ size_limit }
+    ensures { IfOk result (λ a. IsAnswer work.now text.now a) }
+{
+    let Asked {
+        registry,
+        format,
+        ..
+    } = asked;
+    let first = work.second.as_slice();
+    match compare(alloc, registry, format, &work.limits, first, text) {
+        Ok(true) => told(alloc, 0, "equal"),
+        Ok(false) => told(alloc, 1, "different"),
+        Err(fault) => {
+            let place = place_of_pair(alloc, work, asked, text);
+            Ok(placed(refused_text(alloc, fault)?, place))
+        }
+    }
+}
