@@ -186,24 +186,33 @@ fn style_of(form: &str) -> Result<Style, RowFault> {
     Ok(Style { form, paint })
 }
 
+fn asked_part<'a>(
+    options: Options,
+    registry: &'a str,
+    format: &'a str,
+    path: &'a str,
+    limits: &'a [&'a str],
+) -> ValueJob<'a> {
+    ValueJob {
+        path,
+        ..asked(Command::Part, options, registry, format, limits)
+    }
+}
+
 // The answer to a job on a part of a value, and to its input where it has one.
 fn on_parts(alloc: Global, quiet: bool, words: &[&str]) -> Result<String, RowFault> {
     let (options, words) = options_of(quiet, words);
-    let (registry, format, path, rest) = match words {
-        [registry, format, path, rest @ ..] => (registry, format, path, rest),
-        _ => return Err(RowFault::NotUnderstood),
-    };
-    match rest {
-        [] => {
-            let mut asked = asked(Command::Part, options, registry, format, &[]);
-            asked.path = path;
-            without_input(alloc, &work_of(alloc, asked)?)
+    match words {
+        [registry, format, path] => {
+            let work = work_of(alloc, asked_part(options, registry, format, path, &[]))?;
+            without_input(alloc, &work)
         }
-        [input, limits @ ..] => {
-            let mut asked = asked(Command::Part, options, registry, format, limits);
-            asked.path = path;
-            with_input(alloc, asked, input)
-        }
+        [registry, format, path, input, limits @ ..] => with_input(
+            alloc,
+            asked_part(options, registry, format, path, limits),
+            input,
+        ),
+        _ => Err(RowFault::NotUnderstood),
     }
 }
 

@@ -30,6 +30,8 @@ fn job(alloc: Global, command: Command) -> Result<Job, AllocError> {
         path: String::from_str(alloc, "P")?,
         file: Some(String::from_str(alloc, "I")?),
         raw: true,
+        lines: false,
+        front: false,
         quiet: true,
         form: Form::Tree,
         color: Color::Always,
