@@ -70,9 +70,8 @@ def cases():
     yield "bytes, 500 containers of 32 levels, explained", ["explain", "--raw", deep, "L"], lambda: b"\x01" * (31 * 500) + b"\x00"
     keys = '{"K":{"NEWTYPESTRUCT":' + key_of_keys('{"OPTION":{"TYPENAME":"K"}}', 30) + "}}"
     yield "bytes, 15,000 maps nested as keys", ["decode", "--raw", keys, "K"], lambda: b"\x01" * (31 * 500 - 1) + b"\x00"
-    text = b'"' + b"a" * (LIMIT - 2) + b'"'
-    yield "lines, one of 256 MiB behind a short one", ["encode", "--lines", "{}", '"STR"'], lambda: b'"a"\n' + text + b"\n"
-    yield "lines, one a byte too long behind a short one", ["encode", "--lines", "{}", '"STR"'], lambda: b'"a"\n ' + text + b"\n"
+    yield "lines, one of 256 MiB behind a short one", ["encode", "--lines", "{}", '"STR"'], lambda: b'"a"\n"' + b"a" * (LIMIT - 2) + b'"\n'
+    yield "lines, one a byte too long behind a short one", ["encode", "--lines", "{}", '"STR"'], lambda: b'"a"\n"' + b"a" * (LIMIT - 1) + b'"\n'
     yield "lines, 32 million of one digit", ["encode", "--lines", "{}", '"U8"'], lambda: b"7\n" * 32_000_000
     yield "part, the last of 32 Mi numbers", ["part", "--raw", "{}", '{"SEQ":"U16"}', str(32 * MIB - 1)], lambda: uleb(32 * MIB) + b"ab" * (32 * MIB)
 
