@@ -13,9 +13,9 @@ use std::test::Fail;
 
 // The words after the program's name, the status, and what the standard output and the standard
 // error are told: all of it, or a front where it ends in `..`.
-type Ending = (&'static [&'static str], u8, &'static str, &'static str);
+pub(crate) type Ending = (&'static [&'static str], u8, &'static str, &'static str);
 
-pub(crate) fn words_of(alloc: Global, arguments: &[&str]) -> Result<Vec<String>, AllocError> {
+fn words_of(alloc: Global, arguments: &[&str]) -> Result<Vec<String>, AllocError> {
     let mut words = Vec::new(alloc);
     words.push(String::from_str(alloc, "bcs")?)?;
     for argument in arguments {
@@ -42,7 +42,7 @@ fn ends(
 }
 
 // The command line ends so over this input, where the output and the errors fail from these calls on.
-fn ends_over(
+pub(crate) fn ends_over(
     rt: &(impl Abort + AllocGlobal + Env + Files),
     input: &mut impl ByteSource,
     fails: [Option<u64>; 2],
