@@ -94,8 +94,20 @@ fn options_of<'a>(quiet: bool, words: &'a [&'a str]) -> (Options, &'a [&'a str])
             (options, words)
         }
         ["--raw", words @ ..] => (Options { raw: true, ..none }, words),
-        ["--lines", words @ ..] => (Options { lines: true, ..none }, words),
-        ["--front", words @ ..] => (Options { front: true, ..none }, words),
+        ["--lines", words @ ..] => (
+            Options {
+                lines: true,
+                ..none
+            },
+            words,
+        ),
+        ["--front", words @ ..] => (
+            Options {
+                front: true,
+                ..none
+            },
+            words,
+        ),
         _ => (none, words),
     }
 }
