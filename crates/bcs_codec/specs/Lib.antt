@@ -18,6 +18,7 @@ pub use Rattle.bcs_decode.specs.Stopping
 pub use Rattle.bcs_decode.specs.Sliced
 pub use Rattle.bcs_decode.specs.Whole
 pub use Rattle.bcs_decode.specs.Parts
+pub use Rattle.bcs_decode_source_scan.specs.Scanned
 pub use Rattle.bcs_explain.specs.Piece
 pub use Rattle.bcs_explain.specs.Pieces
 pub use Rattle.bcs_explain.specs.Told

@@ -6,6 +6,7 @@ pub use bcs_decode::{
     DecodeFault, Part, Reason, Step, Stop, decode_all, decode_encoded, decode_from, decode_slice,
     part, scan,
 };
+pub use bcs_decode_source_scan::{scan_all, scan_from};
 pub use bcs_encode::{EncodeFault, WriteFault, canonicalise, encode, encode_by_entries, write};
 pub use bcs_explain::{Counted, Listener, Meaning, Step as TrailStep, Trail, Wanted, explain};
 pub use bcs_explain_columns::style::{Form, Paint, Style};
