@@ -1,5 +1,5 @@
 -- What a stream was told: a text in one piece or in two, or a front of it.
-use Rattle.std.proofs.Common.{◌≡◌, ◌≢◌, ◌≤◌, ◌<◌, ◌+◌, ◌++◌, ◌⊎◌, ◌∙◌, Ok, Err, Result, ap, arith, inl, inr, refl, ℕ, List, [], ◌∷◌, Bool, true, true≢false, Option, Some, None, is_some, length, length-append, option_map, sym, subst, take}
+use Rattle.std.proofs.Common.{◌≡◌, ◌≢◌, ◌≤◌, ◌<◌, ◌+◌, ◌++◌, ◌⊎◌, Ok, Err, Result, arith, inl, inr, ℕ, List, Bool, Option, length, length-append, sym, subst, take}
 use Rattle.std.specs.Prelude.{IfErr, OnOk, String, string_bytes}
 use Rattle.std.specs.declared.alloc.Global.{Global}
 use Rattle.std.proofs.Math.Seq.{take-append-add}
@@ -9,11 +9,12 @@ use Rattle.bcs_io.proofs.TakingLemmas.{Lost-then, Took-then}
 use Rattle.bcs_tool_line.specs.declared.job.Job.{Job}
 use Rattle.bcs_tool_line.specs.declared.line_fault.LineFault.{LineFault}
 use Rattle.bcs_tool_line.specs.declared.line_fault.LineFault.TheVariants.{Usage, Help, OutOfMemory}
-use Rattle.bcs_tool_files.specs.Files.{IsWorkOf}
 use Rattle.bcs_tool_files.specs.declared.work.Outcome.{Outcome}
 use Rattle.bcs_tool_files.specs.declared.work.Work.{Work}
+use Rattle.bcs_tool.specs.Pairs.{EndsPairs, IsOutcomeOf, PairRuns}
 use Rattle.bcs_tool.specs.Running.{IsAnswered, IsFailed, PutFront, Runs}
-use Rattle.bcs_tool.specs.Endings.{NamesFile, Performs, ReadsNoFile, TellsFault, Told, lacks_file, over_file, over_input}
+use Rattle.bcs_tool.specs.declared.pair_interruption.PairInterruption.{PairInterruption}
+use Rattle.bcs_tool.specs.Endings.{Performs, PerformsOne, PerformsPairs, TellsFault, Told, first_unopened, lacks_file, over_file, over_input, over_one, over_pairs, pairs_over_file, pairs_over_input, second_unopened, unopened}
 
 module _ {K : Type 0} (taken : K → Option (List ℕ)) (is_failed : K → Bool) where
   -- a text that is put, or else in part
@@ -43,20 +44,6 @@ module _ {O E : Type 0} (taken : O → Option (List ℕ)) (is_failed : O → Boo
   fault_status (Help text) out out' errors errors' status (inr h) = omega (arith, h.0)
   fault_status OutOfMemory out out' errors errors' status h = omega (arith, h.0)
 
--- ---- the files of a job
-
-module _ {F : Type 0} (remaining : F → Option (List ℕ)) (job : Job) (work : Work) (file : Option (String Global)) (is : IsWorkOf remaining job work file) where
-  -- the work is one of the job's, with the name of its file
-  pub is_work : IsWorkOf remaining job work job.file
-  is_work = let P : Option (String Global) → Type 0 = λ f. IsWorkOf remaining job work f in subst P is.input is
-
-  -- a job whose input has a file names one
-  pub names_file : (name : String Global) → file ≡ Some name → ReadsNoFile job → ⊥
-  names_file name some no_file = true≢false (ap is_some (sym some ∙ (is.input ∙ no_file.1)))
-
-  pub names_input : (name : String Global) → file ≡ Some name → NamesFile job (string_bytes name)
-  names_input name some = inr (ap (option_map string_bytes) (sym is.input ∙ some))
-
 -- ---- statuses
 
 module _ {S K : Type 0} (content : S → Option (List ℕ)) (has_stopped : S → Bool) (allowance : S → ℕ)
@@ -69,10 +56,38 @@ module _ {S K : Type 0} (content : S → Option (List ℕ)) (has_stopped : S →
       go (inl answered) = omega (arith, answered.below)
       go (inr failed) = omega (arith, failed.status)
 
+-- and so does one of a run over two files
+module _ {F S K : Type 0} (former : F → Option (List ℕ)) (former_stopped : F → Bool) (former_allowance : F → ℕ)
+    (content : S → Option (List ℕ)) (has_stopped : S → Bool) (allowance : S → ℕ) (taken : K → Option (List ℕ)) (is_failed : K → Bool)
+    (work : Work) (name other : List ℕ) (first first' : F) (second second' : S) (out out' : K) (outcome : Outcome) where
+  pairs_status : PairRuns former former_stopped former_allowance content has_stopped allowance taken is_failed work name other first first' second second' out out' outcome → outcome.status < 5
+  pairs_status runs = go runs.result runs.ends runs.is
+    where
+      go : (result : Result Outcome PairInterruption) → EndsPairs former former_stopped former_allowance content has_stopped allowance taken is_failed work first first' second second' out out' result
+          → IsOutcomeOf work name other result outcome → outcome.status < 5
+      go (Ok done) compared is = subst (λ (o : Outcome). o.status < 5) (sym is) (omega (arith, compared.below))
+      go (Err e) fails is = omega (arith, is.status)
+
 module _ {S O F : Type 0} (content : S → Option (List ℕ)) (has_stopped : S → Bool) (allowance : S → ℕ)
     (taken : O → Option (List ℕ)) (is_failed : O → Bool) (remaining : F → Option (List ℕ)) where
+  one_status : (work : Work) (file : Option (String Global)) (input input' : S) (out out' : O) (outcome : Outcome)
+      → PerformsOne content has_stopped allowance taken is_failed remaining work file input input' out out' outcome → outcome.status < 5
+  one_status work file input input' out out' outcome (unopened name some is a b) = omega (arith, is.status)
+  one_status work file input input' out out' outcome (over_input none runs) = run_status _ _ _ taken is_failed work _ input input' out out' outcome runs
+  one_status work file input input' out out' outcome (over_file name source source' some runs a) = run_status _ _ _ taken is_failed work _ source source' out out' outcome runs
+
+  files_status : (work : Work) (first : List ℕ) (file : Option (String Global)) (input input' : S) (out out' : O) (outcome : Outcome)
+      → PerformsPairs content has_stopped allowance taken is_failed remaining work first file input input' out out' outcome → outcome.status < 5
+  files_status work first file input input' out out' outcome (first_unopened is a b) = omega (arith, is.status)
+  files_status work first file input input' out out' outcome (second_unopened name some is a b) = omega (arith, is.status)
+  files_status work first file input input' out out' outcome (pairs_over_input lines lines' none runs) =
+      pairs_status _ _ _ _ _ _ taken is_failed work _ _ lines lines' input input' out out' outcome runs
+  files_status work first file input input' out out' outcome (pairs_over_file name lines lines' source source' some runs a) =
+      pairs_status _ _ _ _ _ _ taken is_failed work _ _ lines lines' source source' out out' outcome runs
+
   pub outcome_status : (job : Job) (input input' : S) (out out' : O) (outcome : Outcome) (status : ℕ)
       → Performs content has_stopped allowance taken is_failed remaining job input input' out out' outcome → status ≡ outcome.status → status < 5
   outcome_status job input input' out out' outcome status (lacks_file lacks a b) is = omega (arith, lacks.status, is)
-  outcome_status job input input' out out' outcome status (over_input work a b runs) is = omega (arith, run_status _ _ _ taken is_failed work _ input input' out out' outcome runs, is)
-  outcome_status job input input' out out' outcome status (over_file work name file file' a b runs c) is = omega (arith, run_status _ _ _ taken is_failed work _ file file' out out' outcome runs, is)
+  outcome_status job input input' out out' outcome status (over_one work a b performs) is = omega (arith, one_status work job.file input input' out out' outcome performs, is)
+  outcome_status job input input' out out' outcome status (over_pairs work a b performs) is =
+      omega (arith, files_status work (string_bytes job.second) job.file input input' out out' outcome performs, is)

@@ -1,6 +1,10 @@
 pub mod LineLemmas
+pub mod ReadLemmas
 pub mod SoFarLemmas
 pub mod TallyLemmas
 pub mod RunLemmas
 pub mod ScanLemmas
 pub mod EndingLemmas
+pub mod PairReads
+pub mod PairLemmas
+pub mod PairRunLemmas

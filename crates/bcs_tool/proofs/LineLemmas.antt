@@ -10,6 +10,7 @@ use Rattle.bcs_io_lines.specs.Lines.{HasNoLineFeed, lines_of, onto}
 use Rattle.bcs_io_lines.proofs.LineLemmas.{lines_of-last, lines_of-line, no_feed_first, no_feed_rest}
 use Rattle.bcs_tool_files.specs.Files.{IsContent, size_limit}
 use Rattle.bcs_tool.specs.Lines.{StandBefore}
+use Rattle.bcs_tool.specs.Pairs.{AreAll}
 use Rattle.bcs_tool.specs.Running.{AreFirst, IsLongBehind}
 
 -- lines without line feeds, each with one behind it, are the lines of that text
@@ -76,6 +77,21 @@ stand_end (Some all) (Some left) None lines rest taken none ends plain h = absur
 stand_end (Some all) (Some left) (Some more) lines rest taken none ends plain h =
     let text : rest ++ left ≡ [] = ap (λ (t : List ℕ). t ++ left) none ∙ (taken ∙ ends) in
     (all, refl, h ∙ ap (λ (t : List ℕ). lines ++ lines_of t) text ∙ append-nil lines)
+
+pub stand_all : (c b d : Option (List ℕ)) (lines : List (List ℕ)) (rest : List ℕ) → Consumes b d [] → rest ≡ [] → IsAtEnd d → StandBefore c b lines rest → AreAll c lines
+stand_all None b d lines rest taken none ends h = tt
+stand_all (Some all) None d lines rest taken none ends h = absurd h
+stand_all (Some all) (Some left) None lines rest taken none ends h = absurd taken
+stand_all (Some all) (Some left) (Some more) lines rest taken none ends h =
+    let text : rest ++ left ≡ [] = ap (λ (t : List ℕ). t ++ left) none ∙ (taken ∙ ends) in
+    h ∙ ap (λ (t : List ℕ). lines ++ lines_of t) text ∙ append-nil lines
+
+-- lines that were read are the first ones of some content
+pub stand_some : (c b : Option (List ℕ)) (lines : List (List ℕ)) (rest : List ℕ) → All HasNoLineFeed lines → StandBefore c b lines rest
+    → (bytes : List ℕ) × IsContent c bytes × ((more : List (List ℕ)) × (lines_of bytes ≡ lines ++ more))
+stand_some None b lines rest plain h = (ended lines, tt, ([], ended_lines lines plain ∙ sym (append-nil lines)))
+stand_some (Some all) None lines rest plain h = absurd h
+stand_some (Some all) (Some left) lines rest plain h = (all, refl, (lines_of (rest ++ left), h))
 
 -- lines that were read are the first ones
 pub stand_first : (c b : Option (List ℕ)) (lines : List (List ℕ)) (rest : List ℕ) → StandBefore c b lines rest → AreFirst c lines

@@ -52,12 +52,12 @@ pub handed_on : {A E : Type 0} (P : Result A E → Type 0) (r : Result A E) (e :
 handed_on P (Ok a) e h p = absurd h
 handed_on P (Err x) e h p = subst (λ y. P (Err y)) (sym h) p
 
-none_first : (content : Option (List ℕ)) → AreFirst content []
+pub none_first : (content : Option (List ℕ)) → AreFirst content []
 none_first None = tt
 none_first (Some all) = (lines_of all, refl)
 
 -- the text of a tally is the summary of its statuses
-told_counts : (tally : Tally) (statuses : List ℕ) → IsTally tally statuses → tally_text tally.done tally.negative tally.refused ≡ summary statuses
+pub told_counts : (tally : Tally) (statuses : List ℕ) → IsTally tally statuses → tally_text tally.done tally.negative tally.refused ≡ summary statuses
 told_counts tally statuses counted = rw counted.done (rw counted.negative (rw counted.refused refl))
 
 module _ {S K : Type 0} (content : S → Option (List ℕ)) (has_stopped : S → Bool) (allowance : S → ℕ)

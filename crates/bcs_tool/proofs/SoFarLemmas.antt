@@ -1,15 +1,11 @@
 -- A run over lines, from one line to the next.
-use Rattle.std.proofs.Common.{◌≡◌, ◌⊎◌, ◌≤◌, ◌<◌, ◌+◌, ◌^◌, ◌++◌, ◌∙◌, inl, inr, ℕ, zero, suc, Bool, List, [], ◌∷◌, Err, Option, ap, arith, length, length-append, refl, subst, sym, take}
+use Rattle.std.proofs.Common.{◌≡◌, ◌<◌, ◌+◌, ◌^◌, ◌++◌, ◌∙◌, inl, inr, ℕ, Bool, List, [], ◌∷◌, Err, Option, arith, length, refl, subst, sym, take}
 use Rattle.std.specs.Prelude.{IfSome}
-use Rattle.std.specs.List.{All}
-use Rattle.std.proofs.lemmas.List.Elements.{All-nil, All-push}
 use Rattle.bcs_io.specs.Giving as source
 use Rattle.bcs_io.specs.Taking as sink
-use Rattle.bcs_io.proofs.GivingLemmas as giving
 use Rattle.bcs_io.proofs.TakingLemmas as taking
-use Rattle.bcs_io_lines.specs.Advancing.{FailsInLine, HasNoLine, IsLastLine, IsTooLong, RunsOut, TakesLine}
+use Rattle.bcs_io_lines.specs.Advancing.{FailsInLine, HasNoLine, IsTooLong, RunsOut, TakesLine}
 use Rattle.bcs_io_lines.specs.Held.{Held}
-use Rattle.bcs_io_lines.specs.Lines.{HasNoLineFeed}
 use Rattle.bcs_io_lines.specs.declared.next_fault.NextFault.{NextFault}
 use Rattle.bcs_io_lines.specs.declared.next_fault.NextFault.TheVariants as next_fault
 use Rattle.bcs_tool_answers.specs.Answers.{Answers}
@@ -19,17 +15,12 @@ use Rattle.bcs_tool_answers.proofs.LineAnswerLemmas.{answers_snoc, as_many}
 use Rattle.bcs_tool_files.specs.Files.{size_limit}
 use Rattle.bcs_tool_files.specs.declared.taking.TakeFault.{TakeFault}
 use Rattle.bcs_tool_files.specs.declared.work.Work.{Work}
-use Rattle.bcs_tool.specs.Lines.{AllAnswered, IsSoFar, IsTally, StandBefore}
+use Rattle.bcs_tool.specs.Lines.{AllAnswered, IsSoFar, IsTally}
 use Rattle.bcs_tool.specs.Running.{FailsAt, HasLines, IsLongBehind, IsTooLarge, IsUnhurt, PutBefore, PutFront, PutPart, PutsLine, of_next}
 use Rattle.bcs_tool.specs.declared.run_fault.RunFault.{RunFault}
 use Rattle.bcs_tool.specs.declared.run_fault.RunFault.TheVariants.{Take, Write}
 use Rattle.bcs_tool.specs.declared.tally.Tally.{Tally}
-use Rattle.bcs_tool.proofs.LineLemmas.{stand_end, stand_first, stand_last, stand_line, stand_long, stand_nothing}
-
--- what a line and its line feed take of the room
-some_long : (xs : List ℕ) → (xs ≡ [] → ⊥) → 1 ≤ length xs
-some_long [] some = absurd (some refl)
-some_long (x ∷ xs) some = omega arith
+use Rattle.bcs_tool.proofs.ReadLemmas.{all_read, first_read, gave, line_read, long_behind, none_read, room_for_one}
 
 module _ {S K : Type 0} (content : S → Option (List ℕ)) (has_stopped : S → Bool) (allowance : S → ℕ)
     (taken : K → Option (List ℕ)) (is_failed : K → Bool) (work : Work) where
@@ -39,36 +30,11 @@ module _ {S K : Type 0} (content : S → Option (List ℕ)) (has_stopped : S →
     lines = [];
     statuses = [];
     output = [];
-    given = [];
-    took = giving.Took-nothing content has_stopped allowance input;
-    stand = stand_nothing (content input);
-    plain = All-nil HasNoLineFeed;
+    read = none_read content has_stopped allowance input;
     answers = none;
     put = taking.Took-nothing taken is_failed out;
     counted = counted;
-    room = omega arith;
   }
-
-  -- the content behind the line that was read
-  stand_behind : (c : Option (List ℕ)) (now later : S) (before after : Held) (lines : List (List ℕ)) → TakesLine content has_stopped allowance size_limit now later before after
-      → StandBefore c (content now) lines before.rest → StandBefore c (content later) (lines ++ after.line ∷ []) after.rest
-  stand_behind c now later before after lines takes h = go takes.parts
-    where
-      go : (before.rest ++ takes.given ≡ after.line ++ 10 ∷ after.rest) ⊎ IsLastLine content has_stopped allowance later (before.rest ++ takes.given) after
-          → StandBefore c (content later) (lines ++ after.line ∷ []) after.rest
-      go (inl parts) = stand_line c (content now) (content later) lines after.line before.rest takes.given after.rest takes.took.front parts takes.plain h
-      go (inr last) = stand_last c (content now) (content later) lines after.line before.rest takes.given after.rest takes.took.front last.line last.rest last.ends takes.plain last.some h
-
-  -- it took a byte at least
-  pub line_room : (now later : S) (before after : Held) → TakesLine content has_stopped allowance size_limit now later before after
-      → 1 + length after.rest + allowance later ≤ length before.rest + allowance now
-  line_room now later before after takes = go takes.parts
-    where
-      go : (before.rest ++ takes.given ≡ after.line ++ 10 ∷ after.rest) ⊎ IsLastLine content has_stopped allowance later (before.rest ++ takes.given) after
-          → 1 + length after.rest + allowance later ≤ length before.rest + allowance now
-      go (inl parts) = omega (arith, takes.took.less, ap (λ (t : List ℕ). length t) parts, length-append before.rest takes.given, length-append after.line (10 ∷ after.rest))
-      go (inr last) =
-          omega (arith, takes.took.less, ap (λ (t : List ℕ). length t) last.line, length-append before.rest takes.given, some_long after.line last.some, ap (λ (t : List ℕ). length t) last.rest)
 
   module _ (input now later : S) (out out' : K) (before after : Held) (tally : Tally)
       (far : IsSoFar content has_stopped allowance taken is_failed work input now out out' before.rest tally) where
@@ -81,25 +47,24 @@ module _ {S K : Type 0} (content : S → Option (List ℕ)) (has_stopped : S →
       lines = far.lines ++ after.line ∷ [];
       statuses = far.statuses ++ status ∷ [];
       output = far.output ++ output;
-      given = far.given ++ takes.given;
-      took = giving.Took-then content has_stopped allowance input now later far.given takes.given far.took takes.took;
-      stand = stand_behind (content input) now later before after far.lines takes far.stand;
-      plain = All-push HasNoLineFeed far.lines after.line far.plain takes.plain;
+      read = line_read content has_stopped allowance input now later far.lines before after far.read takes;
       answers = answers_snoc work far.lines far.statuses far.output after.line status output far.answers answer;
       put = taking.Took-then taken is_failed out out' out'' far.output output far.put put;
       counted = counts far.statuses far.counted;
-      room = omega (arith, line_room now later before after takes, far.room, length-append far.lines (after.line ∷ []));
     }
+
+    answered_many : length far.lines ≡ tally.answered
+    answered_many = sym (far.counted.answered ∙ as_many work far.lines far.statuses far.output far.answers)
 
     -- so many lines can be counted
     pub can_count : allowance input < 2 ^ 64 → TakesLine content has_stopped allowance size_limit now later before after → tally.answered + 1 < 2 ^ 64
     can_count bounded takes =
-        omega (arith, bounded, line_room now later before after takes, far.room, far.counted.answered, as_many work far.lines far.statuses far.output far.answers)
+        omega (arith, room_for_one content has_stopped allowance input now later far.lines before after far.read bounded takes, answered_many)
 
     -- no line is left
     pub all_answered : HasNoLine content has_stopped allowance now later before after → AllAnswered content has_stopped allowance taken is_failed work input out out' tally
     all_answered ends =
-        let all = stand_end (content input) (content now) (content later) far.lines before.rest ends.took.front ends.none_left ends.ends far.plain far.stand in
+        let all = all_read content has_stopped allowance input now later far.lines before after far.read ends in
         let P : List (List ℕ) → Type 0 = λ lines. AnswersAll work lines far.statuses far.output in
         record {
           bytes = all.0;
@@ -111,9 +76,6 @@ module _ {S K : Type 0} (content : S → Option (List ℕ)) (has_stopped : S →
           counted = far.counted;
         }
 
-    answered_many : length far.lines ≡ tally.answered
-    answered_many = sym (far.counted.answered ∙ as_many work far.lines far.statuses far.output far.answers)
-
     -- what was put before the next line
     pub put_before : HasLines work → PutBefore content has_stopped allowance taken is_failed work input out out' tally.answered
     put_before by_line = record {
@@ -121,7 +83,7 @@ module _ {S K : Type 0} (content : S → Option (List ℕ)) (has_stopped : S →
       statuses = far.statuses;
       output = far.output;
       many = answered_many;
-      first = stand_first (content input) (content now) far.lines before.rest far.stand;
+      first = first_read content has_stopped allowance input now far.lines before.rest far.read;
       answers = far.answers;
       put = far.put;
       once = λ whole. absurd (whole by_line);
@@ -132,15 +94,15 @@ module _ {S K : Type 0} (content : S → Option (List ℕ)) (has_stopped : S →
     too_large by_line long =
         inr (
           by_line,
-          (far.given ++ long.given, giving.Took-then content has_stopped allowance input now later far.given long.given far.took long.took),
-          subst (λ (n : ℕ). IfSome (content input) (IsLongBehind n)) answered_many
-              (stand_long (content input) (content now) (content later) far.lines before.rest long.given long.took.front long.longer long.plain far.stand),
+          gave content has_stopped allowance input now later far.lines before after far.read long.given long.took,
+          subst (λ (n : ℕ). IfSome (content input) (IsLongBehind n)) answered_many (long_behind content has_stopped allowance input now later far.lines before after far.read long),
         )
 
     -- memory ran out, and no call of the input failed
     pub unhurt : HasLines work → (given : List ℕ) → source.Took content has_stopped allowance now later given → IsUnhurt content has_stopped allowance taken is_failed work input later
     unhurt by_line given took =
-        inr (inl (far.given ++ given, giving.Took-then content has_stopped allowance input now later far.given given far.took took, λ whole. absurd (whole by_line)))
+        let all = gave content has_stopped allowance input now later far.lines before after far.read given took in
+        inr (inl (all.0, all.1, λ whole. absurd (whole by_line)))
 
     -- a front of the answer to the line was put
     pub put_part : (out'' : K) (status : ℕ) (output : List ℕ) → HasLines work → TakesLine content has_stopped allowance size_limit now later before after
@@ -154,7 +116,7 @@ module _ {S K : Type 0} (content : S → Option (List ℕ)) (has_stopped : S →
       answers = far.answers;
       status = status;
       output = output;
-      next = inl (by_line, (after.line, stand_first (content input) (content later) (far.lines ++ after.line ∷ []) after.rest (stand_behind (content input) now later before after far.lines takes far.stand), answer));
+      next = inl (by_line, (after.line, first_read content has_stopped allowance input later (far.lines ++ after.line ∷ []) after.rest (line_read content has_stopped allowance input now later far.lines before after far.read takes), answer));
       shown = shown;
       short = short;
       put = taking.Lost-then taken is_failed out out' out'' far.output (take shown output) far.put lost;

@@ -1,14 +1,15 @@
 -- How the program ends: what the standard output and the standard error are told, and its status.
-use Rattle.std.specs.Prelude.{◌≡◌, ◌≢◌, ◌⊎◌, ◌++◌, ℕ, List, [], Bool, Option, Some, None, String, codes, option_map, string_bytes}
+use Rattle.std.specs.Prelude.{◌≡◌, ◌≢◌, ◌⊎◌, ◌++◌, ℕ, List, [], Bool, Option, Some, None, String, codes, string_bytes}
 use Rattle.std.specs.declared.alloc.Global.{Global}
 use Rattle.bcs_io.specs.ReadSource.{allowance_of, failed, reader_of}
 use Rattle.bcs_io.specs.Taking as sink
 use Rattle.bcs_io.specs.declared.read_source.ReadSource.{ReadSource}
 use Rattle.bcs_tool_answers.specs.Answers.{line_of}
 use Rattle.bcs_tool_files.specs.FaultPlaces.{TellsPlace, file_place, file_text, origin_text}
-use Rattle.bcs_tool_files.specs.Files.{IsFaultOfFiles, IsWorkOf, NamesForWork, NamesNoFile, file_note}
+use Rattle.bcs_tool_files.specs.Files.{ComparesLines, IsFaultOfFiles, IsWorkOf, NamesForWork, NamesNoFile, file_note}
 use Rattle.bcs_tool_files.specs.declared.file_fault.FileFault.{FileFault}
-use Rattle.bcs_tool_files.specs.declared.file_fault.FileFault.TheVariants.{Take}
+use Rattle.bcs_tool_files.specs.declared.file_fault.FileFault.TheVariants.{Open, Take}
+use Rattle.bcs_tool_files.specs.declared.open_cause.OpenCause.{OpenCause}
 use Rattle.bcs_tool_files.specs.declared.origin.Origin.TheVariants.{StandardInput}
 use Rattle.bcs_tool_files.specs.declared.taking.TakeFault.TheVariants as taking
 use Rattle.bcs_tool_files.specs.declared.work.Outcome.{Outcome}
@@ -16,6 +17,7 @@ use Rattle.bcs_tool_files.specs.declared.work.Work.{Work}
 use Rattle.bcs_tool_line.specs.declared.job.Job.{Job}
 use Rattle.bcs_tool_line.specs.declared.line_fault.LineFault.{LineFault}
 use Rattle.bcs_tool_line.specs.declared.line_fault.LineFault.TheVariants.{Usage, Help, OutOfMemory}
+use Rattle.bcs_tool.specs.Pairs.{PairRuns}
 use Rattle.bcs_tool.specs.Running.{PutFront, Runs}
 
 -- ---- one stream
@@ -56,15 +58,7 @@ IsWordsFault OutOfMemory = Unit {0}
 
 -- ---- a job
 
--- no file is read: the registries are texts themselves, there is no A, and the input is the standard one
-abbrev pub ReadsNoFile : Job → Type 0
-ReadsNoFile job = NamesNoFile job × (job.file ≡ None)
-
--- the job names the file of this name: for its work, or for its input
-abbrev pub NamesFile : Job → List ℕ → Type 0
-NamesFile job name = NamesForWork job name ⊎ (option_map string_bytes job.file ≡ Some name)
-
--- a file that the job names was not read, or wasn't opened; the place tells which one, unless memory ran out
+-- a file that the job needs for its work was not read; the place tells which one, unless memory ran out
 module _ {F : Type 0} (remaining : F → Option (List ℕ)) where
   pub record LacksFile (job : Job) (outcome : Outcome) : Type 0 where
     pub fault : FileFault
@@ -72,19 +66,45 @@ module _ {F : Type 0} (remaining : F → Option (List ℕ)) where
     pub status : outcome.status ≡ 4
     pub note : outcome.note.now ≡ file_note fault
     pub place : TellsPlace job.quiet (file_place fault name) outcome.place.items
-    pub named : fault ≢ Take taking.OutOfMemory → NamesFile job name
+    pub named : fault ≢ Take taking.OutOfMemory → NamesForWork job name
     pub known : IsFaultOfFiles remaining fault
-    pub needed : ReadsNoFile job → fault ≡ Take taking.OutOfMemory
+    pub needed : NamesNoFile job → fault ≡ Take taking.OutOfMemory
 
--- what comes of a job: a run over the standard input, or over a file that was opened; or a file is lacking, and nothing is
--- read of the input, or put
+-- the file of this name, of an input, was not opened
+pub record IsUnopened (quiet : Bool) (name : List ℕ) (outcome : Outcome) : Type 0 where
+  pub cause : OpenCause
+  pub status : outcome.status ≡ 4
+  pub note : outcome.note.now ≡ file_note (Open cause)
+  pub place : TellsPlace quiet (file_place (Open cause) name) outcome.place.items
+
 module _ {S O F : Type 0} (content : S → Option (List ℕ)) (has_stopped : S → Bool) (allowance : S → ℕ)
     (taken : O → Option (List ℕ)) (is_failed : O → Bool) (remaining : F → Option (List ℕ)) where
+  -- what comes of a job with one input: a run over the standard one, or over a file that was opened; where the file wasn't,
+  -- nothing is read, or put
+  pub data PerformsOne (work : Work) (file : Option (String Global)) (input input' : S) (out out' : O) (outcome : Outcome) : Type 0 where
+    unopened : (name : String Global) → file ≡ Some name → IsUnopened work.quiet (string_bytes name) outcome → input' ≡ input → out' ≡ out
+        → PerformsOne work file input input' out out' outcome
+    over_input : file ≡ None → Runs content has_stopped allowance taken is_failed work (origin_text StandardInput) input input' out out' outcome
+        → PerformsOne work file input input' out out' outcome
+    over_file : (name : String Global) (source source' : ReadSource F) → file ≡ Some name
+        → Runs (λ s. remaining (reader_of s)) failed allowance_of taken is_failed work (file_text (string_bytes name)) source source' out out' outcome
+        → input' ≡ input → PerformsOne work file input input' out out' outcome
+
+  -- what comes of one that compares the lines of two files, of which the first has this name
+  pub data PerformsPairs (work : Work) (first : List ℕ) (file : Option (String Global)) (input input' : S) (out out' : O) (outcome : Outcome) : Type 0 where
+    first_unopened : IsUnopened work.quiet first outcome → input' ≡ input → out' ≡ out → PerformsPairs work first file input input' out out' outcome
+    second_unopened : (name : String Global) → file ≡ Some name → IsUnopened work.quiet (string_bytes name) outcome → input' ≡ input → out' ≡ out
+        → PerformsPairs work first file input input' out out' outcome
+    pairs_over_input : (lines lines' : ReadSource F) → file ≡ None
+        → PairRuns (λ s. remaining (reader_of s)) failed allowance_of content has_stopped allowance taken is_failed work (file_text first) (origin_text StandardInput)
+        lines lines' input input' out out' outcome → PerformsPairs work first file input input' out out' outcome
+    pairs_over_file : (name : String Global) (lines lines' source source' : ReadSource F) → file ≡ Some name
+        → PairRuns (λ s. remaining (reader_of s)) failed allowance_of (λ s. remaining (reader_of s)) failed allowance_of taken is_failed work (file_text first) (file_text (string_bytes name))
+        lines lines' source source' out out' outcome → input' ≡ input → PerformsPairs work first file input input' out out' outcome
+
+  -- what comes of a job: a file is lacking for its work, and nothing is read of the input, or put; or its work is done
   pub data Performs (job : Job) (input input' : S) (out out' : O) (outcome : Outcome) : Type 0 where
     lacks_file : LacksFile remaining job outcome → input' ≡ input → out' ≡ out → Performs job input input' out out' outcome
-    over_input : (work : Work) → IsWorkOf remaining job work job.file → job.file ≡ None
-        → Runs content has_stopped allowance taken is_failed work (origin_text StandardInput) input input' out out' outcome
+    over_one : (work : Work) → IsWorkOf remaining job work → ¬ ComparesLines job → PerformsOne work job.file input input' out out' outcome → Performs job input input' out out' outcome
+    over_pairs : (work : Work) → IsWorkOf remaining job work → ComparesLines job → PerformsPairs work (string_bytes job.second) job.file input input' out out' outcome
         → Performs job input input' out out' outcome
-    over_file : (work : Work) (name : String Global) (file file' : ReadSource F) → IsWorkOf remaining job work job.file → job.file ≡ Some name
-        → Runs (λ s. remaining (reader_of s)) failed allowance_of taken is_failed work (file_text (string_bytes name)) file file' out out' outcome
-        → input' ≡ input → Performs job input input' out out' outcome

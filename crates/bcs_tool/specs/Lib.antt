@@ -1,5 +1,7 @@
 pub mod Running
 pub mod Lines
+pub mod Pairs
+pub mod PairLines
 pub mod Scanning
 pub mod Endings
 pub use Rattle.bcs_tool_answers.specs.Judging
@@ -7,6 +9,7 @@ pub use Rattle.bcs_tool_answers.specs.Input
 pub use Rattle.bcs_tool_answers.specs.Answers
 pub use Rattle.bcs_tool_answers.specs.AnswerLaws
 pub use Rattle.bcs_tool_answers.specs.LineAnswers
+pub use Rattle.bcs_tool_answers.specs.PairAnswers
 pub use Rattle.bcs_tool_answers.specs.Places
 pub use Rattle.bcs_tool_files.specs.Files
 pub use Rattle.bcs_tool_path.specs.Path

@@ -24,6 +24,16 @@ StandBefore None left lines rest = Unit {0}
 StandBefore (Some all) None lines rest = ⊥
 StandBefore (Some all) (Some left) lines rest = lines_of all ≡ lines ++ lines_of (rest ++ left)
 
+module _ {S : Type 0} (content : S → Option (List ℕ)) (has_stopped : S → Bool) (allowance : S → ℕ) where
+  -- these lines of the input were read, and behind them these bytes
+  pub record AreRead (input now : S) (lines : List (List ℕ)) (rest : List ℕ) : Type 0 where
+    pub given : List ℕ
+    pub took : source.Took content has_stopped allowance input now given
+    pub stand : StandBefore (content input) (content now) lines rest
+    pub plain : All HasNoLineFeed lines
+    -- each line took a byte at least, so that they can be counted
+    pub room : length lines + length rest + allowance now ≤ allowance input
+
 module _ {S K : Type 0} (content : S → Option (List ℕ)) (has_stopped : S → Bool) (allowance : S → ℕ)
     (taken : K → Option (List ℕ)) (is_failed : K → Bool) where
   -- some lines were answered, and behind them these bytes were read
@@ -31,15 +41,10 @@ module _ {S K : Type 0} (content : S → Option (List ℕ)) (has_stopped : S →
     pub lines : List (List ℕ)
     pub statuses : List ℕ
     pub output : List ℕ
-    pub given : List ℕ
-    pub took : source.Took content has_stopped allowance input now given
-    pub stand : StandBefore (content input) (content now) lines rest
-    pub plain : All HasNoLineFeed lines
+    pub read : AreRead content has_stopped allowance input now lines rest
     pub answers : AnswersAll work lines statuses output
     pub put : sink.Took taken is_failed out out' output
     pub counted : IsTally tally statuses
-    -- each line took a byte at least, so that they can be counted
-    pub room : length lines + length rest + allowance now ≤ allowance input
 
   -- each line of the input was answered
   pub record AllAnswered (work : Work) (input : S) (out out' : K) (tally : Tally) : Type 0 where

@@ -4,6 +4,11 @@
 mod entry;
 mod interruption;
 mod line_running;
+mod pair_interruption;
+mod pair_lines;
+mod pair_places;
+mod pair_reading;
+mod pair_running;
 mod put_answer;
 mod responding;
 mod run_fault;
@@ -19,11 +24,15 @@ pub use bcs_explain_columns::style::{Form, Paint, Style};
 pub use bcs_io::put_all;
 pub use bcs_tool_answers::laws;
 pub use bcs_tool_files::{
-    FileFault, FileRefusal, OpenCause, Origin, Outcome, TakeFault, Work, read_named, read_opened,
-    read_work, take_all,
+    FileFault, FileRefusal, Inputs, OpenCause, Origin, Outcome, TakeFault, Work, read_named,
+    read_opened, read_work, take_all,
 };
 pub use bcs_tool_line::{Color, Command, Job, LineFault, line};
 pub use entry::{program, start, words_of};
+pub use interruption::Interruption;
+pub use pair_interruption::{PairInterruption, Side};
+pub use pair_running::run_pairs;
 pub use responding::respond;
+pub use run_fault::RunFault;
 pub use running::run;
 pub use telling::{tell_fault, tell_outcome};

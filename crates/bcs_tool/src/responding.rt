@@ -1,17 +1,19 @@
 //! A command line, its input, and what the standard output and the standard error are told.
-ghost use Rattle.std.specs.Prelude.{◌≡◌, ◌⊎◌, ◌<◌, codes};
+ghost use Rattle.std.specs.Prelude.{◌≡◌, ◌⊎◌, ◌<◌};
 ghost use Rattle.bcs_tool_words.specs.CommandLine.{texts_of};
 ghost use Rattle.bcs_tool_line.specs.Jobs.{IsJobOf};
 ghost use Rattle.bcs_tool_line.specs.LineFaults.{IsFaultOf};
 ghost use Rattle.bcs_tool_line.specs.TakenWords.{TakesWords};
-ghost use Rattle.bcs_tool_files.specs.FaultPlaces.{TellsPlace, file_place};
-ghost use Rattle.bcs_tool.specs.Endings.{Performs, TellsFault, TellsOutcome};
+ghost use Rattle.bcs_tool.specs.Endings.{IsUnopened, Performs, PerformsOne, PerformsPairs, TellsFault, TellsOutcome};
 
+use crate::pair_running::{outcome_of_pairs, run_pairs};
 use crate::running::{failed, run};
 use crate::telling::{tell_fault, tell_outcome};
 use bcs_decode::{ByteSource, ReadSource};
 use bcs_encode::ByteSink;
-use bcs_tool_files::{FileFault, OpenCause, Origin, Outcome, place_of_file, read_work};
+use bcs_tool_files::{
+    FileFault, Inputs, OpenCause, Origin, Outcome, Work, place_of_file, read_work,
+};
 use bcs_tool_line::{Job, LineFault, line};
 use std::alloc::Global;
 use std::env::Env;
@@ -50,7 +52,7 @@ pub fn respond<R: Files + Env + AllocGlobal, S: ByteSource, O: ByteSink, E: Byte
     }
 }
 
-// Reads the files that the job names, opens its input, and puts the answer.
+// Reads the files that the job names, opens its inputs, and puts the answers.
 fn perform<R: Files + Env + AllocGlobal, S: ByteSource, O: ByteSink>(
     rt: &R,
     job: Job,
@@ -61,31 +63,79 @@ fn perform<R: Files + Env + AllocGlobal, S: ByteSource, O: ByteSink>(
         job input.old input.new out.old out.new result }
 {
     let quiet = job.quiet;
-    let (work, file) = match read_work(rt, job) {
+    let (work, inputs) = match read_work(rt, job) {
         Ok(read) => read,
         Err(refusal) => return failed(refusal.fault.note(), refusal.place(rt.alloc(), quiet)),
     };
+    let Inputs { first, file } = inputs;
+    match first {
+        Some(first) => perform_pairs(rt, &work, first.as_str(), file, input, out),
+        None => perform_one(rt, &work, file, input, out),
+    }
+}
+
+// Opens the file of the input, where it has one, and puts the answer.
+fn perform_one<R: Files + Env + AllocGlobal, S: ByteSource, O: ByteSink>(
+    rt: &R,
+    work: &Work,
+    file: Option<String>,
+    input: &mut S,
+    out: &mut O,
+) -> Outcome
+    ensures { PerformsOne S.content S.is_failed S.allowance O.taken O.is_failed R.File.remaining
+        work.now file input.old input.new out.old out.new result }
+{
     let Some(name) = file else {
-        return run(rt.alloc(), &work, Origin::StandardInput, input, out);
+        return run(rt.alloc(), work, Origin::StandardInput, input, out);
     };
     let name = name.as_str();
     match File::open(rt, name) {
         Ok(file) => run(
             rt.alloc(),
-            &work,
+            work,
             Origin::File(name),
             &mut ReadSource::new(file),
             out,
         ),
-        Err(error) => unopened(rt.alloc(), quiet, name, error.kind()),
+        Err(error) => unopened(rt.alloc(), work.quiet, name, error.kind()),
     }
 }
 
-// The outcome of a job whose input is a file that was not opened.
+// Opens A, and then B, where the job has one, and puts the answers to their lines.
+fn perform_pairs<R: Files + Env + AllocGlobal, S: ByteSource, O: ByteSink>(
+    rt: &R,
+    work: &Work,
+    first: &str,
+    file: Option<String>,
+    input: &mut S,
+    out: &mut O,
+) -> Outcome
+    ensures { PerformsPairs S.content S.is_failed S.allowance O.taken O.is_failed R.File.remaining
+        work.now first.now file input.old input.new out.old out.new result }
+{
+    let alloc = rt.alloc();
+    let mut lines = match File::open(rt, first) {
+        Ok(file) => ReadSource::new(file),
+        Err(error) => return unopened(alloc, work.quiet, first, error.kind()),
+    };
+    let origin = Origin::File(first);
+    let Some(name) = file else {
+        let result = run_pairs(alloc, work, &mut lines, input, out);
+        return outcome_of_pairs(alloc, work, result, origin, Origin::StandardInput);
+    };
+    let name = name.as_str();
+    match File::open(rt, name) {
+        Ok(file) => {
+            let result = run_pairs(alloc, work, &mut lines, &mut ReadSource::new(file), out);
+            outcome_of_pairs(alloc, work, result, origin, Origin::File(name))
+        }
+        Err(error) => unopened(alloc, work.quiet, name, error.kind()),
+    }
+}
+
+// The outcome of a job of which a file of an input was not opened.
 fn unopened(alloc: Global, quiet: bool, name: &str, kind: ErrorKind) -> Outcome
-    ensures status { result.status ≡ 4 }
-    ensures note { result.note.now ≡ codes "fault: open" }
-    ensures place { (cause : OpenCause) × TellsPlace quiet (file_place (FileFault.Open cause) name.now) result.place.items }
+    ensures { IsUnopened quiet name.now result }
 {
     let fault = FileFault::Open(OpenCause::of(kind));
     failed(fault.note(), place_of_file(alloc, quiet, fault, name))

@@ -58,8 +58,13 @@ fn stream_line(alloc: Global, fault: RunFault, origin: Origin<'_>) -> Result<Vec
     }
 }
 
-// A text, and a number behind it.
-fn put_count(alloc: Global, text: &str, count: u128, line: &mut Vec<u8>) -> Result<(), AllocError>
+/// A text, and a number behind it.
+pub fn put_count(
+    alloc: Global,
+    text: &str,
+    count: u128,
+    line: &mut Vec<u8>,
+) -> Result<(), AllocError>
     ensures { OnOk result (line.new.items ≡ line.old.items ++ text.now ++ decimal count) }
 {
     line.extend_from_slice(text.as_bytes())?;
@@ -80,7 +85,8 @@ pub fn place_of_tally(alloc: Global, quiet: bool, tally: Tally) -> Vec<u8>
     }
 }
 
-fn tally_line(alloc: Global, tally: Tally) -> Result<Vec<u8>, AllocError>
+/// The line of a tally.
+pub fn tally_line(alloc: Global, tally: Tally) -> Result<Vec<u8>, AllocError>
     ensures { IfOk result (λ line. line.items ≡ tally_text tally.done tally.negative tally.refused) }
 {
     let mut line = Vec::new(alloc);

@@ -1,5 +1,5 @@
 -- An answer of an equal status and equal output, and what is asked of an input.
-use Rattle.std.proofs.Common.{◌∙◌, ◌≡◌, ◌≢◌, ◌≤◌, ◌<◌, ◌⊎◌, Err, Ok, arith, inl, inr, ℕ, List, IfOk, IfSome, Option, Result, Some, None, length, sym, subst, true}
+use Rattle.std.proofs.Common.{◌∙◌, ◌≡◌, [], ◌≢◌, ◌≤◌, ◌<◌, ◌⊎◌, Err, Ok, arith, inl, inr, ℕ, List, IfOk, IfSome, Option, Result, Some, None, length, sym, subst, true}
 use Rattle.std.specs.Result.{result_ok}
 use Rattle.bcs_registry_formats.specs.Container.{Entries}
 use Rattle.bcs_registry_formats.specs.Shape.{Shape}
@@ -22,7 +22,7 @@ use Rattle.hex.specs.Hex.{decode_of}
 use Rattle.hex.specs.declared.error.FromHexError.{FromHexError}
 use Rattle.hex.specs.declared.error.FromHexError.TheVariants.{OutOfMemory}
 use Rattle.bcs_json_spec.specs.FaultNames.{json_fault_name}
-use Rattle.bcs_tool_answers.specs.Answers.{Answers, IsAsked, IsOneText, ScanStops, checked, damaged, decoded, different, encoded, equal, explained, explained_status, explained_text, first_refused, found, front_stopped, grown, no_bytes, normalised, nowhere, refusal_line, refused, refused_early, scan_stopped, scanned, second_refused, stop_line, stopped, too_nested}
+use Rattle.bcs_tool_answers.specs.Answers.{Answers, AnswersTexts, IsAsked, IsOneText, ScanStops, checked, compared, damaged, decoded, different, encoded, equal, explained, explained_status, explained_text, first_refused, found, front_stopped, grown, no_bytes, normalised, nowhere, refusal_line, refused, refused_early, scan_stopped, scanned, second_refused, stop_line, stopped, too_nested}
 use Rattle.bcs_tool_answers.specs.Places as places
 use Rattle.bcs_tool_answers.specs.Places.{IsAnswer, Places, Prints, TellsPair, TellsStop, TellsText, TellsWords}
 use Rattle.bcs_tool_answers.specs.declared.answer.Answer.{Answer}
@@ -110,27 +110,35 @@ pub is_asked : (work : Work) (input : List ℕ) (asked : Command) (registry : En
 is_asked work input asked registry s command asks within = record { is_command = command; asks = asks; within = λ _. within }
 
 -- of two texts the first is refused, or the second after it
-refused_texts : (work : Work) (input : List ℕ) (registry : Entries) (s : Shape) (fault : JsonFault) → IsAsked work input Same registry s
-    → RefusesText registry work.limits s work.second.items fault
-    ⊎ (((t : Tree) × Denotes registry work.limits s work.second.items t) × RefusesText registry work.limits s input fault)
-    → Answers work input 2 (refusal_line (json_fault_name fault))
-refused_texts work input registry s fault asked (inl first) = first_refused registry s fault asked first
-refused_texts work input registry s fault asked (inr both) = second_refused registry s both.0.0 fault asked both.0.1 both.1
+pub refused_texts : (registry : Entries) (limits : Bounds) (s : Shape) (first second : List ℕ) (fault : JsonFault) → RefusesText registry limits s first fault
+    ⊎ (((t : Tree) × Denotes registry limits s first t) × RefusesText registry limits s second fault)
+    → AnswersTexts registry limits s first second 2 (refusal_line (json_fault_name fault))
+refused_texts registry limits s first second fault (inl one) = first_refused fault one
+refused_texts registry limits s first second fault (inr both) = second_refused both.0.0 fault both.0.1 both.1
 
--- and with the place of that
-pub pair_answer : (work : Work) (input : List ℕ) (registry : Entries) (s : Shape) (fault : JsonFault) (a b : Answer) → IsAsked work input Same registry s
-    → RefusesText registry work.limits s work.second.items fault
-    ⊎ (((t : Tree) × Denotes registry work.limits s work.second.items t) × RefusesText registry work.limits s input fault)
-    → Prints a 2 (refusal_line (json_fault_name fault)) → b.status ≡ a.status → b.output.items ≡ a.output.items
-    → TellsPair work registry s input b.place.items → IsAnswer work input b
-pair_answer work input registry s fault a b asked refuses prints status output tells = (
-  same_print work input 2 b.status _ b.output.items (status ∙ prints.same_status) (output ∙ prints.same_output) (refused_texts work input registry s fault asked refuses),
-  go tells,
-)
-  where
-    go : TellsPair work registry s input b.place.items → Places work input b.place.items
-    go (inl none) = places.nothing none
-    go (inr told) = places.pair_refused registry s told.0 asked told.1
+-- what is printed answers two texts
+pub same_pair : (registry : Entries) (limits : Bounds) (s : Shape) (first second : List ℕ) (a : Answer) (n : ℕ) (p : List ℕ) → Prints a n p
+    → AnswersTexts registry limits s first second n p → AnswersTexts registry limits s first second a.status a.output.items
+same_pair registry limits s first second a n p h is =
+    subst (λ (m : ℕ). AnswersTexts registry limits s first second m a.output.items) (sym h.same_status)
+    (subst (λ (bytes : List ℕ). AnswersTexts registry limits s first second n bytes) (sym h.same_output) is)
+
+-- the answer to the job's text and another
+module _ (work : Work) (input : List ℕ) (registry : Entries) (s : Shape) (asked : IsAsked work input Same registry s) (a : Answer)
+    (answers : AnswersTexts registry work.limits s work.second.items input a.status a.output.items) where
+  pub pair_answer : a.place.items ≡ [] → IsAnswer work input a
+  pair_answer no_place = (compared registry s a.status a.output.items asked answers, places.nothing no_place)
+
+  -- and with the place of a refusal
+  pub placed_pair : (b : Answer) → b.status ≡ a.status → b.output.items ≡ a.output.items → TellsPair work registry s input b.place.items → IsAnswer work input b
+  placed_pair b status output tells = (
+    same_print work input a.status b.status a.output.items b.output.items status output (compared registry s a.status a.output.items asked answers),
+    go tells,
+  )
+    where
+      go : TellsPair work registry s input b.place.items → Places work input b.place.items
+      go (inl none) = places.nothing none
+      go (inr told) = places.pair_refused registry s told.0 asked told.1
 
 refuses_part : (work : Work) (fault : JobFault) → RefusesFormatted work fault → RefusesPart work fault
 refuses_part work (Registry e) h = h
@@ -165,6 +173,12 @@ explains work input registry s bytes text None asked gives is = explained regist
 explains work input registry s bytes text (Some stop) asked gives is = damaged registry s bytes text stop.reason stop.place asked gives is
 
 -- an answer ends with 0, 1 or 2
+pub pair_below : (r : Entries) (limits : Bounds) (f : Shape) (first second : List ℕ) (s : ℕ) (p : List ℕ) → AnswersTexts r limits f first second s p → s < 3
+pair_below r limits f first second s p (equal h) = omega arith
+pair_below r limits f first second s p (different h) = omega arith
+pair_below r limits f first second s p (first_refused e h) = omega arith
+pair_below r limits f first second s p (second_refused t e d h) = omega arith
+
 pub status_below : (work : Work) (input : List ℕ) (s : ℕ) (p : List ℕ) → Answers work input s p → s < 3
 status_below work input s p (refused_early f h) = omega arith
 status_below work input s p (checked r k h) = omega arith
@@ -172,10 +186,7 @@ status_below work input s p (grown o n k a b h) = omega arith
 status_below work input s p (encoded r f b k h) = omega arith
 status_below work input s p (normalised r f t k h) = omega arith
 status_below work input s p (refused c r f e o k h) = omega arith
-status_below work input s p (equal r f k h) = omega arith
-status_below work input s p (different r f k h) = omega arith
-status_below work input s p (first_refused r f e k h) = omega arith
-status_below work input s p (second_refused r f t e k d h) = omega arith
+status_below work input s p (compared r f z o k h) = pair_below r work.limits f work.second.items input s p h
 status_below work input s p (decoded r f b t k g h) = omega arith
 status_below work input s p (stopped r f b e o k g h) = omega arith
 status_below work input s p (too_nested r f b c k g a h) = omega arith

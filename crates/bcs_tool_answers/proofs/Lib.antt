@@ -3,10 +3,14 @@ pub mod PartAnswers
 pub mod ScanAnswers
 pub mod JudgingLemmas
 pub mod OneRefusal
+pub mod OnePair
 pub mod OneKind
 pub mod OneAnswer
 pub mod SomeRefusal
 pub mod SomeInput
+pub mod SomePair
 pub mod SomeAnswer
 pub mod LineAnswerLemmas
 pub mod LineLaws
+pub mod PairAnswerLemmas
+pub mod PairLaws

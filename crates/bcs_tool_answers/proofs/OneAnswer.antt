@@ -15,15 +15,19 @@ use Rattle.bcs_tool_line.specs.declared.command.Command.TheVariants.{Check, Enco
 use Rattle.bcs_tool_line.specs.declared.command.Command.TheVariants as command
 use Rattle.bcs_tool_answers.specs.AnswerLaws.{OneAnswer}
 use Rattle.bcs_json_spec.specs.FaultNames.{json_fault_name}
-use Rattle.bcs_tool_answers.specs.Answers.{Answers, IsAsked, count_line, line_of, printed, printed_none, refusal_line, stop_end, stop_line}
+use Rattle.bcs_tool_answers.specs.Answers.{Answers, AnswersTexts, IsAsked, count_line, line_of, printed, printed_none, refusal_line, stop_end, stop_line}
 use Rattle.bcs_tool_answers.specs.Answers as answer
 use Rattle.bcs_tool_answers.specs.Judging.{IsFormat, IsPath, IsRegistry, RefusesAt, RefusesFormatted, job_fault_name}
 use Rattle.bcs_tool_answers.specs.declared.job_fault.JobFault.{JobFault}
-use Rattle.bcs_tool_answers.proofs.OneKind.{Agrees, Compared, Decoded, Encoded, Explained, Normalised, Parted, Scanned, one_compared, one_decoded, one_encoded, one_explained, one_normalised, one_parted, one_scanned}
+use Rattle.bcs_tool_answers.proofs.OneKind.{Decoded, Encoded, Explained, Normalised, Parted, Scanned, one_decoded, one_encoded, one_explained, one_normalised, one_parted, one_scanned}
+use Rattle.bcs_tool_answers.proofs.OnePair.{Agrees, one_pair}
 use Rattle.bcs_tool_answers.proofs.OneRefusal.{not_checked, not_formatted, not_grown, not_parted, one_format_word, one_refusal}
 
 module _ (work : Work) (input : List ℕ) where
   -- ---- what is answered by each command
+
+  abbrev Compared : Entries → Shape → ℕ → List ℕ → Type 0
+  Compared r f s p = AnswersTexts r work.limits f work.second.items input s p
 
   abbrev Valued : (Entries → Shape → ℕ → List ℕ → Type 0) → ℕ → List ℕ → Type 0
   Valued P s p = (r : Entries) × (f : Shape) × IsRegistry work.registry.items r × IsFormat r (string_bytes work.format) f × P r f s p
@@ -35,7 +39,7 @@ module _ (work : Work) (input : List ℕ) where
   Late Decode s p = Valued (Decoded work input) s p
   Late command.Explain s p = Valued (Explained work input) s p
   Late Normalise s p = Valued (Normalised work input) s p
-  Late command.Same s p = Valued (Compared work input) s p
+  Late command.Same s p = Valued Compared s p
   Late command.Scan s p = Valued (Scanned work input) s p
   Late command.Part s p = (path : List Step) × SpellsPath (string_bytes work.path) path × Valued (λ r f. Parted work input r f path) s p
 
@@ -67,10 +71,7 @@ module _ (work : Work) (input : List ℕ) where
   told (answer.normalised r f t a h) = by Normalise 0 (line_of t) a.is_command (valued (Normalised work input) Normalise r f 0 (line_of t) a (inl (t, h, refl, refl)))
   told (answer.refused c r f e (inl is) a h) = by Encode 2 (refusal_line (json_fault_name e)) (a.is_command ∙ is) (valued (Encoded work input) c r f 2 (refusal_line (json_fault_name e)) a (inr (e, h, refl, refl)))
   told (answer.refused c r f e (inr is) a h) = by Normalise 2 (refusal_line (json_fault_name e)) (a.is_command ∙ is) (valued (Normalised work input) c r f 2 (refusal_line (json_fault_name e)) a (inr (e, h, refl, refl)))
-  told (answer.equal r f a h) = by command.Same 0 (line_of (codes "equal")) a.is_command (valued (Compared work input) command.Same r f 0 (line_of (codes "equal")) a (inl (true, h, refl, refl)))
-  told (answer.different r f a h) = by command.Same 1 (line_of (codes "different")) a.is_command (valued (Compared work input) command.Same r f 1 (line_of (codes "different")) a (inl (false, h, refl, refl)))
-  told (answer.first_refused r f e a h) = by command.Same 2 (refusal_line (json_fault_name e)) a.is_command (valued (Compared work input) command.Same r f 2 (refusal_line (json_fault_name e)) a (inr (inl (e, h, refl, refl))))
-  told (answer.second_refused r f t e a d h) = by command.Same 2 (refusal_line (json_fault_name e)) a.is_command (valued (Compared work input) command.Same r f 2 (refusal_line (json_fault_name e)) a (inr (inr (t, d, (e, h, refl, refl)))))
+  told (answer.compared r f z o a h) = by command.Same z o a.is_command (valued Compared command.Same r f z o a h)
   told (answer.decoded r f b t a g h) = by Decode 0 (line_of t) a.is_command (valued (Decoded work input) Decode r f 0 (line_of t) a (inl (b, g, inl (t, h, refl, refl))))
   told (answer.stopped r f b e o a g h) = by Decode 2 (stop_line e o) a.is_command (valued (Decoded work input) Decode r f 2 (stop_line e o) a (inl (b, g, inr (inl (e, o, h, refl, refl)))))
   told (answer.too_nested r f b c a g h n) = by Decode 2 (refusal_line (codes "TooNested")) a.is_command (valued (Decoded work input) Decode r f 2 (refusal_line (codes "TooNested")) a (inl (b, g, inr (inr (c, h, n, refl, refl)))))
@@ -121,7 +122,7 @@ module _ (work : Work) (input : List ℕ) where
   one_late Decode s z p q h k = one_valued (Decoded work input) (one_decoded work input) s z p q h k
   one_late command.Explain s z p q h k = one_valued (Explained work input) (one_explained work input) s z p q h k
   one_late Normalise s z p q h k = one_valued (Normalised work input) (one_normalised work input) s z p q h k
-  one_late command.Same s z p q h k = one_valued (Compared work input) (one_compared work input) s z p q h k
+  one_late command.Same s z p q h k = one_valued Compared (λ r f. one_pair r work.limits f work.second.items input) s z p q h k
   one_late command.Part s z p q (path, spells, h) (other, also, k) =
       let same : other ≡ path = one_path (string_bytes work.path) other path also spells in
       one_valued (λ r f. Parted work input r f path) (λ r f orderly. one_parted work input r f orderly path) s z p q h
@@ -139,7 +140,7 @@ module _ (work : Work) (input : List ℕ) where
   not_late Decode fault s p h k = of_valued (Decoded work input) fault s p h k
   not_late command.Explain fault s p h k = of_valued (Explained work input) fault s p h k
   not_late Normalise fault s p h k = of_valued (Normalised work input) fault s p h k
-  not_late command.Same fault s p h k = of_valued (Compared work input) fault s p h k
+  not_late command.Same fault s p h k = of_valued Compared fault s p h k
   not_late command.Scan fault s p h k = of_valued (Scanned work input) fault s p h k
   not_late command.Part fault s p h (path, spells, (r, f, is, a, x)) = not_parted work fault r f path h is a spells
 

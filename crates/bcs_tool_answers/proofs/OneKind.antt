@@ -1,6 +1,5 @@
 -- At a registry and a format there is at most one answer of each kind.
 use Rattle.std.proofs.Common.{◌≡◌, ◌<◌, ◌∙◌, ◌⊎◌, inl, inr, ℕ, List, Bool, true, false, Option, Some, None, Ok, codes, length, ap, ap₂, arith, refl, sym, subst}
-use Rattle.std.proofs.lemmas.Bool.{true≢false}
 use Rattle.serde_json.specs.Data.{depth}
 use Rattle.serde_json.specs.Written.{compact_text}
 use Rattle.bcs_registry_formats.specs.Container.{Entries}
@@ -9,7 +8,6 @@ use Rattle.bcs_registry_formats.specs.Ranges.{IsOrderly}
 use Rattle.bcs_registry_formats.specs.Shape.{Shape}
 use Rattle.bcs_value_spec.proofs.Equivalence.{same-refl}
 use Rattle.bcs_value_tree.specs.Tree.{Tree}
-use Rattle.bcs_value_spec.specs.Same.{Same}
 use Rattle.bcs_encode_spec.proofs.FormLaws.{bytes_decide_same, forms_same}
 use Rattle.bcs_encode_spec.specs.Encodes.{Encodes, IsForm}
 use Rattle.bcs_encode_spec.specs.Plain.{plain}
@@ -21,55 +19,32 @@ use Rattle.bcs_decode_spec.specs.declared.reason.Reason.{Reason}
 use Rattle.bcs_decode_spec.specs.declared.stop.Stop.{Stop}
 use Rattle.bcs_explain_table.specs.Explains.{Explains}
 use Rattle.bcs_explain_table.proofs.OneExplanation.{explains_once}
-use Rattle.bcs_json_spec.specs.declared.json_fault.JsonFault.{JsonFault}
-use Rattle.bcs_json_spec.specs.Headline.{Compares, HasBytes, Normalises, ShowsBytes}
+use Rattle.bcs_json_spec.specs.Headline.{HasBytes, Normalises, ShowsBytes}
 use Rattle.bcs_json_spec.specs.JsonContent.{of}
 use Rattle.bcs_json_spec.specs.Shown.{shown}
-use Rattle.bcs_json_spec.specs.Texts.{Denotes, RefusesText, nesting_limit}
+use Rattle.bcs_json_spec.specs.Texts.{nesting_limit}
 use Rattle.bcs_json_spec.proofs.Lowest.{shown_is_lowest}
-use Rattle.bcs_json_spec.proofs.OneAnswer as text
-use Rattle.bcs_json_spec.proofs.TextLaws.{denoted_is_not_refused, denotes_once}
+use Rattle.bcs_json_spec.proofs.TextLaws.{denotes_once}
 use Rattle.bcs_tool_files.specs.declared.work.Work.{Work}
-use Rattle.bcs_json_spec.specs.FaultNames.{json_fault_name}
+use Rattle.bcs_tool_answers.proofs.OnePair.{Agrees, Refused, not_both, one_refused}
 use Rattle.bcs_tool_answers.proofs.ScanAnswers.{Scans, not_scanned, one_count, one_scan_stop}
 use Rattle.bcs_tool_answers.specs.Answers.{ScanStops, count_line, explained_status, explained_text, line_of, printed, printed_none, refusal_line, stop_line}
 use Rattle.bcs_tool_answers.specs.Input as given
-
--- the same status and the same output
-abbrev pub Agrees : ℕ → List ℕ → ℕ → List ℕ → Type 0
-Agrees s p z q = (s ≡ z) × (p ≡ q)
 
 -- the bytes that an input gives are its own
 one_given : (raw : Bool) (input b c : List ℕ) → given.Gives raw input b → given.Gives raw input c → b ≡ c
 one_given true input b c h k = h ∙ sym k
 one_given false input b c h k = let same : Ok b ≡ Ok c = sym h ∙ k in cc
 
--- how `same` answers
-abbrev pub word_of : Bool → List ℕ
-word_of true = line_of (codes "equal")
-word_of false = line_of (codes "different")
-
-abbrev pub status_of : Bool → ℕ
-status_of true = 0
-status_of false = 1
-
 module _ (work : Work) (input : List ℕ) where
   -- ---- what is answered at a registry and a format
 
   module _ (r : Entries) (f : Shape) where
-    abbrev pub Refused : List ℕ → ℕ → List ℕ → Type 0
-    Refused words s p = (e : JsonFault) × RefusesText r work.limits f words e × (s ≡ 2) × (p ≡ refusal_line (json_fault_name e))
-
     abbrev pub Encoded : ℕ → List ℕ → Type 0
-    Encoded s p = ((b : List ℕ) × HasBytes r work.limits f input b × (s ≡ 0) × (p ≡ printed work.raw b)) ⊎ Refused input s p
+    Encoded s p = ((b : List ℕ) × HasBytes r work.limits f input b × (s ≡ 0) × (p ≡ printed work.raw b)) ⊎ Refused r work.limits f input s p
 
     abbrev pub Normalised : ℕ → List ℕ → Type 0
-    Normalised s p = ((t : List ℕ) × Normalises r work.limits f input t × (s ≡ 0) × (p ≡ line_of t)) ⊎ Refused input s p
-
-    abbrev pub Compared : ℕ → List ℕ → Type 0
-    Compared s p = ((b : Bool) × Compares r work.limits f work.second.items input b × (s ≡ status_of b) × (p ≡ word_of b))
-        ⊎ (Refused work.second.items s p
-        ⊎ ((t : Tree) × Denotes r work.limits f work.second.items t × Refused input s p))
+    Normalised s p = ((t : List ℕ) × Normalises r work.limits f input t × (s ≡ 0) × (p ≡ line_of t)) ⊎ Refused r work.limits f input s p
 
     abbrev pub Shown : List ℕ → ℕ → List ℕ → Type 0
     Shown bytes s p = ((t : List ℕ) × ShowsBytes r work.limits f bytes t × (s ≡ 0) × (p ≡ line_of t))
@@ -113,72 +88,28 @@ module _ (work : Work) (input : List ℕ) where
   -- ---- one of each
 
   module _ (r : Entries) (f : Shape) (orderly : IsOrderly r) where
-    one_refused : (words : List ℕ) (s z : ℕ) (p q : List ℕ) → Refused r f words s p → Refused r f words z q → Agrees s p z q
-    one_refused words s z p q (e, h, hs, hp) (g, k, ks, kq) =
-        let same : e ≡ g = (text.text_denotes_or_is_refused r work.limits f words orderly).once e g h k in
-        (hs ∙ sym ks, hp ∙ ap (λ (x : JsonFault). refusal_line (json_fault_name x)) same ∙ sym kq)
-
-    not_both : (words : List ℕ) (t : Tree) (s : ℕ) (p : List ℕ) → Denotes r work.limits f words t → Refused r f words s p → ⊥
-    not_both words t s p d h = denoted_is_not_refused r work.limits f words t h.0 d h.1
-
-    -- a text's value and another's are the same tree
-    one_value : (words : List ℕ) (t u : Tree) → Denotes r work.limits f words t → Denotes r work.limits f words u → t ≡ u
-    one_value words t u h k = denotes_once r work.limits f words t u h k
-
     one_encoding : (b c : List ℕ) → HasBytes r work.limits f input b → HasBytes r work.limits f input c → b ≡ c
     one_encoding b c h k =
-        let own : Encodes r work.limits f h.value c = subst (λ (t : Tree). Encodes r work.limits f t c) (one_value input k.value h.value k.denoted h.denoted) k.encoded in
+        let own : Encodes r work.limits f h.value c = subst (λ (t : Tree). Encodes r work.limits f t c) (denotes_once r work.limits f input k.value h.value k.denoted h.denoted) k.encoded in
         (bytes_decide_same r work.limits f h.value h.value b c h.encoded own).0 (same-refl h.value)
 
     one_normal : (t u : List ℕ) → Normalises r work.limits f input t → Normalises r work.limits f input u → t ≡ u
     one_normal t u h k =
-        let own : IsForm r (container.of f) h.value k.form = subst (λ (v : Tree). IsForm r (container.of f) v k.form) (one_value input k.value h.value k.denoted h.denoted) k.is_form in
+        let own : IsForm r (container.of f) h.value k.form = subst (λ (v : Tree). IsForm r (container.of f) v k.form) (denotes_once r work.limits f input k.value h.value k.denoted h.denoted) k.is_form in
         let same : h.form ≡ k.form = forms_same r (container.of f) h.value h.value h.form k.form h.is_form own (same-refl h.value) in
         h.is ∙ ap (λ (c : Tree). compact_text (shown r c (of f))) same ∙ sym k.is
 
     pub one_encoded : (s z : ℕ) (p q : List ℕ) → Encoded r f s p → Encoded r f z q → Agrees s p z q
     one_encoded s z p q (inl (b, h, hs, hp)) (inl (c, k, ks, kq)) = (hs ∙ sym ks, hp ∙ ap (printed work.raw) (one_encoding b c h k) ∙ sym kq)
-    one_encoded s z p q (inl (b, h, hs, hp)) (inr k) = absurd (not_both input h.value z q h.denoted k)
-    one_encoded s z p q (inr h) (inl (c, k, ks, kq)) = absurd (not_both input k.value s p k.denoted h)
-    one_encoded s z p q (inr h) (inr k) = one_refused input s z p q h k
+    one_encoded s z p q (inl (b, h, hs, hp)) (inr k) = absurd (not_both r work.limits f input h.value z q h.denoted k)
+    one_encoded s z p q (inr h) (inl (c, k, ks, kq)) = absurd (not_both r work.limits f input k.value s p k.denoted h)
+    one_encoded s z p q (inr h) (inr k) = one_refused r work.limits f orderly input s z p q h k
 
     pub one_normalised : (s z : ℕ) (p q : List ℕ) → Normalised r f s p → Normalised r f z q → Agrees s p z q
     one_normalised s z p q (inl (t, h, hs, hp)) (inl (u, k, ks, kq)) = (hs ∙ sym ks, hp ∙ ap line_of (one_normal t u h k) ∙ sym kq)
-    one_normalised s z p q (inl (t, h, hs, hp)) (inr k) = absurd (not_both input h.value z q h.denoted k)
-    one_normalised s z p q (inr h) (inl (u, k, ks, kq)) = absurd (not_both input k.value s p k.denoted h)
-    one_normalised s z p q (inr h) (inr k) = one_refused input s z p q h k
-
-    one_comparison : (b c : Bool) → Compares r work.limits f work.second.items input b → Compares r work.limits f work.second.items input c → b ≡ c
-    one_comparison true true h k = refl
-    one_comparison false false h k = refl
-    one_comparison true false h k = absurd (differ h k)
-      where
-        differ : Compares r work.limits f work.second.items input true → Compares r work.limits f work.second.items input false → ⊥
-        differ h k =
-            let one : h.one ≡ k.one = one_value work.second.items h.one k.one h.one_denoted k.one_denoted in
-            let other : h.other ≡ k.other = one_value input h.other k.other h.other_denoted k.other_denoted in
-            let same : Same k.one k.other = subst (λ (t : Tree). Same k.one t) other (subst (λ (t : Tree). Same t h.other) one (h.same.0 refl)) in
-            true≢false (sym (k.same.1 same))
-    one_comparison false true h k = absurd (differ k h)
-      where
-        differ : Compares r work.limits f work.second.items input true → Compares r work.limits f work.second.items input false → ⊥
-        differ h k =
-            let one : h.one ≡ k.one = one_value work.second.items h.one k.one h.one_denoted k.one_denoted in
-            let other : h.other ≡ k.other = one_value input h.other k.other h.other_denoted k.other_denoted in
-            let same : Same k.one k.other = subst (λ (t : Tree). Same k.one t) other (subst (λ (t : Tree). Same t h.other) one (h.same.0 refl)) in
-            true≢false (sym (k.same.1 same))
-
-    pub one_compared : (s z : ℕ) (p q : List ℕ) → Compared r f s p → Compared r f z q → Agrees s p z q
-    one_compared s z p q (inl (b, h, hs, hp)) (inl (c, k, ks, kq)) =
-        let same = one_comparison b c h k in (hs ∙ ap status_of same ∙ sym ks, hp ∙ ap word_of same ∙ sym kq)
-    one_compared s z p q (inl (b, h, hs, hp)) (inr (inl k)) = absurd (not_both work.second.items h.one z q h.one_denoted k)
-    one_compared s z p q (inl (b, h, hs, hp)) (inr (inr (t, d, k))) = absurd (not_both input h.other z q h.other_denoted k)
-    one_compared s z p q (inr (inl h)) (inl (c, k, ks, kq)) = absurd (not_both work.second.items k.one s p k.one_denoted h)
-    one_compared s z p q (inr (inl h)) (inr (inl k)) = one_refused work.second.items s z p q h k
-    one_compared s z p q (inr (inl h)) (inr (inr (t, d, k))) = absurd (not_both work.second.items t s p d h)
-    one_compared s z p q (inr (inr (t, d, h))) (inl (c, k, ks, kq)) = absurd (not_both input k.other s p k.other_denoted h)
-    one_compared s z p q (inr (inr (t, d, h))) (inr (inl k)) = absurd (not_both work.second.items t z q d k)
-    one_compared s z p q (inr (inr (t, d, h))) (inr (inr (u, e, k))) = one_refused input s z p q h k
+    one_normalised s z p q (inl (t, h, hs, hp)) (inr k) = absurd (not_both r work.limits f input h.value z q h.denoted k)
+    one_normalised s z p q (inr h) (inl (u, k, ks, kq)) = absurd (not_both r work.limits f input k.value s p k.denoted h)
+    one_normalised s z p q (inr h) (inr k) = one_refused r work.limits f orderly input s z p q h k
 
     -- ---- of bytes
 

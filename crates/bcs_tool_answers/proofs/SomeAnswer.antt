@@ -1,7 +1,6 @@
 -- Each job has an answer to each input within the size, a lemma for each command.
-use Rattle.std.proofs.Common.{◌≡◌, ◌⊎◌, ◌≤◌, inl, inr, ℕ, List, length, Bool, true, false, refl, bytes_eq, string_bytes, subst, sym, [], Option, Some, None}
+use Rattle.std.proofs.Common.{◌≡◌, ◌⊎◌, ◌≤◌, inl, inr, ℕ, List, length, Bool, true, false, refl, string_bytes, subst, sym, [], Option, Some, None}
 use Rattle.std.proofs.lemmas.Bool.{cases_lt}
-use Rattle.std.proofs.lemmas.Slice.Eq.{bytes_eq-Decides}
 use Rattle.serde_json.specs.Data.{depth}
 use Rattle.bcs_registry_formats.specs.Container as container
 use Rattle.bcs_registry_formats.specs.Container.{Entries}
@@ -12,16 +11,12 @@ use Rattle.bcs_decode_spec.specs.Accepting.{Accepts}
 use Rattle.bcs_decode_spec.specs.Exact.{AreBytes}
 use Rattle.bcs_decode_parts.specs.Parts.{Part, Step, part_at}
 use Rattle.bcs_explain_table.specs.Explains as explains
-use Rattle.bcs_json.proofs.Outcomes.{compares}
-use Rattle.bcs_json_spec.specs.Headline.{Compares}
 use Rattle.bcs_json_spec.specs.JsonContent.{of}
 use Rattle.bcs_json_spec.specs.Shown.{shown}
-use Rattle.bcs_json_spec.specs.Texts.{Denotes, RefusesText, nesting_limit}
-use Rattle.bcs_json_spec.proofs.OneAnswer.{text_denotes_or_is_refused}
+use Rattle.bcs_json_spec.specs.Texts.{nesting_limit}
 use Rattle.bcs_json_spec.proofs.SomeText.{some_bytes, some_normal_text, some_shown_text}
-use Rattle.bcs_json_spec.specs.declared.json_fault.JsonFault.{JsonFault}
 use Rattle.bcs_tool_answers.specs.AnswerLaws.{SomeAnswer}
-use Rattle.bcs_tool_answers.specs.Answers.{Answers, IsAsked, IsWithin, checked, damaged, decoded, different, encoded, equal, explained, first_refused, found, front_stopped, grown, no_bytes, normalised, nowhere, refused, refused_early, scan_stopped, scanned, second_refused, stopped, too_nested}
+use Rattle.bcs_tool_answers.specs.Answers.{Answers, IsAsked, IsWithin, checked, compared, damaged, decoded, encoded, explained, found, front_stopped, grown, no_bytes, normalised, nowhere, refused, refused_early, scan_stopped, scanned, stopped, too_nested}
 use Rattle.bcs_tool_answers.specs.Input.{Gives}
 use Rattle.bcs_tool_answers.specs.Judging.{IsFormat, IsPath, IsRegistry, RefusesAt, works_on_values}
 use Rattle.bcs_tool_answers.specs.declared.job_fault.JobFault.{JobFault}
@@ -29,6 +24,7 @@ use Rattle.bcs_tool_answers.specs.declared.job_fault.JobFault.TheVariants.{BadPa
 use Rattle.bcs_tool_answers.proofs.AnswerLemmas.{refuses_formatted}
 use Rattle.bcs_tool_answers.proofs.ScanAnswers.{some_scan}
 use Rattle.bcs_tool_answers.proofs.SomeInput.{some_given}
+use Rattle.bcs_tool_answers.proofs.SomePair.{judged, some_pair}
 use Rattle.bcs_tool_answers.proofs.SomeRefusal.{some_formatted, some_growth, some_registry}
 use Rattle.bcs_tool_files.specs.declared.work.Work.{Work}
 use Rattle.bcs_tool_path.proofs.SomePath.{some_path}
@@ -66,41 +62,24 @@ module _ (work : Work) (input : List ℕ) where
   -- ---- an input, at a format of a registry
 
   module _ (r : Entries) (s : Shape) (registry : IsRegistry work.registry.items r) where
-    -- a text denotes a value, or is refused
-    judged : (text : List ℕ) → ((t : Tree) × Denotes r work.limits s text t) ⊎ ((e : JsonFault) × RefusesText r work.limits s text e)
-    judged text = (text_denotes_or_is_refused r work.limits s text registry.0.2.orderly).some
-
     some_encode : IsAsked work input command.Encode r s → Answered
-    some_encode asked = elim (judged input) [
+    some_encode asked = elim (judged r work.limits s registry.0.2.orderly input) [
       | inl h ↦ let bytes = some_bytes r work.limits s input h.0 h.1 in (_, _, encoded r s bytes.0 asked bytes.1)
       | inr h ↦ (_, _, refused command.Encode r s h.0 (inl refl) asked h.1)
     ]
 
     some_normalise : IsAsked work input command.Normalise r s → Answered
-    some_normalise asked = elim (judged input) [
+    some_normalise asked = elim (judged r work.limits s registry.0.2.orderly input) [
       | inl h ↦
           let normal = some_normal_text work.registry.items r work.limits s registry.0 registry.1 input h.0 h.1 in
           (_, _, normalised r s normal.0 asked normal.1)
       | inr h ↦ (_, _, refused command.Normalise r s h.0 (inr refl) asked h.1)
     ]
 
-    -- two texts that denote values are equal or not
-    two_values : IsAsked work input command.Same r s → (answer : Bool) → Compares r work.limits s work.second.items input answer → Answered
-    two_values asked true h = (_, _, equal r s asked h)
-    two_values asked false h = (_, _, different r s asked h)
-
     some_same : IsAsked work input command.Same r s → Answered
-    some_same asked = elim (judged work.second.items) [
-      | inr h ↦ (_, _, first_refused r s h.0 asked h.1)
-      | inl one ↦ elim (judged input) [
-        | inr h ↦ (_, _, second_refused r s one.0 h.0 asked one.1 h.1)
-        | inl other ↦
-            let first = some_bytes r work.limits s work.second.items one.0 one.1 in
-            let second = some_bytes r work.limits s input other.0 other.1 in
-            two_values asked (bytes_eq first.0 second.0)
-            (compares r work.limits s work.second.items input first.0 second.0 (bytes_eq first.0 second.0) first.1 second.1 (bytes_eq-Decides first.0 second.0))
-      ]
-    ]
+    some_same asked =
+        let pair = some_pair r work.limits s work.second.items input registry.0.2.orderly in
+        (_, _, compared r s pair.0 pair.1 asked pair.2)
 
     -- bytes are a value's, of which the text nests within the limit or not, or they stop
     bytes_answered : IsAsked work input command.Decode r s → (bytes : List ℕ) → AreBytes bytes → Gives work.raw input bytes → Answered

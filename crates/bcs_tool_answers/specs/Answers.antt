@@ -98,6 +98,15 @@ abbrev pub ScanStops : Bool → Entries → Bounds → Shape → List ℕ → Re
 ScanStops true = Stops
 ScanStops false = StopsAll
 
+-- what `same` answers to two texts
+pub data AnswersTexts (registry : Entries) (limits : Bounds) (s : Shape) (first second : List ℕ) : ℕ → List ℕ → Type 0 where
+  -- they denote equal values, or different ones
+  equal : Compares registry limits s first second true → AnswersTexts registry limits s first second 0 (line_of (codes "equal"))
+  different : Compares registry limits s first second false → AnswersTexts registry limits s first second 1 (line_of (codes "different"))
+  -- the first text is refused; or it denotes a value, and the second is refused
+  first_refused : (fault : JsonFault) → RefusesText registry limits s first fault → AnswersTexts registry limits s first second 2 (refusal_line (json_fault_name fault))
+  second_refused : (t : Tree) (fault : JsonFault) → Denotes registry limits s first t → RefusesText registry limits s second fault → AnswersTexts registry limits s first second 2 (refusal_line (json_fault_name fault))
+
 -- a case for each kind of answer
 pub data Answers (work : Work) (input : List ℕ) : ℕ → List ℕ → Type 0 where
   -- the words are refused, whatever the input
@@ -112,12 +121,8 @@ pub data Answers (work : Work) (input : List ℕ) : ℕ → List ℕ → Type 0 
   normalised : (registry : Entries) (s : Shape) (text : List ℕ) → IsAsked work input command.Normalise registry s → Normalises registry work.limits s input text → Answers work input 0 (line_of text)
   -- `encode` and `normalise`: the text is refused
   refused : (asked : Command) (registry : Entries) (s : Shape) (fault : JsonFault) → IsOneText asked → IsAsked work input asked registry s → RefusesText registry work.limits s input fault → Answers work input 2 (refusal_line (json_fault_name fault))
-  -- `same`: the two texts denote equal values, or different ones
-  equal : (registry : Entries) (s : Shape) → IsAsked work input command.Same registry s → Compares registry work.limits s work.second.items input true → Answers work input 0 (line_of (codes "equal"))
-  different : (registry : Entries) (s : Shape) → IsAsked work input command.Same registry s → Compares registry work.limits s work.second.items input false → Answers work input 1 (line_of (codes "different"))
-  -- `same`: the first text is refused; or it denotes a value, and the second is refused
-  first_refused : (registry : Entries) (s : Shape) (fault : JsonFault) → IsAsked work input command.Same registry s → RefusesText registry work.limits s work.second.items fault → Answers work input 2 (refusal_line (json_fault_name fault))
-  second_refused : (registry : Entries) (s : Shape) (t : Tree) (fault : JsonFault) → IsAsked work input command.Same registry s → Denotes registry work.limits s work.second.items t → RefusesText registry work.limits s input fault → Answers work input 2 (refusal_line (json_fault_name fault))
+  -- `same`: what is answered to the job's text and that of the input
+  compared : (registry : Entries) (s : Shape) (status : ℕ) (output : List ℕ) → IsAsked work input command.Same registry s → AnswersTexts registry work.limits s work.second.items input status output → Answers work input status output
   -- `decode`: the text of the one value whose bytes the input gives
   decoded : (registry : Entries) (s : Shape) (bytes text : List ℕ) → IsAsked work input command.Decode registry s → given.Gives work.raw input bytes → ShowsBytes registry work.limits s bytes text → Answers work input 0 (line_of text)
   -- `decode`: the bytes stop being a value at a place

@@ -2,6 +2,7 @@ pub mod Judging
 pub mod Input
 pub mod Answers
 pub mod LineAnswers
+pub mod PairAnswers
 pub mod AnswerLaws
 pub mod Places
 pub mod Preparing

@@ -4,10 +4,12 @@
 mod answer;
 mod blanks;
 mod bytes_answers;
+mod ending;
 mod job_fault;
 mod json_places;
 mod judging;
 pub mod laws;
+mod pair_answers;
 mod pair_places;
 mod places;
 mod preparing;
@@ -20,8 +22,10 @@ mod value_answers;
 mod word_places;
 
 pub use answer::{Answer, counted, stopped};
+pub use ending::Ending;
 pub use job_fault::JobFault;
 pub use judging::Asked;
+pub use pair_answers::answer_pair;
 pub use preparing::{Prepared, prepare};
 pub use scan_answers::is_unlimited;
 pub use value_answers::answer_values;

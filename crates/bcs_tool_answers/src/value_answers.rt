@@ -6,13 +6,14 @@ ghost use Rattle.bcs_tool_answers.specs.Judging.{Asks};
 ghost use Rattle.bcs_tool_answers.specs.Places.{IsAnswer};
 ghost use Rattle.bcs_tool_answers.specs.Preparing.{IsAskedBy};
 
-use crate::answer::{Answer, encoded, placed, shown, told};
+use crate::answer::{Answer, encoded, placed, shown};
 use crate::bytes_answers::answer_given;
 use crate::judging::Asked;
+use crate::pair_answers::answer_pair;
 use crate::pair_places::place_of_pair;
 use crate::text_places::place_of_refusal;
 use crate::text_refusal::refused_text;
-use bcs_json::{compare, normalise, to_bcs};
+use bcs_json::{normalise, to_bcs};
 use bcs_tool_files::Work;
 use bcs_tool_line::Command;
 use std::alloc::{AllocError, Global};
@@ -98,18 +99,11 @@ fn answer_same(alloc: Global, work: &Work, asked: &Asked, text: &[u8]) -> Result
     requires within { length text.now ≤ size_limit }
     ensures { IfOk result (λ a. IsAnswer work.now text.now a) }
 {
-    let Asked {
-        registry,
-        format,
-        ..
-    } = asked;
-    let first = work.second.as_slice();
-    match compare(alloc, registry, format, &work.limits, first, text) {
-        Ok(true) => told(alloc, 0, "equal"),
-        Ok(false) => told(alloc, 1, "different"),
-        Err(fault) => {
-            let place = place_of_pair(alloc, work, asked, text);
-            Ok(placed(refused_text(alloc, fault)?, place))
-        }
+    let answer = answer_pair(alloc, work, asked, work.second.as_slice(), text)?;
+    if answer.status == 2 {
+        let place = place_of_pair(alloc, work, asked, text);
+        Ok(placed(answer, place))
+    } else {
+        Ok(answer)
     }
 }

@@ -1,6 +1,5 @@
 -- The files that a job names.
-use Rattle.std.specs.Prelude.{◌≡◌, ◌≢◌, ◌⊎◌, ◌≤◌, ◌<◌, ◌==◌, ℕ, List, [], ◌∷◌, Bool, true, false, codes, length, IfSome, Option, Some, None, String, string_bytes}
-use Rattle.std.specs.declared.alloc.Global.{Global}
+use Rattle.std.specs.Prelude.{◌≡◌, ◌≢◌, ◌⊎◌, ◌≤◌, ◌<◌, ◌==◌, ℕ, List, [], ◌∷◌, Bool, true, false, codes, length, IfSome, Option, Some, None, string_bytes}
 use Rattle.bcs_explain_columns.specs.declared.style.Paint.TheVariants.{Plain, Colored}
 use Rattle.bcs_explain_columns.specs.declared.style.Style.{Style}
 use Rattle.bcs_tool_line.specs.declared.color.Color.TheVariants.{Always, Never}
@@ -12,6 +11,7 @@ use Rattle.bcs_tool_files.specs.declared.file_refusal.FileRefusal.{FileRefusal}
 use Rattle.bcs_tool_line.specs.declared.job.Job.{Job}
 use Rattle.bcs_tool_files.specs.declared.taking.TakeFault.{TakeFault}
 use Rattle.bcs_tool_files.specs.declared.taking.TakeFault.TheVariants.{Read, TooLarge, OutOfMemory}
+use Rattle.bcs_tool_files.specs.declared.work.Inputs.{Inputs}
 use Rattle.bcs_tool_files.specs.declared.work.Work.{Work}
 
 -- the most bytes of an input, and of a registry's text
@@ -38,16 +38,26 @@ abbrev pub IsContent : Option (List ℕ) → List ℕ → Type 0
 IsContent None bytes = Unit {0}
 IsContent (Some content) bytes = bytes ≡ content
 
--- the job's registries are texts themselves, and it has no A, so that no file is read for its work
+-- the job compares two files line by line, so that A is an input as B is
+abbrev pub ComparesLines : Job → Type 0
+ComparesLines job = (job.command ≡ Same) × (job.lines ≡ true)
+
+-- the job's registries are texts themselves, and it has no A but one that is an input, so that no file is read for its work
 abbrev pub NamesNoFile : Job → Type 0
-NamesNoFile job = (is_registry_text (string_bytes job.registry) ≡ true) × (job.command ≢ Same)
+NamesNoFile job = (is_registry_text (string_bytes job.registry) ≡ true) × (job.command ≡ Same → job.lines ≡ true)
     × (job.command ≡ Grows → is_registry_text (string_bytes job.second) ≡ true)
 
 -- the job's work needs the file of this name: that of REG or OLD, of NEW, or of A
 abbrev pub NamesForWork : Job → List ℕ → Type 0
 NamesForWork job name = ((is_registry_text name ≡ false) × (name ≡ string_bytes job.registry))
     ⊎ ((job.command ≡ Grows) × (is_registry_text name ≡ false) × (name ≡ string_bytes job.second))
-    ⊎ ((job.command ≡ Same) × (name ≡ string_bytes job.second))
+    ⊎ ((job.command ≡ Same) × (job.lines ≡ false) × (name ≡ string_bytes job.second))
+
+-- the files that a run reads itself: A, where its lines are compared, and that of the input
+pub record IsInputsOf (job : Job) (inputs : Inputs) : Type 0 where
+  pub compared : IfSome inputs.first (λ name. ComparesLines job × (name ≡ job.second))
+  pub other : inputs.first ≡ None → ¬ ComparesLines job
+  pub file : inputs.file ≡ job.file
 
 -- pieces are printed in the form that the job says, and in color where it says so; where it says nothing of color, either way
 pub record IsStyleOf (job : Job) (style : Style) : Type 0 where
@@ -81,23 +91,28 @@ module _ {F : Type 0} (remaining : F → Option (List ℕ)) where
   abbrev pub IsTextOf : List ℕ → List ℕ → Type 0
   IsTextOf word text = (is_registry_text word ≡ true → text ≡ word) × (is_registry_text word ≡ false → IsFileText text)
 
-  -- bytes that were read for the second word of a command: none where the command has none
-  abbrev pub IsSecondOf : Command → List ℕ → List ℕ → Type 0
-  IsSecondOf Check word text = text ≡ []
-  IsSecondOf Grows word text = IsTextOf word text
-  IsSecondOf Encode word text = text ≡ []
-  IsSecondOf Decode word text = text ≡ []
-  IsSecondOf Explain word text = text ≡ []
-  IsSecondOf Normalise word text = text ≡ []
-  IsSecondOf Same word text = IsFileText text
-  IsSecondOf Part word text = text ≡ []
-  IsSecondOf Scan word text = text ≡ []
+  -- bytes that were read for A: none where its lines are compared one by one
+  abbrev pub IsFirstText : Bool → List ℕ → Type 0
+  IsFirstText true text = text ≡ []
+  IsFirstText false text = IsFileText text
 
-  -- the job's work, and the name of the input's file
-  pub record IsWorkOf (job : Job) (work : Work) (file : Option (String Global)) : Type 0 where
+  -- bytes that were read for the second word of a command, for lines or not: none where the command has none
+  abbrev pub IsSecondOf : Command → Bool → List ℕ → List ℕ → Type 0
+  IsSecondOf Check lines word text = text ≡ []
+  IsSecondOf Grows lines word text = IsTextOf word text
+  IsSecondOf Encode lines word text = text ≡ []
+  IsSecondOf Decode lines word text = text ≡ []
+  IsSecondOf Explain lines word text = text ≡ []
+  IsSecondOf Normalise lines word text = text ≡ []
+  IsSecondOf Same lines word text = IsFirstText lines text
+  IsSecondOf Part lines word text = text ≡ []
+  IsSecondOf Scan lines word text = text ≡ []
+
+  -- the job's work
+  pub record IsWorkOf (job : Job) (work : Work) : Type 0 where
     pub command : work.command ≡ job.command
     pub registry : IsTextOf (string_bytes job.registry) work.registry.items
-    pub second : IsSecondOf job.command (string_bytes job.second) work.second.items
+    pub second : IsSecondOf job.command job.lines (string_bytes job.second) work.second.items
     pub format : work.format ≡ job.format
     pub path : work.path ≡ job.path
     pub raw : work.raw ≡ job.raw
@@ -106,4 +121,3 @@ module _ {F : Type 0} (remaining : F → Option (List ℕ)) where
     pub quiet : work.quiet ≡ job.quiet
     pub style : IsStyleOf job work.style
     pub limits : work.limits ≡ job.limits
-    pub input : file ≡ job.file

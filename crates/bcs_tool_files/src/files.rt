@@ -1,9 +1,9 @@
 //! The files that a job names.
-ghost use Rattle.std.specs.Prelude.{◌≡◌, ◌≢◌, ◌⊎◌, ◌≤◌, ◌+◌, ℕ, List, Err, false, true, length, vec_len, IfErr, IfOk, IsOkUnless};
+ghost use Rattle.std.specs.Prelude.{◌≡◌, ◌≢◌, ◌⊎◌, ◌≤◌, ◌+◌, ℕ, List, None, Err, false, true, length, vec_len, IfErr, IfOk, IfSome, IsOkUnless};
 ghost use Rattle.std.specs.Io.KnownBytes.{IsAtEnd};
 ghost use Rattle.bcs_io.specs.Giving.{Took, Lost};
 ghost use Rattle.bcs_tool_files.specs.Files.{size_limit};
-ghost use Rattle.bcs_tool_files.specs.Files.{IsFaultOfFiles, IsFileText, IsRefusalOf, IsSecondOf, IsTextOf, IsWorkOf, NamesNoFile, is_registry_text};
+ghost use Rattle.bcs_tool_files.specs.Files.{IsFaultOfFiles, IsFileText, IsFirstText, IsInputsOf, IsRefusalOf, IsSecondOf, IsTextOf, IsWorkOf, NamesNoFile, is_registry_text};
 
 use crate::file_fault::FileFault;
 use crate::file_refusal::FileRefusal;
@@ -11,7 +11,7 @@ use crate::limits::SIZE_LIMIT;
 use crate::open_cause::OpenCause;
 use crate::styling::style_of;
 use crate::taking::{TakeFault, take_all};
-use crate::work::Work;
+use crate::work::{Inputs, Work};
 use bcs_io::{ByteSource, ReadSource};
 use bcs_tool_line::{Command, Job};
 use std::alloc::{AllocError, Global};
@@ -47,13 +47,14 @@ pub fn read_opened<S: ByteSource>(alloc: Global, file: &mut S) -> Result<Vec<u8>
     Ok(take_all(alloc, file, SIZE_LIMIT)?)
 }
 
-/// The work of a job, and the name of the input's file. The files that the job names are read, that
-/// of REG or OLD before that of NEW or A.
+/// The work of a job, and the names of its inputs' files. The other files that the job names are read, that of REG or OLD
+/// before that of NEW or A.
 pub fn read_work<R: Files + Env + AllocGlobal>(
     rt: &R,
     job: Job,
-) -> Result<(Work, Option<String>), FileRefusal>
-    ensures work { IfOk result (λ r. IsWorkOf R.File.remaining job r.0 r.1) }
+) -> Result<(Work, Inputs), FileRefusal>
+    ensures work { IfOk result (λ r. IsWorkOf R.File.remaining job r.0) }
+    ensures inputs { IfOk result (λ r. IsInputsOf job r.1) }
     ensures fault { IfErr result (IsRefusalOf R.File.remaining job) }
     ensures good { NamesNoFile job → IfErr result (λ e. e.fault ≡ FileFault.Take TakeFault.OutOfMemory) }
 {
@@ -66,7 +67,7 @@ pub fn read_work<R: Files + Env + AllocGlobal>(
             });
         }
     };
-    let second = match read_second(rt, job.command, job.second.as_str()) {
+    let second = match read_second(rt, job.command, job.lines, job.second.as_str()) {
         Ok(text) => text,
         Err(fault) => {
             return Err(FileRefusal {
@@ -89,25 +90,42 @@ pub fn read_work<R: Files + Env + AllocGlobal>(
         style,
         limits: job.limits,
     };
-    Ok((work, job.file))
+    let inputs = Inputs {
+        first: first_name(job.command, job.lines, job.second),
+        file: job.file,
+    };
+    Ok((work, inputs))
 }
 
-// What a command reads for its second word: a registry, a file, or nothing.
+// The name of A, where its lines are compared.
+fn first_name(command: Command, lines: bool, second: String) -> Option<String>
+    ensures compared { IfSome result (λ name. ((command ≡ Command.Same) × (lines ≡ true)) × (name ≡ second)) }
+    ensures other { result ≡ None → ¬ ((command ≡ Command.Same) × (lines ≡ true)) }
+{
+    if command == Command::Same && lines {
+        Some(second)
+    } else {
+        None
+    }
+}
+
+// What a command reads for its second word, for lines or not: a registry, a file, or nothing.
 fn read_second<R: Files + AllocGlobal>(
     rt: &R,
     command: Command,
+    lines: bool,
     word: &str,
 ) -> Result<Vec<u8>, FileFault>
-    ensures text { IfOk result (λ v. IsSecondOf R.File.remaining command word.now v.items) }
+    ensures text { IfOk result (λ v. IsSecondOf R.File.remaining command lines word.now v.items) }
     ensures fault { IfErr result (IsFaultOfFiles R.File.remaining) }
-    ensures good { command ≢ Command.Same → (command ≡ Command.Grows → is_registry_text word.now ≡ true)
+    ensures good { (command ≡ Command.Same → lines ≡ true) → (command ≡ Command.Grows → is_registry_text word.now ≡ true)
         → IsOkUnless result (FileFault.Take TakeFault.OutOfMemory) }
     ensures named { IfErr result (λ e. e ≢ FileFault.Take TakeFault.OutOfMemory
-        → (command ≡ Command.Same) ⊎ ((command ≡ Command.Grows) × (is_registry_text word.now ≡ false))) }
+        → ((command ≡ Command.Same) × (lines ≡ false)) ⊎ ((command ≡ Command.Grows) × (is_registry_text word.now ≡ false))) }
 {
     match command {
         Command::Grows => read_registry(rt, word),
-        Command::Same => read_named(rt, word),
+        Command::Same => read_first(rt, lines, word),
         Command::Check
         | Command::Encode
         | Command::Decode
@@ -116,6 +134,19 @@ fn read_second<R: Files + AllocGlobal>(
         | Command::Part
         | Command::Scan => Ok(Vec::new(rt.alloc())),
     }
+}
+
+// The text of A: nothing, where its lines are compared.
+fn read_first<R: Files + AllocGlobal>(rt: &R, lines: bool, name: &str) -> Result<Vec<u8>, FileFault>
+    ensures text { IfOk result (λ v. IsFirstText R.File.remaining lines v.items) }
+    ensures fault { IfErr result (IsFaultOfFiles R.File.remaining) }
+    ensures good { lines ≡ true → IsOkUnless result (FileFault.Take TakeFault.OutOfMemory) }
+    ensures named { IfErr result (λ _. lines ≡ false) }
+{
+    if lines {
+        return Ok(Vec::new(rt.alloc()));
+    }
+    read_named(rt, name)
 }
 
 // The text of a registry: the word itself, or the content of the file that it names.

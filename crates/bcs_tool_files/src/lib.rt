@@ -19,4 +19,4 @@ pub use files::{read_named, read_opened, read_work};
 pub use open_cause::OpenCause;
 pub use origin::Origin;
 pub use taking::{TakeFault, take_all};
-pub use work::{Outcome, Work};
+pub use work::{Inputs, Outcome, Work};

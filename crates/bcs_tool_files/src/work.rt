@@ -10,7 +10,7 @@ pub struct Work {
     pub command: Command,
     /// The text of REG, or of OLD.
     pub registry: Vec<u8>,
-    /// The text of NEW, or of A; empty where the command has neither.
+    /// The text of NEW, or of A; empty where the command has neither, and where the lines of A are compared.
     pub second: Vec<u8>,
     /// FORMAT as it stands; empty where the command has none.
     pub format: String,
@@ -28,6 +28,15 @@ pub struct Work {
     pub style: Style,
     /// What a value may hold.
     pub limits: Limits,
+}
+
+/// The files that a run reads itself.
+#[derive(Debug, Drop)]
+pub struct Inputs {
+    /// The name of A of `same`, where its lines are compared.
+    pub first: Option<String>,
+    /// The name of the file to read in place of the standard input.
+    pub file: Option<String>,
 }
 
 /// How a run ended.

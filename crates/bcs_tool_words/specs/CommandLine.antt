@@ -74,7 +74,7 @@ abbrev pub normalise_app : App
 normalise_app = fold with_rule (value_app (codes "normalise")) (optional (codes "FILE") ∷ lines_option ∷ [])
 
 abbrev pub same_app : App
-same_app = fold with_rule (value_app (codes "same")) (required (codes "A") ∷ optional (codes "B") ∷ [])
+same_app = fold with_rule (value_app (codes "same")) (required (codes "A") ∷ optional (codes "B") ∷ lines_option ∷ [])
 
 abbrev pub part_app : App
 part_app = fold with_rule (fold with_rule (value_app (codes "part")) (required (codes "PATH") ∷ [])) input_options

@@ -127,7 +127,8 @@ fn same_command<'a>(alloc: Global) -> Result<Command<'a>, AllocError>
         .about("Tells whether two JSON texts have the same value")
         .after_help(texts::SAME_END)
         .arg(required_word(alloc, "A", texts::FIRST_FILE))?
-        .arg(optional_word(alloc, "B", texts::SECOND_FILE))
+        .arg(optional_word(alloc, "B", texts::SECOND_FILE))?
+        .arg(flag(alloc, "lines", texts::LINES_OF_BOTH))
 }
 
 fn part_command<'a>(alloc: Global) -> Result<Command<'a>, AllocError>

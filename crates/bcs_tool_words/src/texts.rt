@@ -35,6 +35,9 @@ pub const RAW_BOTH: &str = "Reads and writes the bytes as they are, and not as h
 pub const LINES: &str =
     "Takes each line of the input as an input of its own, and answers each by a line";
 
+pub const LINES_OF_BOTH: &str =
+    "Compares each line of A with that of B, and answers each pair by a line, until one of them ends";
+
 pub const FRONT: &str = "Takes a value at the front of the bytes, and leaves the rest";
 
 // ---- the option of every command

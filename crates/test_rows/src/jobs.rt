@@ -5,7 +5,7 @@ use crate::row_fault::RowFault;
 use crate::words::{bytes, word_of};
 use bcs_decode::pieces::PieceSource;
 use bcs_encode::pieces::PieceSink;
-use bcs_tool::{ByteSource, Command, Form, Origin, Outcome, Paint, Style, Work, run};
+use bcs_tool::{ByteSource, Command, Form, Origin, Outcome, Paint, Style, Work, run, run_pairs};
 use bcs_value::Limits;
 use std::alloc::{AllocError, Global};
 use std::str;
@@ -157,10 +157,13 @@ fn on_values(
             let work = work_of(alloc, asked(command, options, registry, format, &[]))?;
             without_input(alloc, &work)
         }
-        (Command::Same, [registry, format, second, input, limits @ ..]) => {
+        (Command::Same, [registry, format, first, second, limits @ ..]) => {
             let mut asked = asked(command, options, registry, format, limits);
-            asked.second = second;
-            with_input(alloc, asked, input)
+            if options.lines {
+                return with_pairs(alloc, asked, first, second);
+            }
+            asked.second = first;
+            with_input(alloc, asked, second)
         }
         (_, [registry, format, input, limits @ ..]) => {
             with_input(
@@ -267,6 +270,30 @@ fn with_input(alloc: Global, asked: ValueJob<'_>, input: &str) -> Result<String,
         &mut out,
     );
     told(alloc, outcome, out.taken())
+}
+
+// Two files that are compared line by line.
+fn with_pairs(
+    alloc: Global,
+    asked: ValueJob<'_>,
+    first: &str,
+    second: &str,
+) -> Result<String, RowFault> {
+    let work = work_of(alloc, asked)?;
+    let first = bytes(alloc, first)?;
+    let second = bytes(alloc, second)?;
+    let mut out = PieceSink::<1000>::new(7, None);
+    let result = run_pairs(
+        alloc,
+        &work,
+        &mut PieceSource::new(&first, 2, None),
+        &mut PieceSource::new(&second, 3, None),
+        &mut out,
+    );
+    match result {
+        Ok(outcome) => told(alloc, outcome, out.taken()),
+        Err(_) => Err(RowFault::Disagreement("fault")),
+    }
 }
 
 // The input is left as it was: the first call of the source would fail.

@@ -221,7 +221,7 @@ const NO_CONTAINER: &str =
     "at FORMAT: UnknownName: no container is called N; a format without a name is written as JSON, as '\"U64\"'\n";
 
 // Words of each command that are refused, so that the input is never looked at.
-const REFUSED: [Ending; 9] = [
+const REFUSED: [Ending; 10] = [
     (&["check", "{"], 2, "refused: NotJson\n", NO_JSON),
     (
         &["grows", "{}", "{"],
@@ -260,6 +260,12 @@ const REFUSED: [Ending; 9] = [
         "",
     ),
     (
+        &["same", "--lines", "--quiet", "{}", "N", "first.test"],
+        2,
+        "refused: UnknownName\n",
+        "",
+    ),
+    (
         &["part", "{}", "\"U8\"", "01"],
         2,
         "refused: BadPath\n",
@@ -293,7 +299,7 @@ fn refused_words_over_an_endless_input(rt: HostRuntime) -> Result<(), Fail> {
 }
 
 // `large.test` has a byte too many, `.` is a folder, and `no.test` isn't there.
-const FILES: [Ending; 11] = [
+const FILES: [Ending; 15] = [
     (&["grows", "large.test", "no.test"], 4, "", LARGE_FILE),
     (&["grows", "no.test", "large.test"], 4, "", NO_FILE),
     (&["grows", ".", "no.test"], 4, "", A_FOLDER),
@@ -310,7 +316,77 @@ const FILES: [Ending; 11] = [
         LARGE_FILE,
     ),
     (&["decode", "{}", "\"U8\"", "large.test"], 4, "", LARGE_FILE),
+    (
+        &["same", "--lines", "no.test", "\"U8\"", ".", "."],
+        4,
+        "",
+        NO_FILE,
+    ),
+    (
+        &["same", "--lines", "{}", "\"U8\"", "no.test", "."],
+        4,
+        "",
+        NO_FILE,
+    ),
+    (
+        &["same", "--lines", "{}", "\"U8\"", "large.test", "no.test"],
+        4,
+        "",
+        NO_FILE,
+    ),
+    (
+        &["same", "--lines", "{}", "\"U8\"", "large.test", "."],
+        4,
+        "",
+        "fault: too large\nin the file large.test, line 1\n",
+    ),
 ];
+
+// A has three lines, and the standard input two.
+const PAIRS: [Ending; 4] = [
+    (
+        &["same", "--lines", "{}", "\"U8\"", "three.test"],
+        1,
+        "equal\ndifferent\ndifferent\n",
+        "lines with status 0: 1, with status 1: 2, with status 2: 0; B has no line 3\n",
+    ),
+    (
+        &[
+            "same",
+            "--lines",
+            "{}",
+            "\"U8\"",
+            "three.test",
+            "three.test",
+        ],
+        0,
+        "equal\nequal\nequal\n",
+        "lines with status 0: 3, with status 1: 0, with status 2: 0\n",
+    ),
+    (
+        &["same", "--lines", "{}", "\"U8\"", "."],
+        4,
+        "",
+        "fault: read\nin the file ., line 1\n",
+    ),
+    (
+        &["same", "--lines", "{}", "\"U8\"", "three.test", "."],
+        4,
+        "",
+        "fault: read\nin the file ., line 1\n",
+    ),
+];
+
+#[test]
+fn pairs_of_lines(rt: HostRuntime) -> Result<(), Fail> {
+    fs::write(&rt, "three.test", b"7\n8\n9\n".as_slice())?;
+    for ending in PAIRS {
+        let mut input = PieceSource::new(b"7\n9", 1, None);
+        ends_over(&rt, &mut input, [None; 2], ending)?;
+    }
+    fs::remove_file(&rt, "three.test")?;
+    Ok(())
+}
 
 #[test]
 fn the_first_file_that_fails(rt: HostRuntime) -> Result<(), Fail> {

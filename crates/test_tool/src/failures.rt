@@ -7,16 +7,29 @@ use bcs_value::Limits;
 use std::alloc::{AllocError, Global};
 use std::test::Fail;
 
-// The job to encode a number of two bytes, or one on each line.
-fn encoding(alloc: Global, lines: bool) -> Result<Work, AllocError> {
+// The job to encode a number of two bytes.
+fn encoding(alloc: Global) -> Result<Work, AllocError> {
+    let work = job_for_lines(alloc, Command::Encode, "\"I16\"")?;
     Ok(Work {
-        command: Command::Encode,
+        lines: false,
+        ..work
+    })
+}
+
+/// A quiet job of a command for each line of its input, over values of this format.
+pub(crate) fn job_for_lines(
+    alloc: Global,
+    command: Command,
+    format: &str,
+) -> Result<Work, AllocError> {
+    Ok(Work {
+        command,
         registry: Vec::from_slice(alloc, b"{}")?,
         second: Vec::new(alloc),
-        format: String::from_str(alloc, "\"I16\"")?,
+        format: String::from_str(alloc, format)?,
         path: String::new(alloc),
         raw: false,
-        lines,
+        lines: true,
         front: false,
         quiet: true,
         style: Style {
@@ -29,7 +42,7 @@ fn encoding(alloc: Global, lines: bool) -> Result<Work, AllocError> {
 
 #[test]
 fn an_endless_input(rt: HostRuntime) -> Result<(), Fail> {
-    let work = encoding(rt.alloc(), false)?;
+    let work = encoding(rt.alloc())?;
     let mut input = RepeatSource::new(b' ');
     let mut out = PieceSink::<16>::new(1, None);
     let outcome = run(
@@ -48,7 +61,7 @@ fn an_endless_input(rt: HostRuntime) -> Result<(), Fail> {
 // It is given up at the first block behind the most bytes that a line may have.
 #[test]
 fn an_endless_line(rt: HostRuntime) -> Result<(), Fail> {
-    let work = encoding(rt.alloc(), true)?;
+    let work = job_for_lines(rt.alloc(), Command::Encode, "\"I16\"")?;
     let mut input = RepeatSource::new(b' ');
     let mut out = PieceSink::<16>::new(1, None);
     let outcome = run(

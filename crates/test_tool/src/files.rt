@@ -58,10 +58,25 @@ fn is_work(work: &Work, command: Command) -> bool {
 fn works_of_jobs(rt: HostRuntime) -> Result<(), Fail> {
     fs::write(&rt, "bcs_tool_second.test", b"newer".as_slice())?;
     for command in [Command::Grows, Command::Same] {
-        let (work, file) = read_work(&rt, job(rt.alloc(), command)?)?;
+        let (work, inputs) = read_work(&rt, job(rt.alloc(), command)?)?;
         assert!(rt; is_work(&work, command));
-        assert!(rt; file.as_deref() == Some("I"));
+        assert!(rt; inputs.first.is_none());
+        assert!(rt; inputs.file.as_deref() == Some("I"));
     }
     fs::remove_file(&rt, "bcs_tool_second.test")?;
+    Ok(())
+}
+
+// The file of A isn't there, and isn't looked for.
+#[test]
+fn work_of_a_job_for_pairs_of_lines(rt: HostRuntime) -> Result<(), Fail> {
+    let job = Job {
+        lines: true,
+        ..job(rt.alloc(), Command::Same)?
+    };
+    let (work, inputs) = read_work(&rt, job)?;
+    assert!(rt; work.lines && work.second.is_empty());
+    assert!(rt; inputs.first.as_deref() == Some("bcs_tool_second.test"));
+    assert!(rt; inputs.file.as_deref() == Some("I"));
     Ok(())
 }

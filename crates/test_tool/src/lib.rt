@@ -13,5 +13,6 @@ mod files;
 mod line_runs;
 #[cfg(test)]
 mod messages;
+mod pair_runs;
 #[cfg(test)]
 mod whole_contents;

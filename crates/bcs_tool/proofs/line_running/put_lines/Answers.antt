@@ -1,9 +1,11 @@
 use Rattle.std.proofs.Common.{◌∙◌, Err, List, Ok, ap, arith, subst, sym, ℕ}
 use Rattle.bcs_tool_answers.specs.Answers.{Answers}
+use Rattle.bcs_tool_answers.proofs.AnswerLemmas.{status_below}
 use Rattle.bcs_tool.specs.Lines.{IsSoFar}
 use Rattle.bcs_tool.specs.Running.{PutsLine}
+use Rattle.bcs_tool.proofs.ReadLemmas.{line_room}
 use Rattle.bcs_tool.proofs.RunLemmas.{reads_input}
-use Rattle.bcs_tool.proofs.SoFarLemmas.{all_answered, can_count, fails_next, fails_put, line_room, so_far_line, so_far_nothing}
+use Rattle.bcs_tool.proofs.SoFarLemmas.{all_answered, can_count, fails_next, fails_put, so_far_line, so_far_nothing}
 use Rattle.bcs_tool.proofs.line_running.put_lines.Goals as goal
 
 pub loop-buffer-init : goal.loop-buffer-init
@@ -39,13 +41,17 @@ with-tally-requires-clause-room g c =
     c.args.input.now l.input c.advance.new.source c.args.out.now l.out l.buffer c.advance.new.self l.tally l.invariant.far
     (g.met.S.ByteSource.bounded c.args.input.now) (c.advance.ensures.line (c.in-Ok-true.is ∙ ap Ok c.in-Ok-true.field-0-test))
 
+pub with-tally-requires-clause-below : goal.with-tally-requires-clause-below
+with-tally-requires-clause-below g c =
+    let put = c.in-Ok.ensures in
+    status_below c.args.work.now c.line.result.now c.in-Ok.status put.0 put.1
+
 pub loop-buffer-smaller : goal.loop-buffer-smaller
 loop-buffer-smaller g c =
     let l = c.loop-buffer in
     omega (
       arith,
-      line_room g.S.ByteSource.content g.S.ByteSource.is_failed g.S.ByteSource.allowance g.K.ByteSink.taken g.K.ByteSink.is_failed c.args.work.now
-          l.input c.advance.new.source l.buffer c.advance.new.self (c.advance.ensures.line (c.in-Ok-true.is ∙ ap Ok c.in-Ok-true.field-0-test)),
+      line_room g.S.ByteSource.content g.S.ByteSource.is_failed g.S.ByteSource.allowance l.input c.advance.new.source l.buffer c.advance.new.self (c.advance.ensures.line (c.in-Ok-true.is ∙ ap Ok c.in-Ok-true.field-0-test)),
     )
 
 pub loop-buffer-preserved : goal.loop-buffer-preserved

@@ -1,11 +1,10 @@
-use Rattle.std.proofs.Common.{◌∙◌, List, inl, refl, subst, sym, ℕ}
-use Rattle.std.specs.Prelude.{string_bytes}
-use Rattle.bcs_io.specs.ReadSource.{allowance_of, failed, reader_of}
-use Rattle.bcs_tool_files.specs.FaultPlaces.{TellsPlace, file_place, file_text}
-use Rattle.bcs_tool_files.specs.declared.file_fault.FileFault.TheVariants.{Open}
-use Rattle.bcs_tool.specs.Endings.{lacks_file, over_file, over_input}
-use Rattle.bcs_tool.specs.Running.{Runs}
-use Rattle.bcs_tool.proofs.EndingLemmas.{is_work, names_file, names_input}
+use Rattle.std.proofs.Common.{◌≡◌, ◌∙◌, List, Option, ap, refl, subst, sym, ℕ}
+use Rattle.std.specs.Prelude.{String, string_bytes}
+use Rattle.std.specs.declared.alloc.Global.{Global}
+use Rattle.bcs_tool_answers.proofs.AnswerLemmas.{if_some_holds}
+use Rattle.bcs_tool_files.specs.FaultPlaces.{TellsPlace, file_place}
+use Rattle.bcs_tool_files.specs.Files.{ComparesLines}
+use Rattle.bcs_tool.specs.Endings.{PerformsOne, PerformsPairs, lacks_file, over_one, over_pairs}
 use Rattle.bcs_tool.proofs.responding.perform.Goals as goal
 
 pub returns-in-Err : goal.returns-in-Err
@@ -20,40 +19,30 @@ returns-in-Err g c =
       status = c.failed.ensures.status;
       note = c.failed.ensures.note ∙ c.note.ensures;
       place = subst (λ (place : List ℕ). TellsPlace job.quiet (file_place refusal.fault name) place) (sym c.failed.ensures.place) c.place.ensures;
-      named = λ other. inl (of.1 other);
+      named = of.1;
       known = of.0;
-      needed = λ no_file. c.in-Err.ensures.good no_file.0;
+      needed = c.in-Err.ensures.good;
     }) refl refl
 
--- the standard input
-pub returns-in_default : goal.returns-in_default
-returns-in_default g c =
-    let work = c.in-Ok.ensures.work in
-    over_input c.in-Ok.read.0 (is_work g.R.File.Read.remaining c.args.job c.in-Ok.read.0 c.in-Ok.read.1 work) (sym work.input ∙ c.in_default.is) c.run.ensures
+-- two files
+pub returns-in-Some : goal.returns-in-Some
+returns-in-Some g c =
+    let job = c.args.job in
+    let work = c.in-Ok.read.0 in
+    let inputs = c.in-Ok.ensures.inputs in
+    let first = c.in-Some.first in
+    let compares = if_some_holds (λ name. ComparesLines job × (name ≡ job.second)) c.in-Ok.read.1.first first c.in-Some.is inputs.compared in
+    let P : List ℕ → Option (String Global) → Type 0 = λ name file. PerformsPairs g.S.ByteSource.content g.S.ByteSource.is_failed g.S.ByteSource.allowance
+    g.O.ByteSink.taken g.O.ByteSink.is_failed g.R.File.Read.remaining work name file c.args.input.now c.perform_pairs.new.input c.args.out.now c.perform_pairs.new.out c.perform_pairs.result in
+    over_pairs work c.in-Ok.ensures.work compares.0
+    (subst (P (string_bytes job.second)) inputs.file
+    (subst (λ (name : List ℕ). P name c.in-Ok.read.1.file) (c.as_str.ensures.value ∙ ap string_bytes compares.1) c.perform_pairs.ensures))
 
--- a file
-pub returns-in-Ok-open : goal.returns-in-Ok-open
-returns-in-Ok-open g c =
-    let work = c.in-Ok.ensures.work in
-    let name = c.in-Some.name in
-    let P : List ℕ → Type 0 = λ text. Runs (λ s. g.R.File.Read.remaining (reader_of s)) failed allowance_of g.O.ByteSink.taken g.O.ByteSink.is_failed
-    c.in-Ok.read.0 (file_text text) c.new.result c.run-in-Ok-open.new.input c.args.out.now c.run-in-Ok-open.new.out c.run-in-Ok-open.result in
-    over_file c.in-Ok.read.0 name c.new.result c.run-in-Ok-open.new.input (is_work g.R.File.Read.remaining c.args.job c.in-Ok.read.0 c.in-Ok.read.1 work)
-    (sym work.input ∙ c.in-Some.is) (subst P c.as_str-name.ensures.value c.run-in-Ok-open.ensures) refl
-
--- a file that isn't there
+-- one input
 pub returns : goal.returns
 returns g c =
-    let told = c.unopened.ensures.place in
-    let work = c.in-Ok.ensures.work in
-    let name = string_bytes c.in-Some.name in
-    lacks_file (record {
-      fault = Open told.0;
-      name = name;
-      status = c.unopened.ensures.status;
-      note = c.unopened.ensures.note;
-      place = subst (λ (text : List ℕ). TellsPlace c.args.job.quiet (file_place (Open told.0) text) c.unopened.result.place.items) c.as_str-name.ensures.value told.1;
-      named = λ other. names_input g.R.File.Read.remaining c.args.job c.in-Ok.read.0 c.in-Ok.read.1 work c.in-Some.name c.in-Some.is;
-      known = tt;
-      needed = λ no_file. absurd (names_file g.R.File.Read.remaining c.args.job c.in-Ok.read.0 c.in-Ok.read.1 work c.in-Some.name c.in-Some.is no_file);
-    }) refl refl
+    let work = c.in-Ok.read.0 in
+    let inputs = c.in-Ok.ensures.inputs in
+    let P : Option (String Global) → Type 0 = λ file. PerformsOne g.S.ByteSource.content g.S.ByteSource.is_failed g.S.ByteSource.allowance
+    g.O.ByteSink.taken g.O.ByteSink.is_failed g.R.File.Read.remaining work file c.args.input.now c.perform_one.new.input c.args.out.now c.perform_one.new.out c.perform_one.result in
+    over_one work c.in-Ok.ensures.work (inputs.other c.in-None.is) (subst P inputs.file c.perform_one.ensures)

@@ -1,0 +1,325 @@
+-- A comparison of two files, from one pair of lines to the next.
+use Rattle.std.proofs.Common.{◌≡◌, ◌≢◌, ◌⊎◌, ◌<◌, ◌+◌, ◌^◌, ◌++◌, ◌∙◌, inl, inr, ℕ, Bool, true, false, List, [], ◌∷◌, Err, Ok, Option, Some, None, Result, ap, append_assoc, append-nil, arith, codes, length, refl, subst, sym, take}
+use Rattle.std.specs.Prelude.{IfSome}
+use Rattle.bcs_io.specs.Giving as source
+use Rattle.bcs_io.specs.Taking as sink
+use Rattle.bcs_io.proofs.TakingLemmas as taking
+use Rattle.bcs_io_lines.specs.Held.{Held}
+use Rattle.bcs_io_lines.specs.Lines.{lines_of}
+use Rattle.bcs_io_lines.specs.declared.next_fault.NextFault.{NextFault}
+use Rattle.bcs_io_lines.specs.declared.next_fault.NextFault.TheVariants as next_fault
+use Rattle.bcs_tool_answers.specs.Answers.{line_of}
+use Rattle.bcs_tool_answers.specs.Judging.{ReadsInput}
+use Rattle.bcs_tool_answers.specs.PairAnswers.{AnswersPair, AnswersPairs}
+use Rattle.bcs_tool_answers.specs.PairAnswers as pairs
+use Rattle.bcs_tool_answers.specs.declared.ending.Ending.{Ending}
+use Rattle.bcs_tool_answers.specs.declared.ending.Ending.TheVariants.{Together, FirstEnds, SecondEnds}
+use Rattle.bcs_tool_answers.proofs.PairAnswerLemmas.{as_many_pairs, one_alone, pairs_then}
+use Rattle.bcs_tool_files.specs.declared.taking.TakeFault.{TakeFault}
+use Rattle.bcs_tool_files.specs.declared.taking.TakeFault.TheVariants.{OutOfMemory}
+use Rattle.bcs_tool_files.specs.declared.work.Work.{Work}
+use Rattle.bcs_tool.specs.Lines.{AreRead, IsTally}
+use Rattle.bcs_tool.specs.PairLines.{AllPaired, ArePairsSoFar, EndsBy, EndsPaired, FailsNext, HasEnded, PutsPair, ReadsBoth, ReadsOn, StopsPair, broken_at, last_output, last_statuses}
+use Rattle.bcs_tool.specs.Pairs.{AnswersBehind, AreAll, FailsPairsAt, Gave, IsLongAt, PutPairPart, PutPairs}
+use Rattle.bcs_tool.specs.Pairs as behind
+use Rattle.bcs_tool.specs.Running.{AreFirst, IsLongBehind, PutFront}
+use Rattle.bcs_tool.specs.declared.pair_interruption.PairInterruption.{PairInterruption}
+use Rattle.bcs_tool.specs.declared.pair_interruption.Side.TheVariants.{First, Second}
+use Rattle.bcs_tool.specs.declared.pair_lines.Compared.{Compared}
+use Rattle.bcs_tool.specs.declared.run_fault.RunFault.{RunFault}
+use Rattle.bcs_tool.specs.declared.run_fault.RunFault.TheVariants.{Take, Write}
+use Rattle.bcs_tool.specs.declared.tally.Tally.{Tally}
+use Rattle.bcs_tool.proofs.ReadLemmas.{all_lines, all_read, first_read, gave, line_read, long_behind, none_read, room_for_one, some_behind}
+
+-- what was given of an input that read on, or whose next line isn't there
+module _ {S : Type 0} (content : S → Option (List ℕ)) (has_stopped : S → Bool) (allowance : S → ℕ)
+    (input now later : S) (lines : List (List ℕ)) (before after : Held) (read : AreRead content has_stopped allowance input now lines before.rest) where
+  gave_on : (has_line : Bool) → ReadsOn content has_stopped allowance has_line now later before after → Gave content has_stopped allowance input later
+  gave_on true takes = gave content has_stopped allowance input now later lines before after read takes.given takes.took
+  gave_on false ends = gave content has_stopped allowance input now later lines before after read [] ends.took
+
+module _ {F S K : Type 0} (former : F → Option (List ℕ)) (former_stopped : F → Bool) (former_allowance : F → ℕ)
+    (content : S → Option (List ℕ)) (has_stopped : S → Bool) (allowance : S → ℕ) (taken : K → Option (List ℕ)) (is_failed : K → Bool) (work : Work) where
+  pub no_pairs : (first : F) (second : S) (out : K) (tally : Tally) → IsTally tally []
+      → ArePairsSoFar former former_stopped former_allowance content has_stopped allowance taken is_failed work first first second second out out [] [] tally
+  no_pairs first second out tally counted = record {
+    firsts = [];
+    seconds = [];
+    statuses = [];
+    output = [];
+    first_read = none_read former former_stopped former_allowance first;
+    second_read = none_read content has_stopped allowance second;
+    answers = pairs.together;
+    put = taking.Took-nothing taken is_failed out;
+    counted = counted;
+  }
+
+  module _ (first a b : F) (second x y : S) (out out' : K) (one one' other other' : Held) (tally : Tally)
+      (far : ArePairsSoFar former former_stopped former_allowance content has_stopped allowance taken is_failed work first a second x out out' one.rest other.rest tally) where
+    many : length far.statuses ≡ tally.answered
+    many = sym far.counted.answered
+
+    -- what was put before the next pair
+    pub put_pairs : PutPairs former former_stopped former_allowance content has_stopped allowance taken is_failed work first second out out' tally.answered
+    put_pairs = record {
+      firsts = far.firsts;
+      seconds = far.seconds;
+      statuses = far.statuses;
+      output = far.output;
+      many = many;
+      first_lines = first_read former former_stopped former_allowance first a far.firsts one.rest far.first_read;
+      second_lines = first_read content has_stopped allowance second x far.seconds other.rest far.second_read;
+      answers = far.answers;
+      put = far.put;
+    }
+
+    -- ---- a pair
+
+    -- a pair was read, and its answer put
+    pub pairs_so_far : (out'' : K) (status : ℕ) (output : List ℕ) (more : Tally)
+        → ReadsBoth former former_stopped former_allowance content has_stopped allowance true true a b x y one one' other other'
+        → AnswersPair work one'.line other'.line status output → sink.Took taken is_failed out' out'' output
+        → ((statuses : List ℕ) → IsTally tally statuses → IsTally more (statuses ++ status ∷ []))
+        → ArePairsSoFar former former_stopped former_allowance content has_stopped allowance taken is_failed work first b second y out out'' one'.rest other'.rest more
+    pairs_so_far out'' status output more reads answer put counts = record {
+      firsts = far.firsts ++ one'.line ∷ [];
+      seconds = far.seconds ++ other'.line ∷ [];
+      statuses = far.statuses ++ status ∷ [];
+      output = far.output ++ output;
+      first_read = line_read former former_stopped former_allowance first a b far.firsts one one' far.first_read reads.of_first;
+      second_read = line_read content has_stopped allowance second x y far.seconds other other' far.second_read reads.of_second;
+      answers = pairs_then work far.firsts far.seconds (one'.line ∷ []) (other'.line ∷ []) Together far.statuses far.output (status ∷ []) output far.answers
+          (one_alone work one'.line other'.line status output answer);
+      put = taking.Took-then taken is_failed out out' out'' far.output output far.put put;
+      counted = counts far.statuses far.counted;
+    }
+
+    -- so many pairs can be counted
+    pub room_of_first : former_allowance first < 2 ^ 64 → ReadsOn former former_stopped former_allowance true a b one one' → tally.answered + 1 < 2 ^ 64
+    room_of_first bounded takes =
+        omega (
+          arith,
+          room_for_one former former_stopped former_allowance first a b far.firsts one one' far.first_read bounded takes,
+          many,
+          (as_many_pairs work far.firsts far.seconds far.statuses far.output far.answers).0,
+        )
+
+    room_of_second : allowance second < 2 ^ 64 → ReadsOn content has_stopped allowance true x y other other' → tally.answered + 1 < 2 ^ 64
+    room_of_second bounded takes =
+        omega (
+          arith,
+          room_for_one content has_stopped allowance second x y far.seconds other other' far.second_read bounded takes,
+          many,
+          (as_many_pairs work far.firsts far.seconds far.statuses far.output far.answers).1,
+        )
+
+    pub room_at_end : (ending : Ending) → former_allowance first < 2 ^ 64 → allowance second < 2 ^ 64
+        → HasEnded former former_stopped former_allowance content has_stopped allowance ending a b x y one one' other other' → ending ≢ Together → tally.answered + 1 < 2 ^ 64
+    room_at_end Together bounded bound reads some = absurd (some refl)
+    room_at_end FirstEnds bounded bound reads some = room_of_second bound reads.of_second
+    room_at_end SecondEnds bounded bound reads some = room_of_first bounded reads.of_first
+
+    -- ---- the end
+
+    -- no line of either file is left
+    paired_together : (out'' : K) (more : Tally) → ReadsBoth former former_stopped former_allowance content has_stopped allowance false false a b x y one one' other other'
+        → sink.Took taken is_failed out' out'' [] → IsTally more (far.statuses ++ [])
+        → AllPaired former former_stopped former_allowance content has_stopped allowance taken is_failed work first second out out'' (record { tally = more; ending = Together })
+    paired_together out'' more reads put counted =
+        let ours = all_read former former_stopped former_allowance first a b far.firsts one one' far.first_read reads.of_first in
+        let theirs = all_read content has_stopped allowance second x y far.seconds other other' far.second_read reads.of_second in
+        record {
+          ones = ours.0;
+          others = theirs.0;
+          statuses = far.statuses ++ [];
+          output = far.output ++ [];
+          first_known = ours.1;
+          second_known = theirs.1;
+          answers = subst (λ (ls : List (List ℕ)). AnswersPairs work ls (lines_of theirs.0) Together (far.statuses ++ []) (far.output ++ [])) (append-nil far.firsts ∙ sym ours.2)
+              (subst (λ (ls : List (List ℕ)). AnswersPairs work (far.firsts ++ []) ls Together (far.statuses ++ []) (far.output ++ [])) (append-nil far.seconds ∙ sym theirs.2)
+              (pairs_then work far.firsts far.seconds [] [] Together far.statuses far.output [] [] far.answers pairs.together));
+          put = taking.Took-then taken is_failed out out' out'' far.output [] far.put put;
+          counted = counted;
+        }
+
+    -- the second has a line where the first ends
+    paired_first_ends : (out'' : K) (more : Tally) → ReadsBoth former former_stopped former_allowance content has_stopped allowance false true a b x y one one' other other'
+        → sink.Took taken is_failed out' out'' (line_of (codes "different")) → IsTally more (far.statuses ++ 1 ∷ [])
+        → AllPaired former former_stopped former_allowance content has_stopped allowance taken is_failed work first second out out'' (record { tally = more; ending = FirstEnds })
+    paired_first_ends out'' more reads put counted =
+        let ours = all_read former former_stopped former_allowance first a b far.firsts one one' far.first_read reads.of_first in
+        let theirs = some_behind content has_stopped allowance second y (far.seconds ++ other'.line ∷ []) other'.rest
+        (line_read content has_stopped allowance second x y far.seconds other other' far.second_read reads.of_second) in
+        let lines : far.seconds ++ other'.line ∷ theirs.2.0 ≡ lines_of theirs.0 = sym (append_assoc far.seconds (other'.line ∷ []) theirs.2.0) ∙ sym theirs.2.1 in
+        record {
+          ones = ours.0;
+          others = theirs.0;
+          statuses = far.statuses ++ 1 ∷ [];
+          output = far.output ++ line_of (codes "different");
+          first_known = ours.1;
+          second_known = theirs.1;
+          answers = subst (λ (ls : List (List ℕ)). AnswersPairs work ls (lines_of theirs.0) FirstEnds (far.statuses ++ 1 ∷ []) (far.output ++ line_of (codes "different"))) (append-nil far.firsts ∙ sym ours.2)
+              (subst (λ (ls : List (List ℕ)). AnswersPairs work (far.firsts ++ []) ls FirstEnds (far.statuses ++ 1 ∷ []) (far.output ++ line_of (codes "different"))) lines
+              (pairs_then work far.firsts far.seconds [] (other'.line ∷ theirs.2.0) FirstEnds far.statuses far.output (1 ∷ []) (line_of (codes "different")) far.answers (pairs.first_ends other'.line theirs.2.0)));
+          put = taking.Took-then taken is_failed out out' out'' far.output (line_of (codes "different")) far.put put;
+          counted = counted;
+        }
+
+    -- the first has a line where the second ends
+    paired_second_ends : (out'' : K) (more : Tally) → ReadsBoth former former_stopped former_allowance content has_stopped allowance true false a b x y one one' other other'
+        → sink.Took taken is_failed out' out'' (line_of (codes "different")) → IsTally more (far.statuses ++ 1 ∷ [])
+        → AllPaired former former_stopped former_allowance content has_stopped allowance taken is_failed work first second out out'' (record { tally = more; ending = SecondEnds })
+    paired_second_ends out'' more reads put counted =
+        let ours = some_behind former former_stopped former_allowance first b (far.firsts ++ one'.line ∷ []) one'.rest
+        (line_read former former_stopped former_allowance first a b far.firsts one one' far.first_read reads.of_first) in
+        let theirs = all_read content has_stopped allowance second x y far.seconds other other' far.second_read reads.of_second in
+        let lines : far.firsts ++ one'.line ∷ ours.2.0 ≡ lines_of ours.0 = sym (append_assoc far.firsts (one'.line ∷ []) ours.2.0) ∙ sym ours.2.1 in
+        record {
+          ones = ours.0;
+          others = theirs.0;
+          statuses = far.statuses ++ 1 ∷ [];
+          output = far.output ++ line_of (codes "different");
+          first_known = ours.1;
+          second_known = theirs.1;
+          answers = subst (λ (ls : List (List ℕ)). AnswersPairs work (lines_of ours.0) ls SecondEnds (far.statuses ++ 1 ∷ []) (far.output ++ line_of (codes "different"))) (append-nil far.seconds ∙ sym theirs.2)
+              (subst (λ (ls : List (List ℕ)). AnswersPairs work ls (far.seconds ++ []) SecondEnds (far.statuses ++ 1 ∷ []) (far.output ++ line_of (codes "different"))) lines
+              (pairs_then work far.firsts far.seconds (one'.line ∷ ours.2.0) [] SecondEnds far.statuses far.output (1 ∷ []) (line_of (codes "different")) far.answers (pairs.second_ends one'.line ours.2.0)));
+          put = taking.Took-then taken is_failed out out' out'' far.output (line_of (codes "different")) far.put put;
+          counted = counted;
+        }
+
+    -- a front of the last answer was put
+    part_at_end : (ending : Ending) (out'' : K) → HasEnded former former_stopped former_allowance content has_stopped allowance ending a b x y one one' other other'
+        → ending ≢ Together → PutFront taken is_failed out' out'' (line_of (codes "different"))
+        → PutPairPart former former_stopped former_allowance content has_stopped allowance taken is_failed work first second out out'' tally.answered
+    part_at_end Together out'' reads some front = absurd (some refl)
+    part_at_end FirstEnds out'' reads some (shown, short, lost) = record {
+      firsts = far.firsts;
+      seconds = far.seconds;
+      statuses = far.statuses;
+      before = far.output;
+      many = many;
+      answers = far.answers;
+      status = 1;
+      output = line_of (codes "different");
+      next = behind.first_ends other'.line (all_lines former former_stopped former_allowance first a b far.firsts one one' far.first_read reads.of_first)
+          (first_read content has_stopped allowance second y (far.seconds ++ other'.line ∷ []) other'.rest
+          (line_read content has_stopped allowance second x y far.seconds other other' far.second_read reads.of_second));
+      shown = shown;
+      short = short;
+      put = taking.Lost-then taken is_failed out out' out'' far.output (take shown (line_of (codes "different"))) far.put lost;
+    }
+    part_at_end SecondEnds out'' reads some (shown, short, lost) = record {
+      firsts = far.firsts;
+      seconds = far.seconds;
+      statuses = far.statuses;
+      before = far.output;
+      many = many;
+      answers = far.answers;
+      status = 1;
+      output = line_of (codes "different");
+      next = behind.second_ends one'.line
+          (first_read former former_stopped former_allowance first b (far.firsts ++ one'.line ∷ []) one'.rest
+          (line_read former former_stopped former_allowance first a b far.firsts one one' far.first_read reads.of_first))
+          (all_lines content has_stopped allowance second x y far.seconds other other' far.second_read reads.of_second);
+      shown = shown;
+      short = short;
+      put = taking.Lost-then taken is_failed out out' out'' far.output (take shown (line_of (codes "different"))) far.put lost;
+    }
+
+    all_paired : (ending : Ending) (out'' : K) (more : Tally) → HasEnded former former_stopped former_allowance content has_stopped allowance ending a b x y one one' other other'
+        → sink.Took taken is_failed out' out'' (last_output ending) → IsTally more (far.statuses ++ last_statuses ending)
+        → AllPaired former former_stopped former_allowance content has_stopped allowance taken is_failed work first second out out'' (record { tally = more; ending = ending })
+    all_paired Together out'' more reads put counted = paired_together out'' more reads put counted
+    all_paired FirstEnds out'' more reads put counted = paired_first_ends out'' more reads put counted
+    all_paired SecondEnds out'' more reads put counted = paired_second_ends out'' more reads put counted
+
+    -- the last answer was put, or not
+    pub ends_paired : (ending : Ending) (out'' : K) (result : Result Compared PairInterruption)
+        → HasEnded former former_stopped former_allowance content has_stopped allowance ending a b x y one one' other other'
+        → EndsBy taken is_failed ending tally out' out'' result
+        → EndsPaired former former_stopped former_allowance content has_stopped allowance taken is_failed work first b second y out out'' result
+    ends_paired ending out'' (Ok compared) reads (same, put, counts) =
+        subst (λ (e : Ending). AllPaired former former_stopped former_allowance content has_stopped allowance taken is_failed work first second out out'' (record { tally = compared.tally; ending = e })) (sym same)
+        (all_paired ending out'' compared.tally reads put (counts far.statuses far.counted))
+    ends_paired ending out'' (Err e) reads (is, some, front) =
+        let P : PairInterruption → Type 0 = λ i. FailsPairsAt former former_stopped former_allowance content has_stopped allowance taken is_failed work first b second y out out''
+        i.side i.interruption.fault i.interruption.answered in
+        subst P (sym is) (part_at_end ending out'' reads some front)
+
+    -- ---- faults
+
+    -- the next line of the first isn't there
+    fails_first : (fault : NextFault) → ReadsInput work → FailsNext former former_stopped former_allowance fault a b one one' → y ≡ x
+        → EndsPaired former former_stopped former_allowance content has_stopped allowance taken is_failed work first b second y out out' (Err (broken_at First fault tally.answered))
+    fails_first next_fault.Read reads lost same = (reads, lost.lost.after, put_pairs)
+    fails_first next_fault.TooLong reads long same = (
+      reads,
+      subst (λ (n : ℕ). IfSome (former first) (IsLongBehind n)) (sym (as_many_pairs work far.firsts far.seconds far.statuses far.output far.answers).0 ∙ many)
+          (long_behind former former_stopped former_allowance first a b far.firsts one one' far.first_read long),
+      put_pairs,
+    )
+    fails_first next_fault.OutOfMemory reads ran same = (
+      gave former former_stopped former_allowance first a b far.firsts one one' far.first_read ran.given ran.took,
+      subst (λ (s : S). Gave content has_stopped allowance second s) (sym same) (far.second_read.given, far.second_read.took),
+      put_pairs,
+    )
+
+    -- the next line of the second isn't there
+    fails_second : (fault : NextFault) (has_first : Bool) → ReadsInput work → ReadsOn former former_stopped former_allowance has_first a b one one'
+        → FailsNext content has_stopped allowance fault x y other other'
+        → EndsPaired former former_stopped former_allowance content has_stopped allowance taken is_failed work first b second y out out' (Err (broken_at Second fault tally.answered))
+    fails_second next_fault.Read has_first reads on lost = (reads, lost.lost.after, put_pairs)
+    fails_second next_fault.TooLong has_first reads on long = (
+      reads,
+      subst (λ (n : ℕ). IfSome (content second) (IsLongBehind n)) (sym (as_many_pairs work far.firsts far.seconds far.statuses far.output far.answers).1 ∙ many)
+          (long_behind content has_stopped allowance second x y far.seconds other other' far.second_read long),
+      put_pairs,
+    )
+    fails_second next_fault.OutOfMemory has_first reads on ran = (
+      gave_on former former_stopped former_allowance first a b far.firsts one one' far.first_read has_first on,
+      gave content has_stopped allowance second x y far.seconds other other' far.second_read ran.given ran.took,
+      put_pairs,
+    )
+
+    pub fails_pair : (e : PairInterruption) → ReadsInput work
+        → StopsPair former former_stopped former_allowance content has_stopped allowance e tally.answered a b x y one one' other other'
+        → EndsPaired former former_stopped former_allowance content has_stopped allowance taken is_failed work first b second y out out' (Err e)
+    fails_pair e reads (inl (fault, is, fails, same)) =
+        subst (λ (i : PairInterruption). EndsPaired former former_stopped former_allowance content has_stopped allowance taken is_failed work first b second y out out' (Err i)) (sym is)
+        (fails_first fault reads fails same)
+    fails_pair e reads (inr (fault, has_first, is, on, fails)) =
+        subst (λ (i : PairInterruption). EndsPaired former former_stopped former_allowance content has_stopped allowance taken is_failed work first b second y out out' (Err i)) (sym is)
+        (fails_second fault has_first reads on fails)
+
+    -- the answer to the pair was not put
+    pub fails_pair_put : (out'' : K) (fault : RunFault) → ReadsBoth former former_stopped former_allowance content has_stopped allowance true true a b x y one one' other other'
+        → PutsPair taken is_failed work one'.line other'.line out' out'' (Err fault)
+        → FailsPairsAt former former_stopped former_allowance content has_stopped allowance taken is_failed work first b second y out out'' Second fault tally.answered
+    fails_pair_put out'' (Take fault) reads puts =
+        let P : TakeFault → Type 0 = λ f. FailsPairsAt former former_stopped former_allowance content has_stopped allowance taken is_failed work first b second y out out'' Second (Take f) tally.answered in
+        subst P (sym puts.0) (
+          gave_on former former_stopped former_allowance first a b far.firsts one one' far.first_read true reads.of_first,
+          gave_on content has_stopped allowance second x y far.seconds other other' far.second_read true reads.of_second,
+          subst (λ (k : K). PutPairs former former_stopped former_allowance content has_stopped allowance taken is_failed work first second out k tally.answered) (sym puts.1) put_pairs,
+        )
+    fails_pair_put out'' Write reads puts =
+        let shown = puts.3 in
+        record {
+          firsts = far.firsts;
+          seconds = far.seconds;
+          statuses = far.statuses;
+          before = far.output;
+          many = many;
+          answers = far.answers;
+          status = puts.0;
+          output = puts.1;
+          next = behind.pair one'.line other'.line puts.0 puts.1
+              (first_read former former_stopped former_allowance first b (far.firsts ++ one'.line ∷ []) one'.rest
+              (line_read former former_stopped former_allowance first a b far.firsts one one' far.first_read reads.of_first))
+              (first_read content has_stopped allowance second y (far.seconds ++ other'.line ∷ []) other'.rest
+              (line_read content has_stopped allowance second x y far.seconds other other' far.second_read reads.of_second)) puts.2;
+          shown = shown.0;
+          short = shown.1;
+          put = taking.Lost-then taken is_failed out out' out'' far.output (take shown.0 puts.1) far.put shown.2;
+        }

@@ -1,0 +1,110 @@
+-- What comes of a comparison of two files, by what its steps answered.
+use Rattle.std.proofs.Common.{◌≡◌, ◌<◌, ◌++◌, ◌∙◌, ℕ, Bool, List, [], Option, Err, Ok, ap, arith, refl, subst, sym}
+use Rattle.bcs_io.proofs.GivingLemmas as giving
+use Rattle.bcs_io.proofs.TakingLemmas as taking
+use Rattle.bcs_io_lines.specs.Lines.{lines_of}
+use Rattle.bcs_tool_answers.specs.Judging.{ReadsInput}
+use Rattle.bcs_tool_answers.specs.LineAnswers.{summary, tally_text}
+use Rattle.bcs_tool_answers.specs.PairAnswers.{lacking_text, pairs_summary}
+use Rattle.bcs_tool_answers.specs.PairAnswers as pairs
+use Rattle.bcs_tool_answers.specs.Places.{IsAnswer, Places}
+use Rattle.bcs_tool_answers.specs.declared.answer.Answer.{Answer}
+use Rattle.bcs_tool_answers.proofs.AnswerLemmas.{status_below}
+use Rattle.bcs_tool_answers.proofs.PairAnswerLemmas.{greatest_pair_below}
+use Rattle.bcs_tool_files.specs.FaultPlaces.{TellsPlace}
+use Rattle.bcs_tool_files.specs.declared.taking.TakeFault.TheVariants.{OutOfMemory}
+use Rattle.bcs_tool_files.specs.declared.work.Outcome.{Outcome}
+use Rattle.bcs_tool_files.specs.declared.work.Work.{Work}
+use Rattle.bcs_tool.specs.PairLines.{AllPaired}
+use Rattle.bcs_tool.specs.Pairs.{AreCompared, EndsPairs, PutPairs, RespondsPairs, compared, refused, refused_alone}
+use Rattle.bcs_tool.specs.Running.{PutsAnswer}
+use Rattle.bcs_tool.specs.declared.interruption.Interruption.{Interruption}
+use Rattle.bcs_tool.specs.declared.pair_interruption.Side.TheVariants.{First}
+use Rattle.bcs_tool.specs.declared.pair_lines.Compared.{Compared}
+use Rattle.bcs_tool.specs.declared.run_fault.RunFault.TheVariants.{Take}
+use Rattle.bcs_tool.proofs.RunLemmas.{none_first, some_content, told_counts}
+
+module _ {F S K : Type 0} (former : F → Option (List ℕ)) (former_stopped : F → Bool) (former_allowance : F → ℕ)
+    (content : S → Option (List ℕ)) (has_stopped : S → Bool) (allowance : S → ℕ) (taken : K → Option (List ℕ)) (is_failed : K → Bool) (work : Work) where
+  nothing_put : (first : F) (second : S) (out : K) → PutPairs former former_stopped former_allowance content has_stopped allowance taken is_failed work first second out out 0
+  nothing_put first second out = record {
+    firsts = [];
+    seconds = [];
+    statuses = [];
+    output = [];
+    many = refl;
+    first_lines = none_first (former first);
+    second_lines = none_first (content second);
+    answers = pairs.together;
+    put = taking.Took-nothing taken is_failed out;
+  }
+
+  -- memory ran out before a file was read
+  pub no_memory_for_pairs : (first : F) (second : S) (out : K) → EndsPairs former former_stopped former_allowance content has_stopped allowance taken is_failed work first first second second out out
+      (Err (record { side = First; interruption = record { fault = Take OutOfMemory; answered = 0 } }))
+  no_memory_for_pairs first second out = (([], giving.Took-nothing former former_stopped former_allowance first), ([], giving.Took-nothing content has_stopped allowance second), nothing_put first second out)
+
+  -- the words are refused, and the one answer was put, or a front of it
+  module _ (first : F) (second : S) (out out' : K) (answer : Answer) (none : ¬ ReadsInput work) (is : IsAnswer work [] answer) where
+    pub refused_pairs : (outcome : Outcome) → PutsAnswer taken is_failed answer out out' (Ok outcome)
+        → AreCompared former former_stopped former_allowance content has_stopped allowance taken is_failed work first second out out' outcome
+    refused_pairs outcome puts =
+        let ones = some_content (former first) in
+        let others = some_content (content second) in
+        let P : ℕ → Type 0 = λ status. RespondsPairs work ones.0 others.0 status answer.output.items outcome.place.items in
+        record {
+          note = puts.note;
+          below = omega (arith, puts.status, status_below work [] answer.status answer.output.items is.0);
+          ones = ones.0;
+          others = others.0;
+          first_known = ones.1;
+          second_known = others.1;
+          output = answer.output.items;
+          put = puts.put;
+          responds = subst P (sym puts.status)
+              (refused answer.status answer.output.items outcome.place.items none is.0 (subst (λ (place : List ℕ). Places work [] place) (sym puts.place) is.1));
+        }
+
+    pub refused_pairs_part : (e : Interruption) → PutsAnswer taken is_failed answer out out' (Err e)
+        → EndsPairs former former_stopped former_allowance content has_stopped allowance taken is_failed work first first second second out out' (Err (record { side = First; interruption = e }))
+    refused_pairs_part e puts =
+        let P : Interruption → Type 0 = λ i. EndsPairs former former_stopped former_allowance content has_stopped allowance taken is_failed work first first second second out out' (Err (record { side = First; interruption = i })) in
+        subst P (sym puts.0) (record {
+          firsts = [];
+          seconds = [];
+          statuses = [];
+          before = [];
+          many = refl;
+          answers = pairs.together;
+          status = answer.status;
+          output = answer.output.items;
+          next = refused_alone answer.status answer.output.items none refl is.0;
+          shown = puts.1.0;
+          short = puts.1.1;
+          put = puts.1.2;
+        })
+
+  -- all pairs were answered, and how many with which status is told
+  pub told_pairs : (first : F) (second : S) (out out' : K) (all : Compared) (outcome : Outcome) → ReadsInput work
+      → AllPaired former former_stopped former_allowance content has_stopped allowance taken is_failed work first second out out' all
+      → outcome.status ≡ all.tally.status → outcome.note.now ≡ []
+      → TellsPlace work.quiet (tally_text all.tally.done all.tally.negative all.tally.refused ++ lacking_text all.ending all.tally.answered) outcome.place.items
+      → AreCompared former former_stopped former_allowance content has_stopped allowance taken is_failed work first second out out' outcome
+  told_pairs first second out out' all outcome reads paired status note tells =
+      let counted = paired.counted in
+      let text : (tally_text all.tally.done all.tally.negative all.tally.refused ++ lacking_text all.ending all.tally.answered) ≡ pairs_summary all.ending paired.statuses =
+      ap (λ (t : List ℕ). t ++ lacking_text all.ending all.tally.answered) (told_counts all.tally paired.statuses counted)
+      ∙ ap (λ (n : ℕ). summary paired.statuses ++ lacking_text all.ending n) counted.answered in
+      let P : ℕ → Type 0 = λ s. RespondsPairs work paired.ones paired.others s paired.output outcome.place.items in
+      record {
+        note = note;
+        below = omega (arith, status, counted.status, greatest_pair_below work (lines_of paired.ones) (lines_of paired.others) all.ending paired.statuses paired.output paired.answers);
+        ones = paired.ones;
+        others = paired.others;
+        first_known = paired.first_known;
+        second_known = paired.second_known;
+        output = paired.output;
+        put = paired.put;
+        responds = subst P (sym (status ∙ counted.status)) (compared all.ending paired.statuses paired.output outcome.place.items reads paired.answers
+            (subst (λ (t : List ℕ). TellsPlace work.quiet t outcome.place.items) text tells));
+      }

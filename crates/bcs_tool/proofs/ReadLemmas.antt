@@ -1,0 +1,86 @@
+-- The lines of one input, from one to the next.
+use Rattle.std.proofs.Common.{◌≡◌, ◌⊎◌, ◌≤◌, ◌<◌, ◌+◌, ◌^◌, ◌++◌, inl, inr, ℕ, Bool, List, [], ◌∷◌, Option, ap, arith, length, length-append, refl}
+use Rattle.std.specs.Prelude.{IfSome}
+use Rattle.std.proofs.lemmas.List.Elements.{All-nil, All-push}
+use Rattle.bcs_io.specs.Giving as source
+use Rattle.bcs_io.proofs.GivingLemmas as giving
+use Rattle.bcs_io_lines.specs.Advancing.{HasNoLine, IsLastLine, IsTooLong, TakesLine}
+use Rattle.bcs_io_lines.specs.Held.{Held}
+use Rattle.bcs_io_lines.specs.Lines.{HasNoLineFeed, lines_of}
+use Rattle.bcs_tool_files.specs.Files.{IsContent, size_limit}
+use Rattle.bcs_tool.specs.Lines.{AreRead, StandBefore}
+use Rattle.bcs_tool.specs.Pairs.{AreAll}
+use Rattle.bcs_tool.specs.Running.{AreFirst, IsLongBehind}
+use Rattle.bcs_tool.proofs.LineLemmas.{stand_all, stand_end, stand_first, stand_last, stand_line, stand_long, stand_nothing, stand_some}
+
+-- what a line and its line feed take of the room
+some_long : (xs : List ℕ) → (xs ≡ [] → ⊥) → 1 ≤ length xs
+some_long [] some = absurd (some refl)
+some_long (x ∷ xs) some = omega arith
+
+module _ {S : Type 0} (content : S → Option (List ℕ)) (has_stopped : S → Bool) (allowance : S → ℕ) where
+  pub none_read : (input : S) → AreRead content has_stopped allowance input input [] []
+  none_read input = record {
+    given = [];
+    took = giving.Took-nothing content has_stopped allowance input;
+    stand = stand_nothing (content input);
+    plain = All-nil HasNoLineFeed;
+    room = omega arith;
+  }
+
+  pub first_read : (input now : S) (lines : List (List ℕ)) (rest : List ℕ) → AreRead content has_stopped allowance input now lines rest → AreFirst (content input) lines
+  first_read input now lines rest read = stand_first (content input) (content now) lines rest read.stand
+
+  -- there are bytes that may be the content, and have these lines first
+  pub some_behind : (input now : S) (lines : List (List ℕ)) (rest : List ℕ) → AreRead content has_stopped allowance input now lines rest
+      → (bytes : List ℕ) × IsContent (content input) bytes × ((more : List (List ℕ)) × (lines_of bytes ≡ lines ++ more))
+  some_behind input now lines rest read = stand_some (content input) (content now) lines rest read.plain read.stand
+
+  -- a line took a byte at least
+  pub line_room : (now later : S) (before after : Held) → TakesLine content has_stopped allowance size_limit now later before after
+      → 1 + length after.rest + allowance later ≤ length before.rest + allowance now
+  line_room now later before after takes = go takes.parts
+    where
+      go : (before.rest ++ takes.given ≡ after.line ++ 10 ∷ after.rest) ⊎ IsLastLine content has_stopped allowance later (before.rest ++ takes.given) after
+          → 1 + length after.rest + allowance later ≤ length before.rest + allowance now
+      go (inl parts) = omega (arith, takes.took.less, ap (λ (t : List ℕ). length t) parts, length-append before.rest takes.given, length-append after.line (10 ∷ after.rest))
+      go (inr last) =
+          omega (arith, takes.took.less, ap (λ (t : List ℕ). length t) last.line, length-append before.rest takes.given, some_long after.line last.some, ap (λ (t : List ℕ). length t) last.rest)
+
+  module _ (input now later : S) (lines : List (List ℕ)) (before after : Held) (read : AreRead content has_stopped allowance input now lines before.rest) where
+    -- the content behind the line that was read
+    stand_behind : TakesLine content has_stopped allowance size_limit now later before after → StandBefore (content input) (content later) (lines ++ after.line ∷ []) after.rest
+    stand_behind takes = go takes.parts
+      where
+        go : (before.rest ++ takes.given ≡ after.line ++ 10 ∷ after.rest) ⊎ IsLastLine content has_stopped allowance later (before.rest ++ takes.given) after
+            → StandBefore (content input) (content later) (lines ++ after.line ∷ []) after.rest
+        go (inl parts) = stand_line (content input) (content now) (content later) lines after.line before.rest takes.given after.rest takes.took.front parts takes.plain read.stand
+        go (inr last) = stand_last (content input) (content now) (content later) lines after.line before.rest takes.given after.rest takes.took.front last.line last.rest last.ends takes.plain last.some read.stand
+
+    pub line_read : TakesLine content has_stopped allowance size_limit now later before after → AreRead content has_stopped allowance input later (lines ++ after.line ∷ []) after.rest
+    line_read takes = record {
+      given = read.given ++ takes.given;
+      took = giving.Took-then content has_stopped allowance input now later read.given takes.given read.took takes.took;
+      stand = stand_behind takes;
+      plain = All-push HasNoLineFeed lines after.line read.plain takes.plain;
+      room = omega (arith, line_room now later before after takes, read.room, length-append lines (after.line ∷ []));
+    }
+
+    -- one line more than these can be counted
+    pub room_for_one : allowance input < 2 ^ 64 → TakesLine content has_stopped allowance size_limit now later before after → length lines + 1 < 2 ^ 64
+    room_for_one bounded takes = omega (arith, bounded, line_room now later before after takes, read.room)
+
+    -- no line is left
+    pub all_read : HasNoLine content has_stopped allowance now later before after → (bytes : List ℕ) × IsContent (content input) bytes × (lines_of bytes ≡ lines)
+    all_read ends = stand_end (content input) (content now) (content later) lines before.rest ends.took.front ends.none_left ends.ends read.plain read.stand
+
+    pub all_lines : HasNoLine content has_stopped allowance now later before after → AreAll (content input) lines
+    all_lines ends = stand_all (content input) (content now) (content later) lines before.rest ends.took.front ends.none_left ends.ends read.stand
+
+    -- the next line is too long
+    pub long_behind : IsTooLong content has_stopped allowance size_limit now later before after → IfSome (content input) (IsLongBehind (length lines))
+    long_behind long = stand_long (content input) (content now) (content later) lines before.rest long.given long.took.front long.longer long.plain read.stand
+
+    -- what was given of the input in all
+    pub gave : (given : List ℕ) → source.Took content has_stopped allowance now later given → (bytes : List ℕ) × source.Took content has_stopped allowance input later bytes
+    gave given took = (read.given ++ given, giving.Took-then content has_stopped allowance input now later read.given given read.took took)

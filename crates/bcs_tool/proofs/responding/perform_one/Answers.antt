@@ -1,0 +1,19 @@
+use Rattle.std.proofs.Common.{List, refl, subst, ℕ}
+use Rattle.bcs_io.specs.ReadSource.{allowance_of, failed, reader_of}
+use Rattle.bcs_tool_files.specs.FaultPlaces.{file_text}
+use Rattle.bcs_tool.specs.Endings.{IsUnopened, over_file, unopened}
+use Rattle.bcs_tool.specs.Running.{Runs}
+use Rattle.bcs_tool.proofs.responding.perform_one.Goals as goal
+
+-- a file
+pub returns-in-Ok : goal.returns-in-Ok
+returns-in-Ok g c =
+    let P : List ℕ → Type 0 = λ text. Runs (λ s. g.R.File.Read.remaining (reader_of s)) failed allowance_of g.O.ByteSink.taken g.O.ByteSink.is_failed
+    c.args.work.now (file_text text) c.new.result c.run-in-Ok.new.input c.args.out.now c.run-in-Ok.new.out c.run-in-Ok.result in
+    over_file c.in-Some.name c.new.result c.run-in-Ok.new.input c.in-Some.is (subst P c.as_str-name.ensures.value c.run-in-Ok.ensures) refl
+
+-- a file that isn't there
+pub returns : goal.returns
+returns g c =
+    unopened c.in-Some.name c.in-Some.is
+    (subst (λ (name : List ℕ). IsUnopened c.args.work.now.quiet name c.unopened.result) c.as_str-name.ensures.value c.unopened.ensures) refl refl

@@ -1,0 +1,143 @@
+-- What comes of two files that are compared line by line: what is put of the answers, and why that isn't all of them.
+use Rattle.std.specs.Prelude.{◌≡◌, ◌<◌, ◌++◌, ℕ, List, [], ◌∷◌, Bool, true, IfSome, Option, Result, Ok, Err, codes, length, take}
+use Rattle.bcs_io.specs.Giving as source
+use Rattle.bcs_io.specs.Taking as sink
+use Rattle.bcs_io_lines.specs.Lines.{lines_of}
+use Rattle.bcs_tool_answers.specs.Answers.{Answers, line_of}
+use Rattle.bcs_tool_answers.specs.Judging.{ReadsInput}
+use Rattle.bcs_tool_answers.specs.LineAnswers.{greatest}
+use Rattle.bcs_tool_answers.specs.PairAnswers.{AnswersPair, AnswersPairs, pairs_summary}
+use Rattle.bcs_tool_answers.specs.Places.{Places}
+use Rattle.bcs_tool_answers.specs.declared.ending.Ending.{Ending}
+use Rattle.bcs_tool_answers.specs.declared.ending.Ending.TheVariants.{Together}
+use Rattle.bcs_tool_files.specs.FaultPlaces.{TellsPlace}
+use Rattle.bcs_tool_files.specs.Files.{IsContent}
+use Rattle.bcs_tool_files.specs.declared.taking.TakeFault.TheVariants.{Read, TooLarge, OutOfMemory}
+use Rattle.bcs_tool_files.specs.declared.work.Outcome.{Outcome}
+use Rattle.bcs_tool_files.specs.declared.work.Work.{Work}
+use Rattle.bcs_tool.specs.Running.{AreFirst, IsLongBehind, fault_note, run_place}
+use Rattle.bcs_tool.specs.declared.pair_interruption.PairInterruption.{PairInterruption}
+use Rattle.bcs_tool.specs.declared.pair_interruption.Side.{Side}
+use Rattle.bcs_tool.specs.declared.pair_interruption.Side.TheVariants.{First, Second}
+use Rattle.bcs_tool.specs.declared.run_fault.RunFault.{RunFault}
+use Rattle.bcs_tool.specs.declared.run_fault.RunFault.TheVariants.{Take, Write}
+
+-- ---- the answers
+
+-- what is put for these two contents, the status, and what the standard error may be told beside
+pub data RespondsPairs (work : Work) (first second : List ℕ) : ℕ → List ℕ → List ℕ → Type 0 where
+  -- the job's own words are refused, whatever the contents
+  refused : (status : ℕ) (output place : List ℕ) → ¬ ReadsInput work → Answers work [] status output → Places work [] place → RespondsPairs work first second status output place
+  -- one answer to each pair of lines; beside stands how many have which status, and which file ends before the other
+  compared : (ending : Ending) (statuses output place : List ℕ) → ReadsInput work → AnswersPairs work (lines_of first) (lines_of second) ending statuses output → TellsPlace work.quiet (pairs_summary ending statuses) place
+      → RespondsPairs work first second (greatest statuses) output place
+
+-- these are all lines of the content, where that is known
+abbrev pub AreAll : Option (List ℕ) → List (List ℕ) → Type 0
+AreAll content lines = IfSome content (λ all. lines_of all ≡ lines)
+
+-- the answer behind these lines of two contents
+pub data AnswersBehind (work : Work) (first second : Option (List ℕ)) (firsts seconds : List (List ℕ)) : ℕ → List ℕ → Type 0 where
+  refused_alone : (status : ℕ) (output : List ℕ) → ¬ ReadsInput work → firsts ≡ [] → Answers work [] status output → AnswersBehind work first second firsts seconds status output
+  pair : (one other : List ℕ) (status : ℕ) (output : List ℕ) → AreFirst first (firsts ++ one ∷ []) → AreFirst second (seconds ++ other ∷ []) → AnswersPair work one other status output
+      → AnswersBehind work first second firsts seconds status output
+  first_ends : (other : List ℕ) → AreAll first firsts → AreFirst second (seconds ++ other ∷ []) → AnswersBehind work first second firsts seconds 1 (line_of (codes "different"))
+  second_ends : (one : List ℕ) → AreFirst first (firsts ++ one ∷ []) → AreAll second seconds → AnswersBehind work first second firsts seconds 1 (line_of (codes "different"))
+
+-- ---- a source
+
+module _ {S : Type 0} (content : S → Option (List ℕ)) (has_stopped : S → Bool) (allowance : S → ℕ) where
+  -- it gave some bytes or none, and no call of it failed
+  abbrev pub Gave : S → S → Type 0
+  Gave old new = (bytes : List ℕ) × source.Took content has_stopped allowance old new bytes
+
+-- ---- the run
+
+module _ {F S K : Type 0} (former : F → Option (List ℕ)) (former_stopped : F → Bool) (former_allowance : F → ℕ)
+    (content : S → Option (List ℕ)) (has_stopped : S → Bool) (allowance : S → ℕ) (taken : K → Option (List ℕ)) (is_failed : K → Bool) where
+  -- the answers to the first pairs of lines, so many, were put, and nothing else
+  pub record PutPairs (work : Work) (first : F) (second : S) (out out' : K) (count : ℕ) : Type 0 where
+    pub firsts : List (List ℕ)
+    pub seconds : List (List ℕ)
+    pub statuses : List ℕ
+    pub output : List ℕ
+    pub many : length statuses ≡ count
+    pub first_lines : AreFirst (former first) firsts
+    pub second_lines : AreFirst (content second) seconds
+    pub answers : AnswersPairs work firsts seconds Together statuses output
+    pub put : sink.Took taken is_failed out out' output
+
+  -- behind the answers to so many pairs a front of the next answer was put, less than the whole
+  pub record PutPairPart (work : Work) (first : F) (second : S) (out out' : K) (count : ℕ) : Type 0 where
+    pub firsts : List (List ℕ)
+    pub seconds : List (List ℕ)
+    pub statuses : List ℕ
+    pub before : List ℕ
+    pub many : length statuses ≡ count
+    pub answers : AnswersPairs work firsts seconds Together statuses before
+    pub status : ℕ
+    pub output : List ℕ
+    pub next : AnswersBehind work (former first) (content second) firsts seconds status output
+    pub shown : ℕ
+    pub short : shown < length output
+    pub put : sink.Lost taken is_failed out out' (before ++ take shown output)
+
+  -- the file of this side has failed; or the line of it that is next is too long
+  abbrev pub HasStopped : Side → F → S → Type 0
+  HasStopped First first second = former_stopped first ≡ true
+  HasStopped Second first second = has_stopped second ≡ true
+
+  abbrev pub IsLongAt : Side → F → S → ℕ → Type 0
+  IsLongAt First first second count = IfSome (former first) (IsLongBehind count)
+  IsLongAt Second first second count = IfSome (content second) (IsLongBehind count)
+
+  -- the run stopped with this fault, behind so many pairs; a file that failed or has a long line is that of this side
+  abbrev pub FailsPairsAt : Work → F → F → S → S → K → K → Side → RunFault → ℕ → Type 0
+  FailsPairsAt work first first' second second' out out' side (Take Read) count = ReadsInput work × HasStopped side first' second' × PutPairs work first second out out' count
+  FailsPairsAt work first first' second second' out out' side (Take TooLarge) count = ReadsInput work × IsLongAt side first second count × PutPairs work first second out out' count
+  FailsPairsAt work first first' second second' out out' side (Take OutOfMemory) count = Gave former former_stopped former_allowance first first'
+      × Gave content has_stopped allowance second second' × PutPairs work first second out out' count
+  FailsPairsAt work first first' second second' out out' side Write count = PutPairPart work first second out out' count
+
+  -- the answers to all pairs were put
+  pub record AreCompared (work : Work) (first : F) (second : S) (out out' : K) (outcome : Outcome) : Type 0 where
+    pub note : outcome.note.now ≡ []
+    pub below : outcome.status < 3
+    pub ones : List ℕ
+    pub others : List ℕ
+    pub first_known : IsContent (former first) ones
+    pub second_known : IsContent (content second) others
+    pub output : List ℕ
+    pub put : sink.Took taken is_failed out out' output
+    pub responds : RespondsPairs work ones others outcome.status output outcome.place.items
+
+  abbrev pub EndsPairs : Work → F → F → S → S → K → K → Result Outcome PairInterruption → Type 0
+  EndsPairs work first first' second second' out out' (Ok outcome) = AreCompared work first second out out' outcome
+  EndsPairs work first first' second second' out out' (Err e) = FailsPairsAt work first first' second second' out out' e.side e.interruption.fault e.interruption.answered
+
+-- ---- the outcome
+
+-- the text of the file of this side
+abbrev pub side_text : Side → List ℕ → List ℕ → List ℕ
+side_text First name other = name
+side_text Second name other = other
+
+-- the outcome tells where a comparison of files of these texts was broken off
+pub record IsBrokenOff (work : Work) (name other : List ℕ) (e : PairInterruption) (outcome : Outcome) : Type 0 where
+  pub status : outcome.status ≡ 4
+  pub note : outcome.note.now ≡ fault_note e.interruption.fault
+  pub tells : TellsPlace work.quiet (run_place work.lines e.interruption.fault (side_text e.side name other) e.interruption.answered) outcome.place.items
+
+-- it is the one of a run that went through, or tells where the run was broken off
+abbrev pub IsOutcomeOf : Work → List ℕ → List ℕ → Result Outcome PairInterruption → Outcome → Type 0
+IsOutcomeOf work name other (Ok done) outcome = outcome ≡ done
+IsOutcomeOf work name other (Err e) outcome = IsBrokenOff work name other e outcome
+
+module _ {F S K : Type 0} (former : F → Option (List ℕ)) (former_stopped : F → Bool) (former_allowance : F → ℕ)
+    (content : S → Option (List ℕ)) (has_stopped : S → Bool) (allowance : S → ℕ) (taken : K → Option (List ℕ)) (is_failed : K → Bool) where
+  -- what comes of a comparison of two files of these texts; a job that its own words refuse leaves both as they were
+  pub record PairRuns (work : Work) (name other : List ℕ) (first first' : F) (second second' : S) (out out' : K) (outcome : Outcome) : Type 0 where
+    pub result : Result Outcome PairInterruption
+    pub ends : EndsPairs former former_stopped former_allowance content has_stopped allowance taken is_failed work first first' second second' out out' result
+    pub is : IsOutcomeOf work name other result outcome
+    pub untouched : ¬ ReadsInput work → (first' ≡ first) × (second' ≡ second)

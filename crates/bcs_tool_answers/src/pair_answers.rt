@@ -1,0 +1,35 @@
+//! The answer to two texts.
+ghost use Rattle.std.specs.Prelude.{◌≡◌, [], IfOk};
+ghost use Rattle.bcs_registry_formats.specs.View.{shape_of};
+ghost use Rattle.bcs_tool_answers.specs.Answers.{AnswersTexts};
+
+use crate::answer::{Answer, told};
+use crate::judging::Asked;
+use crate::text_refusal::refused_text;
+use bcs_json::compare;
+use bcs_tool_files::Work;
+use std::alloc::{AllocError, Global};
+
+/// Whether two texts have the same value. Where one of them is refused is not told.
+pub fn answer_pair(
+    alloc: Global,
+    work: &Work,
+    asked: &Asked,
+    first: &[u8],
+    second: &[u8],
+) -> Result<Answer, AllocError>
+    ensures answers { IfOk result (λ a. AnswersTexts asked.now.registry work.now.limits (shape_of asked.now.format)
+        first.now second.now a.status a.output.items) }
+    ensures place { IfOk result (λ a. a.place.items ≡ []) }
+{
+    let Asked {
+        registry,
+        format,
+        ..
+    } = asked;
+    match compare(alloc, registry, format, &work.limits, first, second) {
+        Ok(true) => told(alloc, 0, "equal"),
+        Ok(false) => told(alloc, 1, "different"),
+        Err(fault) => refused_text(alloc, fault),
+    }
+}
