@@ -13,6 +13,7 @@ mod files;
 mod line_runs;
 #[cfg(test)]
 mod messages;
+#[cfg(test)]
 mod pair_runs;
 #[cfg(test)]
 mod whole_contents;
