@@ -12,6 +12,10 @@ use Rattle.bcs_value_spec.specs.Same.{Same}
 use Rattle.bcs_value_tree.specs.Tree.{Tree}
 use Rattle.bcs_value_tree.specs.View.{tree_of}
 use Rattle.bcs_value_tree.specs.declared.value.Value.{Value}
+use Rattle.bcs_value_spec.proofs.Equivalence.{same-refl}
+use Rattle.bcs_encode_spec.proofs.SoundForms.{canonical_distinct}
+use Rattle.bcs_json_bytes.specs.InOrder.{IsInOrder}
+use Rattle.bcs_json_spec.proofs.Fitting.{spelled_fits}
 use Rattle.bcs_encode_spec.proofs.FormLaws.{bytes_decide_same}
 use Rattle.bcs_encode_spec.specs.Encodes.{IsForm}
 use Rattle.bcs_encode_spec.specs.Refused as encode
@@ -19,7 +23,12 @@ use Rattle.bcs_encode_spec.specs.Sound.{IsSound}
 use Rattle.bcs_encode_spec.specs.declared.fault.EncodeFault.{EncodeFault}
 use Rattle.bcs_encode_spec.specs.declared.fault.EncodeFault.TheVariants as encode_fault
 use Rattle.bcs_decode_spec.specs.Accepting.{IsDecoded}
-use Rattle.bcs_json_spec.specs.Causes.{fault_of_value}
+use Rattle.bcs_json_text.specs.Json.{IsNotJson}
+use Rattle.bcs_json_text.specs.declared.json_text.TextFault.{TextFault}
+use Rattle.bcs_json_text.specs.declared.json_text.TextFault.TheVariants as unread
+use Rattle.bcs_json_text.specs.declared.json_text.TextFault.TheVariants.{NotJson}
+use Rattle.serde_json.specs.declared.value.Value.{Value as Json}
+use Rattle.bcs_json_spec.specs.Causes.{fault_of_text, fault_of_value}
 use Rattle.bcs_json_spec.specs.declared.json_fault.JsonFault.{JsonFault}
 use Rattle.bcs_json_spec.specs.declared.json_fault.JsonFault.TheVariants.{OutOfMemory}
 use Rattle.bcs_json_spec.specs.Headline.{HasBytes, Compares, Normalises}
@@ -51,6 +60,11 @@ was_err (Ok y) e is = absurd (some≢none e is)
 was_err (Err g) e is = ap Err (some_is g e (sym is))
 
 module _ (registry : Entries) (limits : Bounds) (s : Shape) (text : List ℕ) where
+  -- a text that isn't read is no JSON, unless memory ran out
+  pub text_fault : (e : TextFault) (r : Result Json TextFault) → r ≡ Err e → (r ≡ Err NotJson → IsNotJson text) → fault_of_text e ≢ OutOfMemory → RefusesText registry limits s text (fault_of_text e)
+  text_fault NotJson r is h other = h is
+  text_fault unread.OutOfMemory r is h other = absurd (other refl)
+
   -- what the reader gave is spelled
   pub told_value : (d : Data) → IsReadAs text d → (r : Result Value JsonFault) → Tells tree_of r (read_data registry limits.depth (of s) d) → IfOk r (λ v. SpelledBy registry limits s text (tree_of v))
   told_value d is (Ok v) h = read_is_spelled registry limits s text d is (tree_of v) h
@@ -79,6 +93,18 @@ module _ (registry : Entries) (limits : Bounds) (s : Shape) (text : List ℕ) wh
   value_fault orderly t spelled encode_fault.TooManyNodes h other = refused_value registry limits s text orderly t spelled encode_fault.TooManyNodes (h (λ is. cc))
   value_fault orderly t spelled encode_fault.TooLong h other = refused_value registry limits s text orderly t spelled encode_fault.TooLong (h (λ is. cc))
   value_fault orderly t spelled encode_fault.RepeatedKey h other = refused_value registry limits s text orderly t spelled encode_fault.RepeatedKey (h (λ is. cc))
+
+  -- what stands in order is its own canonical form
+  pub in_order_bytes : IsOrderly registry → (d : Data) → IsReadAs text d → (b : List ℕ) → IsInOrder registry limits s d b → HasBytes registry limits s text b
+  in_order_bytes orderly d is b h =
+      let fit = spelled_fits registry s d h.tree orderly h.spells.0 in
+      let sound : IsSound registry limits s h.tree =
+      record { fit = fit; distinct = canonical_distinct registry h.tree (container.of s) fit h.canonical; depth_holds = h.spells.1; nodes_hold = h.nodes_hold; lengths = h.lengths } in
+      record {
+        value = h.tree;
+        denoted = record { read = d; is = is; spells = h.spells.0; sound = sound };
+        encoded = record { sound = sound; form = h.tree; is_form = record { fit = fit; canonical = h.canonical; is_same = same-refl h.tree }; bytes = h.bytes };
+      }
 
   -- what the bytes of a text are decoded to is the canonical form of what the text denotes
   pub decoded_form : (b : List ℕ) (form : Tree) (has : HasBytes registry limits s text b) → IsDecoded registry limits s b form → IsForm registry (container.of s) has.value form

@@ -4,9 +4,9 @@ ghost use Rattle.bcs_registry_formats.specs.View.{shape_of};
 ghost use Rattle.bcs_json_spec.specs.Place.{step_of};
 ghost use Rattle.bcs_json_spec.specs.Texts.{MisspellsAt, RefusesText};
 
+use crate::spelling::json_of;
 use bcs_json_reader::reading::read;
 use bcs_json_spec::{JsonFault, JsonStep};
-use bcs_json_text::{NESTING_LIMIT, nests_within, read_json};
 use bcs_registry::{Format, Registry};
 use bcs_value::Limits;
 use std::alloc::Global;
@@ -26,10 +26,7 @@ pub fn fault_place(
     ensures place { IfSome result (λ r. MisspellsAt registry.now limits.now (shape_of format.now) text.now (map step_of r.1.items) r.0) }
     ensures fault { IfSome result (λ r. RefusesText registry.now limits.now (shape_of format.now) text.now r.0) }
 {
-    let json = read_json(alloc, text).ok()?;
-    if !nests_within(&json, NESTING_LIMIT) {
-        return None;
-    }
+    let json = json_of(alloc, text).ok()?;
     let refusal = read(alloc, registry, format, limits.depth(), json).err()?;
     if refusal.fault == JsonFault::OutOfMemory {
         return None;

@@ -1,8 +1,12 @@
-//! The value that a text spells.
-ghost use Rattle.std.specs.Prelude.{◌≢◌, IfErr, IfOk};
+//! The JSON of a text, and the value that it spells.
+ghost use Rattle.std.specs.Prelude.{◌≢◌, ℕ, List, IfErr, IfOk};
+ghost use Rattle.serde_json.specs.View.{view};
+ghost use Rattle.bcs_registry_formats.specs.Container.{Entries};
+ghost use Rattle.bcs_registry_formats.specs.Shape.{Shape};
 ghost use Rattle.bcs_registry_formats.specs.View.{shape_of};
+ghost use Rattle.bcs_value_spec.specs.Limits.{Bounds};
 ghost use Rattle.bcs_value_tree.specs.View.{tree_of};
-ghost use Rattle.bcs_json_spec.specs.Texts.{SpelledBy, RefusesText};
+ghost use Rattle.bcs_json_spec.specs.Texts.{IsReadAs, SpelledBy, RefusesText};
 ghost use Rattle.bcs_json_spec.specs.declared.json_fault.JsonFault.TheVariants.{OutOfMemory};
 
 use bcs_json_reader::reading::read;
@@ -10,24 +14,37 @@ use bcs_json_spec::JsonFault;
 use bcs_json_text::{NESTING_LIMIT, nests_within, read_json};
 use bcs_registry::{Format, Registry};
 use bcs_value::{Limits, Value};
+use serde_json::Value as Json;
 use std::alloc::Global;
 
-/// The value that a text spells, its pairs as they stand there. It isn't judged yet: it may have too many nodes, too
-/// long lengths, or equal keys.
+/// The JSON of a text, which nests within the limit.
+pub(crate) fn json_of(alloc: Global, text: &[u8]) -> Result<Json, JsonFault>
+    ensures read { IfOk result (λ json. IsReadAs text.now (view json)) }
+    ensures fault { IfErr result (λ e. e ≢ OutOfMemory
+        → (registry : Entries) (limits : Bounds) (s : Shape) → RefusesText registry limits s text.now e) }
+{
+    let json = read_json(alloc, text)?;
+    if nests_within(&json, NESTING_LIMIT) {
+        Ok(json)
+    } else {
+        Err(JsonFault::TooNested)
+    }
+}
+
+/// The value that a text's JSON spells, its pairs as they stand there. It isn't judged yet: it may have too many nodes,
+/// too long lengths, or equal keys.
 pub(crate) fn spelled(
     alloc: Global,
     registry: &Registry,
     format: &Format,
     limits: &Limits,
-    text: &[u8],
+    json: Json,
 ) -> Result<Value, JsonFault>
-    ensures spelled { IfOk result (λ v. SpelledBy registry.now limits.now (shape_of format.now) text.now (tree_of v)) }
-    ensures fault { IfErr result (λ e. e ≢ OutOfMemory → RefusesText registry.now limits.now (shape_of format.now) text.now e) }
+    ensures spelled { IfOk result (λ v. (text : List ℕ) → IsReadAs text (view json)
+        → SpelledBy registry.now limits.now (shape_of format.now) text (tree_of v)) }
+    ensures fault { IfErr result (λ e. e ≢ OutOfMemory → (text : List ℕ) → IsReadAs text (view json)
+        → RefusesText registry.now limits.now (shape_of format.now) text e) }
 {
-    let json = read_json(alloc, text)?;
-    if !nests_within(&json, NESTING_LIMIT) {
-        return Err(JsonFault::TooNested);
-    }
     let value = read(alloc, registry, format, limits.depth(), json)?;
     Ok(value)
 }

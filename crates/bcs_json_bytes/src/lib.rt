@@ -5,8 +5,8 @@ mod containers;
 mod in_order;
 mod leaves;
 mod objects;
-pub mod output;
-pub mod pushing;
+mod output;
+mod pushing;
 mod rows;
 mod undecided;
 

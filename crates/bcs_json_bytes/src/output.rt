@@ -6,7 +6,7 @@ use std::alloc::Global;
 
 /// The bytes of the values so far, and how many nodes may still come.
 #[derive(Drop)]
-pub struct Output {
+pub(crate) struct Output {
     pub bytes: Vec<u8>,
     pub nodes_left: u32,
     pub alloc: Global,

@@ -19,7 +19,7 @@ use serde_json::Value as Json;
 
 /// Appends the bytes of the value that the JSON spells at a format, where so many containers may open.
 #[cycle(pushing)]
-pub fn push_json(
+pub(crate) fn push_json(
     registry: &Registry,
     format: &Format,
     left: u32,

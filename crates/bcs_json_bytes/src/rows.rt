@@ -15,7 +15,7 @@ use serde_json::{Map, Value as Json};
 
 /// Where a key's bytes stand.
 #[derive(Clone, Copy)]
-pub struct KeyPlace {
+pub(crate) struct KeyPlace {
     pub start: usize,
     pub end: usize,
 }

@@ -1,6 +1,5 @@
 use Rattle.std.proofs.Common.{◌≢◌, map, sym, subst, rules}
 use Rattle.serde_json.specs.View.{view}
-use Rattle.bcs_json_text.specs.Json.{IsJson}
 use Rattle.bcs_registry_formats.specs.View.{shape_of}
 use Rattle.bcs_value_tree.specs.View.{tree_of}
 use Rattle.bcs_json_spec.specs.JsonContent.{of}
@@ -15,7 +14,7 @@ use Rattle.bcs_json.proofs.Outcomes.{told_place, was_ok, was_err}
 use Rattle.bcs_json.proofs.placing.fault_place.Goals as goal
 
 is_read : (c : goal.In_ok-steps) → IsReadAs c.args.text.now (view c.in_ok-json.json)
-is_read c = (was_ok c.read_json.result c.in_ok-json.json (λ v. IsJson c.args.text.now (view v)) c.in_ok-json.ensures.value c.read_json.ensures.ok, search rules)
+is_read c = was_ok c.json_of.result c.in_ok-json.json (λ v. IsReadAs c.args.text.now (view v)) c.in_ok-json.ensures.value c.json_of.ensures.read
 
 placed : (c : goal.In_ok-steps) → MisspellsAt c.args.registry.now c.args.limits.now (shape_of c.args.format.now) c.args.text.now (map step_of c.in_ok-steps.steps.items) c.in_ok-refusal.refusal.fault
 placed c =
