@@ -1,7 +1,7 @@
 -- The fields of a struct: a member of each, found by its name among all members, and as many members as fields.
 use Rattle.std.proofs.Common.{◌≡◌, ◌∙◌, ℕ, zero, suc, ◌+◌, ◌≤◌, max, List, [], ◌∷◌, ◌++◌, length, map, Option, Some, None, Bool, true, false, ◌||◌, ◌&&◌, not, cond, bytes_eq, String, Global, Ordering, Less, Equal, Greater, refl, ap, sym, subst, arith}
 use Rattle.std.proofs.Math.Nat.{max-le}
-use Rattle.std.proofs.lemmas.Bool.{and_from}
+use Rattle.std.proofs.lemmas.Bool.{and_from, or_left, or_right}
 use Rattle.std.proofs.lemmas.Slice.Eq.{bytes_eq-Decides}
 use Rattle.std.proofs.lemmas.Map.Text.{is_eq-slice_cmp}
 use Rattle.std.specs.Cmp.Lexicographic.{slice_cmp}
@@ -91,28 +91,20 @@ pub record IsLeft (fs : List Field) (ms rest : Members) (taken : ℕ) : Type 0 w
 pub all_left : (fs : List Field) (ms : Members) → are_distinct (names fs) ≡ true → IsLeft fs ms ms 0
 all_left fs ms h = record { distinct = h; stay = λ g among. refl; many = omega arith }
 
-any_first : (a b : Bool) → a ≡ true → (a || b) ≡ true
-any_first true b h = refl
-any_first false b h = cc
-
-any_later : (a b : Bool) → b ≡ true → (a || b) ≡ true
-any_later true b h = refl
-any_later false b h = h
-
 not_among : (t : Bool) → not t ≡ true → t ≡ true → ⊥
 not_among true h g = cc
 not_among false h g = cc
 
 module _ (f : Field) (fs : List Field) (ms rest : Members) (taken : ℕ) (l : IsLeft (f ∷ fs) ms rest taken) (d : Data) (found : get_member f.0 ms ≡ Some d) where
   pub found_left : get_member f.0 rest ≡ Some d
-  found_left = l.stay f.0 (any_first (bytes_eq f.0 f.0) (list_any (bytes_eq f.0) (names fs)) ((bytes_eq-Decides f.0 f.0).1 refl)) ∙ found
+  found_left = l.stay f.0 (or_left (bytes_eq f.0 f.0) (list_any (bytes_eq f.0) (names fs)) ((bytes_eq-Decides f.0 f.0).1 refl)) ∙ found
 
   pub one_taken : IsLeft fs ms (without f.0 rest) (taken + 1)
   one_taken = record {
     distinct = and_right (not (list_any (bytes_eq f.0) (names fs))) (are_distinct (names fs)) l.distinct;
     stay = λ g among.
         others_stay g f.0 rest (λ is. not_among (list_any (bytes_eq f.0) (names fs)) (and_left _ _ l.distinct) (subst (λ (h : List ℕ). list_any (bytes_eq h) (names fs) ≡ true) is among))
-        ∙ l.stay g (any_later (bytes_eq g f.0) (list_any (bytes_eq g) (names fs)) among);
+        ∙ l.stay g (or_right (bytes_eq g f.0) (list_any (bytes_eq g) (names fs)) among);
     many = let less = one_less f.0 d rest found_left in let many = l.many in omega (arith, less, many);
   }
 

@@ -21,6 +21,7 @@ pub record Adds (old new : Output) (count : ℕ) (b : List ℕ) : Type 0 where
   pub nodes : count + new.nodes_left ≡ old.nodes_left
 
 module _ (registry : Entries) (left : ℕ) where
+  -- the bytes of the tree that the JSON spells came, which is in order, and as many nodes as it has
   pub record IsPushed (f : JsonContent) (d : Data) (old new : Output) : Type 0 where
     pub tree : Tree
     pub spells : Spells registry tree f d
