@@ -1,5 +1,5 @@
 -- Lines of a content, of which the first ones were read.
-use Rattle.std.proofs.Common.{◌≡◌, ◌≢◌, ◌⊎◌, ◌≤◌, ◌<◌, ◌+◌, ◌++◌, ◌∙◌, inl, inr, ℕ, zero, suc, cond, List, [], ◌∷◌, Option, Some, None, ap, append_assoc, append-nil, arith, length, length-append, refl, subst, sym, take}
+use Rattle.std.proofs.Common.{◌≡◌, ◌≢◌, ◌⊎◌, ◌≤◌, ◌<◌, ◌+◌, ◌++◌, ◌∙◌, ◌==◌, inl, inr, Bool, true, false, ℕ, zero, suc, cond, List, [], ◌∷◌, Option, Some, None, ap, append_assoc, append-nil, arith, length, length-append, refl, subst, sym, take}
 use Rattle.std.specs.Prelude.{IfSome}
 use Rattle.std.specs.List.{All}
 use Rattle.std.specs.Io.KnownBytes.{Consumes, IsAtEnd}
@@ -10,7 +10,7 @@ use Rattle.bcs_io_lines.specs.Lines.{HasNoLineFeed, lines_of, onto}
 use Rattle.bcs_io_lines.proofs.LineLemmas.{lines_of-last, lines_of-line, no_feed_first, no_feed_rest}
 use Rattle.bcs_tool_files.specs.Files.{IsContent, size_limit}
 use Rattle.bcs_tool.specs.Lines.{StandBefore}
-use Rattle.bcs_tool.specs.Pairs.{AreAll}
+use Rattle.bcs_tool.specs.Pairs.{AreAll, IsPast}
 use Rattle.bcs_tool.specs.Running.{AreFirst, IsLongBehind}
 
 -- lines without line feeds, each with one behind it, are the lines of that text
@@ -119,3 +119,53 @@ stand_long (Some all) (Some left) (Some more) lines rest given taken longer plai
       many = refl;
       longer = omega (arith, found.3);
     }
+
+-- ---- the line behind those that were read
+
+-- what stands behind so many is one
+same_place : {A : Type 0} (xs ys : List A) (x y : A) (ls ms : List A) → xs ++ x ∷ ls ≡ ys ++ y ∷ ms → length xs ≡ length ys → x ≡ y
+same_place [] [] x y ls ms same many = cc
+same_place [] (o ∷ os) x y ls ms same many = absurd (omega (arith, many))
+same_place (o ∷ os) [] x y ls ms same many = absurd (omega (arith, many))
+same_place (o ∷ os) (p ∷ ps) x y ls ms same many =
+    let rest : os ++ x ∷ ls ≡ ps ++ y ∷ ms = cc in
+    same_place os ps x y ls ms rest (omega (arith, many))
+
+-- a line that was read isn't too long
+pub stand_within : (c b : Option (List ℕ)) (lines : List (List ℕ)) (line rest : List ℕ) → length line ≤ size_limit → StandBefore c b (lines ++ line ∷ []) rest
+    → IfSome c (λ all. ¬ IsLongBehind (length lines) all)
+stand_within None b lines line rest within h = tt
+stand_within (Some all) None lines line rest within h = absurd h
+stand_within (Some all) (Some left) lines line rest within h = λ behind.
+    let parts : lines ++ line ∷ lines_of (rest ++ left) ≡ behind.lines ++ behind.long ∷ behind.more =
+    sym (append_assoc lines (line ∷ []) (lines_of (rest ++ left))) ∙ sym h ∙ behind.parts in
+    let same = same_place lines behind.lines line behind.long (lines_of (rest ++ left)) behind.more parts (sym behind.many) in
+    omega (arith, within, behind.longer, ap (λ (l : List ℕ). length l) same)
+
+-- and none stands behind all of them
+pub all_within : (c : Option (List ℕ)) (lines : List (List ℕ)) → AreAll c lines → IfSome c (λ all. ¬ IsLongBehind (length lines) all)
+all_within None lines is = tt
+all_within (Some all) lines is = λ behind.
+    omega (arith, behind.many, ap (λ (ls : List (List ℕ)). length ls) (sym is ∙ behind.parts), length-append behind.lines (behind.long ∷ behind.more))
+
+-- with more before it a text has no fewer lines
+onto_more : (b : Bool) (c : ℕ) (ls : List (List ℕ)) → length ls ≤ length (cond b ([] ∷ ls) (onto c ls))
+onto_more true c ls = omega arith
+onto_more false c [] = omega arith
+onto_more false c (l ∷ ls) = omega arith
+
+lines_behind : (xs ys : List ℕ) → length (lines_of ys) ≤ length (lines_of (xs ++ ys))
+lines_behind [] ys = omega arith
+lines_behind (c ∷ cs) ys = omega (arith, lines_behind cs ys, onto_more (c == 10) c (lines_of (cs ++ ys)))
+
+pub stand_past : (c b : Option (List ℕ)) (lines : List (List ℕ)) (line rest : List ℕ) → StandBefore c b (lines ++ line ∷ []) rest
+    → IfSome c (λ all. IfSome b (IsPast (length lines) all))
+stand_past None b lines line rest h = tt
+stand_past (Some all) None lines line rest h = tt
+stand_past (Some all) (Some left) lines line rest h =
+    inl (omega (arith, ap (λ (ls : List (List ℕ)). length ls) h, length-append (lines ++ line ∷ []) (lines_of (rest ++ left)), length-append lines (line ∷ []), lines_behind rest left))
+
+pub end_past : (c b : Option (List ℕ)) (count : ℕ) → IsAtEnd b → IfSome c (λ all. IfSome b (IsPast count all))
+end_past None b count ends = tt
+end_past (Some all) None count ends = tt
+end_past (Some all) (Some left) count ends = inr ends

@@ -20,7 +20,7 @@ use Rattle.bcs_tool_files.specs.declared.taking.TakeFault.TheVariants.{OutOfMemo
 use Rattle.bcs_tool_files.specs.declared.work.Work.{Work}
 use Rattle.bcs_tool.specs.Lines.{AreRead, IsTally}
 use Rattle.bcs_tool.specs.PairLines.{AllPaired, ArePairsSoFar, EndsBy, EndsPaired, FailsNext, HasEnded, PutsPair, ReadsBoth, ReadsOn, StopsPair, broken_at, last_output, last_statuses}
-use Rattle.bcs_tool.specs.Pairs.{AnswersBehind, AreAll, FailsPairsAt, Gave, IsLongAt, PutPairPart, PutPairs}
+use Rattle.bcs_tool.specs.Pairs.{AnswersBehind, AreAll, FailsPairsAt, Gave, GaveLine, IsLongAt, PutPairPart, PutPairs}
 use Rattle.bcs_tool.specs.Pairs as behind
 use Rattle.bcs_tool.specs.Running.{AreFirst, IsLongBehind, PutFront}
 use Rattle.bcs_tool.specs.declared.pair_interruption.PairInterruption.{PairInterruption}
@@ -29,14 +29,7 @@ use Rattle.bcs_tool.specs.declared.pair_lines.Compared.{Compared}
 use Rattle.bcs_tool.specs.declared.run_fault.RunFault.{RunFault}
 use Rattle.bcs_tool.specs.declared.run_fault.RunFault.TheVariants.{Take, Write}
 use Rattle.bcs_tool.specs.declared.tally.Tally.{Tally}
-use Rattle.bcs_tool.proofs.ReadLemmas.{all_lines, all_read, first_read, gave, line_read, long_behind, none_read, room_for_one, some_behind}
-
--- what was given of an input that read on, or whose next line isn't there
-module _ {S : Type 0} (content : S → Option (List ℕ)) (has_stopped : S → Bool) (allowance : S → ℕ)
-    (input now later : S) (lines : List (List ℕ)) (before after : Held) (read : AreRead content has_stopped allowance input now lines before.rest) where
-  gave_on : (has_line : Bool) → ReadsOn content has_stopped allowance has_line now later before after → Gave content has_stopped allowance input later
-  gave_on true takes = gave content has_stopped allowance input now later lines before after read takes.given takes.took
-  gave_on false ends = gave content has_stopped allowance input now later lines before after read [] ends.took
+use Rattle.bcs_tool.proofs.ReadLemmas.{all_lines, all_read, first_read, gave, gave_line, line_read, long_behind, none_read, room_for_one, some_behind}
 
 module _ {F S K : Type 0} (former : F → Option (List ℕ)) (former_stopped : F → Bool) (former_allowance : F → ℕ)
     (content : S → Option (List ℕ)) (has_stopped : S → Bool) (allowance : S → ℕ) (taken : K → Option (List ℕ)) (is_failed : K → Bool) (work : Work) where
@@ -58,6 +51,12 @@ module _ {F S K : Type 0} (former : F → Option (List ℕ)) (former_stopped : F
       (far : ArePairsSoFar former former_stopped former_allowance content has_stopped allowance taken is_failed work first a second x out out' one.rest other.rest tally) where
     many : length far.statuses ≡ tally.answered
     many = sym far.counted.answered
+
+    first_many : length far.firsts ≡ tally.answered
+    first_many = sym (as_many_pairs work far.firsts far.seconds far.statuses far.output far.answers).0 ∙ many
+
+    second_many : length far.seconds ≡ tally.answered
+    second_many = sym (as_many_pairs work far.firsts far.seconds far.statuses far.output far.answers).1 ∙ many
 
     -- what was put before the next pair
     pub put_pairs : PutPairs former former_stopped former_allowance content has_stopped allowance taken is_failed work first second out out' tally.answered
@@ -100,8 +99,7 @@ module _ {F S K : Type 0} (former : F → Option (List ℕ)) (former_stopped : F
         omega (
           arith,
           room_for_one former former_stopped former_allowance first a b far.firsts one one' far.first_read bounded takes,
-          many,
-          (as_many_pairs work far.firsts far.seconds far.statuses far.output far.answers).0,
+          first_many,
         )
 
     room_of_second : allowance second < 2 ^ 64 → ReadsOn content has_stopped allowance true x y other other' → tally.answered + 1 < 2 ^ 64
@@ -109,8 +107,7 @@ module _ {F S K : Type 0} (former : F → Option (List ℕ)) (former_stopped : F
         omega (
           arith,
           room_for_one content has_stopped allowance second x y far.seconds other other' far.second_read bounded takes,
-          many,
-          (as_many_pairs work far.firsts far.seconds far.statuses far.output far.answers).1,
+          second_many,
         )
 
     pub room_at_end : (ending : Ending) → former_allowance first < 2 ^ 64 → allowance second < 2 ^ 64
@@ -249,19 +246,30 @@ module _ {F S K : Type 0} (former : F → Option (List ℕ)) (former_stopped : F
 
     -- ---- faults
 
+    -- the second wasn't read again
+    second_gave : y ≡ x → Gave content has_stopped allowance second y
+    second_gave same = subst (λ (s : S). Gave content has_stopped allowance second s) (sym same) (far.second_read.given, far.second_read.took)
+
+    -- the first gave its next line, or has ended
+    first_gave : (has_first : Bool) → ReadsOn former former_stopped former_allowance has_first a b one one' → GaveLine former former_stopped former_allowance first b tally.answered
+    first_gave has_first on =
+        subst (λ (n : ℕ). GaveLine former former_stopped former_allowance first b n) first_many
+        (gave_line former former_stopped former_allowance first a b far.firsts one one' far.first_read has_first on)
+
     -- the next line of the first isn't there
     fails_first : (fault : NextFault) → ReadsInput work → FailsNext former former_stopped former_allowance fault a b one one' → y ≡ x
         → EndsPaired former former_stopped former_allowance content has_stopped allowance taken is_failed work first b second y out out' (Err (broken_at First fault tally.answered))
-    fails_first next_fault.Read reads lost same = (reads, lost.lost.after, put_pairs)
+    fails_first next_fault.Read reads lost same = (reads, lost.lost.after, second_gave same, put_pairs)
     fails_first next_fault.TooLong reads long same = (
       reads,
-      subst (λ (n : ℕ). IfSome (former first) (IsLongBehind n)) (sym (as_many_pairs work far.firsts far.seconds far.statuses far.output far.answers).0 ∙ many)
+      subst (λ (n : ℕ). IfSome (former first) (IsLongBehind n)) first_many
           (long_behind former former_stopped former_allowance first a b far.firsts one one' far.first_read long),
+      second_gave same,
       put_pairs,
     )
     fails_first next_fault.OutOfMemory reads ran same = (
       gave former former_stopped former_allowance first a b far.firsts one one' far.first_read ran.given ran.took,
-      subst (λ (s : S). Gave content has_stopped allowance second s) (sym same) (far.second_read.given, far.second_read.took),
+      second_gave same,
       put_pairs,
     )
 
@@ -269,15 +277,16 @@ module _ {F S K : Type 0} (former : F → Option (List ℕ)) (former_stopped : F
     fails_second : (fault : NextFault) (has_first : Bool) → ReadsInput work → ReadsOn former former_stopped former_allowance has_first a b one one'
         → FailsNext content has_stopped allowance fault x y other other'
         → EndsPaired former former_stopped former_allowance content has_stopped allowance taken is_failed work first b second y out out' (Err (broken_at Second fault tally.answered))
-    fails_second next_fault.Read has_first reads on lost = (reads, lost.lost.after, put_pairs)
+    fails_second next_fault.Read has_first reads on lost = (reads, lost.lost.after, first_gave has_first on, put_pairs)
     fails_second next_fault.TooLong has_first reads on long = (
       reads,
-      subst (λ (n : ℕ). IfSome (content second) (IsLongBehind n)) (sym (as_many_pairs work far.firsts far.seconds far.statuses far.output far.answers).1 ∙ many)
+      subst (λ (n : ℕ). IfSome (content second) (IsLongBehind n)) second_many
           (long_behind content has_stopped allowance second x y far.seconds other other' far.second_read long),
+      first_gave has_first on,
       put_pairs,
     )
     fails_second next_fault.OutOfMemory has_first reads on ran = (
-      gave_on former former_stopped former_allowance first a b far.firsts one one' far.first_read has_first on,
+      (first_gave has_first on).gave,
       gave content has_stopped allowance second x y far.seconds other other' far.second_read ran.given ran.took,
       put_pairs,
     )
@@ -299,8 +308,8 @@ module _ {F S K : Type 0} (former : F → Option (List ℕ)) (former_stopped : F
     fails_pair_put out'' (Take fault) reads puts =
         let P : TakeFault → Type 0 = λ f. FailsPairsAt former former_stopped former_allowance content has_stopped allowance taken is_failed work first b second y out out'' Second (Take f) tally.answered in
         subst P (sym puts.0) (
-          gave_on former former_stopped former_allowance first a b far.firsts one one' far.first_read true reads.of_first,
-          gave_on content has_stopped allowance second x y far.seconds other other' far.second_read true reads.of_second,
+          (first_gave true reads.of_first).gave,
+          (gave_line content has_stopped allowance second x y far.seconds other other' far.second_read true reads.of_second).gave,
           subst (λ (k : K). PutPairs former former_stopped former_allowance content has_stopped allowance taken is_failed work first second out k tally.answered) (sym puts.1) put_pairs,
         )
     fails_pair_put out'' Write reads puts =

@@ -1,5 +1,5 @@
 -- The lines of one input, from one to the next.
-use Rattle.std.proofs.Common.{◌≡◌, ◌⊎◌, ◌≤◌, ◌<◌, ◌+◌, ◌^◌, ◌++◌, inl, inr, ℕ, Bool, List, [], ◌∷◌, Option, ap, arith, length, length-append, refl}
+use Rattle.std.proofs.Common.{◌≡◌, ◌⊎◌, ◌≤◌, ◌<◌, ◌+◌, ◌^◌, ◌++◌, ◌∙◌, inl, inr, ℕ, Bool, true, false, List, [], ◌∷◌, Option, ap, append_assoc, append-nil, arith, length, length-append, refl, sym}
 use Rattle.std.specs.Prelude.{IfSome}
 use Rattle.std.proofs.lemmas.List.Elements.{All-nil, All-push}
 use Rattle.bcs_io.specs.Giving as source
@@ -9,9 +9,10 @@ use Rattle.bcs_io_lines.specs.Held.{Held}
 use Rattle.bcs_io_lines.specs.Lines.{HasNoLineFeed, lines_of}
 use Rattle.bcs_tool_files.specs.Files.{IsContent, size_limit}
 use Rattle.bcs_tool.specs.Lines.{AreRead, StandBefore}
-use Rattle.bcs_tool.specs.Pairs.{AreAll}
+use Rattle.bcs_tool.specs.PairLines.{ReadsOn}
+use Rattle.bcs_tool.specs.Pairs.{AreAll, GaveLine}
 use Rattle.bcs_tool.specs.Running.{AreFirst, IsLongBehind}
-use Rattle.bcs_tool.proofs.LineLemmas.{stand_all, stand_end, stand_first, stand_last, stand_line, stand_long, stand_nothing, stand_some}
+use Rattle.bcs_tool.proofs.LineLemmas.{all_within, end_past, stand_all, stand_end, stand_first, stand_last, stand_line, stand_long, stand_nothing, stand_past, stand_some, stand_within}
 
 -- what a line and its line feed take of the room
 some_long : (xs : List ℕ) → (xs ≡ [] → ⊥) → 1 ≤ length xs
@@ -84,3 +85,16 @@ module _ {S : Type 0} (content : S → Option (List ℕ)) (has_stopped : S → B
     -- what was given of the input in all
     pub gave : (given : List ℕ) → source.Took content has_stopped allowance now later given → (bytes : List ℕ) × source.Took content has_stopped allowance input later bytes
     gave given took = (read.given ++ given, giving.Took-then content has_stopped allowance input now later read.given given read.took took)
+
+    -- the next line was given, or none is left
+    pub gave_line : (has_line : Bool) → ReadsOn content has_stopped allowance has_line now later before after → GaveLine content has_stopped allowance input later (length lines)
+    gave_line true takes = record {
+      gave = gave takes.given takes.took;
+      within = stand_within (content input) (content later) lines after.line after.rest takes.within (stand_behind takes);
+      past = stand_past (content input) (content later) lines after.line after.rest (stand_behind takes);
+    }
+    gave_line false ends = record {
+      gave = gave [] ends.took;
+      within = all_within (content input) lines (all_lines ends);
+      past = end_past (content input) (content later) (length lines) ends.ends;
+    }

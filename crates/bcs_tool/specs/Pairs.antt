@@ -1,5 +1,5 @@
 -- What comes of two files that are compared line by line: what is put of the answers, and why that isn't all of them.
-use Rattle.std.specs.Prelude.{◌≡◌, ◌<◌, ◌++◌, ℕ, List, [], ◌∷◌, Bool, true, IfSome, Option, Result, Ok, Err, codes, length, take}
+use Rattle.std.specs.Prelude.{◌≡◌, ◌⊎◌, ◌<◌, ◌+◌, ◌++◌, ℕ, List, [], ◌∷◌, Bool, true, IfSome, Option, Result, Ok, Err, codes, length, take}
 use Rattle.bcs_io.specs.Giving as source
 use Rattle.bcs_io.specs.Taking as sink
 use Rattle.bcs_io_lines.specs.Lines.{lines_of}
@@ -46,10 +46,21 @@ pub data AnswersBehind (work : Work) (first second : Option (List ℕ)) (firsts 
 
 -- ---- a source
 
+-- of this content more than so many lines are gone, or nothing is left
+abbrev pub IsPast : ℕ → List ℕ → List ℕ → Type 0
+IsPast count all left = (count + length (lines_of left) < length (lines_of all)) ⊎ (left ≡ [])
+
 module _ {S : Type 0} (content : S → Option (List ℕ)) (has_stopped : S → Bool) (allowance : S → ℕ) where
   -- it gave some bytes or none, and no call of it failed
   abbrev pub Gave : S → S → Type 0
   Gave old new = (bytes : List ℕ) × source.Took content has_stopped allowance old new bytes
+
+  -- no call of it failed; and where its content is known, the line behind so many was given, which is not too long, or all
+  -- of the content was
+  pub record GaveLine (old new : S) (count : ℕ) : Type 0 where
+    pub gave : Gave old new
+    pub within : IfSome (content old) (λ all. ¬ IsLongBehind count all)
+    pub past : IfSome (content old) (λ all. IfSome (content new) (IsPast count all))
 
 -- ---- the run
 
@@ -91,10 +102,18 @@ module _ {F S K : Type 0} (former : F → Option (List ℕ)) (former_stopped : F
   IsLongAt First first second count = IfSome (former first) (IsLongBehind count)
   IsLongAt Second first second count = IfSome (content second) (IsLongBehind count)
 
-  -- the run stopped with this fault, behind so many pairs; a file that failed or has a long line is that of this side
+  -- the other file is not at fault: A has given its line before B is asked for one
+  abbrev pub IsAtFaultAlone : Side → F → F → S → S → ℕ → Type 0
+  IsAtFaultAlone First first first' second second' count = Gave content has_stopped allowance second second'
+  IsAtFaultAlone Second first first' second second' count = GaveLine former former_stopped former_allowance first first' count
+
+  -- the run stopped with this fault, behind so many pairs; a file that failed or has a long line is that of this side, and
+  -- A's, where both have
   abbrev pub FailsPairsAt : Work → F → F → S → S → K → K → Side → RunFault → ℕ → Type 0
-  FailsPairsAt work first first' second second' out out' side (Take Read) count = ReadsInput work × HasStopped side first' second' × PutPairs work first second out out' count
-  FailsPairsAt work first first' second second' out out' side (Take TooLarge) count = ReadsInput work × IsLongAt side first second count × PutPairs work first second out out' count
+  FailsPairsAt work first first' second second' out out' side (Take Read) count = ReadsInput work × HasStopped side first' second' × IsAtFaultAlone side first first' second second' count
+      × PutPairs work first second out out' count
+  FailsPairsAt work first first' second second' out out' side (Take TooLarge) count = ReadsInput work × IsLongAt side first second count × IsAtFaultAlone side first first' second second' count
+      × PutPairs work first second out out' count
   FailsPairsAt work first first' second second' out out' side (Take OutOfMemory) count = Gave former former_stopped former_allowance first first'
       × Gave content has_stopped allowance second second' × PutPairs work first second out out' count
   FailsPairsAt work first first' second second' out out' side Write count = PutPairPart work first second out out' count
