@@ -1,5 +1,5 @@
 -- What a stream was told: a text in one piece or in two, or a front of it.
-use Rattle.std.proofs.Common.{◌≡◌, ◌≢◌, ◌≤◌, ◌<◌, ◌+◌, ◌++◌, ◌⊎◌, Ok, Err, Result, arith, inl, inr, ℕ, List, Bool, Option, length, length-append, sym, subst, take}
+use Rattle.std.proofs.Common.{◌≡◌, ◌<◌, ◌+◌, ◌++◌, ◌⊎◌, Ok, Err, Result, arith, inl, inr, ℕ, List, Bool, Option, length, length-append, sym, subst, take}
 use Rattle.std.specs.Prelude.{IfErr, OnOk, String, string_bytes}
 use Rattle.std.specs.declared.alloc.Global.{Global}
 use Rattle.std.proofs.Math.Seq.{take-append-add}

@@ -1,7 +1,6 @@
 -- A comparison of two files, from one pair of lines to the next.
-use Rattle.std.proofs.Common.{◌≡◌, ◌≢◌, ◌⊎◌, ◌<◌, ◌+◌, ◌^◌, ◌++◌, ◌∙◌, inl, inr, ℕ, Bool, true, false, List, [], ◌∷◌, Err, Ok, Option, Some, None, Result, ap, append_assoc, append-nil, arith, codes, length, refl, subst, sym, take}
+use Rattle.std.proofs.Common.{◌≡◌, ◌≢◌, ◌<◌, ◌+◌, ◌^◌, ◌++◌, ◌∙◌, inl, inr, ℕ, Bool, true, List, [], ◌∷◌, Err, Ok, Option, Result, arith, codes, length, refl, subst, sym, take}
 use Rattle.std.specs.Prelude.{IfSome}
-use Rattle.bcs_io.specs.Giving as source
 use Rattle.bcs_io.specs.Taking as sink
 use Rattle.bcs_io.proofs.TakingLemmas as taking
 use Rattle.bcs_io_lines.specs.Held.{Held}
@@ -16,9 +15,8 @@ use Rattle.bcs_tool_answers.specs.declared.ending.Ending.{Ending}
 use Rattle.bcs_tool_answers.specs.declared.ending.Ending.TheVariants.{Together, FirstEnds, SecondEnds}
 use Rattle.bcs_tool_answers.proofs.PairAnswerLemmas.{as_many_pairs, one_alone, pairs_then}
 use Rattle.bcs_tool_files.specs.declared.taking.TakeFault.{TakeFault}
-use Rattle.bcs_tool_files.specs.declared.taking.TakeFault.TheVariants.{OutOfMemory}
 use Rattle.bcs_tool_files.specs.declared.work.Work.{Work}
-use Rattle.bcs_tool.specs.Lines.{AreRead, IsTally}
+use Rattle.bcs_tool.specs.Lines.{IsTally}
 use Rattle.bcs_tool.specs.PairLines.{AllPaired, ArePairsSoFar, EndsBy, EndsPaired, FailsNext, HasEnded, PutsPair, ReadsBoth, ReadsOn, StopsPair, broken_at, last_output, last_statuses}
 use Rattle.bcs_tool.specs.Pairs.{AnswersBehind, AreAll, FailsPairsAt, Gave, GaveLine, IsLongAt, PutPairPart, PutPairs}
 use Rattle.bcs_tool.specs.Pairs as behind
@@ -29,7 +27,7 @@ use Rattle.bcs_tool.specs.declared.pair_lines.Compared.{Compared}
 use Rattle.bcs_tool.specs.declared.run_fault.RunFault.{RunFault}
 use Rattle.bcs_tool.specs.declared.run_fault.RunFault.TheVariants.{Take, Write}
 use Rattle.bcs_tool.specs.declared.tally.Tally.{Tally}
-use Rattle.bcs_tool.proofs.ReadLemmas.{all_lines, all_read, first_read, gave, gave_line, line_read, long_behind, none_read, room_for_one, some_behind}
+use Rattle.bcs_tool.proofs.ReadLemmas.{MayHave, all_lines, first_behind, first_read, gave, gave_line, line_read, long_behind, none_behind, none_read, room_for_one, some_behind}
 
 module _ {F S K : Type 0} (former : F → Option (List ℕ)) (former_stopped : F → Bool) (former_allowance : F → ℕ)
     (content : S → Option (List ℕ)) (has_stopped : S → Bool) (allowance : S → ℕ) (taken : K → Option (List ℕ)) (is_failed : K → Bool) (work : Work) where
@@ -118,118 +116,72 @@ module _ {F S K : Type 0} (former : F → Option (List ℕ)) (former_stopped : F
 
     -- ---- the end
 
-    -- no line of either file is left
-    paired_together : (out'' : K) (more : Tally) → ReadsBoth former former_stopped former_allowance content has_stopped allowance false false a b x y one one' other other'
-        → sink.Took taken is_failed out' out'' [] → IsTally more (far.statuses ++ [])
-        → AllPaired former former_stopped former_allowance content has_stopped allowance taken is_failed work first second out out'' (record { tally = more; ending = Together })
-    paired_together out'' more reads put counted =
-        let ours = all_read former former_stopped former_allowance first a b far.firsts one one' far.first_read reads.of_first in
-        let theirs = all_read content has_stopped allowance second x y far.seconds other other' far.second_read reads.of_second in
+    -- the answer behind the pairs was put, which is the last
+    paired_with : (ending : Ending) (firsts seconds : List (List ℕ)) (statuses output : List ℕ) (out'' : K) (more : Tally)
+        → MayHave (former first) (far.firsts ++ firsts) → MayHave (content second) (far.seconds ++ seconds) → AnswersPairs work firsts seconds ending statuses output
+        → sink.Took taken is_failed out' out'' output → IsTally more (far.statuses ++ statuses)
+        → AllPaired former former_stopped former_allowance content has_stopped allowance taken is_failed work first second out out'' (record { tally = more; ending = ending })
+    paired_with ending firsts seconds statuses output out'' more ours theirs answers put counted =
+        let P : List (List ℕ) → List (List ℕ) → Type 0 = λ ls ms. AnswersPairs work ls ms ending (far.statuses ++ statuses) (far.output ++ output) in
         record {
           ones = ours.0;
           others = theirs.0;
-          statuses = far.statuses ++ [];
-          output = far.output ++ [];
+          statuses = far.statuses ++ statuses;
+          output = far.output ++ output;
           first_known = ours.1;
           second_known = theirs.1;
-          answers = subst (λ (ls : List (List ℕ)). AnswersPairs work ls (lines_of theirs.0) Together (far.statuses ++ []) (far.output ++ [])) (append-nil far.firsts ∙ sym ours.2)
-              (subst (λ (ls : List (List ℕ)). AnswersPairs work (far.firsts ++ []) ls Together (far.statuses ++ []) (far.output ++ [])) (append-nil far.seconds ∙ sym theirs.2)
-              (pairs_then work far.firsts far.seconds [] [] Together far.statuses far.output [] [] far.answers pairs.together));
-          put = taking.Took-then taken is_failed out out' out'' far.output [] far.put put;
+          answers = subst (λ (ls : List (List ℕ)). P ls (lines_of theirs.0)) (sym ours.2) (subst (λ (ms : List (List ℕ)). P (far.firsts ++ firsts) ms) (sym theirs.2)
+              (pairs_then work far.firsts far.seconds firsts seconds ending far.statuses far.output statuses output far.answers answers));
+          put = taking.Took-then taken is_failed out out' out'' far.output output far.put put;
           counted = counted;
         }
-
-    -- the second has a line where the first ends
-    paired_first_ends : (out'' : K) (more : Tally) → ReadsBoth former former_stopped former_allowance content has_stopped allowance false true a b x y one one' other other'
-        → sink.Took taken is_failed out' out'' (line_of (codes "different")) → IsTally more (far.statuses ++ 1 ∷ [])
-        → AllPaired former former_stopped former_allowance content has_stopped allowance taken is_failed work first second out out'' (record { tally = more; ending = FirstEnds })
-    paired_first_ends out'' more reads put counted =
-        let ours = all_read former former_stopped former_allowance first a b far.firsts one one' far.first_read reads.of_first in
-        let theirs = some_behind content has_stopped allowance second y (far.seconds ++ other'.line ∷ []) other'.rest
-        (line_read content has_stopped allowance second x y far.seconds other other' far.second_read reads.of_second) in
-        let lines : far.seconds ++ other'.line ∷ theirs.2.0 ≡ lines_of theirs.0 = sym (append_assoc far.seconds (other'.line ∷ []) theirs.2.0) ∙ sym theirs.2.1 in
-        record {
-          ones = ours.0;
-          others = theirs.0;
-          statuses = far.statuses ++ 1 ∷ [];
-          output = far.output ++ line_of (codes "different");
-          first_known = ours.1;
-          second_known = theirs.1;
-          answers = subst (λ (ls : List (List ℕ)). AnswersPairs work ls (lines_of theirs.0) FirstEnds (far.statuses ++ 1 ∷ []) (far.output ++ line_of (codes "different"))) (append-nil far.firsts ∙ sym ours.2)
-              (subst (λ (ls : List (List ℕ)). AnswersPairs work (far.firsts ++ []) ls FirstEnds (far.statuses ++ 1 ∷ []) (far.output ++ line_of (codes "different"))) lines
-              (pairs_then work far.firsts far.seconds [] (other'.line ∷ theirs.2.0) FirstEnds far.statuses far.output (1 ∷ []) (line_of (codes "different")) far.answers (pairs.first_ends other'.line theirs.2.0)));
-          put = taking.Took-then taken is_failed out out' out'' far.output (line_of (codes "different")) far.put put;
-          counted = counted;
-        }
-
-    -- the first has a line where the second ends
-    paired_second_ends : (out'' : K) (more : Tally) → ReadsBoth former former_stopped former_allowance content has_stopped allowance true false a b x y one one' other other'
-        → sink.Took taken is_failed out' out'' (line_of (codes "different")) → IsTally more (far.statuses ++ 1 ∷ [])
-        → AllPaired former former_stopped former_allowance content has_stopped allowance taken is_failed work first second out out'' (record { tally = more; ending = SecondEnds })
-    paired_second_ends out'' more reads put counted =
-        let ours = some_behind former former_stopped former_allowance first b (far.firsts ++ one'.line ∷ []) one'.rest
-        (line_read former former_stopped former_allowance first a b far.firsts one one' far.first_read reads.of_first) in
-        let theirs = all_read content has_stopped allowance second x y far.seconds other other' far.second_read reads.of_second in
-        let lines : far.firsts ++ one'.line ∷ ours.2.0 ≡ lines_of ours.0 = sym (append_assoc far.firsts (one'.line ∷ []) ours.2.0) ∙ sym ours.2.1 in
-        record {
-          ones = ours.0;
-          others = theirs.0;
-          statuses = far.statuses ++ 1 ∷ [];
-          output = far.output ++ line_of (codes "different");
-          first_known = ours.1;
-          second_known = theirs.1;
-          answers = subst (λ (ls : List (List ℕ)). AnswersPairs work (lines_of ours.0) ls SecondEnds (far.statuses ++ 1 ∷ []) (far.output ++ line_of (codes "different"))) (append-nil far.seconds ∙ sym theirs.2)
-              (subst (λ (ls : List (List ℕ)). AnswersPairs work ls (far.seconds ++ []) SecondEnds (far.statuses ++ 1 ∷ []) (far.output ++ line_of (codes "different"))) lines
-              (pairs_then work far.firsts far.seconds (one'.line ∷ ours.2.0) [] SecondEnds far.statuses far.output (1 ∷ []) (line_of (codes "different")) far.answers (pairs.second_ends one'.line ours.2.0)));
-          put = taking.Took-then taken is_failed out out' out'' far.output (line_of (codes "different")) far.put put;
-          counted = counted;
-        }
-
-    -- a front of the last answer was put
-    part_at_end : (ending : Ending) (out'' : K) → HasEnded former former_stopped former_allowance content has_stopped allowance ending a b x y one one' other other'
-        → ending ≢ Together → PutFront taken is_failed out' out'' (line_of (codes "different"))
-        → PutPairPart former former_stopped former_allowance content has_stopped allowance taken is_failed work first second out out'' tally.answered
-    part_at_end Together out'' reads some front = absurd (some refl)
-    part_at_end FirstEnds out'' reads some (shown, short, lost) = record {
-      firsts = far.firsts;
-      seconds = far.seconds;
-      statuses = far.statuses;
-      before = far.output;
-      many = many;
-      answers = far.answers;
-      status = 1;
-      output = line_of (codes "different");
-      next = behind.first_ends other'.line (all_lines former former_stopped former_allowance first a b far.firsts one one' far.first_read reads.of_first)
-          (first_read content has_stopped allowance second y (far.seconds ++ other'.line ∷ []) other'.rest
-          (line_read content has_stopped allowance second x y far.seconds other other' far.second_read reads.of_second));
-      shown = shown;
-      short = short;
-      put = taking.Lost-then taken is_failed out out' out'' far.output (take shown (line_of (codes "different"))) far.put lost;
-    }
-    part_at_end SecondEnds out'' reads some (shown, short, lost) = record {
-      firsts = far.firsts;
-      seconds = far.seconds;
-      statuses = far.statuses;
-      before = far.output;
-      many = many;
-      answers = far.answers;
-      status = 1;
-      output = line_of (codes "different");
-      next = behind.second_ends one'.line
-          (first_read former former_stopped former_allowance first b (far.firsts ++ one'.line ∷ []) one'.rest
-          (line_read former former_stopped former_allowance first a b far.firsts one one' far.first_read reads.of_first))
-          (all_lines content has_stopped allowance second x y far.seconds other other' far.second_read reads.of_second);
-      shown = shown;
-      short = short;
-      put = taking.Lost-then taken is_failed out out' out'' far.output (take shown (line_of (codes "different"))) far.put lost;
-    }
 
     all_paired : (ending : Ending) (out'' : K) (more : Tally) → HasEnded former former_stopped former_allowance content has_stopped allowance ending a b x y one one' other other'
         → sink.Took taken is_failed out' out'' (last_output ending) → IsTally more (far.statuses ++ last_statuses ending)
         → AllPaired former former_stopped former_allowance content has_stopped allowance taken is_failed work first second out out'' (record { tally = more; ending = ending })
-    all_paired Together out'' more reads put counted = paired_together out'' more reads put counted
-    all_paired FirstEnds out'' more reads put counted = paired_first_ends out'' more reads put counted
-    all_paired SecondEnds out'' more reads put counted = paired_second_ends out'' more reads put counted
+    all_paired Together out'' more reads put counted =
+        paired_with Together [] [] [] [] out'' more (none_behind former former_stopped former_allowance first a b far.firsts one one' far.first_read reads.of_first)
+        (none_behind content has_stopped allowance second x y far.seconds other other' far.second_read reads.of_second) pairs.together put counted
+    all_paired FirstEnds out'' more reads put counted =
+        let theirs = some_behind content has_stopped allowance second x y far.seconds other other' far.second_read reads.of_second in
+        paired_with FirstEnds [] (other'.line ∷ theirs.0) (1 ∷ []) (line_of (codes "different")) out'' more
+        (none_behind former former_stopped former_allowance first a b far.firsts one one' far.first_read reads.of_first) theirs.1 (pairs.first_ends other'.line theirs.0) put counted
+    all_paired SecondEnds out'' more reads put counted =
+        let ours = some_behind former former_stopped former_allowance first a b far.firsts one one' far.first_read reads.of_first in
+        paired_with SecondEnds (one'.line ∷ ours.0) [] (1 ∷ []) (line_of (codes "different")) out'' more ours.1
+        (none_behind content has_stopped allowance second x y far.seconds other other' far.second_read reads.of_second) (pairs.second_ends one'.line ours.0) put counted
+
+    -- a front of the answer behind the pairs was put
+    part_behind : (status : ℕ) (output : List ℕ) (out'' : K) → AnswersBehind work (former first) (content second) far.firsts far.seconds status output
+        → PutFront taken is_failed out' out'' output → PutPairPart former former_stopped former_allowance content has_stopped allowance taken is_failed work first second out out'' tally.answered
+    part_behind status output out'' next (shown, short, lost) = record {
+      firsts = far.firsts;
+      seconds = far.seconds;
+      statuses = far.statuses;
+      before = far.output;
+      many = many;
+      answers = far.answers;
+      status = status;
+      output = output;
+      next = next;
+      shown = shown;
+      short = short;
+      put = taking.Lost-then taken is_failed out out' out'' far.output (take shown output) far.put lost;
+    }
+
+    next_first : ReadsOn former former_stopped former_allowance true a b one one' → AreFirst (former first) (far.firsts ++ one'.line ∷ [])
+    next_first takes = first_behind former former_stopped former_allowance first a b far.firsts one one' far.first_read takes
+
+    next_second : ReadsOn content has_stopped allowance true x y other other' → AreFirst (content second) (far.seconds ++ other'.line ∷ [])
+    next_second takes = first_behind content has_stopped allowance second x y far.seconds other other' far.second_read takes
+
+    last_behind : (ending : Ending) → HasEnded former former_stopped former_allowance content has_stopped allowance ending a b x y one one' other other' → ending ≢ Together
+        → AnswersBehind work (former first) (content second) far.firsts far.seconds 1 (line_of (codes "different"))
+    last_behind Together reads some = absurd (some refl)
+    last_behind FirstEnds reads some =
+        behind.first_ends other'.line (all_lines former former_stopped former_allowance first a b far.firsts one one' far.first_read reads.of_first) (next_second reads.of_second)
+    last_behind SecondEnds reads some =
+        behind.second_ends one'.line (next_first reads.of_first) (all_lines content has_stopped allowance second x y far.seconds other other' far.second_read reads.of_second)
 
     -- the last answer was put, or not
     pub ends_paired : (ending : Ending) (out'' : K) (result : Result Compared PairInterruption)
@@ -242,7 +194,7 @@ module _ {F S K : Type 0} (former : F → Option (List ℕ)) (former_stopped : F
     ends_paired ending out'' (Err e) reads (is, some, front) =
         let P : PairInterruption → Type 0 = λ i. FailsPairsAt former former_stopped former_allowance content has_stopped allowance taken is_failed work first b second y out out''
         i.side i.interruption.fault i.interruption.answered in
-        subst P (sym is) (part_at_end ending out'' reads some front)
+        subst P (sym is) (part_behind 1 (line_of (codes "different")) out'' (last_behind ending reads some) front)
 
     -- ---- faults
 
@@ -312,23 +264,5 @@ module _ {F S K : Type 0} (former : F → Option (List ℕ)) (former_stopped : F
           (gave_line content has_stopped allowance second x y far.seconds other other' far.second_read true reads.of_second).gave,
           subst (λ (k : K). PutPairs former former_stopped former_allowance content has_stopped allowance taken is_failed work first second out k tally.answered) (sym puts.1) put_pairs,
         )
-    fails_pair_put out'' Write reads puts =
-        let shown = puts.3 in
-        record {
-          firsts = far.firsts;
-          seconds = far.seconds;
-          statuses = far.statuses;
-          before = far.output;
-          many = many;
-          answers = far.answers;
-          status = puts.0;
-          output = puts.1;
-          next = behind.pair one'.line other'.line puts.0 puts.1
-              (first_read former former_stopped former_allowance first b (far.firsts ++ one'.line ∷ []) one'.rest
-              (line_read former former_stopped former_allowance first a b far.firsts one one' far.first_read reads.of_first))
-              (first_read content has_stopped allowance second y (far.seconds ++ other'.line ∷ []) other'.rest
-              (line_read content has_stopped allowance second x y far.seconds other other' far.second_read reads.of_second)) puts.2;
-          shown = shown.0;
-          short = shown.1;
-          put = taking.Lost-then taken is_failed out out' out'' far.output (take shown.0 puts.1) far.put shown.2;
-        }
+    fails_pair_put out'' Write reads (status, output, answer, front) =
+        part_behind status output out'' (behind.pair one'.line other'.line status output (next_first reads.of_first) (next_second reads.of_second) answer) front

@@ -1,5 +1,5 @@
 -- What comes of a comparison of two files, by what its steps answered.
-use Rattle.std.proofs.Common.{◌≡◌, ◌<◌, ◌++◌, ◌∙◌, ℕ, Bool, List, [], Option, Err, Ok, ap, arith, refl, subst, sym}
+use Rattle.std.proofs.Common.{◌≡◌, ◌++◌, ◌∙◌, ℕ, Bool, List, [], Option, Err, Ok, ap, arith, refl, subst, sym}
 use Rattle.bcs_io.proofs.GivingLemmas as giving
 use Rattle.bcs_io.proofs.TakingLemmas as taking
 use Rattle.bcs_io_lines.specs.Lines.{lines_of}

@@ -19,6 +19,10 @@ some_long : (xs : List ℕ) → (xs ≡ [] → ⊥) → 1 ≤ length xs
 some_long [] some = absurd (some refl)
 some_long (x ∷ xs) some = omega arith
 
+-- there are bytes that may be the content, and have exactly these lines
+abbrev pub MayHave : Option (List ℕ) → List (List ℕ) → Type 0
+MayHave content lines = (bytes : List ℕ) × IsContent content bytes × (lines_of bytes ≡ lines)
+
 module _ {S : Type 0} (content : S → Option (List ℕ)) (has_stopped : S → Bool) (allowance : S → ℕ) where
   pub none_read : (input : S) → AreRead content has_stopped allowance input input [] []
   none_read input = record {
@@ -31,11 +35,6 @@ module _ {S : Type 0} (content : S → Option (List ℕ)) (has_stopped : S → B
 
   pub first_read : (input now : S) (lines : List (List ℕ)) (rest : List ℕ) → AreRead content has_stopped allowance input now lines rest → AreFirst (content input) lines
   first_read input now lines rest read = stand_first (content input) (content now) lines rest read.stand
-
-  -- there are bytes that may be the content, and have these lines first
-  pub some_behind : (input now : S) (lines : List (List ℕ)) (rest : List ℕ) → AreRead content has_stopped allowance input now lines rest
-      → (bytes : List ℕ) × IsContent (content input) bytes × ((more : List (List ℕ)) × (lines_of bytes ≡ lines ++ more))
-  some_behind input now lines rest read = stand_some (content input) (content now) lines rest read.plain read.stand
 
   -- a line took a byte at least
   pub line_room : (now later : S) (before after : Held) → TakesLine content has_stopped allowance size_limit now later before after
@@ -72,8 +71,20 @@ module _ {S : Type 0} (content : S → Option (List ℕ)) (has_stopped : S → B
     room_for_one bounded takes = omega (arith, bounded, line_room now later before after takes, read.room)
 
     -- no line is left
-    pub all_read : HasNoLine content has_stopped allowance now later before after → (bytes : List ℕ) × IsContent (content input) bytes × (lines_of bytes ≡ lines)
+    pub all_read : HasNoLine content has_stopped allowance now later before after → MayHave (content input) lines
     all_read ends = stand_end (content input) (content now) (content later) lines before.rest ends.took.front ends.none_left ends.ends read.plain read.stand
+
+    pub none_behind : HasNoLine content has_stopped allowance now later before after → MayHave (content input) (lines ++ [])
+    none_behind ends = let all = all_read ends in (all.0, all.1, all.2 ∙ sym (append-nil lines))
+
+    -- the next line is a line of the content, and some or none stand behind it
+    pub first_behind : TakesLine content has_stopped allowance size_limit now later before after → AreFirst (content input) (lines ++ after.line ∷ [])
+    first_behind takes = stand_first (content input) (content later) (lines ++ after.line ∷ []) after.rest (stand_behind takes)
+
+    pub some_behind : TakesLine content has_stopped allowance size_limit now later before after → (more : List (List ℕ)) × MayHave (content input) (lines ++ after.line ∷ more)
+    some_behind takes =
+        let some = stand_some (content input) (content later) (lines ++ after.line ∷ []) after.rest (line_read takes).plain (stand_behind takes) in
+        (some.2.0, (some.0, some.1, some.2.1 ∙ append_assoc lines (after.line ∷ []) some.2.0))
 
     pub all_lines : HasNoLine content has_stopped allowance now later before after → AreAll (content input) lines
     all_lines ends = stand_all (content input) (content now) (content later) lines before.rest ends.took.front ends.none_left ends.ends read.stand

@@ -1,13 +1,12 @@
 -- What comes of a run, by what its steps answered.
-use Rattle.std.proofs.Common.{◌≡◌, ◌≤◌, ◌+◌, ◌++◌, ◌∙◌, ℕ, Bool, true, false, List, [], Option, Some, None, Result, Ok, Err, ap, append-nil, arith, inl, inr, length, refl, subst, sym, take, true≢false}
+use Rattle.std.proofs.Common.{◌≡◌, ◌≤◌, ◌+◌, ◌++◌, ◌∙◌, ℕ, Bool, false, List, [], Option, Some, None, Result, Ok, Err, ap, append-nil, arith, inl, inr, length, refl, subst, sym, true≢false}
 use Rattle.std.specs.Result.{IsErrAnd}
 use Rattle.std.specs.Io.KnownBytes.{Consumes, IsAtEnd}
 use Rattle.bcs_io.specs.Giving as source
-use Rattle.bcs_io.specs.Taking as sink
 use Rattle.bcs_io.proofs.TakingLemmas as taking
 use Rattle.bcs_io_lines.specs.Lines.{lines_of}
 use Rattle.bcs_tool_answers.specs.Judging.{ReadsInput}
-use Rattle.bcs_tool_answers.specs.LineAnswers.{greatest, none, summary, tally_text}
+use Rattle.bcs_tool_answers.specs.LineAnswers.{none, summary, tally_text}
 use Rattle.bcs_tool_answers.specs.Places.{IsAnswer, Places}
 use Rattle.bcs_tool_answers.specs.Preparing.{IsAskedBy}
 use Rattle.bcs_tool_answers.specs.declared.answer.Answer.{Answer}
@@ -23,7 +22,7 @@ use Rattle.bcs_tool_files.specs.declared.work.Work.{Work}
 use Rattle.bcs_tool.specs.Lines.{AllAnswered, IsTally}
 use Rattle.bcs_tool.specs.Running.{AreFirst, Ends, FailsAt, HasLines, IsAnswered, IsUnhurt, PutBefore, PutsAnswer, Responds, by_line, once}
 use Rattle.bcs_tool.specs.declared.interruption.Interruption.{Interruption}
-use Rattle.bcs_tool.specs.declared.run_fault.RunFault.TheVariants.{Take, Write}
+use Rattle.bcs_tool.specs.declared.run_fault.RunFault.TheVariants.{Take}
 use Rattle.bcs_tool.specs.declared.tally.Tally.{Tally}
 
 -- there are bytes that may be the content

@@ -9,7 +9,6 @@ use Rattle.bcs_decode_spec.specs.declared.stop.Stop.{Stop}
 use Rattle.bcs_registry_formats.specs.Container.{Entries}
 use Rattle.bcs_registry_formats.specs.Shape.{Shape}
 use Rattle.bcs_registry_formats.specs.View.{shape_of}
-use Rattle.bcs_io.specs.Taking as sink
 use Rattle.bcs_tool_answers.specs.Answers.{Answers, IsAsked, count_line, scan_stopped, scanned, stop_line}
 use Rattle.bcs_tool_answers.specs.Input.{Gives}
 use Rattle.bcs_tool_answers.specs.Judging.{Asks, is_scan, is_unlimited}

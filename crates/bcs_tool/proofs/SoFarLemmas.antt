@@ -9,7 +9,6 @@ use Rattle.bcs_io_lines.specs.Held.{Held}
 use Rattle.bcs_io_lines.specs.declared.next_fault.NextFault.{NextFault}
 use Rattle.bcs_io_lines.specs.declared.next_fault.NextFault.TheVariants as next_fault
 use Rattle.bcs_tool_answers.specs.Answers.{Answers}
-use Rattle.bcs_tool_answers.specs.Judging.{ReadsInput}
 use Rattle.bcs_tool_answers.specs.LineAnswers.{AnswersAll, none}
 use Rattle.bcs_tool_answers.proofs.LineAnswerLemmas.{answers_snoc, as_many}
 use Rattle.bcs_tool_files.specs.Files.{size_limit}

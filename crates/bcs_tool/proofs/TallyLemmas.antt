@@ -1,7 +1,7 @@
 -- Counts of statuses, with one more of them.
-use Rattle.std.proofs.Common.{◌≡◌, ◌≤◌, ◌+◌, ◌++◌, ◌∙◌, ◌==◌, ℕ, suc, Bool, true, false, List, [], ◌∷◌, arith, if◌then◌else◌, length, length-append, max, rules}
+use Rattle.std.proofs.Common.{◌≡◌, ◌≤◌, ◌+◌, ◌++◌, ◌∙◌, ◌==◌, ℕ, suc, Bool, true, false, List, [], ◌∷◌, arith, if◌then◌else◌, length-append, max}
 use mir.Val.{bool_byte}
-use Rattle.bcs_tool_answers.specs.LineAnswers.{count_of, greatest}
+use Rattle.bcs_tool_answers.specs.LineAnswers.{count_of}
 use Rattle.bcs_tool_answers.proofs.LineAnswerLemmas.{count_of-snoc, count_of_within, greatest-snoc}
 use Rattle.bcs_tool.specs.Lines.{IsTally}
 use Rattle.bcs_tool.specs.declared.tally.Tally.{Tally}

@@ -95,7 +95,7 @@ fn end_pairs<K: ByteSink>(
     }
 }
 
-// Where a comparison is broken off that has read a line of both files.
+// Where a comparison is broken off whose files are not at fault.
 fn broken_off(fault: RunFault, answered: u64) -> PairInterruption
     ensures { result ≡ record { side = Side.Second; interruption = record { fault = fault; answered = answered } } }
 {

@@ -1,4 +1,4 @@
-use Rattle.std.proofs.Common.{Err, Result, inl, refl, subst}
+use Rattle.std.proofs.Common.{Result, inl, refl, subst}
 use Rattle.bcs_tool_answers.specs.Preparing.{IsPrepared}
 use Rattle.bcs_tool_answers.specs.declared.preparing.Prepared.{Prepared}
 use Rattle.bcs_tool_files.specs.declared.taking.TakeFault.TheVariants.{OutOfMemory}
