@@ -30,7 +30,7 @@ const UNEQUAL: Files = ["7\n8\n", "7\n"];
 // From which call on the first file fails, the second, and the output, which takes an answer a call.
 type Failing = [Option<u64>; 3];
 
-const RUNS: [(Files, Failing, &str, Comparison); 17] = [
+const RUNS: [(Files, Failing, &str, Comparison); 21] = [
     (THREE, [None, None, None], THREE_ANSWERS, Done(2)),
     (
         THREE,
@@ -82,6 +82,30 @@ const RUNS: [(Files, Failing, &str, Comparison); 17] = [
         Broken(Side::Second, "fault: read", 3),
     ),
     (THREE, [None, Some(5), None], THREE_ANSWERS, Done(2)),
+    (
+        THREE,
+        [Some(1), Some(1), None],
+        "",
+        Broken(Side::First, "fault: read", 0),
+    ),
+    (
+        THREE,
+        [Some(3), Some(3), None],
+        FIRST_TWO,
+        Broken(Side::First, "fault: read", 2),
+    ),
+    (
+        THREE,
+        [Some(5), Some(4), None],
+        THREE_ANSWERS,
+        Broken(Side::First, "fault: read", 3),
+    ),
+    (
+        THREE,
+        [Some(4), Some(2), None],
+        "equal\n",
+        Broken(Side::Second, "fault: read", 1),
+    ),
     (
         THREE,
         [None, None, Some(1)],
