@@ -1,5 +1,5 @@
 -- What one step adds after another, and what the steps of the encoder append.
-use Rattle.std.proofs.Common.{◌≡◌, ◌∙◌, ℕ, ℤ, suc, ◌+◌, List, [], ◌++◌, length, nat_le, Bool, true, false, if◌then◌else◌, Result, Ok, Err, refl, ap, sym, append_assoc, append-nil, arith}
+use Rattle.std.proofs.Common.{◌≡◌, ◌∙◌, ℕ, ℤ, suc, ◌+◌, List, [], ◌++◌, length, nat_le, Bool, true, false, if◌then◌else◌, Ok, Err, refl, ap, sym, append_assoc, append-nil, arith}
 use Rattle.std.specs.Int.{Width}
 use Rattle.bcs_num.specs.Le.{holds_unsigned, holds_signed, le, le_signed}
 use Rattle.bcs_num.specs.Uleb.{uleb}

@@ -1,12 +1,11 @@
 -- Rows of bytes: what they are as trees, and how many nodes and bytes these have.
-use Rattle.std.proofs.Common.{◌≡◌, ◌∙◌, ℕ, suc, ◌+◌, ◌≤◌, ◌<◌, max, List, [], ◌∷◌, ◌++◌, length, Bool, true, refl, ap, ap₂, sym, subst, arith}
+use Rattle.std.proofs.Common.{◌≡◌, ℕ, suc, List, [], ◌∷◌, ◌++◌, length, true, refl, ap₂, arith}
 use Rattle.std.specs.Int.{w8}
 use Rattle.hex.specs.Hex.{IsBytes}
-use Rattle.bcs_num.specs.Le.{le}
 use Rattle.bcs_registry_formats.specs.Container.{Entries}
 use Rattle.bcs_registry_formats.specs.Shape as shape
 use Rattle.bcs_registry_formats.specs.Shape.{Shape}
-use Rattle.bcs_value_tree.specs.Tree.{Trees, trees_depth, trees_nodes}
+use Rattle.bcs_value_tree.specs.Tree.{trees_depth, trees_nodes}
 use Rattle.bcs_encode_spec.specs.Canonical.{AllCanonical}
 use Rattle.bcs_encode_spec.specs.Lengths.{all_hold}
 use Rattle.bcs_encode_spec.specs.Plain.{plain_items}

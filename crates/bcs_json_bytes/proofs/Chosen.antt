@@ -1,5 +1,5 @@
 -- A variant that was found by its name.
-use Rattle.std.proofs.Common.{◌≡◌, ◌∙◌, ℕ, suc, ◌+◌, ◌≤◌, List, [], ◌++◌, map, Some, true, refl, ap, sym, subst, append-nil, arith}
+use Rattle.std.proofs.Common.{◌≡◌, ◌∙◌, ℕ, suc, List, ◌++◌, map, Some, true, refl, ap, sym, subst, append-nil, arith}
 use Rattle.std.specs.Option.{option_map_or}
 use Rattle.serde_json.specs.Data.{Data, string, object, no_members, member}
 use Rattle.bcs_num.specs.Uleb.{uleb}
@@ -13,7 +13,7 @@ use Rattle.bcs_value_tree.specs.Tree.{nodes}
 use Rattle.bcs_encode_spec.specs.Canonical.{IsCanonical}
 use Rattle.bcs_encode_spec.specs.Lengths.{length_limit, lengths_hold}
 use Rattle.bcs_encode_spec.specs.Plain.{plain}
-use Rattle.bcs_json_spec.specs.JsonContent.{JsonContent, of, fields, one_of, nothing, json_content, json_content_at, payload_content, unnamed}
+use Rattle.bcs_json_spec.specs.JsonContent.{fields, one_of, nothing, json_content, json_content_at, payload_content, unnamed}
 use Rattle.bcs_json_spec.specs.Look.{IfWordOrOne, IfThere}
 use Rattle.bcs_json_spec.specs.Spells.{Spells, IsWordOf}
 use Rattle.bcs_json_spec.proofs.DistinctNames.{has_names, well_formed_names, payload_names_differ}

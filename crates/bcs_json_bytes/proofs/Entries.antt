@@ -1,5 +1,5 @@
 -- The entries of a map, whose keys' bytes rise.
-use Rattle.std.proofs.Common.{◌≡◌, ◌∙◌, ℕ, ◌+◌, ◌≤◌, max, List, [], ◌∷◌, ◌++◌, length, Option, Some, None, option_map, Bool, true, refl, ap, ap₂, sym, subst, append_assoc, append-nil, length-append, arith}
+use Rattle.std.proofs.Common.{◌≡◌, ◌∙◌, ℕ, ◌+◌, List, [], ◌++◌, length, Option, Some, None, true, refl, ap, ap₂, sym, subst, append_assoc, append-nil, length-append, arith}
 use Rattle.std.proofs.Math.Nat.{max-le}
 use Rattle.std.proofs.lemmas.Bool.{and_from}
 use Rattle.serde_json.specs.Data.{Data, array, Items, no_items, item}
@@ -14,7 +14,7 @@ use Rattle.bcs_json_spec.specs.JsonContent as content
 use Rattle.bcs_json_spec.specs.Look.{IfTwo}
 use Rattle.bcs_json_spec.specs.Spells.{Spells}
 use Rattle.bcs_json_bytes.proofs.Adding.{adds_then, adds_nothing}
-use Rattle.bcs_json_bytes.specs.Pushed.{Adds, IsPushed, EntriesPushed, RisesAfter, is_above, key_bytes}
+use Rattle.bcs_json_bytes.specs.Pushed.{IsPushed, EntriesPushed, RisesAfter, is_above, key_bytes}
 use Rattle.bcs_json_bytes.specs.declared.output.Output.{Output}
 use Rattle.bcs_json_bytes.specs.declared.rows.KeyPlace.{KeyPlace}
 

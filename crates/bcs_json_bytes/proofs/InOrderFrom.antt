@@ -3,7 +3,7 @@ use Rattle.std.proofs.Common.{◌≡◌, ◌∙◌, ℕ, ◌≤◌, List, [], �
 use Rattle.serde_json.specs.Data.{Data}
 use Rattle.bcs_registry_formats.specs.Container.{Entries}
 use Rattle.bcs_registry_formats.specs.Shape.{Shape}
-use Rattle.bcs_value_tree.specs.Tree.{depth, nodes}
+use Rattle.bcs_value_tree.specs.Tree.{depth}
 use Rattle.bcs_value_spec.specs.Limits.{Bounds}
 use Rattle.bcs_encode_spec.specs.Plain.{plain}
 use Rattle.bcs_json_spec.specs.JsonContent.{of, unnamed}

@@ -1,19 +1,19 @@
 -- Values with parts, from what was pushed of the parts.
-use Rattle.std.proofs.Common.{◌≡◌, ◌∙◌, ℕ, suc, ◌+◌, ◌≤◌, List, [], ◌∷◌, ◌++◌, codes, length, map, nat_le, Bool, true, ◌&&◌, refl, ap, sym, subst, arith}
+use Rattle.std.proofs.Common.{◌≡◌, ◌∙◌, ℕ, suc, List, [], ◌∷◌, codes, length, nat_le, true, refl, ap, sym, subst, arith}
 use Rattle.std.proofs.lemmas.Bool.{and_from}
 use Rattle.hex.proofs.HexLemmas.{decode_of-ok}
 use Rattle.serde_json.specs.Data.{Data, null, string, array, object, Items, no_items, item, Members, no_members, member}
 use Rattle.bcs_num.specs.Uleb.{uleb}
-use Rattle.bcs_registry_formats.specs.Container.{Entries, Field, field_shapes, content_at}
+use Rattle.bcs_registry_formats.specs.Container.{Entries, Field, field_shapes}
 use Rattle.bcs_registry_formats.specs.Shape as shape
 use Rattle.bcs_registry_formats.specs.Shape.{Shape, Shapes, no_shapes, shape}
 use Rattle.bcs_value_tree.specs.Tree as tree
 use Rattle.bcs_value_tree.specs.Tree.{Tree, Trees, no_trees, tree, Pairs, no_pairs, pair, count, pair_count, depth, nodes, trees_nodes, pairs_nodes}
 use Rattle.bcs_encode_spec.specs.Canonical.{IsCanonical, AllCanonical}
-use Rattle.bcs_encode_spec.specs.Lengths.{length_limit, lengths_hold, all_hold, pairs_hold}
+use Rattle.bcs_encode_spec.specs.Lengths.{length_limit, lengths_hold, all_hold}
 use Rattle.bcs_encode_spec.specs.Plain.{plain, plain_items, plain_each, plain_pairs}
 use Rattle.bcs_json_spec.specs.Bytes.{IsHexOf, ByteTextSpells, byte_trees, is_byte}
-use Rattle.bcs_json_spec.specs.JsonContent.{JsonContent, of, fields, json_content_at, unnamed}
+use Rattle.bcs_json_spec.specs.JsonContent.{of, fields, json_content_at, unnamed}
 use Rattle.bcs_json_spec.specs.Look.{IsNull, IfArray, IfStringOrArray, IfObject, IfOne, item_count}
 use Rattle.bcs_json_spec.specs.Spells.{Spells, AllSpell, EachSpells, PairsSpell, FieldsSpell}
 use Rattle.bcs_json_spec.proofs.Fitting.{unnamed_at}

@@ -1,5 +1,5 @@
 -- Values that have no parts.
-use Rattle.std.proofs.Common.{◌≡◌, ◌∙◌, ℕ, ℤ, pos, ◌+◌, List, [], ◌∷◌, ◌++◌, length, nat_le, Bool, true, String, Global, string_bytes, refl, sym, subst, arith, rules}
+use Rattle.std.proofs.Common.{◌≡◌, ℕ, ℤ, pos, List, [], ◌∷◌, ◌++◌, length, nat_le, Bool, true, String, Global, string_bytes, refl, sym, subst, arith, rules}
 use Rattle.std.specs.Int.{Width}
 use Rattle.std.specs.Str.{is_utf8}
 use Rattle.std.proofs.lemmas.Str.{IsUtf8-string_bytes, is_utf8-from_IsUtf8}

@@ -1,11 +1,11 @@
-use Rattle.std.proofs.Common.{◌≡◌, ◌∙◌, ℕ, ◌+◌, ◌≤◌, List, [], ◌∷◌, length, map, drop, Some, None, string_bytes, refl, ap, sym, subst, arith, rules}
+use Rattle.std.proofs.Common.{◌≡◌, ◌∙◌, ◌+◌, ◌≤◌, [], ◌∷◌, length, map, drop, Some, None, string_bytes, ap, sym, subst, arith, rules}
 use Rattle.std.proofs.lemmas.List.{drop_more, drop_all}
 use Rattle.std.proofs.lemmas.Result.{on_ok_weaker}
 use Rattle.serde_json.specs.Data.{object}
 use Rattle.serde_json.specs.Find.{get_member}
 use Rattle.serde_json.specs.View.{view, items_view, members_view}
 use Rattle.serde_json.proofs.Views.{view-Array, view-Object}
-use Rattle.bcs_registry_formats.specs.Container.{Choice, of, enumeration, field_shapes, payload_shape, choice_called}
+use Rattle.bcs_registry_formats.specs.Container.{Choice, of, field_shapes, payload_shape, choice_called}
 use Rattle.bcs_registry_formats.specs.View.{shape_of, formats_shapes, field_of, payload_of, choice_of}
 use Rattle.bcs_registry_formats.specs.WellFormed.{are_distinct, levels, shapes_levels}
 use Rattle.bcs_encode_spec.specs.Plain.{plain}
@@ -16,7 +16,7 @@ use Rattle.bcs_json_reader_steps.proofs.OtherCounts.{count_items}
 use Rattle.bcs_json_reader_steps.proofs.Texts.{view_string}
 use Rattle.bcs_json_reader.proofs.Formats.{levels_here, field_levels_here}
 use Rattle.bcs_json_reader.proofs.Names.{container_found, newtype_levels, tuple_levels, struct_levels, variant_levels}
-use Rattle.bcs_json_bytes.specs.Pushed.{Adds, IsPushed, AllPushed, EachPushed, EntriesPushed, FieldsPushed}
+use Rattle.bcs_json_bytes.specs.Pushed.{Adds, AllPushed, EachPushed, EntriesPushed, FieldsPushed}
 use Rattle.bcs_json_bytes.specs.declared.output.Output.{Output}
 use Rattle.bcs_json_bytes.specs.declared.rows.KeyPlace.{KeyPlace}
 use Rattle.bcs_json_bytes.proofs.Adding.{adds_nodes, adds_bytes, length_came, was_written}

@@ -1,4 +1,4 @@
-use Rattle.std.proofs.Common.{◌≡◌, ℕ, ◌+◌, ◌*◌, max, List, Option, None, map, drop}
+use Rattle.std.proofs.Common.{ℕ, ◌+◌, ◌*◌, max, List, Option, None, map, drop}
 use Rattle.serde_json.specs.Data.{Members}
 use Rattle.serde_json.specs.View.{items_view, members_view}
 use Rattle.bcs_registry_formats.specs.Container.{field_shapes, payload_shape}

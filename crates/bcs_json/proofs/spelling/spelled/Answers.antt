@@ -1,4 +1,4 @@
-use Rattle.std.proofs.Common.{Ok, Err, subst, rules}
+use Rattle.std.proofs.Common.{Ok, Err, subst}
 use Rattle.std.proofs.lemmas.Result.{err_from_is_err_and}
 use Rattle.serde_json.specs.View.{view}
 use Rattle.bcs_registry_formats.specs.View.{shape_of}

@@ -1,4 +1,3 @@
-use Rattle.std.proofs.Common.{◌≡◌, ◌∙◌, List, ◌++◌, ap, sym, subst, arith}
 use Rattle.serde_json.specs.View.{view}
 use Rattle.bcs_registry_formats.specs.View.{shape_of}
 use Rattle.bcs_json_bytes.proofs.InOrderFrom.{in_order_from}

@@ -1,4 +1,4 @@
-use Rattle.std.proofs.Common.{◌≡◌, ◌∙◌, List, ap, sym, subst, string_bytes}
+use Rattle.std.proofs.Common.{◌∙◌, ap, sym, subst, string_bytes}
 use Rattle.serde_json.specs.View.{view}
 use Rattle.bcs_encode_steps.specs.Writing.{bytes_written}
 use Rattle.bcs_json_spec.specs.Bytes.{IsHexOf}

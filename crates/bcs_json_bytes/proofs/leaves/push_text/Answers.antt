@@ -1,4 +1,4 @@
-use Rattle.std.proofs.Common.{◌≡◌, ◌∙◌, List, ap, sym, string_bytes}
+use Rattle.std.proofs.Common.{◌∙◌, ap, sym, string_bytes}
 use Rattle.serde_json.specs.View.{view}
 use Rattle.bcs_encode_steps.specs.Writing.{bytes_written}
 use Rattle.bcs_json_reader_steps.proofs.Texts.{view_string}
