@@ -72,4 +72,5 @@ def main():
         print(f"| {command}, {lines} lines | {source.stat().st_size / 1e6:.0f} | " + " | ".join(cells) + " |", flush=True)
 
 
-main()
+if __name__ == "__main__":
+    main()
