@@ -1,0 +1,71 @@
+-- What a fault of a library comes to.
+use Rattle.std.proofs.Common.{◌≡◌, ◌≢◌, ◌⊎◌, ℕ, List, inl, inr, refl}
+use Rattle.bcs_registry_formats.specs.declared.fault.RegistryFault.{RegistryFault}
+use Rattle.bcs_registry_formats.specs.declared.fault.RegistryFault.TheVariants as registry
+use Rattle.bcs_registry_formats.specs.Container.{Entries}
+use Rattle.bcs_registry_formats.specs.Shape.{Shape}
+use Rattle.bcs_value_spec.specs.Limits.{Bounds}
+use Rattle.bcs_value_tree.specs.Tree.{Tree}
+use Rattle.bcs_json_spec.specs.Texts.{Denotes, RefusesText}
+use Rattle.bcs_json_spec.specs.declared.json_fault.JsonFault.{JsonFault}
+use Rattle.bcs_json_spec.specs.declared.json_fault.JsonFault.TheVariants as json
+use Rattle.bcs_c.specs.Answers.{plain, refusal}
+use Rattle.bcs_c.specs.Compared.{AnswersTexts, RefusesOne}
+use Rattle.bcs_c.specs.Compared as compared
+use Rattle.bcs_c.specs.Denoted.{AnswersText}
+use Rattle.bcs_c.specs.Denoted as denoted
+use Rattle.bcs_c.specs.Registries.{RefusesFor, has_fault, no_memory}
+use Rattle.bcs_c.specs.declared.answer.Answer.{Answer}
+use Rattle.bcs_c.specs.declared.fault.Fault.TheVariants.{Registry, Text}
+use Rattle.bcs_c.specs.declared.status.Status.{Status}
+use Rattle.bcs_c.specs.declared.status.Status.TheVariants.{Memory, Refused}
+
+-- memory ran out, or not
+registry_memory : (e : RegistryFault) → (e ≡ registry.OutOfMemory) ⊎ (e ≢ registry.OutOfMemory)
+registry_memory registry.OutOfMemory = inl refl
+registry_memory registry.NotJson = inr (λ h. cc)
+registry_memory registry.BadShape = inr (λ h. cc)
+registry_memory registry.BadNumber = inr (λ h. cc)
+registry_memory registry.TooNested = inr (λ h. cc)
+registry_memory registry.RepeatedName = inr (λ h. cc)
+registry_memory registry.UnknownName = inr (λ h. cc)
+
+module _ (IsLeast : RegistryFault → Type 0) (status : Status) (e : RegistryFault) (a : Answer) where
+  -- the answer to a fault of a registry's text, or of a format's
+  pub registry_refused : (e ≢ registry.OutOfMemory → IsLeast e) → (e ≡ registry.OutOfMemory → a ≡ plain Memory)
+      → (e ≢ registry.OutOfMemory → a ≡ refusal status (Registry e)) → RefusesFor IsLeast status a
+  registry_refused fault memory refused = elim (registry_memory e) [ inl h ↦ no_memory (memory h) | inr h ↦ has_fault e (fault h) (refused h) ]
+
+-- memory ran out, or not
+json_memory : (e : JsonFault) → (e ≡ json.OutOfMemory) ⊎ (e ≢ json.OutOfMemory)
+json_memory json.OutOfMemory = inl refl
+json_memory json.NotJson = inr (λ h. cc)
+json_memory json.TooNested = inr (λ h. cc)
+json_memory json.Unsupported = inr (λ h. cc)
+json_memory json.BadShape = inr (λ h. cc)
+json_memory json.BadNumber = inr (λ h. cc)
+json_memory json.BadHex = inr (λ h. cc)
+json_memory json.UnknownField = inr (λ h. cc)
+json_memory json.MissingField = inr (λ h. cc)
+json_memory json.UnknownVariant = inr (λ h. cc)
+json_memory json.TooDeep = inr (λ h. cc)
+json_memory json.TooManyNodes = inr (λ h. cc)
+json_memory json.TooLong = inr (λ h. cc)
+json_memory json.RepeatedKey = inr (λ h. cc)
+
+module _ (registry : Entries) (limits : Bounds) (s : Shape) where
+  -- the answer to a fault of a JSON text
+  pub text_refused : (P : List ℕ → Type 0) (text old new : List ℕ) (e : JsonFault) (a : Answer)
+      → (e ≢ json.OutOfMemory → RefusesText registry limits s text e) → ((t : Tree) → Denotes registry limits s text t → e ≡ json.OutOfMemory)
+      → (e ≡ json.OutOfMemory → a ≡ plain Memory) → (e ≢ json.OutOfMemory → a ≡ refusal Refused (Text e))
+      → AnswersText registry limits s P text old new a
+  text_refused P text old new e a fault denotes memory refused =
+      elim (json_memory e) [ inl h ↦ denoted.no_memory (memory h) | inr h ↦ denoted.refused e (fault h) (λ t k. h (denotes t k)) (refused h) ]
+
+  -- the answer to a fault of one of two
+  pub texts_refused : (first second : List ℕ) (e : JsonFault) (a : Answer)
+      → (e ≢ json.OutOfMemory → RefusesOne registry limits s first second e)
+      → (e ≡ json.OutOfMemory → a ≡ plain Memory) → (e ≢ json.OutOfMemory → a ≡ refusal Refused (Text e))
+      → AnswersTexts registry limits s first second a
+  texts_refused first second e a fault memory refused =
+      elim (json_memory e) [ inl h ↦ compared.no_memory (memory h) | inr h ↦ compared.refused e (fault h) (refused h) ]

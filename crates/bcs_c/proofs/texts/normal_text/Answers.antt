@@ -1,0 +1,19 @@
+use Rattle.std.proofs.Common.{List, ℕ, subst, string_bytes}
+use Rattle.bcs_registry_formats.specs.View.{shape_of}
+use Rattle.bcs_json_spec.specs.Headline.{Normalises}
+use Rattle.bcs_c.specs.Denoted.{handed}
+use Rattle.bcs_c.specs.Output.{Hands}
+use Rattle.bcs_c.proofs.Refusals.{text_refused}
+use Rattle.bcs_c.proofs.texts.normal_text.Goals as goal
+
+pub returns-in-Ok-clause-answers : goal.returns-in-Ok-clause-answers
+returns-in-Ok-clause-answers c =
+    handed (string_bytes c.in-Ok.normal) c.in-Ok.ensures.normal
+    (subst (λ (b : List ℕ). Hands b c.args.out.now c.hand.new.out c.hand.result) c.as_bytes.ensures.value c.hand.ensures.hands)
+
+pub returns-in-Err-clause-answers : goal.returns-in-Err-clause-answers
+returns-in-Err-clause-answers c =
+    let asked = c.args.asked.now in
+    let s = shape_of asked.format in
+    text_refused asked.registry asked.limits s (Normalises asked.registry asked.limits s c.args.text.now) c.args.text.now c.args.out.now c.args.out.now
+    c.in-Err.fault c.text_refusal.result c.in-Err.ensures.fault c.in-Err.ensures.memory c.text_refusal.ensures.memory c.text_refusal.ensures.refusal

@@ -1,0 +1,36 @@
+-- Answers, each with all that it says.
+use Rattle.std.specs.Prelude.{ℕ, Option, Some, None}
+use Rattle.bcs_decode_spec.specs.declared.reason.Reason.{Reason}
+use Rattle.bcs_decode_spec.specs.declared.stop.Stop as declared
+use Rattle.bcs_c.specs.declared.answer.Answer.{Answer}
+use Rattle.bcs_c.specs.declared.fault.Fault.{Fault}
+use Rattle.bcs_c.specs.declared.fault.Fault.TheVariants.{Stop}
+use Rattle.bcs_c.specs.declared.status.Status.{Status}
+use Rattle.bcs_c.specs.declared.status.Status.TheVariants.{Done, Refused}
+use Rattle.bcs_c.specs.Faults.{fault_number, reason_number}
+use Rattle.bcs_c.specs.Statuses.{status_number}
+
+-- the status alone
+abbrev pub plain : Status → Answer
+plain status = record { status = status_number status; fault = 0; place = 0; length = 0 }
+
+-- how many bytes there are
+abbrev pub sized : Status → ℕ → Answer
+sized status n = record { status = status_number status; fault = 0; place = 0; length = n }
+
+-- where a part stands, and how many bytes it has
+abbrev pub placed : ℕ → ℕ → Answer
+placed place n = record { status = status_number Done; fault = 0; place = place; length = n }
+
+-- something is refused
+abbrev pub refusal : Status → Fault → Answer
+refusal status fault = record { status = status_number status; fault = fault_number fault; place = 0; length = 0 }
+
+-- bytes stop being a value
+abbrev pub stop_at : Reason → ℕ → Answer
+stop_at reason place = record { status = status_number Refused; fault = fault_number (Stop reason); place = place; length = 0 }
+
+-- the answer, and where the bytes stop being a value, if they do
+abbrev pub with_stop : Option declared.Stop → Answer → Answer
+with_stop None a = a
+with_stop (Some x) a = record a { fault = reason_number x.reason; place = x.place }

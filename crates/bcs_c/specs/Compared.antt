@@ -1,0 +1,25 @@
+-- What is answered to two JSON texts.
+use Rattle.std.specs.Prelude.{◌≡◌, ◌⊎◌, ℕ, List, false, true}
+use Rattle.bcs_registry_formats.specs.Container.{Entries}
+use Rattle.bcs_registry_formats.specs.Shape.{Shape}
+use Rattle.bcs_value_spec.specs.Limits.{Bounds}
+use Rattle.bcs_value_tree.specs.Tree.{Tree}
+use Rattle.bcs_json_spec.specs.Headline.{Compares}
+use Rattle.bcs_json_spec.specs.Texts.{Denotes, RefusesText}
+use Rattle.bcs_json_spec.specs.declared.json_fault.JsonFault.{JsonFault}
+use Rattle.bcs_c.specs.Answers.{plain, refusal}
+use Rattle.bcs_c.specs.declared.answer.Answer.{Answer}
+use Rattle.bcs_c.specs.declared.fault.Fault.TheVariants.{Text}
+use Rattle.bcs_c.specs.declared.status.Status.TheVariants.{Done, Memory, No, Refused}
+
+module _ (registry : Entries) (limits : Bounds) (s : Shape) (first second : List ℕ) where
+  -- the first text is refused for this fault; or it denotes a value, and the second is refused
+  abbrev pub RefusesOne : JsonFault → Type 0
+  RefusesOne e = RefusesText registry limits s first e ⊎ (((t : Tree) × Denotes registry limits s first t) × RefusesText registry limits s second e)
+
+  -- the texts denote equal values, or different ones; or one is refused; or memory ran out
+  pub data AnswersTexts (a : Answer) : Type 0 where
+    equal : Compares registry limits s first second true → a ≡ plain Done → AnswersTexts a
+    different : Compares registry limits s first second false → a ≡ plain No → AnswersTexts a
+    refused : (e : JsonFault) → RefusesOne e → a ≡ refusal Refused (Text e) → AnswersTexts a
+    no_memory : a ≡ plain Memory → AnswersTexts a

@@ -1,0 +1,29 @@
+-- What is answered to bytes that are to be explained.
+use Rattle.std.specs.Prelude.{◌≡◌, ◌==◌, ℕ, List, Option, if◌then◌else◌}
+use Rattle.bcs_registry_formats.specs.Container.{Entries}
+use Rattle.bcs_registry_formats.specs.Shape.{Shape}
+use Rattle.bcs_value_spec.specs.Limits.{Bounds}
+use Rattle.bcs_decode_spec.specs.declared.stop.Stop.{Stop}
+use Rattle.bcs_explain_columns.specs.declared.style.Form.{Form}
+use Rattle.bcs_explain_columns.specs.declared.style.Form.TheVariants.{Json, Paths, Tree, Ways}
+use Rattle.bcs_explain_columns.specs.declared.style.Paint.TheVariants.{Plain}
+use Rattle.bcs_explain_columns.specs.declared.style.Style.{Style}
+use Rattle.bcs_explain_table.specs.Explains.{Explains}
+use Rattle.bcs_c.specs.Answers.{plain, with_stop}
+use Rattle.bcs_c.specs.Output.{Hands}
+use Rattle.bcs_c.specs.declared.answer.Answer.{Answer}
+use Rattle.bcs_c.specs.declared.status.Status.TheVariants.{Memory}
+
+-- the form of this number
+abbrev pub form_numbered : ℕ → Form
+form_numbered n = if n == 1 then Paths else (if n == 2 then Tree else (if n == 3 then Json else Ways))
+
+-- in that form, without colours
+abbrev pub style_numbered : ℕ → Style
+style_numbered n = record { form = form_numbered n; paint = Plain }
+
+-- what is printed of the bytes is handed out, and where they stop is told; or memory ran out
+pub data AnswersExplained (registry : Entries) (limits : Bounds) (s : Shape) (form : ℕ) (b old new : List ℕ) (a : Answer) : Type 0 where
+  handed : (text : List ℕ) (x : Option Stop) (plain_answer : Answer) → Explains (style_numbered form) registry limits s b text x
+      → Hands text old new plain_answer → a ≡ with_stop x plain_answer → AnswersExplained registry limits s form b old new a
+  no_memory : a ≡ plain Memory → AnswersExplained registry limits s form b old new a

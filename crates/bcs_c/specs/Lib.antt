@@ -1,0 +1,13 @@
+pub mod Statuses
+pub mod Faults
+pub mod Answers
+pub mod Registries
+pub mod Asking
+pub mod Output
+pub mod Denoted
+pub mod Compared
+pub mod Shown
+pub mod Scanned
+pub mod Parts
+pub mod Explained
+pub mod Named

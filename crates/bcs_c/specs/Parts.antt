@@ -1,0 +1,48 @@
+-- What is answered to a path into the bytes of a value.
+use Rattle.std.specs.Prelude.{◌≡◌, ℕ, IsUtf8, List, Option, Some, None, drop, length, take}
+use Rattle.bcs_registry_formats.specs.Container.{Entries, of}
+use Rattle.bcs_registry_formats.specs.Shape.{Shape}
+use Rattle.bcs_value_spec.specs.Limits.{Bounds}
+use Rattle.bcs_value_tree.specs.Tree.{Tree}
+use Rattle.bcs_encode_spec.specs.Plain.{plain as bytes_of}
+use Rattle.bcs_decode_spec.specs.Accepting.{Accepts}
+use Rattle.bcs_decode_spec.specs.Stopping.{Stops}
+use Rattle.bcs_decode_spec.specs.declared.reason.Reason.{Reason}
+use Rattle.bcs_decode_parts.specs.Parts.{Part, Step, part_at}
+use Rattle.bcs_tool_path.specs.Path.{SpellsNoPath, SpellsPath}
+use Rattle.bcs_c.specs.Answers.{placed, plain, refusal, stop_at}
+use Rattle.bcs_c.specs.declared.answer.Answer.{Answer}
+use Rattle.bcs_c.specs.declared.fault.Fault.TheVariants.{BadPath}
+use Rattle.bcs_c.specs.declared.status.Status.TheVariants.{Memory, No, Path}
+
+abbrev pub Steps : Type 0
+Steps = List Step
+
+-- the path is a text that spells these steps
+abbrev pub IsPath : List ℕ → Steps → Type 0
+IsPath path steps = IsUtf8 path × SpellsPath path steps
+
+-- the path is no text, or spells no steps; or memory ran out
+pub data RefusesPath (path : List ℕ) (a : Answer) : Type 0 where
+  no_text : (IsUtf8 path → ⊥) → a ≡ refusal Path BadPath → RefusesPath path a
+  no_path : SpellsNoPath path → a ≡ refusal Path BadPath → RefusesPath path a
+  no_memory : a ≡ plain Memory → RefusesPath path a
+
+-- the answer tells where the part stands, and how many bytes it has, which are the input's from there on; or there is no part
+abbrev pub Finds : Entries → List ℕ → Option Part → Answer → Type 0
+Finds registry b (Some x) a =
+    (a ≡ placed x.place (length (bytes_of registry x.value x.content)))
+    × (bytes_of registry x.value x.content ≡ take (length (bytes_of registry x.value x.content)) (drop x.place b))
+Finds registry b None a = a ≡ plain No
+
+module _ (registry : Entries) (limits : Bounds) (s : Shape) (b : List ℕ) where
+  -- a value stands at the front, and the part of it is found to which the steps lead; or the bytes stop being a value
+  pub data AnswersSteps (steps : Steps) (a : Answer) : Type 0 where
+    found : (n : ℕ) (c : Tree) → Accepts registry limits s b n c → Finds registry b (part_at registry steps (of s) c) a → AnswersSteps steps a
+    stopped : (e : Reason) (o : ℕ) → Stops registry limits s b e o → a ≡ stop_at e o → AnswersSteps steps a
+
+  -- the path is refused; or this is answered to the steps that it spells; or memory ran out
+  pub data AnswersPart (path : List ℕ) (a : Answer) : Type 0 where
+    refused : RefusesPath path a → AnswersPart path a
+    stepped : (steps : Steps) → IsPath path steps → AnswersSteps steps a → AnswersPart path a
+    out_of_memory : a ≡ plain Memory → AnswersPart path a

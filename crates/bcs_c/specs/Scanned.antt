@@ -1,0 +1,17 @@
+-- What is answered to bytes that are judged.
+use Rattle.std.specs.Prelude.{◌≡◌, ℕ, List}
+use Rattle.bcs_registry_formats.specs.Container.{Entries}
+use Rattle.bcs_registry_formats.specs.Shape.{Shape}
+use Rattle.bcs_value_spec.specs.Limits.{Bounds}
+use Rattle.bcs_value_tree.specs.Tree.{Tree}
+use Rattle.bcs_decode_spec.specs.Accepting.{Accepts}
+use Rattle.bcs_decode_spec.specs.Stopping.{Stops}
+use Rattle.bcs_decode_spec.specs.declared.reason.Reason.{Reason}
+use Rattle.bcs_c.specs.Answers.{sized, stop_at}
+use Rattle.bcs_c.specs.declared.answer.Answer.{Answer}
+use Rattle.bcs_c.specs.declared.status.Status.TheVariants.{Done}
+
+-- so many bytes at the front are a value's; or the bytes stop being one
+pub data AnswersScan (registry : Entries) (limits : Bounds) (s : Shape) (b : List ℕ) (a : Answer) : Type 0 where
+  found : (n : ℕ) (c : Tree) → Accepts registry limits s b n c → a ≡ sized Done n → AnswersScan registry limits s b a
+  stopped : (e : Reason) (o : ℕ) → Stops registry limits s b e o → a ≡ stop_at e o → AnswersScan registry limits s b a

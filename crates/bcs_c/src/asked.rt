@@ -1,0 +1,15 @@
+//! What was read of what a call is asked for.
+ghost use Rattle.bcs_registry_formats.specs.View.{shape_of};
+ghost use Rattle.bcs_registry_formats.specs.WellFormed.{Admits};
+
+use bcs_registry::{Format, Registry};
+use bcs_value::Limits;
+
+/// A registry, a format that it admits, and the limits.
+#[derive(Drop)]
+pub(crate) struct Asked {
+    pub registry: Registry,
+    pub format: Format,
+    pub limits: Limits,
+    ghost admitted: { Admits registry (shape_of format) },
+}

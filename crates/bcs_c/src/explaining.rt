@@ -1,0 +1,72 @@
+//! Bytes piece by piece, for C.
+ghost use Rattle.std.specs.Prelude.{◌≡◌, ◌≢◌};
+ghost use Rattle.bcs_c.specs.Asking.{Answers, On};
+ghost use Rattle.bcs_c.specs.Explained.{AnswersExplained, form_numbered};
+
+use crate::answer::Answer;
+use crate::ask::{Ask, read_ask};
+use crate::asked::Asked;
+use crate::output::hand;
+use crate::status::Status;
+use bcs_explain_columns::style::{Form, Paint, Style};
+use bcs_explain_table::explain_text;
+use std::alloc::Global;
+
+/// The input piece by piece, at the front of the output. Where it stops being a value, the answer tells so too.
+#[unsafe(no_mangle)]
+pub extern "C" fn bcs_explain(
+    alloc: Global,
+    ask: &Ask,
+    form: u32,
+    bytes: &[u8],
+    out: &mut [u8],
+) -> Answer
+    ensures answers { Answers ask.now result (λ r l s. AnswersExplained r l s form bytes.now out.old out.new result) }
+    ensures untouched { result.status ≢ 0 → out.new ≡ out.old }
+{
+    let asked = match read_ask(alloc, ask) {
+        Ok(asked) => asked,
+        Err(answer) => return answer,
+    };
+    explanation(alloc, &asked, form, bytes, out)
+}
+
+/// The input piece by piece, at the front of the output.
+pub(crate) fn explanation(
+    alloc: Global,
+    asked: &Asked,
+    form: u32,
+    bytes: &[u8],
+    out: &mut [u8],
+) -> Answer
+    ensures answers { On asked.now (λ r l s. AnswersExplained r l s form bytes.now out.old out.new result) }
+    ensures untouched { result.status ≢ 0 → out.new ≡ out.old }
+{
+    let style = Style {
+        form: numbered_form(form),
+        paint: Paint::Plain,
+    };
+    match explain_text(
+        alloc,
+        &asked.registry,
+        &asked.format,
+        &asked.limits,
+        style,
+        bytes,
+    ) {
+        Ok(explained) => hand(&explained.text, out).with_stop(explained.stop),
+        Err(_) => Answer::plain(Status::Memory),
+    }
+}
+
+/// The form of this number.
+fn numbered_form(form: u32) -> Form
+    ensures { result ≡ form_numbered form }
+{
+    match form {
+        1 => Form::Paths,
+        2 => Form::Tree,
+        3 => Form::Json,
+        _ => Form::Ways,
+    }
+}

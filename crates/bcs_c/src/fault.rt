@@ -1,0 +1,121 @@
+//! Why something is refused.
+ghost use Rattle.std.specs.Prelude.{◌≡◌};
+ghost use Rattle.bcs_c.specs.Faults.{fault_name, fault_number, growth_number, reason_number, registry_number, text_number};
+
+use bcs_decode_spec::Reason;
+use bcs_json_spec::JsonFault;
+use bcs_registry_formats::{GrowthFault, RegistryFault};
+
+/// Why something is refused. C sees its number.
+#[derive(Clone, Copy)]
+pub(crate) enum Fault {
+    /// A text is no registry, or no format of one.
+    Registry(RegistryFault),
+    /// A registry doesn't grow to another.
+    Growth(GrowthFault),
+    /// A text denotes no value.
+    Text(JsonFault),
+    /// Bytes are no value.
+    Stop(Reason),
+    /// The text of bytes would nest more than 100 deep.
+    ShownTooNested,
+    /// A path spells no steps.
+    BadPath,
+}
+
+impl Fault {
+    /// The fault's number. Want of memory has none: it is a status.
+    pub(crate) fn number(self) -> u32
+        ensures { result ≡ fault_number self }
+    {
+        match self {
+            Fault::Registry(fault) => registry_number(fault),
+            Fault::Growth(fault) => growth_number(fault),
+            Fault::Text(fault) => text_number(fault),
+            Fault::Stop(reason) => reason_number(reason),
+            Fault::ShownTooNested => 501,
+            Fault::BadPath => 601,
+        }
+    }
+
+    /// The fault's name, as the program `bcs` prints it.
+    pub(crate) fn name(self) -> &'static str
+        ensures { result.now ≡ fault_name self }
+    {
+        match self {
+            Fault::Registry(fault) => fault.name(),
+            Fault::Growth(fault) => fault.name(),
+            Fault::Text(fault) => fault.name(),
+            Fault::Stop(reason) => reason.name(),
+            Fault::ShownTooNested => "TooNested",
+            Fault::BadPath => "BadPath",
+        }
+    }
+}
+
+fn registry_number(fault: RegistryFault) -> u32
+    ensures { result ≡ registry_number fault }
+{
+    match fault {
+        RegistryFault::NotJson => 101,
+        RegistryFault::BadShape => 102,
+        RegistryFault::BadNumber => 103,
+        RegistryFault::TooNested => 104,
+        RegistryFault::RepeatedName => 105,
+        RegistryFault::UnknownName => 106,
+        RegistryFault::OutOfMemory => 0,
+    }
+}
+
+fn growth_number(fault: GrowthFault) -> u32
+    ensures { result ≡ growth_number fault }
+{
+    match fault {
+        GrowthFault::Missing => 201,
+        GrowthFault::Changed => 202,
+        GrowthFault::VariantMissing => 203,
+        GrowthFault::VariantChanged => 204,
+    }
+}
+
+fn text_number(fault: JsonFault) -> u32
+    ensures { result ≡ text_number fault }
+{
+    match fault {
+        JsonFault::NotJson => 301,
+        JsonFault::TooNested => 302,
+        JsonFault::Unsupported => 303,
+        JsonFault::BadShape => 304,
+        JsonFault::BadNumber => 305,
+        JsonFault::BadHex => 306,
+        JsonFault::UnknownField => 307,
+        JsonFault::MissingField => 308,
+        JsonFault::UnknownVariant => 309,
+        JsonFault::TooDeep => 310,
+        JsonFault::TooManyNodes => 311,
+        JsonFault::TooLong => 312,
+        JsonFault::RepeatedKey => 313,
+        JsonFault::OutOfMemory => 0,
+    }
+}
+
+fn reason_number(reason: Reason) -> u32
+    ensures { result ≡ reason_number reason }
+{
+    match reason {
+        Reason::EndOfInput => 401,
+        Reason::BadBool => 402,
+        Reason::BadOption => 403,
+        Reason::LongForm => 404,
+        Reason::NumberTooLarge => 405,
+        Reason::LengthTooLarge => 406,
+        Reason::UnknownVariant => 407,
+        Reason::BadUtf8 => 408,
+        Reason::KeyOrder => 409,
+        Reason::KeyRepeated => 410,
+        Reason::TooDeep => 411,
+        Reason::TrailingBytes => 412,
+        Reason::TooManyNodes => 413,
+        Reason::Unsupported => 414,
+    }
+}

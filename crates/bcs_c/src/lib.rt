@@ -1,0 +1,18 @@
+//! The calls over JSON texts and bytes, for C: a static library.
+#![tactic(auto)]
+
+mod answer;
+mod ask;
+mod asked;
+mod checking;
+mod explaining;
+mod fault;
+mod naming;
+mod numbered;
+mod output;
+mod parts;
+mod registries;
+mod scanning;
+mod showing;
+mod status;
+mod texts;

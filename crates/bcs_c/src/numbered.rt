@@ -1,0 +1,112 @@
+//! Which fault a number is of.
+ghost use Rattle.std.specs.Prelude.{◌≡◌, IfNone, IfSome};
+ghost use Rattle.bcs_registry_formats.specs.declared.fault.RegistryFault.{RegistryFault};
+ghost use Rattle.bcs_registry_formats.specs.declared.growth_fault.GrowthFault.{GrowthFault};
+ghost use Rattle.bcs_decode_spec.specs.declared.reason.Reason.{Reason};
+ghost use Rattle.bcs_json_spec.specs.declared.json_fault.JsonFault.{JsonFault};
+ghost use Rattle.bcs_c.specs.Faults.{growth_number, reason_number, registry_number, text_number};
+ghost use Rattle.bcs_c.specs.Named.{IsNumbered};
+ghost use Rattle.bcs_c.specs.declared.fault.Fault.{Fault};
+ghost use Rattle.bcs_c.specs.declared.fault.Fault.TheVariants.{Growth, Registry, Stop, Text};
+
+use crate::fault::Fault;
+use bcs_decode_spec::Reason;
+use bcs_json_spec::JsonFault;
+use bcs_registry_formats::{GrowthFault, RegistryFault};
+
+/// The fault of this number. None exactly where no fault has it.
+pub(crate) fn fault_numbered(number: u32) -> Option<Fault>
+    ensures some { IfSome result (λ fault. IsNumbered fault number) }
+    ensures none { IfNone result ((fault : Fault) → IsNumbered fault number → ⊥) }
+{
+    if let Some(fault) = registry_fault(number) {
+        return Some(Fault::Registry(fault));
+    }
+    if let Some(fault) = growth_fault(number) {
+        return Some(Fault::Growth(fault));
+    }
+    if let Some(fault) = text_fault(number) {
+        return Some(Fault::Text(fault));
+    }
+    if let Some(reason) = stop_reason(number) {
+        return Some(Fault::Stop(reason));
+    }
+    match number {
+        501 => Some(Fault::ShownTooNested),
+        601 => Some(Fault::BadPath),
+        _ => None,
+    }
+}
+
+fn registry_fault(number: u32) -> Option<RegistryFault>
+    ensures some { IfSome result (λ e. IsNumbered (Registry e) number) }
+    ensures none { IfNone result ((e : RegistryFault) → IsNumbered (Registry e) number → ⊥) }
+{
+    match number {
+        101 => Some(RegistryFault::NotJson),
+        102 => Some(RegistryFault::BadShape),
+        103 => Some(RegistryFault::BadNumber),
+        104 => Some(RegistryFault::TooNested),
+        105 => Some(RegistryFault::RepeatedName),
+        106 => Some(RegistryFault::UnknownName),
+        _ => None,
+    }
+}
+
+fn growth_fault(number: u32) -> Option<GrowthFault>
+    ensures some { IfSome result (λ e. IsNumbered (Growth e) number) }
+    ensures none { IfNone result ((e : GrowthFault) → IsNumbered (Growth e) number → ⊥) }
+{
+    match number {
+        201 => Some(GrowthFault::Missing),
+        202 => Some(GrowthFault::Changed),
+        203 => Some(GrowthFault::VariantMissing),
+        204 => Some(GrowthFault::VariantChanged),
+        _ => None,
+    }
+}
+
+fn text_fault(number: u32) -> Option<JsonFault>
+    ensures some { IfSome result (λ e. IsNumbered (Text e) number) }
+    ensures none { IfNone result ((e : JsonFault) → IsNumbered (Text e) number → ⊥) }
+{
+    match number {
+        301 => Some(JsonFault::NotJson),
+        302 => Some(JsonFault::TooNested),
+        303 => Some(JsonFault::Unsupported),
+        304 => Some(JsonFault::BadShape),
+        305 => Some(JsonFault::BadNumber),
+        306 => Some(JsonFault::BadHex),
+        307 => Some(JsonFault::UnknownField),
+        308 => Some(JsonFault::MissingField),
+        309 => Some(JsonFault::UnknownVariant),
+        310 => Some(JsonFault::TooDeep),
+        311 => Some(JsonFault::TooManyNodes),
+        312 => Some(JsonFault::TooLong),
+        313 => Some(JsonFault::RepeatedKey),
+        _ => None,
+    }
+}
+
+fn stop_reason(number: u32) -> Option<Reason>
+    ensures some { IfSome result (λ e. IsNumbered (Stop e) number) }
+    ensures none { IfNone result ((e : Reason) → IsNumbered (Stop e) number → ⊥) }
+{
+    match number {
+        401 => Some(Reason::EndOfInput),
+        402 => Some(Reason::BadBool),
+        403 => Some(Reason::BadOption),
+        404 => Some(Reason::LongForm),
+        405 => Some(Reason::NumberTooLarge),
+        406 => Some(Reason::LengthTooLarge),
+        407 => Some(Reason::UnknownVariant),
+        408 => Some(Reason::BadUtf8),
+        409 => Some(Reason::KeyOrder),
+        410 => Some(Reason::KeyRepeated),
+        411 => Some(Reason::TooDeep),
+        412 => Some(Reason::TrailingBytes),
+        413 => Some(Reason::TooManyNodes),
+        414 => Some(Reason::Unsupported),
+        _ => None,
+    }
+}

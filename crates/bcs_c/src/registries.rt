@@ -1,0 +1,70 @@
+//! Registries, for C.
+ghost use Rattle.std.specs.Prelude.{◌≡◌, IfErr, IfOk};
+ghost use Rattle.bcs_registry_formats.specs.Container.{Entries};
+ghost use Rattle.bcs_registry_formats.specs.Grows.{Grows, IsFirstGrowthFault};
+ghost use Rattle.bcs_registry_formats.specs.View.{shape_of};
+ghost use Rattle.bcs_registry_formats.specs.declared.growth_fault.GrowthFault.{GrowthFault};
+ghost use Rattle.bcs_c.specs.Answers.{plain, refusal};
+ghost use Rattle.bcs_c.specs.Asking.{IsUnlessMemory};
+ghost use Rattle.bcs_c.specs.Registries.{AnswersGrowth, AnswersTwo, IsFormat, IsRegistry, RefusesFormat, RefusesRegistry};
+ghost use Rattle.bcs_c.specs.declared.fault.Fault.TheVariants.{Growth};
+ghost use Rattle.bcs_c.specs.declared.status.Status.TheVariants.{Done, Refused};
+
+use crate::answer::Answer;
+use crate::fault::Fault;
+use crate::status::Status;
+use bcs_registry::{Format, Registry};
+use std::alloc::Global;
+
+/// The registry that a text writes down, or its refusal with this status.
+pub(crate) fn read_registry(alloc: Global, text: &[u8], status: Status) -> Result<Registry, Answer>
+    ensures ok { IfOk result (λ r. IsRegistry text.now r) }
+    ensures err { IfErr result (λ a. RefusesRegistry text.now status a) }
+{
+    match Registry::read(alloc, text) {
+        Ok(registry) => Ok(registry),
+        Err(fault) => Err(Answer::registry_refusal(status, fault)),
+    }
+}
+
+/// The format of the registry that a text writes down, or its refusal.
+pub(crate) fn read_format(alloc: Global, registry: &Registry, text: &[u8]) -> Result<Format, Answer>
+    ensures ok { IfOk result (λ f. IsFormat registry.now text.now (shape_of f)) }
+    ensures err { IfErr result (λ a. RefusesFormat registry.now text.now a) }
+{
+    match registry.read_format(alloc, text) {
+        Ok(format) => Ok(format),
+        Err(fault) => Err(Answer::registry_refusal(Status::Format, fault)),
+    }
+}
+
+/// Whether the newer registry is the older one grown. The older one is read first.
+#[unsafe(no_mangle)]
+pub extern "C" fn bcs_grows(alloc: Global, older: &[u8], newer: &[u8]) -> Answer
+    ensures answers { AnswersTwo older.now newer.now result }
+    ensures grown { (r q : Entries) → IsRegistry older.now r → IsRegistry newer.now q → Grows r q → IsUnlessMemory result (plain Done) }
+    ensures broken { (r q : Entries) (e : GrowthFault) → IsRegistry older.now r → IsRegistry newer.now q → IsFirstGrowthFault r q e
+        → IsUnlessMemory result (refusal Refused (Growth e)) }
+{
+    let older = match read_registry(alloc, older, Status::Registry) {
+        Ok(registry) => registry,
+        Err(answer) => return answer,
+    };
+    let newer = match read_registry(alloc, newer, Status::Newer) {
+        Ok(registry) => registry,
+        Err(answer) => return answer,
+    };
+    growth(&older, &newer)
+}
+
+/// Whether the newer registry is the older one grown.
+pub(crate) fn growth(older: &Registry, newer: &Registry) -> Answer
+    ensures answers { AnswersGrowth older.now newer.now result }
+    ensures grown { Grows older.now newer.now → result ≡ plain Done }
+    ensures broken { (e : GrowthFault) → IsFirstGrowthFault older.now newer.now e → result ≡ refusal Refused (Growth e) }
+{
+    match older.grows(newer) {
+        Ok(()) => Answer::plain(Status::Done),
+        Err(fault) => Answer::refusal(Status::Refused, Fault::Growth(fault)),
+    }
+}

@@ -1,0 +1,39 @@
+//! Texts of bytes, for C.
+ghost use Rattle.std.specs.Prelude.{◌≡◌, ◌≢◌};
+ghost use Rattle.bcs_c.specs.Asking.{Answers, On};
+ghost use Rattle.bcs_c.specs.Shown.{AnswersBytes};
+
+use crate::answer::Answer;
+use crate::ask::{Ask, read_ask};
+use crate::asked::Asked;
+use crate::fault::Fault;
+use crate::output::hand;
+use crate::status::Status;
+use bcs_json::{FromFault, from_bcs};
+use std::alloc::Global;
+
+/// The text of the value whose bytes are the whole input, at the front of the output.
+#[unsafe(no_mangle)]
+pub extern "C" fn bcs_from_bcs(alloc: Global, ask: &Ask, bytes: &[u8], out: &mut [u8]) -> Answer
+    ensures answers { Answers ask.now result (λ r l s. AnswersBytes r l s bytes.now out.old out.new result) }
+    ensures untouched { result.status ≢ 0 → out.new ≡ out.old }
+{
+    let asked = match read_ask(alloc, ask) {
+        Ok(asked) => asked,
+        Err(answer) => return answer,
+    };
+    bytes_text(alloc, &asked, bytes, out)
+}
+
+/// The text of the value whose bytes are the whole input, at the front of the output.
+pub(crate) fn bytes_text(alloc: Global, asked: &Asked, bytes: &[u8], out: &mut [u8]) -> Answer
+    ensures answers { On asked.now (λ r l s. AnswersBytes r l s bytes.now out.old out.new result) }
+    ensures untouched { result.status ≢ 0 → out.new ≡ out.old }
+{
+    match from_bcs(alloc, &asked.registry, &asked.format, &asked.limits, bytes) {
+        Ok(text) => hand(text.as_bytes(), out),
+        Err(FromFault::Stop(stop)) => Answer::stopped(stop),
+        Err(FromFault::TooNested) => Answer::refusal(Status::Refused, Fault::ShownTooNested),
+        Err(FromFault::OutOfMemory) => Answer::plain(Status::Memory),
+    }
+}

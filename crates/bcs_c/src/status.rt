@@ -1,0 +1,48 @@
+//! How a call went.
+ghost use Rattle.std.specs.Prelude.{◌≡◌};
+ghost use Rattle.bcs_c.specs.Statuses.{status_number};
+
+/// How a call went. C sees its number.
+#[derive(Clone, Copy)]
+pub(crate) enum Status {
+    /// It is done, or the answer is yes.
+    Done,
+    /// The output is too short.
+    Short,
+    /// The registry is refused; of two, the older one.
+    Registry,
+    /// The format is refused.
+    Format,
+    /// The depth is above 500.
+    Limits,
+    /// The input is refused.
+    Refused,
+    /// Memory ran out.
+    Memory,
+    /// The answer is no.
+    No,
+    /// The path is none.
+    Path,
+    /// Of two registries the newer one is refused.
+    Newer,
+}
+
+impl Status {
+    /// The status's number.
+    pub(crate) fn number(self) -> u32
+        ensures { result ≡ status_number self }
+    {
+        match self {
+            Status::Done => 0,
+            Status::Short => 1,
+            Status::Registry => 2,
+            Status::Format => 3,
+            Status::Limits => 4,
+            Status::Refused => 5,
+            Status::Memory => 6,
+            Status::No => 7,
+            Status::Path => 8,
+            Status::Newer => 9,
+        }
+    }
+}

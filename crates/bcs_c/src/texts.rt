@@ -1,0 +1,92 @@
+//! JSON texts of values, for C.
+ghost use Rattle.std.specs.Prelude.{◌≡◌, ◌≢◌};
+ghost use Rattle.bcs_json_spec.specs.Headline.{HasBytes, Normalises};
+ghost use Rattle.bcs_c.specs.Asking.{Answers, On};
+ghost use Rattle.bcs_c.specs.Compared.{AnswersTexts};
+ghost use Rattle.bcs_c.specs.Denoted.{AnswersText};
+
+use crate::answer::Answer;
+use crate::ask::{Ask, read_ask};
+use crate::asked::Asked;
+use crate::output::hand;
+use crate::status::Status;
+use bcs_json::{compare, normalise, to_bcs};
+use std::alloc::Global;
+
+/// The bytes of the value that a JSON text denotes, at the front of the output.
+#[unsafe(no_mangle)]
+pub extern "C" fn bcs_to_bcs(alloc: Global, ask: &Ask, text: &[u8], out: &mut [u8]) -> Answer
+    ensures answers { Answers ask.now result (λ r l s. AnswersText r l s (HasBytes r l s text.now) text.now out.old out.new result) }
+    ensures untouched { result.status ≢ 0 → out.new ≡ out.old }
+{
+    let asked = match read_ask(alloc, ask) {
+        Ok(asked) => asked,
+        Err(answer) => return answer,
+    };
+    text_bytes(alloc, &asked, text, out)
+}
+
+/// The bytes of the value that a JSON text denotes, at the front of the output.
+pub(crate) fn text_bytes(alloc: Global, asked: &Asked, text: &[u8], out: &mut [u8]) -> Answer
+    ensures answers { On asked.now (λ r l s. AnswersText r l s (HasBytes r l s text.now) text.now out.old out.new result) }
+    ensures untouched { result.status ≢ 0 → out.new ≡ out.old }
+{
+    match to_bcs(alloc, &asked.registry, &asked.format, &asked.limits, text) {
+        Ok(bytes) => hand(&bytes, out),
+        Err(fault) => Answer::text_refusal(fault),
+    }
+}
+
+/// The one normal text of what a JSON text denotes, at the front of the output.
+#[unsafe(no_mangle)]
+pub extern "C" fn bcs_normalise(alloc: Global, ask: &Ask, text: &[u8], out: &mut [u8]) -> Answer
+    ensures answers { Answers ask.now result (λ r l s. AnswersText r l s (Normalises r l s text.now) text.now out.old out.new result) }
+    ensures untouched { result.status ≢ 0 → out.new ≡ out.old }
+{
+    let asked = match read_ask(alloc, ask) {
+        Ok(asked) => asked,
+        Err(answer) => return answer,
+    };
+    normal_text(alloc, &asked, text, out)
+}
+
+/// The one normal text of what a JSON text denotes, at the front of the output.
+pub(crate) fn normal_text(alloc: Global, asked: &Asked, text: &[u8], out: &mut [u8]) -> Answer
+    ensures answers { On asked.now (λ r l s. AnswersText r l s (Normalises r l s text.now) text.now out.old out.new result) }
+    ensures untouched { result.status ≢ 0 → out.new ≡ out.old }
+{
+    match normalise(alloc, &asked.registry, &asked.format, &asked.limits, text) {
+        Ok(normal) => hand(normal.as_bytes(), out),
+        Err(fault) => Answer::text_refusal(fault),
+    }
+}
+
+/// Whether two JSON texts denote equal values.
+#[unsafe(no_mangle)]
+pub extern "C" fn bcs_compare(alloc: Global, ask: &Ask, first: &[u8], second: &[u8]) -> Answer
+    ensures { Answers ask.now result (λ r l s. AnswersTexts r l s first.now second.now result) }
+{
+    let asked = match read_ask(alloc, ask) {
+        Ok(asked) => asked,
+        Err(answer) => return answer,
+    };
+    comparison(alloc, &asked, first, second)
+}
+
+/// Whether two JSON texts denote equal values.
+pub(crate) fn comparison(alloc: Global, asked: &Asked, first: &[u8], second: &[u8]) -> Answer
+    ensures { On asked.now (λ r l s. AnswersTexts r l s first.now second.now result) }
+{
+    match compare(
+        alloc,
+        &asked.registry,
+        &asked.format,
+        &asked.limits,
+        first,
+        second,
+    ) {
+        Ok(true) => Answer::plain(Status::Done),
+        Ok(false) => Answer::plain(Status::No),
+        Err(fault) => Answer::text_refusal(fault),
+    }
+}
