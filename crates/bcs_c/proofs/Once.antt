@@ -1,12 +1,12 @@
 -- What the texts ask for is one thing, and then they aren't refused.
-use Rattle.std.proofs.Common.{◌≡◌, ◌≢◌, ◌<◌, ◌≤◌, ℕ, List, arith, refl, subst, sym}
+use Rattle.std.proofs.Common.{◌≡◌, ℕ, List, arith, refl, subst}
 use Rattle.bcs_registry_formats.specs.Container.{Entries}
 use Rattle.bcs_registry_formats.specs.Shape.{Shape}
 use Rattle.bcs_registry_spec.proofs.OneFault.{one_fault, one_format_fault}
 use Rattle.bcs_registry_spec.proofs.OneText.{same_format, same_registry}
 use Rattle.bcs_value_spec.specs.Limits.{Bounds}
 use Rattle.bcs_c.specs.Answers.{plain}
-use Rattle.bcs_c.specs.Asking.{Asks, IsUnlessMemory, RefusesAsk, Whatever, no_format, no_limits, no_registry}
+use Rattle.bcs_c.specs.Asking.{Asks, RefusesAsk, Whatever, no_format, no_limits, no_registry}
 use Rattle.bcs_c.specs.Registries.{IsFormat, IsRegistry, RefusesFormat, RefusesRegistry, has_fault, no_memory}
 use Rattle.bcs_c.specs.declared.answer.Answer.{Answer}
 use Rattle.bcs_c.specs.declared.ask.Ask.{Ask}

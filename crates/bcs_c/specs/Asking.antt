@@ -1,5 +1,5 @@
 -- What the texts of a registry and a format ask for, and why they are refused.
-use Rattle.std.specs.Prelude.{◌≡◌, ◌≢◌, ◌<◌, ◌≤◌, ℕ}
+use Rattle.std.specs.Prelude.{◌≡◌, ◌≢◌, ◌<◌, ◌≤◌}
 use Rattle.bcs_registry_formats.specs.Container.{Entries}
 use Rattle.bcs_registry_formats.specs.Shape.{Shape}
 use Rattle.bcs_registry_formats.specs.View.{shape_of}

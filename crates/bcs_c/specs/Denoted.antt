@@ -7,7 +7,7 @@ use Rattle.bcs_value_tree.specs.Tree.{Tree}
 use Rattle.bcs_json_spec.specs.Texts.{Denotes, RefusesText}
 use Rattle.bcs_json_spec.specs.declared.json_fault.JsonFault.{JsonFault}
 use Rattle.bcs_c.specs.Answers.{plain, refusal}
-use Rattle.bcs_c.specs.Output.{Hands}
+use Rattle.bcs_c.specs.Output.{Puts}
 use Rattle.bcs_c.specs.declared.answer.Answer.{Answer}
 use Rattle.bcs_c.specs.declared.fault.Fault.TheVariants.{Text}
 use Rattle.bcs_c.specs.declared.status.Status.TheVariants.{Memory, Refused}
@@ -15,7 +15,7 @@ use Rattle.bcs_c.specs.declared.status.Status.TheVariants.{Memory, Refused}
 module _ (registry : Entries) (limits : Bounds) (s : Shape) where
   -- such bytes are handed out; or the text is refused for this fault, and denotes nothing; or memory ran out
   pub data AnswersText (P : List ℕ → Type 0) (text old new : List ℕ) (a : Answer) : Type 0 where
-    handed : (b : List ℕ) → P b → Hands b old new a → AnswersText P text old new a
+    put : (b : List ℕ) → P b → Puts b old new a → AnswersText P text old new a
     refused : (e : JsonFault) → RefusesText registry limits s text e → ((t : Tree) → Denotes registry limits s text t → ⊥)
         → a ≡ refusal Refused (Text e) → AnswersText P text old new a
     no_memory : a ≡ plain Memory → AnswersText P text old new a

@@ -10,7 +10,7 @@ use Rattle.bcs_explain_columns.specs.declared.style.Paint.TheVariants.{Plain}
 use Rattle.bcs_explain_columns.specs.declared.style.Style.{Style}
 use Rattle.bcs_explain_table.specs.Explains.{Explains}
 use Rattle.bcs_c.specs.Answers.{plain, with_stop}
-use Rattle.bcs_c.specs.Output.{Hands}
+use Rattle.bcs_c.specs.Output.{Puts}
 use Rattle.bcs_c.specs.declared.answer.Answer.{Answer}
 use Rattle.bcs_c.specs.declared.status.Status.TheVariants.{Memory}
 
@@ -24,6 +24,6 @@ style_numbered n = record { form = form_numbered n; paint = Plain }
 
 -- what is printed of the bytes is handed out, and where they stop is told; or memory ran out
 pub data AnswersExplained (registry : Entries) (limits : Bounds) (s : Shape) (form : ℕ) (b old new : List ℕ) (a : Answer) : Type 0 where
-  handed : (text : List ℕ) (x : Option Stop) (plain_answer : Answer) → Explains (style_numbered form) registry limits s b text x
-      → Hands text old new plain_answer → a ≡ with_stop x plain_answer → AnswersExplained registry limits s form b old new a
+  put : (text : List ℕ) (x : Option Stop) (without : Answer) → Explains (style_numbered form) registry limits s b text x
+      → Puts text old new without → a ≡ with_stop x without → AnswersExplained registry limits s form b old new a
   no_memory : a ≡ plain Memory → AnswersExplained registry limits s form b old new a

@@ -2,7 +2,7 @@
 use Rattle.std.specs.Prelude.{◌≡◌, ◌≢◌, ℕ, List}
 use Rattle.bcs_c.specs.Answers.{plain}
 use Rattle.bcs_c.specs.Faults.{fault_name, fault_number}
-use Rattle.bcs_c.specs.Output.{Hands}
+use Rattle.bcs_c.specs.Output.{Puts}
 use Rattle.bcs_c.specs.declared.answer.Answer.{Answer}
 use Rattle.bcs_c.specs.declared.fault.Fault.{Fault}
 use Rattle.bcs_c.specs.declared.status.Status.TheVariants.{No}
@@ -14,5 +14,5 @@ pub record IsNumbered (fault : Fault) (number : ℕ) : Type 0 where
 
 -- the name of the fault that has the number is handed out; or no fault has it
 pub data AnswersName (number : ℕ) (old new : List ℕ) (a : Answer) : Type 0 where
-  named : (fault : Fault) → IsNumbered fault number → Hands (fault_name fault) old new a → AnswersName number old new a
+  named : (fault : Fault) → IsNumbered fault number → Puts (fault_name fault) old new a → AnswersName number old new a
   none : ((fault : Fault) → IsNumbered fault number → ⊥) → a ≡ plain No → AnswersName number old new a

@@ -13,7 +13,7 @@ use Rattle.bcs_json_spec.specs.JsonContent.{of}
 use Rattle.bcs_json_spec.specs.Shown.{shown}
 use Rattle.bcs_json_spec.specs.Texts.{nesting_limit}
 use Rattle.bcs_c.specs.Answers.{plain, refusal, stop_at}
-use Rattle.bcs_c.specs.Output.{Hands}
+use Rattle.bcs_c.specs.Output.{Puts}
 use Rattle.bcs_c.specs.declared.answer.Answer.{Answer}
 use Rattle.bcs_c.specs.declared.fault.Fault.TheVariants.{ShownTooNested}
 use Rattle.bcs_c.specs.declared.status.Status.TheVariants.{Memory, Refused}
@@ -26,7 +26,7 @@ module _ (registry : Entries) (limits : Bounds) (s : Shape) where
   -- the text of the bytes is handed out; or they stop being a value; or their text would nest too deep; or memory ran out,
   -- though a value stands at their front
   pub data AnswersBytes (b old new : List ℕ) (a : Answer) : Type 0 where
-    handed : (text : List ℕ) → ShowsBytes registry limits s b text → Hands text old new a → AnswersBytes b old new a
+    put : (text : List ℕ) → ShowsBytes registry limits s b text → Puts text old new a → AnswersBytes b old new a
     stopped : (e : Reason) (o : ℕ) → StopsAll registry limits s b e o → a ≡ stop_at e o → AnswersBytes b old new a
     too_nested : NestsTooDeep b → a ≡ refusal Refused ShownTooNested → AnswersBytes b old new a
     no_memory : (n : ℕ) (c : Tree) → Accepts registry limits s b n c → a ≡ plain Memory → AnswersBytes b old new a

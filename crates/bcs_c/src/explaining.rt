@@ -2,11 +2,13 @@
 ghost use Rattle.std.specs.Prelude.{◌≡◌, ◌≢◌};
 ghost use Rattle.bcs_c.specs.Asking.{Answers, On};
 ghost use Rattle.bcs_c.specs.Explained.{AnswersExplained, form_numbered};
+ghost use Rattle.bcs_c.specs.Statuses.{status_number};
+ghost use Rattle.bcs_c.specs.declared.status.Status.TheVariants.{Done};
 
 use crate::answer::Answer;
 use crate::ask::{Ask, read_ask};
 use crate::asked::Asked;
-use crate::output::hand;
+use crate::output::put;
 use crate::status::Status;
 use bcs_explain_columns::style::{Form, Paint, Style};
 use bcs_explain_table::explain_text;
@@ -22,7 +24,7 @@ pub extern "C" fn bcs_explain(
     out: &mut [u8],
 ) -> Answer
     ensures answers { Answers ask.now result (λ r l s. AnswersExplained r l s form bytes.now out.old out.new result) }
-    ensures untouched { result.status ≢ 0 → out.new ≡ out.old }
+    ensures untouched { result.status ≢ status_number Done → out.new ≡ out.old }
 {
     let asked = match read_ask(alloc, ask) {
         Ok(asked) => asked,
@@ -40,7 +42,7 @@ pub(crate) fn explanation(
     out: &mut [u8],
 ) -> Answer
     ensures answers { On asked.now (λ r l s. AnswersExplained r l s form bytes.now out.old out.new result) }
-    ensures untouched { result.status ≢ 0 → out.new ≡ out.old }
+    ensures untouched { result.status ≢ status_number Done → out.new ≡ out.old }
 {
     let style = Style {
         form: numbered_form(form),
@@ -54,7 +56,7 @@ pub(crate) fn explanation(
         style,
         bytes,
     ) {
-        Ok(explained) => hand(&explained.text, out).with_stop(explained.stop),
+        Ok(explained) => put(&explained.text, out).with_stop(explained.stop),
         Err(_) => Answer::plain(Status::Memory),
     }
 }

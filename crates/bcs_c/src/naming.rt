@@ -1,20 +1,22 @@
 //! The names of faults, for C.
 ghost use Rattle.std.specs.Prelude.{◌≡◌, ◌≢◌};
 ghost use Rattle.bcs_c.specs.Named.{AnswersName};
+ghost use Rattle.bcs_c.specs.Statuses.{status_number};
+ghost use Rattle.bcs_c.specs.declared.status.Status.TheVariants.{Done};
 
 use crate::answer::Answer;
 use crate::numbered::fault_numbered;
-use crate::output::hand;
+use crate::output::put;
 use crate::status::Status;
 
 /// The name of the fault that has this number, at the front of the output.
 #[unsafe(no_mangle)]
 pub extern "C" fn bcs_fault_name(fault: u32, out: &mut [u8]) -> Answer
     ensures answers { AnswersName fault out.old out.new result }
-    ensures untouched { result.status ≢ 0 → out.new ≡ out.old }
+    ensures untouched { result.status ≢ status_number Done → out.new ≡ out.old }
 {
     match fault_numbered(fault) {
-        Some(fault) => hand(fault.name().as_bytes(), out),
+        Some(fault) => put(fault.name().as_bytes(), out),
         None => Answer::plain(Status::No),
     }
 }

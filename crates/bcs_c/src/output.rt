@@ -1,14 +1,16 @@
 //! The caller's output.
 ghost use Rattle.std.specs.Prelude.{◌≡◌, ◌≢◌};
-ghost use Rattle.bcs_c.specs.Output.{Hands};
+ghost use Rattle.bcs_c.specs.Output.{Puts};
+ghost use Rattle.bcs_c.specs.Statuses.{status_number};
+ghost use Rattle.bcs_c.specs.declared.status.Status.TheVariants.{Done};
 
 use crate::answer::Answer;
 use crate::status::Status;
 
-/// Hands the bytes to the caller, at the front of its output.
-pub(crate) fn hand(bytes: &[u8], out: &mut [u8]) -> Answer
-    ensures hands { Hands bytes.now out.old out.new result }
-    ensures untouched { result.status ≢ 0 → out.new ≡ out.old }
+/// Puts the bytes to the caller, at the front of its output.
+pub(crate) fn put(bytes: &[u8], out: &mut [u8]) -> Answer
+    ensures puts { Puts bytes.now out.old out.new result }
+    ensures untouched { result.status ≢ status_number Done → out.new ≡ out.old }
 {
     let length = bytes.len();
     if length > out.len() {

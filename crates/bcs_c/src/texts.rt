@@ -4,11 +4,13 @@ ghost use Rattle.bcs_json_spec.specs.Headline.{HasBytes, Normalises};
 ghost use Rattle.bcs_c.specs.Asking.{Answers, On};
 ghost use Rattle.bcs_c.specs.Compared.{AnswersTexts};
 ghost use Rattle.bcs_c.specs.Denoted.{AnswersText};
+ghost use Rattle.bcs_c.specs.Statuses.{status_number};
+ghost use Rattle.bcs_c.specs.declared.status.Status.TheVariants.{Done};
 
 use crate::answer::Answer;
 use crate::ask::{Ask, read_ask};
 use crate::asked::Asked;
-use crate::output::hand;
+use crate::output::put;
 use crate::status::Status;
 use bcs_json::{compare, normalise, to_bcs};
 use std::alloc::Global;
@@ -17,7 +19,7 @@ use std::alloc::Global;
 #[unsafe(no_mangle)]
 pub extern "C" fn bcs_to_bcs(alloc: Global, ask: &Ask, text: &[u8], out: &mut [u8]) -> Answer
     ensures answers { Answers ask.now result (λ r l s. AnswersText r l s (HasBytes r l s text.now) text.now out.old out.new result) }
-    ensures untouched { result.status ≢ 0 → out.new ≡ out.old }
+    ensures untouched { result.status ≢ status_number Done → out.new ≡ out.old }
 {
     let asked = match read_ask(alloc, ask) {
         Ok(asked) => asked,
@@ -29,10 +31,10 @@ pub extern "C" fn bcs_to_bcs(alloc: Global, ask: &Ask, text: &[u8], out: &mut [u
 /// The bytes of the value that a JSON text denotes, at the front of the output.
 pub(crate) fn text_bytes(alloc: Global, asked: &Asked, text: &[u8], out: &mut [u8]) -> Answer
     ensures answers { On asked.now (λ r l s. AnswersText r l s (HasBytes r l s text.now) text.now out.old out.new result) }
-    ensures untouched { result.status ≢ 0 → out.new ≡ out.old }
+    ensures untouched { result.status ≢ status_number Done → out.new ≡ out.old }
 {
     match to_bcs(alloc, &asked.registry, &asked.format, &asked.limits, text) {
-        Ok(bytes) => hand(&bytes, out),
+        Ok(bytes) => put(&bytes, out),
         Err(fault) => Answer::text_refusal(fault),
     }
 }
@@ -41,7 +43,7 @@ pub(crate) fn text_bytes(alloc: Global, asked: &Asked, text: &[u8], out: &mut [u
 #[unsafe(no_mangle)]
 pub extern "C" fn bcs_normalise(alloc: Global, ask: &Ask, text: &[u8], out: &mut [u8]) -> Answer
     ensures answers { Answers ask.now result (λ r l s. AnswersText r l s (Normalises r l s text.now) text.now out.old out.new result) }
-    ensures untouched { result.status ≢ 0 → out.new ≡ out.old }
+    ensures untouched { result.status ≢ status_number Done → out.new ≡ out.old }
 {
     let asked = match read_ask(alloc, ask) {
         Ok(asked) => asked,
@@ -53,10 +55,10 @@ pub extern "C" fn bcs_normalise(alloc: Global, ask: &Ask, text: &[u8], out: &mut
 /// The one normal text of what a JSON text denotes, at the front of the output.
 pub(crate) fn normal_text(alloc: Global, asked: &Asked, text: &[u8], out: &mut [u8]) -> Answer
     ensures answers { On asked.now (λ r l s. AnswersText r l s (Normalises r l s text.now) text.now out.old out.new result) }
-    ensures untouched { result.status ≢ 0 → out.new ≡ out.old }
+    ensures untouched { result.status ≢ status_number Done → out.new ≡ out.old }
 {
     match normalise(alloc, &asked.registry, &asked.format, &asked.limits, text) {
-        Ok(normal) => hand(normal.as_bytes(), out),
+        Ok(normal) => put(normal.as_bytes(), out),
         Err(fault) => Answer::text_refusal(fault),
     }
 }

@@ -3,8 +3,8 @@ use Rattle.bcs_registry_formats.specs.View.{shape_of}
 use Rattle.bcs_explain_columns.specs.declared.style.Form.{Form}
 use Rattle.bcs_explain_columns.specs.declared.style.Paint.TheVariants.{Plain}
 use Rattle.bcs_explain_table.specs.Explains.{Explains}
-use Rattle.bcs_c.specs.Explained.{handed}
-use Rattle.bcs_c.specs.Output.{Hands}
+use Rattle.bcs_c.specs.Explained.{put}
+use Rattle.bcs_c.specs.Output.{Puts}
 use Rattle.bcs_c.proofs.explaining.explanation.Goals as goal
 
 pub returns-in-Ok-clause-answers : goal.returns-in-Ok-clause-answers
@@ -15,5 +15,5 @@ returns-in-Ok-clause-answers c =
     subst (λ (f : Form). Explains (record { form = f; paint = Plain }) asked.registry asked.limits (shape_of asked.format) c.args.bytes.now x.text.items x.stop)
     c.numbered_form.ensures c.in-Ok.ensures
     in
-    let hands = subst (λ (b : List ℕ). Hands b c.args.out.now c.hand.new.out c.hand.result) c.deref.ensures.value c.hand.ensures.hands in
-    handed x.text.items x.stop c.hand.result explains hands c.with_stop.ensures
+    let puts = subst (λ (b : List ℕ). Puts b c.args.out.now c.put.new.out c.put.result) c.deref.ensures.value c.put.ensures.puts in
+    put x.text.items x.stop c.put.result explains puts c.with_stop.ensures

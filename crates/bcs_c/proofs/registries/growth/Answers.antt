@@ -1,5 +1,4 @@
 use Rattle.std.proofs.Common.{◌≡◌, Err, Ok, refl}
-use Rattle.bcs_registry_formats.specs.declared.growth_fault.GrowthFault.{GrowthFault}
 use Rattle.bcs_c.specs.Registries.{breaks}
 use Rattle.bcs_c.proofs.registries.growth.Goals as goal
 

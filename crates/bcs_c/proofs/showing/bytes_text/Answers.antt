@@ -2,14 +2,14 @@ use Rattle.std.proofs.Common.{Err, List, string_bytes, subst, ℕ}
 use Rattle.bcs_registry_formats.specs.View.{shape_of}
 use Rattle.bcs_json.specs.Showing.{Shows}
 use Rattle.bcs_json.specs.declared.from_fault.FromFault.{FromFault}
-use Rattle.bcs_c.specs.Output.{Hands}
-use Rattle.bcs_c.specs.Shown.{handed, no_memory, stopped}
+use Rattle.bcs_c.specs.Output.{Puts}
+use Rattle.bcs_c.specs.Shown.{put, no_memory, stopped}
 use Rattle.bcs_c.proofs.showing.bytes_text.Goals as goal
 
 pub returns-in-Ok-clause-answers : goal.returns-in-Ok-clause-answers
 returns-in-Ok-clause-answers c =
-    handed (string_bytes c.in-Ok.text) c.in-Ok.ensures
-    (subst (λ (b : List ℕ). Hands b c.args.out.now c.hand.new.out c.hand.result) c.as_bytes.ensures.value c.hand.ensures.hands)
+    put (string_bytes c.in-Ok.text) c.in-Ok.ensures
+    (subst (λ (b : List ℕ). Puts b c.args.out.now c.put.new.out c.put.result) c.as_bytes.ensures.value c.put.ensures.puts)
 
 pub returns-in-Err-Stop-clause-answers : goal.returns-in-Err-Stop-clause-answers
 returns-in-Err-Stop-clause-answers c =

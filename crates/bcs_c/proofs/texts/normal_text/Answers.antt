@@ -1,15 +1,15 @@
 use Rattle.std.proofs.Common.{List, ℕ, subst, string_bytes}
 use Rattle.bcs_registry_formats.specs.View.{shape_of}
 use Rattle.bcs_json_spec.specs.Headline.{Normalises}
-use Rattle.bcs_c.specs.Denoted.{handed}
-use Rattle.bcs_c.specs.Output.{Hands}
+use Rattle.bcs_c.specs.Denoted.{put}
+use Rattle.bcs_c.specs.Output.{Puts}
 use Rattle.bcs_c.proofs.Refusals.{text_refused}
 use Rattle.bcs_c.proofs.texts.normal_text.Goals as goal
 
 pub returns-in-Ok-clause-answers : goal.returns-in-Ok-clause-answers
 returns-in-Ok-clause-answers c =
-    handed (string_bytes c.in-Ok.normal) c.in-Ok.ensures.normal
-    (subst (λ (b : List ℕ). Hands b c.args.out.now c.hand.new.out c.hand.result) c.as_bytes.ensures.value c.hand.ensures.hands)
+    put (string_bytes c.in-Ok.normal) c.in-Ok.ensures.normal
+    (subst (λ (b : List ℕ). Puts b c.args.out.now c.put.new.out c.put.result) c.as_bytes.ensures.value c.put.ensures.puts)
 
 pub returns-in-Err-clause-answers : goal.returns-in-Err-clause-answers
 returns-in-Err-clause-answers c =

@@ -1,15 +1,15 @@
 use Rattle.std.proofs.Common.{List, ℕ, subst}
 use Rattle.bcs_registry_formats.specs.View.{shape_of}
 use Rattle.bcs_json_spec.specs.Headline.{HasBytes}
-use Rattle.bcs_c.specs.Denoted.{handed}
-use Rattle.bcs_c.specs.Output.{Hands}
+use Rattle.bcs_c.specs.Denoted.{put}
+use Rattle.bcs_c.specs.Output.{Puts}
 use Rattle.bcs_c.proofs.Refusals.{text_refused}
 use Rattle.bcs_c.proofs.texts.text_bytes.Goals as goal
 
 pub returns-in-Ok-clause-answers : goal.returns-in-Ok-clause-answers
 returns-in-Ok-clause-answers c =
-    handed c.in-Ok.bytes.items c.in-Ok.ensures.bytes
-    (subst (λ (b : List ℕ). Hands b c.args.out.now c.hand.new.out c.hand.result) c.deref.ensures.value c.hand.ensures.hands)
+    put c.in-Ok.bytes.items c.in-Ok.ensures.bytes
+    (subst (λ (b : List ℕ). Puts b c.args.out.now c.put.new.out c.put.result) c.deref.ensures.value c.put.ensures.puts)
 
 pub returns-in-Err-clause-answers : goal.returns-in-Err-clause-answers
 returns-in-Err-clause-answers c =
