@@ -1,0 +1,7 @@
+//! A registry that C keeps between calls.
+#![tactic(auto)]
+
+mod handle;
+mod raw_box;
+
+pub use handle::Handle;
