@@ -1,3 +1,4 @@
 pub mod Handles
 pub mod RawBoxes
+pub mod RegistrySend
 pub mod Steps
