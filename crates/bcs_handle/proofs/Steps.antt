@@ -9,7 +9,7 @@ pub use mir.Val.{Val, vptr, vstruct, vcons, vnil, of_list, has_ty, WT}
 pub use mir.MapTy.{inst_fn}
 pub use base.Fml.{Fml, ftrue, fsep, flft}
 pub use base.Fraction.{full_share}
-pub use base.Logic.{SProp, ent, sep, emp, guard, guard_i, via, fst∗, snd∗, never, id⊢}
+pub use base.Logic.{SProp, ent, emp, guard, guard_i, via, fst∗, snd∗, never, id⊢}
 pub use prog.Wp.{WpFn}
 pub use types.Logic.{Logic, sem}
 pub use types.Kit.{Item, Goal, Seq, Step, step, ‵, raw, ◌⊛◌, some, later, given, at_ret, ◌$◌, ◌∵◌, !, qed, by, move, keep, drop, split, split3, join, fsplit, fjoin, fpick, fpack, pick, learn, suffices, use0, use1, await, rewrite, feq_i, feq_l}
