@@ -1,0 +1,151 @@
+/* bcs: Binary Canonical Serialization (BCS) of JSON texts, by serde-reflection registries.
+
+   The calls are proved: crates/bcs_c/README.md says what of each. Every call is safe for any input, always returns, and
+   may run on several threads at once; calls on one open registry take turns. What a call is handed stays the caller's,
+   and nothing of it is kept.
+
+   Bytes are handed over as a pointer and a length. A pointer isn't null, even where the length is 0. An output overlaps
+   nothing else that is handed over. */
+#ifndef BCS_H
+#define BCS_H
+
+#include <stddef.h>
+#include <stdint.h>
+
+#ifdef __cplusplus
+extern "C" {
+#endif
+
+/* What a call is asked for, beside its input. */
+typedef struct bcs_ask {
+    const uint8_t *registry; /* the JSON text of a registry */
+    size_t registry_length;
+    const uint8_t *format; /* the JSON text of a format of it: "U8", {"TYPENAME":"Transaction"} */
+    size_t format_length;
+    uint32_t depth; /* how many containers may be open at once: at most 500, BCS_DEPTH */
+    uint32_t nodes; /* how many nodes a value may have: BCS_NODES lets all through */
+} bcs_ask;
+
+#define BCS_DEPTH 500
+#define BCS_NODES UINT32_MAX
+
+/* How a call went. */
+enum bcs_status {
+    BCS_DONE = 0,     /* it is done, or the answer is yes */
+    BCS_SHORT = 1,    /* the output is too short: `length` bytes are needed, and nothing was written */
+    BCS_REGISTRY = 2, /* the registry is refused; of two, the older one */
+    BCS_FORMAT = 3,   /* the format is refused */
+    BCS_LIMITS = 4,   /* the depth is above 500 */
+    BCS_REFUSED = 5,  /* the input is refused */
+    BCS_MEMORY = 6,   /* memory ran out */
+    BCS_NO = 7,       /* the answer is no: the values differ, or the path leads nowhere */
+    BCS_PATH = 8,     /* the path is none */
+    BCS_NEWER = 9     /* of two registries the newer one is refused */
+};
+
+/* Why something is refused. bcs_fault_name gives the name. */
+enum bcs_fault {
+    BCS_FAULT_NONE = 0,
+    /* of a registry, or of a format */
+    BCS_REGISTRY_NOT_JSON = 101,
+    BCS_REGISTRY_BAD_SHAPE = 102,
+    BCS_REGISTRY_BAD_NUMBER = 103,
+    BCS_REGISTRY_TOO_NESTED = 104,
+    BCS_REGISTRY_REPEATED_NAME = 105,
+    BCS_REGISTRY_UNKNOWN_NAME = 106,
+    /* of a registry that another one doesn't grow to */
+    BCS_GROWTH_MISSING = 201,
+    BCS_GROWTH_CHANGED = 202,
+    BCS_GROWTH_VARIANT_MISSING = 203,
+    BCS_GROWTH_VARIANT_CHANGED = 204,
+    /* of the JSON text of a value */
+    BCS_TEXT_NOT_JSON = 301,
+    BCS_TEXT_TOO_NESTED = 302,
+    BCS_TEXT_UNSUPPORTED = 303,
+    BCS_TEXT_BAD_SHAPE = 304,
+    BCS_TEXT_BAD_NUMBER = 305,
+    BCS_TEXT_BAD_HEX = 306,
+    BCS_TEXT_UNKNOWN_FIELD = 307,
+    BCS_TEXT_MISSING_FIELD = 308,
+    BCS_TEXT_UNKNOWN_VARIANT = 309,
+    BCS_TEXT_TOO_DEEP = 310,
+    BCS_TEXT_TOO_MANY_NODES = 311,
+    BCS_TEXT_TOO_LONG = 312,
+    BCS_TEXT_REPEATED_KEY = 313,
+    /* of the bytes of a value: why they stop being one, at `place` */
+    BCS_STOP_END_OF_INPUT = 401,
+    BCS_STOP_BAD_BOOL = 402,
+    BCS_STOP_BAD_OPTION = 403,
+    BCS_STOP_LONG_FORM = 404,
+    BCS_STOP_NUMBER_TOO_LARGE = 405,
+    BCS_STOP_LENGTH_TOO_LARGE = 406,
+    BCS_STOP_UNKNOWN_VARIANT = 407,
+    BCS_STOP_BAD_UTF8 = 408,
+    BCS_STOP_KEY_ORDER = 409,
+    BCS_STOP_KEY_REPEATED = 410,
+    BCS_STOP_TOO_DEEP = 411,
+    BCS_STOP_TRAILING_BYTES = 412,
+    BCS_STOP_TOO_MANY_NODES = 413,
+    BCS_STOP_UNSUPPORTED = 414,
+    /* of bytes that are a value's, whose text would nest more than 100 deep */
+    BCS_SHOWN_TOO_NESTED = 501,
+    /* of a path */
+    BCS_PATH_BAD_PATH = 601
+};
+
+/* How bcs_explain prints. */
+enum bcs_form {
+    BCS_WAYS = 0,  /* a line for each piece: place, bytes, kind, the way to it by names */
+    BCS_PATHS = 1, /* the same, and the path that bcs_part takes */
+    BCS_TREE = 2,  /* set in, by how deep the piece stands */
+    BCS_JSON = 3   /* a JSON object a line */
+};
+
+typedef struct bcs_answer {
+    uint32_t status; /* enum bcs_status */
+    uint32_t fault;  /* enum bcs_fault; 0 where nothing is refused */
+    uint64_t place;  /* where bytes stop being a value, or where a part begins, in bytes from the front; else 0 */
+    size_t length;   /* at BCS_DONE and BCS_SHORT, how many bytes there are; else 0 */
+} bcs_answer;
+
+/* Whether the registry and the format are good: BCS_DONE, or what is refused. */
+bcs_answer bcs_check(const bcs_ask *ask);
+
+/* Whether the newer registry keeps all that the older one has, so that every old value stays one: BCS_DONE; BCS_REFUSED
+   with a BCS_GROWTH_.. fault; BCS_REGISTRY or BCS_NEWER where one of them is no registry. */
+bcs_answer bcs_grows(const uint8_t *older, size_t older_length, const uint8_t *newer, size_t newer_length);
+
+/* The bytes of the value that a JSON text denotes. */
+bcs_answer bcs_to_bcs(const bcs_ask *ask, const uint8_t *text, size_t text_length, uint8_t *out, size_t out_length);
+
+/* The one normal JSON text of the value whose bytes are the whole input. */
+bcs_answer bcs_from_bcs(const bcs_ask *ask, const uint8_t *bytes, size_t bytes_length, uint8_t *out, size_t out_length);
+
+/* The one normal JSON text of the value that a JSON text denotes. */
+bcs_answer bcs_normalise(const bcs_ask *ask, const uint8_t *text, size_t text_length, uint8_t *out, size_t out_length);
+
+/* Whether two JSON texts denote equal values: BCS_DONE, or BCS_NO. */
+bcs_answer bcs_compare(const bcs_ask *ask, const uint8_t *first, size_t first_length, const uint8_t *second,
+                       size_t second_length);
+
+/* How many bytes the value at the front of the input has: `length`. */
+bcs_answer bcs_scan(const bcs_ask *ask, const uint8_t *bytes, size_t bytes_length);
+
+/* Where the part of the value at the front of the input stands to which the path leads: `place`, and `length` bytes.
+   BCS_NO: the path leads nowhere. A path is as `bcs part` has it: "-" for the whole, or steps such as 2/some/0. */
+bcs_answer bcs_part(const bcs_ask *ask, const uint8_t *bytes, size_t bytes_length, const uint8_t *path,
+                    size_t path_length);
+
+/* The input piece by piece, as `bcs explain` prints it, without colours; `form` is one of enum bcs_form, and any other
+   number is as BCS_WAYS. Damage is no refusal here: it stands in the text, and `fault` and `place` tell it. */
+bcs_answer bcs_explain(const bcs_ask *ask, uint32_t form, const uint8_t *bytes, size_t bytes_length, uint8_t *out,
+                       size_t out_length);
+
+/* The name of a fault, as the program `bcs` prints it: "BadBool". BCS_NO: no fault has the number. */
+bcs_answer bcs_fault_name(uint32_t fault, uint8_t *out, size_t out_length);
+
+#ifdef __cplusplus
+}
+#endif
+
+#endif

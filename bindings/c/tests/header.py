@@ -1,0 +1,150 @@
+#!/usr/bin/env python3
+"""Compares include/bcs.h with the proved crate's sources: the names of the calls and their parameters, the fields of the
+structs, and the numbers of statuses, faults and forms. That the structs' fields stand where they should is in layout.c.
+
+    python3 bindings/c/tests/header.py [CRATE]      CRATE: the folder of the crate; without it crates/bcs_c
+"""
+
+import pathlib
+import re
+import sys
+from typing import NamedTuple
+
+HERE = pathlib.Path(__file__).resolve().parent
+ROOT = HERE.parent.parent.parent
+
+# How a number's type is written in C.
+NUMBERS = {"u32": "uint32_t", "u64": "uint64_t", "usize": "size_t"}
+# With what the header's names of an enum of the crate begin.
+FRONTS = {
+    "Status": "BCS_",
+    "RegistryFault": "BCS_REGISTRY_",
+    "GrowthFault": "BCS_GROWTH_",
+    "JsonFault": "BCS_TEXT_",
+    "Reason": "BCS_STOP_",
+}
+# Faults that aren't of one of these enums.
+OTHER_FAULTS = {"ShownTooNested": "BCS_SHOWN_TOO_NESTED", "BadPath": "BCS_PATH_BAD_PATH"}
+FORMS = {"Form": "BCS_"}
+
+
+class Interface(NamedTuple):
+    """What one side says, with types as C has them."""
+
+    calls: dict[str, list[str]]
+    structs: dict[str, list[str]]
+    statuses: dict[str, int]
+    faults: dict[str, int]
+    forms: dict[str, int]
+
+
+def declared(name: str, written: str) -> list[str]:
+    """A parameter or a field of the crate as C has it: a slice is a pointer and a length."""
+    if written in ("&[u8]", "&'a [u8]"):
+        return [f"const uint8_t *{name}", f"size_t {name}_length"]
+    if written == "&mut [u8]":
+        return [f"uint8_t *{name}", f"size_t {name}_length"]
+    if written == "&Ask":
+        return [f"const bcs_ask *{name}"]
+    if written == "Global":
+        return []
+    return [f"{NUMBERS[written]} {name}"]
+
+
+def declared_all(parts: str) -> list[str]:
+    pairs = [part.split(":", 1) for part in parts.split(",") if part.strip()]
+    return [line for name, written in pairs for line in declared(name.strip(), written.strip())]
+
+
+def in_capitals(name: str) -> str:
+    return re.sub(r"(?<!^)([A-Z])", r"_\1", name).upper()
+
+
+def numbers(code: str, fronts: dict[str, str]) -> dict[str, int]:
+    """The arms `Enum::Variant => 7`. Want of memory is a status and no fault."""
+    found = {}
+    for enum, front in fronts.items():
+        for variant, number in re.findall(rf"\b{enum}::(\w+) => (\d+)", code):
+            if variant != "OutOfMemory":
+                found[front + in_capitals(variant)] = int(number)
+    return found
+
+
+def forms_of(code: str) -> dict[str, int]:
+    """The arms `7 => Form::Variant`. Any other number is as the first form, which need not have an arm."""
+    found = {"BCS_" + in_capitals(variant): int(number) for number, variant in re.findall(r"(\d+) => Form::(\w+)", code)}
+    for variant in re.findall(r"\b_ => Form::(\w+)", code):
+        found.setdefault("BCS_" + in_capitals(variant), 0)
+    return found
+
+
+def of_crate(folder: pathlib.Path) -> Interface:
+    files = sorted((folder / "src").glob("**/*.rt"))
+    if not files:
+        sys.exit(f"header: FAILED: no sources in {folder}/src")
+    code = "\n".join(re.sub(r"//.*", "", file.read_text(encoding="utf-8")) for file in files)
+    exported = re.findall(r'#\[unsafe\(no_mangle\)\]\s*pub extern "C" fn (\w+)\((.*?)\) -> Answer\b', code, re.DOTALL)
+    exports = len(re.findall(r"no_mangle|export_name", code))
+    if len(exported) != exports:
+        sys.exit(f"header: FAILED: of {exports} exports {len(exported)} are of the one form that is known")
+    structs = re.findall(r"#\[repr\(C\)\]\s*(?:#\[[^\]]*\]\s*)*pub struct (\w+)(?:<'a>)? \{(.*?)\n\}", code, re.DOTALL)
+    fields = {name: re.sub(r"\bpub ", "", body) for name, body in structs}
+    others = {OTHER_FAULTS[name]: int(number) for name, number in re.findall(r"\bFault::(\w+) => (\d+)", code)}
+    return Interface(
+        calls={name: declared_all(parameters) for name, parameters in exported},
+        structs={f"bcs_{name.lower()}": declared_all(body) for name, body in fields.items()},
+        statuses=numbers(code, {"Status": FRONTS["Status"]}),
+        faults=numbers(code, {enum: front for enum, front in FRONTS.items() if enum != "Status"}) | others,
+        forms=forms_of(code),
+    )
+
+
+def one_blank(text: str) -> str:
+    return " ".join(text.split())
+
+
+def enum_of(header: str, name: str) -> dict[str, int]:
+    body = re.search(rf"enum {name} \{{(.*?)\}};", header, re.DOTALL)
+    assert body, f"enum {name}"
+    return {constant: int(number) for constant, number in re.findall(r"(\w+) = (\d+)", body[1])}
+
+
+def of_header(file: pathlib.Path) -> Interface:
+    header = re.sub(r"/\*.*?\*/", "", file.read_text(encoding="utf-8"), flags=re.DOTALL)
+    calls = re.findall(r"\bbcs_answer (bcs_\w+)\((.*?)\);", header, re.DOTALL)
+    structs = re.findall(r"typedef struct \w+ \{(.*?)\} (\w+);", header, re.DOTALL)
+    faults = enum_of(header, "bcs_fault")
+    assert faults.pop("BCS_FAULT_NONE") == 0
+    return Interface(
+        calls={name: [one_blank(parameter) for parameter in parameters.split(",")] for name, parameters in calls},
+        structs={name: [one_blank(field) for field in body.split(";") if field.strip()] for body, name in structs},
+        statuses=enum_of(header, "bcs_status"),
+        faults=faults,
+        forms=enum_of(header, "bcs_form"),
+    )
+
+
+def differences(header: Interface, crate: Interface) -> list[str]:
+    found = []
+    for part in Interface._fields:
+        ours, proved = getattr(header, part), getattr(crate, part)
+        for name in sorted(ours.keys() | proved.keys()):
+            if ours.get(name) != proved.get(name):
+                found.append(f"{part}: {name}: the header has {ours.get(name)}, and the crate {proved.get(name)}")
+    return found
+
+
+def main(words: list[str]) -> int:
+    crate = of_crate(pathlib.Path(words[0]) if words else ROOT / "crates/bcs_c")
+    header = of_header(HERE.parent / "include/bcs.h")
+    found = differences(header, crate)
+    for difference in found:
+        print(f"header: FAILED: {difference}")
+    if not found:
+        told = ", ".join(f"{len(getattr(header, part))} {part}" for part in Interface._fields)
+        print(f"header: {told} are as the proved crate has them")
+    return 1 if found else 0
+
+
+if __name__ == "__main__":
+    sys.exit(main(sys.argv[1:]))

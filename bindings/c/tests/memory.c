@@ -1,0 +1,160 @@
+/* Want of memory. Each request for memory of each job is refused in turn, alone and with all that come after it. The answer
+   is BCS_MEMORY with the output untouched, or the one that there is with memory; and every block comes back. It has a heap of
+   its own, so it is linked with libbcs_c.a. */
+#include "jobs.h"
+
+#define REGISTRY \
+    "{\"A\":{\"STRUCT\":[{\"x\":\"U8\"},{\"y\":{\"SEQ\":\"STR\"}}]}," \
+    "\"B\":{\"ENUM\":{\"0\":{\"N\":\"UNIT\"},\"1\":{\"M\":{\"NEWTYPE\":{\"TYPENAME\":\"A\"}}}}}}"
+#define FORMAT "{\"MAP\":{\"KEY\":\"STR\",\"VALUE\":{\"TYPENAME\":\"B\"}}}"
+#define FALLING "[[\"b\",{\"M\":{\"x\":7,\"y\":[\"one\",\"two\"]}}],[\"a\",\"N\"]]"
+#define RISING "[[\"a\",\"N\"],[\"b\",{\"M\":{\"x\":7,\"y\":[\"one\",\"two\"]}}]]"
+#define DATA_OF_IT "\x02\x01" "a\x00\x01" "b\x01\x07\x02\x03" "one\x03" "two"
+#define DAMAGED "\x02\x01" "a\x00\x01" "b\x02\x07\x02\x03" "one\x03" "two"
+#define ROOM 4000
+
+static unsigned long requests;   /* since the job began */
+static unsigned long refused;    /* the number of the one that is refused, or 0 */
+static bool are_others_refused;  /* and all after it */
+static long blocks;              /* that weren't given back */
+
+struct tried {
+    bool ok;
+    void *block;
+};
+
+static char nothing[1];
+
+static bool is_refused(void) {
+    requests++;
+    return refused != 0 && (requests == refused || (are_others_refused && requests > refused));
+}
+
+struct tried rattle_alloc(size_t length, size_t alignment);
+struct tried rattle_realloc(void *block, size_t kept, size_t length, size_t alignment);
+void rattle_dealloc(void *block);
+
+struct tried rattle_alloc(size_t length, size_t alignment) {
+    if (is_refused()) {
+        return (struct tried){false, nothing};
+    }
+    blocks++;
+    void *block = malloc(length != 0 ? length : alignment);
+    CHECK(block != NULL);
+    return (struct tried){true, block};
+}
+
+/* A block that grows moves, so that a pointer to where it was is found out. */
+struct tried rattle_realloc(void *block, size_t kept, size_t length, size_t alignment) {
+    if (is_refused()) {
+        return (struct tried){false, nothing};
+    }
+    void *moved = malloc(length != 0 ? length : alignment);
+    CHECK(moved != NULL);
+    memcpy(moved, block, kept < length ? kept : length);
+    free(block);
+    return (struct tried){true, moved};
+}
+
+void rattle_dealloc(void *block) {
+    blocks--;
+    free(block);
+}
+
+#define ON_VALUE(the_call, its_input) \
+    .call = the_call, .registry = OF(REGISTRY), .format = OF(FORMAT), .input = OF(its_input), STANDARD
+
+/* With a name, the status that each has with memory, and how much room its output has. */
+static const struct {
+    const char *name;
+    struct job job;
+    uint32_t status;
+    size_t room;
+} jobs[] = {
+    {"check", {ON_VALUE(CHECKS, "")}, BCS_DONE, 0},
+    {"grows", {.call = GROWS, .input = OF("{\"E\":{\"ENUM\":{\"0\":{\"A\":\"UNIT\"}}}}"),
+               .second = OF("{\"E\":{\"ENUM\":{\"0\":{\"A\":\"UNIT\"},\"1\":{\"B\":\"UNIT\"}}}}")}, BCS_DONE, 0},
+    {"grows not", {.call = GROWS, .input = OF(REGISTRY), .second = OF("{\"A\":\"UNITSTRUCT\"}")}, BCS_REFUSED, 0},
+    {"grows to none", {.call = GROWS, .input = OF(REGISTRY), .second = OF("{\"A\":{\"STRUCT\":[{\"x\":\"U9\"}]}}")}, BCS_NEWER, 0},
+    {"to_bcs in order", {ON_VALUE(TO_BCS, RISING)}, BCS_DONE, ROOM},
+    {"to_bcs out of order", {ON_VALUE(TO_BCS, FALLING)}, BCS_DONE, ROOM},
+    {"to_bcs, short", {ON_VALUE(TO_BCS, FALLING)}, BCS_SHORT, 5},
+    {"to_bcs, refused", {ON_VALUE(TO_BCS, "[[\"b\",{\"M\":{\"x\":7,\"y\":[\"one\",2]}}]]")}, BCS_REFUSED, ROOM},
+    {"from_bcs", {ON_VALUE(FROM_BCS, DATA_OF_IT)}, BCS_DONE, ROOM},
+    {"from_bcs, short", {ON_VALUE(FROM_BCS, DATA_OF_IT)}, BCS_SHORT, 5},
+    {"from_bcs, refused", {ON_VALUE(FROM_BCS, DAMAGED)}, BCS_REFUSED, ROOM},
+    {"normalise", {ON_VALUE(NORMALISE, FALLING)}, BCS_DONE, ROOM},
+    {"normalise, refused", {ON_VALUE(NORMALISE, "[[\"a\",\"N\"],[\"a\",\"N\"]]")}, BCS_REFUSED, ROOM},
+    {"compare, equal", {ON_VALUE(COMPARE, FALLING), .second = OF(RISING)}, BCS_DONE, 0},
+    {"compare, different", {ON_VALUE(COMPARE, FALLING), .second = OF("[]")}, BCS_NO, 0},
+    {"compare, refused", {ON_VALUE(COMPARE, FALLING), .second = OF("[[]]")}, BCS_REFUSED, 0},
+    {"scan", {ON_VALUE(SCAN, DATA_OF_IT)}, BCS_DONE, 0},
+    {"scan, refused", {ON_VALUE(SCAN, DAMAGED)}, BCS_REFUSED, 0},
+    {"part", {ON_VALUE(PART, DATA_OF_IT), .second = OF("key:0162/inner/inner/inner/1/0")}, BCS_DONE, 0},
+    {"part, nowhere", {ON_VALUE(PART, DATA_OF_IT), .second = OF("key:0163")}, BCS_NO, 0},
+    {"part, bad path", {ON_VALUE(PART, DATA_OF_IT), .second = OF("key:016")}, BCS_PATH, 0},
+    {"part, refused", {ON_VALUE(PART, DAMAGED), .second = OF("key:0161")}, BCS_REFUSED, 0},
+    {"explain, ways", {ON_VALUE(EXPLAIN, DATA_OF_IT), .number = BCS_WAYS}, BCS_DONE, ROOM},
+    {"explain, paths", {ON_VALUE(EXPLAIN, DATA_OF_IT), .number = BCS_PATHS}, BCS_DONE, ROOM},
+    {"explain, tree", {ON_VALUE(EXPLAIN, DATA_OF_IT), .number = BCS_TREE}, BCS_DONE, ROOM},
+    {"explain, JSON", {ON_VALUE(EXPLAIN, DATA_OF_IT), .number = BCS_JSON}, BCS_DONE, ROOM},
+    {"explain, short", {ON_VALUE(EXPLAIN, DATA_OF_IT), .number = BCS_JSON}, BCS_SHORT, 5},
+    {"explain, damaged", {ON_VALUE(EXPLAIN, DAMAGED), .number = BCS_WAYS}, BCS_DONE, ROOM},
+    {"explain, damaged, JSON", {ON_VALUE(EXPLAIN, DAMAGED), .number = BCS_JSON}, BCS_DONE, ROOM},
+    {"no such registry", {.call = CHECKS, .registry = OF("{\"A\":{\"STRUCT\":[{\"x\":\"U8\"},{\"x\":\"U8\"}]}}"),
+                          .format = OF("\"U8\""), STANDARD}, BCS_REGISTRY, 0},
+    {"no such format", {.call = CHECKS, .registry = OF(REGISTRY), .format = OF("{\"SEQ\":{\"TYPENAME\":\"C\"}}"), STANDARD},
+     BCS_FORMAT, 0},
+    {"fault_name", {.call = FAULT_NAME, .number = BCS_STOP_KEY_ORDER}, BCS_DONE, ROOM},
+};
+
+static bool are_same(bcs_answer one, bcs_answer other) {
+    return one.status == other.status && one.fault == other.fault && one.place == other.place && one.length == other.length;
+}
+
+/* Makes the call on an output that holds what it held before, with this request refused. */
+static bcs_answer make_with(const struct job *job, unsigned long refuse, uint8_t *out, size_t room) {
+    memset(out, UNTOUCHED, ROOM);
+    requests = 0;
+    refused = refuse;
+    const bcs_answer answer = make(job, out, room);
+    CHECK(blocks == 0);
+    return answer;
+}
+
+/* Refuses each request in turn, and answers how many were told as want of memory. */
+static unsigned long sweep(size_t row, unsigned long count, bcs_answer whole, const uint8_t *output) {
+    static uint8_t out[ROOM];
+    unsigned long told = 0;
+    for (unsigned long number = 1; number <= count; number++) {
+        const bcs_answer answer = make_with(&jobs[row].job, number, out, jobs[row].room);
+        CHECK(requests >= number);
+        if (answer.status == BCS_MEMORY) {
+            told++;
+            CHECK(answer.fault == BCS_FAULT_NONE && answer.place == 0 && answer.length == 0);
+            CHECK(are_untouched(out, ROOM));
+        } else {
+            CHECK(are_same(answer, whole));
+            CHECK(memcmp(out, output, ROOM) == 0);
+        }
+    }
+    return told;
+}
+
+int main(void) {
+    static uint8_t output[ROOM];
+    for (size_t row = 0; row < sizeof jobs / sizeof *jobs; row++) {
+        const bcs_answer whole = make_with(&jobs[row].job, 0, output, jobs[row].room);
+        const unsigned long count = requests;
+        CHECK(whole.status == jobs[row].status);
+        are_others_refused = false;
+        const unsigned long alone = sweep(row, count, whole, output);
+        are_others_refused = true;
+        const unsigned long together = sweep(row, count, whole, output);
+        printf("memory: %s: %lu requests, %lu told as want of memory, and %lu where all after it are refused too\n",
+               jobs[row].name, count, alone, together);
+        /* All calls but the names of faults ask for memory, and can't do without any. */
+        CHECK(jobs[row].job.call == FAULT_NAME ? count == 0 : together > 0);
+    }
+    return 0;
+}

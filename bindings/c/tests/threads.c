@@ -1,0 +1,71 @@
+/* Eight threads make all calls at once, and each gets the answers that one thread alone got before. */
+#include "jobs.h"
+#include <pthread.h>
+
+#define THREADS 8
+#define ROUNDS 200
+#define ROOM 2000
+
+#define REGISTRY \
+    "{\"P\":{\"STRUCT\":[{\"to\":\"STR\"},{\"amount\":\"U64\"},{\"notes\":{\"MAP\":{\"KEY\":\"STR\",\"VALUE\":\"BYTES\"}}}]}}"
+#define ON_VALUE(the_call, its_input) \
+    .call = the_call, .registry = OF(REGISTRY), .format = OF("{\"TYPENAME\":\"P\"}"), .input = OF(its_input), STANDARD
+#define TEXT "{\"to\":\"bob\",\"amount\":7,\"notes\":[[\"b\",\"ff\"],[\"a\",\"\"]]}"
+#define BYTES_OF_IT "\x03" "bob" "\x07\0\0\0\0\0\0\0" "\x02\x01" "a\0\x01" "b\x01\xff"
+
+static const struct {
+    struct job job;
+    uint32_t status;
+} jobs[] = {
+    {{ON_VALUE(CHECKS, "")}, BCS_DONE},
+    {{.call = GROWS, .input = OF(REGISTRY), .second = OF(REGISTRY)}, BCS_DONE},
+    {{ON_VALUE(TO_BCS, TEXT)}, BCS_DONE},
+    {{ON_VALUE(TO_BCS, "{")}, BCS_REFUSED},
+    {{ON_VALUE(FROM_BCS, BYTES_OF_IT)}, BCS_DONE},
+    {{ON_VALUE(FROM_BCS, BYTES_OF_IT "!")}, BCS_REFUSED},
+    {{ON_VALUE(NORMALISE, TEXT)}, BCS_DONE},
+    {{ON_VALUE(COMPARE, TEXT), .second = OF(TEXT)}, BCS_DONE},
+    {{ON_VALUE(SCAN, BYTES_OF_IT "!")}, BCS_DONE},
+    {{ON_VALUE(PART, BYTES_OF_IT), .second = OF("inner/2/key:0162")}, BCS_DONE},
+    {{ON_VALUE(EXPLAIN, BYTES_OF_IT), .number = BCS_JSON}, BCS_DONE},
+    {{.call = FAULT_NAME, .number = BCS_STOP_BAD_UTF8}, BCS_DONE},
+};
+#define JOBS (sizeof jobs / sizeof *jobs)
+
+/* What one thread alone was answered. */
+static bcs_answer answers[JOBS];
+static uint8_t outputs[JOBS][ROOM];
+
+/* Threads begin at different jobs, so that different calls meet. */
+static void *make_all(void *first) {
+    uint8_t out[ROOM];
+    for (size_t round = 0; round < ROUNDS; round++) {
+        for (size_t step = 0; step < JOBS; step++) {
+            const size_t row = (step + *(const size_t *)first) % JOBS;
+            memset(out, UNTOUCHED, sizeof out);
+            const bcs_answer answer = make(&jobs[row].job, out, sizeof out);
+            CHECK(answer.status == answers[row].status && answer.fault == answers[row].fault);
+            CHECK(answer.place == answers[row].place && answer.length == answers[row].length);
+            CHECK(memcmp(out, outputs[row], sizeof out) == 0);
+        }
+    }
+    return NULL;
+}
+
+int main(void) {
+    for (size_t row = 0; row < JOBS; row++) {
+        memset(outputs[row], UNTOUCHED, ROOM);
+        answers[row] = make(&jobs[row].job, outputs[row], ROOM);
+        CHECK(answers[row].status == jobs[row].status);
+    }
+    pthread_t threads[THREADS];
+    size_t firsts[THREADS];
+    for (size_t number = 0; number < THREADS; number++) {
+        firsts[number] = number;
+        CHECK(pthread_create(&threads[number], NULL, make_all, &firsts[number]) == 0);
+    }
+    for (size_t number = 0; number < THREADS; number++) {
+        CHECK(pthread_join(threads[number], NULL) == 0);
+    }
+    return 0;
+}

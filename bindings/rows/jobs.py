@@ -1,0 +1,144 @@
+"""Rows on jobs of the program `bcs`: a call for each command, and what the program makes of its answer."""
+
+from collections.abc import Callable
+from typing import NamedTuple
+
+from driver import Answer, Driver, Question, Refused, expect, stop_of
+from words import Unsayable, bytes_of, bytes_of_digits, format_of
+
+FORMS = {"--ways": "ways", "--paths": "paths", "--tree": "tree", "--json": "json"}
+OPTIONS = ("--raw", "--front", "--lines", "--color", *FORMS)
+
+
+class Printed(NamedTuple):
+    """The status of the program, and what it puts."""
+
+    status: int
+    output: bytes
+
+
+def refusal(fault: object) -> Printed:
+    return Printed(2, f"refused: {fault}\n".encode())
+
+
+def job_row(driver: Driver, registry: bytes, words: list[str], wanted: str) -> str:
+    """The status and what is put. No call tells where a refusal stands, so what is behind that isn't compared, nor how
+    many containers a good registry has."""
+    name, *words = words[1:] if words[0] == "--where" else words
+    try:
+        printed = job(driver, name, words)
+    except Refused as fault:
+        printed = refusal(fault)
+    told = f"{printed.status} {debug(printed.output)}"
+    if name == "check" and printed.status == 0:
+        return wanted if wanted.startswith('0 "ok ') else told
+    return wanted if wanted.startswith(told + " ") else told
+
+
+def debug(output: bytes) -> str:
+    """A text as code has it, and other bytes as digits."""
+    try:
+        text = output.decode()
+    except UnicodeDecodeError:
+        return "0x" + output.hex()
+    for sign, escape in [("\\", "\\\\"), ('"', '\\"'), ("\n", "\\n"), ("\0", "\\0")]:
+        text = text.replace(sign, escape)
+    return f'"{text}"'
+
+
+def job(driver: Driver, name: str, words: list[str]) -> Printed:
+    if name == "check":
+        Question(driver, bytes_of(words[0]), b'"UNIT"', []).ask("check")
+        return Printed(0, b"")
+    if name == "grows":
+        answer = driver.ask("grows", bytes_of(words[0]), bytes_of(words[1]))
+        return Printed(0, b"grows\n") if answer.status == "done" else refusal(answer.fault)
+    options = [word for word in words if word in OPTIONS]
+    if "--lines" in options or "--color" in options:
+        raise Unsayable
+    return value_job(driver, name, options, words[len(options) :])
+
+
+def value_job(driver: Driver, name: str, options: list[str], words: list[str]) -> Printed:
+    registry, format, words = bytes_of(words[0]), format_of(words[1]), words[2:]
+    first = b""
+    if name == "part":
+        first, words = path_of(words[0]), words[1:]
+    elif name == "same" and words:
+        first, words = bytes_of(words[0]), words[1:]
+    question = Question(driver, registry, format, words[1:])
+    if not words:
+        return job_without_input(question, name, first)
+    data = bytes_of(words[0])
+    if name in ("decode", "explain", "part", "scan") and "--raw" not in options:
+        data = bytes_of_digits(data)
+    return job_with_input(question, name, options, data, first)
+
+
+def path_of(word: str) -> bytes:
+    """The word PATH; `0x` alone is an empty one."""
+    return b"" if word == "0x" else word.encode()
+
+
+def job_without_input(question: Question, name: str, path: bytes) -> Printed:
+    """Such a job is refused for its words, since it leaves the input as it was."""
+    if name == "part":
+        return refusal(question.ask("part", b"", path).fault)
+    return Printed(0, question.ask("check").status.encode())
+
+
+def job_with_input(question: Question, name: str, options: list[str], data: bytes, first: bytes) -> Printed:
+    is_raw = "--raw" in options
+    match name:
+        case "encode":
+            return text_job(question.ask("to_bcs", data), lambda answer: digits(answer.output, is_raw))
+        case "normalise":
+            return text_job(question.ask("normalise", data), lambda answer: answer.output + b"\n")
+        case "same":
+            return text_job(question.ask("compare", first, data), lambda answer: b"equal\n", no=b"different\n")
+        case "decode":
+            return bytes_job(question.ask("from_bcs", data), lambda answer: answer.output + b"\n")
+        case "part":
+            return part_job(question.ask("part", data, first), data, is_raw)
+        case "scan":
+            return scan_job(question.ask("scan", data), data, "--front" in options)
+        case "explain":
+            answer = question.ask("explain", data, FORMS[options[0]])
+            expect(answer.status == "done", answer.status)
+            return Printed(0 if answer.fault == "-" else 2, answer.output)
+    raise Unsayable
+
+
+def digits(data: bytes, is_raw: bool) -> bytes:
+    return data if is_raw else data.hex().encode() + b"\n"
+
+
+def text_job(answer: Answer, put: Callable[[Answer], bytes], no: bytes = b"") -> Printed:
+    if answer.status == "done":
+        return Printed(0, put(answer))
+    if answer.status == "no":
+        return Printed(1, no)
+    expect(answer.status == "refused", answer.status)
+    return refusal(answer.fault)
+
+
+def bytes_job(answer: Answer, put: Callable[[Answer], bytes]) -> Printed:
+    """Of bytes the place of a refusal is told, too, but for a text that would nest too deep."""
+    if answer.status == "refused" and answer.fault != "TooNested":
+        return refusal(stop_of(answer))
+    return text_job(answer, put)
+
+
+def part_job(answer: Answer, data: bytes, is_raw: bool) -> Printed:
+    if answer.status == "no":
+        return Printed(1, b"" if is_raw else b"none\n")
+    if answer.status == "path":
+        return refusal(answer.fault)
+    return bytes_job(answer, lambda answer: digits(data[answer.place :][: answer.length], is_raw))
+
+
+def scan_job(answer: Answer, data: bytes, is_front: bool) -> Printed:
+    """The call tells where the value at the front ends, and any bytes may stand behind it."""
+    if answer.status == "done" and answer.length < len(data) and not is_front:
+        return refusal(f"TrailingBytes at {answer.length}")
+    return bytes_job(answer, lambda answer: b"ok %d\n" % answer.length)
