@@ -10,6 +10,7 @@ import pathlib
 import sys
 from collections import Counter
 from collections.abc import Callable, Iterator
+from functools import partial
 
 from driver import Driver, Refused, Wrong, expect
 from jobs import job_row
@@ -65,12 +66,12 @@ def ask_rows(driver: Driver, tally: Tally, without: set[str]) -> None:
         if asked is None or kind in without:
             tally.unsayable[kind] += 1
             continue
-        tally.judge(kind, f"line {number}: {row}", lambda: asked(driver, registry, words, wanted), wanted)
+        tally.judge(kind, f"line {number}: {row}", partial(asked, driver, registry, words, wanted), wanted)
 
 
 def ask_pieces(driver: Driver, tally: Tally) -> None:
     for row in piece_rows(ROOT):
-        tally.judge("pieces", row.name, lambda: pieces_of(driver, row), row.wanted)
+        tally.judge("pieces", row.name, partial(pieces_of, driver, row), row.wanted)
 
 
 def told_by_kind(counts: Counter[str]) -> str:

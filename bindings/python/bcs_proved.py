@@ -1,0 +1,420 @@
+"""Canonical bytes (BCS) of JSON, by serde-reflection registries. What is called is proved; this module hands over bytes.
+
+    >>> from bcs_proved import Registry
+    >>> registry = Registry({"Payment": {"STRUCT": [{"to": "STR"}, {"amount": "U64"}]}})
+    >>> registry.encode("Payment", {"to": "bob", "amount": 7}).hex()
+    '03626f620700000000000000'
+    >>> registry.decode("Payment", bytes.fromhex("03626f620700000000000000"))
+    {'amount': '7', 'to': 'bob'}
+
+A value is what `json` makes of its JSON: a struct is a dict, a MAP a list of pairs, BYTES a string of hexadecimal digits (or
+`bytes`, where they are handed over), and whole numbers of 64 and 128 bits come as strings of digits. The methods with
+`_text` in their names take and give the JSON text itself.
+
+A format is a container's name, as "Payment"; or a text that begins with `{` or `"`, as '"U8"' or '{"SEQ":"U8"}', or a dict,
+as {"SEQ": "U8"}, which are its JSON.
+
+Calls may run on several threads at once, also of one registry, and let other threads run.
+"""
+
+from __future__ import annotations
+
+import ctypes
+import dataclasses
+import enum
+import functools
+import json
+import os
+import pathlib
+from typing import Any, Mapping, NamedTuple, Optional, Union
+
+__all__ = [
+    "BcsError",
+    "BytesError",
+    "Data",
+    "Form",
+    "Format",
+    "FormatError",
+    "Library",
+    "Limits",
+    "Part",
+    "PathError",
+    "Registry",
+    "RegistryError",
+    "Text",
+    "TextError",
+]
+
+Text = Union[str, bytes]
+Format = Union[str, bytes, Mapping[str, Any]]
+Data = Union[bytes, bytearray, memoryview]
+
+
+class BcsError(Exception):
+    """Something is refused. `reason` is the fault's name, as "BadBool"; `place` is where bytes stop being a value, counted
+    from the front, and None where the fault has no place."""
+
+    what = "refused"
+
+    def __init__(self, reason: str, place: Optional[int] = None) -> None:
+        self.reason = reason
+        self.place = place
+        super().__init__(reason, place)
+
+    def __str__(self) -> str:
+        where = "" if self.place is None else f" at {self.place}"
+        return f"{self.what}: {self.reason}{where}"
+
+
+class RegistryError(BcsError):
+    """The text is no registry."""
+
+    what = "no registry"
+
+
+class FormatError(BcsError):
+    """The text is no format of the registry."""
+
+    what = "no format of the registry"
+
+
+class TextError(BcsError):
+    """The JSON denotes no value of the format."""
+
+    what = "no value of the format"
+
+
+class BytesError(BcsError):
+    """The bytes are no value of the format, or one whose text would nest too deep, which has no place."""
+
+    what = "no bytes of the format"
+
+
+class PathError(BcsError):
+    """The path is none."""
+
+    what = "no path"
+
+
+@dataclasses.dataclass(frozen=True)
+class Limits:
+    """How many containers may be open at once, and how many nodes a value may have."""
+
+    depth: int = 500
+    nodes: int = 4294967295
+
+    def __post_init__(self) -> None:
+        if not 0 <= self.depth <= 500:
+            raise ValueError(f"a depth is from 0 to 500, and this is {self.depth}")
+        if not 0 <= self.nodes <= 4294967295:
+            raise ValueError(f"a number of nodes is from 0 to 4294967295, and this is {self.nodes}")
+
+
+STANDARD_LIMITS = Limits()
+
+
+class Form(enum.IntEnum):
+    """How `explain_text` prints the pieces of bytes."""
+
+    WAYS = 0
+    """a line for each: its place, its bytes, what it is, and the way to it by names"""
+    PATHS = 1
+    """the same, and the path that `part` takes"""
+    TREE = 2
+    """set in, by how deep it stands"""
+    JSON = 3
+    """a JSON object on each line"""
+
+
+class Part(NamedTuple):
+    """A part of a value's bytes, and how many bytes come before it."""
+
+    place: int
+    data: bytes
+
+
+class _Ask(ctypes.Structure):
+    """bcs_ask of bcs.h."""
+
+    _fields_ = [
+        ("registry", ctypes.c_char_p),
+        ("registry_length", ctypes.c_size_t),
+        ("format", ctypes.c_char_p),
+        ("format_length", ctypes.c_size_t),
+        ("depth", ctypes.c_uint32),
+        ("nodes", ctypes.c_uint32),
+    ]
+
+
+class _Answer(ctypes.Structure):
+    """bcs_answer of bcs.h."""
+
+    _fields_ = [
+        ("status", ctypes.c_uint32),
+        ("fault", ctypes.c_uint32),
+        ("place", ctypes.c_uint64),
+        ("length", ctypes.c_size_t),
+    ]
+
+    status: int
+    fault: int
+    place: int
+    length: int
+
+
+class _Status(enum.IntEnum):
+    """enum bcs_status of bcs.h."""
+
+    DONE = 0
+    SHORT = 1
+    REGISTRY = 2
+    FORMAT = 3
+    LIMITS = 4
+    REFUSED = 5
+    MEMORY = 6
+    NO = 7
+    PATH = 8
+    NEWER = 9
+
+
+# What bytes are handed over as: a pointer and a length. A pointer to no bytes isn't null.
+_IN = [ctypes.c_char_p, ctypes.c_size_t]
+_OUT = [ctypes.c_void_p, ctypes.c_size_t]
+_ASK = [ctypes.POINTER(_Ask)]
+_CALLS: dict[str, list[Any]] = {
+    "bcs_check": _ASK,
+    "bcs_grows": _IN + _IN,
+    "bcs_to_bcs": _ASK + _IN + _OUT,
+    "bcs_from_bcs": _ASK + _IN + _OUT,
+    "bcs_normalise": _ASK + _IN + _OUT,
+    "bcs_compare": _ASK + _IN + _IN,
+    "bcs_scan": _ASK + _IN,
+    "bcs_part": _ASK + _IN + _IN,
+    "bcs_explain": _ASK + [ctypes.c_uint32] + _IN + _OUT,
+    "bcs_fault_name": [ctypes.c_uint32] + _OUT,
+}
+
+
+class Library:
+    """The dynamic library. It is looked for where `path` says; else where the variable BCS_LIBRARY says; else beside this
+    file; else where the system looks for libraries."""
+
+    def __init__(self, path: Union[str, os.PathLike[str], None] = None) -> None:
+        self.path = os.fspath(path) if path is not None else self._found()
+        try:
+            library = ctypes.CDLL(self.path)
+        except OSError as fault:
+            raise ImportError(
+                f"bcs_proved needs libbcs.so, which bindings/c/build makes, and can't load {self.path}: {fault}. "
+                "Say where it is by the variable BCS_LIBRARY, or put it beside bcs_proved.py"
+            ) from fault
+        self.calls = {name: self._call(library, name, parameters) for name, parameters in _CALLS.items()}
+
+    @staticmethod
+    def _found() -> str:
+        named = os.environ.get("BCS_LIBRARY")
+        if named:
+            return named
+        beside = pathlib.Path(__file__).resolve().parent / "libbcs.so"
+        return str(beside) if beside.exists() else "libbcs.so.0"
+
+    @staticmethod
+    def _call(library: ctypes.CDLL, name: str, parameters: list[Any]) -> Any:
+        call = getattr(library, name)
+        call.argtypes = parameters
+        call.restype = _Answer
+        return call
+
+    def ask(self, name: str, *words: Any) -> _Answer:
+        """Makes a call without an output."""
+        answer: _Answer = self.calls[name](*words)
+        return answer
+
+    def put(self, name: str, room: int, *words: Any) -> tuple[_Answer, bytes]:
+        """Makes a call with an output of this room, and once more where that is too short."""
+        answer, output = self._put_once(name, room, *words)
+        if answer.status == _Status.SHORT:
+            answer, output = self._put_once(name, answer.length, *words)
+        return answer, output
+
+    def _put_once(self, name: str, room: int, *words: Any) -> tuple[_Answer, bytes]:
+        out = ctypes.create_string_buffer(max(room, 1))
+        answer = self.ask(name, *words, out, room)
+        return answer, ctypes.string_at(out, answer.length) if answer.status == _Status.DONE else b""
+
+    def fault_name(self, fault: int) -> str:
+        """The name of a fault by its number in bcs.h."""
+        answer, name = self.put("bcs_fault_name", 40, fault)
+        if answer.status != _Status.DONE:
+            raise KeyError(fault)
+        return name.decode()
+
+    def done(self, answer: _Answer, refused: type[BcsError]) -> None:
+        """Raises what the answer refuses: `refused` is of the input."""
+        if answer.status == _Status.DONE:
+            return
+        if answer.status == _Status.MEMORY:
+            raise MemoryError
+        errors: dict[int, type[BcsError]] = {
+            _Status.REGISTRY: RegistryError,
+            _Status.NEWER: RegistryError,
+            _Status.FORMAT: FormatError,
+            _Status.PATH: PathError,
+            _Status.REFUSED: refused,
+        }
+        # Only where bytes stop being a value is there a place: the faults from 401 on, below 501.
+        has_place = 401 <= answer.fault < 501
+        raise errors[answer.status](self.fault_name(answer.fault), answer.place if has_place else None)
+
+
+@functools.lru_cache(maxsize=None)
+def _standard_library() -> Library:
+    return Library()
+
+
+def _bytes_of_text(text: Text) -> bytes:
+    """What isn't Unicode is handed over too, so that it is refused as no JSON."""
+    return text.encode("utf-8", "surrogatepass") if isinstance(text, str) else bytes(text)
+
+
+def _jsonable(value: Any) -> Any:
+    """JSON's readers hold whole numbers of 64 bits, so a wider one goes as the string of its digits."""
+    if isinstance(value, int) and not isinstance(value, bool):
+        return int(value) if -(2**63) <= value < 2**64 else str(int(value))
+    if isinstance(value, (bytes, bytearray, memoryview)):
+        return value.hex()
+    if isinstance(value, Mapping):
+        return {name: _jsonable(part) for name, part in value.items()}
+    if isinstance(value, (list, tuple)):
+        return [_jsonable(part) for part in value]
+    return value
+
+
+def _json_of(value: Any) -> bytes:
+    return json.dumps(_jsonable(value), allow_nan=False).encode()
+
+
+def _json_of_format(format: Format) -> bytes:
+    if isinstance(format, Mapping):
+        return _json_of(format)
+    text = _bytes_of_text(format)
+    return text if text[:1] in (b"{", b'"') or isinstance(format, bytes) else _json_of({"TYPENAME": format})
+
+
+class Registry:
+    """A registry, of a JSON text or of what `json` makes of one. Raises RegistryError where it is none.
+
+    `library` is where the dynamic library is, or one that is loaded; without it, it is looked for as `Library` says.
+    """
+
+    def __init__(
+        self,
+        text: Union[Text, Mapping[str, Any]],
+        library: Union[Library, str, os.PathLike[str], None] = None,
+    ) -> None:
+        self._text = _json_of(text) if isinstance(text, Mapping) else _bytes_of_text(text)
+        if library is None:
+            self._library = _standard_library()
+        else:
+            self._library = library if isinstance(library, Library) else Library(library)
+        self.check('"UNIT"')
+
+    def check(self, format: Format) -> None:
+        """Raises FormatError where the format isn't one of the registry."""
+        answer = self._library.ask("bcs_check", self._ask(format, STANDARD_LIMITS))
+        self._library.done(answer, FormatError)
+
+    def grows(self, newer: Registry) -> bool:
+        """Whether the newer registry keeps all that this one has, so that every old value stays one."""
+        return self.growth_fault(newer) is None
+
+    def growth_fault(self, newer: Registry) -> Optional[str]:
+        """Why the newer registry doesn't keep all that this one has, as "VariantChanged", or None where it does."""
+        answer = self._library.ask("bcs_grows", self._text, len(self._text), newer._text, len(newer._text))
+        if answer.status == _Status.REFUSED:
+            return self._library.fault_name(answer.fault)
+        self._library.done(answer, RegistryError)
+        return None
+
+    def encode(self, format: Format, value: Any, limits: Limits = STANDARD_LIMITS) -> bytes:
+        """The bytes of a value. Raises TextError where it is none of the format."""
+        return self.encode_text(format, _json_of(value), limits)
+
+    def encode_text(self, format: Format, text: Text, limits: Limits = STANDARD_LIMITS) -> bytes:
+        """The bytes of the value that a JSON text denotes. Raises TextError where it denotes none of the format."""
+        return self._put_text("bcs_to_bcs", format, text, limits)
+
+    def decode(self, format: Format, data: Data, limits: Limits = STANDARD_LIMITS) -> Any:
+        """The value whose bytes these are. Raises BytesError where they are no value's, or not one's alone."""
+        return json.loads(self.decode_text(format, data, limits))
+
+    def decode_text(self, format: Format, data: Data, limits: Limits = STANDARD_LIMITS) -> str:
+        """The one normal JSON text of the value whose bytes these are. Raises BytesError as `decode` does."""
+        data = bytes(data)
+        ask = self._ask(format, limits)
+        answer, text = self._library.put("bcs_from_bcs", 4 * len(data) + 100, ask, data, len(data))
+        self._library.done(answer, BytesError)
+        return text.decode()
+
+    def normalise(self, format: Format, value: Any, limits: Limits = STANDARD_LIMITS) -> Any:
+        """The value as `decode` gives it. Raises TextError where it is none of the format."""
+        return json.loads(self.normalise_text(format, _json_of(value), limits))
+
+    def normalise_text(self, format: Format, text: Text, limits: Limits = STANDARD_LIMITS) -> str:
+        """The one normal JSON text of the value that a JSON text denotes. Raises TextError where it denotes none."""
+        return self._put_text("bcs_normalise", format, text, limits).decode()
+
+    def equal(self, format: Format, first: Any, second: Any, limits: Limits = STANDARD_LIMITS) -> bool:
+        """Whether two values are equal, maps being finite maps. Raises TextError where one is none of the format."""
+        return self.equal_text(format, _json_of(first), _json_of(second), limits)
+
+    def equal_text(self, format: Format, first: Text, second: Text, limits: Limits = STANDARD_LIMITS) -> bool:
+        """Whether two JSON texts denote equal values. Raises TextError where one denotes none of the format."""
+        one, other = _bytes_of_text(first), _bytes_of_text(second)
+        answer = self._library.ask("bcs_compare", self._ask(format, limits), one, len(one), other, len(other))
+        if answer.status == _Status.NO:
+            return False
+        self._library.done(answer, TextError)
+        return True
+
+    def scan(self, format: Format, data: Data, limits: Limits = STANDARD_LIMITS) -> int:
+        """How many bytes the value at the front has. Raises BytesError where there is none."""
+        data = bytes(data)
+        answer = self._library.ask("bcs_scan", self._ask(format, limits), data, len(data))
+        self._library.done(answer, BytesError)
+        return answer.length
+
+    def part(self, format: Format, data: Data, path: str, limits: Limits = STANDARD_LIMITS) -> Optional[Part]:
+        """The part of the value at the front to which a path leads, or None where it leads nowhere. A path is "." for the
+        whole, or steps such as "2/inner/key:0161/0". Raises BytesError, or PathError where the path is none."""
+        data, steps = bytes(data), _bytes_of_text(path)
+        answer = self._library.ask("bcs_part", self._ask(format, limits), data, len(data), steps, len(steps))
+        if answer.status == _Status.NO:
+            return None
+        self._library.done(answer, BytesError)
+        return Part(answer.place, data[answer.place : answer.place + answer.length])
+
+    def explain(self, format: Format, data: Data, limits: Limits = STANDARD_LIMITS) -> list[dict[str, Any]]:
+        """The pieces of bytes, a dict for each with "place", "bytes", "kind", "what", "value", "name" and "path". Last stands
+        {"end": N}, or where the bytes stop being a value a dict with "refused", "place", "want", "name" and "path"."""
+        return [json.loads(line) for line in self.explain_text(format, data, Form.JSON, limits).split("\n")[:-1]]
+
+    def explain_text(
+        self, format: Format, data: Data, form: Form = Form.WAYS, limits: Limits = STANDARD_LIMITS
+    ) -> str:
+        """The pieces of bytes as lines, as `bcs explain` prints them. Damage is no error here: it stands in the text."""
+        data = bytes(data)
+        room = min(100 * len(data) + 1000, 1000000)
+        answer, text = self._library.put("bcs_explain", room, self._ask(format, limits), int(form), data, len(data))
+        self._library.done(answer, BytesError)
+        return text.decode()
+
+    def _ask(self, format: Format, limits: Limits) -> _Ask:
+        text = _json_of_format(format)
+        return _Ask(self._text, len(self._text), text, len(text), limits.depth, limits.nodes)
+
+    def _put_text(self, call: str, format: Format, text: Text, limits: Limits) -> bytes:
+        text = _bytes_of_text(text)
+        answer, output = self._library.put(call, 2 * len(text) + 100, self._ask(format, limits), text, len(text))
+        self._library.done(answer, TextError)
+        return output

@@ -1,0 +1,105 @@
+#!/usr/bin/env python3
+"""The driver of Python: reads lines of calls and answers them, as bindings/README.md says."""
+
+import functools
+import json
+import pathlib
+import sys
+from typing import Callable
+
+sys.path.insert(0, str(pathlib.Path(__file__).resolve().parent.parent))
+
+import bcs_proved
+from bcs_proved import Form, Limits, Registry
+
+registry_of = functools.lru_cache(maxsize=1)(Registry)
+
+
+class Answer:
+    """What the driver answers, by its words."""
+
+    def __init__(self, status: str, fault: str = "-", place: int = 0, length: int = 0, output: bytes = b"") -> None:
+        self.line = "\t".join([status, fault, str(place), str(length), output.hex()])
+
+
+def output(data: bytes) -> Answer:
+    return Answer("done", length=len(data), output=data)
+
+
+def truth(is_so: bool) -> Answer:
+    return Answer("done" if is_so else "no")
+
+
+def check(registry: Registry, format: bytes, limits: Limits) -> Answer:
+    registry.check(format)
+    return Answer("done")
+
+
+def part(registry: Registry, format: bytes, limits: Limits, data: bytes, path: bytes) -> Answer:
+    found = registry.part(format, data, path.decode("utf-8", "surrogateescape"), limits)
+    if found is None:
+        return Answer("no")
+    assert data[found.place :].startswith(found.data)
+    return Answer("done", place=found.place, length=len(found.data))
+
+
+def explain(registry: Registry, format: bytes, limits: Limits, data: bytes, form: str) -> Answer:
+    """The text, and by the dicts whether the bytes are damaged."""
+    text = registry.explain_text(format, data, Form[form.upper()], limits)
+    pieces = registry.explain(format, data, limits)
+    if form == "json":
+        assert pieces == [json.loads(line) for line in text.splitlines()]
+    end = pieces[-1]
+    place = end["place"] if "refused" in end else 0
+    return Answer("done", end.get("refused", "-"), place, len(text.encode()), text.encode())
+
+
+# What takes a registry, a format, limits and what comes behind them.
+CALLS: dict[str, Callable[..., Answer]] = {
+    "check": check,
+    "to_bcs": lambda registry, *words: output(registry.encode_text(words[0], words[2], words[1])),
+    "from_bcs": lambda registry, *words: output(registry.decode_text(words[0], words[2], words[1]).encode()),
+    "normalise": lambda registry, *words: output(registry.normalise_text(words[0], words[2], words[1]).encode()),
+    "compare": lambda registry, *words: truth(registry.equal_text(words[0], words[2], words[3], words[1])),
+    "scan": lambda registry, *words: Answer("done", length=registry.scan(words[0], words[2], words[1])),
+    "part": part,
+    "explain": explain,
+}
+
+
+def grows(older: bytes, newer: bytes) -> Answer:
+    first = Registry(older)
+    try:
+        second = Registry(newer)
+    except bcs_proved.RegistryError as fault:
+        return Answer("newer", fault.reason)
+    reason = first.growth_fault(second)
+    return Answer("done") if reason is None else Answer("refused", reason)
+
+
+def answer(words: list[str]) -> Answer:
+    if words[0] == "grows":
+        return grows(bytes.fromhex(words[1]), bytes.fromhex(words[2]))
+    registry = registry_of(bytes.fromhex(words[1]))
+    rest = [word if words[0] == "explain" and place == 1 else bytes.fromhex(word) for place, word in enumerate(words[5:])]
+    try:
+        limits = Limits(int(words[3]), int(words[4]))
+    except ValueError:
+        return Answer("limits")
+    return CALLS[words[0]](registry, bytes.fromhex(words[2]), limits, *rest)
+
+
+def refusal(fault: bcs_proved.BcsError) -> Answer:
+    statuses = {bcs_proved.RegistryError: "registry", bcs_proved.FormatError: "format", bcs_proved.PathError: "path"}
+    return Answer(statuses.get(type(fault), "refused"), fault.reason, fault.place or 0)
+
+
+for line in sys.stdin:
+    words = line.rstrip("\n").split("\t")
+    try:
+        told = answer(words).line if words[0] != "fault_name" else "unsayable"
+    except bcs_proved.BcsError as fault:
+        told = refusal(fault).line
+    except MemoryError:
+        told = Answer("memory").line
+    print(told, flush=True)

@@ -1,0 +1,112 @@
+"""The transactions of examples/, and the README's example."""
+
+import doctest
+import json
+import pathlib
+import threading
+import unittest
+
+import bcs_proved
+from bcs_proved import BytesError, Registry, TextError
+
+ROOT = pathlib.Path(__file__).resolve().parent.parent.parent.parent
+EXAMPLES = ROOT / "examples"
+TRANSACTIONS = [
+    ("aptos_registry", "RawTransaction", "aptos_transfer"),
+    ("aptos_registry", "SignedTransaction", "aptos_two_of_three"),
+    ("sui_registry", "TransactionData", "sui_stake"),
+    ("sui_registry", "TransactionData", "sui_transfer"),
+]
+
+
+def text_of(name: str) -> str:
+    return (EXAMPLES / name).read_text(encoding="utf-8")
+
+
+def registry_of(name: str) -> Registry:
+    return Registry(text_of(f"{name}.json"))
+
+
+class Examples(unittest.TestCase):
+    def test_transactions(self) -> None:
+        for registry_name, format, name in TRANSACTIONS:
+            with self.subTest(name):
+                registry = registry_of(registry_name)
+                text, normal = text_of(f"{name}.json"), text_of(f"{name}_normal.json").rstrip("\n")
+                data = bytes.fromhex(text_of(f"{name}.hex"))
+                self.assertEqual(registry.encode_text(format, text), data)
+                self.assertEqual(registry.encode(format, json.loads(text)), data)
+                self.assertEqual(registry.decode_text(format, data), normal)
+                self.assertEqual(registry.decode(format, data), json.loads(normal))
+                self.assertEqual(registry.normalise_text(format, text), normal)
+                self.assertEqual(registry.normalise(format, json.loads(text)), json.loads(normal))
+                self.assertTrue(registry.equal_text(format, text, normal))
+                self.assertEqual(registry.scan(format, data), len(data))
+                self.assertEqual(registry.explain_text(format, data), text_of(f"{name}.explained"))
+                pieces = registry.explain(format, data)
+                self.assertEqual("".join(piece["bytes"] for piece in pieces[:-1]), data.hex())
+                self.assertEqual(pieces[-1], {"end": len(data)})
+
+    def test_damaged_transactions(self) -> None:
+        aptos, sui = registry_of("aptos_registry"), registry_of("sui_registry")
+        with self.assertRaises(TextError) as raised:
+            aptos.encode_text("RawTransaction", text_of("aptos_transfer_damaged.json"))
+        self.assertEqual(raised.exception.reason, "BadHex")
+        with self.assertRaises(TextError) as raised:
+            sui.encode_text("TransactionData", text_of("sui_stake_damaged.json"))
+        self.assertEqual(raised.exception.reason, "MissingField")
+        for registry, format, name, reason, place in [
+            (aptos, "RawTransaction", "aptos_transfer_damaged", "LongForm", 73),
+            (sui, "TransactionData", "sui_stake_damaged", "BadBool", 65),
+        ]:
+            with self.assertRaises(BytesError) as stopped:
+                registry.decode(format, bytes.fromhex(text_of(f"{name}.hex")))
+            self.assertEqual((stopped.exception.reason, stopped.exception.place), (reason, place))
+
+    def test_growth(self) -> None:
+        for older, newer in [
+            ("aptos_registry_before_multisig", "aptos_registry"),
+            ("diem_transaction_before_script_functions", "diem_transaction"),
+        ]:
+            self.assertTrue(registry_of(older).grows(registry_of(newer)))
+            self.assertEqual(registry_of(newer).growth_fault(registry_of(older)), "VariantMissing")
+
+    def test_documents(self) -> None:
+        """What the module and the README show is what comes out."""
+        self.assertGreater(doctest.testmod(bcs_proved).attempted, 3)
+        readme = pathlib.Path(__file__).resolve().parent.parent / "README.md"
+        found = doctest.testfile(str(readme), module_relative=False)
+        self.assertGreater(found.attempted, 4)
+        self.assertEqual(found.failed + doctest.testmod(bcs_proved).failed, 0)
+
+
+class Threads(unittest.TestCase):
+    def test_eight_threads(self) -> None:
+        """Eight threads at once, each with all transactions, over registries that all share."""
+        registries = {name: registry_of(name) for name, _, _ in TRANSACTIONS}
+        faults: list[object] = []
+
+        def code_all(first: int) -> None:
+            try:
+                for step in range(100):
+                    registry_name, format, name = TRANSACTIONS[(first + step) % len(TRANSACTIONS)]
+                    registry, data = registries[registry_name], bytes.fromhex(texts[f"{name}.hex"])
+                    assert registry.encode_text(format, texts[f"{name}.json"]) == data
+                    assert registry.decode_text(format, data) == texts[f"{name}_normal.json"].rstrip("\n")
+                    assert registry.scan(format, data) == len(data)
+            except BaseException as fault:
+                faults.append(fault)
+
+        texts = {
+            name: text_of(name) for _, _, front in TRANSACTIONS for name in (f"{front}.json", f"{front}.hex", f"{front}_normal.json")
+        }
+        threads = [threading.Thread(target=code_all, args=(first,)) for first in range(8)]
+        for thread in threads:
+            thread.start()
+        for thread in threads:
+            thread.join()
+        self.assertEqual(faults, [])
+
+
+if __name__ == "__main__":
+    unittest.main()

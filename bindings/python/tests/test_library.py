@@ -1,0 +1,53 @@
+"""Where the dynamic library is looked for. Each case is a Python of its own, since the library is loaded once."""
+
+import os
+import pathlib
+import shutil
+import subprocess
+import sys
+import tempfile
+import unittest
+
+MODULE = pathlib.Path(__file__).resolve().parent.parent / "bcs_proved.py"
+LIBRARY = pathlib.Path(os.environ["BCS_LIBRARY"]).resolve()
+SCRIPT = "import bcs_proved; print(bcs_proved.Registry('{}'%s).encode('\"U8\"', 7).hex())"
+
+
+def run(folder: str, words: str = "", **variables: str) -> subprocess.CompletedProcess[str]:
+    """Runs with the module in the folder, and no more variables than these."""
+    environment = {"PYTHONPATH": folder, "PYTHONDONTWRITEBYTECODE": "1", **variables}
+    return subprocess.run([sys.executable, "-c", SCRIPT % words], env=environment, capture_output=True, text=True, check=False)
+
+
+class Places(unittest.TestCase):
+    def setUp(self) -> None:
+        room = tempfile.TemporaryDirectory()
+        self.addCleanup(room.cleanup)
+        self.folder = room.name
+        shutil.copy(MODULE, self.folder)
+
+    def test_an_argument(self) -> None:
+        self.assertEqual(run(self.folder, f", library={str(LIBRARY)!r}").stdout, "07\n")
+        self.assertEqual(run(self.folder, f", library=bcs_proved.Library({str(LIBRARY)!r})").stdout, "07\n")
+        self.assertEqual(run(self.folder, f", library={str(LIBRARY)!r}", BCS_LIBRARY="/nowhere").stdout, "07\n")
+
+    def test_the_variable(self) -> None:
+        self.assertEqual(run(self.folder, BCS_LIBRARY=str(LIBRARY)).stdout, "07\n")
+
+    def test_beside_the_module(self) -> None:
+        shutil.copy(LIBRARY, pathlib.Path(self.folder) / "libbcs.so")
+        self.assertEqual(run(self.folder).stdout, "07\n")
+
+    def test_the_system(self) -> None:
+        shutil.copy(LIBRARY, pathlib.Path(self.folder) / "libbcs.so.0")
+        self.assertEqual(run(self.folder, LD_LIBRARY_PATH=self.folder).stdout, "07\n")
+
+    def test_nowhere(self) -> None:
+        told = run(self.folder, BCS_LIBRARY="/nowhere/libbcs.so")
+        self.assertNotEqual(told.returncode, 0)
+        self.assertIn("/nowhere/libbcs.so", told.stderr)
+        self.assertIn("bindings/c/build", told.stderr)
+
+
+if __name__ == "__main__":
+    unittest.main()
