@@ -16,6 +16,7 @@ from driver import Driver, Refused, Wrong, expect
 from jobs import job_row
 from kinds import KINDS
 from pieces import piece_rows, pieces_of
+from values import encode_row
 from words import Unsayable, bytes_of, unrolled
 
 ROOT = pathlib.Path(__file__).resolve().parent.parent.parent
@@ -57,7 +58,7 @@ class Tally:
 
 def ask_rows(driver: Driver, tally: Tally, without: set[str]) -> None:
     registry = b"{}"
-    kinds = {**KINDS, "bcs": job_row}
+    kinds = {**KINDS, "bcs": job_row, "encode": encode_row}
     for number, row, wanted in rows_of_tests():
         kind, *words = unrolled(row).split("\t")
         if kind == "registry":
