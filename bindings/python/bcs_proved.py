@@ -402,7 +402,7 @@ class Registry:
     def explain_text(
         self, format: Format, data: Data, form: Form = Form.WAYS, limits: Limits = STANDARD_LIMITS
     ) -> str:
-        """The pieces of bytes as lines, as `bcs explain` prints them. Damage is no error here: it stands in the text."""
+        """The pieces of bytes as lines, as `bcs explain` prints them. Damage is no error here: it stands in the last line."""
         data = bytes(data)
         room = min(100 * len(data) + 1000, 1000000)
         answer, text = self._library.put("bcs_explain", room, self._ask(format, limits), int(form), data, len(data))

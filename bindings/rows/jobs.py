@@ -103,9 +103,7 @@ def job_with_input(question: Question, name: str, options: list[str], data: byte
         case "scan":
             return scan_job(question.ask("scan", data), data, "--front" in options)
         case "explain":
-            answer = question.ask("explain", data, FORMS[options[0]])
-            expect(answer.status == "done", answer.status)
-            return Printed(0 if answer.fault == "-" else 2, answer.output)
+            return explain_job(question, data, FORMS[options[0]])
     raise Unsayable
 
 
@@ -142,3 +140,12 @@ def scan_job(answer: Answer, data: bytes, is_front: bool) -> Printed:
     if answer.status == "done" and answer.length < len(data) and not is_front:
         return refusal(f"TrailingBytes at {answer.length}")
     return bytes_job(answer, lambda answer: b"ok %d\n" % answer.length)
+
+
+def explain_job(question: Question, data: bytes, form: str) -> Printed:
+    """Behind lines with damage the program prints its refusal, too, and behind objects nothing."""
+    answer = question.ask("explain", data, form)
+    expect(answer.status == "done", answer.status)
+    if answer.fault == "-":
+        return Printed(0, answer.output)
+    return Printed(2, answer.output + (b"" if form == "json" else refusal(stop_of(answer)).output))

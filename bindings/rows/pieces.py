@@ -6,7 +6,7 @@ from collections.abc import Iterator
 from typing import NamedTuple
 
 from driver import Driver, Question
-from jobs import FORMS
+from jobs import FORMS, explain_job
 from words import bytes_of_digits, format_of
 
 EXAMPLES = {
@@ -59,5 +59,5 @@ def pieces_of(driver: Driver, row: PieceRow) -> str:
     format = format_of(re.sub(r"--[a-z]+(?:[ =]\d+)? ", "", row.words))
     limits = [options.get("--depth") or "500", options.get("--nodes") or "4294967295"]
     form = next((FORMS[name] for name in ("--json", "--tree", "--paths") if name in options), "ways")
-    answer = Question(driver, row.registry, format, limits).ask("explain", bytes_of_digits(row.digits.encode()), form)
-    return joined(answer.output.decode())
+    question = Question(driver, row.registry, format, limits)
+    return joined(explain_job(question, bytes_of_digits(row.digits.encode()), form).output.decode())
