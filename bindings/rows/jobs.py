@@ -41,8 +41,9 @@ def debug(output: bytes) -> str:
         text = output.decode()
     except UnicodeDecodeError:
         return "0x" + output.hex()
-    for sign, escape in [("\\", "\\\\"), ('"', '\\"'), ("\n", "\\n"), ("\0", "\\0")]:
-        text = text.replace(sign, escape)
+    escapes = {"\\": "\\\\", '"': '\\"', "\n": "\\n", "\r": "\\r", "\t": "\\t", "\0": "\\0"}
+    controls = {chr(code): f"\\u{{{code:x}}}" for code in [*range(1, 32), 127]}
+    text = "".join((controls | escapes).get(sign, sign) for sign in text)
     return f'"{text}"'
 
 

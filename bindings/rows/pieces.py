@@ -5,8 +5,8 @@ import re
 from collections.abc import Iterator
 from typing import NamedTuple
 
-from driver import Driver, Question
-from jobs import FORMS, explain_job
+from driver import Driver, Question, Refused
+from jobs import FORMS, explain_job, refusal
 from words import bytes_of_digits, format_of
 
 EXAMPLES = {
@@ -60,4 +60,8 @@ def pieces_of(driver: Driver, row: PieceRow) -> str:
     limits = [options.get("--depth") or "500", options.get("--nodes") or "4294967295"]
     form = next((FORMS[name] for name in ("--json", "--tree", "--paths") if name in options), "ways")
     question = Question(driver, row.registry, format, limits)
-    return joined(explain_job(question, bytes_of_digits(row.digits.encode()), form).output.decode())
+    try:
+        printed = explain_job(question, bytes_of_digits(row.digits.encode()), form)
+    except Refused as fault:
+        printed = refusal(fault)
+    return joined(printed.output.decode())

@@ -31,9 +31,10 @@ static const struct done outputs[] = {
     {{ON_VALUE(EXPLAIN, "{\"SEQ\":\"U16\"}", "\x01\x05\x00"), .number = BCS_PATHS},
      OF("     0  01                                                                SEQ, 1 element                  .  .\n"
         "     1  0500                                                              U16 5                           [0]  0\n")},
-    {{ON_VALUE(EXPLAIN, "{\"SEQ\":\"U16\"}", "\x01\x05\x00"), .number = BCS_TREE},
+    {{ON_VALUE(EXPLAIN, "{\"SEQ\":{\"OPTION\":\"BOOL\"}}", "\x01\x01\x01"), .number = BCS_TREE},
      OF("     0  01                                                                SEQ, 1 element                  .\n"
-        "     1  0500                                                              U16 5                             [0]\n")},
+        "     1  01                                                                OPTION present                  [0]\n"
+        "     2  01                                                                BOOL true                         ?\n")},
     {{ON_VALUE(EXPLAIN, "{\"SEQ\":\"U16\"}", "\x01\x05\x00"), .number = BCS_JSON},
      OF("{\"bytes\":\"01\",\"kind\":\"length\",\"name\":\".\",\"path\":\".\",\"place\":0,\"value\":1,\"what\":\"SEQ\"}\n"
         "{\"bytes\":\"0500\",\"kind\":\"unsigned\",\"name\":\"[0]\",\"path\":\"0\",\"place\":1,\"value\":\"5\",\"what\":\"U16\"}\n"

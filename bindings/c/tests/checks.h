@@ -39,7 +39,9 @@ static inline void unguard(const uint8_t *memory, size_t length) {
 
 static inline struct slice slice_of(const char *bytes, size_t length) {
     uint8_t *copy = guarded(length);
-    memcpy(copy, bytes, length);
+    if (length > 0) {
+        memcpy(copy, bytes, length);
+    }
     return (struct slice){copy, length};
 }
 

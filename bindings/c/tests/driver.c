@@ -141,7 +141,8 @@ int main(void) {
         }
         char *words[WORDS];
         const struct job job = job_of(words, split(line, words));
-        tell(&job, make_whole(&job, &out, &room), out);
+        const bcs_answer answer = make_whole(&job, &out, &room);
+        tell(&job, answer, out);
     }
     free(line);
     free(out);

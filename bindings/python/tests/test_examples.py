@@ -69,7 +69,7 @@ class Examples(unittest.TestCase):
             ("diem_transaction_before_script_functions", "diem_transaction"),
         ]:
             self.assertTrue(registry_of(older).grows(registry_of(newer)))
-            self.assertEqual(registry_of(newer).growth_fault(registry_of(older)), "VariantMissing")
+            self.assertEqual(registry_of(newer).growth_fault(registry_of(older)), "Missing")
 
     def test_documents(self) -> None:
         """What the module and the README show is what comes out."""
