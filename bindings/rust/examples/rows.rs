@@ -1,0 +1,145 @@
+//! Makes the calls that are asked for on standard input, a line each, and answers each by a line. `bindings/rows` starts
+//! it, and asks it the rows of the repository's tests.
+use bcs_proved::{Error, Form, Format, Limits, Registry};
+use std::io::{self, BufRead, Write};
+
+fn main() -> io::Result<()> {
+    let mut output = io::stdout().lock();
+    for line in io::stdin().lock().lines() {
+        writeln!(output, "{}", answer(&line?))?;
+        output.flush()?;
+    }
+    Ok(())
+}
+
+/// What a line asks for is answered by five words: the status, the fault, a place, a length, and an output.
+fn answer(line: &str) -> String {
+    let mut words = Words(line.split('\t'));
+    let told = match words.next() {
+        "fault_name" => return "unsayable".into(),
+        "grows" => grows(words),
+        call => ask(call, words).unwrap_or_else(|error| Told::error(error, "registry")),
+    };
+    let Told { status, fault, place, length, output } = told;
+    format!("{status}\t{}\t{place}\t{length}\t{}", fault.unwrap_or("-"), digits(&output))
+}
+
+/// The words of a line.
+struct Words<'a>(std::str::Split<'a, char>);
+
+impl<'a> Words<'a> {
+    fn next(&mut self) -> &'a str {
+        self.0.next().expect("a line has all words of its call")
+    }
+
+    /// Bytes go as hexadecimal digits.
+    fn bytes(&mut self) -> Vec<u8> {
+        let digits = self.next();
+        (0..digits.len())
+            .step_by(2)
+            .map(|place| u8::from_str_radix(&digits[place..place + 2], 16).expect("two hexadecimal digits"))
+            .collect()
+    }
+
+    fn number(&mut self) -> u32 {
+        self.next().parse().expect("a number of 32 bits")
+    }
+}
+
+fn digits(bytes: &[u8]) -> String {
+    bytes.iter().map(|byte| format!("{byte:02x}")).collect()
+}
+
+/// The words of an answer.
+#[derive(Default)]
+struct Told {
+    status: &'static str,
+    fault: Option<&'static str>,
+    place: usize,
+    length: usize,
+    output: Vec<u8>,
+}
+
+impl Told {
+    fn done() -> Told {
+        Told { status: "done", ..Told::default() }
+    }
+
+    fn yes_or_no(is_yes: bool) -> Told {
+        Told { status: if is_yes { "done" } else { "no" }, ..Told::default() }
+    }
+
+    fn output(output: Vec<u8>) -> Told {
+        Told { length: output.len(), output, ..Told::done() }
+    }
+
+    /// `registry` is the status where a registry is refused.
+    fn error(error: Error, registry: &'static str) -> Told {
+        let status = match error {
+            Error::Registry(_) => registry,
+            Error::Format(_) => "format",
+            Error::Limits => "limits",
+            Error::Growth(_) | Error::Text(_) | Error::Bytes(_) | Error::TooNested => "refused",
+            Error::Path => "path",
+            Error::Memory => "memory",
+        };
+        Told { status, fault: error.name(), place: error.place().unwrap_or(0), ..Told::default() }
+    }
+}
+
+fn grows(mut words: Words) -> Told {
+    let older = match Registry::read(words.bytes()) {
+        Ok(older) => older,
+        Err(error) => return Told::error(error, "registry"),
+    };
+    match Registry::read(words.bytes()).and_then(|newer| older.grows(&newer)) {
+        Ok(()) => Told::done(),
+        Err(error) => Told::error(error, "newer"),
+    }
+}
+
+fn ask(call: &str, mut words: Words) -> Result<Told, Error> {
+    let registry = Registry::read(words.bytes())?;
+    let format = &Format::json(words.bytes());
+    let limits = Limits { depth: words.number(), nodes: words.number() };
+    let registry = registry.with_limits(limits);
+    if call == "check" {
+        registry.check(format)?;
+        return Ok(Told::done());
+    }
+    let input = words.bytes();
+    Ok(match call {
+        "to_bcs" => Told::output(registry.encode(format, input)?),
+        "from_bcs" => Told::output(registry.decode(format, input)?.into()),
+        "normalise" => Told::output(registry.normalise(format, input)?.into()),
+        "compare" => Told::yes_or_no(registry.equal(format, input, words.bytes())?),
+        "scan" => Told { length: registry.scan(format, input)?, ..Told::done() },
+        "part" => part(&registry, format, &input, &words.bytes())?,
+        "explain" => explain(&registry, format, &input, words.next())?,
+        _ => panic!("no call is named {call}"),
+    })
+}
+
+fn part(registry: &Registry, format: &Format, input: &[u8], path: &[u8]) -> Result<Told, Error> {
+    let Some(part) = registry.part(format, input, path)? else {
+        return Ok(Told::yes_or_no(false));
+    };
+    assert_eq!(part.bytes, &input[part.place..][..part.bytes.len()]);
+    Ok(Told { place: part.place, length: part.bytes.len(), ..Told::done() })
+}
+
+fn explain(registry: &Registry, format: &Format, input: &[u8], form: &str) -> Result<Told, Error> {
+    let form = match form {
+        "ways" => Form::Ways,
+        "paths" => Form::Paths,
+        "tree" => Form::Tree,
+        "json" => Form::Json,
+        _ => panic!("no form is named {form}"),
+    };
+    let explanation = registry.explain(format, input, form)?;
+    let told = Told::output(explanation.text.into());
+    Ok(match explanation.stop {
+        Some(stop) => Told { fault: Some(stop.reason.name()), place: stop.place, ..told },
+        None => told,
+    })
+}

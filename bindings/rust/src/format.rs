@@ -1,0 +1,98 @@
+use std::fmt;
+
+/// A format of a registry: what a value is read as.
+///
+/// Where a call asks for a format, a container's name will do. Any other format is told by its JSON.
+///
+/// ```
+/// use bcs_proved::{Format, Registry};
+///
+/// let registry = Registry::read(r#"{"Wallet":{"NEWTYPESTRUCT":{"SEQ":"U64"}}}"#)?;
+/// assert_eq!(registry.encode("Wallet", "[7]")?, [1, 7, 0, 0, 0, 0, 0, 0, 0]);
+///
+/// let pair = Format::json(r#"{"TUPLE":["U8",{"TYPENAME":"Wallet"}]}"#);
+/// assert_eq!(registry.encode(&pair, "[9, []]")?, [9, 0]);
+/// # Ok::<(), bcs_proved::Error>(())
+/// ```
+///
+/// It isn't judged before it is used: [`Registry::check`](crate::Registry::check) says whether a registry has it.
+#[derive(Clone)]
+pub struct Format {
+    json: Vec<u8>,
+}
+
+impl Format {
+    /// The container of this name.
+    pub fn named(name: &str) -> Format {
+        let mut json = String::from(r#"{"TYPENAME":""#);
+        for character in name.chars() {
+            push_escaped(&mut json, character);
+        }
+        json.push_str(r#""}"#);
+        Format { json: json.into() }
+    }
+
+    /// The format that a JSON text writes down: `"U64"` with its quotation marks, or such as `{"SEQ":"U8"}`.
+    pub fn json(text: impl AsRef<[u8]>) -> Format {
+        Format { json: text.as_ref().to_vec() }
+    }
+
+    /// Its JSON text.
+    pub fn as_json(&self) -> &[u8] {
+        &self.json
+    }
+}
+
+/// Adds a character of a JSON string.
+fn push_escaped(json: &mut String, character: char) {
+    match character {
+        '"' | '\\' => json.extend(['\\', character]),
+        '\0'..='\u{1f}' => json.push_str(&format!("\\u{:04x}", u32::from(character))),
+        _ => json.push(character),
+    }
+}
+
+impl fmt::Debug for Format {
+    fn fmt(&self, f: &mut fmt::Formatter<'_>) -> fmt::Result {
+        write!(f, "Format({})", String::from_utf8_lossy(&self.json))
+    }
+}
+
+/// The container of this name.
+impl From<&str> for Format {
+    fn from(name: &str) -> Format {
+        Format::named(name)
+    }
+}
+
+/// The container of this name.
+impl From<&String> for Format {
+    fn from(name: &String) -> Format {
+        Format::named(name)
+    }
+}
+
+/// The container of this name.
+impl From<String> for Format {
+    fn from(name: String) -> Format {
+        Format::named(&name)
+    }
+}
+
+impl From<&Format> for Format {
+    fn from(format: &Format) -> Format {
+        format.clone()
+    }
+}
+
+#[cfg(test)]
+mod tests {
+    use super::Format;
+
+    #[test]
+    fn names_are_escaped() {
+        let format = Format::named("a\"\\\n\u{1f}/\u{7f}é");
+        let json = std::str::from_utf8(format.as_json()).unwrap();
+        assert_eq!(json, "{\"TYPENAME\":\"a\\\"\\\\\\u000a\\u001f/\u{7f}é\"}");
+    }
+}

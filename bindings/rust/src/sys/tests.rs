@@ -1,0 +1,147 @@
+//! The declarations beside the library's header and its names of faults.
+use super::{Answer, Ask};
+use crate::faults::{GrowthFault, Reason, RegistryFault, TextFault};
+use crate::sys;
+use std::collections::BTreeMap;
+use std::mem::{offset_of, size_of};
+use std::path::PathBuf;
+use std::process::Command;
+use std::{env, fs};
+
+fn header_folder() -> PathBuf {
+    PathBuf::from(env!("CARGO_MANIFEST_DIR")).join("../c/include")
+}
+
+#[test]
+fn layouts_are_those_of_the_header() {
+    let layouts = [
+        ("sizeof(bcs_ask)", size_of::<Ask>(), 40),
+        ("offsetof(bcs_ask, registry)", offset_of!(Ask, registry), 0),
+        ("offsetof(bcs_ask, registry_length)", offset_of!(Ask, registry_length), 8),
+        ("offsetof(bcs_ask, format)", offset_of!(Ask, format), 16),
+        ("offsetof(bcs_ask, format_length)", offset_of!(Ask, format_length), 24),
+        ("offsetof(bcs_ask, depth)", offset_of!(Ask, depth), 32),
+        ("offsetof(bcs_ask, nodes)", offset_of!(Ask, nodes), 36),
+        ("sizeof(bcs_answer)", size_of::<Answer>(), 24),
+        ("offsetof(bcs_answer, status)", offset_of!(Answer, status), 0),
+        ("offsetof(bcs_answer, fault)", offset_of!(Answer, fault), 4),
+        ("offsetof(bcs_answer, place)", offset_of!(Answer, place), 8),
+        ("offsetof(bcs_answer, length)", offset_of!(Answer, length), 16),
+    ];
+    let told = ask_c_compiler(&layouts.map(|(expression, ..)| expression));
+    for ((expression, here, wanted), told) in layouts.into_iter().zip(told) {
+        assert_eq!((here, told), (wanted, wanted), "{expression}");
+    }
+}
+
+/// What a C compiler says of expressions, by the header.
+fn ask_c_compiler(expressions: &[&str]) -> Vec<usize> {
+    let folder = env::temp_dir().join(format!("bcs-layouts-{}", std::process::id()));
+    fs::create_dir_all(&folder).unwrap();
+    let lines: String = expressions.iter().map(|it| format!("printf(\"%zu\\n\", {it});\n")).collect();
+    let source = format!("#include <bcs.h>\n#include <stdio.h>\nint main(void) {{\n{lines}return 0;\n}}\n");
+    fs::write(folder.join("layouts.c"), source).unwrap();
+    let compiler = env::var("CC").unwrap_or("cc".into());
+    let status = Command::new(&compiler)
+        .arg("-I")
+        .arg(header_folder())
+        .arg(folder.join("layouts.c"))
+        .arg("-o")
+        .arg(folder.join("layouts"))
+        .status()
+        .unwrap();
+    assert!(status.success(), "{compiler} compiles the header");
+    let output = Command::new(folder.join("layouts")).output().unwrap();
+    fs::remove_dir_all(&folder).unwrap();
+    String::from_utf8(output.stdout).unwrap().lines().map(|line| line.parse().unwrap()).collect()
+}
+
+/// The constants that the header's enums name, with their numbers.
+fn header_constants() -> BTreeMap<String, u32> {
+    let header = fs::read_to_string(header_folder().join("bcs.h")).unwrap();
+    header
+        .lines()
+        .filter_map(|line| {
+            let (name, rest) = line.trim().strip_prefix("BCS_")?.split_once(" = ")?;
+            let number: String = rest.chars().take_while(char::is_ascii_digit).collect();
+            Some((name.to_owned(), number.parse().unwrap()))
+        })
+        .collect()
+}
+
+#[test]
+fn numbers_are_those_of_the_header() {
+    let mut here = BTreeMap::from(
+        [
+            ("DONE", sys::DONE),
+            ("SHORT", sys::SHORT),
+            ("REGISTRY", sys::REGISTRY),
+            ("FORMAT", sys::FORMAT),
+            ("LIMITS", sys::LIMITS),
+            ("REFUSED", sys::REFUSED),
+            ("MEMORY", sys::MEMORY),
+            ("NO", sys::NO),
+            ("PATH", sys::PATH),
+            ("NEWER", sys::NEWER),
+            ("WAYS", sys::WAYS),
+            ("PATHS", sys::PATHS),
+            ("TREE", sys::TREE),
+            ("JSON", sys::JSON),
+            ("FAULT_NONE", 0),
+            ("PATH_BAD_PATH", 601),
+            ("SHOWN_TOO_NESTED", sys::SHOWN_TOO_NESTED),
+        ]
+        .map(|(name, number)| (name.to_owned(), number)),
+    );
+    here.extend(names_with("REGISTRY", RegistryFault::ALL.iter().map(|it| (it.name(), *it as u32))));
+    here.extend(names_with("GROWTH", GrowthFault::ALL.iter().map(|it| (it.name(), *it as u32))));
+    here.extend(names_with("TEXT", TextFault::ALL.iter().map(|it| (it.name(), *it as u32))));
+    here.extend(names_with("STOP", Reason::ALL.iter().map(|it| (it.name(), *it as u32))));
+    assert_eq!(here, header_constants());
+}
+
+/// The header's constants for faults: `BadBool` of `STOP` is `STOP_BAD_BOOL` there.
+fn names_with(family: &str, faults: impl Iterator<Item = (&'static str, u32)>) -> impl Iterator<Item = (String, u32)> {
+    faults.map(move |(name, number)| {
+        let mut constant = family.to_owned();
+        for character in name.chars() {
+            if character.is_uppercase() {
+                constant.push('_');
+            }
+            constant.push(character.to_ascii_uppercase());
+        }
+        (constant, number)
+    })
+}
+
+/// The name that this crate has for a fault's number.
+fn name_here(number: u32) -> Option<&'static str> {
+    match number {
+        sys::SHOWN_TOO_NESTED => Some("TooNested"),
+        601 => Some("BadPath"),
+        _ => RegistryFault::of(number)
+            .map(RegistryFault::name)
+            .or_else(|| GrowthFault::of(number).map(GrowthFault::name))
+            .or_else(|| TextFault::of(number).map(TextFault::name))
+            .or_else(|| Reason::of(number).map(Reason::name)),
+    }
+}
+
+#[test]
+fn names_are_those_of_the_library() {
+    let mut out = [0; 64];
+    let mut named = 0;
+    for number in (0..2000).chain([u32::MAX]) {
+        let answer = sys::fault_name(number, &mut out);
+        match name_here(number) {
+            Some(name) => {
+                assert_eq!((answer.status, answer.length), (sys::DONE, name.len()), "{number}");
+                assert_eq!(&out[..answer.length], name.as_bytes(), "{number}");
+                named += 1;
+            }
+            None => assert_eq!(answer.status, sys::NO, "{number}"),
+        }
+    }
+    // 6 of registries, 4 of growth, 13 of texts, 14 of bytes, and those of a shown text and of a path.
+    assert_eq!(named, 39);
+}

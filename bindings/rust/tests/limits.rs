@@ -1,0 +1,84 @@
+//! Limits: of the depth, and of the nodes.
+use bcs_proved::{Error, Form, Format, Limits, Reason, Registry, Stop, TextFault};
+
+mod common;
+use common::plain;
+
+/// A list of links, each of which is a container in the one before.
+fn chains() -> Registry {
+    Registry::read(r#"{"Chain":{"STRUCT":[{"next":{"OPTION":{"TYPENAME":"Chain"}}}]}}"#).unwrap()
+}
+
+/// The bytes of a chain.
+fn chain(links: usize) -> Vec<u8> {
+    [vec![1; links - 1], vec![0]].concat()
+}
+
+/// The text of a chain.
+fn chain_text(links: usize) -> String {
+    let others = links - 1;
+    r#"{"next":{"some":"#.repeat(others) + r#"{"next":null}"# + &"}}".repeat(others)
+}
+
+#[test]
+fn the_standard_limits_are_the_greatest() {
+    assert_eq!(Limits::default(), Limits { depth: 500, nodes: u32::MAX });
+    assert_eq!(plain().limits(), Limits::STANDARD);
+    assert_eq!(chains().scan("Chain", chain(500)), Ok(500));
+    let stop = Stop { reason: Reason::TooDeep, place: 500 };
+    assert_eq!(chains().scan("Chain", chain(501)), Err(Error::Bytes(stop)));
+}
+
+#[test]
+fn a_smaller_depth_refuses() {
+    let registry = chains().with_limits(Limits { depth: 2, ..Limits::default() });
+    let stop = Stop { reason: Reason::TooDeep, place: 2 };
+    assert_eq!(registry.decode("Chain", chain(2)).unwrap(), chain_text(2));
+    assert_eq!(registry.decode("Chain", chain(3)), Err(Error::Bytes(stop)));
+    assert_eq!(registry.part("Chain", &chain(3), "."), Err(Error::Bytes(stop)));
+    assert_eq!(registry.explain("Chain", chain(3), Form::Ways).unwrap().stop, Some(stop));
+    assert_eq!(registry.encode("Chain", chain_text(2)).unwrap(), chain(2));
+    assert_eq!(registry.encode("Chain", chain_text(3)), Err(Error::Text(TextFault::TooDeep)));
+}
+
+#[test]
+fn fewer_nodes_refuse() {
+    // A list is a node, and each of its elements is one.
+    let list = &Format::json(r#"{"SEQ":"U8"}"#);
+    let four = plain().with_limits(Limits { nodes: 4, ..Limits::default() });
+    let three = plain().with_limits(Limits { nodes: 3, ..Limits::default() });
+    let stop = Stop { reason: Reason::TooManyNodes, place: 3 };
+    assert_eq!(four.decode(list, [3, 0, 1, 2]).unwrap(), r#""000102""#);
+    assert_eq!(three.decode(list, [3, 0, 1, 2]), Err(Error::Bytes(stop)));
+    assert_eq!(four.encode(list, "[0,1,2]").unwrap(), [3, 0, 1, 2]);
+    assert_eq!(three.encode(list, "[0,1,2]"), Err(Error::Text(TextFault::TooManyNodes)));
+    assert_eq!(three.normalise(list, "[0,1,2]"), Err(Error::Text(TextFault::TooManyNodes)));
+    assert_eq!(three.equal(list, "[0,1,2]", "[]"), Err(Error::Text(TextFault::TooManyNodes)));
+}
+
+#[test]
+fn a_depth_above_500_is_refused_by_each_call() {
+    let unit = &Format::json(r#""UNIT""#);
+    for depth in [501, u32::MAX] {
+        let registry = plain().with_limits(Limits { depth, ..Limits::default() });
+        assert_eq!(registry.check(unit), Err(Error::Limits));
+        assert_eq!(registry.encode(unit, "null"), Err(Error::Limits));
+        assert_eq!(registry.decode(unit, ""), Err(Error::Limits));
+        assert_eq!(registry.normalise(unit, "null"), Err(Error::Limits));
+        assert_eq!(registry.equal(unit, "null", "null"), Err(Error::Limits));
+        assert_eq!(registry.scan(unit, ""), Err(Error::Limits));
+        assert_eq!(registry.part(unit, "", "."), Err(Error::Limits));
+        assert_eq!(registry.explain(unit, "", Form::Ways), Err(Error::Limits));
+    }
+}
+
+#[test]
+fn a_registry_keeps_its_own_limits() {
+    let registry = chains();
+    let shallow = registry.with_limits(Limits { depth: 1, ..Limits::default() });
+    let copy = shallow.clone();
+    assert_eq!(registry.limits().depth, 500);
+    assert_eq!(copy.limits(), shallow.limits());
+    assert!(copy.scan("Chain", chain(2)).is_err());
+    assert_eq!(registry.scan("Chain", chain(2)), Ok(2));
+}

@@ -1,0 +1,205 @@
+//! What is refused, with the fault's name and its place. The faults are those that docs/FORMAT.md tells.
+use bcs_proved::{Error, Form, Format, GrowthFault, Reason, Registry, RegistryFault, Stop, TextFault};
+
+mod common;
+use common::{bytes, example, example_bytes, example_registry, plain};
+
+#[test]
+fn registries_are_refused() {
+    let deep = format!(r#"{{"A":{{"NEWTYPESTRUCT":{}"U8"{}}}}}"#, r#"{"SEQ":"#.repeat(33), "}".repeat(33));
+    let rows = [
+        ("", RegistryFault::NotJson),
+        ("{", RegistryFault::NotJson),
+        ("\u{feff}{}", RegistryFault::NotJson),
+        ("[]", RegistryFault::BadShape),
+        (r#"{"A":{"NEWTYPESTRUCT":"U7"}}"#, RegistryFault::BadShape),
+        (r#"{"A":{"ENUM":{"01":{"B":"UNIT"}}}}"#, RegistryFault::BadNumber),
+        (&deep, RegistryFault::TooNested),
+        (r#"{"A":{"STRUCT":[{"x":"U8"},{"x":"U8"}]}}"#, RegistryFault::RepeatedName),
+        (r#"{"A":{"NEWTYPESTRUCT":{"TYPENAME":"B"}}}"#, RegistryFault::UnknownName),
+    ];
+    for (text, fault) in rows {
+        assert_eq!(Registry::read(text).err(), Some(Error::Registry(fault)), "{text}");
+    }
+    assert_eq!(Registry::read(b"{\"\xff\":\"UNITSTRUCT\"}").err(), Some(Error::Registry(RegistryFault::NotJson)));
+}
+
+#[test]
+fn formats_are_refused_by_each_call() {
+    let registry = example_registry("aptos_registry");
+    let rows = [
+        (Format::named("RawTransactions"), RegistryFault::UnknownName),
+        (Format::named("\"U8\""), RegistryFault::UnknownName),
+        (Format::named(""), RegistryFault::UnknownName),
+        (Format::json("U8"), RegistryFault::NotJson),
+        (Format::json(""), RegistryFault::NotJson),
+        (Format::json(b"\"\xff\""), RegistryFault::NotJson),
+        (Format::json(r#"{"SEQ":"U7"}"#), RegistryFault::BadShape),
+        (Format::json(r#"{"TUPLEARRAY":{"CONTENT":"U8","SIZE":-1}}"#), RegistryFault::BadNumber),
+    ];
+    for (format, fault) in &rows {
+        let error = Error::Format(*fault);
+        assert_eq!(registry.check(format), Err(error), "{format:?}");
+        assert_eq!(registry.encode(format, "null"), Err(error), "{format:?}");
+        assert_eq!(registry.decode(format, ""), Err(error), "{format:?}");
+        assert_eq!(registry.normalise(format, "null"), Err(error), "{format:?}");
+        assert_eq!(registry.equal(format, "null", "null"), Err(error), "{format:?}");
+        assert_eq!(registry.scan(format, ""), Err(error), "{format:?}");
+        assert_eq!(registry.part(format, "", "."), Err(error), "{format:?}");
+        assert_eq!(registry.explain(format, "", Form::Ways), Err(error), "{format:?}");
+    }
+}
+
+#[test]
+fn growth_is_refused() {
+    let older = Registry::read(r#"{"E":{"ENUM":{"0":{"A":"UNIT"},"300":{"B":{"NEWTYPE":"U8"}}}}}"#).unwrap();
+    let rows = [
+        ("{}", GrowthFault::Missing),
+        (r#"{"E":{"STRUCT":[{"a":"U8"}]}}"#, GrowthFault::Changed),
+        (r#"{"E":{"ENUM":{"0":{"A":"UNIT"},"301":{"B":{"NEWTYPE":"U8"}}}}}"#, GrowthFault::VariantMissing),
+        (r#"{"E":{"ENUM":{"0":{"D":"UNIT"},"300":{"B":{"NEWTYPE":"U8"}}}}}"#, GrowthFault::VariantChanged),
+    ];
+    for (text, fault) in rows {
+        assert_eq!(older.grows(&Registry::read(text).unwrap()), Err(Error::Growth(fault)), "{text}");
+    }
+}
+
+#[test]
+fn texts_are_refused() {
+    let deep = "[".repeat(101) + &"]".repeat(101);
+    let map = r#"{"MAP":{"KEY":"STR","VALUE":"U8"}}"#;
+    let rows = [
+        (r#""U8""#, "", TextFault::NotJson),
+        (r#""U8""#, "1e999", TextFault::NotJson),
+        (r#""U8""#, &deep, TextFault::TooNested),
+        (r#""F32""#, "1", TextFault::Unsupported),
+        (r#""U8""#, "null", TextFault::BadShape),
+        (r#""U8""#, "256", TextFault::BadNumber),
+        (r#""U64""#, r#""07""#, TextFault::BadNumber),
+        (r#""BYTES""#, r#""0x01""#, TextFault::BadHex),
+        (r#""BYTES""#, r#""012""#, TextFault::BadHex),
+        (r#"{"TYPENAME":"P"}"#, r#"{"x":1,"y":2}"#, TextFault::UnknownField),
+        (r#"{"TYPENAME":"P"}"#, "{}", TextFault::MissingField),
+        (r#"{"TYPENAME":"E"}"#, r#""B""#, TextFault::UnknownVariant),
+        (map, r#"[["a",1],["a",2]]"#, TextFault::RepeatedKey),
+    ];
+    let registry = Registry::read(r#"{"P":{"STRUCT":[{"x":"U8"}]},"E":{"ENUM":{"0":{"A":"UNIT"}}}}"#).unwrap();
+    for (format, text, fault) in rows {
+        let format = &Format::json(format);
+        assert_eq!(registry.encode(format, text), Err(Error::Text(fault)), "{text}");
+        assert_eq!(registry.normalise(format, text), Err(Error::Text(fault)), "{text}");
+        assert_eq!(registry.equal(format, text, text), Err(Error::Text(fault)), "{text}");
+    }
+}
+
+#[test]
+fn a_fault_of_the_first_text_is_told() {
+    let number = &Format::json(r#""U64""#);
+    assert_eq!(plain().equal(number, "null", "x"), Err(Error::Text(TextFault::BadShape)));
+    assert_eq!(plain().equal(number, "7", "x"), Err(Error::Text(TextFault::NotJson)));
+}
+
+#[test]
+fn bytes_are_refused_at_a_place() {
+    let map = r#"{"MAP":{"KEY":"STR","VALUE":"U8"}}"#;
+    let rows = [
+        (map, "0201620103616102", Reason::EndOfInput, 8),
+        (r#"{"TUPLE":["U8","BOOL"]}"#, "0702", Reason::BadBool, 1),
+        (r#"{"TUPLE":["U8",{"OPTION":"U8"}]}"#, "0702", Reason::BadOption, 1),
+        (r#""STR""#, "8100", Reason::LongForm, 0),
+        (r#""STR""#, "ffffffff10", Reason::NumberTooLarge, 0),
+        (r#""STR""#, "8080808008", Reason::LengthTooLarge, 0),
+        (r#"{"TYPENAME":"E"}"#, "01", Reason::UnknownVariant, 0),
+        (r#""STR""#, "0261ff", Reason::BadUtf8, 2),
+        (map, "0201620102616102", Reason::TrailingBytes, 8),
+        (map, "020161010161", Reason::KeyRepeated, 4),
+        (map, "020162010161", Reason::KeyOrder, 4),
+        (r#""F64""#, "", Reason::Unsupported, 0),
+    ];
+    let registry = Registry::read(r#"{"E":{"ENUM":{"0":{"A":"UNIT"}}}}"#).unwrap();
+    for (format, digits, reason, place) in rows {
+        let (format, mut input) = (&Format::json(format), bytes(digits));
+        let stop = Stop { reason, place };
+        if reason == Reason::TrailingBytes {
+            assert_eq!(registry.scan(format, &input), Ok(place), "{digits}");
+            input.push(0);
+        } else {
+            assert_eq!(registry.scan(format, &input), Err(Error::Bytes(stop)), "{digits}");
+            assert_eq!(registry.part(format, &input, "."), Err(Error::Bytes(stop)), "{digits}");
+        }
+        assert_eq!(registry.decode(format, &input), Err(Error::Bytes(stop)), "{digits}");
+        let explanation = registry.explain(format, &input, Form::Ways).unwrap();
+        assert_eq!(explanation.stop, Some(stop), "{digits}");
+        let last_line = explanation.text.lines().last().unwrap();
+        assert_eq!(last_line, format!("refused: {} at {place}", reason.name()), "{digits}");
+    }
+}
+
+#[test]
+fn damaged_transactions_are_refused() {
+    let (aptos, sui) = (example_registry("aptos_registry"), example_registry("sui_registry"));
+    let text = example("aptos_transfer_damaged.json");
+    assert_eq!(aptos.encode("RawTransaction", text), Err(Error::Text(TextFault::BadHex)));
+    let text = example("sui_stake_damaged.json");
+    assert_eq!(sui.encode("TransactionData", text), Err(Error::Text(TextFault::MissingField)));
+
+    let error = aptos.decode("RawTransaction", example_bytes("aptos_transfer_damaged")).unwrap_err();
+    assert_eq!((error.name(), error.place()), (Some("LongForm"), Some(73)));
+    let error = sui.decode("TransactionData", example_bytes("sui_stake_damaged")).unwrap_err();
+    assert_eq!((error.name(), error.place()), (Some("BadBool"), Some(65)));
+}
+
+#[test]
+fn a_text_that_would_nest_too_deep_is_refused() {
+    let text = r#"{"Chain":{"STRUCT":[{"next":{"OPTION":{"TYPENAME":"Chain"}}}]}}"#;
+    let registry = Registry::read(text).unwrap();
+    // A link is an object, and one more stands between two: `some`. So 50 links nest 99 deep, and 51 nest 101 deep.
+    let chain = |links: usize| [vec![1; links - 1], vec![0]].concat();
+    assert!(registry.decode("Chain", chain(50)).is_ok());
+    assert_eq!(registry.decode("Chain", chain(51)), Err(Error::TooNested));
+    assert_eq!(Error::TooNested.name(), Some("TooNested"));
+    assert_eq!(registry.scan("Chain", chain(51)), Ok(51));
+}
+
+#[test]
+fn paths_are_refused() {
+    let list = &Format::json(r#"{"SEQ":"U8"}"#);
+    for path in ["", "-", "/0", "0/", "01", "key:012", "./0", "some"] {
+        assert_eq!(plain().part(list, &[0], path), Err(Error::Path), "{path}");
+    }
+    assert_eq!(Error::Path.name(), Some("BadPath"));
+}
+
+#[test]
+fn errors_say_what_is_wrong() {
+    let rows = [
+        (
+            Error::Registry(RegistryFault::UnknownName),
+            "the registry is refused: UnknownName: a TYPENAME names no container of the registry",
+        ),
+        (
+            Error::Text(TextFault::BadHex),
+            "the text is refused: BadHex: a text of bytes isn't an even number of hexadecimal digits",
+        ),
+        (
+            Error::Bytes(Stop { reason: Reason::BadBool, place: 65 }),
+            "the bytes are refused: BadBool at 65: a truth value is neither 00 nor 01",
+        ),
+        (Error::Limits, "the limits are refused: their depth is above 500"),
+        (Error::Memory, "memory ran out"),
+    ];
+    for (error, message) in rows {
+        assert_eq!(error.to_string(), message);
+    }
+}
+
+#[test]
+fn faults_turn_into_errors() {
+    fn fail(fault: impl Into<Error>) -> Result<(), Box<dyn std::error::Error>> {
+        Err(fault.into())?
+    }
+    let stop = Stop { reason: Reason::EndOfInput, place: 0 };
+    assert_eq!(Error::from(stop), Error::Bytes(stop));
+    assert_eq!(fail(TextFault::TooLong).unwrap_err().to_string(), Error::Text(TextFault::TooLong).to_string());
+    assert_eq!(fail(GrowthFault::Missing).unwrap_err().to_string(), Error::Growth(GrowthFault::Missing).to_string());
+}
