@@ -131,7 +131,7 @@ fn bytes_are_refused_at_a_place() {
         let explanation = registry.explain(format, &input, Form::Ways).unwrap();
         assert_eq!(explanation.stop, Some(stop), "{digits}");
         let last_line = explanation.text.lines().last().unwrap();
-        assert_eq!(last_line, format!("refused: {} at {place}", reason.name()), "{digits}");
+        assert!(last_line.contains(&format!("! {} at {place}, ", reason.name())), "{last_line}");
     }
 }
 

@@ -54,7 +54,9 @@ fn damage_is_explained() {
     ];
     for (registry, format, name, reason, place) in damaged {
         let explanation = example_registry(registry).explain(format, example_bytes(name), Form::Ways).unwrap();
-        assert_eq!(explanation.text, example(&format!("{name}.explained")), "{name}");
+        // The program prints the refusal behind the explanation.
+        let printed = format!("{explanation}refused: {} at {place}\n", reason.name());
+        assert_eq!(printed, example(&format!("{name}.explained")), "{name}");
         assert_eq!(explanation.stop, Some(Stop { reason, place }), "{name}");
     }
 }
