@@ -5,9 +5,9 @@ use std::process::Command;
 
 const WHAT_TO_DO: [&str; 4] = [
     "The proved library libbcs.a was not found. Do one of these:",
-    "  - build it (bindings/c/build in the bcs repository), and set BCS_LIB to the folder with libbcs.a;",
-    "  - install it, so that `pkg-config bcs` finds bcs.pc; for a prefix of your own set PKG_CONFIG_PATH to",
-    "    the folder with bcs.pc.",
+    "  - install it by bindings/c/build of the bcs repository, and set BCS_LIB to the folder with libbcs.a;",
+    "  - or install it so that `pkg-config bcs` finds bcs.pc: for a prefix of your own set PKG_CONFIG_PATH to",
+    "    its folder lib/pkgconfig.",
 ];
 
 fn main() {
