@@ -1,0 +1,373 @@
+// The page: what is typed goes to the worker, and its answers into the boxes and the two views.
+import { Digits } from './digits.mjs';
+import { Lights } from './lights.mjs';
+import { fragmentOf, stateOf } from './link.mjs';
+import { counted, shownName, shownNumber } from './names.mjs';
+import { Pane } from './pane.mjs';
+import { Questions } from './questions.mjs';
+import { sentenceOn } from './reasons.mjs';
+import { Tree } from './tree.mjs';
+
+const OWN = 'own';
+const TYPING_PAUSE = 120;
+const MOST_SAVED = 1 << 28;
+const NO_PIECES = { first: 0, pieces: [], rows: [], stop: undefined, rest: '', covered: 0, length: 0, isCut: false };
+// The smallest module that has a memory with 64-bit addresses.
+const WIDE_MODULE = Uint8Array.of(0, 0x61, 0x73, 0x6d, 1, 0, 0, 0, 5, 3, 1, 4, 1);
+
+const $ = (id) => document.getElementById(id);
+const sourceOf = (id) => $(id).textContent;
+
+class Page {
+  #questions = new Questions(sourceOf('worker'), sourceOf('module').trim());
+  #examples = JSON.parse(sourceOf('examples'));
+  #lights = new Lights();
+  #digits = new Digits($('digits'), this.#lights);
+  #tree = new Tree($('tree'), this.#lights);
+  #side = 'text';
+  #explained = NO_PIECES;
+  #pauses = new Map();
+
+  constructor() {
+    this.panes = {
+      registry: new Pane($('registry'), $('registry-note'), () => this.#later('registry', () => this.#readOwnRegistry())),
+      text: new Pane($('text'), $('text-note'), () => this.#changed('text')),
+      bytes: new Pane($('bytes'), $('bytes-note'), () => this.#changed('bytes')),
+      first: new Pane($('first'), $('first-note'), () => this.#later('compare', () => this.#compare())),
+      second: new Pane($('second'), $('second-note'), () => this.#later('compare', () => this.#compare())),
+    };
+    this.#lights.add({ light: ([from, , to]) => this.#tellLit(from, to) });
+    this.#listExamples();
+    this.#listen();
+    this.#begin();
+  }
+
+  async #begin() {
+    if (!(await this.#restore())) await this.#takeExample(0);
+  }
+
+  #listen() {
+    $('example').addEventListener('change', () => this.#takeChosenExample());
+    $('container').addEventListener('change', () => this.#chooseContainer());
+    $('format').addEventListener('input', () => this.#later('value', () => this.#answer()));
+    $('normal').addEventListener('click', () => this.#fill('normal', { content: this.panes.text.content }));
+    $('blank').addEventListener('click', () => this.#fill('blank', {}));
+    $('take').addEventListener('click', () => this.#takeForComparing());
+    $('link').addEventListener('click', () => this.#link());
+    for (const button of document.querySelectorAll('[data-copy]')) {
+      button.addEventListener('click', () => this.#copy(button, button.dataset.copy));
+    }
+    for (const button of document.querySelectorAll('[data-save]')) {
+      button.addEventListener('click', () => this.#save(button.dataset.save));
+    }
+    for (const button of document.querySelectorAll('[data-open]')) {
+      button.addEventListener('click', () => this.#chooseFile(button.dataset.open));
+    }
+    $('file').addEventListener('change', () => this.#readFile());
+    window.addEventListener('hashchange', () => this.#restore());
+  }
+
+  /** Waits for a pause in typing. */
+  #later(name, job) {
+    clearTimeout(this.#pauses.get(name));
+    this.#pauses.set(name, setTimeout(job, TYPING_PAUSE));
+  }
+
+  // What is coded: the registry, and a format of it
+
+  #listExamples() {
+    const options = this.#examples.map(({ title }, i) => new Option(title, String(i)));
+    $('example').replaceChildren(...options, new Option('your own registry', OWN));
+  }
+
+  #takeChosenExample() {
+    if ($('example').value !== OWN) return this.#takeExample(Number($('example').value));
+    $('registry-box').open = true;
+    $('registry').focus();
+    $('registry').select();
+  }
+
+  async #takeExample(i) {
+    const { registry, format, side, content } = this.#examples[i];
+    $('example').value = String(i);
+    await this.#show({ registry, format, side, content });
+    if (content === '') this.#fill('blank', {});
+  }
+
+  /** Takes over a whole state: that of an example, or of a link. */
+  async #show({ registry, format, side, content }) {
+    this.panes.registry.content = registry;
+    this.#side = side;
+    this.panes[side].content = content;
+    this.panes[this.#otherSide].content = '';
+    await this.#readRegistry(format);
+  }
+
+  async #readOwnRegistry() {
+    $('example').value = OWN;
+    await this.#readRegistry(this.#format);
+  }
+
+  async #readRegistry(format) {
+    const told = await this.#questions.ask('registry', { text: this.panes.registry.content });
+    if (told === undefined) return;
+    const { answer, refusal } = told;
+    const verdict = $('registry-verdict');
+    verdict.className = refusal ? 'bad' : 'good';
+    verdict.textContent = refusal ? `refused: ${refusal.reason}` : counted(answer.count, 'container', 'containers');
+    this.#listContainers(answer?.names ?? [], format);
+    await this.#answer();
+  }
+
+  #listContainers(names, format) {
+    const options = names.map((name) => new Option(shownName(name, 60), JSON.stringify({ TYPENAME: name })));
+    $('container').replaceChildren(...options, new Option('another format', OWN));
+    $('container').value = format;
+    if ($('container').selectedIndex < 0) $('container').value = OWN;
+    if ($('container').value === OWN) $('format').value = format;
+    $('own-format').hidden = $('container').value !== OWN;
+  }
+
+  #chooseContainer() {
+    const isOwn = $('container').value === OWN;
+    $('own-format').hidden = !isOwn;
+    if (isOwn && $('format').value === '') $('format').value = '{"SEQ":"U8"}';
+    this.#answer();
+  }
+
+  get #format() {
+    return $('container').value === OWN ? $('format').value : $('container').value;
+  }
+
+  get #asked() {
+    return { registry: this.panes.registry.content, format: jsonOfFormat(this.#format) };
+  }
+
+  // The two sides
+
+  get #otherSide() {
+    return this.#side === 'text' ? 'bytes' : 'text';
+  }
+
+  #changed(side) {
+    this.#side = side;
+    this.#later('value', () => this.#answer());
+  }
+
+  async #answer() {
+    const content = this.panes[this.#side].content;
+    const waiting = setTimeout(() => $('verdict').classList.add('waiting'), 400);
+    const told = await this.#questions.ask('value', { ...this.#asked, side: this.#side, content });
+    clearTimeout(waiting);
+    if (told === undefined) return;
+    $('verdict').classList.remove('waiting');
+    this.#tell(told);
+    if ($('compare-box').open) this.#compare();
+  }
+
+  #tell({ answer, refusal }) {
+    const explained = answer?.explained ?? NO_PIECES;
+    const fault = refusal ?? answer.refusal;
+    $(`${this.#side}-side`).classList.remove('stale');
+    $(`${this.#otherSide}-side`).classList.toggle('stale', fault !== undefined);
+    if (!fault) this.#fillOtherSide(answer);
+    this.#explained = explained;
+    this.#digits.show(explained);
+    this.#tree.show(explained);
+    this.#tellLit(-1, -1);
+    $('pieces-note').textContent = noteOn(explained);
+    if (fault) this.#tellFault(fault, explained.stop);
+    else tellVerdict('', `${counted(answer.length, 'byte', 'bytes')}:`, ' the one encoding of this value.');
+  }
+
+  #fillOtherSide({ text, digits, length }) {
+    const { front, isCut } = text ?? digits;
+    const pane = this.panes[this.#otherSide];
+    if (isCut) pane.showFront(front, text ? front.length : 2 * length);
+    else pane.content = front;
+  }
+
+  #tellFault({ kind, reason, place }, stop) {
+    if (kind === 'page' || kind === 'stack' || kind === 'memory') return tellVerdict('bad', 'No answer:', ` ${reason}.`);
+    if (kind === 'digits') return tellVerdict('bad', 'No bytes:', ` ${DIGIT_FAULTS[reason]}`);
+    const where = place === undefined ? '' : ` at byte ${shownNumber(place)}`;
+    const wanted = stop ? ` Wanted there: ${shownName(stop.want)}, at ${shownName(stop.name, 400)}.` : '';
+    tellVerdict('bad', `Refused${where}: ${reason}.`, ` ${sentenceOn(kind, reason)}${wanted}`);
+  }
+
+  /** The line below the views: what is lit. */
+  #tellLit(from, to) {
+    const { pieces } = this.#explained;
+    const lit = pieces.slice(Math.max(from, 0), Math.max(to, 0));
+    $('detail').textContent = lit.length === 0 ? 'Point at digits or at a row, or go there by the arrow keys.' : detailOf(lit);
+  }
+
+  async #fill(question, asked) {
+    const { answer, refusal } = (await this.#questions.ask(question, { ...this.#asked, ...asked })) ?? {};
+    if (refusal) this.#tellFault(refusal);
+    if (!answer) return;
+    const { front, isCut } = typeof answer.text === 'string' ? { front: answer.text, isCut: false } : answer.text;
+    if (isCut) return;
+    this.panes.text.content = front;
+    this.#side = 'text';
+    await this.#answer();
+  }
+
+  // Comparing
+
+  #takeForComparing() {
+    this.panes.first.content = this.panes.text.content;
+    this.#compare();
+  }
+
+  async #compare() {
+    const [first, second] = [this.panes.first.content, this.panes.second.content];
+    const verdict = $('compare-verdict');
+    if (first.trim() === '' || second.trim() === '') {
+      verdict.textContent = '';
+      return;
+    }
+    const told = await this.#questions.ask('compare', { ...this.#asked, first, second });
+    if (told === undefined) return;
+    const { answer, refusal } = told;
+    verdict.className = answer?.isEqual ? 'good' : 'bad';
+    verdict.textContent = refusal ? `refused: ${refusal.reason}` : answer.isEqual ? 'equal' : 'different';
+  }
+
+  // Links, the clipboard and files
+
+  async #link() {
+    const { registry, format } = this.#asked;
+    const [content, first, second] = [this.#side, 'first', 'second'].map((name) => this.panes[name].content);
+    const fragment = await fragmentOf({ registry, format, side: this.#side, content, first, second });
+    if (fragment === undefined) return flash($('link'), 'Too long for a link');
+    history.replaceState(null, '', `#${fragment}`);
+    flash($('link'), (await copied(location.href)) ? 'Link copied' : 'In the address bar');
+  }
+
+  async #restore() {
+    const state = await stateOf(location.hash.slice(1));
+    if (state === undefined) return false;
+    $('example').value = OWN;
+    const known = this.#examples.findIndex(({ registry, format, content }) => registry === state.registry && format === state.format && content === state.content);
+    if (known >= 0) $('example').value = String(known);
+    this.panes.first.content = state.first;
+    this.panes.second.content = state.second;
+    $('compare-box').open = state.first !== '' || state.second !== '';
+    await this.#show({ ...state, side: state.side === 'bytes' ? 'bytes' : 'text' });
+    return true;
+  }
+
+  /** What a side holds, of which the box may show a front alone. */
+  async #whole(side) {
+    const pane = this.panes[side];
+    if (!pane.isCut || side === this.#side) return pane.content;
+    const { answer } = await this.#questions.ask('whole', { side });
+    return answer?.content ?? '';
+  }
+
+  async #copy(button, side) {
+    flash(button, (await copied(await this.#whole(side))) ? 'Copied' : 'Not allowed');
+  }
+
+  async #save(side) {
+    const link = document.createElement('a');
+    link.href = URL.createObjectURL(new Blob([await this.#whole(side)], { type: 'text/plain' }));
+    link.download = side === 'text' ? 'value.json' : 'value.hex';
+    link.click();
+    setTimeout(() => URL.revokeObjectURL(link.href), 60_000);
+  }
+
+  #chooseFile(name) {
+    $('file').dataset.pane = name;
+    $('file').value = '';
+    $('file').click();
+  }
+
+  async #readFile() {
+    const [file] = $('file').files;
+    if (file === undefined) return;
+    const pane = this.panes[$('file').dataset.pane];
+    if (file.size > MOST_SAVED) return tellVerdict('bad', 'No answer:', ' the file is above 256 MiB.');
+    pane.content = await file.text();
+    pane.whenChanged();
+  }
+}
+
+const DIGIT_FAULTS = {
+  sign: 'two hexadecimal digits stand for each byte, 0 to 9 and a to f. There is another sign.',
+  odd: 'two hexadecimal digits stand for each byte. One is missing.',
+};
+
+/** A name stands for the container, as in the program. */
+function jsonOfFormat(format) {
+  return /^\s*[{"]/.test(format) ? format.trim() : JSON.stringify({ TYPENAME: format });
+}
+
+function tellVerdict(state, strong, text) {
+  const verdict = $('verdict');
+  verdict.className = `verdict ${state}`;
+  const told = document.createElement('strong');
+  told.textContent = strong;
+  verdict.replaceChildren(told, text);
+}
+
+function noteOn({ isCut, first, pieces, covered, length, stop }) {
+  if (!isCut || pieces.length === 0) return '';
+  const begin = shownNumber(pieces[0].place);
+  const of = stop && first > 0 ? 'the last before the stop' : `of ${counted(length, 'byte', 'bytes')}`;
+  return `bytes ${begin} to ${shownNumber(covered)} shown, ${of}`;
+}
+
+/** One piece with its way; of several, from where to where they go. */
+function detailOf(lit) {
+  const [first, last] = [lit[0], lit.at(-1)];
+  const size = last.place + last.size - first.place;
+  const where = `byte ${shownNumber(first.place)}, ${counted(size, 'byte', 'bytes')}`;
+  if (lit.length > 1) return `${where}: ${counted(lit.length, 'piece', 'pieces')} from ${shownName(first.name, 300)}`;
+  const path = first.path === null ? '' : `  path ${first.path}`;
+  return `${where}: ${meaningOf(first)}  ${shownName(first.name, 300)}${path}`;
+}
+
+function meaningOf({ kind, what, value }) {
+  const name = shownName(what);
+  switch (kind) {
+    case 'length':
+      return `length of ${name}: ${value}`;
+    case 'variant':
+      return `${name}, variant ${value}`;
+    case 'option':
+      return value ? 'OPTION, present' : 'OPTION, absent';
+    case 'text':
+      return `text ${shownName(JSON.stringify(value))}`;
+    case 'bytes':
+      return counted(value, 'byte', 'bytes');
+    case 'octets':
+      return `${value} × U8`;
+    default:
+      return `${name} ${value}`;
+  }
+}
+
+async function copied(text) {
+  try {
+    await navigator.clipboard.writeText(text);
+    return true;
+  } catch {
+    return false;
+  }
+}
+
+/** Says for a moment on a button what came of it. */
+function flash(button, text) {
+  button.dataset.name ??= button.textContent;
+  button.textContent = text;
+  setTimeout(() => (button.textContent = button.dataset.name), 2000);
+}
+
+if (typeof WebAssembly === 'object' && WebAssembly.validate(WIDE_MODULE)) {
+  new Page();
+} else {
+  $('unsupported').hidden = false;
+  $('verdict').hidden = true;
+}

@@ -1,0 +1,63 @@
+// The page's questions to the worker. One is asked at a time; of those of one kind that wait, only the newest is asked.
+const MOST_SECONDS = 20;
+
+export class Questions {
+  #source;
+  #module;
+  #worker;
+  #waiting = new Map();
+  #running;
+  #number = 0;
+
+  constructor(source, module) {
+    this.#source = URL.createObjectURL(new Blob([source], { type: 'text/javascript' }));
+    this.#module = module;
+    this.#start();
+  }
+
+  /** Resolves to `{ answer }` or `{ refusal }`, or to `undefined` where a newer question of the kind took its place. */
+  ask(question, asked) {
+    return new Promise((resolve) => {
+      this.#waiting.get(question)?.resolve(undefined);
+      this.#waiting.set(question, { question, asked, resolve });
+      this.#next();
+    });
+  }
+
+  #start() {
+    this.#worker = new Worker(this.#source);
+    this.#worker.onmessage = ({ data }) => this.#end(data);
+    this.#worker.onerror = (event) => this.#end({ refusal: { kind: 'page', reason: event.message } });
+    this.#send({ question: 'start', asked: { module: this.#module }, resolve: () => {} });
+  }
+
+  #next() {
+    if (this.#running) return;
+    const [next] = this.#waiting.values();
+    if (next === undefined) return;
+    this.#waiting.delete(next.question);
+    this.#send(next);
+  }
+
+  #send(job) {
+    const id = ++this.#number;
+    const timer = setTimeout(() => this.#breakOff(), MOST_SECONDS * 1000);
+    this.#running = { ...job, id, timer };
+    this.#worker.postMessage({ id, question: job.question, ...job.asked });
+  }
+
+  #end({ answer, refusal }) {
+    const { resolve, timer } = this.#running;
+    clearTimeout(timer);
+    this.#running = undefined;
+    resolve({ answer, refusal });
+    this.#next();
+  }
+
+  #breakOff() {
+    this.#worker.terminate();
+    this.#running.resolve({ refusal: { kind: 'page', reason: `no answer within ${MOST_SECONDS} seconds: broken off` } });
+    this.#running = undefined;
+    this.#start();
+  }
+}

@@ -1,0 +1,147 @@
+// What runs beside the page, so that the page never waits: each message is a question, and is answered by one message.
+import { load, BcsError } from '../bcs.mjs';
+import { bytesOfHex, hexOf } from '../hex.mjs';
+import { blankOf } from './blank.mjs';
+import { laidOut } from './layout.mjs';
+import { outlineOf } from './outline.mjs';
+
+// A few bytes can announce two billion nodes without any: the page takes on no more than a large text has.
+const MOST_NODES = 4_000_000;
+// Of longer bytes only the pieces of a front are told.
+const MOST_EXPLAINED = 128 << 10;
+const FRONT_EXPLAINED = 32 << 10;
+const MOST_PIECES = 1500;
+const MOST_NAMES = 2000;
+const MOST_LAID_OUT = 200_000;
+
+let bcs;
+let open = { text: undefined, registry: undefined, containers: undefined };
+let last = { text: '', bytes: new Uint8Array() };
+
+const ANSWERS = { start, registry, value, blank, normal, compare, whole };
+
+self.onmessage = async ({ data: { id, question, ...asked } }) => {
+  try {
+    self.postMessage({ id, answer: await ANSWERS[question](asked) });
+  } catch (error) {
+    self.postMessage({ id, refusal: refusalOf(error) });
+  }
+};
+
+function refusalOf(error) {
+  if (error instanceof BcsError) return { kind: error.kind, reason: error.reason, place: error.place };
+  return { kind: 'page', reason: error.message };
+}
+
+/** Unpacks and compiles the module. */
+async function start({ module }) {
+  const packed = Uint8Array.from(atob(module), (character) => character.charCodeAt(0));
+  const stream = new Blob([packed]).stream().pipeThrough(new DecompressionStream('gzip'));
+  bcs = await load(await new Response(stream).arrayBuffer());
+  return {};
+}
+
+function opened(text) {
+  if (open.text !== text) {
+    const registry = bcs.registry(text).withLimits({ nodes: MOST_NODES });
+    open = { text, registry, containers: new Map(Object.entries(JSON.parse(text))) };
+  }
+  return open;
+}
+
+/** Whether a registry is good, and the names of its containers. */
+function registry({ text }) {
+  const names = [...opened(text).containers.keys()];
+  return { count: names.length, names: names.slice(0, MOST_NAMES) };
+}
+
+/** A value by its text or by its bytes: the other side, and the pieces. */
+function value({ registry: text, format, side, content }) {
+  const { registry } = opened(text);
+  registry.check(format);
+  return side === 'text' ? valueOfText(registry, format, content) : valueOfBytes(registry, format, content);
+}
+
+function valueOfText(registry, format, text) {
+  const bytes = registry.encodeText(format, text);
+  last = { text, bytes };
+  return { length: bytes.length, digits: digitsOf(bytes), explained: explained(registry, format, bytes) };
+}
+
+function valueOfBytes(registry, format, digits) {
+  const bytes = bytesOfHex(digits.replace(/\s+/g, '').replace(/^0x/i, ''));
+  if (bytes === undefined) throw new BcsError('digits', digits.match(/[^0-9a-f\s]/i) ? 'sign' : 'odd');
+  last = { text: '', bytes };
+  try {
+    last.text = registry.decodeText(format, bytes);
+    return { length: bytes.length, text: shownText(last.text), explained: explained(registry, format, bytes) };
+  } catch (error) {
+    // (of damaged bytes there are pieces, too)
+    if (!(error instanceof BcsError) || error.kind !== 'bytes') throw error;
+    return { length: bytes.length, refusal: refusalOf(error), explained: explained(registry, format, bytes) };
+  }
+}
+
+/** The other side is handed to the page in full where it can be shown in full, and else a front of it. */
+function digitsOf(bytes) {
+  return { front: hexOf(bytes.subarray(0, MOST_LAID_OUT / 2)), isCut: bytes.length > MOST_LAID_OUT / 2 };
+}
+
+function shownText(text) {
+  const isCut = text.length > MOST_LAID_OUT;
+  return { front: isCut ? text.slice(0, MOST_LAID_OUT) : laidOut(text), isCut };
+}
+
+/** The pieces of the bytes with their outline. At damage the last of them are told, and else the first. */
+function explained(registry, format, bytes) {
+  const isFront = bytes.length > MOST_EXPLAINED;
+  const told = registry.explain(format, isFront ? bytes.subarray(0, FRONT_EXPLAINED) : bytes);
+  const end = told.pop();
+  // (a front ends before its value does, which is no damage)
+  const stop = end.refused !== undefined && !(isFront && end.refused === 'EndOfInput') ? end : undefined;
+  const first = stop ? Math.max(0, told.length - MOST_PIECES) : 0;
+  const outline = outlineOf(open.containers, parsed(format), told);
+  const pieces = told.slice(first, first + MOST_PIECES);
+  const covered = pieces.length === 0 ? 0 : pieces.at(-1).place + pieces.at(-1).bytes.length / 2;
+  return {
+    first,
+    pieces: pieces.map(shortened),
+    rows: outline.filter((row) => row.to >= first && row.from < first + MOST_PIECES),
+    stop,
+    rest: stop ? hexOf(bytes.subarray(covered, covered + 64)) : '',
+    covered,
+    length: bytes.length,
+    isCut: isFront || first > 0 || told.length > MOST_PIECES,
+  };
+}
+
+function parsed(format) {
+  return /^[{"]/.test(format) ? JSON.parse(format) : { TYPENAME: format };
+}
+
+/** A long piece without the middle of its bytes. */
+function shortened(piece) {
+  const size = piece.bytes.length / 2;
+  const { bytes, value } = piece;
+  const text = typeof value === 'string' ? value.slice(0, 200) : value;
+  return { ...piece, size, value: text, bytes: size > 2048 ? bytes.slice(0, 2048) : bytes };
+}
+
+function blank({ registry: text, format }) {
+  const { registry, containers } = opened(text);
+  registry.check(format);
+  return { text: laidOut(JSON.stringify(blankOf(containers, parsed(format)))) };
+}
+
+function normal({ registry: text, format, content }) {
+  return { text: shownText(opened(text).registry.normalise(format, content)) };
+}
+
+function compare({ registry: text, format, first, second }) {
+  return { isEqual: opened(text).registry.equal(format, first, second) };
+}
+
+/** The whole of the last value, for the clipboard or a file. */
+function whole({ side }) {
+  return { content: side === 'text' ? last.text : hexOf(last.bytes) };
+}

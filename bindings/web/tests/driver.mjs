@@ -1,0 +1,77 @@
+// node tests/driver.mjs bcs.wasm: answers the lines that bindings/rows.py asks, by the calls of bcs.mjs.
+import { readFileSync } from 'node:fs';
+import { createInterface } from 'node:readline';
+import { BcsError, load } from '../bcs.mjs';
+import { bytesOfHex, hexOf } from '../hex.mjs';
+
+const bcs = await load(readFileSync(process.argv[2]));
+const decoder = new TextDecoder('utf-8', { fatal: true, ignoreBOM: true });
+const encoder = new TextEncoder();
+
+const STATUSES = { text: 'refused', bytes: 'refused', growth: 'refused' };
+
+const DONE = { status: 'done', fault: '-', place: 0, length: 0, output: new Uint8Array() };
+const NO = { ...DONE, status: 'no' };
+
+function put(output) {
+  const bytes = typeof output === 'string' ? encoder.encode(output) : output;
+  return { ...DONE, length: bytes.length, output: bytes };
+}
+
+/** Where the pieces end in damage, it is told beside them. */
+function pieces(registry, format, bytes, form) {
+  const text = registry.explainText(format, bytes, form);
+  const { refused, place } = JSON.parse(registry.explainText(format, bytes, 'json').trimEnd().split('\n').at(-1));
+  return refused === undefined ? put(text) : { ...put(text), fault: refused, place };
+}
+
+const CALLS = {
+  check: (registry, format) => (registry.check(format), DONE),
+  to_bcs: (registry, format, text) => put(registry.encodeText(format, text)),
+  from_bcs: (registry, format, bytes) => put(registry.decodeText(format, bytes)),
+  normalise: (registry, format, text) => put(registry.normalise(format, text)),
+  compare: (registry, format, first, second) => (registry.equal(format, first, second) ? DONE : NO),
+  scan: (registry, format, bytes) => ({ ...DONE, length: registry.scan(format, bytes) }),
+  part: (registry, format, bytes, path) => {
+    const part = registry.part(format, bytes, path);
+    return part === undefined ? NO : { ...DONE, place: part.place, length: part.bytes.length };
+  },
+};
+
+function answerTo(call, words) {
+  if (call === 'fault_name') {
+    const name = bcs.faultName(Number(words[0]));
+    return name === undefined ? NO : put(name);
+  }
+  if (call === 'grows') return bcs.grows(...words.map(bytesOfHex)), DONE;
+  const [registryText, formatText, depth, nodes, ...others] = words;
+  const registry = bcs.registry(bytesOfHex(registryText)).withLimits({ depth: Number(depth), nodes: Number(nodes) });
+  const format = formatOf(decoder.decode(bytesOfHex(formatText)));
+  if (call === 'explain') return pieces(registry, format, bytesOfHex(others[0]), others[1]);
+  return CALLS[call](registry, format, ...others.map(bytesOfHex));
+}
+
+class Unsayable extends Error {}
+
+/** A text that is no format's JSON would be taken for a container's name. */
+function formatOf(text) {
+  if (!/^[{"]/.test(text)) throw new Unsayable();
+  return text;
+}
+
+function line(call, words) {
+  try {
+    const { status, fault, place, length, output } = answerTo(call, words);
+    return [status, fault, place, length, hexOf(output)].join('\t');
+  } catch (error) {
+    if (error instanceof Unsayable || error instanceof TypeError) return 'unsayable';
+    if (!(error instanceof BcsError)) throw error;
+    const { kind, reason, place } = error;
+    return [STATUSES[kind] ?? kind, kind === 'memory' ? '-' : reason, place ?? 0, 0, ''].join('\t');
+  }
+}
+
+for await (const text of createInterface({ input: process.stdin, crlfDelay: Infinity })) {
+  const [call, ...words] = text.split('\t');
+  process.stdout.write(line(call, words) + '\n');
+}
