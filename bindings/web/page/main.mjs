@@ -19,7 +19,7 @@ const $ = (id) => document.getElementById(id);
 const sourceOf = (id) => $(id).textContent;
 
 class Page {
-  #questions = new Questions(sourceOf('worker'), sourceOf('module').trim());
+  #questions = new Questions(sourceOf('worker'), sourceOf('module').trim(), (reason) => tellBroken(reason));
   #examples = JSON.parse(sourceOf('examples'));
   #lights = new Lights();
   #digits = new Digits($('digits'), this.#lights);
@@ -77,7 +77,7 @@ class Page {
 
   #listExamples() {
     const options = this.#examples.map(({ title }, i) => new Option(title, String(i)));
-    $('example').replaceChildren(...options, new Option('your own registry', OWN));
+    $('example').replaceChildren(...options, new Option('your own', OWN));
   }
 
   #takeChosenExample() {
@@ -91,7 +91,7 @@ class Page {
     const { registry, format, side, content } = this.#examples[i];
     $('example').value = String(i);
     await this.#show({ registry, format, side, content });
-    if (content === '') this.#fill('blank', {});
+    if (content === '' && $('example').value === String(i)) await this.#fill('blank', {});
   }
 
   /** Takes over a whole state: that of an example, or of a link. */
@@ -150,6 +150,7 @@ class Page {
   }
 
   #changed(side) {
+    $('example').value = OWN;
     this.#side = side;
     this.#later('value', () => this.#answer());
   }
@@ -207,7 +208,7 @@ class Page {
     if (refusal) this.#tellFault(refusal);
     if (!answer) return;
     const { front, isCut } = typeof answer.text === 'string' ? { front: answer.text, isCut: false } : answer.text;
-    if (isCut) return;
+    if (isCut) return tellVerdict('bad', 'Too long:', ' it isn’t shown here.');
     this.panes.text.content = front;
     this.#side = 'text';
     await this.#answer();
@@ -310,6 +311,10 @@ function tellVerdict(state, strong, text) {
   const told = document.createElement('strong');
   told.textContent = strong;
   verdict.replaceChildren(told, text);
+}
+
+function tellBroken(reason) {
+  tellVerdict('bad', 'The codec can’t start:', ` ${reason}.`);
 }
 
 function noteOn({ isCut, first, pieces, covered, length, stop }) {

@@ -49,7 +49,7 @@ export class Pane {
     const shown = isCut ? text.slice(0, FRONT_SHOWN) : text;
     if (this.#area.value !== shown) this.#area.value = shown;
     this.#area.readOnly = isCut;
-    this.#note.textContent = isCut ? `${counted(length, 'character', 'characters')}, the first ${FRONT_SHOWN} shown` : '';
+    this.#note.textContent = isCut ? `${counted(length, 'character', 'characters')}, the first ${FRONT_SHOWN} shown; Delete clears` : '';
   }
 
   #takeLongInput(event) {

@@ -9,9 +9,11 @@ export class Questions {
   #running;
   #number = 0;
 
-  constructor(source, module) {
-    this.#source = URL.createObjectURL(new Blob([source], { type: 'text/javascript' }));
+  /** `whenBroken` is told why there will be no answers. */
+  constructor(source, module, whenBroken) {
+    this.#source = scriptAddress(URL.createObjectURL(new Blob([source], { type: 'text/javascript' })));
     this.#module = module;
+    this.whenBroken = whenBroken;
     this.#start();
   }
 
@@ -28,7 +30,8 @@ export class Questions {
     this.#worker = new Worker(this.#source);
     this.#worker.onmessage = ({ data }) => this.#end(data);
     this.#worker.onerror = (event) => this.#end({ refusal: { kind: 'page', reason: event.message } });
-    this.#send({ question: 'start', asked: { module: this.#module }, resolve: () => {} });
+    const resolve = ({ refusal }) => refusal && this.whenBroken(refusal.reason);
+    this.#send({ question: 'start', asked: { module: this.#module }, resolve });
   }
 
   #next() {
@@ -60,4 +63,9 @@ export class Questions {
     this.#running = undefined;
     this.#start();
   }
+}
+
+/** The page's policy lets no text become a script, but for the address of its own worker, by this name. */
+function scriptAddress(address) {
+  return globalThis.trustedTypes?.createPolicy('bcs-worker', { createScriptURL: (it) => it }).createScriptURL(address) ?? address;
 }

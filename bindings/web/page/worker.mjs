@@ -10,7 +10,7 @@ const MOST_NODES = 4_000_000;
 // Of longer bytes only the pieces of a front are told.
 const MOST_EXPLAINED = 128 << 10;
 const FRONT_EXPLAINED = 32 << 10;
-const MOST_PIECES = 1500;
+const MOST_PIECES = 1000;
 const MOST_NAMES = 2000;
 const MOST_LAID_OUT = 200_000;
 

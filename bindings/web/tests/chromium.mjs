@@ -69,10 +69,20 @@ export class Chromium {
   }
 }
 
+/** Where an element stands, near its front, once it is in sight. */
+function placeOf(expression) {
+  return `(() => {
+    const element = ${expression};
+    element.scrollIntoView({ block: 'nearest' });
+    const { x, y, width, height } = element.getBoundingClientRect();
+    return { x: x + Math.min(width / 2, 60), y: y + Math.min(height / 2, 8) };
+  })()`;
+}
+
 /** One page: what it requests and what it complains of is noted from the start. */
 class PageHandle {
-  requests = [];
   complaints = [];
+  #requested = new Map();
 
   constructor(chromium, session, target) {
     this.chromium = chromium;
@@ -83,9 +93,15 @@ class PageHandle {
 
   #note({ method, params, sessionId }) {
     if (sessionId !== this.session) return;
-    if (method === 'Network.requestWillBeSent') this.requests.push(params.request.url);
+    if (method === 'Network.requestWillBeSent') this.#requested.set(params.requestId, params.request.url);
+    // (what the policy blocks is told, but never sent)
+    if (method === 'Network.loadingFailed' && params.blockedReason) this.#requested.delete(params.requestId);
     if (method === 'Runtime.exceptionThrown') this.complaints.push(params.exceptionDetails.exception?.description);
     if (method === 'Log.entryAdded' && params.entry.level === 'error') this.complaints.push(params.entry.text);
+  }
+
+  get requests() {
+    return [...this.#requested.values()];
   }
 
   send(method, params) {
@@ -129,10 +145,15 @@ class PageHandle {
     await this.send('Input.insertText', { text });
   }
 
-  /** Moves the pointer to the middle of an element. */
-  async point(expression) {
-    const [x, y] = await this.ask(`(() => { const box = (${expression}).getBoundingClientRect(); return [box.x + Math.min(box.width / 2, 60), box.y + Math.min(box.height / 2, 8)]; })()`);
-    await this.send('Input.dispatchMouseEvent', { type: 'mouseMoved', x, y });
+  /** Moves the pointer onto an element, until what should come of it is true. */
+  async point(expression, wanted) {
+    const end = Date.now() + 10_000;
+    for (;;) {
+      await this.send('Input.dispatchMouseEvent', { type: 'mouseMoved', ...(await this.ask(placeOf(expression))) });
+      if (await this.ask(`Boolean(${wanted})`)) return;
+      if (Date.now() > end) throw new Error(`pointing at ${expression} never made true: ${wanted}`);
+      await this.send('Input.dispatchMouseEvent', { type: 'mouseMoved', x: 1, y: 1 });
+    }
   }
 
   async picture({ isWhole = true } = {}) {

@@ -1,0 +1,191 @@
+// The calls of bcs.mjs: what each answers and refuses, and values in JavaScript's own types. BCS_WASM names the module.
+// Wanted values are those of the BCS specification and of docs/FORMAT.md.
+import assert from 'node:assert/strict';
+import { readFileSync } from 'node:fs';
+import test from 'node:test';
+import { BcsError, isSupported, load } from '../bcs.mjs';
+import { bytesOfHex, hexOf } from '../hex.mjs';
+
+const module = await WebAssembly.compile(readFileSync(process.env.BCS_WASM));
+const bcs = await load(module);
+const none = bcs.registry('{}');
+const MAP = '{"MAP":{"KEY":"STR","VALUE":"U8"}}';
+const SHAPES = {
+  Nothing: 'UNITSTRUCT',
+  Id: { NEWTYPESTRUCT: 'U64' },
+  Pair: { TUPLESTRUCT: ['U8', 'BOOL'] },
+  Point: { STRUCT: [{ x: 'U8' }, { y: 'I8' }] },
+  Shape: {
+    ENUM: {
+      0: { Dot: 'UNIT' },
+      2: { Circle: { NEWTYPE: 'U8' } },
+      5: { Box: { TUPLE: ['U8', 'U8'] } },
+      200: { Named: { STRUCT: [{ side: 'U16' }] } },
+    },
+  },
+  Chain: { STRUCT: [{ next: { OPTION: { TYPENAME: 'Chain' } } }] },
+};
+const shapes = bcs.registry(JSON.stringify(SHAPES));
+
+const refusal = (kind, reason, place) => (error) => {
+  assert.ok(error instanceof BcsError, String(error));
+  assert.deepEqual([error.kind, error.reason, error.place], [kind, reason, place]);
+  return true;
+};
+const coded = (registry, format, value, digits, back = value) => {
+  assert.equal(hexOf(registry.encode(format, value)), digits);
+  assert.deepEqual(registry.decode(format, bytesOfHex(digits)), back);
+};
+
+test('the module imports nothing, and has the calls of the header alone', () => {
+  assert.ok(isSupported());
+  assert.deepEqual(WebAssembly.Module.imports(module), []);
+  const header = readFileSync(new URL('../../c/include/bcs.h', import.meta.url), 'utf8');
+  const calls = Array.from(header.matchAll(/^bcs_answer (bcs_\w+)\(/gm), (found) => found[1]);
+  const exported = WebAssembly.Module.exports(module).map(({ name }) => name);
+  assert.deepEqual(exported.sort(), [...calls, 'memory', 'take_memory', 'give_memory'].sort());
+});
+
+test('texts to bytes, and back', () => {
+  assert.equal(hexOf(none.encodeText('"I16"', '-4660')), 'cced');
+  assert.equal(hexOf(none.encodeText(MAP, '[["aa",2],["b",1]]')), '0201620102616102');
+  assert.equal(none.decodeText(MAP, bytesOfHex('0201620102616102')), '[["b",1],["aa",2]]');
+  assert.equal(none.normalise(MAP, ' [["aa", 2], ["b", 1]] '), '[["b",1],["aa",2]]');
+  assert.equal(none.equal(MAP, '[["aa",2],["b",1]]', '[["b","1"],["aa",2]]'), true);
+  assert.equal(none.equal(MAP, '[["aa",2]]', '[["aa",3]]'), false);
+});
+
+test('numbers of all widths', () => {
+  coded(none, '"U8"', 255, 'ff');
+  coded(none, '"U32"', 305419896, '78563412');
+  coded(none, '"U64"', 1311768467750121216n, '00efcdab78563412');
+  coded(none, '"U64"', 7, '0700000000000000', 7n);
+  coded(none, '"I64"', -2n, 'feffffffffffffff');
+  coded(none, '"U128"', 340282366920938463463374607431768211455n, 'ff'.repeat(16));
+  coded(none, '"I128"', -(2n ** 127n), '00'.repeat(15) + '80');
+  coded(none, '"U16"', 513n, '0102', 513);
+});
+
+test('numbers that JavaScript does not hold exactly are no values', () => {
+  for (const number of [2 ** 53, 1.5, NaN, Infinity]) assert.throws(() => none.encode('"U64"', number), RangeError);
+  for (const value of [undefined, () => 1, Symbol('a')]) assert.throws(() => none.encode('"UNIT"', value), TypeError);
+});
+
+test('texts, bytes, lists and options', () => {
+  coded(none, '"STR"', 'çå∞≠¢õß∂ƒ∫', '18c3a7c3a5e2889ee289a0c2a2c3b5c39fe28882c692e288ab');
+  coded(none, '"STR"', '\ufeffa', '04efbbbf61');
+  coded(none, '"BYTES"', Uint8Array.of(0xc0, 0xde), '02c0de');
+  coded(none, { SEQ: 'U8' }, [1, 2], '020102', Uint8Array.of(1, 2));
+  coded(none, { TUPLEARRAY: { CONTENT: 'U8', SIZE: 3 } }, Uint8Array.of(1, 2, 3), '010203');
+  coded(none, { SEQ: 'U16' }, Uint16Array.of(1, 2), '0201000200', [1, 2]);
+  coded(none, { SEQ: 'U64' }, BigUint64Array.of(5n), '010500000000000000', [5n]);
+  coded(none, { OPTION: { OPTION: 'BOOL' } }, { some: { some: true } }, '010101');
+  coded(none, { OPTION: { OPTION: 'BOOL' } }, { some: null }, '0100');
+  coded(none, { TUPLE: ['UNIT', 'BOOL', 'U64'] }, [null, false, 1n], '000100000000000000');
+});
+
+test('maps', () => {
+  coded(none, MAP, new Map([['b', 1], ['aa', 2]]), '0201620102616102');
+  coded(none, { MAP: { KEY: 'U64', VALUE: 'BYTES' } }, new Map([[1n, Uint8Array.of(7)]]), '0101000000000000000107');
+  assert.equal(hexOf(none.encode(MAP, [['aa', 2], ['b', 1]])), '0201620102616102');
+  const byteKeys = none.decode({ MAP: { KEY: 'BYTES', VALUE: 'UNIT' } }, bytesOfHex('020101020202'));
+  assert.deepEqual([...byteKeys.keys()], [Uint8Array.of(1), Uint8Array.of(2, 2)]);
+});
+
+test('containers of each kind', () => {
+  assert.deepEqual(shapes.names, ['Nothing', 'Id', 'Pair', 'Point', 'Shape', 'Chain']);
+  coded(shapes, 'Nothing', null, '');
+  coded(shapes, 'Id', 7n, '0700000000000000');
+  coded(shapes, 'Pair', [7, true], '0701');
+  coded(shapes, 'Point', { x: 1, y: -1 }, '01ff');
+  coded(shapes, 'Shape', 'Dot', '00');
+  coded(shapes, 'Shape', { Circle: 5 }, '0205');
+  coded(shapes, 'Shape', { Box: [1, 2] }, '050102');
+  coded(shapes, 'Shape', { Named: { side: 513 } }, 'c8010102');
+  coded(shapes, 'Chain', { next: { some: { next: null } } }, '0100');
+});
+
+test('names of objects’ own members are names as any others', () => {
+  const odd = bcs.registry('{"__proto__":{"STRUCT":[{"__proto__":"U8"},{"constructor":"U8"},{"toString":"U64"}]}}');
+  const value = odd.decode('__proto__', bytesOfHex('01020300000000000000'));
+  assert.deepEqual(Object.entries(value), [['__proto__', 1], ['constructor', 2], ['toString', 3n]]);
+  assert.equal(Object.getPrototypeOf(value), Object.prototype);
+  assert.equal(hexOf(odd.encode('__proto__', value)), '01020300000000000000');
+  const variants = bcs.registry('{"E":{"ENUM":{"0":{"A":"UNIT"},"1":{"__proto__":{"NEWTYPE":"U64"}}}}}');
+  assert.deepEqual(Object.entries(variants.decode('E', bytesOfHex('010500000000000000'))), [['__proto__', 5n]]);
+});
+
+test('refusals by kind, reason and place', () => {
+  assert.throws(() => bcs.registry('[]'), refusal('registry', 'BadShape'));
+  assert.throws(() => bcs.registry('{"A":{"NEWTYPESTRUCT":{"TYPENAME":"B"}}}'), refusal('registry', 'UnknownName'));
+  assert.throws(() => none.check('Point'), refusal('format', 'UnknownName'));
+  assert.throws(() => none.encodeText('"U8"', '256'), refusal('text', 'BadNumber'));
+  assert.throws(() => none.encodeText(MAP, '[["a",1],["a",1]]'), refusal('text', 'RepeatedKey'));
+  assert.throws(() => none.encode({ TUPLE: ['U8'] }, []), refusal('text', 'BadShape'));
+  assert.throws(() => none.decode(MAP, bytesOfHex('0201620103616102')), refusal('bytes', 'EndOfInput', 8));
+  assert.throws(() => none.decode('"BOOL"', bytesOfHex('02')), refusal('bytes', 'BadBool', 0));
+  assert.throws(() => none.scan('"STR"', bytesOfHex('8000')), refusal('bytes', 'LongForm', 0));
+  assert.throws(() => none.part('"U8"', bytesOfHex('07'), 'a//b'), refusal('path', 'BadPath'));
+  assert.throws(() => none.withLimits({ depth: 501 }).encodeText('"U8"', '7'), refusal('limits', 'TooDeep'));
+  assert.throws(() => shapes.withLimits({ depth: 1 }).decode('Chain', bytesOfHex('0100')), refusal('bytes', 'TooDeep', 1));
+  const many = none.withLimits({ nodes: 1000 });
+  assert.throws(() => many.decode({ SEQ: 'UNIT' }, bytesOfHex('ffffffff07')), refusal('bytes', 'TooManyNodes', 5));
+  const nested = `${'['.repeat(101)}${']'.repeat(101)}`;
+  assert.throws(() => none.encodeText('"U8"', nested), refusal('text', 'TooNested'));
+  assert.throws(() => none.withLimits({ depth: -1 }), RangeError);
+});
+
+test('half of a surrogate pair is refused, and not changed', () => {
+  assert.throws(() => none.encodeText('"STR"', '"\ud800"'), TypeError);
+  assert.throws(() => none.encode('"STR"', '\ud800'), refusal('text', 'NotJson'));
+  coded(none, '"STR"', '😀', '04f09f9880');
+});
+
+test('growth', () => {
+  const older = '{"E":{"ENUM":{"0":{"A":"UNIT"}}}}';
+  const newer = '{"E":{"ENUM":{"0":{"A":"UNIT"},"1":{"B":"UNIT"}}},"S":"UNITSTRUCT"}';
+  assert.equal(bcs.grows(older, newer), undefined);
+  assert.throws(() => bcs.grows(newer, older), refusal('growth', 'VariantMissing'));
+  assert.throws(() => bcs.grows('{"S":"UNITSTRUCT"}', '{}'), refusal('growth', 'Missing'));
+  assert.throws(() => bcs.grows('[]', '{'), refusal('registry', 'BadShape'));
+  assert.throws(() => bcs.grows('{}', '{'), refusal('newer', 'NotJson'));
+});
+
+test('scans, parts and pieces', () => {
+  assert.equal(none.scan(MAP, bytesOfHex('0201620102616102ff')), 8);
+  const map = '{"MAP":{"KEY":"U16","VALUE":"BOOL"}}';
+  assert.deepEqual(none.part(map, bytesOfHex('02000100010001'), 'key:0100'), { place: 6, bytes: Uint8Array.of(1) });
+  assert.equal(none.part(map, bytesOfHex('02000100010001'), 'key:0101'), undefined);
+  assert.deepEqual(shapes.explain({ SEQ: { TYPENAME: 'Shape' } }, bytesOfHex('02020500')), [
+    { bytes: '02', kind: 'length', name: '.', path: '.', place: 0, value: 2, what: 'SEQ' },
+    { bytes: '02', kind: 'variant', name: '[0]', path: '0/inner', place: 1, value: 2, what: 'Shape::Circle' },
+    { bytes: '05', kind: 'unsigned', name: '[0]::Circle', path: '0/inner/inner', place: 2, value: '5', what: 'U8' },
+    { bytes: '00', kind: 'variant', name: '[1]', path: '1/inner', place: 3, value: 0, what: 'Shape::Dot' },
+    { end: 4 },
+  ]);
+  const damaged = none.explain('"STR"', bytesOfHex('0261ff')).at(-1);
+  assert.deepEqual(damaged, { name: '.', path: '.', place: 2, refused: 'BadUtf8', want: '2 bytes of STR' });
+  assert.equal(none.explainText('"UNIT"', new Uint8Array()), '');
+  assert.throws(() => none.explainText('"UNIT"', new Uint8Array(), 'table'), TypeError);
+});
+
+test('names of faults', () => {
+  assert.equal(bcs.faultName(402), 'BadBool');
+  assert.equal(bcs.faultName(0), undefined);
+  assert.equal(bcs.faultName(499), undefined);
+});
+
+test('as deep as it goes, and a call behind each that is refused', () => {
+  const bytes = (count) => new Uint8Array(count).fill(1, 0, count - 1);
+  assert.equal(shapes.scan('Chain', bytes(500)), 500);
+  assert.throws(() => shapes.scan('Chain', bytes(501)), refusal('bytes', 'TooDeep', 500));
+  assert.throws(() => none.encodeText('"U8"', '['.repeat(100_000)), refusal('text', 'NotJson'));
+  assert.equal(hexOf(none.encodeText('"U8"', '7')), '07');
+});
+
+test('many calls take no more memory, and large ones give it back', () => {
+  const text = JSON.stringify(Array.from({ length: 200_000 }, (_, i) => i));
+  for (let i = 0; i < 5; i++) assert.equal(none.encodeText({ SEQ: 'U32' }, text).length, 800_003);
+  for (let i = 0; i < 20_000; i++) none.encodeText('"U8"', '7');
+  assert.ok(process.memoryUsage().rss < 2 ** 30, 'a gibibyte');
+});

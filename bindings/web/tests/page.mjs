@@ -1,0 +1,347 @@
+// The page in headless Chromium, opened from the disk and handled as by a reader. BCS_PAGE names the file; with BCS_PICTURES
+// a folder gets pictures of it.
+import assert from 'node:assert/strict';
+import { mkdtempSync, readFileSync, rmSync, writeFileSync } from 'node:fs';
+import { tmpdir } from 'node:os';
+import { join, resolve } from 'node:path';
+import test, { after } from 'node:test';
+import { pathToFileURL } from 'node:url';
+import { Chromium } from './chromium.mjs';
+
+const address = pathToFileURL(resolve(process.env.BCS_PAGE)).href;
+const read = (name) => readFileSync(new URL(`../../../examples/${name}`, import.meta.url), 'utf8').trim();
+const chromium = await Chromium.start();
+after(() => chromium.end());
+
+const verdict = "document.getElementById('verdict').textContent";
+const valueOf = (id) => `document.getElementById('${id}').value`;
+const focus = (page, id) => page.ask(`document.getElementById('${id}').focus()`);
+const ALL = { modifiers: 2 };
+
+/** A page that stands ready, with its first example. */
+async function opened(options, fragment = '') {
+  const page = await chromium.page(options);
+  await page.open(address + fragment);
+  await page.until(`${verdict}.includes('the one encoding') || ${verdict}.includes('Refused')`);
+  return page;
+}
+
+async function replace(page, id, text) {
+  await focus(page, id);
+  await page.press('a', ALL);
+  await page.type(text);
+}
+
+async function choose(page, id, label) {
+  await page.ask(`(() => {
+    const list = document.getElementById('${id}');
+    list.value = [...list.options].find((option) => option.text === ${JSON.stringify(label)}).value;
+    list.dispatchEvent(new Event('change'));
+  })()`);
+}
+
+/** No page complains of anything, or asks for more than itself and its own worker. */
+async function isQuiet(page) {
+  assert.deepEqual(page.complaints, []);
+  for (const request of page.requests) assert.ok(request.startsWith(address) || request.startsWith('blob:'), request);
+  await page.close();
+}
+
+test('each example gives the other side', async () => {
+  const page = await opened();
+  assert.equal(await page.ask(valueOf('bytes')), read('aptos_transfer.hex'));
+  for (const [title, file] of [
+    ['Aptos: two of three signatures', 'aptos_two_of_three.hex'],
+    ['Sui: a transfer', 'sui_transfer.hex'],
+    ['Sui: a stake', 'sui_stake.hex'],
+  ]) {
+    await choose(page, 'example', title);
+    await page.until(`${valueOf('bytes')} === '${read(file)}'`);
+  }
+  await choose(page, 'example', 'Diem: a blank transaction');
+  await page.until(`${verdict}.includes('the one encoding') && ${valueOf('text')}.includes('sequence_number')`);
+  await isQuiet(page);
+});
+
+test('typing on either side changes the other', async () => {
+  const page = await opened();
+  await choose(page, 'container', 'ChainId');
+  await replace(page, 'text', '7');
+  await page.until(`${valueOf('bytes')} === '07'`);
+  await focus(page, 'text');
+  await page.type('1');
+  await page.until(`${valueOf('bytes')} === '47'`);
+  await replace(page, 'bytes', 'FF');
+  await page.until(`${valueOf('text')} === '255'`);
+  await replace(page, 'bytes', '0x 08');
+  await page.until(`${valueOf('text')} === '8'`);
+  await replace(page, 'bytes', '0');
+  await page.until(`${verdict}.includes('One is missing')`);
+  assert.ok(await page.ask("document.getElementById('text-side').classList.contains('stale')"));
+  await isQuiet(page);
+});
+
+test('a text that is refused is told, and the other side is marked', async () => {
+  const page = await opened();
+  await replace(page, 'text', read('aptos_transfer_damaged.json'));
+  await page.until(`${verdict}.includes('BadHex')`);
+  assert.match(await page.ask(verdict), /Refused: BadHex\. .*without 0x/);
+  assert.ok(await page.ask("document.getElementById('bytes-side').classList.contains('stale')"));
+  assert.equal(await page.ask("document.querySelectorAll('.piece').length"), 0);
+  await replace(page, 'text', read('aptos_transfer.json'));
+  await page.until(`${verdict}.includes('211 bytes')`);
+  assert.ok(!(await page.ask("document.getElementById('bytes-side').classList.contains('stale')")));
+  await isQuiet(page);
+});
+
+test('damage is shown at its byte, with what was wanted', async () => {
+  const page = await opened();
+  for (const [title, stop, told, damaged] of [
+    ['Aptos: damaged bytes', 'LongForm at 73', /at byte 73: LongForm\..*length of STR, at \.payload::EntryFunction\.module\.name/, '84'],
+    ['Sui: damaged bytes', 'BadBool at 65', /at byte 65: BadBool\..*Wanted there: BOOL, at ::V1.*\.mutable/, '02'],
+  ]) {
+    await choose(page, 'example', title);
+    await page.until(`document.querySelector('#tree .stop')?.textContent.startsWith('${stop} wanted')`);
+    assert.match(await page.ask(verdict), told);
+    assert.equal(await page.ask("document.querySelector('.damage').textContent"), damaged);
+  }
+  await isQuiet(page);
+});
+
+test('the digits of all pieces are the bytes', async () => {
+  const page = await opened();
+  const shown = await page.ask("Array.from(document.querySelectorAll('.piece'), (it) => it.textContent).join('').replaceAll(' ', '')");
+  assert.equal(shown, read('aptos_transfer.hex'));
+  await isQuiet(page);
+});
+
+const lit = "Array.from(document.querySelectorAll('.piece.lit'), (it) => it.textContent).join(' ')";
+const litRow = "document.querySelector('#tree .lit')?.textContent";
+
+test('pointing at digits or at a row lights the other', async () => {
+  const page = await opened();
+  const row = (text) => `[...document.querySelectorAll('#tree [role=treeitem]')].find((it) => it.textContent.includes('${text}'))`;
+  await page.point(row('"coin"'), `${lit} === '04 63 6f 69 6e'`);
+  const digits = "[...document.querySelectorAll('.piece')].find((it) => it.textContent.startsWith('0b 00'))";
+  await page.point(digits, `${litRow}?.includes('sequence_number')`);
+  assert.equal(await page.ask(lit), '0b 00 00 00 00 00 00 00');
+  assert.match(await page.ask("document.getElementById('detail').textContent"), /byte 32, 8 bytes: U64 11 .*\.sequence_number/);
+  await page.point(row('ModuleId'), "document.querySelectorAll('.piece.within').length >= 3");
+  await page.point("document.querySelector('h1')", "document.querySelectorAll('.lit, .within').length === 0");
+  await isQuiet(page);
+});
+
+test('all of it works by keyboard', async () => {
+  const page = await opened();
+  const active = 'document.activeElement.id || document.activeElement.textContent.trim()';
+  const order = [];
+  for (let i = 0; i < 20; i++) {
+    await page.press('Tab');
+    order.push(await page.ask(active));
+  }
+  for (const id of ['link', 'example', 'container', 'normal', 'blank', 'text', 'bytes', 'digits', 'tree']) assert.ok(order.includes(id), id);
+  assert.ok(order.indexOf('text') < order.indexOf('bytes') && order.indexOf('digits') < order.indexOf('tree'));
+  await focus(page, 'digits');
+  await page.until(`${litRow}?.includes('sender')`);
+  await page.press('ArrowRight');
+  await page.until(`${litRow}?.includes('sequence_number')`);
+  await page.press('End');
+  await page.until(`${litRow}?.includes('chain_id')`);
+  assert.equal(await page.ask("document.activeElement.getAttribute('aria-activedescendant')"), await page.ask("document.querySelector('.piece.lit').id"));
+  await focus(page, 'tree');
+  await page.press('Home');
+  await page.press('ArrowDown');
+  await page.until(`${lit}.startsWith('7d ee cc b1')`);
+  const outline = await page.ask("getComputedStyle(document.activeElement).outlineStyle");
+  assert.notEqual(outline, 'none');
+  await isQuiet(page);
+});
+
+test('two texts are compared', async () => {
+  const page = await opened();
+  await page.ask("document.getElementById('compare-box').open = true");
+  await page.ask("document.getElementById('take').click()");
+  const told = "document.getElementById('compare-verdict').textContent";
+  await replace(page, 'second', read('aptos_transfer_normal.json'));
+  await page.until(`${told} === 'equal'`);
+  await replace(page, 'second', read('aptos_transfer_normal.json').replace('"11"', '"12"'));
+  await page.until(`${told} === 'different'`);
+  await replace(page, 'second', '{}');
+  await page.until(`${told} === 'refused: MissingField'`);
+  await isQuiet(page);
+});
+
+test('a link restores the whole state', async () => {
+  const page = await opened();
+  await choose(page, 'example', 'Sui: damaged bytes');
+  await page.until(`${verdict}.includes('BadBool')`);
+  await page.ask("(document.getElementById('compare-box').open = true, document.getElementById('first').focus())");
+  await page.type('null');
+  await page.ask("document.getElementById('link').click()");
+  await page.until("location.hash.startsWith('#1.')");
+  const fragment = await page.ask('location.hash');
+  const other = await opened({}, fragment);
+  assert.equal(await other.ask(verdict), await page.ask(verdict));
+  assert.equal(await other.ask(valueOf('bytes')), await page.ask(valueOf('bytes')));
+  assert.equal(await other.ask(valueOf('first')), 'null');
+  assert.equal(await other.ask("document.getElementById('container').selectedOptions[0].text"), 'TransactionData');
+  await isQuiet(page);
+  await isQuiet(other);
+});
+
+test('a damaged link leaves the page as it is', async () => {
+  const page = await opened({}, '#1.AAAAnothing');
+  assert.equal(await page.ask(valueOf('bytes')), read('aptos_transfer.hex'));
+  await isQuiet(page);
+});
+
+// (as a text, since a member called __proto__ in a program sets what an object is made from)
+const HOSTILE = `{
+  "<img src=x onerror=alert(1)>": {"STRUCT": [{"<script>alert(2)</script>": "U8"}, {"__proto__": "STR"}, {"a\\u202eb": "U8"}]},
+  "__proto__": "UNITSTRUCT",
+  "constructor": "UNITSTRUCT"
+}`;
+
+test('names of a hostile registry are text', async () => {
+  const page = await opened();
+  await page.ask('window.alert = () => (window.alerted = true)');
+  await page.ask("document.getElementById('registry-box').open = true");
+  await replace(page, 'registry', HOSTILE);
+  await page.until("document.getElementById('registry-verdict').textContent === '3 containers'");
+  assert.deepEqual(await page.ask("Array.from(document.getElementById('container').options, (it) => it.text)"), [
+    '<img src=x onerror=alert(1)>',
+    '__proto__',
+    'constructor',
+    'another format',
+  ]);
+  await choose(page, 'container', '<img src=x onerror=alert(1)>');
+  await replace(page, 'bytes', '07023c6209');
+  await page.until(`${verdict}.includes('5 bytes')`);
+  const rows = await page.ask("Array.from(document.querySelectorAll('#tree .label'), (it) => it.textContent)");
+  assert.deepEqual(rows, ['value', '<script>alert(2)</script>', '__proto__', 'a\\u{202e}b']);
+  assert.equal(await page.ask("document.querySelectorAll('main img, main script').length"), 0);
+  assert.equal(await page.ask('window.alerted'), undefined);
+  await isQuiet(page);
+});
+
+test('no connection leaves the page, whatever runs in it', async () => {
+  const page = await opened();
+  const tries = [
+    "fetch('https://example.org/')",
+    "new Promise((resolve, reject) => { const it = new Image(); it.onload = resolve; it.onerror = reject; it.src = 'https://example.org/a.png'; })",
+    "new Promise((resolve, reject) => { const it = new WebSocket('wss://example.org/'); it.onopen = resolve; it.onerror = reject; })",
+  ];
+  for (const attempt of tries) await assert.rejects(page.ask(attempt), attempt);
+  assert.ok(page.complaints.length >= tries.length);
+  assert.ok(page.complaints.every((text) => /Content Security Policy|Refused|violates/.test(text ?? '')), page.complaints.join('\n'));
+  const sent = page.requests.filter((request) => !request.startsWith('file:') && !request.startsWith('blob:'));
+  assert.deepEqual(sent, []);
+  await page.close();
+});
+
+const inFrames = `(() => {
+  window.longest = 0;
+  let last = performance.now();
+  const tick = () => {
+    const now = performance.now();
+    window.longest = Math.max(window.longest, now - last);
+    last = now;
+    requestAnimationFrame(tick);
+  };
+  requestAnimationFrame(tick);
+})()`;
+
+test('a text of 5 MB is answered soon, and the page does not stand still', async () => {
+  const page = await opened();
+  const room = mkdtempSync(join(tmpdir(), 'bcs-large-'));
+  const numbers = Array.from({ length: 470_000 }, (_, i) => (i * 2654435761) % 4294967296);
+  const text = JSON.stringify(numbers);
+  assert.ok(text.length > 5_000_000);
+  writeFileSync(join(room, 'large.json'), text);
+  await choose(page, 'container', 'another format');
+  await replace(page, 'format', '{"SEQ":"U32"}');
+  await page.ask(inFrames);
+  await page.ask("document.querySelector('[data-open=text]').click()");
+  const { root } = await page.send('DOM.getDocument');
+  const { nodeId } = await page.send('DOM.querySelector', { nodeId: root.nodeId, selector: '#file' });
+  const start = Date.now();
+  await page.send('DOM.setFileInputFiles', { nodeId, files: [join(room, 'large.json')] });
+  await page.until(`${verdict}.includes('1,880,003 bytes')`, 20);
+  const elapsed = Date.now() - start;
+  const longest = await page.ask('window.longest');
+  console.log(`# 5 MB: answered in ${elapsed} ms, longest pause of the page ${Math.round(longest)} ms`);
+  assert.ok(elapsed < 5000, `${elapsed} ms`);
+  assert.ok(longest < 500, `the page stood still for ${longest} ms`);
+  assert.match(await page.ask("document.getElementById('text-note').textContent"), /characters, the first 4000 shown/);
+  assert.match(await page.ask("document.getElementById('bytes-note').textContent"), /3,760,006 characters, the first 4000 shown/);
+  assert.match(await page.ask("document.getElementById('pieces-note').textContent"), /bytes 0 to .* shown, of 1,880,003 bytes/);
+  await focus(page, 'bytes');
+  await page.press('Delete');
+  await page.type('0100000000');
+  await page.until(`${valueOf('text')} === '[0]'`);
+  rmSync(room, { recursive: true });
+  await isQuiet(page);
+});
+
+test('a long text that is pasted is held aside', async () => {
+  const page = await opened();
+  await choose(page, 'container', 'another format');
+  await replace(page, 'format', '"STR"');
+  await replace(page, 'text', JSON.stringify('é'.repeat(400_000)));
+  await page.until(`${verdict}.includes('800,003 bytes')`);
+  assert.equal(await page.ask(`${valueOf('text')}.length`), 4000);
+  await isQuiet(page);
+});
+
+test('a value with millions of parts without bytes is refused soon', async () => {
+  const page = await opened();
+  await choose(page, 'container', 'another format');
+  await replace(page, 'format', '{"SEQ":"UNIT"}');
+  await replace(page, 'bytes', 'ffffffff07');
+  await page.until(`${verdict}.includes('TooManyNodes')`, 15);
+  await isQuiet(page);
+});
+
+test('where there is no 64-bit memory, the page says so', async () => {
+  const page = await chromium.page();
+  await page.send('Page.addScriptToEvaluateOnNewDocument', { source: 'WebAssembly.validate = () => false;' });
+  await page.open(address);
+  await page.until("!document.getElementById('unsupported').hidden");
+  assert.match(await page.ask("document.getElementById('unsupported').textContent"), /64-bit memory.*133.*134/s);
+  await isQuiet(page);
+});
+
+const LIGHTNESS = `(() => {
+  const channel = (it) => (it /= 255) <= 0.03928 ? it / 12.92 : ((it + 0.055) / 1.055) ** 2.4;
+  const lightness = (text) => { const [r, g, b] = text.match(/[\\d.]+/g).map(Number); return 0.2126 * channel(r) + 0.7152 * channel(g) + 0.0722 * channel(b); };
+  const groundOf = (it) => { const colour = getComputedStyle(it).backgroundColor; return /^rgba.*, 0\\)$/.test(colour) ? groundOf(it.parentElement) : colour; };
+  const faint = [];
+  for (const it of document.querySelectorAll('h1, p, label, button, select, textarea, summary, summary span, .piece, .offset, .label, .value, .what, .legend span, .behind, .damage, .note')) {
+    if (!it.checkVisibility() || it.textContent.trim() === '' && !it.value) continue;
+    const [one, other] = [lightness(getComputedStyle(it).color), lightness(groundOf(it))];
+    const contrast = (Math.max(one, other) + 0.05) / (Math.min(one, other) + 0.05);
+    if (contrast < 4.5) faint.push(it.className + ' ' + it.textContent.slice(0, 20) + ' ' + contrast.toFixed(2));
+  }
+  return faint;
+})()`;
+
+for (const scheme of ['light', 'dark']) {
+  for (const width of [375, 1600]) {
+    test(`it fits ${width} pixels, and can be read, ${scheme}`, async () => {
+      const page = await opened({ width, height: width < 600 ? 1600 : 1180, scheme });
+      const coin = "[...document.querySelectorAll('#tree [role=treeitem]')].find((it) => it.textContent.includes('\"coin\"'))";
+      await page.point(coin, `${lit} === '04 63 6f 69 6e'`);
+      assert.equal(await page.ask('document.documentElement.scrollWidth'), width);
+      assert.deepEqual(await page.ask(LIGHTNESS), []);
+      const unnamed = "[...document.querySelectorAll('button, input:not([type=file]), select, textarea')].filter((it) => !it.labels?.length && !it.textContent.trim() && !it.ariaLabel).length";
+      assert.equal(await page.ask(unnamed), 0);
+      const folder = process.env.BCS_PICTURES;
+      if (folder) writeFileSync(join(folder, `${width}-${scheme}.png`), await page.picture({ isWhole: false }));
+      await choose(page, 'example', 'Sui: damaged bytes');
+      await page.until(`${verdict}.includes('BadBool')`);
+      assert.deepEqual(await page.ask(LIGHTNESS), []);
+      if (folder) writeFileSync(join(folder, `${width}-${scheme}-damage.png`), await page.picture({ isWhole: false }));
+      await isQuiet(page);
+    });
+  }
+}

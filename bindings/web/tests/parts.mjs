@@ -1,0 +1,140 @@
+// The parts of the page that need no browser: texts laid out, blank values, links, names, and the outline over pieces.
+import assert from 'node:assert/strict';
+import { readFileSync } from 'node:fs';
+import test from 'node:test';
+import { load } from '../bcs.mjs';
+import { bytesOfHex } from '../hex.mjs';
+import { blankOf } from '../page/blank.mjs';
+import { laidOut } from '../page/layout.mjs';
+import { fragmentOf, stateOf } from '../page/link.mjs';
+import { shownName } from '../page/names.mjs';
+import { outlineOf } from '../page/outline.mjs';
+import { sentenceOn } from '../page/reasons.mjs';
+
+const bcs = await load(readFileSync(process.env.BCS_WASM));
+const read = (name) => readFileSync(new URL(`../../../examples/${name}`, import.meta.url), 'utf8');
+
+test('a text is laid out, and means the same', () => {
+  assert.equal(laidOut('{"a":[1,2],"b":null}'), '{"a": [1, 2], "b": null}');
+  assert.equal(laidOut('{"a":[1,2],"b":null}', 12), '{\n  "a": [1, 2],\n  "b": null\n}');
+  assert.equal(laidOut('[[1,[]],{}]', 7), '[\n  [\n    1,\n    []\n  ],\n  {}\n]');
+  assert.equal(laidOut('"{[,:\\"]}"'), '"{[,:\\"]}"');
+  assert.equal(laidOut('7'), '7');
+  for (const name of ['sui_stake_normal.json', 'aptos_two_of_three_normal.json']) {
+    const text = read(name).trim();
+    assert.equal(laidOut(text).replace(/("(?:[^"\\]|\\.)*")|\s+/g, '$1'), text);
+  }
+});
+
+test('blank values of each container are values, but where one stands within itself', () => {
+  for (const name of ['aptos_registry', 'sui_registry', 'diem_transaction']) {
+    const text = read(`${name}.json`);
+    const registry = bcs.registry(text);
+    const containers = new Map(Object.entries(JSON.parse(text)));
+    for (const container of registry.names) {
+      const blank = JSON.stringify(blankOf(containers, { TYPENAME: container }));
+      assert.ok(registry.encodeText(container, blank).length >= 0, container);
+    }
+  }
+  assert.deepEqual(blankOf(new Map([['A', { NEWTYPESTRUCT: { TYPENAME: 'A' } }]]), { TYPENAME: 'A' }), null);
+});
+
+test('a link holds the whole state, and nothing else is taken for one', async () => {
+  const state = { registry: '{"é":"UNITSTRUCT"}', format: '"U8"', side: 'text', content: '7', first: '', second: '\u0000' };
+  const fragment = await fragmentOf(state);
+  assert.match(fragment, /^[-_.0-9A-Za-z]+$/);
+  assert.deepEqual(await stateOf(fragment), state);
+  for (const text of ['', '1.', '2.AAAA', '1.%%%', fragment.slice(0, 30), await fragmentOf({ ...state, content: 7 })]) {
+    assert.equal(await stateOf(text), undefined, text);
+  }
+});
+
+test('a link that unpacks to more than 32 MiB is left alone, and a long state gets none', async () => {
+  const blank = { registry: '', format: '', side: 'text', first: '', second: '' };
+  assert.equal(await stateOf(await fragmentOf({ ...blank, content: ' '.repeat(33 << 20) })), undefined);
+  const noise = Array.from({ length: 200_000 }, () => Math.random().toString(36).slice(2)).join('');
+  assert.equal(await fragmentOf({ ...blank, content: noise }), undefined);
+});
+
+test('names are made visible', () => {
+  assert.equal(shownName('a b'), 'a b');
+  assert.equal(shownName('a\u202eb\u0000\u200b\n'), 'a\\u{202e}b\\u{0}\\u{200b}\\u{a}');
+  assert.equal(shownName('x'.repeat(200)), 'x'.repeat(120) + '…');
+});
+
+test('each reason has a sentence', () => {
+  const header = readFileSync(new URL('../../c/include/bcs.h', import.meta.url), 'utf8');
+  const kinds = { 1: ['registry'], 3: ['text'], 4: ['bytes'], 5: ['bytes'] };
+  for (const [, number] of header.matchAll(/ = ([1345]\d\d)[,\n]/g)) {
+    for (const kind of kinds[number[0]]) assert.notEqual(sentenceOn(kind, bcs.faultName(Number(number))), '', number);
+  }
+});
+
+/** Each piece is an own piece of one row; rows hold the pieces of the rows below them. */
+function isWholeOutline(rows, pieces) {
+  const owned = rows.flatMap(({ from, own }) => Array.from({ length: own - from }, (_, i) => from + i));
+  assert.deepEqual(owned, pieces.map((_, i) => i));
+  rows.forEach((row, i) => {
+    assert.ok(row.from <= row.own && row.own <= row.to);
+    const below = rows.slice(i + 1).findIndex(({ level }) => level <= row.level);
+    const last = rows[below < 0 ? rows.length - 1 : i + below];
+    assert.equal(last.to, row.to);
+  });
+}
+
+const outlineAt = (registryName, format, name) => {
+  const text = read(`${registryName}.json`);
+  const pieces = bcs.registry(text).explain(format, bytesOfHex(read(`${name}.hex`).trim()));
+  const end = pieces.pop();
+  return { rows: outlineOf(new Map(Object.entries(JSON.parse(text))), { TYPENAME: format }, pieces), pieces, end };
+};
+
+test('the outline of the examples has each piece once', () => {
+  for (const [registryName, format, name] of [
+    ['aptos_registry', 'RawTransaction', 'aptos_transfer'],
+    ['aptos_registry', 'SignedTransaction', 'aptos_two_of_three'],
+    ['sui_registry', 'TransactionData', 'sui_transfer'],
+    ['sui_registry', 'TransactionData', 'sui_stake'],
+    ['aptos_registry', 'RawTransaction', 'aptos_transfer_damaged'],
+    ['sui_registry', 'TransactionData', 'sui_stake_damaged'],
+  ]) {
+    const { rows, pieces } = outlineAt(registryName, format, name);
+    isWholeOutline(rows, pieces);
+  }
+});
+
+test('the outline of a transfer', () => {
+  const { rows } = outlineAt('aptos_registry', 'RawTransaction', 'aptos_transfer');
+  const told = rows.map(({ level, label, value, what }) => [level, label, value, what]);
+  assert.deepEqual(told.slice(0, 8), [
+    [0, '', undefined, 'RawTransaction'],
+    [1, 'sender', '7deeccb1080854f4…7adbd2d6', 'AccountAddress, 32 × U8'],
+    [1, 'sequence_number', '11', 'U64'],
+    [1, 'payload', 'EntryFunction', 'TransactionPayload'],
+    [2, 'module', undefined, 'ModuleId'],
+    [3, 'address', '0000000000000000…00000001', 'AccountAddress, 32 × U8'],
+    [3, 'name', '"coin"', 'Identifier, STR'],
+    [2, 'function', '"transfer"', 'Identifier, STR'],
+  ]);
+});
+
+test('the outline of each kind of format', () => {
+  const containers = new Map();
+  const registry = bcs.registry('{}');
+  for (const [format, digits] of [
+    [{ MAP: { KEY: 'STR', VALUE: { OPTION: 'U8' } } }, '020162000261610107'],
+    [{ TUPLE: ['UNIT', 'BOOL', { TUPLE: [] }] }, '01'],
+    [{ TUPLEARRAY: { CONTENT: 'U16', SIZE: 2 } }, '01000200'],
+    [{ TUPLEARRAY: { CONTENT: 'U8', SIZE: 0 } }, ''],
+    [{ SEQ: { SEQ: 'U8' } }, '0200020102'],
+    [{ SEQ: 'UNIT' }, 'ff0f'],
+    ['STR', '00'],
+    ['BYTES', '0201'],
+    [{ OPTION: { OPTION: 'I128' } }, '0101' + 'ff'.repeat(16)],
+    [{ MAP: { KEY: 'U8', VALUE: 'U8' } }, '02050004'],
+  ]) {
+    const pieces = registry.explain(JSON.stringify(format), bytesOfHex(digits));
+    pieces.pop();
+    isWholeOutline(outlineOf(containers, format, pieces), pieces);
+  }
+});
