@@ -110,7 +110,7 @@ export interface Registry {
   /** Returns if the format is good. */
   check(format: Format): void;
   /** The bytes of a value. */
-  encode(format: Format, value: Value | unknown): Uint8Array;
+  encode(format: Format, value: Value): Uint8Array;
   /** The bytes of the value that a JSON text denotes. */
   encodeText(format: Format, text: Text): Uint8Array;
   /** The value whose bytes are the whole input. */

@@ -1,0 +1,44 @@
+// What the declarations let through, and what they refuse: `tsc` reads this, and nothing runs it.
+import { BcsError, isSupported, load } from '../bcs.mjs';
+import type { End, Piece, Registry, Stop, Value } from '../bcs.mjs';
+
+export async function calls(wasm: Uint8Array): Promise<void> {
+  if (!isSupported()) return;
+  const bcs = await load(wasm);
+  await load(fetch('bcs.wasm'));
+  const registry: Registry = bcs.registry('{}').withLimits({ depth: 3 });
+  bcs.grows('{}', new Uint8Array());
+  const name: string | undefined = bcs.faultName(402);
+  const bytes: Uint8Array = registry.encode({ SEQ: 'U8' }, [1, 2n, new Uint8Array(), new Map([['a', null]]), { some: true }]);
+  const value: Value = registry.decode({ MAP: { KEY: 'STR', VALUE: { OPTION: 'U8' } } }, bytes);
+  const texts: string[] = [registry.decodeText('A', bytes), registry.normalise('A', bytes), registry.explainText('A', bytes, 'tree')];
+  const isEqual: boolean = registry.equal('A', texts[0]!, '1');
+  const length: number = registry.scan('A', registry.encodeText('A', '1'));
+  const place: number | undefined = registry.part('A', bytes, 'inner/0')?.place;
+  registry.check('"U8"');
+  for (const piece of registry.explain('A', bytes)) tell(piece);
+  console.log(name, value, isEqual, length, place, registry.names.length);
+}
+
+function tell(piece: Piece | End | Stop): void {
+  if ('end' in piece) console.log(piece.end);
+  else if ('refused' in piece) console.log(piece.refused, piece.want);
+  else console.log(piece.kind, piece.value);
+}
+
+export function kindOf(error: unknown): string {
+  return error instanceof BcsError ? `${error.kind} ${error.reason} ${error.place ?? ''}` : '';
+}
+
+export function refused(registry: Registry): void {
+  // @ts-expect-error: no value
+  registry.encode('A', undefined);
+  // @ts-expect-error: no format
+  registry.check({ LIST: 'U8' });
+  // @ts-expect-error: no word of a format
+  registry.check({ SEQ: 'U7' });
+  // @ts-expect-error: bytes are no text
+  registry.decode('A', '00');
+  // @ts-expect-error: no form
+  registry.explainText('A', new Uint8Array(), 'table');
+}
