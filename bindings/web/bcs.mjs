@@ -80,6 +80,7 @@ class Bcs {
 
   #refusal({ status, fault, place }) {
     if (status === 'memory') return new BcsError('memory', 'memory ran out');
+    if (status === 'limits') return new BcsError('limits', 'the depth is above 500');
     const kind = status === 'refused' ? kindOfFault(fault) : status;
     // (only where bytes stop being a value is there a place: the text that nests too deep has none)
     const isStop = kind === 'bytes' && fault < 500;

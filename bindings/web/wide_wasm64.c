@@ -1,4 +1,5 @@
-/* The arithmetic on 128 bits that WebAssembly lacks: what clang calls for it, by the names that clang gives. */
+/* The arithmetic on 128 bits that WebAssembly lacks: what clang calls for it, by the names that clang gives.
+   It is compiled without optimizing, since clang would find the product in __multi3, and make it by a call of __multi3. */
 typedef __INT64_TYPE__ int64_t;
 typedef __UINT64_TYPE__ uint64_t;
 typedef unsigned __int128 wide;

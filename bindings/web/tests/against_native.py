@@ -3,7 +3,7 @@
 
     python3 tests/against_native.py COUNT DRIVER [WORD]... -- OTHER-DRIVER [WORD]...
 
-What a driver reads and writes is told beside bindings/rows.py. The changes are drawn from the values of examples/ and from
+What a driver reads and writes bindings/README.md says. The changes are drawn from the values of examples/ and from
 rows of crates/test_rows, and are the same in each run.
 """
 

@@ -1,4 +1,4 @@
-// node tests/driver.mjs bcs.wasm: answers the lines that bindings/rows.py asks, by the calls of bcs.mjs.
+// node tests/driver.mjs bcs.wasm: answers the lines that bindings/rows asks, by the calls of bcs.mjs.
 import { readFileSync } from 'node:fs';
 import { createInterface } from 'node:readline';
 import { BcsError, load } from '../bcs.mjs';
@@ -67,7 +67,7 @@ function line(call, words) {
     if (error instanceof Unsayable || error instanceof TypeError) return 'unsayable';
     if (!(error instanceof BcsError)) throw error;
     const { kind, reason, place } = error;
-    return [STATUSES[kind] ?? kind, kind === 'memory' ? '-' : reason, place ?? 0, 0, ''].join('\t');
+    return [STATUSES[kind] ?? kind, kind === 'memory' || kind === 'limits' ? '-' : reason, place ?? 0, 0, ''].join('\t');
   }
 }
 

@@ -33,8 +33,8 @@ for (const [registryName, format, name] of VALUES) {
   });
 }
 
-// (a table tells the place of damage in a last line, which no call gives)
-const tableOf = (name) => read(`${name}.explained`).replace(/^at [^\n]*\n/m, '');
+// (behind the pieces the program prints its refusal and its place, which the calls tell apart from the text)
+const tableOf = (name) => read(`${name}.explained`).replace(/^(refused:|at) [^\n]*\n/gm, '');
 
 const DAMAGED = [
   ['aptos_registry', 'RawTransaction', 'aptos_transfer_damaged', 'BadHex', 'LongForm', 73],

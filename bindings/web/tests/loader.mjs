@@ -66,6 +66,17 @@ test('numbers of all widths', () => {
   coded(none, '"U16"', 513n, '0102', 513);
 });
 
+test('numbers of 128 bits, drawn over the whole range', () => {
+  let state = 88172645463325252n;
+  const drawn = () => (state = BigInt.asUintN(64, state * 6364136223846793005n + 1442695040888963407n));
+  for (let i = 0n; i < 500n; i++) {
+    const number = BigInt.asUintN(Number(i % 129n), (drawn() << 64n) | drawn());
+    const digits = number.toString(16).padStart(32, '0').match(/../g).reverse().join('');
+    coded(none, '"U128"', number, digits);
+    coded(none, '"I128"', BigInt.asIntN(128, number), digits);
+  }
+});
+
 test('numbers that JavaScript does not hold exactly are no values', () => {
   for (const number of [2 ** 53, 1.5, NaN, Infinity]) assert.throws(() => none.encode('"U64"', number), RangeError);
   for (const value of [undefined, () => 1, Symbol('a')]) assert.throws(() => none.encode('"UNIT"', value), TypeError);
@@ -126,7 +137,7 @@ test('refusals by kind, reason and place', () => {
   assert.throws(() => none.decode('"BOOL"', bytesOfHex('02')), refusal('bytes', 'BadBool', 0));
   assert.throws(() => none.scan('"STR"', bytesOfHex('8000')), refusal('bytes', 'LongForm', 0));
   assert.throws(() => none.part('"U8"', bytesOfHex('07'), 'a//b'), refusal('path', 'BadPath'));
-  assert.throws(() => none.withLimits({ depth: 501 }).encodeText('"U8"', '7'), refusal('limits', 'TooDeep'));
+  assert.throws(() => none.withLimits({ depth: 501 }).encodeText('"U8"', '7'), refusal('limits', 'the depth is above 500'));
   assert.throws(() => shapes.withLimits({ depth: 1 }).decode('Chain', bytesOfHex('0100')), refusal('bytes', 'TooDeep', 1));
   const many = none.withLimits({ nodes: 1000 });
   assert.throws(() => many.decode({ SEQ: 'UNIT' }, bytesOfHex('ffffffff07')), refusal('bytes', 'TooManyNodes', 5));
