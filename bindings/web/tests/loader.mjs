@@ -194,6 +194,58 @@ test('as deep as it goes, and a call behind each that is refused', () => {
   assert.equal(hexOf(none.encodeText('"U8"', '7')), '07');
 });
 
+test('where the engine’s stack ends, it is told, and the next call is answered', () => {
+  // (500 containers of 32 levels each are allowed: 16,000 levels)
+  const deep = Array.from({ length: 32 }).reduce((format) => ({ OPTION: format }), { TYPENAME: 'L' });
+  const registry = bcs.registry(JSON.stringify({ L: { STRUCT: [{ n: deep }] } }));
+  const bytes = new Uint8Array(32 * 500).fill(1);
+  assert.throws(
+    () => registry.scan('L', bytes),
+    (error) => error instanceof BcsError && (error.kind === 'stack' || error.reason === 'TooDeep'),
+  );
+  bytes[32 * 100 - 1] = 0;
+  assert.equal(registry.scan('L', bytes), 32 * 100);
+});
+
+test('where memory ends, it is told, and the next call is answered', async () => {
+  const small = await load(withMostPages(readFileSync(process.env.BCS_WASM), 128));
+  const registry = small.registry('{}');
+  const zeros = `[${'0,'.repeat(500_000)}0]`;
+  assert.throws(() => registry.encodeText({ SEQ: 'U32' }, zeros), refusal('memory', 'memory ran out'));
+  assert.equal(hexOf(registry.encodeText('"U8"', '7')), '07');
+  assert.throws(() => registry.encodeText('"STR"', `"${'a'.repeat(8 << 20)}"`), refusal('memory', 'memory ran out'));
+  assert.equal(hexOf(registry.encodeText('"U8"', '8')), '08');
+  const less = `[${'0,'.repeat(10_000)}0]`;
+  assert.equal(registry.encodeText({ SEQ: 'U32' }, less).length, 40_006);
+});
+
+/** The module with a memory of at most so many pages of 64 KiB. */
+function withMostPages(wasm, most) {
+  for (let at = 8; at < wasm.length; ) {
+    const [length, body] = numberAt(wasm, at + 1);
+    if (wasm[at] === 5) {
+      const [least] = numberAt(wasm, body + 2);
+      const memory = [1, 5, ...numeral(least), ...numeral(most)];
+      return Buffer.concat([wasm.subarray(0, at + 1), Buffer.from([memory.length, ...memory]), wasm.subarray(body + length)]);
+    }
+    at = body + length;
+  }
+  return assert.fail('the module has no memory');
+}
+
+/** A number by ULEB128 and where it ends. */
+function numberAt(bytes, at) {
+  let number = 0;
+  for (let shift = 0; ; shift += 7, at++) {
+    number += (bytes[at] & 127) * 2 ** shift;
+    if (bytes[at] < 128) return [number, at + 1];
+  }
+}
+
+function numeral(number) {
+  return number < 128 ? [number] : [(number % 128) | 128, ...numeral(Math.floor(number / 128))];
+}
+
 test('many calls take no more memory, and large ones give it back', () => {
   const text = JSON.stringify(Array.from({ length: 200_000 }, (_, i) => i));
   for (let i = 0; i < 5; i++) assert.equal(none.encodeText({ SEQ: 'U32' }, text).length, 800_003);
