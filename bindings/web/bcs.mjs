@@ -54,7 +54,7 @@ class Bcs {
 
   /** A registry, from its JSON text. */
   registry(text) {
-    return new Registry(this, bytesOf(text), STANDARD_LIMITS);
+    return new Registry(this, Uint8Array.from(bytesOf(text)), STANDARD_LIMITS);
   }
 
   /** Returns if the newer registry keeps all that the older one has; else it is refused, the first fault being told. */
@@ -148,7 +148,7 @@ class Registry {
 
   /** The normal JSON text of that value. */
   decodeText(format, bytes) {
-    return decoder.decode(this.#answer(format, (calls, ask) => calls.fromBcs(ask, bytes)).output);
+    return decoder.decode(this.#answer(format, (calls, ask) => calls.fromBcs(ask, isBytes(bytes))).output);
   }
 
   /** The one normal JSON text of the value that a JSON text denotes. */
@@ -164,13 +164,15 @@ class Registry {
 
   /** How many bytes the value at the front of the input has. */
   scan(format, bytes) {
-    return this.#answer(format, (calls, ask) => calls.scan(ask, bytes)).length;
+    return this.#answer(format, (calls, ask) => calls.scan(ask, isBytes(bytes))).length;
   }
 
   /** The part to which a path leads, such as `2/some/0`, and its place; `undefined` where it leads nowhere. */
   part(format, bytes, path) {
-    const { status, place, length } = this.#answer(format, (calls, ask) => calls.part(ask, bytes, bytesOf(path)));
-    return status === 'done' ? { place, bytes: bytes.slice(place, place + length) } : undefined;
+    const answer = this.#answer(format, (calls, ask) => calls.part(ask, isBytes(bytes), bytesOf(path)));
+    if (answer.status === 'no') return undefined;
+    const { place, length } = answer;
+    return { place, bytes: Uint8Array.from(bytes.subarray(place, place + length)) };
   }
 
   /** The pieces of the input, and behind them `{ end }`, or `{ refused, place, .. }` where they stop being a value. */
@@ -182,7 +184,7 @@ class Registry {
   /** The input piece by piece, as `bcs explain` prints it. */
   explainText(format, bytes, form = 'ways') {
     if (!['ways', 'paths', 'tree', 'json'].includes(form)) throw new TypeError(`no form is called ${form}`);
-    return decoder.decode(this.#answer(format, (calls, ask) => calls.explain(ask, form, bytes)).output);
+    return decoder.decode(this.#answer(format, (calls, ask) => calls.explain(ask, form, isBytes(bytes))).output);
   }
 
   #known() {
@@ -213,7 +215,12 @@ function textOfFormat(format) {
 
 /** A text as bytes. Half of a surrogate pair is refused, since it would turn into another character. */
 function bytesOf(text) {
-  if (typeof text !== 'string') return text;
+  if (typeof text !== 'string') return isBytes(text);
   if (/\p{Surrogate}/u.test(text)) throw new TypeError('the text has half of a surrogate pair, which UTF-8 has not');
   return encoder.encode(text);
+}
+
+function isBytes(bytes) {
+  if (bytes instanceof Uint8Array) return bytes;
+  throw new TypeError('bytes are handed over as a Uint8Array');
 }

@@ -147,25 +147,22 @@ export class Calls {
 
   /** One instance serves call after call. A call that was broken off may leave anything behind: its instance is let go. */
   #run(call) {
-    const room = this.#room ?? new Room(this.#module);
-    this.#room = undefined;
-    const answer = withInterruptions(() => {
+    try {
+      const room = this.#room ?? new Room(this.#module);
+      this.#room = undefined;
       const answer = call(room);
       room.giveBack();
+      if (room.size <= KEPT_MEMORY) this.#room = room;
       return answer;
-    });
-    if (room.size <= KEPT_MEMORY) this.#room = room;
-    return answer;
+    } catch (error) {
+      throw interruptionOf(error);
+    }
   }
 }
 
-function withInterruptions(call) {
-  try {
-    return call();
-  } catch (error) {
-    if (error instanceof WebAssembly.RuntimeError) throw new Interruption('stack', error);
-    // (engines tell an overrun stack as a RangeError or, Firefox, as an InternalError)
-    if (error instanceof RangeError || error.name === 'InternalError') throw new Interruption('stack', error);
-    throw error;
-  }
+/** A trap means that the stack within the memory ran out. Its own stack an engine tells by the words of an error. */
+function interruptionOf(error) {
+  const isStack = error instanceof WebAssembly.RuntimeError || /call stack|recursion/.test(error.message);
+  if (isStack) return new Interruption('stack', error);
+  return error instanceof RangeError ? new Interruption('memory', error) : error;
 }

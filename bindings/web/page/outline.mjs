@@ -10,8 +10,8 @@ export function outlineOf(containers, format, pieces) {
   try {
     outline.value(format, { level: 0, label: '', types: [] });
   } catch (error) {
-    // (where the engine's stack ends, the outline ends, too)
-    if (!(error instanceof OutOfPieces || error instanceof RangeError)) throw error;
+    // (where the engine's stack ends, which engines tell in words of their own, the outline ends, too)
+    if (!(error instanceof OutOfPieces || /call stack|recursion/.test(error.message))) throw error;
   }
   return outline.rows;
 }

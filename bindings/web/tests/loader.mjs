@@ -152,6 +152,30 @@ test('half of a surrogate pair is refused, and not changed', () => {
   coded(none, '"STR"', '😀', '04f09f9880');
 });
 
+test('what is no bytes, and no text, is not taken for any', () => {
+  for (const bytes of ['00', [0], new ArrayBuffer(1), undefined, Uint16Array.of(0)]) {
+    assert.throws(() => none.decode('"U8"', bytes), TypeError);
+    assert.throws(() => none.scan('"U8"', bytes), TypeError);
+    assert.throws(() => none.explain('"U8"', bytes), TypeError);
+  }
+  for (const text of [7, null, ['{}'], undefined]) {
+    assert.throws(() => bcs.registry(text), TypeError);
+    assert.throws(() => none.encodeText('"U8"', text), TypeError);
+  }
+});
+
+test('what is handed over, and what is handed out, is nobody else’s', () => {
+  const text = new TextEncoder().encode('{"A":{"NEWTYPESTRUCT":"U16"}}');
+  const registry = bcs.registry(text);
+  text.fill(0);
+  const bytes = Buffer.from('0102', 'hex');
+  const part = registry.part('A', bytes, '.');
+  const [first, second] = [registry.encode('A', 1), registry.encode('A', 2)];
+  bytes.fill(0);
+  assert.deepEqual(part, { place: 0, bytes: Uint8Array.of(1, 2) });
+  assert.deepEqual([hexOf(first), hexOf(second)], ['0100', '0200']);
+});
+
 test('growth', () => {
   const older = '{"E":{"ENUM":{"0":{"A":"UNIT"}}}}';
   const newer = '{"E":{"ENUM":{"0":{"A":"UNIT"},"1":{"B":"UNIT"}}},"S":"UNITSTRUCT"}';

@@ -138,3 +138,10 @@ test('the outline of each kind of format', () => {
     isWholeOutline(outlineOf(containers, format, pieces), pieces);
   }
 });
+
+test('the outline ends where the engine’s stack does', () => {
+  const deep = Array.from({ length: 20_000 }).reduce((format) => ({ OPTION: format }), 'U8');
+  const piece = { kind: 'option', value: true, bytes: '01', what: 'OPTION' };
+  const rows = outlineOf(new Map(), deep, Array.from({ length: 20_000 }, () => piece));
+  assert.ok(rows.length > 100 && rows.length < 20_000, String(rows.length));
+});
