@@ -1,0 +1,63 @@
+#!/usr/bin/env python3
+"""Builds the static library of crates/bcs_c over the libraries below it as they stand, which `rt ci` or `rt lib` left built.
+
+    bindings/proved_code.py FILE     makes FILE, the archive, as `rt lib` does in the crate's folder
+
+`rt lib` builds anew each library that `rt ci` built, since it keeps only what it built itself. So the gate builds the archive
+by this, over what it has proved a moment before. The crate itself is proved here once more.
+"""
+
+from __future__ import annotations
+
+import importlib.machinery
+import importlib.util
+import pathlib
+import subprocess
+import sys
+import types
+
+ROOT = pathlib.Path(__file__).resolve().parent.parent
+CRATE = ROOT / "crates/bcs_c"
+
+
+def kit_folder() -> pathlib.Path:
+    """Where the toolchain stands."""
+    try:
+        told = subprocess.run(["rt", "doc"], capture_output=True, text=True, check=True)
+    except FileNotFoundError:
+        sys.exit("the toolchain isn't there: no program is called rt")
+    return pathlib.Path(told.stdout.strip()).parent
+
+
+def words_of_crate(kit: pathlib.Path) -> list[str]:
+    """The words that rt gives rattle for the crate."""
+    sys.dont_write_bytecode, arguments, sys.argv = True, sys.argv, ["rt"]
+    loader = importlib.machinery.SourceFileLoader("rtlib", str(kit / "bin/rtlib.py"))
+    spec = importlib.util.spec_from_loader("rtlib", loader)
+    assert spec
+    rtlib: types.ModuleType = importlib.util.module_from_spec(spec)
+    sys.modules["rtlib"] = rtlib
+    loader.exec_module(rtlib)
+    sys.argv = arguments
+    return rtlib.Crate(str(CRATE), str(ROOT), {}, name=None).words(["--jobs", "1"])
+
+
+def prove_and_build(kit: pathlib.Path, archive: pathlib.Path, *more: str) -> None:
+    """Proves the crate and makes the archive, by rattle with more words than rt's."""
+    words = [str(kit / "bin/rattle"), "build", *words_of_crate(kit), "--incremental", "out/incremental", *more]
+    (CRATE / "out").mkdir(exist_ok=True)
+    built = subprocess.run([*words, "-o", str(archive)], cwd=CRATE, stdout=subprocess.PIPE, stderr=subprocess.STDOUT, text=True)
+    if built.returncode != 0:
+        print(built.stdout, file=sys.stderr)
+        sys.exit("crates/bcs_c isn't proved or built; the libraries below it have to be built first (rt ci, rt lib)")
+    print(built.stdout.strip().splitlines()[-1])
+
+
+def main() -> None:
+    if len(sys.argv) != 2:
+        sys.exit(f"Usage: {sys.argv[0]} FILE")
+    prove_and_build(kit_folder(), pathlib.Path(sys.argv[1]).resolve())
+
+
+if __name__ == "__main__":
+    main()
