@@ -274,7 +274,12 @@ def _standard_library() -> Library:
 
 def _bytes_of_text(text: Text) -> bytes:
     """What isn't Unicode is handed over too, so that it is refused as no JSON."""
-    return text.encode("utf-8", "surrogatepass") if isinstance(text, str) else bytes(text)
+    return text.encode("utf-8", "surrogatepass") if isinstance(text, str) else _bytes_of(text)
+
+
+def _bytes_of(data: Data) -> bytes:
+    """Of anything else, as a number or a text, memoryview raises TypeError."""
+    return data if isinstance(data, bytes) else memoryview(data).tobytes()
 
 
 def _jsonable(value: Any) -> Any:
@@ -282,7 +287,7 @@ def _jsonable(value: Any) -> Any:
     if isinstance(value, int) and not isinstance(value, bool):
         return int(value) if -(2**63) <= value < 2**64 else str(int(value))
     if isinstance(value, (bytes, bytearray, memoryview)):
-        return value.hex()
+        return _bytes_of(value).hex()
     if isinstance(value, Mapping):
         return {name: _jsonable(part) for name, part in value.items()}
     if isinstance(value, (list, tuple)):
@@ -350,7 +355,7 @@ class Registry:
 
     def decode_text(self, format: Format, data: Data, limits: Limits = STANDARD_LIMITS) -> str:
         """The one normal JSON text of the value whose bytes these are. Raises BytesError as `decode` does."""
-        data = bytes(data)
+        data = _bytes_of(data)
         ask = self._ask(format, limits)
         answer, text = self._library.put("bcs_from_bcs", 4 * len(data) + 100, ask, data, len(data))
         self._library.done(answer, BytesError)
@@ -379,7 +384,7 @@ class Registry:
 
     def scan(self, format: Format, data: Data, limits: Limits = STANDARD_LIMITS) -> int:
         """How many bytes the value at the front has. Raises BytesError where there is none."""
-        data = bytes(data)
+        data = _bytes_of(data)
         answer = self._library.ask("bcs_scan", self._ask(format, limits), data, len(data))
         self._library.done(answer, BytesError)
         return answer.length
@@ -387,7 +392,7 @@ class Registry:
     def part(self, format: Format, data: Data, path: str, limits: Limits = STANDARD_LIMITS) -> Optional[Part]:
         """The part of the value at the front to which a path leads, or None where it leads nowhere. A path is "." for the
         whole, or steps such as "2/inner/key:0161/0". Raises BytesError, or PathError where the path is none."""
-        data, steps = bytes(data), _bytes_of_text(path)
+        data, steps = _bytes_of(data), _bytes_of_text(path)
         answer = self._library.ask("bcs_part", self._ask(format, limits), data, len(data), steps, len(steps))
         if answer.status == _Status.NO:
             return None
@@ -403,7 +408,7 @@ class Registry:
         self, format: Format, data: Data, form: Form = Form.WAYS, limits: Limits = STANDARD_LIMITS
     ) -> str:
         """The pieces of bytes as lines, as `bcs explain` prints them. Damage is no error here: it stands in the last line."""
-        data = bytes(data)
+        data = _bytes_of(data)
         room = min(100 * len(data) + 1000, 1000000)
         answer, text = self._library.put("bcs_explain", room, self._ask(format, limits), int(form), data, len(data))
         self._library.done(answer, BytesError)

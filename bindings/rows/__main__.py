@@ -91,8 +91,10 @@ def main(words: list[str]) -> int:
     ask_rows(driver, tally, without)
     ask_pieces(driver, tally)
     driver.end()
-    print(f"rows: {tally.covered.total()} rows in {driver.calls} calls: {told_by_kind(tally.covered)}")
-    print(f"rows: {tally.unsayable.total()} rows aren't asked: {told_by_kind(tally.unsayable)}")
+    print(f"rows: asked: {told_by_kind(tally.covered)}")
+    print(f"rows: not asked: {told_by_kind(tally.unsayable)}")
+    asked, others = tally.covered.total(), tally.unsayable.total()
+    print(f"rows: {asked} rows in {driver.calls} calls, {tally.failed} of them wrong; {others} rows aren't asked")
     return 1 if tally.failed else 0
 
 

@@ -2,6 +2,7 @@
 
 import json
 import unittest
+from typing import Any
 
 from bcs_proved import (
     BcsError,
@@ -207,6 +208,20 @@ class Refused(unittest.TestCase):
             self.assertEqual((last["refused"], last["place"]), (reason, place))
         self.refuses(BytesError, "TrailingBytes", 1, self.registry.decode, '"U8"', b"\x07\x08")
         self.refuses(BytesError, "TooNested", None, self.registry.decode, "L", b"\x01" * 50 + b"\0")
+
+    def test_what_is_no_text_and_no_bytes(self) -> None:
+        """Python makes five zeros of `bytes(5)`."""
+        words: list[Any] = [5, None, [1]]
+        for word in words:
+            for call in [self.registry.decode, self.registry.scan, self.registry.explain, self.registry.encode_text]:
+                with self.assertRaises(TypeError):
+                    call('"BYTES"', word)
+            with self.assertRaises(TypeError):
+                self.registry.check(word)
+            with self.assertRaises(TypeError):
+                Registry(word)
+        with self.assertRaises(TypeError):
+            self.registry.decode('"BYTES"', "00")  # type: ignore[arg-type]
 
     def test_paths(self) -> None:
         for path in ["", "01", "inner/", "key:0", "\udc80"]:

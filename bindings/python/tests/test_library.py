@@ -14,9 +14,10 @@ SCRIPT = "import bcs_proved; print(bcs_proved.Registry('{}'%s).encode('\"U8\"', 
 
 
 def run(folder: str, words: str = "", **variables: str) -> subprocess.CompletedProcess[str]:
-    """Runs with the module in the folder, and no more variables than these."""
-    environment = {"PYTHONPATH": folder, "PYTHONDONTWRITEBYTECODE": "1", **variables}
-    return subprocess.run([sys.executable, "-c", SCRIPT % words], env=environment, capture_output=True, text=True, check=False)
+    """Runs in the folder, where the module is, with no more variables than these."""
+    environment = {"PYTHONDONTWRITEBYTECODE": "1", **variables}
+    command = [sys.executable, "-c", SCRIPT % words]
+    return subprocess.run(command, cwd=folder, env=environment, capture_output=True, text=True, check=False)
 
 
 class Places(unittest.TestCase):
