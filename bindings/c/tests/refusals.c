@@ -160,7 +160,7 @@ static void refused_bytes(void) {
                BCS_SHOWN_TOO_NESTED, 0);
 }
 
-/* Explaining damage is done, and tells the fault and the place beside the text. */
+/* Explaining damage is done, and tells the fault and the place beside the text, also where there is no room for it. */
 static void explained_damage(void) {
     for (size_t row = 0; row < COUNT(stops); row++) {
         const struct refused_value *value = &stops[row];
@@ -173,6 +173,13 @@ static void explained_damage(void) {
         CHECK(answer.length > 0 && answer.length < 2000);
         CHECK(are_untouched(out + answer.length, 2000 - answer.length));
         unguard(out, 2000);
+
+        out = guarded(answer.length - 1);
+        const bcs_answer before = make_guarded(job, out, answer.length - 1);
+        CHECK(before.status == BCS_SHORT && before.length == answer.length);
+        CHECK(before.fault == value->fault && before.place == value->place);
+        CHECK(are_untouched(out, answer.length - 1));
+        unguard(out, answer.length - 1);
     }
 }
 
