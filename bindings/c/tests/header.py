@@ -1,4 +1,3 @@
-#!/usr/bin/env python3
 """Compares include/bcs.h with the proved crate's sources: the names of the calls and their parameters, the fields of the
 structs, and the numbers of statuses, faults and forms. That the structs' fields stand where they should is in layout.c.
 

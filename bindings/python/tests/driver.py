@@ -1,4 +1,3 @@
-#!/usr/bin/env python3
 """The driver of Python: reads lines of calls and answers them, as bindings/README.md says."""
 
 import functools
