@@ -4,7 +4,9 @@ use crate::row_fault::RowFault;
 use crate::setting::Setting;
 use crate::words::bytes;
 use bcs_registry::Registry;
-use std::alloc::Global;
+use bcs_registry_changes::{Difference, differences, put_difference};
+use bcs_registry_places::containers_of;
+use std::alloc::{AllocError, Global};
 
 pub(crate) fn answer(
     alloc: Global,
@@ -17,6 +19,7 @@ pub(crate) fn answer(
         ("format", [text]) => format_read(alloc, setting, text),
         ("print", [text]) => printed(alloc, text),
         ("grows", [older, newer]) => grown(alloc, older, newer),
+        ("differences", [older, newer]) => differing(alloc, older, newer),
         _ => Err(RowFault::NotUnderstood),
     }
 }
@@ -53,4 +56,32 @@ fn grown(alloc: Global, older: &str, newer: &str) -> Result<String, RowFault> {
         Ok(()) => Ok(String::from_str(alloc, "grows")?),
         Err(fault) => Ok(format!(in alloc; "{fault}")?),
     }
+}
+
+// All differences of the two. `grows` tells the fault of the first that isn't an addition.
+fn differing(alloc: Global, older: &str, newer: &str) -> Result<String, RowFault> {
+    let older = Registry::read(alloc, older.as_bytes())?;
+    let newer = Registry::read(alloc, newer.as_bytes())?;
+    let older_containers = containers_of(alloc, &older)?;
+    let newer_containers = containers_of(alloc, &newer)?;
+    let found = differences(alloc, &older_containers, &newer_containers)?;
+    let fault = found.iter().find_map(|difference| difference.change.fault());
+    if older.grows(&newer).err() != fault {
+        return Err(RowFault::Disagreement("grows"));
+    }
+    Ok(in_one_line(alloc, &found)?)
+}
+
+fn in_one_line(alloc: Global, found: &[Difference<'_>]) -> Result<String, AllocError> {
+    if found.is_empty() {
+        return String::from_str(alloc, "none");
+    }
+    let mut line = Vec::new(alloc);
+    for (i, difference) in found.iter().enumerate() {
+        if i > 0 {
+            line.extend_from_slice(b"; ")?;
+        }
+        put_difference(difference, &mut line)?;
+    }
+    String::from_utf8_lossy(alloc, &line)
 }

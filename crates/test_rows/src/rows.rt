@@ -40,7 +40,7 @@ fn answered(
         "uleb" | "take_uleb" | "put" | "take" | "number" => {
             numbers::answer(alloc, question, words)
         }
-        "registry" | "format" | "print" | "grows" => {
+        "registry" | "format" | "print" | "grows" | "differences" => {
             registries::answer(alloc, setting, question, words)
         }
         "verdict" | "scan" | "changes" => verdicts::answer(alloc, setting, question, words),
