@@ -1,4 +1,5 @@
 // The page: what is typed goes to the worker, and its answers into the boxes and the two views.
+import { hexOf } from '../hex.mjs';
 import { Digits } from './digits.mjs';
 import { Lights } from './lights.mjs';
 import { fragmentOf, stateOf } from './link.mjs';
@@ -10,7 +11,7 @@ import { Tree } from './tree.mjs';
 
 const OWN = 'own';
 const TYPING_PAUSE = 120;
-const MOST_SAVED = 1 << 28;
+const MOST_OPENED = 1 << 28;
 const NO_PIECES = { first: 0, pieces: [], rows: [], stop: undefined, rest: '', covered: 0, length: 0, isCut: false };
 // The smallest module that has a memory with 64-bit addresses.
 const WIDE_MODULE = Uint8Array.of(0, 0x61, 0x73, 0x6d, 1, 0, 0, 0, 5, 3, 1, 4, 1);
@@ -114,7 +115,7 @@ class Page {
     const { answer, refusal } = told;
     const verdict = $('registry-verdict');
     verdict.className = refusal ? 'bad' : 'good';
-    verdict.textContent = refusal ? `refused: ${refusal.reason}` : counted(answer.count, 'container', 'containers');
+    verdict.textContent = refusal ? `refused: ${refusal.reason}` : toldOfContainers(answer);
     this.#listContainers(answer?.names ?? [], format);
     await this.#answer();
   }
@@ -169,8 +170,8 @@ class Page {
   #tell({ answer, refusal }) {
     const explained = answer?.explained ?? NO_PIECES;
     const fault = refusal ?? answer.refusal;
-    $(`${this.#side}-side`).classList.remove('stale');
-    $(`${this.#otherSide}-side`).classList.toggle('stale', fault !== undefined);
+    markStale(this.#side, false);
+    markStale(this.#otherSide, fault !== undefined);
     if (!fault) this.#fillOtherSide(answer);
     this.#explained = explained;
     this.#digits.show(explained);
@@ -249,9 +250,9 @@ class Page {
   async #restore() {
     const state = await stateOf(location.hash.slice(1));
     if (state === undefined) return false;
-    $('example').value = OWN;
-    const known = this.#examples.findIndex(({ registry, format, content }) => registry === state.registry && format === state.format && content === state.content);
-    if (known >= 0) $('example').value = String(known);
+    const told = ['registry', 'format', 'content'];
+    const known = this.#examples.findIndex((example) => told.every((name) => example[name] === state[name]));
+    $('example').value = known < 0 ? OWN : String(known);
     this.panes.first.content = state.first;
     this.panes.second.content = state.second;
     $('compare-box').open = state.first !== '' || state.second !== '';
@@ -288,10 +289,11 @@ class Page {
   async #readFile() {
     const [file] = $('file').files;
     if (file === undefined) return;
-    const pane = this.panes[$('file').dataset.pane];
-    if (file.size > MOST_SAVED) return tellVerdict('bad', 'No answer:', ' the file is above 256 MiB.');
-    pane.content = await file.text();
-    pane.whenChanged();
+    if (file.size > MOST_OPENED) return tellVerdict('bad', 'No answer:', ' the file is above 256 MiB.');
+    const { pane } = $('file').dataset;
+    const bytes = new Uint8Array(await file.arrayBuffer());
+    this.panes[pane].content = pane === 'bytes' ? digitsIn(bytes) : new TextDecoder().decode(bytes);
+    this.panes[pane].whenChanged();
   }
 }
 
@@ -299,6 +301,18 @@ const DIGIT_FAULTS = {
   sign: 'two hexadecimal digits stand for each byte, 0 to 9 and a to f. There is another sign.',
   odd: 'two hexadecimal digits stand for each byte. One is missing.',
 };
+
+/** A side that is not in step keeps what it shows, but nobody should sign it. */
+function markStale(side, isStale) {
+  $(`${side}-side`).classList.toggle('stale', isStale);
+  for (const button of document.querySelectorAll(`[data-copy=${side}], [data-save=${side}]`)) button.disabled = isStale;
+}
+
+/** A file holds digits, or the bytes as they are. */
+function digitsIn(bytes) {
+  const text = new TextDecoder('latin1').decode(bytes);
+  return /^(0x)?[0-9a-fA-F\s]*$/.test(text) ? text : hexOf(bytes);
+}
 
 /** A name stands for the container, as in the program. */
 function jsonOfFormat(format) {
@@ -315,6 +329,11 @@ function tellVerdict(state, strong, text) {
 
 function tellBroken(reason) {
   tellVerdict('bad', 'The codec can’t start:', ` ${reason}.`);
+}
+
+function toldOfContainers({ count, names }) {
+  const listed = names.length < count ? `, the first ${shownNumber(names.length)} listed` : '';
+  return counted(count, 'container', 'containers') + listed;
 }
 
 function noteOn({ isCut, first, pieces, covered, length, stop }) {

@@ -49,7 +49,8 @@ export class Pane {
     const shown = isCut ? text.slice(0, FRONT_SHOWN) : text;
     if (this.#area.value !== shown) this.#area.value = shown;
     this.#area.readOnly = isCut;
-    this.#note.textContent = isCut ? `${counted(length, 'character', 'characters')}, the first ${FRONT_SHOWN} shown; Delete clears` : '';
+    const told = `${counted(length, 'character', 'characters')}, the first ${FRONT_SHOWN} shown; Delete clears`;
+    this.#note.textContent = isCut ? told : '';
   }
 
   #takeLongInput(event) {

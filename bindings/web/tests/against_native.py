@@ -57,7 +57,8 @@ def changed(draw: random.Random, data: bytes, is_text: bool) -> bytes:
     out = bytearray(data)
     for _ in range(draw.randint(1, 3)):
         place = draw.randrange(len(out) + 1)
-        byte = draw.choice(SIGNS) if is_text and draw.random() < 0.8 else draw.choice([0, 1, 2, 0x7F, 0x80, 0xFF, draw.randrange(256)])
+        odd = draw.choice([0, 1, 2, 0x7F, 0x80, 0xFF, draw.randrange(256)])
+        byte = draw.choice(SIGNS) if is_text and draw.random() < 0.8 else odd
         match draw.randrange(5):
             case 0:
                 out[place : place + 1] = [byte]

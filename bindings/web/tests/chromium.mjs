@@ -5,6 +5,7 @@ import { tmpdir } from 'node:os';
 import { join } from 'node:path';
 
 const PROGRAMS = ['chromium-headless-shell', 'chromium'];
+const KEYS = { Tab: 9, End: 35, Home: 36, ArrowRight: 39, ArrowDown: 40, Delete: 46 };
 const FLAGS = ['--headless', '--no-sandbox', '--disable-gpu', '--hide-scrollbars', '--remote-debugging-pipe', '--mute-audio'];
 
 export class Chromium {
@@ -127,16 +128,21 @@ class PageHandle {
       if (await this.ask(`Boolean(${expression})`).catch(() => false)) return;
       await new Promise((resolve) => setTimeout(resolve, 20));
     }
-    throw new Error(`it never came: ${expression}; the verdict: ${await this.ask("document.getElementById('verdict')?.textContent")}`);
+    const verdict = await this.ask("document.getElementById('verdict')?.textContent");
+    throw new Error(`it never came: ${expression}; the verdict: ${verdict}`);
   }
 
   /** Presses a key, such as `Tab` or `ArrowDown`. */
-  async press(key, { modifiers = 0 } = {}) {
-    const codes = { Tab: 9, Enter: 13, Escape: 27, End: 35, Home: 36, ArrowLeft: 37, ArrowUp: 38, ArrowRight: 39, ArrowDown: 40, Backspace: 8, Delete: 46, ' ': 32, a: 65 };
-    const event = { key, code: key === ' ' ? 'Space' : key === 'a' ? 'KeyA' : key, windowsVirtualKeyCode: codes[key], modifiers };
-    const text = key === 'Enter' ? '\r' : key === ' ' ? ' ' : undefined;
-    const commands = key === 'a' && modifiers === 2 ? ['selectAll'] : [];
-    await this.send('Input.dispatchKeyEvent', { type: text ? 'keyDown' : 'rawKeyDown', text, commands, ...event });
+  async press(key) {
+    const event = { key, code: key, windowsVirtualKeyCode: KEYS[key] };
+    await this.send('Input.dispatchKeyEvent', { type: 'rawKeyDown', ...event });
+    await this.send('Input.dispatchKeyEvent', { type: 'keyUp', ...event });
+  }
+
+  /** Selects all of what has the focus, as by Control and A. */
+  async selectAll() {
+    const event = { key: 'a', code: 'KeyA', windowsVirtualKeyCode: 65, modifiers: 2 };
+    await this.send('Input.dispatchKeyEvent', { type: 'rawKeyDown', commands: ['selectAll'], ...event });
     await this.send('Input.dispatchKeyEvent', { type: 'keyUp', ...event });
   }
 

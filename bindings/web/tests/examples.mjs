@@ -33,6 +33,16 @@ for (const [registryName, format, name] of VALUES) {
   });
 }
 
+test('the example of the README', () => {
+  const registry = bcs.registry('{"Payment":{"STRUCT":[{"to":"STR"},{"amount":"U64"}]}}');
+  const bytes = registry.encode('Payment', { to: 'bob', amount: 7n });
+  assert.equal(hexOf(bytes), '03626f620700000000000000');
+  assert.deepEqual(registry.decode('Payment', bytes), { to: 'bob', amount: 7n });
+  assert.equal(registry.decodeText('Payment', bytes), '{"amount":"7","to":"bob"}');
+  assert.equal(registry.explain('Payment', bytes).length, 4);
+  assert.throws(() => registry.decode('Payment', bytes.slice(0, 5)), { message: 'bytes refused: EndOfInput at 5' });
+});
+
 // (behind the pieces the program prints its refusal and its place, which the calls tell apart from the text)
 const tableOf = (name) => read(`${name}.explained`).replace(/^(refused:|at) [^\n]*\n/gm, '');
 

@@ -10,13 +10,16 @@ import { Chromium } from './chromium.mjs';
 
 const address = pathToFileURL(resolve(process.env.BCS_PAGE)).href;
 const read = (name) => readFileSync(new URL(`../../../examples/${name}`, import.meta.url), 'utf8').trim();
+const room = mkdtempSync(join(tmpdir(), 'bcs-files-'));
 const chromium = await Chromium.start();
-after(() => chromium.end());
+after(async () => {
+  await chromium.end();
+  rmSync(room, { recursive: true });
+});
 
 const verdict = "document.getElementById('verdict').textContent";
 const valueOf = (id) => `document.getElementById('${id}').value`;
 const focus = (page, id) => page.ask(`document.getElementById('${id}').focus()`);
-const ALL = { modifiers: 2 };
 
 /** A page that stands ready, with its first example. */
 async function opened(options, fragment = '') {
@@ -28,7 +31,7 @@ async function opened(options, fragment = '') {
 
 async function replace(page, id, text) {
   await focus(page, id);
-  await page.press('a', ALL);
+  await page.selectAll();
   await page.type(text);
 }
 
@@ -38,6 +41,16 @@ async function choose(page, id, label) {
     list.value = [...list.options].find((option) => option.text === ${JSON.stringify(label)}).value;
     list.dispatchEvent(new Event('change'));
   })()`);
+}
+
+/** Opens a file with these contents by the button of a side. */
+async function openFile(page, side, contents) {
+  const file = join(room, `of-${side}`);
+  writeFileSync(file, contents);
+  await page.ask(`document.querySelector('[data-open=${side}]').click()`);
+  const { root } = await page.send('DOM.getDocument');
+  const { nodeId } = await page.send('DOM.querySelector', { nodeId: root.nodeId, selector: '#file' });
+  await page.send('DOM.setFileInputFiles', { nodeId, files: [file] });
 }
 
 /** No page complains of anything, or asks for more than itself and its own worker. */
@@ -81,24 +94,43 @@ test('typing on either side changes the other', async () => {
   await isQuiet(page);
 });
 
+test('files are opened, of bytes also those as they are', async () => {
+  const page = await opened();
+  await choose(page, 'container', 'TransactionPayload');
+  await openFile(page, 'bytes', Buffer.from('0009', 'hex'));
+  await page.until(`${verdict}.includes('Refused at byte 2: EndOfInput')`);
+  assert.equal(await page.ask(valueOf('bytes')), '0009');
+  await choose(page, 'container', 'RawTransaction');
+  await openFile(page, 'bytes', `${read('aptos_transfer.hex')}\n`);
+  await page.until(`${verdict}.includes('211 bytes')`);
+  await openFile(page, 'bytes', Buffer.from(read('aptos_transfer.hex'), 'hex'));
+  await page.until(`${valueOf('bytes')} === '${read('aptos_transfer.hex')}' && ${verdict}.includes('211 bytes')`);
+  await openFile(page, 'text', read('aptos_transfer_normal.json'));
+  await page.until(`${valueOf('text')}.startsWith('{"chain_id"') && ${verdict}.includes('211 bytes')`);
+  await isQuiet(page);
+});
+
 test('a text that is refused is told, and the other side is marked', async () => {
   const page = await opened();
   await replace(page, 'text', read('aptos_transfer_damaged.json'));
   await page.until(`${verdict}.includes('BadHex')`);
   assert.match(await page.ask(verdict), /Refused: BadHex\. .*without 0x/);
   assert.ok(await page.ask("document.getElementById('bytes-side').classList.contains('stale')"));
+  assert.ok(await page.ask("document.querySelector('[data-copy=bytes]').disabled"));
+  assert.ok(await page.ask("document.querySelector('[data-save=bytes]').disabled"));
   assert.equal(await page.ask("document.querySelectorAll('.piece').length"), 0);
   await replace(page, 'text', read('aptos_transfer.json'));
   await page.until(`${verdict}.includes('211 bytes')`);
   assert.ok(!(await page.ask("document.getElementById('bytes-side').classList.contains('stale')")));
+  assert.ok(!(await page.ask("document.querySelector('[data-copy=bytes]').disabled")));
   await isQuiet(page);
 });
 
 test('damage is shown at its byte, with what was wanted', async () => {
   const page = await opened();
   for (const [title, stop, told, damaged] of [
-    ['Aptos: damaged bytes', 'LongForm at 73', /at byte 73: LongForm\..*length of STR, at \.payload::EntryFunction\.module\.name/, '84'],
-    ['Sui: damaged bytes', 'BadBool at 65', /at byte 65: BadBool\..*Wanted there: BOOL, at ::V1.*\.mutable/, '02'],
+    ['Aptos: damaged bytes', 'LongForm at 73', /at byte 73: .* Wanted there: length of STR, at \.payload.*\.name/, '84'],
+    ['Sui: damaged bytes', 'BadBool at 65', /at byte 65: .* Wanted there: BOOL, at ::V1.*\.mutable/, '02'],
   ]) {
     await choose(page, 'example', title);
     await page.until(`document.querySelector('#tree .stop')?.textContent.startsWith('${stop} wanted')`);
@@ -110,17 +142,18 @@ test('damage is shown at its byte, with what was wanted', async () => {
 
 test('the digits of all pieces are the bytes', async () => {
   const page = await opened();
-  const shown = await page.ask("Array.from(document.querySelectorAll('.piece'), (it) => it.textContent).join('').replaceAll(' ', '')");
-  assert.equal(shown, read('aptos_transfer.hex'));
+  const shown = await page.ask("Array.from(document.querySelectorAll('.piece'), (it) => it.textContent).join(' ')");
+  assert.equal(shown.replaceAll(' ', ''), read('aptos_transfer.hex'));
   await isQuiet(page);
 });
 
 const lit = "Array.from(document.querySelectorAll('.piece.lit'), (it) => it.textContent).join(' ')";
 const litRow = "document.querySelector('#tree .lit')?.textContent";
 
+const row = (text) => `[...document.querySelectorAll('#tree > div')].find((it) => it.textContent.includes('${text}'))`;
+
 test('pointing at digits or at a row lights the other', async () => {
   const page = await opened();
-  const row = (text) => `[...document.querySelectorAll('#tree [role=treeitem]')].find((it) => it.textContent.includes('${text}'))`;
   await page.point(row('"coin"'), `${lit} === '04 63 6f 69 6e'`);
   const digits = "[...document.querySelectorAll('.piece')].find((it) => it.textContent.startsWith('0b 00'))";
   await page.point(digits, `${litRow}?.includes('sequence_number')`);
@@ -139,15 +172,16 @@ test('all of it works by keyboard', async () => {
     await page.press('Tab');
     order.push(await page.ask(active));
   }
-  for (const id of ['link', 'example', 'container', 'normal', 'blank', 'text', 'bytes', 'digits', 'tree']) assert.ok(order.includes(id), id);
-  assert.ok(order.indexOf('text') < order.indexOf('bytes') && order.indexOf('digits') < order.indexOf('tree'));
+  const wanted = ['link', 'example', 'container', 'normal', 'blank', 'text', 'bytes', 'digits', 'tree'];
+  assert.deepEqual([...new Set(order)].filter((id) => wanted.includes(id)), wanted);
   await focus(page, 'digits');
   await page.until(`${litRow}?.includes('sender')`);
   await page.press('ArrowRight');
   await page.until(`${litRow}?.includes('sequence_number')`);
   await page.press('End');
   await page.until(`${litRow}?.includes('chain_id')`);
-  assert.equal(await page.ask("document.activeElement.getAttribute('aria-activedescendant')"), await page.ask("document.querySelector('.piece.lit').id"));
+  const told = await page.ask("document.activeElement.getAttribute('aria-activedescendant')");
+  assert.equal(told, await page.ask("document.querySelector('.piece.lit').id"));
   await focus(page, 'tree');
   await page.press('Home');
   await page.press('ArrowDown');
@@ -224,16 +258,43 @@ test('names of a hostile registry are text', async () => {
   await isQuiet(page);
 });
 
+test('a registry with very many or very long names is taken', async () => {
+  const page = await opened();
+  const told = "document.getElementById('registry-verdict').textContent";
+  const many = Object.fromEntries(Array.from({ length: 100_000 }, (_, i) => [`Container${i}`, 'UNITSTRUCT']));
+  await openFile(page, 'registry', JSON.stringify(many));
+  await page.until(`${told} === '100,000 containers, the first 2,000 listed'`);
+  await choose(page, 'container', 'another format');
+  await replace(page, 'format', 'Container99999');
+  await replace(page, 'text', 'null');
+  await page.until(`${verdict}.includes('0 bytes')`);
+  await openFile(page, 'registry', `{"${'N'.repeat(1 << 20)}":{"STRUCT":[{"${'f'.repeat(1 << 20)}":"U8"}]}}`);
+  await page.until(`${told} === '1 container'`);
+  await choose(page, 'container', `${'N'.repeat(60)}…`);
+  await replace(page, 'bytes', '07');
+  await page.until(`${verdict}.includes('1 byte:')`);
+  assert.equal(await page.ask('document.documentElement.scrollWidth'), 1600);
+  await isQuiet(page);
+});
+
+/** A promise that is kept if a connection is made. */
+const connection = (made, then) => `new Promise((resolve, reject) => {
+  const it = ${made};
+  it.onload = it.onopen = resolve;
+  it.onerror = () => reject(new Error('blocked'));
+  ${then};
+})`;
+
 test('no connection leaves the page, whatever runs in it', async () => {
   const page = await opened();
   const tries = [
     "fetch('https://example.org/')",
-    "new Promise((resolve, reject) => { const it = new Image(); it.onload = resolve; it.onerror = reject; it.src = 'https://example.org/a.png'; })",
-    "new Promise((resolve, reject) => { const it = new WebSocket('wss://example.org/'); it.onopen = resolve; it.onerror = reject; })",
+    connection('new Image()', "it.src = 'https://example.org/a.png'"),
+    connection("new WebSocket('wss://example.org/')", ''),
   ];
   for (const attempt of tries) await assert.rejects(page.ask(attempt), attempt);
   assert.ok(page.complaints.length >= tries.length);
-  assert.ok(page.complaints.every((text) => /Content Security Policy|Refused|violates/.test(text ?? '')), page.complaints.join('\n'));
+  for (const complaint of page.complaints) assert.match(complaint, /Content Security Policy|violates/);
   const sent = page.requests.filter((request) => !request.startsWith('file:') && !request.startsWith('blob:'));
   assert.deepEqual(sent, []);
   await page.close();
@@ -253,19 +314,14 @@ const inFrames = `(() => {
 
 test('a text of 5 MB is answered soon, and the page does not stand still', async () => {
   const page = await opened();
-  const room = mkdtempSync(join(tmpdir(), 'bcs-large-'));
   const numbers = Array.from({ length: 470_000 }, (_, i) => (i * 2654435761) % 4294967296);
   const text = JSON.stringify(numbers);
   assert.ok(text.length > 5_000_000);
-  writeFileSync(join(room, 'large.json'), text);
   await choose(page, 'container', 'another format');
   await replace(page, 'format', '{"SEQ":"U32"}');
   await page.ask(inFrames);
-  await page.ask("document.querySelector('[data-open=text]').click()");
-  const { root } = await page.send('DOM.getDocument');
-  const { nodeId } = await page.send('DOM.querySelector', { nodeId: root.nodeId, selector: '#file' });
   const start = Date.now();
-  await page.send('DOM.setFileInputFiles', { nodeId, files: [join(room, 'large.json')] });
+  await openFile(page, 'text', text);
   await page.until(`${verdict}.includes('1,880,003 bytes')`, 20);
   const elapsed = Date.now() - start;
   const longest = await page.ask('window.longest');
@@ -279,7 +335,6 @@ test('a text of 5 MB is answered soon, and the page does not stand still', async
   await page.press('Delete');
   await page.type('0100000000');
   await page.until(`${valueOf('text')} === '[0]'`);
-  rmSync(room, { recursive: true });
   await isQuiet(page);
 });
 
@@ -311,35 +366,44 @@ test('where there is no 64-bit memory, the page says so', async () => {
   await isQuiet(page);
 });
 
-const LIGHTNESS = `(() => {
+/** In the page: the elements whose text has a contrast below 4.5 (WCAG 2, level AA). */
+const FAINT = `(() => {
   const channel = (it) => (it /= 255) <= 0.03928 ? it / 12.92 : ((it + 0.055) / 1.055) ** 2.4;
-  const lightness = (text) => { const [r, g, b] = text.match(/[\\d.]+/g).map(Number); return 0.2126 * channel(r) + 0.7152 * channel(g) + 0.0722 * channel(b); };
-  const groundOf = (it) => { const colour = getComputedStyle(it).backgroundColor; return /^rgba.*, 0\\)$/.test(colour) ? groundOf(it.parentElement) : colour; };
-  const faint = [];
-  for (const it of document.querySelectorAll('h1, p, label, button, select, textarea, summary, summary span, .piece, .offset, .label, .value, .what, .legend span, .behind, .damage, .note')) {
-    if (!it.checkVisibility() || it.textContent.trim() === '' && !it.value) continue;
+  const lightness = (colour) => {
+    const [red, green, blue] = colour.match(/[\\d.]+/g).map(Number).map(channel);
+    return 0.2126 * red + 0.7152 * green + 0.0722 * blue;
+  };
+  const groundOf = (it) => {
+    const colour = getComputedStyle(it).backgroundColor;
+    return /^rgba.*, 0\\)$/.test(colour) ? groundOf(it.parentElement) : colour;
+  };
+  const contrastOf = (it) => {
     const [one, other] = [lightness(getComputedStyle(it).color), lightness(groundOf(it))];
-    const contrast = (Math.max(one, other) + 0.05) / (Math.min(one, other) + 0.05);
-    if (contrast < 4.5) faint.push(it.className + ' ' + it.textContent.slice(0, 20) + ' ' + contrast.toFixed(2));
-  }
-  return faint;
+    return (Math.max(one, other) + 0.05) / (Math.min(one, other) + 0.05);
+  };
+  const all = [...document.querySelectorAll('body *')].filter((it) => it.checkVisibility());
+  const isText = (it) => it.value || [...it.childNodes].some((node) => node.nodeType === 3 && node.data.trim());
+  const faint = all.filter((it) => isText(it) && !it.disabled && contrastOf(it) < 4.5);
+  return faint.map((it) => it.tagName + ' ' + it.className + ': ' + contrastOf(it).toFixed(2));
 })()`;
+
+/** In the page: how many things to press or fill in have no name. */
+const UNNAMED = `[...document.querySelectorAll('button, input:not([type=file]), select, textarea')]
+  .filter((it) => !it.labels?.length && !it.textContent.trim()).length`;
 
 for (const scheme of ['light', 'dark']) {
   for (const width of [375, 1600]) {
     test(`it fits ${width} pixels, and can be read, ${scheme}`, async () => {
       const page = await opened({ width, height: width < 600 ? 1600 : 1180, scheme });
-      const coin = "[...document.querySelectorAll('#tree [role=treeitem]')].find((it) => it.textContent.includes('\"coin\"'))";
-      await page.point(coin, `${lit} === '04 63 6f 69 6e'`);
+      await page.point(row('"coin"'), `${lit} === '04 63 6f 69 6e'`);
       assert.equal(await page.ask('document.documentElement.scrollWidth'), width);
-      assert.deepEqual(await page.ask(LIGHTNESS), []);
-      const unnamed = "[...document.querySelectorAll('button, input:not([type=file]), select, textarea')].filter((it) => !it.labels?.length && !it.textContent.trim() && !it.ariaLabel).length";
-      assert.equal(await page.ask(unnamed), 0);
+      assert.deepEqual(await page.ask(FAINT), []);
+      assert.equal(await page.ask(UNNAMED), 0);
       const folder = process.env.BCS_PICTURES;
       if (folder) writeFileSync(join(folder, `${width}-${scheme}.png`), await page.picture({ isWhole: false }));
       await choose(page, 'example', 'Sui: damaged bytes');
       await page.until(`${verdict}.includes('BadBool')`);
-      assert.deepEqual(await page.ask(LIGHTNESS), []);
+      assert.deepEqual(await page.ask(FAINT), []);
       if (folder) writeFileSync(join(folder, `${width}-${scheme}-damage.png`), await page.picture({ isWhole: false }));
       await isQuiet(page);
     });

@@ -18,9 +18,13 @@ function time(count, job) {
   return Math.min(...rounds).toFixed(1).padStart(9);
 }
 
-const asked = (registry, format) => ({ registry: encoder.encode(registry), format: encoder.encode(format), depth: 500, nodes: 0xffffffff });
-const small = [asked('{}', '"U8"'), encoder.encode('7')];
-const transfer = [asked(read('aptos_registry.json'), '{"TYPENAME":"RawTransaction"}'), encoder.encode(read('aptos_transfer.json'))];
+function asked(registry, format, text) {
+  const ask = { registry: encoder.encode(registry), format: encoder.encode(format), depth: 500, nodes: 0xffffffff };
+  return [ask, encoder.encode(text)];
+}
+
+const small = asked('{}', '"U8"', '7');
+const transfer = asked(read('aptos_registry.json'), '{"TYPENAME":"RawTransaction"}', read('aptos_transfer.json'));
 const kept = new Calls(module);
 
 console.log(`${time(20, () => new WebAssembly.Instance(module, {}))} microseconds for an instance`);

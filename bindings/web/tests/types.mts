@@ -11,7 +11,8 @@ export async function calls(wasm: Uint8Array): Promise<void> {
   const name: string | undefined = bcs.faultName(402);
   const bytes: Uint8Array = registry.encode({ SEQ: 'U8' }, [1, 2n, new Uint8Array(), new Map([['a', null]]), { some: true }]);
   const value: Value = registry.decode({ MAP: { KEY: 'STR', VALUE: { OPTION: 'U8' } } }, bytes);
-  const texts: string[] = [registry.decodeText('A', bytes), registry.normalise('A', bytes), registry.explainText('A', bytes, 'tree')];
+  const texts: string[] = [registry.decodeText('A', bytes), registry.normalise('A', bytes)];
+  texts.push(registry.explainText('A', bytes, 'tree'));
   const isEqual: boolean = registry.equal('A', texts[0]!, '1');
   const length: number = registry.scan('A', registry.encodeText('A', '1'));
   const place: number | undefined = registry.part('A', bytes, 'inner/0')?.place;
