@@ -1,0 +1,5 @@
+pub mod Options
+pub mod Staying
+pub mod Completeness
+pub mod Readiness
+pub mod ExampleLaws

@@ -1,0 +1,6 @@
+pub mod Example
+pub mod Ready
+pub mod Refused
+pub mod Laws
+pub mod Needed
+pub mod Weight

@@ -1,0 +1,7 @@
+//! Examples of formats: a value of each, ready to be filled in.
+#![tactic(auto)]
+
+mod fault;
+pub mod laws;
+
+pub use fault::ExampleFault;
