@@ -3,3 +3,4 @@ pub mod Staying
 pub mod Completeness
 pub mod Readiness
 pub mod ExampleLaws
+pub mod RowWeights

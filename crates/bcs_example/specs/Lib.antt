@@ -4,3 +4,4 @@ pub mod Refused
 pub mod Laws
 pub mod Needed
 pub mod Weight
+pub mod Ranks

@@ -1,6 +1,5 @@
 -- How many nodes examples have, up to what a `u64` holds.
 use Rattle.std.specs.Prelude.{ℕ, suc, min, ◌+◌, ◌*◌, ◌==◌, cond, nat_lt, List, [], ◌∷◌, Option, Some, None, option_map}
-use Rattle.std.specs.Option.{option_or}
 use Rattle.bcs_registry_formats.specs.Shape as shape
 use Rattle.bcs_registry_formats.specs.Shape.{Shape, Shapes, no_shapes, shape}
 use Rattle.bcs_registry_formats.specs.Container.{Choice, Content, of, one_of, nothing, payload_shape}
@@ -20,14 +19,23 @@ weight o = option_map (λ t. capped (nodes t)) o
 abbrev pub one_more : ℕ → ℕ
 one_more k = capped (k + 1)
 
+-- so many more, where there are any
+abbrev pub added : ℕ → Option ℕ → Option ℕ
+added k None = None
+added k (Some m) = Some (capped (k + m))
+
 -- the first and the rest
 abbrev pub joined : Option ℕ → Option ℕ → Option ℕ
 joined None o = None
-joined (Some k) o = option_map (λ m. capped (k + m)) o
+joined (Some k) o = added k o
 
 -- so many times the element, and the node round them
 abbrev pub times : ℕ → Option ℕ → Option ℕ
 times n o = cond (n == 0) (Some 1) (option_map (λ k. one_more (capped (k * n))) o)
+
+abbrev pub picked_or : ℕ → Option ℕ → Option (ℕ × ℕ) → Option (ℕ × ℕ)
+picked_or n None rest = rest
+picked_or n (Some k) rest = Some (n, one_more k)
 
 -- `known` has the nodes of containers' examples, by name
 module _ (known : List ℕ → Option ℕ) where
@@ -43,11 +51,13 @@ module _ (known : List ℕ → Option ℕ) where
     row_weight no_shapes = Some 0
     row_weight (shape s ss) = joined (shape_weight s) (row_weight ss)
 
-  abbrev pub first_weight : List Choice → Option ℕ
-  first_weight [] = None
-  first_weight (c ∷ cs) = option_or (option_map one_more (shape_weight (payload_shape c.1.1))) (first_weight cs)
+  -- the number of the first variant that has an example, and the example's nodes
+  abbrev pub first_pick : List Choice → Option (ℕ × ℕ)
+  first_pick [] = None
+  first_pick (c ∷ cs) = picked_or c.0 (shape_weight (payload_shape c.1.1)) (first_pick cs)
 
-  abbrev pub content_weight : Content → Option ℕ
-  content_weight (of s) = shape_weight s
-  content_weight (one_of cs) = first_weight cs
-  content_weight nothing = None
+  -- the same of an enum, and 0 with the nodes of any other content
+  abbrev pub content_pick : Content → Option (ℕ × ℕ)
+  content_pick (of s) = option_map (λ k. (0, k)) (shape_weight s)
+  content_pick (one_of cs) = first_pick cs
+  content_pick nothing = None

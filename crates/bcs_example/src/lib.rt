@@ -3,5 +3,7 @@
 
 mod fault;
 pub mod laws;
+mod ranks;
+mod weighing;
 
 pub use fault::ExampleFault;
