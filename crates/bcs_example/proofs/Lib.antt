@@ -4,3 +4,4 @@ pub mod Completeness
 pub mod Readiness
 pub mod ExampleLaws
 pub mod RowWeights
+pub mod Gathered

@@ -5,3 +5,4 @@ pub mod Laws
 pub mod Needed
 pub mod Weight
 pub mod Ranks
+pub mod Names

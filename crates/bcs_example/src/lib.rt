@@ -3,6 +3,8 @@
 
 mod fault;
 pub mod laws;
+mod names;
+mod noting;
 mod ranks;
 mod weighing;
 
