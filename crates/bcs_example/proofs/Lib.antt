@@ -5,3 +5,6 @@ pub mod Readiness
 pub mod ExampleLaws
 pub mod RowWeights
 pub mod Gathered
+pub mod Weighed
+pub mod RoundSteps
+pub mod Knowing

@@ -41,7 +41,7 @@ zero_signed w32 = refl
 zero_signed w64 = refl
 zero_signed w128 = refl
 
-same_number : (n : ℕ) → (n == n) ≡ true
+pub same_number : (n : ℕ) → (n == n) ≡ true
 same_number n = grind arith
 
 not_below : (n m : ℕ) (b : Bool) → (n == m) ≡ b → nat_cmp n m ≡ Less → b ≡ false
@@ -49,7 +49,7 @@ not_below n m true e h = cc (nat_cmp_is n m Equal ((Decides-eqb n m).0 e), h)
 not_below n m false e h = refl
 
 -- the numbers of what stands here are those that can be read
-abbrev InRange : Content → Type 0
+abbrev pub InRange : Content → Type 0
 InRange (of s) = Unit {0}
 InRange (one_of cs) = IsInRange (enumeration cs)
 InRange nothing = Unit {0}
@@ -61,13 +61,22 @@ container_in_range (tuple_struct ss) h = tt
 container_in_range (field_struct fs) h = tt
 container_in_range (enumeration cs) h = h
 
-in_range : (es : Entries) → AllByRecursion (λ e. IsInRange e.1) es → (n : List ℕ) → InRange (content_at n es)
+pub in_range : (es : Entries) → AllByRecursion (λ e. IsInRange e.1) es → (n : List ℕ) → InRange (content_at n es)
 in_range [] h n = tt
 in_range (e ∷ es) h n =
     elim (bytes_eq n e.0) as (λ b. InRange (option_map_or content (cond b (Some e.1) (container_at n es)) nothing)) [
       | true ↦ container_in_range e.1 h.0
       | false ↦ in_range es h.1 n
     ]
+
+-- a number that is below those of the others isn't theirs
+pub unlike : (k n : ℕ) (s : Shape) (cs : List Choice) → AllByRecursion (λ l. nat_cmp k l ≡ Less) (keys_of cs) → choice_at n cs ≡ of s → (k == n) ≡ false
+unlike k n s [] above at = absurd cc
+unlike k n s (c ∷ cs) above at =
+    elim (c.0 == n) as (λ b. (b ≡ true → c.0 ≡ n) → option_map_or (λ v. of (payload_shape v.1)) (cond b (Some c.1) (choice_numbered n cs)) nothing ≡ of s → (k == n) ≡ false) [
+      | true ↦ λ is h. not_below k n (k == n) refl (subst (λ l. nat_cmp k l ≡ Less) (is refl) above.0)
+      | false ↦ λ is h. unlike k n s cs above.1 h
+    ] (λ e. grind (arith, e)) at
 
 module _ (r : Entries) where
   -- each tree of a row is ready for its format
@@ -155,15 +164,6 @@ module _ (r : Entries) where
       stands : choice_at number cs ≡ of carried
       low : nat_lt number (2 ^ 32) ≡ true
       ready : IsReady r d (of carried) inner
-
-    -- a number that is below those of the others isn't theirs
-    unlike : (k n : ℕ) (s : Shape) (cs : List Choice) → AllByRecursion (λ l. nat_cmp k l ≡ Less) (keys_of cs) → choice_at n cs ≡ of s → (k == n) ≡ false
-    unlike k n s [] above at = absurd cc
-    unlike k n s (c ∷ cs) above at =
-        elim (c.0 == n) as (λ b. (b ≡ true → c.0 ≡ n) → option_map_or (λ v. of (payload_shape v.1)) (cond b (Some c.1) (choice_numbered n cs)) nothing ≡ of s → (k == n) ≡ false) [
-          | true ↦ λ is h. not_below k n (k == n) refl (subst (λ l. nat_cmp k l ≡ Less) (is refl) above.0)
-          | false ↦ λ is h. unlike k n s cs above.1 h
-        ] (λ e. grind (arith, e)) at
 
     later : (c : Choice) (cs : List Choice) → AllByRecursion (λ l. nat_cmp c.0 l ≡ Less) (keys_of cs) → (t : Tree) → Picked cs t → Picked (c ∷ cs) t
     later c cs above t p = record {

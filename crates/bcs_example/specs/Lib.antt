@@ -6,3 +6,4 @@ pub mod Needed
 pub mod Weight
 pub mod Ranks
 pub mod Names
+pub mod Rounds

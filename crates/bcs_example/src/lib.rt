@@ -6,6 +6,7 @@ pub mod laws;
 mod names;
 mod noting;
 mod ranks;
+mod rounds;
 mod weighing;
 
 pub use fault::ExampleFault;
