@@ -18,6 +18,7 @@ use Rattle.bcs_example.specs.declared.ranks.Rank.{Rank}
 use Rattle.bcs_example.proofs.Options.{mapped_some}
 use Rattle.bcs_example.proofs.Readiness.{in_range}
 use Rattle.bcs_example.proofs.RoundSteps.{told_stays}
+use Rattle.bcs_example.proofs.SameExamples.{content_same}
 use Rattle.bcs_example.proofs.Staying.{named_stays}
 use Rattle.bcs_example.proofs.Weighed.{IsPick, PickOrNone, content_picked}
 
@@ -150,3 +151,40 @@ module _ (registry : Entries) (orderly : IsOrderly registry) (ns : List (List �
     earlier = earlier_then;
     are_ranks = λ n. from_round (IsRankOf registry m' n) n (old_rank n) (new_rank n);
   }
+
+  -- ---- where a round finds nothing, no later one does
+
+  module _ (none : (n : List ℕ) → rank_of m' n ≡ rank_of m n) where
+    told_same : (e : ℕ) → told m' e ≡ told m e
+    told_same e = fun_ext (λ n. ap (λ o. option_map (λ r. r.nodes) (within e o)) (none n))
+
+    both_none : (o p : Option Tree) → weight o ≡ weight p → ((t : Tree) → o ≡ Some t → p ≡ Some t) → p ≡ o
+    both_none None p h g = no_weight p (sym h)
+    both_none (Some t) p h g = g t refl
+
+    same_next : (n : List ℕ) → is_among ns n ≡ true → named_example registry (suc d) n ≡ named_example registry d n
+    same_next n among =
+        both_none (named_example registry d n) (named_example registry (suc d) n)
+        (sym (knows.tells n among d (omega arith)) ∙ told_earlier m d d n knows.earlier (omega arith) ∙ sym (told_earlier m d (suc d) n knows.earlier (omega arith)) ∙ ap (λ f. f n) (sym (told_same (suc d))) ∙ tells_now n among)
+        (λ t is. named_stays registry d (suc d) (omega arith) n t is)
+
+    same_from : (e : ℕ) → d ≤ e → (n : List ℕ) → is_among ns n ≡ true → named_example registry e n ≡ named_example registry d n
+    same_from zero low n among = let first : d ≡ 0 = omega (arith, low) in ap (λ k. named_example registry k n) (sym first)
+    same_from (suc e) low n among = elim (cases_lt d (suc e)) [
+      | inl less ↦
+          (let le : d ≤ e = omega (arith, less) in
+          ap (λ o. option_or o (option_map tree.named (content_example (named_example registry e) (content_at n registry)))) (same_from e le n among)
+          ∙ ap (λ o. option_or (named_example registry d n) (option_map tree.named o)) (content_same (named_example registry e) (named_example registry d) (is_among ns) (λ k h. same_from e le k h) (content_at n registry) (closed n among))
+          ∙ same_next n among)
+      | inr more ↦ (let same : suc e ≡ d = omega (arith, low, more) in ap (λ k. named_example registry k n) same)
+    ]
+
+    -- so all is known
+    pub knows_all : (e : ℕ) → Tells registry ns e m'
+    knows_all e n among k low = elim (cases_lt d k) [
+      | inl less ↦
+          (let le : d ≤ k = omega (arith, less) in
+          ap (λ f. f n) (told_same k) ∙ told_earlier m d k n knows.earlier le ∙ sym (told_earlier m d d n knows.earlier (omega arith))
+          ∙ knows.tells n among d (omega arith) ∙ ap weight (sym (same_from k le n among)))
+      | inr more ↦ ap (λ f. f n) (told_same k) ∙ knows.tells n among k more
+    ]

@@ -7,4 +7,5 @@ pub mod RowWeights
 pub mod Gathered
 pub mod Weighed
 pub mod RoundSteps
+pub mod SameExamples
 pub mod Knowing

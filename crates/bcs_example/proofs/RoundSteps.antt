@@ -47,9 +47,9 @@ or_false true b = refl
 or_false false true = refl
 or_false false false = refl
 
-among_more : (ns : List (Bor (List ℕ))) (i : ℕ) (k : Bor (List ℕ)) → i < length ns → k ≡ get_or ns i k → (n : List ℕ) → is_among (words (take (i + 1) ns)) n ≡ (is_among (words (take i ns)) n || bytes_eq n k.now)
-among_more ns i k low is n =
-    ap (λ ms. is_among (words ms) n) (take_more ns i k low ∙ ap (λ l. take i ns ++ l ∷ []) (sym is))
+among_more : (ns : List (Bor (List ℕ))) (i : ℕ) (k e : Bor (List ℕ)) → i < length ns → k ≡ get_or ns i e → (n : List ℕ) → is_among (words (take (i + 1) ns)) n ≡ (is_among (words (take i ns)) n || bytes_eq n k.now)
+among_more ns i k e low is n =
+    ap (λ ms. is_among (words ms) n) (take_more ns i e low ∙ ap (λ l. take i ns ++ l ∷ []) (sym is))
     ∙ ap (λ ms. is_among ms n) (map-append (λ l. l.now) (take i ns) (k ∷ []))
     ∙ list_any-append (bytes_eq n) (words (take i ns)) (k.now ∷ [])
     ∙ or_false (is_among (words (take i ns)) n) (bytes_eq n k.now)
@@ -105,12 +105,12 @@ module _ (old new : List ℕ → Option Rank) (k : List ℕ) where
       (had (old k) (new k) (among k) some)
       (ap (λ b. joined b n) (sym (or_none (among n))))
 
-module _ (registry : Entries) (d : ℕ) (m : RankMap) (ns : List (Bor (List ℕ))) (i : ℕ) (k : Bor (List ℕ)) (low : i < length ns) (is : k ≡ get_or ns i k) where
+module _ (registry : Entries) (d : ℕ) (m : RankMap) (ns : List (Bor (List ℕ))) (i : ℕ) (k e : Bor (List ℕ)) (low : i < length ns) (is : k ≡ get_or ns i e) where
   abbrev before : List ℕ → Bool
   before = is_among (words (take i ns))
 
   on : (n : List ℕ) → option_or (rank_of m n) (cond (before n || bytes_eq n k.now) (found registry d m n) None) ≡ after registry d m (words (take (i + 1) ns)) n
-  on n = ap (λ b. option_or (rank_of m n) (cond b (found registry d m n) None)) (sym (among_more ns i k low is n))
+  on n = ap (λ b. option_or (rank_of m n) (cond b (found registry d m n) None)) (sym (among_more ns i k e low is n))
 
   pub after_put : (a b : RankMap) (r : Rank) (o : Option Rank) → ((n : List ℕ) → rank_of a n ≡ after registry d m (words (take i ns)) n) → is_some (rank_of a k.now) ≡ false → o ≡ found registry d a k.now → o ≡ Some r
       → ((n : List ℕ) → rank_of b n ≡ cond (bytes_eq k.now n) (Some r) (rank_of a n)) → (n : List ℕ) → rank_of b n ≡ after registry d m (words (take (i + 1) ns)) n
