@@ -9,3 +9,6 @@ pub mod Weighed
 pub mod RoundSteps
 pub mod SameExamples
 pub mod Knowing
+pub mod Filled
+pub mod FilledContents
+pub mod Judged

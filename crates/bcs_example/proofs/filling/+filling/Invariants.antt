@@ -1,0 +1,35 @@
+use Rattle.std.proofs.Common.{◌≡◌, ℕ, ◌+◌, ◌*◌, List, drop, map}
+use Rattle.bcs_registry_formats.specs.Container.{field_shapes, payload_shape}
+use Rattle.bcs_registry_formats.specs.View.{shape_of, formats_shapes, field_of, payload_of}
+use Rattle.bcs_registry_formats.specs.WellFormed.{levels, shapes_levels}
+use Rattle.bcs_value_tree.specs.View.{items_trees}
+use Rattle.bcs_example.proofs.Filled.{RowFilled}
+use Rattle.bcs_example.proofs.filling.+filling.Given as goal
+
+-- a format in a registry has at most 33 levels with those of its container
+abbrev work : ℕ → ℕ → ℕ
+work d n = 10 * (35 * d + n)
+
+abbrev pub decreases-fill : goal.decreases-fill
+decreases-fill l = work l.depth (levels (shape_of l.format.now)) + 5
+
+abbrev pub decreases-fill_tuple : goal.decreases-fill_tuple
+decreases-fill_tuple l = work l.depth (shapes_levels (formats_shapes l.formats.now)) + 6
+
+abbrev pub decreases-fill_fields : goal.decreases-fill_fields
+decreases-fill_fields l = work l.depth (shapes_levels (field_shapes (map field_of l.fields.now))) + 6
+
+abbrev pub decreases-fill_named : goal.decreases-fill_named
+decreases-fill_named l = work l.depth 0 + 4
+
+abbrev pub decreases-fill_content : goal.decreases-fill_content
+decreases-fill_content l = work l.rank.below 34
+
+abbrev pub decreases-fill_payload : goal.decreases-fill_payload
+decreases-fill_payload l = work l.depth (levels (payload_shape (payload_of l.payload.now))) + 7
+
+abbrev pub invariant-fill_tuple-loop-format : goal.invariant-fill_tuple-loop-format
+invariant-fill_tuple-loop-format l = RowFilled l.registry l.ranks.found l.depth (formats_shapes l.formats) (formats_shapes (drop l.format-index l.formats)) (items_trees l.row.items)
+
+abbrev pub invariant-fill_fields-loop-field : goal.invariant-fill_fields-loop-field
+invariant-fill_fields-loop-field l = RowFilled l.registry l.ranks.found l.depth (field_shapes (map field_of l.fields)) (field_shapes (map field_of (drop l.field-index l.fields))) (items_trees l.row.items)
