@@ -1,14 +1,14 @@
 -- Where a value fits, in which so many containers are open at once, there is an example.
-use Rattle.std.proofs.Common.{◌≡◌, ℕ, zero, suc, max, ◌≤◌, ◌^◌, nat_lt, List, [], ◌∷◌, Option, Some, None, option_map, is_some, Bool, true, false, ◌&&◌, ◌==◌, cond, refl, sym, ap, subst, ◌∙◌, arith}
+use Rattle.std.proofs.Common.{◌≡◌, ℕ, zero, suc, ◌≤◌, ◌^◌, nat_lt, List, [], ◌∷◌, Option, Some, option_map, is_some, true, false, ◌==◌, cond, refl, ◌∙◌, arith}
 use Rattle.std.specs.Option.{option_or, option_map_or}
-use Rattle.std.proofs.lemmas.Bool.{false≢true, true≢false, and_parts, and_from}
+use Rattle.std.proofs.lemmas.Bool.{false≢true, and_parts}
 use Rattle.bcs_registry_formats.specs.Shape as shape
 use Rattle.bcs_registry_formats.specs.Shape.{Shape, Shapes, no_shapes, shape}
 use Rattle.bcs_registry_formats.specs.Container.{Choice, Entries, Content, of, one_of, nothing, content_at, choice_at, choice_numbered, payload_shape}
 use Rattle.bcs_value_tree.specs.Tree as tree
 use Rattle.bcs_value_tree.specs.Tree.{Tree, Trees, no_trees, tree, Pairs, count, depth, trees_depth}
-use Rattle.bcs_value_spec.specs.Fits.{fits, all_fit, each_fits, pairs_fit}
-use Rattle.bcs_example.specs.Example.{copies, in_front, shape_example, row_example, first_example, content_example, named_example}
+use Rattle.bcs_value_spec.specs.Fits.{fits, all_fit, each_fits}
+use Rattle.bcs_example.specs.Example.{copies, shape_example, row_example, first_example, content_example, named_example}
 use Rattle.bcs_example.proofs.Options.{is_some-mapped, is_some-first, is_some-second, is_some-in_front}
 
 -- where the variant of a number has an example, the variants have one

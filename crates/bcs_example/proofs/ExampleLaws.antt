@@ -1,5 +1,5 @@
 -- What is promised of examples, and when there is none.
-use Rattle.std.proofs.Common.{◌≡◌, ◌↔◌, ℕ, ◌≤◌, ◌<◌, Option, Some, None, is_some, Bool, true, false, IfSome, ◌⊎◌, inl, inr, refl, sym, ap, subst, ◌∙◌, arith}
+use Rattle.std.proofs.Common.{◌≡◌, ℕ, ◌≤◌, Option, Some, None, is_some, true, inl, inr, refl, sym, subst, ◌∙◌, arith}
 use Rattle.std.proofs.lemmas.Bool.{cases_lt}
 use Rattle.std.proofs.lemmas.Option.{none-some, same_Some}
 use Rattle.bcs_registry_formats.specs.Shape.{Shape}
@@ -8,7 +8,7 @@ use Rattle.bcs_registry_formats.specs.Ranges.{IsOrderly}
 use Rattle.bcs_value_tree.specs.Tree.{Tree, depth}
 use Rattle.bcs_value_spec.specs.Fits.{Fits}
 use Rattle.bcs_example.specs.Example.{example}
-use Rattle.bcs_example.specs.Ready.{HasNoValue, IsReady, IsShallowest}
+use Rattle.bcs_example.specs.Ready.{HasNoValue, IsReady}
 use Rattle.bcs_example.specs.Laws.{ExampleIsReady, ExampleIsShallowest, NoneWithoutValue}
 use Rattle.bcs_example.proofs.Options.{at_some}
 use Rattle.bcs_example.proofs.Staying.{example_stays}

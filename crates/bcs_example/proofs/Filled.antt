@@ -1,14 +1,14 @@
 -- Examples as they are put together.
-use Rattle.std.proofs.Common.{◌≡◌, ℕ, zero, suc, ◌+◌, ◌<◌, List, [], ◌∷◌, ◌++◌, Option, Some, None, option_map, is_some, Bool, true, false, ◌&&◌, ◌==◌, cond, map, refl, sym, ap, subst, ◌∙◌, arith}
+use Rattle.std.proofs.Common.{◌≡◌, ℕ, zero, suc, List, [], ◌∷◌, ◌++◌, Option, Some, None, option_map, is_some, true, refl, sym, ap, subst, ◌∙◌}
 use Rattle.std.proofs.lemmas.Bool.{and_parts}
 use Rattle.bcs_registry_formats.specs.Shape as shape
 use Rattle.bcs_registry_formats.specs.Shape.{Shape, Shapes, no_shapes, shape}
-use Rattle.bcs_registry_formats.specs.Container.{Content, Entries, of, one_of, content_at}
+use Rattle.bcs_registry_formats.specs.Container.{Entries, of}
 use Rattle.bcs_value_tree.specs.Tree as tree
 use Rattle.bcs_value_tree.specs.Tree.{Tree, Trees, no_trees, tree}
 use Rattle.bcs_value_tree.specs.View.{items_trees, tree_of}
 use Rattle.bcs_value_tree.specs.declared.value.Value.{Value}
-use Rattle.bcs_example.specs.Example.{copies, in_front, shape_example, row_example, named_example, example}
+use Rattle.bcs_example.specs.Example.{copies, in_front, row_example, named_example, example}
 use Rattle.bcs_example.specs.Needed.{needs_only, row_needs_only}
 use Rattle.bcs_example.specs.Ranks.{RankMap}
 use Rattle.bcs_example.specs.Rounds.{Agrees}

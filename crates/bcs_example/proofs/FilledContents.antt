@@ -1,17 +1,16 @@
 -- Examples of containers as they are put together, by the containers' ranks.
-use Rattle.std.proofs.Common.{◌≡◌, ℕ, suc, ◌<◌, ◌≤◌, List, [], ◌∷◌, Option, Some, None, option_map, is_some, Bool, true, false, ◌&&◌, ◌==◌, cond, nat_lt, refl, sym, ap, subst, ◌∙◌, arith}
+use Rattle.std.proofs.Common.{◌≡◌, ℕ, suc, ◌<◌, List, [], ◌∷◌, Option, Some, None, option_map, is_some, Bool, true, false, ◌==◌, cond, nat_lt, sym, ap, subst, ◌∙◌, arith}
 use Rattle.std.specs.List.{list_all}
 use Rattle.std.specs.Option.{option_or, option_map_or}
 use Rattle.std.proofs.lemmas.Bool.{and_parts, ltb-true}
 use Rattle.std.proofs.lemmas.Option.{cond_some, none-some}
-use Rattle.bcs_registry_formats.specs.Shape as shape
 use Rattle.bcs_registry_formats.specs.Shape.{Shape}
 use Rattle.bcs_registry_formats.specs.Container.{Choice, Content, Entries, of, one_of, nothing, content_at, choice_at, choice_numbered, payload_shape}
 use Rattle.bcs_value_tree.specs.Tree as tree
 use Rattle.bcs_value_tree.specs.Tree.{Tree}
-use Rattle.bcs_example.specs.Example.{shape_example, first_example, content_example, named_example, example}
+use Rattle.bcs_example.specs.Example.{first_example, content_example, named_example, example}
 use Rattle.bcs_example.specs.Needed.{content_needs_only, needs_only}
-use Rattle.bcs_example.specs.Ranks.{RankMap, rank_of, within}
+use Rattle.bcs_example.specs.Ranks.{RankMap, within}
 use Rattle.bcs_example.specs.Rounds.{Agrees, IsRankOf, Picks}
 use Rattle.bcs_example.specs.declared.ranks.Rank.{Rank}
 use Rattle.bcs_example.proofs.Options.{is_some-mapped}

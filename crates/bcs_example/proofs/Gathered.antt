@@ -1,7 +1,6 @@
 -- Names that are gathered, and what can do with them.
-use Rattle.std.proofs.Common.{◌≡◌, ℕ, ◌+◌, ◌≤◌, ◌<◌, List, [], ◌∷◌, ◌++◌, length, get_or, take, drop, map, Vec, Bor, Global, Bool, true, false, not, ◌&&◌, ◌||◌, cond, inl, inr, refl, sym, ap, subst, ◌∙◌, append_assoc, arith}
-use Rattle.std.specs.BTreeMap.{is_at}
-use Rattle.std.specs.BTreeSet.{BTreeSet, Updates, contains_by}
+use Rattle.std.proofs.Common.{◌≡◌, ℕ, ◌+◌, ◌≤◌, ◌<◌, List, [], ◌∷◌, ◌++◌, length, get_or, take, drop, map, Bor, Bool, true, false, ◌||◌, cond, inl, inr, refl, sym, ap, subst, ◌∙◌, append_assoc, arith}
+use Rattle.std.specs.BTreeSet.{Updates, contains_by}
 use Rattle.std.specs.Cmp.Lexicographic.{slice_cmp}
 use Rattle.std.specs.List.{list_all, list_any}
 use Rattle.std.specs.Ordering.{is_eq, nat_cmp}
@@ -163,7 +162,7 @@ covered_on registry a b i k low is h done now =
     let longer : i < length (texts b) = omega (arith, ap length h.kept, length-append (texts a) h.more) in
     let front : take i (texts b) ≡ take i (texts a) = ap (take i) h.kept ∙ take-append-le i (texts a) h.more (omega (arith, long)) in
     let at : get_or (texts b) i k.now ≡ k.now =
-        ap (λ ns. get_or ns i k.now) h.kept ∙ get_or_append_left (texts a) h.more k.now i long ∙ get_or-map (λ x. x.now) a.in_order.items i k k.now low ∙ ap (λ x. x.now) (sym is) in
+    ap (λ ns. get_or ns i k.now) h.kept ∙ get_or_append_left (texts a) h.more k.now i long ∙ get_or-map (λ x. x.now) a.in_order.items i k k.now low ∙ ap (λ x. x.now) (sym is) in
     list_all_more (λ n. content_needs_only (is_among (texts b)) (content_at n registry)) (texts b) i k.now longer
     ∙ and_from _ _
     (ap (are_covered registry (is_among (texts b))) front ∙ all_need_more (is_among (texts a)) (is_among (texts b)) (noted_within a b h) registry (take i (texts a)) done)

@@ -1,5 +1,5 @@
 -- What weighing the format says of its example.
-use Rattle.std.proofs.Common.{◌≡◌, ℕ, ◌<◌, ◌≤◌, List, Option, Some, None, is_some, Bool, true, refl, sym, ap, subst, ◌∙◌, arith}
+use Rattle.std.proofs.Common.{◌≡◌, ℕ, ◌<◌, ◌≤◌, List, Option, Some, None, is_some, true, refl, sym, ap, subst, ◌∙◌, arith}
 use Rattle.std.proofs.lemmas.Option.{none-some, same_Some}
 use Rattle.bcs_registry_formats.specs.Shape.{Shape}
 use Rattle.bcs_registry_formats.specs.Container.{Entries, of}
@@ -8,7 +8,7 @@ use Rattle.bcs_value_tree.specs.Tree.{Tree, depth, nodes}
 use Rattle.bcs_value_spec.specs.Limits.{Bounds}
 use Rattle.bcs_encode_spec.specs.Sound.{IsSound}
 use Rattle.bcs_example.specs.Example.{example, named_example}
-use Rattle.bcs_example.specs.Names.{IsClosed, Noted, is_among, texts}
+use Rattle.bcs_example.specs.Names.{Noted, is_among, texts}
 use Rattle.bcs_example.specs.Needed.{needs_only}
 use Rattle.bcs_example.specs.Ranks.{RankMap, told}
 use Rattle.bcs_example.specs.Ready.{HasNoValue}

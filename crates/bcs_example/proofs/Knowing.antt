@@ -1,19 +1,18 @@
 -- What is known after each round.
-use Rattle.std.proofs.Common.{◌≡◌, ℕ, zero, suc, ◌+◌, ◌<◌, ◌≤◌, List, Option, Some, None, option_map, is_some, Bool, true, false, nat_lt, cond, ◌⊎◌, inl, inr, refl, sym, ap, subst, ◌∙◌, arith}
+use Rattle.std.proofs.Common.{◌≡◌, ℕ, zero, suc, ◌<◌, ◌≤◌, List, Option, Some, None, option_map, is_some, Bool, true, false, cond, inl, inr, refl, sym, ap, subst, ◌∙◌, arith}
 use Rattle.std.specs.Option.{option_or}
 use Rattle.std.proofs.Math.Path.{fun_ext}
-use Rattle.std.proofs.lemmas.Bool.{cases_lt, lt-ltb, and_parts}
-use Rattle.std.proofs.lemmas.Option.{none-some, same_Some}
-use Rattle.bcs_registry_formats.specs.Container.{Entries, Content, content_at}
+use Rattle.std.proofs.lemmas.Bool.{cases_lt, lt-ltb}
+use Rattle.std.proofs.lemmas.Option.{none-some}
+use Rattle.bcs_registry_formats.specs.Container.{Entries, content_at}
 use Rattle.bcs_registry_formats.specs.Ranges.{IsOrderly}
 use Rattle.bcs_value_tree.specs.Tree as tree
 use Rattle.bcs_value_tree.specs.Tree.{Tree, nodes}
 use Rattle.bcs_example.specs.Example.{content_example, named_example}
 use Rattle.bcs_example.specs.Names.{IsClosed, is_among}
-use Rattle.bcs_example.specs.Needed.{content_needs_only}
 use Rattle.bcs_example.specs.Ranks.{RankMap, rank_of, ranked, told, within}
 use Rattle.bcs_example.specs.Rounds.{Agrees, AreEarlier, AreRanks, IsRankOf, Tells, after, found}
-use Rattle.bcs_example.specs.Weight.{capped, content_pick, one_more, weight}
+use Rattle.bcs_example.specs.Weight.{content_pick, weight}
 use Rattle.bcs_example.specs.declared.ranks.Rank.{Rank}
 use Rattle.bcs_example.proofs.Options.{mapped_some}
 use Rattle.bcs_example.proofs.Readiness.{in_range}

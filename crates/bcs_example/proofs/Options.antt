@@ -1,5 +1,5 @@
 -- What an `Option` that was made of others has.
-use Rattle.std.proofs.Common.{◌≡◌, Option, Some, None, option_map, is_some, Bool, true, false, ◌&&◌, IfSome, refl, sym, ap, subst, ◌∙◌}
+use Rattle.std.proofs.Common.{◌≡◌, Option, Some, None, option_map, is_some, true, IfSome, refl, subst, ◌∙◌}
 use Rattle.std.specs.Option.{option_or}
 use Rattle.std.proofs.lemmas.Option.{none-some, same_Some}
 use Rattle.bcs_value_tree.specs.Tree.{Tree, Trees, tree}

@@ -1,12 +1,12 @@
 -- Each example is a value of its format, ready to be encoded.
-use Rattle.std.proofs.Common.{◌≡◌, ℕ, pos, zero, suc, max, ◌≤◌, ◌<◌, ◌^◌, nat_lt, nat_cmp, Less, Equal, List, [], ◌∷◌, Option, Some, None, option_map, Bool, true, false, ◌&&◌, ◌==◌, cond, IsTrue, IfSome, refl, sym, ap, subst, ◌∙◌, arith}
+use Rattle.std.proofs.Common.{◌≡◌, ℕ, pos, zero, suc, ◌≤◌, ◌^◌, nat_lt, nat_cmp, Less, Equal, List, [], ◌∷◌, Option, Some, option_map, Bool, true, false, ◌==◌, cond, IfSome, refl, sym, ap, subst, ◌∙◌, arith}
 use Rattle.std.specs.Int.{Width, w8, w16, w32, w64, w128}
 use Rattle.std.specs.List.{AllByRecursion, list_all}
 use Rattle.std.specs.List.Sorted.{IsStrictlySortedBy}
-use Rattle.std.specs.Map.{keys_of, lookup}
-use Rattle.std.specs.Option.{option_or, option_map_or}
+use Rattle.std.specs.Map.{keys_of}
+use Rattle.std.specs.Option.{option_map_or}
 use Rattle.std.specs.Str.{bytes_eq}
-use Rattle.std.proofs.lemmas.Bool.{false≢true, and_parts, and_from}
+use Rattle.std.proofs.lemmas.Bool.{and_parts, and_from}
 use Rattle.std.proofs.lemmas.Option.{IfSome_then}
 use Rattle.std.proofs.lemmas.Str.{IsUtf8-nil, is_utf8-from_IsUtf8}
 use Rattle.std.specs.Cmp.{nat_cmp_is}
@@ -18,12 +18,11 @@ use Rattle.bcs_registry_formats.specs.Container.{Choice, Container, Entries, Con
 use Rattle.bcs_registry_formats.specs.Ranges.{IsInRange, IsOrderly}
 use Rattle.bcs_value_tree.specs.Tree as tree
 use Rattle.bcs_value_tree.specs.Tree.{Tree, Trees, no_trees, tree, count, depth, trees_depth}
-use Rattle.bcs_value_spec.specs.Fits.{fits, all_fit, each_fits}
-use Rattle.bcs_value_spec.specs.Same.{distinct, all_distinct}
-use Rattle.bcs_value_spec.proofs.FitsByViews.{fits-nothing}
-use Rattle.bcs_encode_spec.specs.Canonical.{IsCanonical, AllCanonical, EachCanonical}
-use Rattle.bcs_encode_spec.specs.Lengths.{length_limit, lengths_hold, all_hold, each_holds}
-use Rattle.bcs_example.specs.Example.{copies, in_front, shape_example, row_example, first_example, content_example, named_example}
+use Rattle.bcs_value_spec.specs.Fits.{all_fit, each_fits}
+use Rattle.bcs_value_spec.specs.Same.{all_distinct}
+use Rattle.bcs_encode_spec.specs.Canonical.{AllCanonical, EachCanonical}
+use Rattle.bcs_encode_spec.specs.Lengths.{length_limit, all_hold, each_holds}
+use Rattle.bcs_example.specs.Example.{copies, shape_example, row_example, first_example, content_example, named_example}
 use Rattle.bcs_example.specs.Ready.{IsReady}
 use Rattle.bcs_example.proofs.Options.{IfSome-mapped, IfSome-or, IfSome-in_front}
 

@@ -1,6 +1,5 @@
 -- What a round leaves.
-use Rattle.std.proofs.Common.{◌≡◌, ℕ, zero, suc, ◌+◌, ◌<◌, ◌≤◌, List, [], ◌∷◌, ◌++◌, length, get_or, take, map, Bor, Option, Some, None, option_map, is_some, Bool, true, false, ◌||◌, nat_lt, cond, refl, sym, ap, subst, ◌∙◌, arith}
-use Rattle.std.specs.List.{list_any}
+use Rattle.std.proofs.Common.{◌≡◌, ℕ, ◌+◌, ◌<◌, ◌≤◌, List, [], ◌∷◌, ◌++◌, length, get_or, take, Bor, Option, Some, None, option_map, is_some, Bool, true, false, ◌||◌, cond, refl, sym, ap, subst, ◌∙◌, arith}
 use Rattle.std.specs.Option.{option_or}
 use Rattle.std.specs.Str.{bytes_eq}
 use Rattle.std.proofs.Math.Path.{fun_ext}
@@ -13,7 +12,7 @@ use Rattle.std.proofs.lemmas.Slice.Eq.{bytes_eq-Decides}
 use Rattle.bcs_registry_formats.specs.Container.{Entries, content_at}
 use Rattle.bcs_example.specs.Names.{is_among}
 use Rattle.bcs_example.specs.Ranks.{RankMap, rank_of, ranked, told, within}
-use Rattle.bcs_example.specs.Rounds.{AreEarlier, after, found, words}
+use Rattle.bcs_example.specs.Rounds.{after, found, words}
 use Rattle.bcs_example.specs.Weight.{content_pick}
 use Rattle.bcs_example.specs.declared.ranks.Rank.{Rank}
 

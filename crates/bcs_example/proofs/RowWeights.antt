@@ -38,7 +38,7 @@ pub row_step : {A : Type 0} (row : List A → Shapes) (at : A → Shape) → ((x
 row_step row at cons known xs i x whole total k next low is weighs sum so_far = (
   omega (arith, sum),
   so_far ∙ ap (λ ss. added total (row_weight known ss)) (at_drop_more row xs i x low ∙ ap (λ y. row (y ∷ drop (i + 1) xs)) (sym is) ∙ cons x (drop (i + 1) xs))
-  ∙ row_on known total k (at x) (row (drop (i + 1) xs)) (sym weighs) ∙ ap (λ n. added n (row_weight known (row (drop (i + 1) xs)))) (sym sum),
+      ∙ row_on known total k (at x) (row (drop (i + 1) xs)) (sym weighs) ∙ ap (λ n. added n (row_weight known (row (drop (i + 1) xs)))) (sym sum),
 )
 
 pub ruleset row_rules = (row_from_zero, row_without, row_done)

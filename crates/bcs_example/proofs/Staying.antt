@@ -1,5 +1,5 @@
 -- Examples stay where more containers may be open.
-use Rattle.std.proofs.Common.{◌≡◌, ℕ, zero, suc, ◌≤◌, ◌<◌, List, Option, Some, None, option_map, Bool, true, false, ◌==◌, cond, ◌⊎◌, inl, inr, refl, sym, ap, subst, ◌∙◌, arith}
+use Rattle.std.proofs.Common.{◌≡◌, ℕ, zero, suc, ◌≤◌, List, Option, Some, option_map, true, false, ◌==◌, cond, inl, inr, ap, subst, ◌∙◌, arith}
 use Rattle.std.specs.Option.{option_or}
 use Rattle.std.proofs.lemmas.Bool.{cases_lt}
 use Rattle.bcs_registry_formats.specs.Shape as shape
@@ -7,7 +7,7 @@ use Rattle.bcs_registry_formats.specs.Shape.{Shape, Shapes, no_shapes, shape}
 use Rattle.bcs_registry_formats.specs.Container.{Entries, content_at}
 use Rattle.bcs_value_tree.specs.Tree as tree
 use Rattle.bcs_value_tree.specs.Tree.{Tree, Trees, no_trees, tree}
-use Rattle.bcs_example.specs.Example.{copies, in_front, shape_example, row_example, content_example, named_example, example}
+use Rattle.bcs_example.specs.Example.{copies, in_front, shape_example, row_example, content_example, named_example}
 use Rattle.bcs_example.specs.Laws.{ExampleStays}
 use Rattle.bcs_example.proofs.Options.{mapped_some, in_front_some}
 
@@ -20,7 +20,7 @@ module _ (f g : List ℕ → Option Tree) (more : (n : List ℕ) (t : Tree) → 
         ap (option_map tree.items) (row_stays ss m.0 m.1) ∙ ap Some m.2
     shape_stays (shape.array s n) t e =
         elim (n == 0) as (λ b. cond b (Some (tree.items no_trees)) (option_map (λ u. tree.items (copies n u)) (shape_example f s)) ≡ Some t
-            → cond b (Some (tree.items no_trees)) (option_map (λ u. tree.items (copies n u)) (shape_example g s)) ≡ Some t) [
+        → cond b (Some (tree.items no_trees)) (option_map (λ u. tree.items (copies n u)) (shape_example g s)) ≡ Some t) [
           | true ↦ λ h. h
           | false ↦ λ h.
               let m = mapped_some (λ u. tree.items (copies n u)) (shape_example f s) t h in

@@ -1,7 +1,7 @@
 -- What the example of a format is.
 use Rattle.std.specs.Prelude.{ℕ, ◌≤◌, false, IsTrue}
 use Rattle.bcs_registry_formats.specs.Shape.{Shape}
-use Rattle.bcs_registry_formats.specs.Container.{Content, Entries, of}
+use Rattle.bcs_registry_formats.specs.Container.{Content, Entries}
 use Rattle.bcs_value_tree.specs.Tree.{Tree, depth}
 use Rattle.bcs_value_spec.specs.Fits.{Fits, fits}
 use Rattle.bcs_value_spec.specs.Same.{HasDistinctKeys}

@@ -1,5 +1,5 @@
 -- How many nodes examples have, up to what a `u64` holds.
-use Rattle.std.specs.Prelude.{ℕ, suc, min, ◌+◌, ◌*◌, ◌==◌, cond, nat_lt, List, [], ◌∷◌, Option, Some, None, option_map}
+use Rattle.std.specs.Prelude.{ℕ, min, ◌+◌, ◌*◌, ◌==◌, cond, List, [], ◌∷◌, Option, Some, None, option_map}
 use Rattle.bcs_registry_formats.specs.Shape as shape
 use Rattle.bcs_registry_formats.specs.Shape.{Shape, Shapes, no_shapes, shape}
 use Rattle.bcs_registry_formats.specs.Container.{Choice, Content, of, one_of, nothing, payload_shape}

@@ -1,4 +1,4 @@
-use Rattle.std.proofs.Common.{◌≡◌, Some, is_some, sym, ap, subst, ◌∙◌, arith}
+use Rattle.std.proofs.Common.{sym, ap, subst, ◌∙◌, arith}
 use Rattle.bcs_registry_formats.specs.View.{shape_of}
 use Rattle.bcs_value_tree.specs.View.{tree_of}
 use Rattle.bcs_example.specs.Example.{example}
@@ -15,7 +15,7 @@ returns-in_default-clause-fault c = λ other.
 pub returns-then-nodes-from-clause-fault : goal.returns-then-nodes-from-clause-fault
 returns-then-nodes-from-clause-fault c = λ other.
     let e = too_many_here c.args.registry.now c.depth-depth.result c.in_ok-ranks.ranks.found (shape_of c.args.format.now) c.in_ok-ranks.ensures.agrees c.format_nodes.result c.in-Some.nodes c.args.limits.now.nodes
-        c.format_nodes.ensures c.in-Some.is (let here = c.if-nodes-from.true in omega (arith, here, c.from.ensures, c.nodes.ensures.is)) in
+    c.format_nodes.ensures c.in-Some.is (let here = c.if-nodes-from.true in omega (arith, here, c.from.ensures, c.nodes.ensures.is)) in
     (e.0, ap (λ d. example c.args.registry.now d (shape_of c.args.format.now)) (sym c.depth-depth.ensures.is) ∙ e.1, e.2)
 
 pub fill-requires-clause-exists : goal.fill-requires-clause-exists

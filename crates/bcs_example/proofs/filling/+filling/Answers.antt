@@ -1,9 +1,9 @@
-use Rattle.std.proofs.Common.{◌≡◌, ℕ, List, suc, ◌+◌, ◌<◌, ◌≤◌, drop, length, map, refl, sym, ap, subst, ◌∙◌, arith}
+use Rattle.std.proofs.Common.{◌≡◌, suc, ◌+◌, ◌≤◌, drop, map, sym, ap, ◌∙◌, arith}
 use Rattle.std.proofs.lemmas.List.{drop_all}
 use Rattle.std.proofs.lemmas.Result.{on_ok_weaker}
 use Rattle.bcs_registry_formats.specs.Shape as shape
 use Rattle.bcs_registry_formats.specs.Shape.{Shape}
-use Rattle.bcs_registry_formats.specs.Container.{of, one_of, nothing, content, field_shapes, payload_shape, content_at, choice_at}
+use Rattle.bcs_registry_formats.specs.Container.{of, one_of, content, field_shapes, payload_shape, content_at, choice_at}
 use Rattle.bcs_registry_formats.specs.WellFormed.{levels, shapes_levels}
 use Rattle.bcs_registry_formats.specs.View.{shape_of, formats_shapes, field_of, payload_of, choice_of, container_of}
 use Rattle.bcs_registry_formats.proofs.Admitted.{content_at-inside, choice_at-inside}
@@ -46,7 +46,7 @@ fill_fields-fill-requires t c =
     let i = c.loop-field.field-index in
     let low = field_levels_in fs i c.field-item.result (omega arith) c.field-item.is in
     let first = row_first c.args.registry.now c.args.ranks.now.found c.args.depth (field_shapes (map field_of fs)) (field_shapes (map field_of (drop i fs))) _ (shape_of c.field-item.result.value) _
-        (fields_next fs i c.field-item.result (omega arith) c.field-item.is) c.loop-field.invariant in
+    (fields_next fs i c.field-item.result (omega arith) c.field-item.is) c.loop-field.invariant in
     (omega (arith, low), (c.requires.are_ranks, (first.0, first.1)))
 
 pub fill_fields-loop-field-preserved : goal.fill_fields-loop-field-preserved
@@ -76,12 +76,20 @@ pub fill_named-fill_content-requires : goal.fill_named-fill_content-requires
 fill_named-fill_content-requires t c =
     let r = c.args.registry.now in
     let found = within_some c.args.depth (rank_of c.args.ranks.now.found c.args.name.now) c.in-Some.rank (sym c.within.ensures ∙ c.in-Some.is) in
-    let low = found.1 in
-    (omega (arith, low), (c.requires.1.1.0, (c.container.ensures.well_formed, (
-      c.args.name.now,
-      content_found r c.args.name.now c.container.result c.in-Some-container.container c.container.ensures.found c.in-Some-container.is,
-      c.requires.1.1.0 c.args.name.now c.in-Some.rank found.0,
-    ))))
+    let low = found.1 in (
+      omega (arith, low),
+      (
+        c.requires.1.1.0,
+        (
+          c.container.ensures.well_formed,
+          (
+            c.args.name.now,
+            content_found r c.args.name.now c.container.result c.in-Some-container.container c.container.ensures.found c.in-Some-container.is,
+            c.requires.1.1.0 c.args.name.now c.in-Some.rank found.0,
+          ),
+        ),
+      ),
+    )
 
 pub fill_named-returns : goal.fill_named-returns
 fill_named-returns t c =
@@ -100,35 +108,50 @@ fill_content-fill-requires t c =
     let r = c.args.registry.now in
     let s : Shape = shape_of c.in-NewTypeStruct.format in
     let is : content_at c.requires.found.0 r ≡ of s = c.requires.found.1 ∙ ap (λ k. content (container_of k)) c.in-NewTypeStruct.is in
-    let low : levels s ≤ 33 = (content_at-inside r c.requires.well_formed c.requires.found.0 s is).1 in
-    (omega (arith, low), (c.requires.are_ranks, (
-      agrees_inside r c.args.ranks.now.found c.requires.found.0 c.args.rank (of s) c.requires.found.2 is,
-      exists_inside r c.args.ranks.now.found c.requires.found.0 c.args.rank (of s) c.requires.found.2 is,
-    )))
+    let low : levels s ≤ 33 = (content_at-inside r c.requires.well_formed c.requires.found.0 s is).1 in (
+      omega (arith, low),
+      (
+        c.requires.are_ranks,
+        (
+          agrees_inside r c.args.ranks.now.found c.requires.found.0 c.args.rank (of s) c.requires.found.2 is,
+          exists_inside r c.args.ranks.now.found c.requires.found.0 c.args.rank (of s) c.requires.found.2 is,
+        ),
+      ),
+    )
 
 pub fill_content-fill_tuple-requires : goal.fill_content-fill_tuple-requires
 fill_content-fill_tuple-requires t c =
     let r = c.args.registry.now in
     let ss = formats_shapes c.deref.result.now in
     let is : content_at c.requires.found.0 r ≡ of (shape.tuple ss) =
-        c.requires.found.1 ∙ ap (λ k. content (container_of k)) c.in-TupleStruct.is ∙ ap (λ fs. of (shape.tuple (formats_shapes fs))) (sym c.deref.ensures.value) in
-    let low : suc (shapes_levels ss) ≤ 33 = (content_at-inside r c.requires.well_formed c.requires.found.0 (shape.tuple ss) is).1 in
-    (omega (arith, low), (c.requires.are_ranks, (
-      agrees_inside r c.args.ranks.now.found c.requires.found.0 c.args.rank (of (shape.tuple ss)) c.requires.found.2 is,
-      exists_inside r c.args.ranks.now.found c.requires.found.0 c.args.rank (of (shape.tuple ss)) c.requires.found.2 is,
-    )))
+    c.requires.found.1 ∙ ap (λ k. content (container_of k)) c.in-TupleStruct.is ∙ ap (λ fs. of (shape.tuple (formats_shapes fs))) (sym c.deref.ensures.value) in
+    let low : suc (shapes_levels ss) ≤ 33 = (content_at-inside r c.requires.well_formed c.requires.found.0 (shape.tuple ss) is).1 in (
+      omega (arith, low),
+      (
+        c.requires.are_ranks,
+        (
+          agrees_inside r c.args.ranks.now.found c.requires.found.0 c.args.rank (of (shape.tuple ss)) c.requires.found.2 is,
+          exists_inside r c.args.ranks.now.found c.requires.found.0 c.args.rank (of (shape.tuple ss)) c.requires.found.2 is,
+        ),
+      ),
+    )
 
 pub fill_content-fill_fields-requires : goal.fill_content-fill_fields-requires
 fill_content-fill_fields-requires t c =
     let r = c.args.registry.now in
     let ss = field_shapes (map field_of c.deref-in-Struct.result.now) in
     let is : content_at c.requires.found.0 r ≡ of (shape.tuple ss) =
-        c.requires.found.1 ∙ ap (λ k. content (container_of k)) c.in-Struct.is ∙ ap (λ fs. of (shape.tuple (field_shapes (map field_of fs)))) (sym c.deref-in-Struct.ensures.value) in
-    let low : suc (shapes_levels ss) ≤ 33 = (content_at-inside r c.requires.well_formed c.requires.found.0 (shape.tuple ss) is).1 in
-    (omega (arith, low), (c.requires.are_ranks, (
-      agrees_inside r c.args.ranks.now.found c.requires.found.0 c.args.rank (of (shape.tuple ss)) c.requires.found.2 is,
-      exists_inside r c.args.ranks.now.found c.requires.found.0 c.args.rank (of (shape.tuple ss)) c.requires.found.2 is,
-    )))
+    c.requires.found.1 ∙ ap (λ k. content (container_of k)) c.in-Struct.is ∙ ap (λ fs. of (shape.tuple (field_shapes (map field_of fs)))) (sym c.deref-in-Struct.ensures.value) in
+    let low : suc (shapes_levels ss) ≤ 33 = (content_at-inside r c.requires.well_formed c.requires.found.0 (shape.tuple ss) is).1 in (
+      omega (arith, low),
+      (
+        c.requires.are_ranks,
+        (
+          agrees_inside r c.args.ranks.now.found c.requires.found.0 c.args.rank (of (shape.tuple ss)) c.requires.found.2 is,
+          exists_inside r c.args.ranks.now.found c.requires.found.0 c.args.rank (of (shape.tuple ss)) c.requires.found.2 is,
+        ),
+      ),
+    )
 
 pub fill_content-unreachable-requires : goal.fill_content-unreachable-requires
 fill_content-unreachable-requires t c =
@@ -146,11 +169,16 @@ fill_content-fill_payload-requires t c =
     let s : Shape = payload_shape (payload_of c.in-Some.variant.now.value) in
     let is : content_at n r ≡ one_of cs = c.requires.found.1 ∙ ap (λ k. content (container_of k)) c.in-Enum.is in
     let at : choice_at c.args.rank.variant cs ≡ of s = choice_found c.args.rank.variant c.in-Enum.variants.entries c.in-Some.variant c.get.result c.get.ensures.value c.in-Some.is in
-    let low : levels s ≤ 33 = (choice_at-inside r c.requires.well_formed n cs is c.args.rank.variant s at).1 in
-    (omega (arith, low), (c.requires.are_ranks, (
-      agrees_variant r m c.args.rank.below c.args.rank.variant cs s (agrees_inside r m n c.args.rank (one_of cs) c.requires.found.2 is) at,
-      exists_variant r m n c.args.rank cs c.requires.found.2 is s at,
-    )))
+    let low : levels s ≤ 33 = (choice_at-inside r c.requires.well_formed n cs is c.args.rank.variant s at).1 in (
+      omega (arith, low),
+      (
+        c.requires.are_ranks,
+        (
+          agrees_variant r m c.args.rank.below c.args.rank.variant cs s (agrees_inside r m n c.args.rank (one_of cs) c.requires.found.2 is) at,
+          exists_variant r m n c.args.rank cs c.requires.found.2 is s at,
+        ),
+      ),
+    )
 
 pub fill_content-returns-in_ok-fill_payload-in-Enum : goal.fill_content-returns-in_ok-fill_payload-in-Enum
 fill_content-returns-in_ok-fill_payload-in-Enum t c =

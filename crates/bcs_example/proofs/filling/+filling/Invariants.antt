@@ -1,4 +1,4 @@
-use Rattle.std.proofs.Common.{◌≡◌, ℕ, ◌+◌, ◌*◌, List, drop, map}
+use Rattle.std.proofs.Common.{ℕ, ◌+◌, ◌*◌, drop, map}
 use Rattle.bcs_registry_formats.specs.Container.{field_shapes, payload_shape}
 use Rattle.bcs_registry_formats.specs.View.{shape_of, formats_shapes, field_of, payload_of}
 use Rattle.bcs_registry_formats.specs.WellFormed.{levels, shapes_levels}

@@ -1,4 +1,4 @@
-use Rattle.std.proofs.Common.{◌≡◌, ◌-◌, ◌^◌, ◌≤◌, length, take, true}
+use Rattle.std.proofs.Common.{◌≡◌, ◌-◌, ◌^◌, take, true}
 use Rattle.bcs_example.specs.Names.{Noted, is_among, texts}
 use Rattle.bcs_example.proofs.Gathered.{are_covered}
 use Rattle.bcs_example.proofs.noting.note_inner.Given as goal

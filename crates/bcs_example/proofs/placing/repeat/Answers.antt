@@ -1,4 +1,4 @@
-use Rattle.std.proofs.Common.{◌≡◌, ◌-◌, ◌+◌, suc, refl, sym, ap, subst, ◌∙◌, arith}
+use Rattle.std.proofs.Common.{◌≡◌, ◌-◌, ◌+◌, suc, refl, ap, ◌∙◌, arith}
 use Rattle.bcs_value_tree.specs.Tree.{items}
 use Rattle.bcs_value_tree.specs.View.{items_trees, tree_of}
 use Rattle.bcs_example.specs.Example.{copies}

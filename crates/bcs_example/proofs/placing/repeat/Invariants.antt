@@ -1,4 +1,4 @@
-use Rattle.std.proofs.Common.{◌≡◌, ◌-◌, ◌≤◌}
+use Rattle.std.proofs.Common.{◌≡◌, ◌-◌}
 use Rattle.bcs_value_tree.specs.View.{items_trees, tree_of}
 use Rattle.bcs_example.specs.Example.{copies}
 use Rattle.bcs_example.proofs.placing.repeat.Given as goal

@@ -1,4 +1,4 @@
-use Rattle.std.proofs.Common.{refl, sym, arith}
+use Rattle.std.proofs.Common.{refl, arith}
 use Rattle.bcs_registry_formats.specs.View.{formats_shapes, shape_of}
 use Rattle.bcs_example.specs.Ranks.{told}
 use Rattle.bcs_example.proofs.RowWeights.{row_from_zero, row_step}

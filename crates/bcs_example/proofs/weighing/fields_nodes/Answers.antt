@@ -1,4 +1,4 @@
-use Rattle.std.proofs.Common.{refl, sym, arith, map}
+use Rattle.std.proofs.Common.{refl, arith, map}
 use Rattle.bcs_registry_formats.specs.Container.{field_shapes}
 use Rattle.bcs_registry_formats.specs.View.{field_of, shape_of}
 use Rattle.bcs_example.specs.Ranks.{told}
