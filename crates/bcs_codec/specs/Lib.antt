@@ -3,6 +3,8 @@ pub use Rattle.bcs_registry.specs.Container
 pub use Rattle.bcs_registry.specs.WellFormed
 pub use Rattle.bcs_registry.specs.Grows
 pub use Rattle.bcs_registry.specs.Text
+pub use Rattle.bcs_registry_changes.specs.Differences
+pub use Rattle.bcs_registry_changes.specs.DifferenceText
 pub use Rattle.bcs_value.specs.Tree
 pub use Rattle.bcs_value.specs.Fits
 pub use Rattle.bcs_value.specs.Same
@@ -19,6 +21,9 @@ pub use Rattle.bcs_decode.specs.Sliced
 pub use Rattle.bcs_decode.specs.Whole
 pub use Rattle.bcs_decode.specs.Parts
 pub use Rattle.bcs_decode_source_scan.specs.Scanned
+pub use Rattle.bcs_example.specs.Example
+pub use Rattle.bcs_example.specs.Ready
+pub use Rattle.bcs_example.specs.Refused as RefusedExample
 pub use Rattle.bcs_explain.specs.Piece
 pub use Rattle.bcs_explain.specs.Pieces
 pub use Rattle.bcs_explain.specs.Told

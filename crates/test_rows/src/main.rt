@@ -3,6 +3,7 @@
 
 mod changes;
 mod encodings;
+mod examples;
 mod jobs;
 mod likeness;
 mod lines;

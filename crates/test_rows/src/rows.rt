@@ -4,7 +4,7 @@ use crate::row_fault::RowFault;
 use crate::setting::Setting;
 use crate::words::unrolled;
 use crate::{
-    encodings, jobs, likeness, lines, numbers, parts, places, registries, texts, values, verdicts,
+    encodings, examples, jobs, likeness, lines, numbers, parts, places, registries, texts, values, verdicts,
 };
 use std::alloc::{AllocError, Global};
 
@@ -50,6 +50,7 @@ fn answered(
         "encode" | "form" => encodings::answer(alloc, setting, question, words),
         "json" | "text" | "same" | "pairs" => texts::answer(alloc, setting, question, words),
         "place" => places::answer(alloc, setting, words),
+        "example" => examples::answer(alloc, setting, words),
         "line" | "usage" | "help" => lines::answer(alloc, question, words),
         "bcs" => jobs::answer(alloc, words),
         _ => Err(RowFault::NotUnderstood),

@@ -1,0 +1,49 @@
+//! Rows on examples of formats.
+
+use crate::question::Question;
+use crate::row_fault::RowFault;
+use crate::setting::Setting;
+use crate::words::word_of;
+use bcs_encode::encode;
+use bcs_example::example_value;
+use bcs_json::from_bcs;
+use bcs_value::Value;
+use std::alloc::Global;
+
+pub(crate) fn answer(
+    alloc: Global,
+    setting: &Setting,
+    words: &[&str],
+) -> Result<String, RowFault> {
+    match words {
+        [format, limits @ ..] => {
+            let asked = Question::read(alloc, &setting.registry, format, limits)?;
+            example(alloc, &asked)
+        }
+        _ => Err(RowFault::NotUnderstood),
+    }
+}
+
+// The bytes and the text of the example, or why there is none.
+fn example(alloc: Global, asked: &Question) -> Result<String, RowFault> {
+    match example_value(alloc, &asked.registry, &asked.format, &asked.limits) {
+        Ok(value) => spelled(alloc, asked, &value),
+        Err(fault) => Ok(format!(in alloc; "{fault}")?),
+    }
+}
+
+fn spelled(alloc: Global, asked: &Question, value: &Value) -> Result<String, RowFault> {
+    let Question {
+        registry,
+        format,
+        limits,
+    } = asked;
+    let Ok(bytes) = encode(alloc, registry, format, limits, value) else {
+        return Err(RowFault::Disagreement("encode"));
+    };
+    let Ok(text) = from_bcs(alloc, registry, format, limits, &bytes) else {
+        return Err(RowFault::Disagreement("from_bcs"));
+    };
+    let word = word_of(alloc, &bytes)?;
+    Ok(format!(in alloc; "{word} {text}")?)
+}
