@@ -1,17 +1,18 @@
 -- What the texts ask for is one thing, and then they aren't refused.
-use Rattle.std.proofs.Common.{◌≡◌, ℕ, List, arith, refl, subst}
+use Rattle.std.proofs.Common.{◌≡◌, ◌∙◌, ℕ, List, Option, Some, None, ap, arith, refl, subst, sym}
 use Rattle.bcs_registry_formats.specs.Container.{Entries}
 use Rattle.bcs_registry_formats.specs.Shape.{Shape}
 use Rattle.bcs_registry_spec.proofs.OneFault.{one_fault, one_format_fault}
 use Rattle.bcs_registry_spec.proofs.OneText.{same_format, same_registry}
 use Rattle.bcs_value_spec.specs.Limits.{Bounds}
 use Rattle.bcs_c.specs.Answers.{plain}
-use Rattle.bcs_c.specs.Asking.{Asks, RefusesAsk, Whatever, no_format, no_limits, no_registry}
+use Rattle.bcs_c.specs.Asking.{Answers, Asks, Has, RefusesAsk, RefusesSource, Request, Source, Whatever, by_texts, given, kept, no_format, no_limits, no_registry, on_handle, refused, rest, written}
 use Rattle.bcs_c.specs.Registries.{IsFormat, IsRegistry, RefusesFormat, RefusesRegistry, has_fault, no_memory}
 use Rattle.bcs_c.specs.declared.answer.Answer.{Answer}
 use Rattle.bcs_c.specs.declared.ask.Ask.{Ask}
+use Rattle.bcs_c.specs.declared.ask.HandleAsk.{HandleAsk}
 use Rattle.bcs_c.specs.declared.status.Status.{Status}
-use Rattle.bcs_c.specs.declared.status.Status.TheVariants.{Memory}
+use Rattle.bcs_c.specs.declared.status.Status.TheVariants.{Memory, Registry}
 
 -- ---- registries and formats
 
@@ -34,21 +35,72 @@ same_bounds l m depth nodes =
     let Same : ℕ → ℕ → Type 0 = λ d n. l ≡ record { depth = d; nodes = n } in
     subst (λ (n : ℕ). Same m.depth n) nodes (subst (λ (d : ℕ). Same d l.nodes) depth refl)
 
-module _ (ask : Ask) where
+-- so is the registry of a source
+one_source : (from : Source) (r q : Entries) → Has from r → Has from q → r ≡ q
+one_source (written text) r q h k = one_registry text r q h k
+one_source (kept registry) r q h k = let same : Some r ≡ Some q = sym h ∙ k in cc
+
+source_stands : (from : Source) (r : Entries) (a : Answer) → Has from r → RefusesSource from a → a ≡ plain Memory
+source_stands (written text) r a h why = registry_stands text r Registry a h why
+source_stands (kept registry) r a h why = let none : Some r ≡ None = sym h ∙ why.0 in cc
+
+module _ (q : Request) where
   -- so is what a call is asked for
-  pub ask_stands : (r : Entries) (l : Bounds) (s : Shape) (a : Answer) → Asks ask r l s → RefusesAsk ask a → a ≡ plain Memory
-  ask_stands r l s a h (no_registry refused) = registry_stands ask.registry.now r _ a h.is_registry refused
-  ask_stands r l s a h (no_format q is refused) =
-      let same = one_registry ask.registry.now q r is h.is_registry in
-      format_stands r ask.format.now s a h.is_format (subst (λ (x : Entries). RefusesFormat x ask.format.now a) same refused)
-  ask_stands r l s a h (no_limits q t is form over same) = absurd (omega (arith, h.allowed, over))
+  pub ask_stands : (r : Entries) (l : Bounds) (s : Shape) (a : Answer) → Asks q r l s → RefusesAsk q a → a ≡ plain Memory
+  ask_stands r l s a h (no_registry why) = source_stands q.source r a h.has why
+  ask_stands r l s a h (no_format x is why) =
+      let same = one_source q.source x r is h.has in
+      format_stands r q.format s a h.is_format (subst (λ (y : Entries). RefusesFormat y q.format a) same why)
+  ask_stands r l s a h (no_limits x t is form over same) = absurd (omega (arith, h.allowed, over))
 
   -- what holds of what was read holds of whatever is asked for
-  pub whatever : (P : Entries → Bounds → Shape → Type 0) (r : Entries) (l : Bounds) (s : Shape) → Asks ask r l s → P r l s → Whatever ask P
-  whatever P r l s h p q m t k =
-      let registry : r ≡ q = one_registry ask.registry.now r q h.is_registry k.is_registry in
-      let shape : s ≡ t = same_format ask.format.now s t h.is_format.0 k.is_format.0 in
+  pub whatever : (P : Entries → Bounds → Shape → Type 0) (r : Entries) (l : Bounds) (s : Shape) → Asks q r l s → P r l s → Whatever q P
+  whatever P r l s h p x m t k =
+      let registry : r ≡ x = one_source q.source r x h.has k.has in
+      let shape : s ≡ t = same_format q.format s t h.is_format.0 k.is_format.0 in
       let depth : l.depth ≡ m.depth = cc (h.depth, k.depth) in
       let nodes : l.nodes ≡ m.nodes = cc (h.nodes, k.nodes) in
       let limits = same_bounds l m depth nodes in
-      subst (λ (x : Shape). P q m x) shape (subst (λ (x : Bounds). P q x s) limits (subst (λ (x : Entries). P x l s) registry p))
+      subst (λ (y : Shape). P x m y) shape (subst (λ (y : Bounds). P x y s) limits (subst (λ (y : Entries). P y l s) registry p))
+
+-- ---- a registry's text, once it is read
+
+module _ (ask : Ask) (r : Entries) (is : IsRegistry ask.registry.now r) where
+  by_text : (x : Entries) (l : Bounds) (s : Shape) → Asks (on_handle (Some r) (rest ask)) x l s → Asks (by_texts ask) x l s
+  by_text x l s h =
+      let same : r ≡ x = let k : Some r ≡ Some x = h.has in cc in
+      record { has = subst (λ (y : Entries). IsRegistry ask.registry.now y) same is; is_format = h.is_format; depth = h.depth; nodes = h.nodes; allowed = h.allowed }
+
+  once_read : (x : Entries) (l : Bounds) (s : Shape) → Asks (by_texts ask) x l s → Asks (on_handle (Some r) (rest ask)) x l s
+  once_read x l s h =
+      record { has = ap Some (one_registry ask.registry.now r x is h.has); is_format = h.is_format; depth = h.depth; nodes = h.nodes; allowed = h.allowed }
+
+  refuses : (a : Answer) → RefusesAsk (on_handle (Some r) (rest ask)) a → RefusesAsk (by_texts ask) a
+  refuses a (no_registry why) = let none : Some r ≡ None = why.0 in cc
+  refuses a (no_format x has why) =
+      let same : r ≡ x = let k : Some r ≡ Some x = has in cc in
+      no_format x (subst (λ (y : Entries). IsRegistry ask.registry.now y) same is) why
+  refuses a (no_limits x s has form over same) =
+      let same_registry : r ≡ x = let k : Some r ≡ Some x = has in cc in
+      no_limits x s (subst (λ (y : Entries). IsRegistry ask.registry.now y) same_registry is) form over same
+
+  answers_rest : (a : Answer) (P : Entries → Bounds → Shape → Type 0) → Answers (on_handle (Some r) (rest ask)) a P → Answers (by_texts ask) a P
+  answers_rest a P (given x l s h p) = given x l s (by_text x l s h) p
+  answers_rest a P (refused h) = refused (refuses a h)
+
+  -- what is answered of the registry is answered of its text
+  pub answers_text : (w : HandleAsk) (a : Answer) (P : Entries → Bounds → Shape → Type 0) → w ≡ rest ask → Answers (on_handle (Some r) w) a P → Answers (by_texts ask) a P
+  answers_text w a P same h = answers_rest a P (subst (λ (v : HandleAsk). Answers (on_handle (Some r) v) a P) same h)
+
+  pub whatever_text : (w : HandleAsk) (P : Entries → Bounds → Shape → Type 0) → w ≡ rest ask → Whatever (on_handle (Some r) w) P → Whatever (by_texts ask) P
+  whatever_text w P same h x l s k = subst (λ (v : HandleAsk). Whatever (on_handle (Some r) v) P) same h x l s (once_read x l s k)
+
+-- ---- a registry that is open
+
+module _ (ask : HandleAsk) (r : Entries) (open_one : Option Entries) (is : Some r ≡ open_one) where
+  -- what is answered of the registry is answered of the handle in which it is open
+  pub answers_handle : (a : Answer) (P : Entries → Bounds → Shape → Type 0) → Answers (on_handle (Some r) ask) a P → Answers (on_handle open_one ask) a P
+  answers_handle a P h = subst (λ (x : Option Entries). Answers (on_handle x ask) a P) is h
+
+  pub whatever_handle : (P : Entries → Bounds → Shape → Type 0) → Whatever (on_handle (Some r) ask) P → Whatever (on_handle open_one ask) P
+  whatever_handle P h = subst (λ (x : Option Entries). Whatever (on_handle x ask) P) is h

@@ -1,15 +1,17 @@
 -- What a fault of a library comes to.
-use Rattle.std.proofs.Common.{◌≡◌, ◌≢◌, ◌⊎◌, ℕ, List, inl, inr, refl}
+use Rattle.std.proofs.Common.{◌≡◌, ◌≢◌, ◌⊎◌, ◌∙◌, ℕ, Err, List, Result, ap, inl, inr, refl}
 use Rattle.bcs_registry_formats.specs.declared.fault.RegistryFault.{RegistryFault}
 use Rattle.bcs_registry_formats.specs.declared.fault.RegistryFault.TheVariants as registry
 use Rattle.bcs_registry_formats.specs.Container.{Entries}
 use Rattle.bcs_registry_formats.specs.Shape.{Shape}
+use Rattle.bcs_decode_spec.specs.declared.reason.Reason.{Reason}
+use Rattle.bcs_decode_spec.specs.declared.stop.Stop.{Stop}
 use Rattle.bcs_value_spec.specs.Limits.{Bounds}
 use Rattle.bcs_value_tree.specs.Tree.{Tree}
 use Rattle.bcs_json_spec.specs.Texts.{Denotes, RefusesText}
 use Rattle.bcs_json_spec.specs.declared.json_fault.JsonFault.{JsonFault}
 use Rattle.bcs_json_spec.specs.declared.json_fault.JsonFault.TheVariants as json
-use Rattle.bcs_c.specs.Answers.{plain, refusal}
+use Rattle.bcs_c.specs.Answers.{plain, refusal, stop_at}
 use Rattle.bcs_c.specs.Compared.{AnswersTexts, RefusesOne}
 use Rattle.bcs_c.specs.Compared as compared
 use Rattle.bcs_c.specs.Denoted.{AnswersText}
@@ -69,3 +71,7 @@ module _ (registry : Entries) (limits : Bounds) (s : Shape) where
       → AnswersTexts registry limits s first second a
   texts_refused first second e a fault memory refused =
       elim (json_memory e) [ inl h ↦ compared.no_memory (memory h) | inr h ↦ compared.refused e (fault h) (refused h) ]
+
+-- the answer to a stop that is this one
+pub same_stop : (x : Stop) (e : Reason) (o : ℕ) (a : Answer) → ◌≡◌ {A = Result ℕ Stop} (Err x) (Err (record { reason = e; place = o })) → a ≡ stop_at x.reason x.place → a ≡ stop_at e o
+same_stop x e o a same is = let k : x ≡ record { reason = e; place = o } = cc in is ∙ ap (λ (y : Stop). stop_at y.reason y.place) k

@@ -1,5 +1,5 @@
--- What the texts of a registry and a format ask for, and why they are refused.
-use Rattle.std.specs.Prelude.{◌≡◌, ◌≢◌, ◌<◌, ◌≤◌}
+-- What is asked for of a registry that a text writes down, or of one that is open, and why it is refused.
+use Rattle.std.specs.Prelude.{◌≡◌, ◌≢◌, ◌<◌, ◌≤◌, ℕ, List, Option, Some, None}
 use Rattle.bcs_registry_formats.specs.Container.{Entries}
 use Rattle.bcs_registry_formats.specs.Shape.{Shape}
 use Rattle.bcs_registry_formats.specs.View.{shape_of}
@@ -8,36 +8,68 @@ use Rattle.bcs_c.specs.Answers.{plain}
 use Rattle.bcs_c.specs.Registries.{IsFormat, IsRegistry, RefusesFormat, RefusesRegistry}
 use Rattle.bcs_c.specs.declared.answer.Answer.{Answer}
 use Rattle.bcs_c.specs.declared.ask.Ask.{Ask}
+use Rattle.bcs_c.specs.declared.ask.HandleAsk.{HandleAsk}
 use Rattle.bcs_c.specs.declared.asked.Asked.{Asked}
-use Rattle.bcs_c.specs.declared.status.Status.TheVariants.{Limits, Memory, Registry}
+use Rattle.bcs_c.specs.declared.status.Status.TheVariants.{Closed, Limits, Memory, Registry}
 
--- the texts write down this registry and this format of it, and these limits are allowed
-pub record Asks (ask : Ask) (registry : Entries) (limits : Bounds) (s : Shape) : Type 0 where
-  pub is_registry : IsRegistry ask.registry.now registry
-  pub is_format : IsFormat registry ask.format.now s
-  pub depth : limits.depth ≡ ask.depth
-  pub nodes : limits.nodes ≡ ask.nodes
-  pub allowed : ask.depth ≤ 500
+-- where a registry is from: a text that writes it down, or a handle that keeps it, if one is open
+pub data Source : Type 0 where
+  written : List ℕ → Source
+  kept : Option Entries → Source
 
--- why nothing is asked for: the registry is refused; or else the format of it; or else the depth
-pub data RefusesAsk (ask : Ask) (a : Answer) : Type 0 where
-  no_registry : RefusesRegistry ask.registry.now Registry a → RefusesAsk ask a
-  no_format : (r : Entries) → IsRegistry ask.registry.now r → RefusesFormat r ask.format.now a → RefusesAsk ask a
-  no_limits : (r : Entries) (s : Shape) → IsRegistry ask.registry.now r → IsFormat r ask.format.now s → 500 < ask.depth → a ≡ plain Limits
-      → RefusesAsk ask a
+-- the text writes down this registry, or it is open
+abbrev pub Has : Source → Entries → Type 0
+Has (written text) r = IsRegistry text r
+Has (kept registry) r = registry ≡ Some r
+
+-- the text is refused, or no registry is open
+abbrev pub RefusesSource : Source → Answer → Type 0
+RefusesSource (written text) a = RefusesRegistry text Registry a
+RefusesSource (kept registry) a = (registry ≡ None) × (a ≡ plain Closed)
+
+-- what a call is asked for
+pub record Request : Type 0 where
+  pub source : Source
+  pub format : List ℕ
+  pub depth : ℕ
+  pub nodes : ℕ
+
+abbrev pub by_texts : Ask → Request
+by_texts ask = record { source = written ask.registry.now; format = ask.format.now; depth = ask.depth; nodes = ask.nodes }
+
+abbrev pub on_handle : Option Entries → HandleAsk → Request
+on_handle registry ask = record { source = kept registry; format = ask.format.now; depth = ask.depth; nodes = ask.nodes }
+
+-- what is asked for beside the registry
+abbrev pub rest : Ask → HandleAsk
+rest ask = record { format = ask.format; depth = ask.depth; nodes = ask.nodes }
+
+-- this registry is asked for, and this format of it, and these limits, which are allowed
+pub record Asks (q : Request) (registry : Entries) (limits : Bounds) (s : Shape) : Type 0 where
+  pub has : Has q.source registry
+  pub is_format : IsFormat registry q.format s
+  pub depth : limits.depth ≡ q.depth
+  pub nodes : limits.nodes ≡ q.nodes
+  pub allowed : q.depth ≤ 500
+
+-- why nothing is asked for: there is no registry; or else the format of it is refused; or else the depth
+pub data RefusesAsk (q : Request) (a : Answer) : Type 0 where
+  no_registry : RefusesSource q.source a → RefusesAsk q a
+  no_format : (r : Entries) → Has q.source r → RefusesFormat r q.format a → RefusesAsk q a
+  no_limits : (r : Entries) (s : Shape) → Has q.source r → IsFormat r q.format s → 500 < q.depth → a ≡ plain Limits → RefusesAsk q a
 
 -- something is asked for, and this holds of it; or nothing is
-pub data Answers (ask : Ask) (a : Answer) (P : Entries → Bounds → Shape → Type 0) : Type 0 where
-  given : (r : Entries) (l : Bounds) (s : Shape) → Asks ask r l s → P r l s → Answers ask a P
-  refused : RefusesAsk ask a → Answers ask a P
+pub data Answers (q : Request) (a : Answer) (P : Entries → Bounds → Shape → Type 0) : Type 0 where
+  given : (r : Entries) (l : Bounds) (s : Shape) → Asks q r l s → P r l s → Answers q a P
+  refused : RefusesAsk q a → Answers q a P
 
 -- whatever is asked for, this holds of it
-abbrev pub Whatever : Ask → (Entries → Bounds → Shape → Type 0) → Type 0
-Whatever ask P = (r : Entries) (l : Bounds) (s : Shape) → Asks ask r l s → P r l s
+abbrev pub Whatever : Request → (Entries → Bounds → Shape → Type 0) → Type 0
+Whatever q P = (r : Entries) (l : Bounds) (s : Shape) → Asks q r l s → P r l s
 
 -- this holds of what was read
 abbrev pub On : Asked → (Entries → Bounds → Shape → Type 0) → Type 0
-On asked P = P asked.registry asked.limits (shape_of asked.format)
+On asked P = P asked.registry.now asked.limits (shape_of asked.format)
 
 -- the answer is this one, unless memory ran out
 abbrev pub IsUnlessMemory : Answer → Answer → Type 0

@@ -3,6 +3,7 @@ pub mod Faults
 pub mod Answers
 pub mod Registries
 pub mod Asking
+pub mod Opened
 pub mod Output
 pub mod Denoted
 pub mod Compared

@@ -1,7 +1,7 @@
 -- The numbers of statuses, as C sees them.
 use Rattle.std.specs.Prelude.{ℕ}
 use Rattle.bcs_c.specs.declared.status.Status.{Status}
-use Rattle.bcs_c.specs.declared.status.Status.TheVariants.{Done, Short, Registry, Format, Limits, Refused, Memory, No, Path, Newer}
+use Rattle.bcs_c.specs.declared.status.Status.TheVariants.{Done, Short, Registry, Format, Limits, Refused, Memory, No, Path, Newer, Closed}
 
 abbrev pub status_number : Status → ℕ
 status_number Done = 0
@@ -14,3 +14,4 @@ status_number Memory = 6
 status_number No = 7
 status_number Path = 8
 status_number Newer = 9
+status_number Closed = 10

@@ -7,9 +7,9 @@ use bcs_value::Limits;
 
 /// A registry, a format that it admits, and the limits.
 #[derive(Drop)]
-pub(crate) struct Asked {
-    pub registry: Registry,
+pub(crate) struct Asked<'a> {
+    pub registry: &'a Registry,
     pub format: Format,
     pub limits: Limits,
-    ghost admitted: { Admits registry (shape_of format) },
+    ghost admitted: { Admits registry.now (shape_of format) },
 }

@@ -1,21 +1,35 @@
 //! Whether a registry and a format are good, for C.
 ghost use Rattle.std.specs.Prelude.{◌≡◌};
+ghost use Rattle.std.specs.declared.option.Option.TheVariants.{Some};
 ghost use Rattle.bcs_c.specs.Answers.{plain};
-ghost use Rattle.bcs_c.specs.Asking.{Answers, IsUnlessMemory, Whatever};
+ghost use Rattle.bcs_c.specs.Asking.{Answers, IsUnlessMemory, Whatever, by_texts, on_handle};
 ghost use Rattle.bcs_c.specs.declared.status.Status.TheVariants.{Done};
 
 use crate::answer::Answer;
-use crate::ask::{Ask, read_ask};
+use crate::ask::{Ask, HandleAsk, read_ask};
+use crate::registries::read_registry;
 use crate::status::Status;
+use bcs_registry::Registry;
 use std::alloc::Global;
 
 /// Whether the registry, the format and the limits are good.
 #[unsafe(no_mangle)]
 pub extern "C" fn bcs_check(alloc: Global, ask: &Ask) -> Answer
-    ensures answers { Answers ask.now result (λ r l s. result ≡ plain Done) }
-    ensures good { Whatever ask.now (λ r l s. IsUnlessMemory result (plain Done)) }
+    ensures answers { Answers (by_texts ask.now) result (λ r l s. result ≡ plain Done) }
+    ensures good { Whatever (by_texts ask.now) (λ r l s. IsUnlessMemory result (plain Done)) }
 {
-    if let Err(answer) = read_ask(alloc, ask) {
+    match read_registry(alloc, ask.registry, Status::Registry) {
+        Ok(registry) => soundness(alloc, &registry, &ask.rest()),
+        Err(answer) => answer,
+    }
+}
+
+/// Whether the format and the limits are good.
+pub(crate) fn soundness(alloc: Global, registry: &Registry, ask: &HandleAsk) -> Answer
+    ensures answers { Answers (on_handle (Some registry.now) ask.now) result (λ r l s. result ≡ plain Done) }
+    ensures good { Whatever (on_handle (Some registry.now) ask.now) (λ r l s. IsUnlessMemory result (plain Done)) }
+{
+    if let Err(answer) = read_ask(alloc, registry, ask) {
         return answer;
     }
     Answer::plain(Status::Done)

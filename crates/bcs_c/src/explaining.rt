@@ -1,17 +1,19 @@
 //! Bytes piece by piece, for C.
 ghost use Rattle.std.specs.Prelude.{◌≡◌, ◌≢◌};
-ghost use Rattle.bcs_c.specs.Asking.{Answers, On};
+ghost use Rattle.std.specs.declared.option.Option.TheVariants.{Some};
+ghost use Rattle.bcs_c.specs.Asking.{Answers, by_texts, on_handle};
 ghost use Rattle.bcs_c.specs.Explained.{AnswersExplained, form_numbered};
 ghost use Rattle.bcs_c.specs.Statuses.{status_number};
 ghost use Rattle.bcs_c.specs.declared.status.Status.TheVariants.{Done};
 
 use crate::answer::Answer;
-use crate::ask::{Ask, read_ask};
-use crate::asked::Asked;
+use crate::ask::{Ask, HandleAsk, read_ask};
 use crate::output::put;
+use crate::registries::read_registry;
 use crate::status::Status;
 use bcs_explain_columns::style::{Form, Paint, Style};
 use bcs_explain_table::explain_text;
+use bcs_registry::Registry;
 use std::alloc::Global;
 
 /// The input piece by piece, at the front of the output. Where it stops being a value, the answer tells so too.
@@ -23,34 +25,38 @@ pub extern "C" fn bcs_explain(
     bytes: &[u8],
     out: &mut [u8],
 ) -> Answer
-    ensures answers { Answers ask.now result (λ r l s. AnswersExplained r l s form bytes.now out.old out.new result) }
+    ensures answers { Answers (by_texts ask.now) result (λ r l s. AnswersExplained r l s form bytes.now out.old out.new result) }
     ensures untouched { result.status ≢ status_number Done → out.new ≡ out.old }
 {
-    let asked = match read_ask(alloc, ask) {
-        Ok(asked) => asked,
-        Err(answer) => return answer,
-    };
-    explanation(alloc, &asked, form, bytes, out)
+    match read_registry(alloc, ask.registry, Status::Registry) {
+        Ok(registry) => explanation(alloc, &registry, &ask.rest(), form, bytes, out),
+        Err(answer) => answer,
+    }
 }
 
 /// The input piece by piece, at the front of the output.
 pub(crate) fn explanation(
     alloc: Global,
-    asked: &Asked,
+    registry: &Registry,
+    ask: &HandleAsk,
     form: u32,
     bytes: &[u8],
     out: &mut [u8],
 ) -> Answer
-    ensures answers { On asked.now (λ r l s. AnswersExplained r l s form bytes.now out.old out.new result) }
+    ensures answers { Answers (on_handle (Some registry.now) ask.now) result (λ r l s. AnswersExplained r l s form bytes.now out.old out.new result) }
     ensures untouched { result.status ≢ status_number Done → out.new ≡ out.old }
 {
+    let asked = match read_ask(alloc, registry, ask) {
+        Ok(asked) => asked,
+        Err(answer) => return answer,
+    };
     let style = Style {
         form: numbered_form(form),
         paint: Paint::Plain,
     };
     match explain_text(
         alloc,
-        &asked.registry,
+        asked.registry,
         &asked.format,
         &asked.limits,
         style,

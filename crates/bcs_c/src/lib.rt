@@ -7,6 +7,7 @@ mod asked;
 mod checking;
 mod explaining;
 mod fault;
+mod handles;
 mod naming;
 mod numbered;
 mod output;

@@ -1,5 +1,6 @@
 //! Parts of values, for C.
 ghost use Rattle.std.specs.Prelude.{◌≡◌, ◌≢◌, ℕ, IfErr, IfOk, map};
+ghost use Rattle.std.specs.declared.option.Option.TheVariants.{Some};
 ghost use Rattle.bcs_registry_formats.specs.Container.{of};
 ghost use Rattle.bcs_value_tree.specs.Tree.{Tree};
 ghost use Rattle.bcs_decode_spec.specs.Accepting.{Accepts};
@@ -9,37 +10,59 @@ ghost use Rattle.bcs_decode_parts.specs.Parts.{part_at};
 ghost use Rattle.bcs_decode_parts.specs.Steps.{step_of};
 ghost use Rattle.bcs_tool_path.specs.PathSteps.{all_spelled};
 ghost use Rattle.bcs_c.specs.Answers.{plain, stop_at};
-ghost use Rattle.bcs_c.specs.Asking.{Answers, IsUnlessMemory, On, Whatever};
+ghost use Rattle.bcs_c.specs.Asking.{Answers, IsUnlessMemory, On, Whatever, by_texts, on_handle};
 ghost use Rattle.bcs_c.specs.Parts.{AnswersPart, AnswersSteps, Finds, IsPath, RefusesPath, Steps};
 ghost use Rattle.bcs_c.specs.declared.status.Status.TheVariants.{Memory};
 
 use crate::answer::Answer;
-use crate::ask::{Ask, read_ask};
+use crate::ask::{Ask, HandleAsk, read_ask};
 use crate::asked::Asked;
 use crate::fault::Fault;
+use crate::registries::read_registry;
 use crate::status::Status;
 use bcs_decode::{Step, part};
+use bcs_registry::Registry;
 use bcs_tool_path::{PathFault, PathStep, read_path, steps_of};
 use std::alloc::Global;
 
 /// Where the part of the value at the front of the input stands to which the path leads.
 #[unsafe(no_mangle)]
 pub extern "C" fn bcs_part(alloc: Global, ask: &Ask, bytes: &[u8], path: &[u8]) -> Answer
-    ensures answers { Answers ask.now result (λ r l s. AnswersPart r l s bytes.now path.now result) }
-    ensures only { Whatever ask.now (λ r l s. (steps : Steps) (n : ℕ) (c : Tree) → IsPath path.now steps → Accepts r l s bytes.now n c
+    ensures answers { Answers (by_texts ask.now) result (λ r l s. AnswersPart r l s bytes.now path.now result) }
+    ensures only { Whatever (by_texts ask.now) (λ r l s. (steps : Steps) (n : ℕ) (c : Tree) → IsPath path.now steps → Accepts r l s bytes.now n c
         → result ≢ plain Memory → Finds r bytes.now (part_at r steps (of s) c) result) }
-    ensures stopped { Whatever ask.now (λ r l s. (steps : Steps) (e : Reason) (o : ℕ) → IsPath path.now steps → Stops r l s bytes.now e o
+    ensures stopped { Whatever (by_texts ask.now) (λ r l s. (steps : Steps) (e : Reason) (o : ℕ) → IsPath path.now steps → Stops r l s bytes.now e o
         → IsUnlessMemory result (stop_at e o)) }
 {
-    let asked = match read_ask(alloc, ask) {
-        Ok(asked) => asked,
-        Err(answer) => return answer,
-    };
-    part_place(alloc, &asked, bytes, path)
+    match read_registry(alloc, ask.registry, Status::Registry) {
+        Ok(registry) => part_place(alloc, &registry, &ask.rest(), bytes, path),
+        Err(answer) => answer,
+    }
 }
 
 /// Where the part of the value at the front of the input stands to which the path leads.
-pub(crate) fn part_place(alloc: Global, asked: &Asked, bytes: &[u8], path: &[u8]) -> Answer
+pub(crate) fn part_place(
+    alloc: Global,
+    registry: &Registry,
+    ask: &HandleAsk,
+    bytes: &[u8],
+    path: &[u8],
+) -> Answer
+    ensures answers { Answers (on_handle (Some registry.now) ask.now) result (λ r l s. AnswersPart r l s bytes.now path.now result) }
+    ensures only { Whatever (on_handle (Some registry.now) ask.now) (λ r l s. (steps : Steps) (n : ℕ) (c : Tree) → IsPath path.now steps → Accepts r l s bytes.now n c
+        → result ≢ plain Memory → Finds r bytes.now (part_at r steps (of s) c) result) }
+    ensures stopped { Whatever (on_handle (Some registry.now) ask.now) (λ r l s. (steps : Steps) (e : Reason) (o : ℕ) → IsPath path.now steps → Stops r l s bytes.now e o
+        → IsUnlessMemory result (stop_at e o)) }
+{
+    let asked = match read_ask(alloc, registry, ask) {
+        Ok(asked) => asked,
+        Err(answer) => return answer,
+    };
+    path_place(alloc, &asked, bytes, path)
+}
+
+/// Where the part of the value at the front of the input stands to which the path leads.
+fn path_place(alloc: Global, asked: &Asked, bytes: &[u8], path: &[u8]) -> Answer
     ensures answers { On asked.now (λ r l s. AnswersPart r l s bytes.now path.now result) }
     ensures only { On asked.now (λ r l s. (steps : Steps) (n : ℕ) (c : Tree) → IsPath path.now steps → Accepts r l s bytes.now n c
         → result ≢ plain Memory → Finds r bytes.now (part_at r steps (of s) c) result) }
@@ -75,7 +98,7 @@ fn read_steps(alloc: Global, path: &[u8]) -> Result<Vec<PathStep>, Answer>
 fn step_place(asked: &Asked, bytes: &[u8], steps: &[Step]) -> Answer
     ensures { On asked.now (λ r l s. AnswersSteps r l s bytes.now (map step_of steps.now) result) }
 {
-    match part(&asked.registry, &asked.format, &asked.limits, bytes, steps) {
+    match part(asked.registry, &asked.format, &asked.limits, bytes, steps) {
         Ok(Some(found)) => Answer::placed(found.place, found.bytes.len()),
         Ok(None) => Answer::plain(Status::No),
         Err(stop) => Answer::stopped(stop),

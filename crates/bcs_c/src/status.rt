@@ -25,6 +25,8 @@ pub(crate) enum Status {
     Path,
     /// Of two registries the newer one is refused.
     Newer,
+    /// No registry is open.
+    Closed,
 }
 
 impl Status {
@@ -43,6 +45,7 @@ impl Status {
             Status::No => 7,
             Status::Path => 8,
             Status::Newer => 9,
+            Status::Closed => 10,
         }
     }
 }

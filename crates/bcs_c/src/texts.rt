@@ -1,39 +1,50 @@
 //! JSON texts of values, for C.
 ghost use Rattle.std.specs.Prelude.{◌≡◌, ◌≢◌};
+ghost use Rattle.std.specs.declared.option.Option.TheVariants.{Some};
 ghost use Rattle.bcs_json_spec.specs.Headline.{HasBytes, Normalises};
-ghost use Rattle.bcs_c.specs.Asking.{Answers, On};
+ghost use Rattle.bcs_c.specs.Asking.{Answers, by_texts, on_handle};
 ghost use Rattle.bcs_c.specs.Compared.{AnswersTexts};
 ghost use Rattle.bcs_c.specs.Denoted.{AnswersText};
 ghost use Rattle.bcs_c.specs.Statuses.{status_number};
 ghost use Rattle.bcs_c.specs.declared.status.Status.TheVariants.{Done};
 
 use crate::answer::Answer;
-use crate::ask::{Ask, read_ask};
-use crate::asked::Asked;
+use crate::ask::{Ask, HandleAsk, read_ask};
 use crate::output::put;
+use crate::registries::read_registry;
 use crate::status::Status;
 use bcs_json::{compare, normalise, to_bcs};
+use bcs_registry::Registry;
 use std::alloc::Global;
 
 /// The bytes of the value that a JSON text denotes, at the front of the output.
 #[unsafe(no_mangle)]
 pub extern "C" fn bcs_to_bcs(alloc: Global, ask: &Ask, text: &[u8], out: &mut [u8]) -> Answer
-    ensures answers { Answers ask.now result (λ r l s. AnswersText r l s (HasBytes r l s text.now) text.now out.old out.new result) }
+    ensures answers { Answers (by_texts ask.now) result (λ r l s. AnswersText r l s (HasBytes r l s text.now) text.now out.old out.new result) }
     ensures untouched { result.status ≢ status_number Done → out.new ≡ out.old }
 {
-    let asked = match read_ask(alloc, ask) {
-        Ok(asked) => asked,
-        Err(answer) => return answer,
-    };
-    text_bytes(alloc, &asked, text, out)
+    match read_registry(alloc, ask.registry, Status::Registry) {
+        Ok(registry) => text_bytes(alloc, &registry, &ask.rest(), text, out),
+        Err(answer) => answer,
+    }
 }
 
 /// The bytes of the value that a JSON text denotes, at the front of the output.
-pub(crate) fn text_bytes(alloc: Global, asked: &Asked, text: &[u8], out: &mut [u8]) -> Answer
-    ensures answers { On asked.now (λ r l s. AnswersText r l s (HasBytes r l s text.now) text.now out.old out.new result) }
+pub(crate) fn text_bytes(
+    alloc: Global,
+    registry: &Registry,
+    ask: &HandleAsk,
+    text: &[u8],
+    out: &mut [u8],
+) -> Answer
+    ensures answers { Answers (on_handle (Some registry.now) ask.now) result (λ r l s. AnswersText r l s (HasBytes r l s text.now) text.now out.old out.new result) }
     ensures untouched { result.status ≢ status_number Done → out.new ≡ out.old }
 {
-    match to_bcs(alloc, &asked.registry, &asked.format, &asked.limits, text) {
+    let asked = match read_ask(alloc, registry, ask) {
+        Ok(asked) => asked,
+        Err(answer) => return answer,
+    };
+    match to_bcs(alloc, asked.registry, &asked.format, &asked.limits, text) {
         Ok(bytes) => put(&bytes, out),
         Err(fault) => Answer::text_refusal(fault),
     }
@@ -42,22 +53,31 @@ pub(crate) fn text_bytes(alloc: Global, asked: &Asked, text: &[u8], out: &mut [u
 /// The one normal text of what a JSON text denotes, at the front of the output.
 #[unsafe(no_mangle)]
 pub extern "C" fn bcs_normalise(alloc: Global, ask: &Ask, text: &[u8], out: &mut [u8]) -> Answer
-    ensures answers { Answers ask.now result (λ r l s. AnswersText r l s (Normalises r l s text.now) text.now out.old out.new result) }
+    ensures answers { Answers (by_texts ask.now) result (λ r l s. AnswersText r l s (Normalises r l s text.now) text.now out.old out.new result) }
     ensures untouched { result.status ≢ status_number Done → out.new ≡ out.old }
 {
-    let asked = match read_ask(alloc, ask) {
-        Ok(asked) => asked,
-        Err(answer) => return answer,
-    };
-    normal_text(alloc, &asked, text, out)
+    match read_registry(alloc, ask.registry, Status::Registry) {
+        Ok(registry) => normal_text(alloc, &registry, &ask.rest(), text, out),
+        Err(answer) => answer,
+    }
 }
 
 /// The one normal text of what a JSON text denotes, at the front of the output.
-pub(crate) fn normal_text(alloc: Global, asked: &Asked, text: &[u8], out: &mut [u8]) -> Answer
-    ensures answers { On asked.now (λ r l s. AnswersText r l s (Normalises r l s text.now) text.now out.old out.new result) }
+pub(crate) fn normal_text(
+    alloc: Global,
+    registry: &Registry,
+    ask: &HandleAsk,
+    text: &[u8],
+    out: &mut [u8],
+) -> Answer
+    ensures answers { Answers (on_handle (Some registry.now) ask.now) result (λ r l s. AnswersText r l s (Normalises r l s text.now) text.now out.old out.new result) }
     ensures untouched { result.status ≢ status_number Done → out.new ≡ out.old }
 {
-    match normalise(alloc, &asked.registry, &asked.format, &asked.limits, text) {
+    let asked = match read_ask(alloc, registry, ask) {
+        Ok(asked) => asked,
+        Err(answer) => return answer,
+    };
+    match normalise(alloc, asked.registry, &asked.format, &asked.limits, text) {
         Ok(normal) => put(normal.as_bytes(), out),
         Err(fault) => Answer::text_refusal(fault),
     }
@@ -66,22 +86,31 @@ pub(crate) fn normal_text(alloc: Global, asked: &Asked, text: &[u8], out: &mut [
 /// Whether two JSON texts denote equal values.
 #[unsafe(no_mangle)]
 pub extern "C" fn bcs_compare(alloc: Global, ask: &Ask, first: &[u8], second: &[u8]) -> Answer
-    ensures { Answers ask.now result (λ r l s. AnswersTexts r l s first.now second.now result) }
+    ensures { Answers (by_texts ask.now) result (λ r l s. AnswersTexts r l s first.now second.now result) }
 {
-    let asked = match read_ask(alloc, ask) {
-        Ok(asked) => asked,
-        Err(answer) => return answer,
-    };
-    comparison(alloc, &asked, first, second)
+    match read_registry(alloc, ask.registry, Status::Registry) {
+        Ok(registry) => comparison(alloc, &registry, &ask.rest(), first, second),
+        Err(answer) => answer,
+    }
 }
 
 /// Whether two JSON texts denote equal values.
-pub(crate) fn comparison(alloc: Global, asked: &Asked, first: &[u8], second: &[u8]) -> Answer
-    ensures { On asked.now (λ r l s. AnswersTexts r l s first.now second.now result) }
+pub(crate) fn comparison(
+    alloc: Global,
+    registry: &Registry,
+    ask: &HandleAsk,
+    first: &[u8],
+    second: &[u8],
+) -> Answer
+    ensures { Answers (on_handle (Some registry.now) ask.now) result (λ r l s. AnswersTexts r l s first.now second.now result) }
 {
+    let asked = match read_ask(alloc, registry, ask) {
+        Ok(asked) => asked,
+        Err(answer) => return answer,
+    };
     match compare(
         alloc,
-        &asked.registry,
+        asked.registry,
         &asked.format,
         &asked.limits,
         first,

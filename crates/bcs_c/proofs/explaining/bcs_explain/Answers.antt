@@ -1,11 +1,9 @@
-use Rattle.bcs_registry_formats.specs.View.{shape_of}
-use Rattle.bcs_c.specs.Asking.{given, refused}
+use Rattle.bcs_c.specs.Asking.{no_registry, refused}
+use Rattle.bcs_c.proofs.Once.{answers_text}
 use Rattle.bcs_c.proofs.explaining.bcs_explain.Goals as goal
 
-pub returns-in-Err-clause-answers : goal.returns-in-Err-clause-answers
-returns-in-Err-clause-answers c = refused c.in-Err.ensures.err
+pub returns-in-Ok-clause-answers : goal.returns-in-Ok-clause-answers
+returns-in-Ok-clause-answers c = answers_text c.args.ask.now c.in-Ok.registry c.in-Ok.ensures.ok c.rest.result c.explanation.result _ c.rest.ensures c.explanation.ensures.answers
 
-pub returns-clause-answers : goal.returns-clause-answers
-returns-clause-answers c =
-    let asked = c.in-Ok.asked in
-    given asked.registry asked.limits (shape_of asked.format) c.in-Ok.ensures.ok c.explanation.ensures.answers
+pub returns-in-Err-clause-answers : goal.returns-in-Err-clause-answers
+returns-in-Err-clause-answers c = refused (no_registry c.in-Err.ensures.err)

@@ -3,17 +3,27 @@ use Rattle.bcs_registry_formats.specs.View.{shape_of}
 use Rattle.bcs_explain_columns.specs.declared.style.Form.{Form}
 use Rattle.bcs_explain_columns.specs.declared.style.Paint.TheVariants.{Plain}
 use Rattle.bcs_explain_table.specs.Explains.{Explains}
-use Rattle.bcs_c.specs.Explained.{put}
+use Rattle.bcs_c.specs.Asking.{given, refused}
+use Rattle.bcs_c.specs.Explained.{no_memory, put}
 use Rattle.bcs_c.specs.Output.{Puts}
 use Rattle.bcs_c.proofs.explaining.explanation.Goals as goal
 
-pub returns-in-Ok-clause-answers : goal.returns-in-Ok-clause-answers
-returns-in-Ok-clause-answers c =
-    let asked = c.args.asked.now in
-    let x = c.in-Ok.explained in
+pub returns-in-Err-clause-answers : goal.returns-in-Err-clause-answers
+returns-in-Err-clause-answers c = refused c.in-Err.ensures.err
+
+pub returns-in-Ok-explain_text-clause-answers : goal.returns-in-Ok-explain_text-clause-answers
+returns-in-Ok-explain_text-clause-answers c =
+    let asked = c.in-Ok.asked in
+    let x = c.in-Ok-explain_text.explained in
     let explains =
-    subst (λ (f : Form). Explains (record { form = f; paint = Plain }) asked.registry asked.limits (shape_of asked.format) c.args.bytes.now x.text.items x.stop)
-    c.numbered_form.ensures c.in-Ok.ensures
+    subst (λ (f : Form). Explains (record { form = f; paint = Plain }) asked.registry.now asked.limits (shape_of asked.format) c.args.bytes.now x.text.items x.stop)
+    c.numbered_form.ensures c.in-Ok-explain_text.ensures
     in
     let puts = subst (λ (b : List ℕ). Puts b c.args.out.now c.put.new.out c.put.result) c.deref.ensures.value c.put.ensures.puts in
-    put x.text.items x.stop c.put.result explains puts c.with_stop.ensures
+    given asked.registry.now asked.limits (shape_of asked.format) c.in-Ok.ensures.ok
+    (put x.text.items x.stop c.put.result explains puts c.with_stop.ensures)
+
+pub returns-clause-answers : goal.returns-clause-answers
+returns-clause-answers c =
+    let asked = c.in-Ok.asked in
+    given asked.registry.now asked.limits (shape_of asked.format) c.in-Ok.ensures.ok (no_memory c.plain.ensures)

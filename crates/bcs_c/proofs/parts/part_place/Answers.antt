@@ -1,39 +1,48 @@
-use Rattle.std.proofs.Common.{ap, map, ◌∙◌}
+use Rattle.std.proofs.Common.{ℕ, Some, ◌≢◌}
 use Rattle.bcs_registry_formats.specs.View.{shape_of}
-use Rattle.bcs_decode_parts.specs.Steps.{step_of}
-use Rattle.bcs_tool_path.specs.PathSteps.{all_spelled}
-use Rattle.bcs_c.proofs.PartAnswers.{by_steps, part_only, part_stopped}
+use Rattle.bcs_registry_formats.specs.Container.{Entries, of}
+use Rattle.bcs_registry_formats.specs.Shape.{Shape}
+use Rattle.bcs_value_spec.specs.Limits.{Bounds}
+use Rattle.bcs_value_tree.specs.Tree.{Tree}
+use Rattle.bcs_decode_spec.specs.Accepting.{Accepts}
+use Rattle.bcs_decode_spec.specs.Stopping.{Stops}
+use Rattle.bcs_decode_spec.specs.declared.reason.Reason.{Reason}
+use Rattle.bcs_decode_parts.specs.Parts.{part_at}
+use Rattle.bcs_c.specs.Answers.{plain, stop_at}
+use Rattle.bcs_c.specs.Asking.{IsUnlessMemory, given, on_handle, refused}
+use Rattle.bcs_c.specs.Parts.{Finds, IsPath, Steps}
+use Rattle.bcs_c.specs.declared.status.Status.TheVariants.{Memory}
+use Rattle.bcs_c.proofs.Once.{ask_stands, whatever}
 use Rattle.bcs_c.proofs.parts.part_place.Goals as goal
 
-pub returns-in-Ok-steps_of-clause-answers : goal.returns-in-Ok-steps_of-clause-answers
-returns-in-Ok-steps_of-clause-answers c =
-    let asked = c.args.asked.now in
-    let s = shape_of asked.format in
-    let same = ap (map step_of) c.as_slice-in-Ok-steps_of.ensures.value ∙ c.in-Ok-steps_of.ensures ∙ ap all_spelled c.as_slice.ensures.value in
-    let answers =
-    by_steps asked.registry asked.limits s c.args.bytes.now c.args.path.now c.step_place.result (all_spelled c.in-Ok.spelled.items)
-    (map step_of c.as_slice-in-Ok-steps_of.result.now) c.in-Ok.ensures.ok same c.step_place.ensures
-    in
-    answers
+pub returns-in-Err-clause-answers : goal.returns-in-Err-clause-answers
+returns-in-Err-clause-answers c = refused c.in-Err.ensures.err
 
-pub returns-in-Ok-steps_of-clause-only : goal.returns-in-Ok-steps_of-clause-only
-returns-in-Ok-steps_of-clause-only c steps n t path h memory =
-    let asked = c.args.asked.now in
-    let s = shape_of asked.format in
-    let same = ap (map step_of) c.as_slice-in-Ok-steps_of.ensures.value ∙ c.in-Ok-steps_of.ensures ∙ ap all_spelled c.as_slice.ensures.value in
-    let answers =
-    by_steps asked.registry asked.limits s c.args.bytes.now c.args.path.now c.step_place.result (all_spelled c.in-Ok.spelled.items)
-    (map step_of c.as_slice-in-Ok-steps_of.result.now) c.in-Ok.ensures.ok same c.step_place.ensures
-    in
-    part_only asked.registry asked.limits s c.args.bytes.now c.args.path.now c.step_place.result steps n t path h memory answers
+pub returns-in-Err-clause-only : goal.returns-in-Err-clause-only
+returns-in-Err-clause-only c r l s h steps n t path accepts memory = absurd (memory (ask_stands (on_handle (Some c.args.registry.now) c.args.ask.now) r l s c.in-Err.answer h c.in-Err.ensures.err))
 
-pub returns-in-Ok-steps_of-clause-stopped : goal.returns-in-Ok-steps_of-clause-stopped
-returns-in-Ok-steps_of-clause-stopped c steps e o path h =
-    let asked = c.args.asked.now in
-    let s = shape_of asked.format in
-    let same = ap (map step_of) c.as_slice-in-Ok-steps_of.ensures.value ∙ c.in-Ok-steps_of.ensures ∙ ap all_spelled c.as_slice.ensures.value in
-    let answers =
-    by_steps asked.registry asked.limits s c.args.bytes.now c.args.path.now c.step_place.result (all_spelled c.in-Ok.spelled.items)
-    (map step_of c.as_slice-in-Ok-steps_of.result.now) c.in-Ok.ensures.ok same c.step_place.ensures
+pub returns-in-Err-clause-stopped : goal.returns-in-Err-clause-stopped
+returns-in-Err-clause-stopped c r l s h steps e o path stops memory = absurd (memory (ask_stands (on_handle (Some c.args.registry.now) c.args.ask.now) r l s c.in-Err.answer h c.in-Err.ensures.err))
+
+pub returns-clause-answers : goal.returns-clause-answers
+returns-clause-answers c =
+    let asked = c.in-Ok.asked in
+    given asked.registry.now asked.limits (shape_of asked.format) c.in-Ok.ensures.ok c.path_place.ensures.answers
+
+pub returns-clause-only : goal.returns-clause-only
+returns-clause-only c =
+    let asked = c.in-Ok.asked in
+    let P : Entries → Bounds → Shape → Type 0 =
+    λ r l s. (steps : Steps) (n : ℕ) (t : Tree) → IsPath c.args.path.now steps → Accepts r l s c.args.bytes.now n t
+    → c.path_place.result ≢ plain Memory → Finds r c.args.bytes.now (part_at r steps (of s) t) c.path_place.result
     in
-    part_stopped asked.registry asked.limits s c.args.bytes.now c.args.path.now c.step_place.result steps e o path h answers
+    whatever (on_handle (Some c.args.registry.now) c.args.ask.now) P asked.registry.now asked.limits (shape_of asked.format) c.in-Ok.ensures.ok c.path_place.ensures.only
+
+pub returns-clause-stopped : goal.returns-clause-stopped
+returns-clause-stopped c =
+    let asked = c.in-Ok.asked in
+    let P : Entries → Bounds → Shape → Type 0 =
+    λ r l s. (steps : Steps) (e : Reason) (o : ℕ) → IsPath c.args.path.now steps → Stops r l s c.args.bytes.now e o
+    → IsUnlessMemory c.path_place.result (stop_at e o)
+    in
+    whatever (on_handle (Some c.args.registry.now) c.args.ask.now) P asked.registry.now asked.limits (shape_of asked.format) c.in-Ok.ensures.ok c.path_place.ensures.stopped

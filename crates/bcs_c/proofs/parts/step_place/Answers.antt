@@ -11,7 +11,7 @@ use Rattle.bcs_c.proofs.parts.step_place.Goals as goal
 pub returns-in-Ok-Some : goal.returns-in-Ok-Some
 returns-in-Ok-Some c =
     let asked = c.args.asked.now in
-    let r = asked.registry in
+    let r = asked.registry.now in
     let value = c.in-Ok-Some.ensures.found in
     let at = part_at r (map step_of c.args.steps.now) (of (shape_of asked.format)) value.1 in
     let gives = subst (λ (x : Option Part). GivesPart r c.args.bytes.now at x) c.in-Ok-Some.field-0-is value.3 in
@@ -20,7 +20,7 @@ returns-in-Ok-Some c =
 pub returns-in-Ok-None : goal.returns-in-Ok-None
 returns-in-Ok-None c =
     let asked = c.args.asked.now in
-    let r = asked.registry in
+    let r = asked.registry.now in
     let value = c.in-Ok-None.ensures.found in
     let at = part_at r (map step_of c.args.steps.now) (of (shape_of asked.format)) value.1 in
     let gives = subst (λ (x : Option Part). GivesPart r c.args.bytes.now at x) c.in-Ok-None.field-0-is value.3 in

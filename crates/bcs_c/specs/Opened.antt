@@ -1,0 +1,12 @@
+-- What is answered to the text of a registry that is to be open.
+use Rattle.std.specs.Prelude.{◌≡◌, ℕ, List, Option, Some}
+use Rattle.bcs_registry_formats.specs.Container.{Entries}
+use Rattle.bcs_c.specs.Answers.{plain}
+use Rattle.bcs_c.specs.Registries.{IsRegistry, RefusesRegistry}
+use Rattle.bcs_c.specs.declared.answer.Answer.{Answer}
+use Rattle.bcs_c.specs.declared.status.Status.TheVariants.{Done, Registry}
+
+-- the registry is open that the text writes down; or the text is refused, and what was open still is
+pub data AnswersOpening (text : List ℕ) (old new : Option Entries) (a : Answer) : Type 0 where
+  opened : (r : Entries) → IsRegistry text r → new ≡ Some r → a ≡ plain Done → AnswersOpening text old new a
+  refused : RefusesRegistry text Registry a → new ≡ old → AnswersOpening text old new a
