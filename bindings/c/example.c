@@ -15,12 +15,17 @@
 #define BYTES(text) (const uint8_t *)(text), strlen(text)
 
 int main(void) {
-    const bcs_ask ask = {BYTES("{\"Payment\":{\"STRUCT\":[{\"to\":\"STR\"},{\"amount\":\"U64\"}]}}"),
-                         BYTES("{\"TYPENAME\":\"Payment\"}"), BCS_DEPTH, BCS_NODES};
+    const bcs_handle_ask ask = {BYTES("{\"TYPENAME\":\"Payment\"}"), BCS_DEPTH, BCS_NODES};
     uint8_t bytes[100], text[100], name[40];
 
+    /* The registry is read once, for as many values as one likes. */
+    bcs_handle handle = {0};
+    if (bcs_open(&handle, BYTES("{\"Payment\":{\"STRUCT\":[{\"to\":\"STR\"},{\"amount\":\"U64\"}]}}")).status != BCS_DONE) {
+        return 1;
+    }
+
     /* Where 100 bytes weren't enough, the status would be BCS_SHORT, and `length` how many are. */
-    const bcs_answer coded = bcs_to_bcs(&ask, BYTES("{\"to\":\"bob\",\"amount\":7}"), bytes, sizeof bytes);
+    const bcs_answer coded = bcs_handle_to_bcs(&handle, &ask, BYTES("{\"to\":\"bob\",\"amount\":7}"), bytes, sizeof bytes);
     if (coded.status != BCS_DONE) {
         return 1;
     }
@@ -28,18 +33,19 @@ int main(void) {
         printf("%02x", bytes[place]);
     }
 
-    const bcs_answer shown = bcs_from_bcs(&ask, bytes, coded.length, text, sizeof text);
+    const bcs_answer shown = bcs_handle_from_bcs(&handle, &ask, bytes, coded.length, text, sizeof text);
     if (shown.status != BCS_DONE) {
         return 1;
     }
     printf("\n%.*s\n", (int)shown.length, (const char *)text);
 
     /* Without its last byte it is no payment, and the answer says why, and where. */
-    const bcs_answer damaged = bcs_from_bcs(&ask, bytes, coded.length - 1, text, sizeof text);
+    const bcs_answer damaged = bcs_handle_from_bcs(&handle, &ask, bytes, coded.length - 1, text, sizeof text);
     if (damaged.status != BCS_REFUSED) {
         return 1;
     }
     const bcs_answer named = bcs_fault_name(damaged.fault, name, sizeof name);
     printf("refused: %.*s at %llu\n", (int)named.length, (const char *)name, (unsigned long long)damaged.place);
+    bcs_close(&handle);
     return 0;
 }

@@ -2,7 +2,7 @@
 
    The calls are proved: crates/bcs_c/README.md says what of each. Every call is safe for any input, always returns, and
    may run on several threads at once; calls on one open registry take turns. What a call is handed stays the caller's,
-   and nothing of it is kept.
+   and nothing of it is kept, but for a registry that bcs_open reads into a handle.
 
    Bytes are handed over as a pointer and a length. A pointer isn't null, even where the length is 0. An output overlaps
    nothing else that is handed over. */
@@ -29,6 +29,20 @@ typedef struct bcs_ask {
 #define BCS_DEPTH 500
 #define BCS_NODES UINT32_MAX
 
+/* The place of the caller's where a registry is open between calls: {0} before its first bcs_open, and from then on as the
+   calls leave it. It isn't copied, and one call at a time has it. It holds memory until bcs_close. */
+typedef struct bcs_handle {
+    void *registry; /* null where no registry is open */
+} bcs_handle;
+
+/* What a call on an open registry is asked for, beside its input: as in bcs_ask. */
+typedef struct bcs_handle_ask {
+    const uint8_t *format; /* the JSON text of a format of the open registry */
+    size_t format_length;
+    uint32_t depth;
+    uint32_t nodes;
+} bcs_handle_ask;
+
 /* How a call went. */
 enum bcs_status {
     BCS_DONE = 0,     /* it is done, or the answer is yes */
@@ -40,7 +54,8 @@ enum bcs_status {
     BCS_MEMORY = 6,   /* memory ran out */
     BCS_NO = 7,       /* the answer is no: the values differ, or the path leads nowhere */
     BCS_PATH = 8,     /* the path is none */
-    BCS_NEWER = 9     /* of two registries the newer one is refused */
+    BCS_NEWER = 9,    /* of two registries the newer one is refused */
+    BCS_CLOSED = 10   /* no registry is open in the handle */
 };
 
 /* Why something is refused. bcs_fault_name gives the name. */
@@ -132,14 +147,40 @@ bcs_answer bcs_compare(const bcs_ask *ask, const uint8_t *first, size_t first_le
 bcs_answer bcs_scan(const bcs_ask *ask, const uint8_t *bytes, size_t bytes_length);
 
 /* Where the part of the value at the front of the input stands to which the path leads: `place`, and `length` bytes.
-   BCS_NO: the path leads nowhere. A path is as `bcs part` has it: "-" for the whole, or steps such as 2/some/0. */
+   BCS_NO: the path leads nowhere. A path is as `bcs part` has it: "." for the whole, or steps such as inner/2/inner or
+   key:0161, in which the key's bytes stand as hexadecimal digits. */
 bcs_answer bcs_part(const bcs_ask *ask, const uint8_t *bytes, size_t bytes_length, const uint8_t *path,
                     size_t path_length);
 
-/* The input piece by piece, as `bcs explain` prints it, without colours; `form` is one of enum bcs_form, and any other
-   number is as BCS_WAYS. Damage is no refusal here: it stands in the text, and `fault` and `place` tell it. */
+/* The input piece by piece, as `bcs explain` prints it, without colours and without its last line `refused: ..`; `form` is
+   one of enum bcs_form, and any other number is as BCS_WAYS. Damage is no refusal here: it stands in the text, and `fault`
+   and `place` tell it. */
 bcs_answer bcs_explain(const bcs_ask *ask, uint32_t form, const uint8_t *bytes, size_t bytes_length, uint8_t *out,
                        size_t out_length);
+
+/* Reads a registry and keeps it in the handle, in the place of one that was open: BCS_DONE. BCS_REGISTRY: it is refused,
+   and the handle is as it was. Reading takes longer than most values do, so whoever has many values reads it once. */
+bcs_answer bcs_open(bcs_handle *handle, const uint8_t *registry, size_t registry_length);
+
+/* Lets the registry go that is open, if one is, and gives its memory back. */
+void bcs_close(bcs_handle *handle);
+
+/* The calls above on the registry that is open, which stays open. Each answers what the call over the registry's text does;
+   BCS_CLOSED where none is open. */
+bcs_answer bcs_handle_check(bcs_handle *handle, const bcs_handle_ask *ask);
+bcs_answer bcs_handle_to_bcs(bcs_handle *handle, const bcs_handle_ask *ask, const uint8_t *text, size_t text_length,
+                             uint8_t *out, size_t out_length);
+bcs_answer bcs_handle_from_bcs(bcs_handle *handle, const bcs_handle_ask *ask, const uint8_t *bytes, size_t bytes_length,
+                               uint8_t *out, size_t out_length);
+bcs_answer bcs_handle_normalise(bcs_handle *handle, const bcs_handle_ask *ask, const uint8_t *text, size_t text_length,
+                                uint8_t *out, size_t out_length);
+bcs_answer bcs_handle_compare(bcs_handle *handle, const bcs_handle_ask *ask, const uint8_t *first, size_t first_length,
+                              const uint8_t *second, size_t second_length);
+bcs_answer bcs_handle_scan(bcs_handle *handle, const bcs_handle_ask *ask, const uint8_t *bytes, size_t bytes_length);
+bcs_answer bcs_handle_part(bcs_handle *handle, const bcs_handle_ask *ask, const uint8_t *bytes, size_t bytes_length,
+                           const uint8_t *path, size_t path_length);
+bcs_answer bcs_handle_explain(bcs_handle *handle, const bcs_handle_ask *ask, uint32_t form, const uint8_t *bytes,
+                              size_t bytes_length, uint8_t *out, size_t out_length);
 
 /* The name of a fault, as the program `bcs` prints it: "BadBool". BCS_NO: no fault has the number. */
 bcs_answer bcs_fault_name(uint32_t fault, uint8_t *out, size_t out_length);

@@ -7,7 +7,10 @@
 
 static_assert(std::is_standard_layout<bcs_ask>::value && std::is_trivial<bcs_ask>::value, "bcs_ask is C's");
 static_assert(std::is_standard_layout<bcs_answer>::value && std::is_trivial<bcs_answer>::value, "bcs_answer is C's");
+static_assert(std::is_standard_layout<bcs_handle>::value && std::is_trivial<bcs_handle>::value, "bcs_handle is C's");
+static_assert(std::is_standard_layout<bcs_handle_ask>::value && std::is_trivial<bcs_handle_ask>::value, "bcs_handle_ask is C's");
 static_assert(sizeof(bcs_ask) == 40 && sizeof(bcs_answer) == 24, "sizes");
+static_assert(sizeof(bcs_handle) == 8 && sizeof(bcs_handle_ask) == 24, "sizes of what is open");
 
 static const std::uint8_t *bytes_of(const std::string &text) {
     return reinterpret_cast<const std::uint8_t *>(text.data());
@@ -32,5 +35,18 @@ int main() {
     not_done += bcs_part(&ask, bytes, 2, bytes_of(path), path.size()).status;
     not_done += bcs_explain(&ask, BCS_TREE, bytes, 2, out, sizeof out).status;
     not_done += bcs_fault_name(BCS_STOP_BAD_BOOL, out, sizeof out).status;
-    return not_done == 0 ? 0 : 1;
+
+    bcs_handle handle = {};
+    const bcs_handle_ask of_open = {bytes_of(format), format.size(), BCS_DEPTH, BCS_NODES};
+    not_done += bcs_open(&handle, bytes_of(registry), registry.size()).status;
+    not_done += bcs_handle_check(&handle, &of_open).status;
+    not_done += bcs_handle_to_bcs(&handle, &of_open, bytes_of(text), text.size(), out, sizeof out).status;
+    not_done += bcs_handle_from_bcs(&handle, &of_open, bytes, 2, out, sizeof out).status;
+    not_done += bcs_handle_normalise(&handle, &of_open, bytes_of(text), text.size(), out, sizeof out).status;
+    not_done += bcs_handle_compare(&handle, &of_open, bytes_of(text), text.size(), bytes_of(text), text.size()).status;
+    not_done += bcs_handle_scan(&handle, &of_open, bytes, 2).status;
+    not_done += bcs_handle_part(&handle, &of_open, bytes, 2, bytes_of(path), path.size()).status;
+    not_done += bcs_handle_explain(&handle, &of_open, BCS_TREE, bytes, 2, out, sizeof out).status;
+    bcs_close(&handle);
+    return not_done == 0 && handle.registry == nullptr ? 0 : 1;
 }

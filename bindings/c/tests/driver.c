@@ -1,4 +1,5 @@
-/* The driver of C: reads lines of calls and answers them, as bindings/README.md says. */
+/* The driver of C: reads lines of calls and answers them, as bindings/README.md says. With the word `handle` it makes the
+   calls on a handle, in which it keeps the registry of the line before open as long as the next line has the same. */
 #include "jobs.h"
 #include <errno.h>
 
@@ -8,7 +9,7 @@
 static const char *const call_words[] = {"check",   "grows", "to_bcs", "from_bcs", "normalise",
                                          "compare", "scan",  "part",   "explain",  "fault_name"};
 static const char *const status_words[] = {"done",    "short",  "registry", "format", "limits",
-                                           "refused", "memory", "no",       "path",   "newer"};
+                                           "refused", "memory", "no",       "path",   "newer",  "closed"};
 static const char *const form_words[] = {"ways", "paths", "tree", "json"};
 
 static void fail(const char *what, const char *word) {
@@ -93,14 +94,47 @@ static struct job job_of(char *words[WORDS], size_t count) {
     return job;
 }
 
+/* The handle, and the text of the registry that is open in it. */
+static bcs_handle handle;
+static struct slice open_text;
+
+static bool is_open(struct slice registry) {
+    return handle.registry != NULL && registry.length == open_text.length &&
+           memcmp(registry.at, open_text.at, registry.length) == 0;
+}
+
+/* Opens the job's registry, if it isn't open. */
+static bcs_answer open_for(const struct job *job) {
+    if (is_open(job->registry)) {
+        return (bcs_answer){.status = BCS_DONE};
+    }
+    const bcs_answer answer = bcs_open(&handle, job->registry.at, job->registry.length);
+    if (answer.status == BCS_DONE) {
+        free((void *)open_text.at);
+        uint8_t *copy = malloc(job->registry.length);
+        CHECK(copy != NULL);
+        memcpy(copy, job->registry.at, job->registry.length);
+        open_text = (struct slice){copy, job->registry.length};
+    }
+    return answer;
+}
+
+static bcs_answer make_in(enum way way, const struct job *job, uint8_t *out, size_t room) {
+    if (way == BY_TEXTS || !is_on_registry(job)) {
+        return make(job, out, room);
+    }
+    const bcs_answer opened = open_for(job);
+    return opened.status == BCS_DONE ? make_on(&handle, job, out, room) : opened;
+}
+
 /* Makes the call, and once more with as much room as it says. */
-static bcs_answer make_whole(const struct job *job, uint8_t **out, size_t *room) {
-    bcs_answer answer = make(job, *out, *room);
+static bcs_answer make_whole(enum way way, const struct job *job, uint8_t **out, size_t *room) {
+    bcs_answer answer = make_in(way, job, *out, *room);
     if (answer.status == BCS_SHORT) {
         *room = answer.length;
         *out = realloc(*out, *room);
         CHECK(*out != NULL);
-        answer = make(job, *out, *room);
+        answer = make_in(way, job, *out, *room);
     }
     return answer;
 }
@@ -119,7 +153,7 @@ static void tell(const struct job *job, bcs_answer answer, const uint8_t *out) {
         CHECK(named.status == BCS_DONE);
         length = named.length;
     }
-    CHECK(answer.status < 10 && answer.status != BCS_SHORT);
+    CHECK(answer.status < sizeof status_words / sizeof *status_words && answer.status != BCS_SHORT);
     printf("%s\t%.*s\t%llu\t%zu\t", status_words[answer.status], (int)length, (const char *)name,
            (unsigned long long)answer.place, answer.length);
     for (size_t place = 0; has_output(job, answer) && place < answer.length; place++) {
@@ -129,7 +163,11 @@ static void tell(const struct job *job, bcs_answer answer, const uint8_t *out) {
     fflush(stdout);
 }
 
-int main(void) {
+int main(int count, char **arguments) {
+    const enum way way = count == 2 && strcmp(arguments[1], "handle") == 0 ? ON_HANDLE : BY_TEXTS;
+    if (count > 2 || (count == 2 && way == BY_TEXTS)) {
+        fail("no such word", arguments[1]);
+    }
     char *line = NULL;
     size_t line_room = 0, room = 16;
     uint8_t *out = malloc(room);
@@ -141,9 +179,11 @@ int main(void) {
         }
         char *words[WORDS];
         const struct job job = job_of(words, split(line, words));
-        const bcs_answer answer = make_whole(&job, &out, &room);
+        const bcs_answer answer = make_whole(way, &job, &out, &room);
         tell(&job, answer, out);
     }
+    bcs_close(&handle);
+    free((void *)open_text.at);
     free(line);
     free(out);
     return 0;

@@ -14,6 +14,12 @@ ROOT = HERE.parent.parent.parent
 
 # How a number's type is written in C.
 NUMBERS = {"u32": "uint32_t", "u64": "uint64_t", "usize": "size_t"}
+# Structs that calls are handed.
+STRUCTS = {"&Ask": "bcs_ask", "&HandleAsk": "bcs_handle_ask"}
+# What a call gives back.
+RESULTS = {"Answer": "bcs_answer", "": "void"}
+# The header tells what the crate's pointer in a handle leads to.
+NAMES_IN_HANDLE = {"void *pointer": "void *registry"}
 # With what the header's names of an enum of the crate begin.
 FRONTS = {
     "Status": "BCS_",
@@ -28,7 +34,7 @@ FORMS = {"Form": "BCS_"}
 
 
 class Interface(NamedTuple):
-    """What one side says, with types as C has them."""
+    """What one side says, with types as C has them. A call has first what it gives back."""
 
     calls: dict[str, list[str]]
     structs: dict[str, list[str]]
@@ -43,8 +49,12 @@ def declared(name: str, written: str) -> list[str]:
         return [f"const uint8_t *{name}", f"size_t {name}_length"]
     if written == "&mut [u8]":
         return [f"uint8_t *{name}", f"size_t {name}_length"]
-    if written == "&Ask":
-        return [f"const bcs_ask *{name}"]
+    if written in STRUCTS:
+        return [f"const {STRUCTS[written]} *{name}"]
+    if written == "&mut Handle":
+        return [f"bcs_handle *{name}"]
+    if written == "*mut u8":
+        return [f"void *{name}"]
     if written == "Global":
         return []
     return [f"{NUMBERS[written]} {name}"]
@@ -77,21 +87,34 @@ def forms_of(code: str) -> dict[str, int]:
     return found
 
 
+def structs_of(code: str) -> dict[str, list[str]]:
+    """The fields that C sees, which a ghost isn't."""
+    structs = re.findall(r"#\[repr\(C\)\]\s*(?:#\[[^\]]*\]\s*)*pub struct (\w+)(?:<'a>)? \{(.*?)\n\}", code, re.DOTALL)
+    fields = {name: re.sub(r"(pub )?ghost .*|\bpub ", "", body) for name, body in structs}
+    return {f"bcs_{in_capitals(name).lower()}": declared_all(body) for name, body in fields.items()}
+
+
+def handle_of(folder: pathlib.Path) -> list[str]:
+    """The handle has a crate of its own beside this one."""
+    code = re.sub(r"//.*", "", (folder.parent / "bcs_handle/src/handle.rt").read_text(encoding="utf-8"))
+    return structs_of(code)["bcs_handle"]
+
+
 def of_crate(folder: pathlib.Path) -> Interface:
     files = sorted((folder / "src").glob("**/*.rt"))
     if not files:
         sys.exit(f"header: FAILED: no sources in {folder}/src")
     code = "\n".join(re.sub(r"//.*", "", file.read_text(encoding="utf-8")) for file in files)
-    exported = re.findall(r'#\[unsafe\(no_mangle\)\]\s*pub extern "C" fn (\w+)\((.*?)\) -> Answer\b', code, re.DOTALL)
+    signature = r'#\[unsafe\(no_mangle\)\]\s*pub extern "C" fn (\w+)\(([^)]*)\)(?: -> (\w+))?\s*ensures\b'
+    exported = re.findall(signature, code)
     exports = len(re.findall(r"no_mangle|export_name", code))
     if len(exported) != exports:
         sys.exit(f"header: FAILED: of {exports} exports {len(exported)} are of the one form that is known")
-    structs = re.findall(r"#\[repr\(C\)\]\s*(?:#\[[^\]]*\]\s*)*pub struct (\w+)(?:<'a>)? \{(.*?)\n\}", code, re.DOTALL)
-    fields = {name: re.sub(r"\bpub ", "", body) for name, body in structs}
+    structs = structs_of(code) | {"bcs_handle": [NAMES_IN_HANDLE[field] for field in handle_of(folder)]}
     others = {OTHER_FAULTS[name]: int(number) for name, number in re.findall(r"\bFault::(\w+) => (\d+)", code)}
     return Interface(
-        calls={name: declared_all(parameters) for name, parameters in exported},
-        structs={f"bcs_{name.lower()}": declared_all(body) for name, body in fields.items()},
+        calls={name: [RESULTS[result], *declared_all(parameters)] for name, parameters, result in exported},
+        structs=structs,
         statuses=numbers(code, {"Status": FRONTS["Status"]}),
         faults=numbers(code, {enum: front for enum, front in FRONTS.items() if enum != "Status"}) | others,
         forms=forms_of(code),
@@ -110,12 +133,12 @@ def enum_of(header: str, name: str) -> dict[str, int]:
 
 def of_header(file: pathlib.Path) -> Interface:
     header = re.sub(r"/\*.*?\*/", "", file.read_text(encoding="utf-8"), flags=re.DOTALL)
-    calls = re.findall(r"\bbcs_answer (bcs_\w+)\((.*?)\);", header, re.DOTALL)
+    calls = re.findall(r"\b(bcs_answer|void) (bcs_\w+)\((.*?)\);", header, re.DOTALL)
     structs = re.findall(r"typedef struct \w+ \{(.*?)\} (\w+);", header, re.DOTALL)
     faults = enum_of(header, "bcs_fault")
     assert faults.pop("BCS_FAULT_NONE") == 0
     return Interface(
-        calls={name: [one_blank(parameter) for parameter in parameters.split(",")] for name, parameters in calls},
+        calls={name: [result, *map(one_blank, parameters.split(","))] for result, name, parameters in calls},
         structs={name: [one_blank(field) for field in body.split(";") if field.strip()] for body, name in structs},
         statuses=enum_of(header, "bcs_status"),
         faults=faults,

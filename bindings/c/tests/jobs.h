@@ -13,6 +13,9 @@ struct job {
     uint32_t depth, nodes, number;
 };
 
+/* How a call has its registry. */
+enum way { BY_TEXTS, ON_HANDLE };
+
 /* A text, or bytes that are spelled as one, in a table. */
 #define OF(words) {(const uint8_t *)(words), sizeof(words) - 1}
 #define STANDARD .depth = BCS_DEPTH, .nodes = BCS_NODES
@@ -50,7 +53,66 @@ static inline bcs_answer make(const struct job *job, uint8_t *out, size_t room) 
     abort();
 }
 
-/* The same with all that is handed over at the ends of pages, and an output that holds what it held before. */
+/* Whether the call is one of those that there are on a handle too. */
+static inline bool is_on_registry(const struct job *job) {
+    return job->call != GROWS && job->call != FAULT_NAME;
+}
+
+/* The same on the registry that is open. */
+static inline bcs_answer make_on(bcs_handle *handle, const struct job *job, uint8_t *out, size_t room) {
+    const struct slice input = job->input, second = job->second;
+    const bcs_handle_ask ask = {job->format.at, job->format.length, job->depth, job->nodes};
+    switch (job->call) {
+    case CHECKS:
+        return bcs_handle_check(handle, &ask);
+    case TO_BCS:
+        return bcs_handle_to_bcs(handle, &ask, input.at, input.length, out, room);
+    case FROM_BCS:
+        return bcs_handle_from_bcs(handle, &ask, input.at, input.length, out, room);
+    case NORMALISE:
+        return bcs_handle_normalise(handle, &ask, input.at, input.length, out, room);
+    case COMPARE:
+        return bcs_handle_compare(handle, &ask, input.at, input.length, second.at, second.length);
+    case SCAN:
+        return bcs_handle_scan(handle, &ask, input.at, input.length);
+    case PART:
+        return bcs_handle_part(handle, &ask, input.at, input.length, second.at, second.length);
+    case EXPLAIN:
+        return bcs_handle_explain(handle, &ask, job->number, input.at, input.length, out, room);
+    case GROWS:
+    case FAULT_NAME:
+        break;
+    }
+    abort();
+}
+
+/* Opens the registry for this one call. Where it is refused, that is the answer. */
+static inline bcs_answer make_opened(const struct job *job, uint8_t *out, size_t room) {
+    bcs_handle handle = {0};
+    bcs_answer answer = bcs_open(&handle, job->registry.at, job->registry.length);
+    if (answer.status == BCS_DONE) {
+        CHECK(answer.fault == BCS_FAULT_NONE && answer.place == 0 && answer.length == 0 && handle.registry != NULL);
+        answer = make_on(&handle, job, out, room);
+        CHECK(handle.registry != NULL);
+    } else {
+        CHECK(handle.registry == NULL);
+    }
+    bcs_close(&handle);
+    CHECK(handle.registry == NULL);
+    return answer;
+}
+
+/* Makes the call in this way, if there is such a way. */
+static inline bcs_answer make_by(enum way way, const struct job *job, uint8_t *out, size_t room) {
+    return way == ON_HANDLE && is_on_registry(job) ? make_opened(job, out, room) : make(job, out, room);
+}
+
+static inline bool are_same(bcs_answer one, bcs_answer other) {
+    return one.status == other.status && one.fault == other.fault && one.place == other.place && one.length == other.length;
+}
+
+/* Makes it with all that is handed over at the ends of pages, and an output that holds what it held before; and on a
+   handle too, which has to give the same. */
 static inline bcs_answer make_guarded(struct job job, uint8_t *out, size_t room) {
     job.registry = slice_of((const char *)job.registry.at, job.registry.length);
     job.format = slice_of((const char *)job.format.at, job.format.length);
@@ -58,6 +120,11 @@ static inline bcs_answer make_guarded(struct job job, uint8_t *out, size_t room)
     job.second = slice_of((const char *)job.second.at, job.second.length);
     memset(out, UNTOUCHED, room);
     const bcs_answer answer = make(&job, out, room);
+    uint8_t *again = guarded(room);
+    memset(again, UNTOUCHED, room);
+    CHECK(are_same(make_by(ON_HANDLE, &job, again, room), answer));
+    CHECK(memcmp(again, out, room) == 0);
+    unguard(again, room);
     drop(job.registry);
     drop(job.format);
     drop(job.input);

@@ -18,4 +18,13 @@ STANDS(bcs_answer, fault, 4, 4);
 STANDS(bcs_answer, place, 8, 8);
 STANDS(bcs_answer, length, 16, 8);
 
+_Static_assert(sizeof(bcs_handle) == 8, "bcs_handle has 8 bytes");
+STANDS(bcs_handle, registry, 0, 8);
+
+_Static_assert(sizeof(bcs_handle_ask) == 24, "bcs_handle_ask has 24 bytes");
+STANDS(bcs_handle_ask, format, 0, 8);
+STANDS(bcs_handle_ask, format_length, 8, 8);
+STANDS(bcs_handle_ask, depth, 16, 4);
+STANDS(bcs_handle_ask, nodes, 20, 4);
+
 int layout_is_checked;

@@ -108,26 +108,22 @@ static const struct {
     {"fault_name", {.call = FAULT_NAME, .number = BCS_STOP_KEY_ORDER}, BCS_DONE, ROOM},
 };
 
-static bool are_same(bcs_answer one, bcs_answer other) {
-    return one.status == other.status && one.fault == other.fault && one.place == other.place && one.length == other.length;
-}
-
 /* Makes the call on an output that holds what it held before, with this request refused. */
-static bcs_answer make_with(const struct job *job, unsigned long refuse, uint8_t *out, size_t room) {
+static bcs_answer make_with(enum way way, const struct job *job, unsigned long refuse, uint8_t *out, size_t room) {
     memset(out, UNTOUCHED, ROOM);
     requests = 0;
     refused = refuse;
-    const bcs_answer answer = make(job, out, room);
+    const bcs_answer answer = make_by(way, job, out, room);
     CHECK(blocks == 0);
     return answer;
 }
 
 /* Refuses each request in turn, and answers how many were told as want of memory. */
-static unsigned long sweep(size_t row, unsigned long count, bcs_answer whole, const uint8_t *output) {
+static unsigned long sweep(enum way way, size_t row, unsigned long count, bcs_answer whole, const uint8_t *output) {
     static uint8_t out[ROOM];
     unsigned long told = 0;
     for (unsigned long number = 1; number <= count; number++) {
-        const bcs_answer answer = make_with(&jobs[row].job, number, out, jobs[row].room);
+        const bcs_answer answer = make_with(way, &jobs[row].job, number, out, jobs[row].room);
         CHECK(requests >= number);
         if (answer.status == BCS_MEMORY) {
             told++;
@@ -141,20 +137,52 @@ static unsigned long sweep(size_t row, unsigned long count, bcs_answer whole, co
     return told;
 }
 
-int main(void) {
+static void sweep_both(enum way way, size_t row) {
     static uint8_t output[ROOM];
-    for (size_t row = 0; row < sizeof jobs / sizeof *jobs; row++) {
-        const bcs_answer whole = make_with(&jobs[row].job, 0, output, jobs[row].room);
-        const unsigned long count = requests;
-        CHECK(whole.status == jobs[row].status);
-        are_others_refused = false;
-        const unsigned long alone = sweep(row, count, whole, output);
-        are_others_refused = true;
-        const unsigned long together = sweep(row, count, whole, output);
-        printf("memory: %s: %lu requests, %lu told as want of memory, and %lu where all after it are refused too\n",
-               jobs[row].name, count, alone, together);
-        /* All calls but the names of faults ask for memory, and can't do without any. */
-        CHECK(jobs[row].job.call == FAULT_NAME ? count == 0 : together > 0);
+    const bcs_answer whole = make_with(way, &jobs[row].job, 0, output, jobs[row].room);
+    const unsigned long count = requests;
+    CHECK(whole.status == jobs[row].status);
+    are_others_refused = false;
+    const unsigned long alone = sweep(way, row, count, whole, output);
+    are_others_refused = true;
+    const unsigned long together = sweep(way, row, count, whole, output);
+    are_others_refused = false;
+    printf("memory: %s%s: %lu requests, %lu told as want of memory, and %lu where all after it are refused too\n",
+           jobs[row].name, way == ON_HANDLE ? ", on a handle" : "", count, alone, together);
+    /* All calls but the names of faults ask for memory, and can't do without any. */
+    CHECK(jobs[row].job.call == FAULT_NAME ? count == 0 : together > 0);
+}
+
+/* A registry that can't be opened for want of memory leaves the one that is open, which then answers as before. */
+static void older_registry_stays(void) {
+    const struct job *job = &jobs[0].job;
+    const struct slice newer = OF("{\"C\":\"UNITSTRUCT\"}");
+    uint8_t out[1];
+    bcs_handle handle = {0};
+    unsigned long number = 0;
+    bcs_answer answer = {.status = BCS_MEMORY};
+    refused = 0;
+    CHECK(bcs_open(&handle, job->registry.at, job->registry.length).status == BCS_DONE);
+    while (answer.status == BCS_MEMORY) {
+        requests = 0;
+        refused = ++number;
+        answer = bcs_open(&handle, newer.at, newer.length);
+        refused = 0;
+        const bool is_older = make_on(&handle, job, out, 0).status == BCS_DONE;
+        CHECK(is_older == (answer.status == BCS_MEMORY));
     }
+    CHECK(answer.status == BCS_DONE && number > 1);
+    bcs_close(&handle);
+    CHECK(blocks == 0);
+}
+
+int main(void) {
+    for (size_t row = 0; row < sizeof jobs / sizeof *jobs; row++) {
+        sweep_both(BY_TEXTS, row);
+        if (is_on_registry(&jobs[row].job)) {
+            sweep_both(ON_HANDLE, row);
+        }
+    }
+    older_registry_stays();
     return 0;
 }

@@ -1,4 +1,5 @@
-/* Eight threads make all calls at once, and each gets the answers that one thread alone got before. */
+/* Eight threads make all calls at once, by texts and each on a handle of its own, and each gets the answers that one thread
+   alone got before. */
 #include "jobs.h"
 #include <pthread.h>
 
@@ -38,17 +39,24 @@ static uint8_t outputs[JOBS][ROOM];
 
 /* Threads begin at different jobs, so that different calls meet. */
 static void *make_all(void *first) {
+    const struct slice registry = OF(REGISTRY);
     uint8_t out[ROOM];
+    bcs_handle handle = {0};
+    CHECK(bcs_open(&handle, registry.at, registry.length).status == BCS_DONE);
     for (size_t round = 0; round < ROUNDS; round++) {
         for (size_t step = 0; step < JOBS; step++) {
             const size_t row = (step + *(const size_t *)first) % JOBS;
             memset(out, UNTOUCHED, sizeof out);
-            const bcs_answer answer = make(&jobs[row].job, out, sizeof out);
-            CHECK(answer.status == answers[row].status && answer.fault == answers[row].fault);
-            CHECK(answer.place == answers[row].place && answer.length == answers[row].length);
+            CHECK(are_same(make(&jobs[row].job, out, sizeof out), answers[row]));
             CHECK(memcmp(out, outputs[row], sizeof out) == 0);
+            if (is_on_registry(&jobs[row].job)) {
+                memset(out, UNTOUCHED, sizeof out);
+                CHECK(are_same(make_on(&handle, &jobs[row].job, out, sizeof out), answers[row]));
+                CHECK(memcmp(out, outputs[row], sizeof out) == 0);
+            }
         }
     }
+    bcs_close(&handle);
     return NULL;
 }
 

@@ -37,11 +37,11 @@ const coded = (registry, format, value, digits, back = value) => {
   assert.deepEqual(registry.decode(format, bytesOfHex(digits)), back);
 };
 
-test('the module imports nothing, and has the calls of the header alone', () => {
+test('the module imports nothing, and has the calls of the header alone, without those on handles', () => {
   assert.ok(isSupported());
   assert.deepEqual(WebAssembly.Module.imports(module), []);
   const header = readFileSync(new URL('../../c/include/bcs.h', import.meta.url), 'utf8');
-  const calls = Array.from(header.matchAll(/^bcs_answer (bcs_\w+)\(/gm), (found) => found[1]);
+  const calls = Array.from(header.matchAll(/^bcs_answer (bcs_\w+)\((?!bcs_handle )/gm), (found) => found[1]);
   const exported = WebAssembly.Module.exports(module).map(({ name }) => name);
   assert.deepEqual(exported.sort(), [...calls, 'memory', 'take_memory', 'give_memory'].sort());
 });
