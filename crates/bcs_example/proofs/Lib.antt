@@ -7,6 +7,7 @@ pub mod RowWeights
 pub mod Gathered
 pub mod Weighed
 pub mod RoundSteps
+pub mod WaitingSteps
 pub mod SameExamples
 pub mod Knowing
 pub mod Filled

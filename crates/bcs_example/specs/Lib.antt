@@ -7,3 +7,4 @@ pub mod Weight
 pub mod Ranks
 pub mod Names
 pub mod Rounds
+pub mod Waiting

@@ -10,6 +10,7 @@ mod noting;
 mod placing;
 mod ranks;
 mod rounds;
+mod waiting;
 mod weighing;
 
 pub use example::example_value;

@@ -1,12 +1,13 @@
 //! The ranks of containers, found in rounds.
-ghost use Rattle.std.specs.Prelude.{◌≡◌, ℕ, List, false, OnOk, IfOk};
-ghost use Rattle.bcs_registry_formats.specs.Ranges.{IsOrderly};
+ghost use Rattle.std.specs.Prelude.{IfOk};
+ghost use Rattle.bcs_registry_formats.specs.Container.{Entries};
 ghost use Rattle.bcs_example.specs.Names.{IsClosed};
-ghost use Rattle.bcs_example.specs.Ranks.{rank_of};
-ghost use Rattle.bcs_example.specs.Rounds.{AreEarlier, AreRanks, Tells, after, words};
+ghost use Rattle.bcs_example.specs.Rounds.{AreRanks, Tells, words};
+ghost use Rattle.bcs_example.specs.Waiting.{AreContainers, AreUnranked, Rounded};
 
 use crate::ranks::Ranks;
-use crate::weighing::new_rank;
+use crate::waiting::{Waiting, waiting_for};
+use crate::weighing::container_rank;
 use bcs_registry::Registry;
 use std::alloc::{AllocError, Global};
 
@@ -15,7 +16,7 @@ use std::alloc::{AllocError, Global};
 /// finds none, no later one does.
 pub fn find_ranks<'a>(
     alloc: Global,
-    registry: &Registry,
+    registry: &'a Registry,
     names: &[&'a str],
     depth: u32,
 ) -> Result<Ranks<'a>, AllocError>
@@ -25,36 +26,33 @@ pub fn find_ranks<'a>(
 {
     registry.recall();
     let mut ranks = Ranks::new(alloc);
+    let mut waiting = waiting_for(alloc, registry, names)?;
     for round in 0..depth {
-        if !run_round(registry, names, round, &mut ranks)? {
+        let left = run_round(alloc, &waiting, round, &mut ranks)?;
+        if left.len() == waiting.len() {
             return Ok(ranks);
         }
+        waiting = left;
     }
     Ok(ranks)
 }
 
-/// Gives ranks to the containers that those of the rounds before are enough for. The result is whether there were any.
+/// Gives ranks to the containers that those of the rounds before are enough for, and hands back the others.
 fn run_round<'a>(
-    registry: &Registry,
-    names: &[&'a str],
+    alloc: Global,
+    waiting: &[Waiting<'a>],
     round: u32,
     ranks: &mut Ranks<'a>,
-) -> Result<bool, AllocError>
-    requires earlier { AreEarlier round ranks.old.found }
-    ensures found { OnOk result ((n : List ℕ)
-        → rank_of ranks.new.found n ≡ after registry.now round ranks.old.found (words names.now) n) }
-    ensures none { IfOk result (λ some. some ≡ false
-        → (n : List ℕ) → rank_of ranks.new.found n ≡ rank_of ranks.old.found n) }
+) -> Result<Vec<Waiting<'a>>, AllocError>
+    ensures { IfOk result (λ left. (registry : Entries) → AreContainers registry waiting.now → AreUnranked ranks.old.found waiting.now
+        → Rounded registry round ranks.old.found ranks.new.found waiting.now left.items) }
 {
-    let mut some = false;
-    for name in names {
-        if ranks.has(name) {
-            continue;
-        }
-        if let Some(rank) = new_rank(registry, name, ranks, round) {
-            ranks.put(name, rank)?;
-            some = true;
+    let mut left = Vec::new(alloc);
+    for one in waiting {
+        match container_rank(one.container, ranks, round) {
+            Some(rank) => ranks.put(one.name, rank)?,
+            None => left.push(*one)?,
         }
     }
-    Ok(some)
+    Ok(left)
 }

@@ -1,12 +1,12 @@
 //! How many nodes the example of a format has, from what is known of containers.
 ghost use Rattle.std.specs.Prelude.{◌≡◌, map, option_map};
-ghost use Rattle.bcs_registry_formats.specs.Container.{content, content_at, field_shapes, payload_shape};
+ghost use Rattle.bcs_registry_formats.specs.Container.{content, field_shapes, payload_shape};
 ghost use Rattle.bcs_registry_formats.specs.View.{choice_of, container_of, field_of, formats_shapes, payload_of, shape_of};
 ghost use Rattle.bcs_example.specs.Ranks.{ranked, told};
 ghost use Rattle.bcs_example.specs.Weight.{content_pick, first_pick, one_more, row_weight, shape_weight, times};
 
 use crate::ranks::{Rank, Ranks};
-use bcs_registry::{Container, Format, Named, Registry, VariantFormat};
+use bcs_registry::{Container, Format, Named, VariantFormat};
 use std::collections::BTreeMap;
 
 /// The nodes of the format's example, or 18446744073709551615 where they are more. `None`: there is none in which at most
@@ -149,11 +149,10 @@ fn unnumbered(nodes: Option<u64>) -> Option<(u32, u64)>
     }
 }
 
-/// The rank of the container of this name, in which at most so many containers are open at once.
-pub fn new_rank(registry: &Registry, name: &str, ranks: &Ranks<'_>, depth: u32) -> Option<Rank>
-    ensures { result ≡ option_map (ranked depth) (content_pick (told ranks.now.found depth) (content_at name.now registry.now)) }
+/// The rank of the container, if those that are known are enough, in which at most so many containers are open at once.
+pub fn container_rank(container: &Container, ranks: &Ranks<'_>, depth: u32) -> Option<Rank>
+    ensures { result ≡ option_map (ranked depth) (content_pick (told ranks.now.found depth) (content (container_of container.now))) }
 {
-    let container = registry.container(name)?;
     let (variant, inside) = container_pick(container, ranks, depth)?;
     Some(Rank {
         below: depth,

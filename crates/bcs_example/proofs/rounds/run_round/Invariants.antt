@@ -1,10 +1,9 @@
-use Rattle.std.proofs.Common.{◌≡◌, ℕ, List, take, false}
-use Rattle.bcs_example.specs.Ranks.{rank_of}
-use Rattle.bcs_example.specs.Rounds.{after, words}
+use Rattle.std.proofs.Common.{take}
+use Rattle.bcs_registry_formats.specs.Container.{Entries}
+use Rattle.bcs_example.specs.Waiting.{AreContainers, AreUnranked, Rounded}
 use Rattle.bcs_example.proofs.rounds.run_round.Given as goal
 
-abbrev pub invariant-loop-name : goal.invariant-loop-name
-invariant-loop-name l = record {
-  ranks : (n : List ℕ) → rank_of l.ranks.found n ≡ after l.registry l.round l.fn.ranks.found (words (take l.name-index l.names)) n;
-  unchanged : l.some ≡ false → (n : List ℕ) → rank_of l.ranks.found n ≡ rank_of l.fn.ranks.found n;
-}
+abbrev pub invariant-loop-one : goal.invariant-loop-one
+invariant-loop-one l =
+    (registry : Entries) → AreContainers registry l.waiting → AreUnranked l.fn.ranks.found l.waiting
+    → Rounded registry l.round l.fn.ranks.found l.ranks.found (take l.one-index l.waiting) l.left.items
