@@ -2,7 +2,10 @@
 #![allow(unsafe_code)]
 
 use crate::limits::Limits;
+use std::ffi::c_void;
 use std::marker::PhantomData;
+use std::ptr;
+use std::sync::{Mutex, PoisonError};
 
 // How a call went: `enum bcs_status`.
 pub(crate) const DONE: u32 = 0;
@@ -25,11 +28,15 @@ pub(crate) const JSON: u32 = 3;
 /// The one fault of `enum bcs_fault` that belongs to no enum of `faults`, beside that of a path, which its status tells.
 pub(crate) const SHOWN_TOO_NESTED: u32 = 501;
 
-/// `bcs_ask`: what a call is asked for, beside its input.
+/// `bcs_handle`: the place where a registry is open between calls. It is closed where it goes.
 #[repr(C)]
-struct Ask<'a> {
-    registry: *const u8,
-    registry_length: usize,
+pub(crate) struct Handle {
+    registry: *mut c_void,
+}
+
+/// `bcs_handle_ask`: what a call on an open registry is asked for, beside its input.
+#[repr(C)]
+struct HandleAsk<'a> {
     format: *const u8,
     format_length: usize,
     depth: u32,
@@ -48,22 +55,54 @@ pub(crate) struct Answer {
 }
 
 unsafe extern "C" {
-    fn bcs_check(ask: &Ask<'_>) -> Answer;
+    fn bcs_open(handle: &mut Handle, registry: *const u8, registry_length: usize) -> Answer;
+    fn bcs_close(handle: &mut Handle);
     fn bcs_grows(older: *const u8, older_length: usize, newer: *const u8, newer_length: usize) -> Answer;
-    fn bcs_to_bcs(ask: &Ask<'_>, text: *const u8, text_length: usize, out: *mut u8, out_length: usize) -> Answer;
-    fn bcs_from_bcs(ask: &Ask<'_>, bytes: *const u8, bytes_length: usize, out: *mut u8, out_length: usize) -> Answer;
-    fn bcs_normalise(ask: &Ask<'_>, text: *const u8, text_length: usize, out: *mut u8, out_length: usize) -> Answer;
-    fn bcs_compare(
-        ask: &Ask<'_>,
+    fn bcs_handle_check(handle: &mut Handle, ask: &HandleAsk<'_>) -> Answer;
+    fn bcs_handle_to_bcs(
+        handle: &mut Handle,
+        ask: &HandleAsk<'_>,
+        text: *const u8,
+        text_length: usize,
+        out: *mut u8,
+        out_length: usize,
+    ) -> Answer;
+    fn bcs_handle_from_bcs(
+        handle: &mut Handle,
+        ask: &HandleAsk<'_>,
+        bytes: *const u8,
+        bytes_length: usize,
+        out: *mut u8,
+        out_length: usize,
+    ) -> Answer;
+    fn bcs_handle_normalise(
+        handle: &mut Handle,
+        ask: &HandleAsk<'_>,
+        text: *const u8,
+        text_length: usize,
+        out: *mut u8,
+        out_length: usize,
+    ) -> Answer;
+    fn bcs_handle_compare(
+        handle: &mut Handle,
+        ask: &HandleAsk<'_>,
         first: *const u8,
         first_length: usize,
         second: *const u8,
         second_length: usize,
     ) -> Answer;
-    fn bcs_scan(ask: &Ask<'_>, bytes: *const u8, bytes_length: usize) -> Answer;
-    fn bcs_part(ask: &Ask<'_>, bytes: *const u8, bytes_length: usize, path: *const u8, path_length: usize) -> Answer;
-    fn bcs_explain(
-        ask: &Ask<'_>,
+    fn bcs_handle_scan(handle: &mut Handle, ask: &HandleAsk<'_>, bytes: *const u8, bytes_length: usize) -> Answer;
+    fn bcs_handle_part(
+        handle: &mut Handle,
+        ask: &HandleAsk<'_>,
+        bytes: *const u8,
+        bytes_length: usize,
+        path: *const u8,
+        path_length: usize,
+    ) -> Answer;
+    fn bcs_handle_explain(
+        handle: &mut Handle,
+        ask: &HandleAsk<'_>,
         form: u32,
         bytes: *const u8,
         bytes_length: usize,
@@ -81,26 +120,46 @@ pub(crate) struct Question<'a> {
     pub(crate) limits: Limits,
 }
 
-/// A registry that was read. Today each call of the library reads its text again.
-pub(crate) struct Open {
-    text: Box<[u8]>,
+// What each `SAFETY` below rests on: the calls are safe for any input, as long as each pointer with its length is one of a
+// slice, an output overlaps nothing else, and a handle is null or as the calls left it, and one call's at a time. A Rust
+// slice is that, its pointer is never null, even where it is empty, and `&mut` says that nothing else refers to what is
+// behind it. Nothing that is handed over is kept, but for the registry in a handle, which has memory of its own.
+
+// SAFETY: a handle is all that refers to its registry, and no call minds on which thread it is.
+unsafe impl Send for Handle {}
+
+impl Handle {
+    fn open(text: &[u8]) -> Result<Handle, Answer> {
+        let mut handle = Handle { registry: ptr::null_mut() };
+        // SAFETY: the handle is new, and the text is borrowed for the call.
+        let answer = unsafe { bcs_open(&mut handle, text.as_ptr(), text.len()) };
+        if answer.status == DONE { Ok(handle) } else { Err(answer) }
+    }
 }
 
-// What each `SAFETY` below rests on: the calls are safe for any input, as long as each pointer with its length is one of a
-// slice, and an output overlaps nothing else. A Rust slice is that, its pointer is never null, even where it is empty, and
-// `&mut` says that nothing else refers to it. Nothing that is handed over is kept.
+impl Drop for Handle {
+    fn drop(&mut self) {
+        // SAFETY: the handle is as the calls left it.
+        unsafe { bcs_close(self) }
+    }
+}
+
+/// A registry that was read. A call takes a handle in which it is open, and puts it back. Where others have all of them it
+/// opens one more, so there are as many as calls were made at once.
+pub(crate) struct Open {
+    text: Box<[u8]>,
+    free: Mutex<Vec<Handle>>,
+}
+
 impl Open {
     pub(crate) fn read(text: &[u8]) -> Result<Open, Answer> {
-        let open = Open { text: text.into() };
-        // Every registry has this format, so what is refused is the registry.
-        let answer = open.check(Question { format: br#""UNIT""#, limits: Limits::STANDARD });
-        if answer.status == DONE { Ok(open) } else { Err(answer) }
+        let handle = Handle::open(text)?;
+        Ok(Open { text: text.into(), free: Mutex::new(vec![handle]) })
     }
 
     pub(crate) fn check(&self, question: Question) -> Answer {
-        let ask = self.ask(question);
         // SAFETY: the slices that `ask` points to are borrowed for the call.
-        unsafe { bcs_check(&ask) }
+        self.with(question, |handle, ask| unsafe { bcs_handle_check(handle, ask) })
     }
 
     pub(crate) fn grows(&self, newer: &Open) -> Answer {
@@ -110,57 +169,78 @@ impl Open {
     }
 
     pub(crate) fn encode(&self, question: Question, text: &[u8], out: &mut [u8]) -> Answer {
-        let ask = self.ask(question);
         // SAFETY: the slices are borrowed for the call, `out` alone for writing.
-        unsafe { bcs_to_bcs(&ask, text.as_ptr(), text.len(), out.as_mut_ptr(), out.len()) }
+        self.with(question, |handle, ask| unsafe {
+            bcs_handle_to_bcs(handle, ask, text.as_ptr(), text.len(), out.as_mut_ptr(), out.len())
+        })
     }
 
     pub(crate) fn decode(&self, question: Question, bytes: &[u8], out: &mut [u8]) -> Answer {
-        let ask = self.ask(question);
         // SAFETY: the slices are borrowed for the call, `out` alone for writing.
-        unsafe { bcs_from_bcs(&ask, bytes.as_ptr(), bytes.len(), out.as_mut_ptr(), out.len()) }
+        self.with(question, |handle, ask| unsafe {
+            bcs_handle_from_bcs(handle, ask, bytes.as_ptr(), bytes.len(), out.as_mut_ptr(), out.len())
+        })
     }
 
     pub(crate) fn normalise(&self, question: Question, text: &[u8], out: &mut [u8]) -> Answer {
-        let ask = self.ask(question);
         // SAFETY: the slices are borrowed for the call, `out` alone for writing.
-        unsafe { bcs_normalise(&ask, text.as_ptr(), text.len(), out.as_mut_ptr(), out.len()) }
+        self.with(question, |handle, ask| unsafe {
+            bcs_handle_normalise(handle, ask, text.as_ptr(), text.len(), out.as_mut_ptr(), out.len())
+        })
     }
 
     pub(crate) fn equal(&self, question: Question, first: &[u8], second: &[u8]) -> Answer {
-        let ask = self.ask(question);
         // SAFETY: the slices are borrowed for the call.
-        unsafe { bcs_compare(&ask, first.as_ptr(), first.len(), second.as_ptr(), second.len()) }
+        self.with(question, |handle, ask| unsafe {
+            bcs_handle_compare(handle, ask, first.as_ptr(), first.len(), second.as_ptr(), second.len())
+        })
     }
 
     pub(crate) fn scan(&self, question: Question, bytes: &[u8]) -> Answer {
-        let ask = self.ask(question);
         // SAFETY: the slices are borrowed for the call.
-        unsafe { bcs_scan(&ask, bytes.as_ptr(), bytes.len()) }
+        self.with(question, |handle, ask| unsafe { bcs_handle_scan(handle, ask, bytes.as_ptr(), bytes.len()) })
     }
 
     pub(crate) fn part(&self, question: Question, bytes: &[u8], path: &[u8]) -> Answer {
-        let ask = self.ask(question);
         // SAFETY: the slices are borrowed for the call.
-        unsafe { bcs_part(&ask, bytes.as_ptr(), bytes.len(), path.as_ptr(), path.len()) }
+        self.with(question, |handle, ask| unsafe {
+            bcs_handle_part(handle, ask, bytes.as_ptr(), bytes.len(), path.as_ptr(), path.len())
+        })
     }
 
     pub(crate) fn explain(&self, question: Question, form: u32, bytes: &[u8], out: &mut [u8]) -> Answer {
-        let ask = self.ask(question);
         // SAFETY: the slices are borrowed for the call, `out` alone for writing.
-        unsafe { bcs_explain(&ask, form, bytes.as_ptr(), bytes.len(), out.as_mut_ptr(), out.len()) }
+        self.with(question, |handle, ask| unsafe {
+            bcs_handle_explain(handle, ask, form, bytes.as_ptr(), bytes.len(), out.as_mut_ptr(), out.len())
+        })
     }
 
-    fn ask<'a>(&'a self, question: Question<'a>) -> Ask<'a> {
-        Ask {
-            registry: self.text.as_ptr(),
-            registry_length: self.text.len(),
+    /// Makes a call with a handle that nobody else has.
+    fn with(&self, question: Question, call: impl FnOnce(&mut Handle, &HandleAsk) -> Answer) -> Answer {
+        let ask = HandleAsk {
             format: question.format.as_ptr(),
             format_length: question.format.len(),
             depth: question.limits.depth,
             nodes: question.limits.nodes,
             borrowed: PhantomData,
-        }
+        };
+        let mut handle = match self.take() {
+            Ok(handle) => handle,
+            Err(answer) => return answer,
+        };
+        let answer = call(&mut handle, &ask);
+        self.change(|free| free.push(handle));
+        answer
+    }
+
+    fn take(&self) -> Result<Handle, Answer> {
+        // The lock is let go before a handle is opened, which takes longer than most calls.
+        let free = self.change(Vec::pop);
+        free.map_or_else(|| Handle::open(&self.text), Ok)
+    }
+
+    fn change<T>(&self, by: impl FnOnce(&mut Vec<Handle>) -> T) -> T {
+        by(&mut self.free.lock().unwrap_or_else(PoisonError::into_inner))
     }
 }
 
