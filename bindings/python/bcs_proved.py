@@ -26,7 +26,8 @@ import functools
 import json
 import os
 import pathlib
-from typing import Any, Mapping, NamedTuple, Optional, Union
+import weakref
+from typing import Any, Callable, Mapping, NamedTuple, Optional, TypeVar, Union
 
 __all__ = [
     "BcsError",
@@ -133,12 +134,16 @@ class Part(NamedTuple):
     data: bytes
 
 
+class _Handle(ctypes.Structure):
+    """bcs_handle of bcs.h."""
+
+    _fields_ = [("registry", ctypes.c_void_p)]
+
+
 class _Ask(ctypes.Structure):
-    """bcs_ask of bcs.h."""
+    """bcs_handle_ask of bcs.h."""
 
     _fields_ = [
-        ("registry", ctypes.c_char_p),
-        ("registry_length", ctypes.c_size_t),
         ("format", ctypes.c_char_p),
         ("format_length", ctypes.c_size_t),
         ("depth", ctypes.c_uint32),
@@ -175,24 +180,29 @@ class _Status(enum.IntEnum):
     NO = 7
     PATH = 8
     NEWER = 9
+    CLOSED = 10
 
 
 # What bytes are handed over as: a pointer and a length. A pointer to no bytes isn't null.
 _IN = [ctypes.c_char_p, ctypes.c_size_t]
 _OUT = [ctypes.c_void_p, ctypes.c_size_t]
-_ASK = [ctypes.POINTER(_Ask)]
+_HANDLE = [ctypes.POINTER(_Handle)]
+_ASK = [*_HANDLE, ctypes.POINTER(_Ask)]
 _CALLS: dict[str, list[Any]] = {
-    "bcs_check": _ASK,
     "bcs_grows": _IN + _IN,
-    "bcs_to_bcs": _ASK + _IN + _OUT,
-    "bcs_from_bcs": _ASK + _IN + _OUT,
-    "bcs_normalise": _ASK + _IN + _OUT,
-    "bcs_compare": _ASK + _IN + _IN,
-    "bcs_scan": _ASK + _IN,
-    "bcs_part": _ASK + _IN + _IN,
-    "bcs_explain": _ASK + [ctypes.c_uint32] + _IN + _OUT,
+    "bcs_open": _HANDLE + _IN,
+    "bcs_close": _HANDLE,
+    "bcs_handle_check": _ASK,
+    "bcs_handle_to_bcs": _ASK + _IN + _OUT,
+    "bcs_handle_from_bcs": _ASK + _IN + _OUT,
+    "bcs_handle_normalise": _ASK + _IN + _OUT,
+    "bcs_handle_compare": _ASK + _IN + _IN,
+    "bcs_handle_scan": _ASK + _IN,
+    "bcs_handle_part": _ASK + _IN + _IN,
+    "bcs_handle_explain": _ASK + [ctypes.c_uint32] + _IN + _OUT,
     "bcs_fault_name": [ctypes.c_uint32] + _OUT,
 }
+_Result = TypeVar("_Result")
 
 
 class Library:
@@ -222,7 +232,7 @@ class Library:
     def _call(library: ctypes.CDLL, name: str, parameters: list[Any]) -> Any:
         call = getattr(library, name)
         call.argtypes = parameters
-        call.restype = _Answer
+        call.restype = None if name == "bcs_close" else _Answer
         return call
 
     def ask(self, name: str, *words: Any) -> _Answer:
@@ -306,10 +316,66 @@ def _json_of_format(format: Format) -> bytes:
     return text if text[:1] in (b"{", b'"') or isinstance(format, bytes) else _json_of({"TYPENAME": format})
 
 
+def _close_all(library: Library, free: list[_Handle]) -> None:
+    while free:
+        library.calls["bcs_close"](free.pop())
+
+
+class _Handles:
+    """The library's handles in which a registry is open. A call takes one and puts it back. Where others have all of them it
+    opens one more, so there are as many as calls were made at once. A list's append and pop need no lock."""
+
+    def __init__(self, library: Library, text: bytes) -> None:
+        self._library = library
+        self._text = text
+        self._free = [self._opened()]
+        self._is_closed = False
+        weakref.finalize(self, _close_all, library, self._free)
+
+    def _opened(self) -> _Handle:
+        handle = _Handle()
+        answer = self._library.ask("bcs_open", handle, self._text, len(self._text))
+        self._library.done(answer, RegistryError)
+        return handle
+
+    def _taken(self) -> _Handle:
+        if self._is_closed:
+            raise ValueError("the registry is closed")
+        try:
+            return self._free.pop()
+        except IndexError:
+            return self._opened()
+
+    def ask(self, name: str, *words: Any) -> _Answer:
+        """Makes a call without an output."""
+        return self._with(lambda handle: self._library.ask(name, handle, *words))
+
+    def put(self, name: str, room: int, *words: Any) -> tuple[_Answer, bytes]:
+        """Makes a call with an output of this room, and once more where that is too short."""
+        return self._with(lambda handle: self._library.put(name, room, handle, *words))
+
+    def _with(self, call: Callable[[_Handle], _Result]) -> _Result:
+        handle = self._taken()
+        try:
+            return call(handle)
+        finally:
+            self._free.append(handle)
+            if self._is_closed:
+                self.close()
+
+    def close(self) -> None:
+        """A handle that a call has now is closed when it is put back."""
+        self._is_closed = True
+        _close_all(self._library, self._free)
+
+
 class Registry:
     """A registry, of a JSON text or of what `json` makes of one. Raises RegistryError where it is none.
 
     `library` is where the dynamic library is, or one that is loaded; without it, it is looked for as `Library` says.
+
+    A registry holds memory of the library, and gives it back where nothing refers to it any more; or before, by `close` or at
+    the end of a `with`.
     """
 
     def __init__(
@@ -322,11 +388,21 @@ class Registry:
             self._library = _standard_library()
         else:
             self._library = library if isinstance(library, Library) else Library(library)
-        self.check('"UNIT"')
+        self._handles = _Handles(self._library, self._text)
+
+    def close(self) -> None:
+        """Gives the registry's memory back. From then on all methods but `grows` and `growth_fault` raise ValueError."""
+        self._handles.close()
+
+    def __enter__(self) -> Registry:
+        return self
+
+    def __exit__(self, *_: object) -> None:
+        self.close()
 
     def check(self, format: Format) -> None:
         """Raises FormatError where the format isn't one of the registry."""
-        answer = self._library.ask("bcs_check", self._ask(format, STANDARD_LIMITS))
+        answer = self._handles.ask("bcs_handle_check", self._ask(format, STANDARD_LIMITS))
         self._library.done(answer, FormatError)
 
     def grows(self, newer: Registry) -> bool:
@@ -347,7 +423,7 @@ class Registry:
 
     def encode_text(self, format: Format, text: Text, limits: Limits = STANDARD_LIMITS) -> bytes:
         """The bytes of the value that a JSON text denotes. Raises TextError where it denotes none of the format."""
-        return self._put_text("bcs_to_bcs", format, text, limits)
+        return self._put_text("bcs_handle_to_bcs", format, text, limits)
 
     def decode(self, format: Format, data: Data, limits: Limits = STANDARD_LIMITS) -> Any:
         """The value whose bytes these are. Raises BytesError where they are no value's, or not one's alone."""
@@ -357,7 +433,7 @@ class Registry:
         """The one normal JSON text of the value whose bytes these are. Raises BytesError as `decode` does."""
         data = _bytes_of(data)
         ask = self._ask(format, limits)
-        answer, text = self._library.put("bcs_from_bcs", 4 * len(data) + 100, ask, data, len(data))
+        answer, text = self._handles.put("bcs_handle_from_bcs", 4 * len(data) + 100, ask, data, len(data))
         self._library.done(answer, BytesError)
         return text.decode()
 
@@ -367,7 +443,7 @@ class Registry:
 
     def normalise_text(self, format: Format, text: Text, limits: Limits = STANDARD_LIMITS) -> str:
         """The one normal JSON text of the value that a JSON text denotes. Raises TextError where it denotes none."""
-        return self._put_text("bcs_normalise", format, text, limits).decode()
+        return self._put_text("bcs_handle_normalise", format, text, limits).decode()
 
     def equal(self, format: Format, first: Any, second: Any, limits: Limits = STANDARD_LIMITS) -> bool:
         """Whether two values are equal, maps being finite maps. Raises TextError where one is none of the format."""
@@ -376,7 +452,7 @@ class Registry:
     def equal_text(self, format: Format, first: Text, second: Text, limits: Limits = STANDARD_LIMITS) -> bool:
         """Whether two JSON texts denote equal values. Raises TextError where one denotes none of the format."""
         one, other = _bytes_of_text(first), _bytes_of_text(second)
-        answer = self._library.ask("bcs_compare", self._ask(format, limits), one, len(one), other, len(other))
+        answer = self._handles.ask("bcs_handle_compare", self._ask(format, limits), one, len(one), other, len(other))
         if answer.status == _Status.NO:
             return False
         self._library.done(answer, TextError)
@@ -385,7 +461,7 @@ class Registry:
     def scan(self, format: Format, data: Data, limits: Limits = STANDARD_LIMITS) -> int:
         """How many bytes the value at the front has. Raises BytesError where there is none."""
         data = _bytes_of(data)
-        answer = self._library.ask("bcs_scan", self._ask(format, limits), data, len(data))
+        answer = self._handles.ask("bcs_handle_scan", self._ask(format, limits), data, len(data))
         self._library.done(answer, BytesError)
         return answer.length
 
@@ -393,7 +469,7 @@ class Registry:
         """The part of the value at the front to which a path leads, or None where it leads nowhere. A path is "." for the
         whole, or steps such as "2/inner/key:0161/0". Raises BytesError, or PathError where the path is none."""
         data, steps = _bytes_of(data), _bytes_of_text(path)
-        answer = self._library.ask("bcs_part", self._ask(format, limits), data, len(data), steps, len(steps))
+        answer = self._handles.ask("bcs_handle_part", self._ask(format, limits), data, len(data), steps, len(steps))
         if answer.status == _Status.NO:
             return None
         self._library.done(answer, BytesError)
@@ -410,16 +486,16 @@ class Registry:
         """The pieces of bytes as lines, as `bcs explain` prints them. Damage is no error here: it stands in the last line."""
         data = _bytes_of(data)
         room = min(100 * len(data) + 1000, 1000000)
-        answer, text = self._library.put("bcs_explain", room, self._ask(format, limits), int(form), data, len(data))
+        answer, text = self._handles.put("bcs_handle_explain", room, self._ask(format, limits), int(form), data, len(data))
         self._library.done(answer, BytesError)
         return text.decode()
 
     def _ask(self, format: Format, limits: Limits) -> _Ask:
         text = _json_of_format(format)
-        return _Ask(self._text, len(self._text), text, len(text), limits.depth, limits.nodes)
+        return _Ask(text, len(text), limits.depth, limits.nodes)
 
     def _put_text(self, call: str, format: Format, text: Text, limits: Limits) -> bytes:
         text = _bytes_of_text(text)
-        answer, output = self._library.put(call, 2 * len(text) + 100, self._ask(format, limits), text, len(text))
+        answer, output = self._handles.put(call, 2 * len(text) + 100, self._ask(format, limits), text, len(text))
         self._library.done(answer, TextError)
         return output

@@ -1,0 +1,108 @@
+"""What a registry holds open in the library, and when it is closed."""
+
+import gc
+import os
+import threading
+import unittest
+from typing import Any
+
+from bcs_proved import FormatError, Library, Registry, RegistryError
+
+NUMBER = '"U8"'
+
+
+class CountingLibrary(Library):
+    """Counts the handles that are open, and waits in a call as long as it is told to."""
+
+    def __init__(self) -> None:
+        super().__init__(os.environ["BCS_LIBRARY"])
+        self.opened = self.closed = 0
+        open_one, close_one = self.calls["bcs_open"], self.calls["bcs_close"]
+
+        def counted_open(*words: Any) -> Any:
+            answer = open_one(*words)
+            self.opened += answer.status == 0
+            return answer
+
+        def counted_close(*words: Any) -> None:
+            self.closed += 1
+            close_one(*words)
+
+        self.calls["bcs_open"], self.calls["bcs_close"] = counted_open, counted_close
+
+    @property
+    def counts(self) -> tuple[int, int]:
+        return self.opened, self.closed
+
+
+class Handles(unittest.TestCase):
+    def setUp(self) -> None:
+        self.library = CountingLibrary()
+
+    def test_calls_one_after_another_share_one(self) -> None:
+        registry = Registry("{}", self.library)
+        for number in range(100):
+            self.assertEqual(registry.encode(NUMBER, number), bytes([number]))
+        with self.assertRaises(FormatError):
+            registry.check('"u8"')
+        self.assertEqual(registry.encode(NUMBER, 7), b"\x07")
+        self.assertEqual(self.library.counts, (1, 0))
+
+    def test_calls_at_once_have_one_each(self) -> None:
+        registry = Registry("{}", self.library)
+        all_are_there = threading.Barrier(8)
+        scan = self.library.calls["bcs_handle_scan"]
+
+        def scan_together(*words: Any) -> Any:
+            all_are_there.wait(60)
+            return scan(*words)
+
+        self.library.calls["bcs_handle_scan"] = scan_together
+        for _ in range(2):
+            threads = [threading.Thread(target=registry.scan, args=(NUMBER, b"\x07")) for _ in range(8)]
+            for thread in threads:
+                thread.start()
+            for thread in threads:
+                thread.join()
+            self.assertEqual(self.library.counts, (8, 0))
+        registry.close()
+        self.assertEqual(self.library.counts, (8, 8))
+
+    def test_a_refused_registry_holds_none(self) -> None:
+        with self.assertRaises(RegistryError):
+            Registry("{", self.library)
+        self.assertEqual(self.library.counts, (0, 0))
+
+    def test_closing(self) -> None:
+        with Registry("{}", self.library) as registry:
+            self.assertEqual(registry.encode(NUMBER, 7), b"\x07")
+            self.assertEqual(self.library.counts, (1, 0))
+        self.assertEqual(self.library.counts, (1, 1))
+        registry.close()
+        with self.assertRaisesRegex(ValueError, "closed"):
+            registry.encode(NUMBER, 7)
+        self.assertEqual(self.library.counts, (1, 1))
+
+    def test_closing_while_a_call_runs(self) -> None:
+        registry = Registry("{}", self.library)
+        scan = self.library.calls["bcs_handle_scan"]
+
+        def close_and_scan(*words: Any) -> Any:
+            registry.close()
+            self.assertEqual(self.library.counts, (1, 0))
+            return scan(*words)
+
+        self.library.calls["bcs_handle_scan"] = close_and_scan
+        self.assertEqual(registry.scan(NUMBER, b"\x07"), 1)
+        self.assertEqual(self.library.counts, (1, 1))
+
+    def test_a_registry_that_goes_is_closed(self) -> None:
+        registry = Registry("{}", self.library)
+        self.assertEqual(registry.scan(NUMBER, b"\x07"), 1)
+        del registry
+        gc.collect()
+        self.assertEqual(self.library.counts, (1, 1))
+
+
+if __name__ == "__main__":
+    unittest.main()
