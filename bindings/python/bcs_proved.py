@@ -317,8 +317,13 @@ def _json_of_format(format: Format) -> bytes:
 
 
 def _close_all(library: Library, free: list[_Handle]) -> None:
-    while free:
-        library.calls["bcs_close"](free.pop())
+    """Others may take handles out at the same time."""
+    while True:
+        try:
+            handle = free.pop()
+        except IndexError:
+            return
+        library.calls["bcs_close"](handle)
 
 
 class _Handles:
