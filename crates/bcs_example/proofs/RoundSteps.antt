@@ -1,18 +1,12 @@
 -- What a round leaves.
-use Rattle.std.proofs.Common.{◌≡◌, ℕ, ◌+◌, ◌<◌, ◌≤◌, List, [], ◌∷◌, ◌++◌, length, get_or, take, Bor, Option, Some, None, option_map, is_some, Bool, true, false, ◌||◌, cond, refl, sym, ap, subst, ◌∙◌, arith}
+use Rattle.std.proofs.Common.{◌≡◌, ℕ, ◌≤◌, List, Option, Some, None, option_map, is_some, Bool, true, false, cond, refl, ap, ◌∙◌, arith}
 use Rattle.std.specs.Option.{option_or}
-use Rattle.std.specs.Str.{bytes_eq}
 use Rattle.std.proofs.Math.Path.{fun_ext}
 use Rattle.std.proofs.lemmas.Bool.{le-ltb}
-use Rattle.std.proofs.lemmas.Cmp.{nat_list_eq_equiv}
-use Rattle.std.proofs.lemmas.List.{map-append, take_more}
-use Rattle.std.proofs.lemmas.List.Folds.{list_any-append}
-use Rattle.std.proofs.lemmas.Option.{none-some}
-use Rattle.std.proofs.lemmas.Slice.Eq.{bytes_eq-Decides}
 use Rattle.bcs_registry_formats.specs.Container.{Entries, content_at}
 use Rattle.bcs_example.specs.Names.{is_among}
 use Rattle.bcs_example.specs.Ranks.{RankMap, rank_of, ranked, told, within}
-use Rattle.bcs_example.specs.Rounds.{after, found, words}
+use Rattle.bcs_example.specs.Rounds.{after, found}
 use Rattle.bcs_example.specs.Weight.{content_pick}
 use Rattle.bcs_example.specs.declared.ranks.Rank.{Rank}
 
@@ -38,4 +32,3 @@ told_stays registry d e m m' ns low h =
 
 pub found_stays : (registry : Entries) (d : ℕ) (m m' : RankMap) (ns : List (List ℕ)) → ((n : List ℕ) → rank_of m' n ≡ after registry d m ns n) → (n : List ℕ) → found registry d m' n ≡ found registry d m n
 found_stays registry d m m' ns h n = ap (λ f. option_map (ranked d) (content_pick f (content_at n registry))) (told_stays registry d d m m' ns (omega arith) h)
-

@@ -1,6 +1,6 @@
 -- What a round leaves, step by step, and who waits after it.
-use Rattle.std.proofs.Common.{◌≡◌, ℕ, zero, suc, ◌+◌, ◌<◌, ◌≤◌, ◌⊎◌, inl, inr, List, [], ◌∷◌, ◌++◌, length, get_or, take, map, Bor, Option, Some, None, option_map, is_some, Bool, true, false, not, ◌&&◌, ◌||◌, cond, refl, sym, ap, subst, ◌∙◌, arith}
-use Rattle.std.specs.List.{AllByRecursion, list_any}
+use Rattle.std.proofs.Common.{◌≡◌, ℕ, zero, suc, ◌+◌, ◌<◌, ◌≤◌, inl, inr, List, [], ◌∷◌, ◌++◌, length, get_or, take, map, Bor, Option, Some, None, option_map, is_some, Bool, true, false, not, ◌&&◌, ◌||◌, cond, refl, sym, ap, subst, ◌∙◌, arith}
+use Rattle.std.specs.List.{AllByRecursion}
 use Rattle.std.specs.Option.{option_or}
 use Rattle.std.specs.Str.{bytes_eq}
 use Rattle.std.proofs.lemmas.Bool.{and_parts, or_cases}
@@ -257,7 +257,7 @@ module _ (registry : Entries) (ns : List (Bor (List ℕ))) (i : ℕ) (e : Bor (L
   pub covers_one : (w : Waiting) (more : List Waiting) → w.name.now ≡ (get_or ns i e).now → more ≡ ws ++ w ∷ [] → Covers registry (words (take (i + 1) ns)) more
   covers_one w more named pushed =
       let joined : (n : List ℕ) → is_among (names_of more) n ≡ (is_among (names_of ws) n || bytes_eq n (get_or ns i e).now) = λ n.
-          ap (λ xs. is_among (names_of xs) n) pushed ∙ among_push (λ x. x.name.now) ws w n ∙ ap (λ l. is_among (names_of ws) n || bytes_eq n l) named in
+      ap (λ xs. is_among (names_of xs) n) pushed ∙ among_push (λ x. x.name.now) ws w n ∙ ap (λ l. is_among (names_of ws) n || bytes_eq n l) named in
       record {
         only = λ n among. elim (or_cases (is_among (names_of ws) n) (bytes_eq n (get_or ns i e).now) (sym (joined n) ∙ among)) [
           | inl old ↦ earlier n (h.only n old)

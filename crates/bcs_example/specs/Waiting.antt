@@ -1,5 +1,5 @@
 -- Containers that have no rank yet.
-use Rattle.std.specs.Prelude.{◌≡◌, ◌≤◌, ◌⊎◌, ◌&&◌, ℕ, List, Bool, true, not, None, is_some, length, map}
+use Rattle.std.specs.Prelude.{◌≡◌, ◌≤◌, ◌⊎◌, ◌&&◌, ℕ, List, true, not, None, is_some, length, map}
 use Rattle.std.specs.List.{AllByRecursion}
 use Rattle.bcs_registry_formats.specs.Container.{Entries, content, content_at, nothing}
 use Rattle.bcs_registry_formats.specs.View.{container_of}

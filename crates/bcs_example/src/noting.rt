@@ -44,6 +44,7 @@ pub fn note_format<'a>(format: &'a Format, names: &mut Names<'a>) -> Result<(), 
     }
 }
 
+/// Notes those that a value of each format can't do without.
 #[cycle(noting)]
 fn note_row<'a>(formats: &'a [Format], names: &mut Names<'a>) -> Result<(), AllocError>
     requires { AreOne names.old }
@@ -56,6 +57,7 @@ fn note_row<'a>(formats: &'a [Format], names: &mut Names<'a>) -> Result<(), Allo
     Ok(())
 }
 
+/// Notes those that a value of each field can't do without.
 fn note_fields<'a>(fields: &'a [Named<Format>], names: &mut Names<'a>) -> Result<(), AllocError>
     requires { AreOne names.old }
     ensures noted { OnOk result (Noted names.old names.new) }
@@ -67,6 +69,7 @@ fn note_fields<'a>(fields: &'a [Named<Format>], names: &mut Names<'a>) -> Result
     Ok(())
 }
 
+/// Notes those that what a variant carries can't do without.
 fn note_payload<'a>(payload: &'a VariantFormat, names: &mut Names<'a>) -> Result<(), AllocError>
     requires { AreOne names.old }
     ensures noted { OnOk result (Noted names.old names.new) }
@@ -80,6 +83,7 @@ fn note_payload<'a>(payload: &'a VariantFormat, names: &mut Names<'a>) -> Result
     }
 }
 
+/// Notes those of each variant, since any of them may be the one that is taken.
 fn note_variants<'a>(
     variants: &'a BTreeMap<u32, Named<VariantFormat>>,
     names: &mut Names<'a>,
@@ -94,6 +98,7 @@ fn note_variants<'a>(
     Ok(())
 }
 
+/// Notes those that what stands in the container can't do without.
 fn note_container<'a>(container: &'a Container, names: &mut Names<'a>) -> Result<(), AllocError>
     requires { AreOne names.old }
     ensures noted { OnOk result (Noted names.old names.new) }
@@ -108,6 +113,7 @@ fn note_container<'a>(container: &'a Container, names: &mut Names<'a>) -> Result
     }
 }
 
+/// The same of the container of this name.
 fn note_named<'a>(
     registry: &'a Registry,
     name: &str,

@@ -19,17 +19,17 @@ loop-name-preserved c =
     let h = c.loop-name.invariant in
     elim c.match-container.branch [
       | in-Some+in_ok-push w ↦ record {
-          containers =
-              subst (λ x. AreContainers r x.items) (sym w.waiting-is)
-              (containers_more r c.loop-name.waiting.items w.push.new.self.items _ h.containers (content_found r n c.container.result w.in-Some.container c.container.ensures.found w.in-Some.is) w.in_ok-push.ensures.items);
-          covers =
-              subst (λ x. Covers r (words (take (i + 1) ns)) x.items) (sym w.waiting-is)
-              (covers_one r ns i no_name c.loop-name-test.true c.loop-name.waiting.items h.covers _ w.push.new.self.items refl w.in_ok-push.ensures.items);
-        }
+        containers =
+            subst (λ x. AreContainers r x.items) (sym w.waiting-is)
+            (containers_more r c.loop-name.waiting.items w.push.new.self.items _ h.containers (content_found r n c.container.result w.in-Some.container c.container.ensures.found w.in-Some.is) w.in_ok-push.ensures.items);
+        covers =
+            subst (λ x. Covers r (words (take (i + 1) ns)) x.items) (sym w.waiting-is)
+            (covers_one r ns i no_name c.loop-name-test.true c.loop-name.waiting.items h.covers _ w.push.new.self.items refl w.in_ok-push.ensures.items);
+      }
       | in_default w ↦ record {
-          containers = subst (λ x. AreContainers r x.items) (sym w.waiting-is) h.containers;
-          covers =
-              subst (λ x. Covers r (words (take (i + 1) ns)) x.items) (sym w.waiting-is)
-              (covers_gone r ns i no_name c.loop-name-test.true c.loop-name.waiting.items h.covers (content_missing r n c.container.result c.container.ensures.found w.in_default.is));
-        }
+        containers = subst (λ x. AreContainers r x.items) (sym w.waiting-is) h.containers;
+        covers =
+            subst (λ x. Covers r (words (take (i + 1) ns)) x.items) (sym w.waiting-is)
+            (covers_gone r ns i no_name c.loop-name-test.true c.loop-name.waiting.items h.covers (content_missing r n c.container.result c.container.ensures.found w.in_default.is));
+      }
     ]
