@@ -8,7 +8,10 @@ ghost use Rattle.bcs_value_tree.specs.View.{tree_of};
 ghost use Rattle.bcs_example.specs.Example.{content_example, example, named_example};
 ghost use Rattle.bcs_example.specs.Rounds.{Agrees, AreRanks, IsRankOf};
 
-use crate::placing::{put, repeat};
+use crate::placing::{
+    put_absent, put_bytes, put_false, put_list, put_map, put_signed, put_text, put_unit,
+    put_unsigned, repeat,
+};
 use crate::ranks::{Rank, Ranks};
 use bcs_registry::{Container, Format, Named, Registry, VariantFormat};
 use bcs_value::Value;
@@ -35,24 +38,22 @@ pub fn fill(
         Format::Tuple(formats) => fill_tuple(alloc, registry, formats, ranks, depth, slot),
         Format::TupleArray(element, size) => {
             if *size == 0 {
-                return put(Value::Items(Vec::new(alloc)), slot);
+                return put_list(alloc, slot);
             }
             fill(alloc, registry, element, ranks, depth, slot)?;
             repeat(alloc, *size, slot)
         }
-        Format::Unit => put(Value::Unit, slot),
-        Format::Bool => put(Value::Bool(false), slot),
-        Format::I8 | Format::I16 | Format::I32 | Format::I64 | Format::I128 => {
-            put(Value::Signed(0), slot)
-        }
+        Format::Unit => put_unit(slot),
+        Format::Bool => put_false(slot),
+        Format::I8 | Format::I16 | Format::I32 | Format::I64 | Format::I128 => { put_signed(slot) }
         Format::U8 | Format::U16 | Format::U32 | Format::U64 | Format::U128 => {
-            put(Value::Unsigned(0), slot)
+            put_unsigned(slot)
         }
-        Format::Str => put(Value::Text(String::new(alloc)), slot),
-        Format::Bytes => put(Value::Bytes(Vec::new(alloc)), slot),
-        Format::Opt(_) => put(Value::Absent, slot),
-        Format::Seq(_) => put(Value::Items(Vec::new(alloc)), slot),
-        Format::Map(_, _) => put(Value::Pairs(Vec::new(alloc)), slot),
+        Format::Str => put_text(alloc, slot),
+        Format::Bytes => put_bytes(alloc, slot),
+        Format::Opt(_) => put_absent(slot),
+        Format::Seq(_) => put_list(alloc, slot),
+        Format::Map(_, _) => put_map(alloc, slot),
         Format::F32 | Format::F64 | Format::Char => unreachable!(),
     }
 }
@@ -147,7 +148,7 @@ fn fill_content(
 {
     let depth = rank.below;
     match container {
-        Container::UnitStruct => put(Value::Unit, slot),
+        Container::UnitStruct => put_unit(slot),
         Container::NewTypeStruct(format) => fill(alloc, registry, format, ranks, depth, slot),
         Container::TupleStruct(formats) => {
             fill_tuple(alloc, registry, formats, ranks, depth, slot)
@@ -179,7 +180,7 @@ fn fill_payload(
     ensures { OnOk result (example registry.now depth (payload_shape (payload_of payload.now)) ≡ Some (tree_of slot.new)) }
 {
     match payload {
-        VariantFormat::Unit => put(Value::Unit, slot),
+        VariantFormat::Unit => put_unit(slot),
         VariantFormat::NewType(format) => fill(alloc, registry, format, ranks, depth, slot),
         VariantFormat::Tuple(formats) => fill_tuple(alloc, registry, formats, ranks, depth, slot),
         VariantFormat::Struct(fields) => fill_fields(alloc, registry, fields, ranks, depth, slot),
