@@ -1,7 +1,8 @@
 -- An answer of an equal status and equal output, and what is asked of an input.
-use Rattle.std.proofs.Common.{◌∙◌, ◌≡◌, [], ◌≢◌, ◌≤◌, ◌<◌, ◌⊎◌, Err, Ok, arith, inl, inr, ℕ, List, IfOk, IfSome, Option, Result, Some, None, length, sym, subst, true}
+use Rattle.std.proofs.Common.{◌∙◌, ◌≡◌, [], ◌++◌, ap, codes, ◌≢◌, ◌≤◌, ◌<◌, ◌⊎◌, Err, Ok, arith, inl, inr, ℕ, List, IfOk, IfSome, Option, Result, Some, None, length, sym, subst, true}
 use Rattle.std.specs.Result.{result_ok}
 use Rattle.bcs_registry_formats.specs.Container.{Entries}
+use Rattle.bcs_registry_formats.specs.Grows.{Grows as GrowsTo}
 use Rattle.bcs_registry_formats.specs.Shape.{Shape}
 use Rattle.bcs_value_tree.specs.Tree.{Tree}
 use Rattle.bcs_json_spec.specs.declared.json_fault.JsonFault.{JsonFault}
@@ -22,12 +23,12 @@ use Rattle.hex.specs.Hex.{decode_of}
 use Rattle.hex.specs.declared.error.FromHexError.{FromHexError}
 use Rattle.hex.specs.declared.error.FromHexError.TheVariants.{OutOfMemory}
 use Rattle.bcs_json_spec.specs.FaultNames.{json_fault_name}
-use Rattle.bcs_tool_answers.specs.Answers.{Answers, AnswersTexts, IsAsked, IsOneText, ScanStops, checked, compared, damaged, decoded, different, encoded, equal, explained, explained_status, explained_text, first_refused, found, front_stopped, grown, no_bytes, normalised, nowhere, refusal_line, refused, refused_early, scan_stopped, scanned, second_refused, stop_line, stopped, too_nested}
+use Rattle.bcs_tool_answers.specs.Answers.{Answers, AnswersTexts, IsAsked, IsOneText, Lists, ScanStops, line_of, lists, checked, compared, damaged, decoded, different, encoded, equal, explained, explained_status, explained_text, first_refused, found, front_stopped, grown, no_bytes, normalised, nowhere, refusal_line, refused, refused_early, scan_stopped, scanned, second_refused, stop_line, stopped, too_nested}
 use Rattle.bcs_tool_answers.specs.Places as places
 use Rattle.bcs_tool_answers.specs.Places.{IsAnswer, Places, Prints, TellsPair, TellsStop, TellsText, TellsWords}
 use Rattle.bcs_tool_answers.specs.declared.answer.Answer.{Answer}
 use Rattle.bcs_tool_answers.specs.Input.{Gives}
-use Rattle.bcs_tool_answers.specs.Judging.{Asks, RefusesAt, RefusesEarly, RefusesFormatted, RefusesPart, job_fault_name, works_on_values}
+use Rattle.bcs_tool_answers.specs.Judging.{Asks, IsRegistry, RefusesAt, RefusesEarly, RefusesFormatted, RefusesPart, job_fault_name, works_on_values}
 use Rattle.bcs_tool_answers.specs.declared.job_fault.JobFault.{JobFault}
 use Rattle.bcs_tool_answers.specs.declared.job_fault.JobFault.TheVariants.{BadPath, Growth, Registry}
 use Rattle.bcs_tool_files.specs.Files.{size_limit}
@@ -68,17 +69,27 @@ module _ (work : Work) (input : List ℕ) (registry : Entries) (s : Shape) (byte
       go (inl none) = places.nothing none
       go (inr told) = places.scan_stopped registry s bytes reason o (record { is_loud = told.0; is_asked = asked; gives = gives }) stop told.1
 
--- the words are refused, with the place of that
-pub words_answer : (work : Work) (input : List ℕ) (fault : JobFault) (a b : Answer) → Prints a 2 (refusal_line (job_fault_name fault)) → b.status ≡ a.status → b.output.items ≡ a.output.items
-    → TellsWords work b.place.items → RefusesEarly work fault → IsAnswer work input b
-words_answer work input fault a b prints status output tells refuses = (
-  same_print work input 2 b.status _ b.output.items (status ∙ prints.same_status) (output ∙ prints.same_output) (refused_early fault refuses),
+-- the words are refused, with the place of that, and with the list before it where it has one
+pub words_answer : (work : Work) (input : List ℕ) (fault : JobFault) (list : List ℕ) (a b : Answer) → Prints a 2 (refusal_line (job_fault_name fault)) → b.status ≡ a.status
+    → b.output.items ≡ list ++ a.output.items → Lists (lists work fault) work list → TellsWords work b.place.items → RefusesEarly work fault → IsAnswer work input b
+words_answer work input fault list a b prints status output has tells refuses = (
+  same_print work input 2 b.status _ b.output.items (status ∙ prints.same_status) (output ∙ ap (λ (text : List ℕ). list ++ text) prints.same_output) (refused_early fault list refuses has),
   go tells,
 )
   where
     go : TellsWords work b.place.items → Places work input b.place.items
     go (inl none) = places.nothing none
     go (inr told) = places.refused_early told.0 told.1
+
+-- the older registry has grown into the newer, with the list before that where it is asked for
+pub grown_answer : (work : Work) (input list : List ℕ) (older newer : Entries) (a b : Answer) → work.command ≡ Grows → IsRegistry work.registry.items older → IsRegistry work.second.items newer
+    → GrowsTo older newer → Lists work.list work list → Prints a 0 (line_of (codes "grows")) → b.status ≡ a.status → b.output.items ≡ list ++ a.output.items → b.place.items ≡ a.place.items
+    → IsAnswer work input b
+grown_answer work input list older newer a b is is_older is_newer grows has prints status output place = (
+  same_print work input 0 b.status _ b.output.items (status ∙ prints.same_status) (output ∙ ap (λ (text : List ℕ). list ++ text) prints.same_output)
+  (grown older newer list is is_older is_newer grows has),
+  places.nothing (place ∙ prints.no_place),
+)
 
 -- the text is refused, with the place of that
 module _ (work : Work) (input : List ℕ) (command : Command) (registry : Entries) (s : Shape) (one : IsOneText command) (asked : IsAsked work input command registry s) where
@@ -180,9 +191,9 @@ pair_below r limits f first second s p (first_refused e h) = omega arith
 pair_below r limits f first second s p (second_refused t e d h) = omega arith
 
 pub status_below : (work : Work) (input : List ℕ) (s : ℕ) (p : List ℕ) → Answers work input s p → s < 3
-status_below work input s p (refused_early f h) = omega arith
+status_below work input s p (refused_early f l h a) = omega arith
 status_below work input s p (checked r k h) = omega arith
-status_below work input s p (grown o n k a b h) = omega arith
+status_below work input s p (grown o n l k a b h c) = omega arith
 status_below work input s p (encoded r f b k h) = omega arith
 status_below work input s p (normalised r f t k h) = omega arith
 status_below work input s p (refused c r f e o k h) = omega arith

@@ -2,6 +2,7 @@ pub mod AnswerLemmas
 pub mod PartAnswers
 pub mod ScanAnswers
 pub mod JudgingLemmas
+pub mod Listings
 pub mod OneRefusal
 pub mod OnePair
 pub mod OneKind

@@ -15,10 +15,11 @@ use Rattle.bcs_tool_line.specs.declared.command.Command.TheVariants.{Check, Enco
 use Rattle.bcs_tool_line.specs.declared.command.Command.TheVariants as command
 use Rattle.bcs_tool_answers.specs.AnswerLaws.{OneAnswer}
 use Rattle.bcs_json_spec.specs.FaultNames.{json_fault_name}
-use Rattle.bcs_tool_answers.specs.Answers.{Answers, AnswersTexts, IsAsked, count_line, line_of, printed, printed_none, refusal_line, stop_end, stop_line}
+use Rattle.bcs_tool_answers.specs.Answers.{Answers, AnswersTexts, IsAsked, Lists, count_line, line_of, lists, printed, printed_none, refusal_line, stop_end, stop_line}
 use Rattle.bcs_tool_answers.specs.Answers as answer
 use Rattle.bcs_tool_answers.specs.Judging.{IsFormat, IsPath, IsRegistry, RefusesAt, RefusesFormatted, job_fault_name}
 use Rattle.bcs_tool_answers.specs.declared.job_fault.JobFault.{JobFault}
+use Rattle.bcs_tool_answers.proofs.Listings.{one_listing}
 use Rattle.bcs_tool_answers.proofs.OneKind.{Decoded, Encoded, Explained, Normalised, Parted, Scanned, one_decoded, one_encoded, one_explained, one_normalised, one_parted, one_scanned}
 use Rattle.bcs_tool_answers.proofs.OnePair.{Agrees, one_pair}
 use Rattle.bcs_tool_answers.proofs.OneRefusal.{not_checked, not_formatted, not_grown, not_parted, one_format_word, one_refusal}
@@ -34,7 +35,8 @@ module _ (work : Work) (input : List ℕ) where
 
   abbrev Late : Command → ℕ → List ℕ → Type 0
   Late Check s p = (r : Entries) × IsRegistry work.registry.items r × (s ≡ 0) × (p ≡ count_line (length r))
-  Late command.Grows s p = (r : Entries) × (n : Entries) × IsRegistry work.registry.items r × IsRegistry work.second.items n × Grows r n × (s ≡ 0) × (p ≡ line_of (codes "grows"))
+  Late command.Grows s p = (r : Entries) × (n : Entries) × IsRegistry work.registry.items r × IsRegistry work.second.items n × Grows r n
+      × (list : List ℕ) × Lists work.list work list × (s ≡ 0) × (p ≡ list ++ line_of (codes "grows"))
   Late Encode s p = Valued (Encoded work input) s p
   Late Decode s p = Valued (Decoded work input) s p
   Late command.Explain s p = Valued (Explained work input) s p
@@ -44,7 +46,7 @@ module _ (work : Work) (input : List ℕ) where
   Late command.Part s p = (path : List Step) × SpellsPath (string_bytes work.path) path × Valued (λ r f. Parted work input r f path) s p
 
   abbrev Early : Command → ℕ → List ℕ → Type 0
-  Early c s p = (fault : JobFault) × RefusesAt c work fault × (s ≡ 2) × (p ≡ refusal_line (job_fault_name fault))
+  Early c s p = (fault : JobFault) × (list : List ℕ) × RefusesAt c work fault × Lists (lists work fault) work list × (s ≡ 2) × (p ≡ list ++ refusal_line (job_fault_name fault))
 
   valued : (P : Entries → Shape → ℕ → List ℕ → Type 0) (c : Command) (r : Entries) (f : Shape) (s : ℕ) (p : List ℕ) → IsAsked work input c r f → P r f s p → Valued P s p
   valued P c r f s p asked is = (r, f, asked.asks.is_registry, asked.asks.is_format, is)
@@ -64,9 +66,9 @@ module _ (work : Work) (input : List ℕ) where
   by c s p is late = inr (subst (λ k. Late k s p) (sym is) late)
 
   told : {s : ℕ} {p : List ℕ} → Answers work input s p → Early work.command s p ⊎ Late work.command s p
-  told (answer.refused_early fault h) = inl (fault, h, refl, refl)
+  told (answer.refused_early fault l h a) = inl (fault, l, h, a, refl, refl)
   told (answer.checked r c h) = by Check 0 (count_line (length r)) c (r, h, refl, refl)
-  told (answer.grown r n c h k g) = by command.Grows 0 (line_of (codes "grows")) c (r, n, h, k, g, refl, refl)
+  told (answer.grown r n l c h k g a) = by command.Grows 0 (l ++ line_of (codes "grows")) c (r, n, h, k, g, l, a, refl, refl)
   told (answer.encoded r f b a h) = by Encode 0 (printed work.raw b) a.is_command (valued (Encoded work input) Encode r f 0 (printed work.raw b) a (inl (b, h, refl, refl)))
   told (answer.normalised r f t a h) = by Normalise 0 (line_of t) a.is_command (valued (Normalised work input) Normalise r f 0 (line_of t) a (inl (t, h, refl, refl)))
   told (answer.refused c r f e (inl is) a h) = by Encode 2 (refusal_line (json_fault_name e)) (a.is_command ∙ is) (valued (Encoded work input) c r f 2 (refusal_line (json_fault_name e)) a (inr (e, h, refl, refl)))
@@ -117,7 +119,8 @@ module _ (work : Work) (input : List ℕ) where
   one_late : (c : Command) → IsOne (Late c)
   one_late Check s z p q (r, h, hs, hp) (n, k, ks, kq) =
       (hs ∙ sym ks, hp ∙ ap (λ (m : Entries). count_line (length m)) (same_registry work.registry.items r n h.0 k.0) ∙ sym kq)
-  one_late command.Grows s z p q (r, n, h, g, w, hs, hp) (r2, n2, k, i, x, ks, kq) = (hs ∙ sym ks, hp ∙ sym kq)
+  one_late command.Grows s z p q (r, n, h, g, w, l, a, hs, hp) (r2, n2, k, i, x, m, b, ks, kq) =
+      (hs ∙ sym ks, hp ∙ ap (λ (list : List ℕ). list ++ line_of (codes "grows")) (one_listing work work.list l m a b) ∙ sym kq)
   one_late Encode s z p q h k = one_valued (Encoded work input) (one_encoded work input) s z p q h k
   one_late Decode s z p q h k = one_valued (Decoded work input) (one_decoded work input) s z p q h k
   one_late command.Explain s z p q h k = one_valued (Explained work input) (one_explained work input) s z p q h k
@@ -135,7 +138,7 @@ module _ (work : Work) (input : List ℕ) where
 
   not_late : (c : Command) (fault : JobFault) (s : ℕ) (p : List ℕ) → RefusesAt c work fault → Late c s p → ⊥
   not_late Check fault s p h (r, is, ks, kq) = not_checked work fault r h is
-  not_late command.Grows fault s p h (r, n, is, i, g, ks, kq) = not_grown work fault r n h is i g
+  not_late command.Grows fault s p h (r, n, is, i, g, l, a, ks, kq) = not_grown work fault r n h is i g
   not_late Encode fault s p h k = of_valued (Encoded work input) fault s p h k
   not_late Decode fault s p h k = of_valued (Decoded work input) fault s p h k
   not_late command.Explain fault s p h k = of_valued (Explained work input) fault s p h k
@@ -145,10 +148,15 @@ module _ (work : Work) (input : List ℕ) where
   not_late command.Part fault s p h (path, spells, (r, f, is, a, x)) = not_parted work fault r f path h is a spells
 
   one_of_both : (c : Command) (s z : ℕ) (p q : List ℕ) → Early c s p ⊎ Late c s p → Early c z q ⊎ Late c z q → Agrees s p z q
-  one_of_both c s z p q (inl (e, h, hs, hp)) (inl (g, k, ks, kq)) =
-      (hs ∙ sym ks, hp ∙ ap (λ (x : JobFault). refusal_line (job_fault_name x)) (one_refusal c work e g h k) ∙ sym kq)
-  one_of_both c s z p q (inl (e, h, hs, hp)) (inr k) = absurd (not_late c e z q h k)
-  one_of_both c s z p q (inr h) (inl (g, k, ks, kq)) = absurd (not_late c g s p k h)
+  one_of_both c s z p q (inl (e, l, h, a, hs, hp)) (inl (g, m, k, b, ks, kq)) =
+      let same : e ≡ g = one_refusal c work e g h k in
+      let list : l ≡ m = one_listing work (lists work g) l m (subst (λ (x : JobFault). Lists (lists work x) work l) same a) b in
+      (
+        hs ∙ sym ks,
+        hp ∙ ap (λ (x : JobFault). l ++ refusal_line (job_fault_name x)) same ∙ ap (λ (text : List ℕ). text ++ refusal_line (job_fault_name g)) list ∙ sym kq,
+      )
+  one_of_both c s z p q (inl (e, l, h, a, hs, hp)) (inr k) = absurd (not_late c e z q h k)
+  one_of_both c s z p q (inr h) (inl (g, m, k, b, ks, kq)) = absurd (not_late c g s p k h)
   one_of_both c s z p q (inr h) (inr k) = one_late c s z p q h k
 
 pub one_answer : OneAnswer

@@ -16,12 +16,13 @@ use Rattle.bcs_json_spec.specs.Shown.{shown}
 use Rattle.bcs_json_spec.specs.Texts.{nesting_limit}
 use Rattle.bcs_json_spec.proofs.SomeText.{some_bytes, some_normal_text, some_shown_text}
 use Rattle.bcs_tool_answers.specs.AnswerLaws.{SomeAnswer}
-use Rattle.bcs_tool_answers.specs.Answers.{Answers, IsAsked, IsWithin, checked, compared, damaged, decoded, encoded, explained, found, front_stopped, grown, no_bytes, normalised, nowhere, refused, refused_early, scan_stopped, scanned, stopped, too_nested}
+use Rattle.bcs_tool_answers.specs.Answers.{Answers, IsAsked, IsWithin, Lists, lists, checked, compared, damaged, decoded, encoded, explained, found, front_stopped, grown, no_bytes, normalised, nowhere, refused, refused_early, scan_stopped, scanned, stopped, too_nested}
 use Rattle.bcs_tool_answers.specs.Input.{Gives}
 use Rattle.bcs_tool_answers.specs.Judging.{IsFormat, IsPath, IsRegistry, RefusesAt, works_on_values}
 use Rattle.bcs_tool_answers.specs.declared.job_fault.JobFault.{JobFault}
 use Rattle.bcs_tool_answers.specs.declared.job_fault.JobFault.TheVariants.{BadPath, Growth, Registry}
 use Rattle.bcs_tool_answers.proofs.AnswerLemmas.{refuses_formatted}
+use Rattle.bcs_tool_answers.proofs.Listings.{formatted_unlisted, some_listing}
 use Rattle.bcs_tool_answers.proofs.ScanAnswers.{some_scan}
 use Rattle.bcs_tool_answers.proofs.SomeInput.{some_given}
 use Rattle.bcs_tool_answers.proofs.SomePair.{judged, some_pair}
@@ -38,23 +39,25 @@ module _ (work : Work) (input : List ℕ) where
 
   -- ---- the words
 
-  refused_words : (c : Command) → work.command ≡ c → (fault : JobFault) → RefusesAt c work fault → Answered
-  refused_words c is fault h = (_, _, refused_early fault (subst (λ (d : Command). RefusesAt d work fault) (sym is) h))
+  refused_words : (c : Command) → work.command ≡ c → (fault : JobFault) (list : List ℕ) → RefusesAt c work fault → Lists (lists work fault) work list → Answered
+  refused_words c is fault list h has = (_, _, refused_early fault list (subst (λ (d : Command). RefusesAt d work fault) (sym is) h) has)
 
   some_check : work.command ≡ command.Check → Answered
   some_check is = elim (some_registry work.registry.items) [
     | inl r ↦ (_, _, checked r.0 is r.1)
-    | inr h ↦ refused_words command.Check is (Registry h.0) h.1
+    | inr h ↦ refused_words command.Check is (Registry h.0) [] h.1 refl
   ]
 
   some_grows : work.command ≡ command.Grows → Answered
   some_grows is = elim (some_registry work.registry.items) [
-    | inr h ↦ refused_words command.Grows is (Registry h.0) (inl h.1)
+    | inr h ↦ refused_words command.Grows is (Registry h.0) [] (inl h.1) refl
     | inl older ↦ elim (some_registry work.second.items) [
-      | inr h ↦ refused_words command.Grows is (Registry h.0) (inr (older.0, older.1, h.1))
+      | inr h ↦ refused_words command.Grows is (Registry h.0) [] (inr (older.0, older.1, h.1)) refl
       | inl newer ↦ elim (some_growth older.0 newer.0) [
-        | inl grows ↦ (_, _, grown older.0 newer.0 is older.1 newer.1 grows)
-        | inr h ↦ refused_words command.Grows is (Growth h.0) (older.0, newer.0, older.1, newer.1, h.1)
+        | inl grows ↦ let list = some_listing work work.list older.0 newer.0 older.1 newer.1 in (_, _, grown older.0 newer.0 list.0 is older.1 newer.1 grows list.1)
+        | inr h ↦
+            let list = some_listing work work.list older.0 newer.0 older.1 newer.1 in
+            refused_words command.Grows is (Growth h.0) list.0 (older.0, newer.0, older.1, newer.1, h.1) list.1
       ]
     ]
   ]
@@ -156,16 +159,16 @@ module _ (work : Work) (input : List ℕ) where
   valued : (c : Command) → works_on_values c ≡ true → IsPath c (string_bytes work.path) [] → IsWithin work input
       → ((r : Entries) (s : Shape) → IsRegistry work.registry.items r → IsAsked work input c r s → Answered) → work.command ≡ c → Answered
   valued c values none within answer is = elim (some_formatted work) [
-    | inr h ↦ refused_words c is h.0 (refuses_formatted c work h.0 values h.1)
+    | inr h ↦ refused_words c is h.0 [] (refuses_formatted c work h.0 values h.1) (formatted_unlisted work h.0 h.1)
     | inl h ↦ answer h.0 h.1 h.2 (asks_for c values within is h.0 h.1 h.2 h.3 [] none)
   ]
 
   -- the one with a PATH
   of_part : AreBytes input → IsWithin work input → work.command ≡ command.Part → Answered
   of_part are within is = elim (some_formatted work) [
-    | inr h ↦ refused_words command.Part is h.0 (refuses_formatted command.Part work h.0 refl h.1)
+    | inr h ↦ refused_words command.Part is h.0 [] (refuses_formatted command.Part work h.0 refl h.1) (formatted_unlisted work h.0 h.1)
     | inl h ↦ elim (some_path (string_bytes work.path)) [
-      | inr none ↦ refused_words command.Part is BadPath (h.0, h.1, h.2, h.3, none)
+      | inr none ↦ refused_words command.Part is BadPath [] (h.0, h.1, h.2, h.3, none) refl
       | inl path ↦ some_part h.0 h.1 h.2 are path.0 path.1 (asks_for command.Part refl within is h.0 h.1 h.2 h.3 path.0 path.1)
     ]
   ]

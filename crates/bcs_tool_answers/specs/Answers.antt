@@ -7,6 +7,9 @@ use Rattle.bcs_registry_formats.specs.Container as container
 use Rattle.bcs_registry_formats.specs.Container.{Entries}
 use Rattle.bcs_registry_formats.specs.Grows.{Grows}
 use Rattle.bcs_registry_formats.specs.Shape.{Shape}
+use Rattle.bcs_registry_text.specs.Text.{WritesRegistry}
+use Rattle.bcs_registry_changes.specs.DifferenceText.{lines_text}
+use Rattle.bcs_registry_changes.specs.Differences.{Difference, AreDifferences}
 use Rattle.bcs_value_tree.specs.Tree.{Tree}
 use Rattle.bcs_value_spec.specs.Limits.{Bounds}
 use Rattle.bcs_encode_spec.specs.Plain.{plain}
@@ -32,6 +35,7 @@ use Rattle.bcs_tool_answers.specs.Judging.{Asks, IsRegistry, RefusesEarly, is_un
 use Rattle.bcs_tool_line.specs.declared.command.Command.{Command}
 use Rattle.bcs_tool_line.specs.declared.command.Command.TheVariants as command
 use Rattle.bcs_tool_answers.specs.declared.job_fault.JobFault.{JobFault}
+use Rattle.bcs_tool_answers.specs.declared.job_fault.JobFault.TheVariants as job
 use Rattle.bcs_tool_files.specs.declared.work.Work.{Work}
 
 -- the text, and a line end
@@ -74,6 +78,22 @@ printed_none raw = if raw then [] else line_of (codes "none")
 abbrev pub count_line : ℕ → List ℕ
 count_line n = line_of (codes "ok " ++ decimal n)
 
+-- the lines of all differences of the job's registries
+abbrev pub IsListOf : Work → List ℕ → Type 0
+IsListOf work list = (older : Entries) × (newer : Entries) × WritesRegistry work.registry.items older × WritesRegistry work.second.items newer
+    × (ds : List Difference) × AreDifferences older newer ds × (list ≡ lines_text ds)
+
+-- what stands before a verdict on growth: that list, where it is asked for
+abbrev pub Lists : Bool → Work → List ℕ → Type 0
+Lists true work list = IsListOf work list
+Lists false work list = list ≡ []
+
+-- of refusals that of growth alone has the list before it
+abbrev pub lists : Work → JobFault → Bool
+lists work (job.Registry fault) = false
+lists work (job.Growth fault) = work.list
+lists work job.BadPath = false
+
 -- the input is no larger than is allowed
 abbrev pub IsWithin : Work → List ℕ → Type 0
 IsWithin work input = is_unlimited work ≡ false → length input ≤ size_limit
@@ -109,12 +129,12 @@ pub data AnswersTexts (registry : Entries) (limits : Bounds) (s : Shape) (first 
 
 -- a case for each kind of answer
 pub data Answers (work : Work) (input : List ℕ) : ℕ → List ℕ → Type 0 where
-  -- the words are refused, whatever the input
-  refused_early : (fault : JobFault) → RefusesEarly work fault → Answers work input 2 (refusal_line (job_fault_name fault))
+  -- the words are refused, whatever the input; before a refusal of growth stands the list, where it is asked for
+  refused_early : (fault : JobFault) (list : List ℕ) → RefusesEarly work fault → Lists (lists work fault) work list → Answers work input 2 (list ++ refusal_line (job_fault_name fault))
   -- `check`: how many containers the registry has
   checked : (registry : Entries) → work.command ≡ command.Check → IsRegistry work.registry.items registry → Answers work input 0 (count_line (length registry))
-  -- `grows`: the newer registry keeps all that the older one has
-  grown : (older newer : Entries) → work.command ≡ command.Grows → IsRegistry work.registry.items older → IsRegistry work.second.items newer → Grows older newer → Answers work input 0 (line_of (codes "grows"))
+  -- `grows`: the newer registry keeps all that the older one has; before that stands the list, where it is asked for
+  grown : (older newer : Entries) (list : List ℕ) → work.command ≡ command.Grows → IsRegistry work.registry.items older → IsRegistry work.second.items newer → Grows older newer → Lists work.list work list → Answers work input 0 (list ++ line_of (codes "grows"))
   -- `encode`: the bytes of the value that the text denotes
   encoded : (registry : Entries) (s : Shape) (bytes : List ℕ) → IsAsked work input command.Encode registry s → HasBytes registry work.limits s input bytes → Answers work input 0 (printed work.raw bytes)
   -- `normalise`: its normal text

@@ -9,6 +9,7 @@ mod job_fault;
 mod json_places;
 mod judging;
 pub mod laws;
+mod listing;
 mod pair_answers;
 mod pair_places;
 mod places;

@@ -7,6 +7,7 @@ ghost use Rattle.bcs_tool_answers.specs.Preparing.{IsPrepared};
 
 use crate::answer::{Answer, counted, placed, told};
 use crate::job_fault::JobFault;
+use crate::listing::{has_list, listed};
 use crate::judging::{Asked, judge_asked, judge_check, judge_growth};
 use crate::word_places::place_of_words;
 use bcs_tool_files::Work;
@@ -56,7 +57,7 @@ fn answer_growth(alloc: Global, work: &Work) -> Result<Answer, AllocError>
     ensures { IfOk result (λ a. (bytes : List ℕ) → IsAnswer work.now bytes a) }
 {
     match judge_growth(alloc, work) {
-        Ok(()) => told(alloc, 0, "grows"),
+        Ok(()) => listed(alloc, work, work.list, told(alloc, 0, "grows")?),
         Err(fault) => refused_words(alloc, work, fault),
     }
 }
@@ -79,5 +80,6 @@ fn refused_words(alloc: Global, work: &Work, fault: JobFault) -> Result<Answer, 
     ensures answers { IfOk result (λ a. (bytes : List ℕ) → IsAnswer work.now bytes a) }
 {
     let place = place_of_words(alloc, work, fault);
-    Ok(placed(fault.answer(alloc)?, place))
+    let answer = placed(fault.answer(alloc)?, place);
+    listed(alloc, work, has_list(work, fault), answer)
 }

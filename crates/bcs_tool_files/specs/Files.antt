@@ -118,6 +118,7 @@ module _ {F : Type 0} (remaining : F → Option (List ℕ)) where
     pub raw : work.raw ≡ job.raw
     pub lines : work.lines ≡ job.lines
     pub front : work.front ≡ job.front
+    pub list : work.list ≡ job.list
     pub quiet : work.quiet ≡ job.quiet
     pub style : IsStyleOf job work.style
     pub limits : work.limits ≡ job.limits

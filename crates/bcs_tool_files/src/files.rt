@@ -86,6 +86,7 @@ pub fn read_work<R: Files + Env + AllocGlobal>(
         raw: job.raw,
         lines: job.lines,
         front: job.front,
+        list: job.list,
         quiet: job.quiet,
         style,
         limits: job.limits,

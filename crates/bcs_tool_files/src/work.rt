@@ -22,6 +22,8 @@ pub struct Work {
     pub lines: bool,
     /// Whether a value is taken at the front of the bytes, and the rest is left.
     pub front: bool,
+    /// Whether all differences of two registries are printed first.
+    pub list: bool,
     /// Whether the line that says where a refusal or a fault stands is left out.
     pub quiet: bool,
     /// How pieces are printed.

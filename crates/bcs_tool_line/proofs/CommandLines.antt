@@ -133,6 +133,18 @@ grows_new : given_in (codes "NEW") grows_words ≡ Some (Some (codes "b"))
 unfolding clap_on_literals
 grows_new = refl
 
+grows_unlisted : set_in (codes "list") grows_words ≡ Some false
+unfolding clap_on_literals
+grows_unlisted = refl
+
+grows_list : set_in (codes "list") (codes "bcs" ∷ codes "grows" ∷ codes "a" ∷ codes "b" ∷ codes "--list" ∷ []) ≡ Some true
+unfolding clap_on_literals
+grows_list = refl
+
+check_list : fault_of bcs_app (codes "bcs" ∷ codes "check" ∷ codes "{}" ∷ codes "--list" ∷ []) ≡ kind.UnknownArgument ∷ []
+unfolding clap_on_literals
+check_list = refl
+
 -- ---- words that are refused
 
 wants_command : fault_of bcs_app (codes "bcs" ∷ []) ≡ kind.MissingSubcommand ∷ []

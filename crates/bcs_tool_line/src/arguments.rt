@@ -27,6 +27,7 @@ pub fn job_of(alloc: Global, command: Command, given: &ArgMatches<'_>) -> Result
         raw: is_set(given, "raw"),
         lines: is_set(given, "lines"),
         front: is_set(given, "front"),
+        list: is_set(given, "list"),
         quiet: is_set(given, "quiet"),
         form: form_of(given),
         color: color_of(given),

@@ -26,6 +26,8 @@ pub struct Job {
     pub lines: bool,
     /// Whether `--front` was given: a value is taken at the front of the bytes, and the rest is left.
     pub front: bool,
+    /// Whether `--list` was given: all differences of two registries are printed first.
+    pub list: bool,
     /// Whether `--quiet` was given: the line that says where a refusal stands is left out.
     pub quiet: bool,
     /// `--paths`, `--tree`, `--json`: how pieces are printed. Of several the last one of these is meant.

@@ -34,8 +34,12 @@ quiet_option = flag_option (codes "quiet")
 abbrev pub check_app : App
 check_app = command_with (codes "check") (required (codes "REG") ∷ quiet_option ∷ [])
 
+-- whether all differences are listed
+abbrev pub growth_options : List Rule
+growth_options = flag_option (codes "list") ∷ quiet_option ∷ []
+
 abbrev pub grows_app : App
-grows_app = command_with (codes "grows") (required (codes "OLD") ∷ required (codes "NEW") ∷ quiet_option ∷ [])
+grows_app = fold with_rule (command_with (codes "grows") (required (codes "OLD") ∷ required (codes "NEW") ∷ [])) growth_options
 
 -- what each command on values takes
 abbrev pub value_options : List Rule

@@ -2,7 +2,7 @@
 ghost use Rattle.std.specs.Prelude.{◌≡◌, IfOk, codes, false, fold};
 ghost use Rattle.clap.specs.Words.{app_of, rule_of, with_rule};
 ghost use Rattle.clap.specs.declared.builder.command.Command.TheViews.{out-Command};
-ghost use Rattle.bcs_tool_words.specs.CommandLine.{bcs_app, check_app, color_options, decode_app, encode_app, explain_app, flag_option, form_options, grows_app, input_options, lines_option, normalise_app, number_option, optional, part_app, quiet_option, required, same_app, scan_app, value_app, value_options};
+ghost use Rattle.bcs_tool_words.specs.CommandLine.{bcs_app, check_app, color_options, decode_app, encode_app, explain_app, flag_option, form_options, growth_options, grows_app, input_options, lines_option, normalise_app, number_option, optional, part_app, quiet_option, required, same_app, scan_app, value_app, value_options};
 
 use crate::texts;
 use crate::version::VERSION;
@@ -44,11 +44,21 @@ fn grows_command<'a>(alloc: Global) -> Result<Command<'a>, AllocError>
     ensures app { IfOk result (λ c. app_of c ≡ grows_app) }
     ensures global { IfOk result (λ c. (out-Command c).has_globals ≡ false) }
 {
-    Command::new(alloc, "grows")
+    let command = Command::new(alloc, "grows")
         .about("Tells whether a registry only adds to an older one")
         .after_help(texts::GROWS_END)
         .arg(required_word(alloc, "OLD", texts::OLD_REGISTRY))?
-        .arg(required_word(alloc, "NEW", texts::NEW_REGISTRY))?
+        .arg(required_word(alloc, "NEW", texts::NEW_REGISTRY))?;
+    with_growth_options(alloc, command)
+}
+
+fn with_growth_options<'a>(alloc: Global, command: Command<'a>) -> Result<Command<'a>, AllocError>
+    requires global { (out-Command command).has_globals ≡ false }
+    ensures app { IfOk result (λ c. app_of c ≡ fold with_rule (app_of command.entry) growth_options) }
+    ensures global { IfOk result (λ c. (out-Command c).has_globals ≡ false) }
+{
+    command
+        .arg(flag(alloc, "list", texts::LIST))?
         .arg(quiet_option(alloc))
 }
 

@@ -40,6 +40,10 @@ pub const LINES_OF_BOTH: &str =
 
 pub const FRONT: &str = "Takes a value at the front of the bytes, and leaves the rest";
 
+// ---- the option of `grows`
+
+pub const LIST: &str = "Prints all differences first, a line each";
+
 // ---- the option of every command
 
 pub const QUIET: &str = "Leave out the line on standard error that says where a refusal stands";
@@ -80,6 +84,7 @@ Status: 0 done, 2 refused, 3 usage, 4 file or memory";
 
 pub const GROWS_END: &str = "Example:
   bcs grows '{}' '{\"Id\":{\"NEWTYPESTRUCT\":\"U64\"}}'  # grows
+  bcs grows --list '{}' '{\"Id\":\"UNITSTRUCT\"}' | xargs  # Id: container added grows
 
 Status: 0 grows, 2 refused, 3 usage, 4 file or memory";
 

@@ -26,6 +26,7 @@ pub(crate) fn job(
         raw: false,
         lines: false,
         front: false,
+        list: false,
         quiet: true,
         style: Style {
             form: Form::Ways,

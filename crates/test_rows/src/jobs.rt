@@ -24,8 +24,11 @@ pub(crate) fn answer(alloc: Global, words: &[&str]) -> Result<String, RowFault> 
 
 fn answer_job(alloc: Global, quiet: bool, words: &[&str]) -> Result<String, RowFault> {
     match words {
-        ["check", registry] => judge(alloc, Command::Check, quiet, registry, ""),
-        ["grows", older, newer] => judge(alloc, Command::Grows, quiet, older, newer),
+        ["check", registry] => {
+            let work = judged(alloc, Command::Check, quiet, registry, "")?;
+            without_input(alloc, &work)
+        }
+        ["grows", words @ ..] => on_growth(alloc, quiet, words),
         ["part", words @ ..] => on_parts(alloc, quiet, words),
         ["explain", words @ ..] => on_pieces(alloc, quiet, words),
         [name, words @ ..] => match Command::named(name) {
@@ -36,15 +39,31 @@ fn answer_job(alloc: Global, quiet: bool, words: &[&str]) -> Result<String, RowF
     }
 }
 
-// The answer to a job on a registry, or on an older one and a newer one.
-fn judge(
+// The answer to a job on an older registry and a newer one.
+fn on_growth(alloc: Global, quiet: bool, words: &[&str]) -> Result<String, RowFault> {
+    let (list, words) = match words {
+        ["--list", words @ ..] => (true, words),
+        _ => (false, words),
+    };
+    let [older, newer] = words else {
+        return Err(RowFault::NotUnderstood);
+    };
+    let work = Work {
+        list,
+        ..judged(alloc, Command::Grows, quiet, older, newer)?
+    };
+    without_input(alloc, &work)
+}
+
+// A job on a registry, or on an older one and a newer one.
+fn judged(
     alloc: Global,
     command: Command,
     quiet: bool,
     registry: &str,
     second: &str,
-) -> Result<String, RowFault> {
-    let work = Work {
+) -> Result<Work, RowFault> {
+    Ok(Work {
         command,
         registry: bytes(alloc, registry)?,
         second: bytes(alloc, second)?,
@@ -53,11 +72,11 @@ fn judge(
         raw: false,
         lines: false,
         front: false,
+        list: false,
         quiet,
         style: PLAIN,
         limits: Limits::standard(),
-    };
-    without_input(alloc, &work)
+    })
 }
 
 // The options that stand before the words of a job on values.
@@ -244,6 +263,7 @@ fn work_of(alloc: Global, asked: ValueJob<'_>) -> Result<Work, RowFault> {
         raw: asked.options.raw,
         lines: asked.options.lines,
         front: asked.options.front,
+        list: false,
         quiet: asked.options.quiet,
         style: asked.style,
         limits,
@@ -299,7 +319,7 @@ fn with_pairs(
 // The input is left as it was: the first call of the source would fail.
 fn without_input(alloc: Global, work: &Work) -> Result<String, RowFault> {
     let mut input = PieceSource::new(b"x", 1, Some(1));
-    let mut out = PieceSink::<80>::new(7, None);
+    let mut out = PieceSink::<160>::new(7, None);
     let outcome = run(alloc, work, Origin::StandardInput, &mut input, &mut out);
     if input.failed() {
         return Err(RowFault::Disagreement("input"));

@@ -31,6 +31,7 @@ pub(crate) fn job_for_lines(
         raw: false,
         lines: true,
         front: false,
+        list: false,
         quiet: true,
         style: Style {
             form: Form::Ways,

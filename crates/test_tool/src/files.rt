@@ -32,6 +32,7 @@ fn job(alloc: Global, command: Command) -> Result<Job, AllocError> {
         raw: true,
         lines: false,
         front: false,
+        list: false,
         quiet: true,
         form: Form::Tree,
         color: Color::Always,
