@@ -30,10 +30,8 @@ pub fn listed(
     has_list: bool,
     answer: Answer,
 ) -> Result<Answer, AllocError>
-    ensures status { IfOk result (λ a. a.status ≡ answer.status) }
-    ensures place { IfOk result (λ a. a.place.items ≡ answer.place.items) }
-    ensures output { IfOk result (λ a. (list : List ℕ) × Lists has_list work.now list
-        × (a.output.items ≡ list ++ answer.output.items)) }
+    ensures { IfOk result (λ a. (a.status ≡ answer.status) × (a.place.items ≡ answer.place.items)
+        × (list : List ℕ) × Lists has_list work.now list × (a.output.items ≡ list ++ answer.output.items)) }
 {
     if !has_list {
         return Ok(answer);
