@@ -1,4 +1,5 @@
--- What the texts ask for is one thing, and then they aren't refused.
+-- One thing at most is asked for, and then it isn't refused. What is answered of a registry is answered of its text too, and of
+-- a handle in which it is open.
 use Rattle.std.proofs.Common.{◌≡◌, ◌∙◌, ℕ, List, Option, Some, None, ap, arith, refl, subst, sym}
 use Rattle.bcs_registry_formats.specs.Container.{Entries}
 use Rattle.bcs_registry_formats.specs.Shape.{Shape}
@@ -35,7 +36,7 @@ same_bounds l m depth nodes =
     let Same : ℕ → ℕ → Type 0 = λ d n. l ≡ record { depth = d; nodes = n } in
     subst (λ (n : ℕ). Same m.depth n) nodes (subst (λ (d : ℕ). Same d l.nodes) depth refl)
 
--- so is the registry of a source
+-- a source has one registry, which is refused for want of memory alone
 one_source : (from : Source) (r q : Entries) → Has from r → Has from q → r ≡ q
 one_source (written text) r q h k = one_registry text r q h k
 one_source (kept registry) r q h k = let same : Some r ≡ Some q = sym h ∙ k in cc
@@ -97,10 +98,10 @@ module _ (ask : Ask) (r : Entries) (is : IsRegistry ask.registry.now r) where
 
 -- ---- a registry that is open
 
-module _ (ask : HandleAsk) (r : Entries) (open_one : Option Entries) (is : Some r ≡ open_one) where
+module _ (ask : HandleAsk) (r : Entries) (held : Option Entries) (is : Some r ≡ held) where
   -- what is answered of the registry is answered of the handle in which it is open
-  pub answers_handle : (a : Answer) (P : Entries → Bounds → Shape → Type 0) → Answers (on_handle (Some r) ask) a P → Answers (on_handle open_one ask) a P
+  pub answers_handle : (a : Answer) (P : Entries → Bounds → Shape → Type 0) → Answers (on_handle (Some r) ask) a P → Answers (on_handle held ask) a P
   answers_handle a P h = subst (λ (x : Option Entries). Answers (on_handle x ask) a P) is h
 
-  pub whatever_handle : (P : Entries → Bounds → Shape → Type 0) → Whatever (on_handle (Some r) ask) P → Whatever (on_handle open_one ask) P
+  pub whatever_handle : (P : Entries → Bounds → Shape → Type 0) → Whatever (on_handle (Some r) ask) P → Whatever (on_handle held ask) P
   whatever_handle P h = subst (λ (x : Option Entries). Whatever (on_handle x ask) P) is h

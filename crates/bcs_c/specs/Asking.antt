@@ -34,9 +34,11 @@ pub record Request : Type 0 where
   pub depth : ℕ
   pub nodes : ℕ
 
+-- by a call over texts
 abbrev pub by_texts : Ask → Request
 by_texts ask = record { source = written ask.registry.now; format = ask.format.now; depth = ask.depth; nodes = ask.nodes }
 
+-- by a call on a handle, in which this registry is open, or none is
 abbrev pub on_handle : Option Entries → HandleAsk → Request
 on_handle registry ask = record { source = kept registry; format = ask.format.now; depth = ask.depth; nodes = ask.nodes }
 
