@@ -87,7 +87,7 @@ pub grown_answer : (work : Work) (input list : List ℕ) (older newer : Entries)
     → IsAnswer work input b
 grown_answer work input list older newer a b is is_older is_newer grows has prints status output place = (
   same_print work input 0 b.status _ b.output.items (status ∙ prints.same_status) (output ∙ ap (λ (text : List ℕ). list ++ text) prints.same_output)
-  (grown older newer list is is_older is_newer grows has),
+      (grown older newer list is is_older is_newer grows has),
   places.nothing (place ∙ prints.no_place),
 )
 

@@ -1,5 +1,5 @@
 -- A job has at most one answer to an input.
-use Rattle.std.proofs.Common.{◌≡◌, ◌∙◌, ◌⊎◌, ◌++◌, inl, inr, ℕ, List, true, false, Some, None, codes, length, string_bytes, ap, refl, sym, subst}
+use Rattle.std.proofs.Common.{◌≡◌, ◌∙◌, ◌⊎◌, ◌++◌, inl, inr, ℕ, List, Some, None, codes, length, string_bytes, ap, refl, sym, subst}
 use Rattle.bcs_registry_formats.specs.Container.{Entries}
 use Rattle.bcs_registry_formats.specs.Grows.{Grows}
 use Rattle.bcs_registry_formats.specs.Ranges.{IsOrderly}
@@ -150,8 +150,7 @@ module _ (work : Work) (input : List ℕ) where
   one_of_both : (c : Command) (s z : ℕ) (p q : List ℕ) → Early c s p ⊎ Late c s p → Early c z q ⊎ Late c z q → Agrees s p z q
   one_of_both c s z p q (inl (e, l, h, a, hs, hp)) (inl (g, m, k, b, ks, kq)) =
       let same : e ≡ g = one_refusal c work e g h k in
-      let list : l ≡ m = one_listing work (lists work g) l m (subst (λ (x : JobFault). Lists (lists work x) work l) same a) b in
-      (
+      let list : l ≡ m = one_listing work (lists work g) l m (subst (λ (x : JobFault). Lists (lists work x) work l) same a) b in (
         hs ∙ sym ks,
         hp ∙ ap (λ (x : JobFault). l ++ refusal_line (job_fault_name x)) same ∙ ap (λ (text : List ℕ). text ++ refusal_line (job_fault_name g)) list ∙ sym kq,
       )

@@ -1,6 +1,5 @@
 -- The answers to pairs of lines, one after another: one more behind them.
-use Rattle.std.proofs.Common.{◌≡◌, ◌<◌, ◌++◌, ◌∷◌, [], ℕ, suc, List, append_assoc, append-nil, ap, arith, codes, length, refl, subst, sym}
-use Rattle.bcs_tool_answers.specs.Answers.{line_of}
+use Rattle.std.proofs.Common.{◌≡◌, ◌<◌, ◌++◌, ◌∷◌, [], ℕ, suc, List, append_assoc, append-nil, ap, arith, length, refl, subst, sym}
 use Rattle.bcs_tool_answers.specs.LineAnswers.{greatest}
 use Rattle.bcs_tool_answers.specs.PairAnswers.{AnswersPair, AnswersPairs}
 use Rattle.bcs_tool_answers.specs.PairAnswers as pairs

@@ -6,7 +6,7 @@ use Rattle.bcs_registry_spec.proofs.OneText.{same_registry}
 use Rattle.bcs_io_lines.specs.Lines.{lines_of}
 use Rattle.bcs_tool_answers.specs.AnswerLaws.{OneComparison, SomeComparison}
 use Rattle.bcs_tool_answers.specs.Answers.{AnswersTexts, line_of}
-use Rattle.bcs_tool_answers.specs.Judging.{Asks, IsFormat, ReadsInput}
+use Rattle.bcs_tool_answers.specs.Judging.{IsFormat, ReadsInput}
 use Rattle.bcs_tool_answers.specs.LineAnswers.{greatest}
 use Rattle.bcs_tool_answers.specs.PairAnswers.{AnswersPair, AnswersPairs}
 use Rattle.bcs_tool_answers.specs.PairAnswers as pairs

@@ -1,5 +1,5 @@
 -- Each job has an answer to each input within the size, a lemma for each command.
-use Rattle.std.proofs.Common.{◌≡◌, ◌⊎◌, ◌≤◌, inl, inr, ℕ, List, length, Bool, true, false, refl, string_bytes, subst, sym, [], Option, Some, None}
+use Rattle.std.proofs.Common.{◌≡◌, inl, inr, ℕ, List, true, refl, string_bytes, subst, sym, [], Option, Some, None}
 use Rattle.std.proofs.lemmas.Bool.{cases_lt}
 use Rattle.serde_json.specs.Data.{depth}
 use Rattle.bcs_registry_formats.specs.Container as container

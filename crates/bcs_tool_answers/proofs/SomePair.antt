@@ -1,5 +1,5 @@
 -- Two texts have an answer.
-use Rattle.std.proofs.Common.{◌≡◌, ◌⊎◌, inl, inr, ℕ, List, Bool, true, false, bytes_eq}
+use Rattle.std.proofs.Common.{◌⊎◌, inl, inr, ℕ, List, Bool, true, false, bytes_eq}
 use Rattle.std.proofs.lemmas.Slice.Eq.{bytes_eq-Decides}
 use Rattle.bcs_registry_formats.specs.Container.{Entries}
 use Rattle.bcs_registry_formats.specs.Ranges.{IsOrderly}

@@ -7,8 +7,8 @@ ghost use Rattle.bcs_tool_answers.specs.Preparing.{IsPrepared};
 
 use crate::answer::{Answer, counted, placed, told};
 use crate::job_fault::JobFault;
-use crate::listing::{has_list, listed};
 use crate::judging::{Asked, judge_asked, judge_check, judge_growth};
+use crate::listing::{has_list, listed};
 use crate::word_places::place_of_words;
 use bcs_tool_files::Work;
 use bcs_tool_line::Command;

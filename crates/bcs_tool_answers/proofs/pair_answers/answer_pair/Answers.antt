@@ -1,4 +1,4 @@
-use Rattle.std.proofs.Common.{Bool, codes, subst}
+use Rattle.std.proofs.Common.{Bool, subst}
 use Rattle.std.proofs.lemmas.Result.{IfOk-weaker}
 use Rattle.bcs_registry_formats.specs.View.{shape_of}
 use Rattle.bcs_json_spec.specs.Headline.{Compares}

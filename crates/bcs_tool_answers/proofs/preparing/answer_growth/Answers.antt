@@ -1,4 +1,3 @@
-use Rattle.std.proofs.Common.{◌∙◌, ◌++◌, List, ap, ℕ}
 use Rattle.std.proofs.lemmas.Result.{IfOk-weaker}
 use Rattle.bcs_tool_answers.proofs.AnswerLemmas.{grown_answer}
 use Rattle.bcs_tool_answers.proofs.preparing.answer_growth.Goals as goal
