@@ -10,11 +10,7 @@ use bcs_json::from_bcs;
 use bcs_value::Value;
 use std::alloc::Global;
 
-pub(crate) fn answer(
-    alloc: Global,
-    setting: &Setting,
-    words: &[&str],
-) -> Result<String, RowFault> {
+pub(crate) fn answer(alloc: Global, setting: &Setting, words: &[&str]) -> Result<String, RowFault> {
     match words {
         [format, limits @ ..] => {
             let asked = Question::read(alloc, &setting.registry, format, limits)?;

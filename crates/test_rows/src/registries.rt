@@ -65,7 +65,9 @@ fn differing(alloc: Global, older: &str, newer: &str) -> Result<String, RowFault
     let older_containers = containers_of(alloc, &older)?;
     let newer_containers = containers_of(alloc, &newer)?;
     let found = differences(alloc, &older_containers, &newer_containers)?;
-    let fault = found.iter().find_map(|difference| difference.change.fault());
+    let fault = found
+        .iter()
+        .find_map(|difference| difference.change.fault());
     if older.grows(&newer).err() != fault {
         return Err(RowFault::Disagreement("grows"));
     }

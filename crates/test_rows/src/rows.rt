@@ -4,7 +4,8 @@ use crate::row_fault::RowFault;
 use crate::setting::Setting;
 use crate::words::unrolled;
 use crate::{
-    encodings, examples, jobs, likeness, lines, numbers, parts, places, registries, texts, values, verdicts,
+    encodings, examples, jobs, likeness, lines, numbers, parts, places, registries, texts, values,
+    verdicts,
 };
 use std::alloc::{AllocError, Global};
 
