@@ -42,11 +42,12 @@ def words_of_crate(kit: pathlib.Path) -> list[str]:
     return rtlib.Crate(str(CRATE), str(ROOT), {}, name=None).words(["--jobs", "1"])
 
 
-def prove_and_build(kit: pathlib.Path, archive: pathlib.Path, *more: str) -> None:
-    """Proves the crate and makes the archive, by rattle with more words than rt's."""
+def prove_and_build(kit: pathlib.Path, archive: pathlib.Path, tools: pathlib.Path, *more: str) -> None:
+    """Proves the crate and makes the archive by these tools, by rattle with more words than rt's."""
     words = [str(kit / "bin/rattle"), "build", *words_of_crate(kit), "--incremental", "out/incremental", *more]
+    words += ["--toolchain", str(tools), "-o", str(archive)]
     (CRATE / "out").mkdir(exist_ok=True)
-    built = subprocess.run([*words, "-o", str(archive)], cwd=CRATE, stdout=subprocess.PIPE, stderr=subprocess.STDOUT, text=True)
+    built = subprocess.run(words, cwd=CRATE, stdout=subprocess.PIPE, stderr=subprocess.STDOUT, text=True)
     if built.returncode != 0:
         print(built.stdout, file=sys.stderr)
         sys.exit("crates/bcs_c isn't proved or built; the libraries below it have to be built first (rt ci, rt lib)")
@@ -56,7 +57,8 @@ def prove_and_build(kit: pathlib.Path, archive: pathlib.Path, *more: str) -> Non
 def main() -> None:
     if len(sys.argv) != 2:
         sys.exit(f"Usage: {sys.argv[0]} FILE")
-    prove_and_build(kit_folder(), pathlib.Path(sys.argv[1]).resolve())
+    kit = kit_folder()
+    prove_and_build(kit, pathlib.Path(sys.argv[1]).resolve(), kit / "toolchain")
 
 
 if __name__ == "__main__":
