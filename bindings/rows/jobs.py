@@ -7,7 +7,8 @@ from driver import Answer, Driver, Question, Refused, expect, stop_of
 from words import Unsayable, bytes_of, bytes_of_digits, format_of
 
 FORMS = {"--ways": "ways", "--paths": "paths", "--tree": "tree", "--json": "json"}
-OPTIONS = ("--raw", "--front", "--lines", "--color", *FORMS)
+OPTIONS = ("--raw", "--front", "--lines", "--color", "--list", *FORMS)
+BEYOND_CALLS = {"--lines", "--color", "--list"}
 
 
 class Printed(NamedTuple):
@@ -51,12 +52,12 @@ def job(driver: Driver, name: str, words: list[str]) -> Printed:
     if name == "check":
         Question(driver, bytes_of(words[0]), b'"UNIT"', []).ask("check")
         return Printed(0, b"")
+    options = [word for word in words if word in OPTIONS]
+    if BEYOND_CALLS & set(options):
+        raise Unsayable
     if name == "grows":
         answer = driver.ask("grows", bytes_of(words[0]), bytes_of(words[1]))
         return Printed(0, b"grows\n") if answer.status == "done" else refusal(answer.fault)
-    options = [word for word in words if word in OPTIONS]
-    if "--lines" in options or "--color" in options:
-        raise Unsayable
     return value_job(driver, name, options, words[len(options) :])
 
 
