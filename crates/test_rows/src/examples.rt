@@ -34,6 +34,9 @@ fn spelled(alloc: Global, asked: &Question, value: &Value) -> Result<String, Row
         format,
         limits,
     } = asked;
+    if !registry.admits(format) {
+        return Err(RowFault::Disagreement("admits"));
+    }
     let Ok(bytes) = encode(alloc, registry, format, limits, value) else {
         return Err(RowFault::Disagreement("encode"));
     };
