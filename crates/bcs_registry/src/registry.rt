@@ -80,8 +80,9 @@ impl Registry {
     }
 
     /// The containers by name.
-    pub(crate) fn containers(&self) -> &BTreeMap<String, Container>
+    pub fn containers(&self) -> &BTreeMap<String, Container>
         ensures is { entries_of result.now.entries ≡ self.now }
+        ensures well_formed { IsWellFormed self.now }
         ensures orderly { IsOrderly self.now }
     {
         &self.containers
