@@ -15,6 +15,7 @@ use bcs_registry_formats::{Container, Format, RegistryFault};
 use bcs_registry_text::container_text::containers_from;
 use bcs_registry_text::format_text::format_from;
 use bcs_registry_text::json_text::registry_json;
+use bcs_registry_text::one_by_one::containers_one_by_one;
 use bcs_registry_text::shaped::{is_format_shaped, is_registry_shaped};
 use serde_json::Value;
 use std::alloc::Global;
@@ -29,9 +30,12 @@ impl Registry {
         ensures orderly { IfOk result IsOrderly }
         ensures fault { IfErr result (λ e. e ≢ RegistryFault.OutOfMemory → IsLeastFault text.now e) }
     {
-        let value = registry_json(alloc, text)?;
-        let containers = written_containers(alloc, &value)?;
-        drop(value);
+        let containers = match containers_one_by_one(alloc, text) {
+            Err(RegistryFault::OutOfMemory) => return Err(RegistryFault::OutOfMemory),
+            // The first fault that is met needn't be the least.
+            Err(_) => containers_at_once(alloc, text)?,
+            Ok(containers) => containers,
+        };
         checked(alloc, containers)
     }
 
@@ -48,6 +52,18 @@ impl Registry {
         self.judge_format(&format)?;
         Ok(format)
     }
+}
+
+/// The containers that a registry's text writes down, over the whole of its JSON.
+fn containers_at_once(
+    alloc: Global,
+    text: &[u8],
+) -> Result<BTreeMap<String, Container>, RegistryFault>
+    ensures ok { IfOk result (λ m. WritesRegistry text.now (entries_of m.entries)) }
+    ensures fault { IfErr result (λ e. e ≢ RegistryFault.OutOfMemory → IsLeastFault text.now e) }
+{
+    let value = registry_json(alloc, text)?;
+    written_containers(alloc, &value)
 }
 
 /// The containers that a registry's JSON writes down.

@@ -36,14 +36,14 @@ in_range_either Equal a b c h i j = i
 in_range_either Greater a b c h i j = j
 
 module _ (k : String Global) (v : Container) where
-  abbrev inserted : List Stored → List Stored
+  abbrev pub inserted : List Stored → List Stored
   inserted es = insert_entry string_cmp es k v
 
-  insert_shown : (es : List Stored) → shown_containers (entries_of (inserted es)) ≡ put (string_bytes k) (shown_container (container_of v)) (shown_containers (entries_of es))
+  pub insert_shown : (es : List Stored) → shown_containers (entries_of (inserted es)) ≡ put (string_bytes k) (shown_container (container_of v)) (shown_containers (entries_of es))
   insert_shown [] = refl
   insert_shown (e ∷ es) = shown_either (string_cmp k e.0) ((k, v) ∷ e ∷ es) ((e.0, v) ∷ es) (e ∷ inserted es) ∙ rw (insert_shown es) refl
 
-  insert_in_range : IsInRange (container_of v) → (es : List Stored) → AllInRange es → AllInRange (inserted es)
+  pub insert_in_range : IsInRange (container_of v) → (es : List Stored) → AllInRange es → AllInRange (inserted es)
   insert_in_range here [] all = (here, tt)
   insert_in_range here (e ∷ es) all =
       in_range_either (string_cmp k e.0) ((k, v) ∷ e ∷ es) ((e.0, v) ∷ es) (e ∷ inserted es) (here, all) (here, all.1) (all.0, insert_in_range here es all.1)

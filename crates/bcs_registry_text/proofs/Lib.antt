@@ -1,4 +1,5 @@
 pub mod TwoTests
+pub mod Turns
 pub mod Puts
 pub mod RisingMembers
 pub mod Choices
@@ -10,3 +11,4 @@ pub mod Entries
 pub mod Variants
 pub mod ContainerText
 pub mod Containers
+pub mod OneByOne

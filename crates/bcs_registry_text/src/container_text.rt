@@ -33,7 +33,7 @@ pub fn containers_from(
     Ok(containers)
 }
 
-fn container_from(alloc: Global, value: &Value) -> Result<Container, RegistryFault>
+pub(crate) fn container_from(alloc: Global, value: &Value) -> Result<Container, RegistryFault>
     ensures ok { IfOk result (λ c. IsContainerText (view value.now) (container_of c)) }
     ensures fault { IfErr result (IsFaultBy (λ loose. is_container loose (view value.now))) }
 {
