@@ -4,3 +4,6 @@ pub mod RoundSteps
 pub mod SameMaps
 pub mod Within
 pub mod Bounded
+pub mod Attained
+pub mod Reached
+pub mod SizeLaws
