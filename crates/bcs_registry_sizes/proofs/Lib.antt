@@ -6,4 +6,5 @@ pub mod Within
 pub mod Bounded
 pub mod Attained
 pub mod Reached
+pub mod SameDepth
 pub mod SizeLaws

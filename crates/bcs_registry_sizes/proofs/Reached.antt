@@ -1,11 +1,11 @@
 -- Values that have the fewest and the most bytes.
-use Rattle.std.proofs.Common.{◌≡◌, ℕ, pos, zero, suc, ◌+◌, ◌*◌, ◌^◌, ◌≤◌, ◌<◌, nat_lt, nat_cmp, Less, List, [], ◌∷◌, ◌++◌, length, Some, Bool, true, false, ◌||◌, ◌&&◌, ◌==◌, cond, inl, inr, refl, sym, ap, subst, ◌∙◌, arith}
+use Rattle.std.proofs.Common.{◌≡◌, ℕ, pos, zero, suc, ◌+◌, ◌*◌, ◌^◌, ◌≤◌, ◌<◌, nat_lt, nat_cmp, Less, List, [], ◌∷◌, ◌++◌, length, Some, Bool, true, false, ◌||◌, ◌==◌, cond, refl, sym, ap, subst, ◌∙◌, arith}
 use Rattle.std.specs.Int.{Width, w8, w16, w32, w64, w128, byte_len, cast_unsigned}
 use Rattle.std.specs.List.{AllByRecursion, list_all}
 use Rattle.std.specs.List.Sorted.{IsStrictlySortedBy}
 use Rattle.std.specs.Map.{keys_of}
 use Rattle.std.specs.Option.{option_map_or}
-use Rattle.std.proofs.lemmas.Bool.{and_from, and_parts, cases_lt}
+use Rattle.std.proofs.lemmas.Bool.{and_from, and_parts}
 use Rattle.std.proofs.lemmas.List.{length-append}
 use Rattle.std.proofs.lemmas.Str.{IsUtf8-nil, is_utf8-from_IsUtf8}
 use Rattle.bcs_num.specs.Le.{holds_signed, holds_unsigned}
@@ -26,7 +26,7 @@ use Rattle.bcs_encode_spec.specs.Plain.{plain, plain_each, plain_items}
 use Rattle.bcs_example.specs.Example.{copies}
 use Rattle.bcs_example.specs.Ready.{IsReady}
 use Rattle.bcs_example.proofs.Readiness.{InRange, in_range, same_number, unlike}
-use Rattle.bcs_registry_sizes.specs.Combining.{either, exactly, greatest, repeated, times, together, with_length}
+use Rattle.bcs_registry_sizes.specs.Combining.{exactly, greatest, repeated, together}
 use Rattle.bcs_registry_sizes.specs.Counting.{choice_sizes, choices_sizes, content_sizes, named_sizes, row_sizes, shape_sizes}
 use Rattle.bcs_registry_sizes.specs.Lengths.{array_has_length, has_length, row_has_length}
 use Rattle.bcs_registry_sizes.specs.declared.sizes.Sizes.{Sizes}

@@ -1,22 +1,25 @@
 -- What is promised of sizes.
-use Rattle.std.proofs.Common.{◌≡◌, ℕ, ◌≤◌, ◌<◌, List, Option, Some, None, Bool, true, false, inl, inr, refl, sym, ap, subst, ◌∙◌, arith}
-use Rattle.std.proofs.lemmas.Bool.{cases_lt, true≢false}
+use Rattle.std.proofs.Common.{◌≡◌, ℕ, ◌≤◌, List, length, Option, Some, None, option_map, Bool, inl, inr, refl, sym, ap, subst, ◌∙◌, arith}
+use Rattle.std.proofs.lemmas.Bool.{true≢false}
+use Rattle.std.proofs.lemmas.Option.{none-some, same_Some}
 use Rattle.bcs_registry_formats.specs.Shape as shape
-use Rattle.bcs_registry_formats.specs.Container.{Content, Entries, of}
+use Rattle.bcs_registry_formats.specs.Container.{Container, Content, Entries, container_at, of}
 use Rattle.bcs_registry_formats.specs.Ranges.{IsOrderly}
-use Rattle.bcs_value_tree.specs.Tree.{Tree}
+use Rattle.bcs_value_tree.specs.Tree.{Tree, depth}
 use Rattle.bcs_example.specs.Ready.{IsReady}
-use Rattle.bcs_registry_sizes.specs.Combining.{capped, greatest}
 use Rattle.bcs_registry_sizes.specs.Counting.{named_sizes}
 use Rattle.bcs_registry_sizes.specs.Extremes.{AreSizes, HasSize, IsFewest, IsGreatest, IsMost, IsUnbounded, IsValue, byte_count}
-use Rattle.bcs_registry_sizes.specs.Laws.{FewestIsLeast, MostIsGreatest, NoValueExactly, OneAnswer, SizesAreReached}
+use Rattle.bcs_registry_sizes.specs.Known.{SizeMap, sizes_of}
+use Rattle.bcs_registry_sizes.specs.Laws.{Allows, EncodingsAreWithin, FewestIsLeast, MostIsGreatest, NoValueExactly, OneAnswer, SizesAreReached}
 use Rattle.bcs_registry_sizes.specs.Lengths.{has_length}
 use Rattle.bcs_registry_sizes.specs.declared.sizes.Sizes.{Sizes}
 use Rattle.bcs_registry_sizes.specs.declared.sizes.Sizes.TheVariants.{NoValue, Bytes}
-use Rattle.bcs_registry_sizes.proofs.Attained.{Attains, Exceeds, Has, IsTop}
+use Rattle.bcs_registry_sizes.proofs.Attained.{Has, IsTop}
 use Rattle.bcs_registry_sizes.proofs.Bounded.{bounded}
 use Rattle.bcs_registry_sizes.proofs.Reached.{Reached, named_reached}
-use Rattle.bcs_registry_sizes.proofs.Within.{IsAtMost, Within}
+use Rattle.bcs_registry_sizes.proofs.RoundSteps.{HasSizesAt}
+use Rattle.bcs_registry_sizes.proofs.SameDepth.{no_deeper}
+use Rattle.bcs_registry_sizes.proofs.Within.{Within}
 
 module _ (registry : Entries) (d : ℕ) (n : List ℕ) where
   abbrev here : Content
@@ -55,8 +58,28 @@ fewest_is_least registry d n k m is t v = (within registry d n (Bytes k m) is t 
 pub most_is_greatest : MostIsGreatest
 most_is_greatest registry d n k m is t v = (within registry d n (Bytes k (Some m)) is t v).1
 
+allowed : (s : Sizes) (k : ℕ) (b : Bool) → Within s k b → Allows s k
+allowed NoValue k b h = h
+allowed (Bytes f None) k b h = h.0
+allowed (Bytes f (Some m)) k b h = (h.0, h.1.0)
+
+pub encodings_are_within : EncodingsAreWithin
+encodings_are_within registry limits n t b e =
+    let f = of (shape.name n) in
+    let shallow : depth e.form ≤ limits.depth = (let low = no_deeper t e.form e.is_form.is_same in let holds = e.sound.depth_holds in omega (arith, low, holds)) in
+    subst (λ bytes. Allows (named_sizes registry limits.depth n) (length bytes)) e.bytes
+    (allowed (named_sizes registry limits.depth n) (byte_count registry limits.depth f e.form) (has_length registry e.form f) (bounded registry e.form f limits.depth e.is_form.fit shallow))
+
 pub sizes_are_reached : SizesAreReached
 sizes_are_reached registry orderly d n = sizes_are registry d n (named_sizes registry d n) refl (named_reached registry orderly d n)
+
+are_sizes : (registry : Entries) → IsOrderly registry → (d : ℕ) (n : List ℕ) (s : Sizes) (o : Option Container) → option_map (λ c. named_sizes registry d n) o ≡ Some s → AreSizes registry d (of (shape.name n)) s
+are_sizes registry orderly d n s None is = absurd (none-some s is)
+are_sizes registry orderly d n s (Some c) is = subst (AreSizes registry d (of (shape.name n))) (same_Some (named_sizes registry d n) s is) (sizes_are_reached registry orderly d n)
+
+-- what the map has are the sizes
+pub map_has_sizes : (registry : Entries) (d : ℕ) (m : SizeMap) → HasSizesAt registry d m → IsOrderly registry → (n : List ℕ) (s : Sizes) → sizes_of m n ≡ Some s → AreSizes registry d (of (shape.name n)) s
+map_has_sizes registry d m has orderly n s is = are_sizes registry orderly d n s (container_at n registry) (sym (has n) ∙ is)
 
 value_of : (registry : Entries) (d : ℕ) (f : Content) (k : ℕ) (h : HasSize registry d f k) → IsValue registry d f h.value
 value_of registry d f k h = record { fit = h.ready.fit; depth_holds = h.ready.depth_holds }

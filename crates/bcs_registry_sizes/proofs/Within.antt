@@ -1,7 +1,7 @@
 -- Numbers of bytes that are within sizes.
-use Rattle.std.proofs.Common.{◌≡◌, ℕ, zero, suc, ◌+◌, ◌*◌, ◌≤◌, min, max, List, [], ◌∷◌, length, Option, Some, None, Bool, true, false, ◌||◌, ◌==◌, cond, inl, inr, refl, sym, ap, subst, ◌∙◌, arith}
+use Rattle.std.proofs.Common.{◌≡◌, ℕ, zero, suc, ◌+◌, ◌*◌, ◌≤◌, Option, Some, None, Bool, true, false, ◌||◌, ◌==◌, cond, inl, inr, refl, sym, ap, subst, ◌∙◌, arith}
 use Rattle.std.proofs.lemmas.Bool.{cases_lt}
-use Rattle.bcs_registry_sizes.specs.Combining.{capped, either, exactly, fitting, greater_most, greatest, product_most, repeated, sum_most, times, together, with_length}
+use Rattle.bcs_registry_sizes.specs.Combining.{either, exactly, fitting, greater_most, greatest, product_most, repeated, sum_most, times, together}
 use Rattle.bcs_registry_sizes.specs.declared.sizes.Sizes.{Sizes}
 use Rattle.bcs_registry_sizes.specs.declared.sizes.Sizes.TheVariants.{NoValue, Bytes}
 use Rattle.bcs_registry_sizes.proofs.Sums.{fitting_high, fitting_low}
@@ -81,8 +81,8 @@ at_most_more : (o : Option ℕ) (n k l : ℕ) (b c : Bool) → IsAtMost o k b �
 at_most_more None n k l b c h g = tt
 at_most_more (Some m) n k l b c h g =
     to_fitting (m * suc (suc n)) (k + l) (b || c) (λ low.
-      let rest = from_fitting (m * suc n) l c g (omega (arith, low)) in
-      (omega (arith, h.0, rest.0), neither b c h.1 rest.1))
+    let rest = from_fitting (m * suc n) l c g (omega (arith, low)) in
+    (omega (arith, h.0, rest.0), neither b c h.1 rest.1))
 
 times_more : (x : Sizes) (n k l : ℕ) (b c : Bool) → Within x k b → Within (times (suc n) x) l c → Within (times (suc (suc n)) x) (k + l) (b || c)
 times_more NoValue n k l b c h g = absurd h
