@@ -4,8 +4,8 @@ use crate::row_fault::RowFault;
 use crate::setting::Setting;
 use crate::words::unrolled;
 use crate::{
-    encodings, examples, jobs, likeness, lines, numbers, parts, places, registries, texts, values,
-    verdicts,
+    encodings, examples, jobs, likeness, lines, numbers, parts, places, registries, sizes, texts,
+    values, verdicts,
 };
 use std::alloc::{AllocError, Global};
 
@@ -52,6 +52,7 @@ fn answered(
         "json" | "text" | "same" | "pairs" => texts::answer(alloc, setting, question, words),
         "place" => places::answer(alloc, setting, words),
         "example" => examples::answer(alloc, setting, words),
+        "sizes" => sizes::answer(alloc, setting, words),
         "line" | "usage" | "help" => lines::answer(alloc, question, words),
         "bcs" => jobs::answer(alloc, words),
         _ => Err(RowFault::NotUnderstood),

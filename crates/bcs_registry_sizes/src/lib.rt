@@ -1,0 +1,12 @@
+//! How few and how many bytes the values of a registry's containers have.
+#![tactic(auto)]
+
+mod combining;
+mod containers;
+mod formats;
+pub mod laws;
+mod rounds;
+mod sizes;
+
+pub use rounds::container_sizes;
+pub use sizes::Sizes;
