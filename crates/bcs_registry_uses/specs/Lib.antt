@@ -1,0 +1,3 @@
+pub mod Uses
+pub mod Reached
+pub mod UseLaws
