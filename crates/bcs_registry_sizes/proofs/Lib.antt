@@ -1,0 +1,4 @@
+pub mod Sums
+pub mod Gathered
+pub mod RoundSteps
+pub mod SameMaps

@@ -1,0 +1,11 @@
+//! How few and how many bytes the values of a registry's containers have.
+#![tactic(auto)]
+
+mod combining;
+mod containers;
+mod formats;
+mod rounds;
+mod sizes;
+
+pub use rounds::container_sizes;
+pub use sizes::Sizes;
