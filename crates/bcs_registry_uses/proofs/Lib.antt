@@ -1,0 +1,4 @@
+pub mod Listed
+pub mod Among
+pub mod Reaching
+pub mod Using

@@ -1,0 +1,10 @@
+//! Which containers of a registry name which: on which a container stands, and which no other uses.
+#![tactic(auto)]
+
+mod mentions;
+mod reached;
+mod stands_on;
+mod used;
+
+pub use stands_on::standing;
+pub use used::used_by_others;
