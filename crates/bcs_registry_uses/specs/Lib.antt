@@ -1,2 +1,3 @@
 pub mod Uses
 pub mod Reached
+pub mod UseLaws

@@ -1,6 +1,6 @@
 -- Which containers of a registry name which, and on which each of them stands.
 use Rattle.std.specs.Prelude.{◌≡◌, ℕ, List, Option, Some, is_some, Bool, true, not, ◌&&◌}
-use Rattle.std.specs.List.{flat_map, list_any}
+use Rattle.std.specs.List.{filter, flat_map, list_any}
 use Rattle.std.specs.Str.{bytes_eq}
 use Rattle.bcs_registry_formats.specs.Container.{Container, Entries, container_at}
 use Rattle.bcs_registry_formats.specs.WellFormed.{container_formats}
@@ -9,6 +9,10 @@ use Rattle.bcs_registry_places.specs.RuleBreaks.{names_in}
 -- the names in the container's formats, as they are read
 abbrev pub names_of : Container → List (List ℕ)
 names_of c = flat_map names_in (container_formats c)
+
+-- the containers whose names pass the test
+abbrev pub part : (List ℕ → Bool) → Entries → Entries
+part is_kept registry = filter (λ e. is_kept e.0) registry
 
 abbrev pub is_among : List (List ℕ) → List ℕ → Bool
 is_among names name = list_any (bytes_eq name) names
