@@ -1,0 +1,3 @@
+pub mod FormatText
+pub mod LineText
+pub mod Selected
