@@ -1,0 +1,3 @@
+pub mod Deciding
+pub mod ShowLaws
+pub mod Parts

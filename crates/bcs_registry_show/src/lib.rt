@@ -1,0 +1,10 @@
+//! A registry, or what a container of it stands on, as text: in lines for reading, or in JSON.
+#![tactic(auto)]
+
+mod form;
+mod json;
+pub mod laws;
+mod show;
+
+pub use form::RegistryForm;
+pub use show::show_registry;
