@@ -1,17 +1,17 @@
 -- No two formats have one text.
-use Rattle.std.proofs.Common.{◌≡◌, ◌∙◌, ◌⊎◌, ℕ, zero, suc, ◌+◌, ◌<◌, ◌≤◌, ◌^◌, Bool, true, false, not, ◌&&◌, ◌||◌, ◌==◌, nat_lt, cond, Option, Some, None, is_some, List, [], ◌∷◌, ◌++◌, IsUtf8, ap, refl, sym, subst, true≢false, arith, inl, inr, append_assoc, codes, decimal}
+use Rattle.std.proofs.Common.{◌≡◌, ◌∙◌, ℕ, zero, suc, ◌<◌, ◌^◌, Bool, true, false, not, ◌||◌, ◌==◌, nat_lt, cond, Some, is_some, List, [], ◌∷◌, ◌++◌, IsUtf8, ap, refl, sym, true≢false, arith, inl, inr, append_assoc, codes, decimal}
 use Rattle.std.specs.Option.{unwrap_or}
-use Rattle.std.specs.Int.{Width, w8, w16, w32, w64, w128}
-use Rattle.std.proofs.lemmas.Bool.{and_parts, and_from, cases_eq, cases_Bool, eqb-true, ltb-true}
+use Rattle.std.specs.Int.{w8, w16, w32, w64, w128}
+use Rattle.std.proofs.lemmas.Bool.{and_parts, cases_Bool, eqb-true, ltb-true}
 use Rattle.bcs_registry_formats.specs.Ranges.{all_sizes_fit, sizes_fit}
 use Rattle.bcs_registry_formats.specs.Shape.{Shape, unit, truth, unsigned, signed, unsupported, float32, float64, character, text, bytes, name, option, seq, map, tuple, array, Shapes, no_shapes, shape}
 use Rattle.bcs_registry_places.specs.RuleBreaks.{names_among, names_in}
 use Rattle.bcs_registry_uses.specs.Uses.{is_among}
 use Rattle.bcs_registry_uses.proofs.Among.{among_back, among_front, one_among}
 use Rattle.bcs_registry_text.specs.Shaped.{format_named}
-use Rattle.bcs_registry_lines.specs.FormatLaws.{IsReadable, OneFormat}
+use Rattle.bcs_registry_lines.specs.FormatLaws.{OneFormat}
 use Rattle.bcs_registry_lines.specs.FormatText.{begins_with_letter, format_text, format_texts, further_texts, is_letter, is_letter_or_digit, is_plain, listed, name_text}
-use Rattle.bcs_registry_lines.proofs.EscapedApart.{first_of, rest_of, same_first, same_rest}
+use Rattle.bcs_registry_lines.proofs.EscapedApart.{first_of, same_first, same_rest}
 use Rattle.bcs_registry_lines.proofs.Tokens.{are_letters, begins_first, name_same, number_same, plain_begins, plain_text, quoted_text, span_same, stops, word_no_name}
 
 -- ---- words

@@ -1,13 +1,13 @@
 -- Words and names as they stand in a text: which of them it is, and where it ends.
-use Rattle.std.proofs.Common.{◌≡◌, ◌∙◌, ◌⊎◌, ℕ, zero, suc, ◌+◌, ◌%◌, ◌<◌, ◌≤◌, ◌^◌, Bool, true, false, not, ◌&&◌, ◌||◌, ◌==◌, cond, if◌then◌else◌, Option, Some, None, is_some, List, [], ◌∷◌, ◌++◌, IsUtf8, ap, refl, sym, subst, true≢false, arith, inl, inr, append_assoc, codes, decimal}
+use Rattle.std.proofs.Common.{◌≡◌, ◌∙◌, ℕ, zero, suc, ◌+◌, ◌%◌, ◌<◌, ◌^◌, Bool, true, false, not, ◌&&◌, if◌then◌else◌, is_some, List, [], ◌∷◌, ◌++◌, IsUtf8, ap, refl, sym, true≢false, arith, inl, inr, append_assoc, decimal}
 use Rattle.std.specs.List.{list_all}
 use Rattle.std.specs.Str.Parse.{digits_value}
-use Rattle.std.proofs.lemmas.Bool.{and_parts, and_from, cases_eq, cases_Bool}
+use Rattle.std.proofs.lemmas.Bool.{and_parts, and_from, cases_Bool}
 use Rattle.std.proofs.lemmas.Fmt.{decimal_by_steps, decimal_is_IsNumeral}
 use Rattle.bcs_explain_columns.specs.Escaped.{escaped}
 use Rattle.bcs_registry_lines.specs.FormatText.{begins_with_letter, is_letter, is_letter_or_digit, is_plain, name_text, quoted}
 use Rattle.bcs_registry_text.specs.Shaped.{format_named}
-use Rattle.bcs_registry_lines.proofs.EscapedApart.{first_of, quoted_same, rest_of, same_first, same_rest}
+use Rattle.bcs_registry_lines.proofs.EscapedApart.{first_of, quoted_same, same_first, same_rest}
 
 -- ---- where a word ends
 
