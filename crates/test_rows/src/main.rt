@@ -17,6 +17,7 @@ mod row_fault;
 mod rows;
 mod setting;
 mod sizes;
+mod shown;
 mod texts;
 mod value_words;
 mod values;
