@@ -1,3 +1,4 @@
 pub mod Deciding
 pub mod ShowLaws
 pub mod Parts
+pub mod LineEnd
