@@ -1,5 +1,5 @@
 -- One container more in lines.
-use Rattle.std.proofs.Common.{◌≡◌, ℕ, List, [], ◌∷◌, ◌++◌, String, Global, Option, Bool, true, cond, codes, string_bytes, refl, sym, ap, ◌∙◌, append_assoc}
+use Rattle.std.proofs.Common.{◌≡◌, ℕ, List, ◌∷◌, ◌++◌, String, Global, Option, Bool, true, cond, codes, string_bytes, sym, ap, ◌∙◌, append_assoc}
 use Rattle.std.specs.List.{flat_map}
 use Rattle.bcs_registry_formats.specs.Container.{Container, Entries}
 use Rattle.bcs_registry_formats.specs.View.{container_of, entries_of, entry_of}

@@ -1,2 +1,5 @@
 pub mod Listing
 pub mod Blocks
+pub mod EscapedApart
+pub mod Tokens
+pub mod FormatsApart

@@ -1,11 +1,11 @@
 -- Containers in lines.
-use Rattle.std.specs.Prelude.{ℕ, List, [], ◌∷◌, ◌++◌, Bool, Option, Some, None, ◌==◌, if◌then◌else◌, codes}
+use Rattle.std.specs.Prelude.{ℕ, List, [], ◌++◌, Bool, Option, Some, None, ◌==◌, if◌then◌else◌, codes}
 use Rattle.std.specs.Fmt.{decimal}
 use Rattle.std.specs.List.{flat_map}
 use Rattle.bcs_explain_columns.specs.Columns.{blanks}
 use Rattle.bcs_registry_formats.specs.Container as container
 use Rattle.bcs_registry_formats.specs.Container.{Field, Payload, Choice, Container, Entries}
-use Rattle.bcs_registry_formats.specs.Shape.{Shape, Shapes}
+use Rattle.bcs_registry_formats.specs.Shape.{Shape}
 use Rattle.bcs_registry_formats.specs.WellFormed.{shape_list}
 use Rattle.bcs_registry_lines.specs.FormatText.{format_text, name_text, row_text}
 use Rattle.bcs_registry_sizes.specs.declared.sizes.Sizes.{Sizes}

@@ -4,6 +4,7 @@
 mod block;
 mod formats;
 mod header;
+pub mod laws;
 mod lines;
 mod names;
 mod selection;

@@ -16,6 +16,7 @@ mod registries;
 mod row_fault;
 mod rows;
 mod setting;
+mod shown;
 mod texts;
 mod value_words;
 mod values;

@@ -1,0 +1,108 @@
+//! Rows on a registry in lines, and on what its containers stand on.
+
+use crate::row_fault::RowFault;
+use crate::setting::Setting;
+use crate::words::bytes;
+use bcs_registry::Registry;
+use bcs_registry_lines::{Selection, put_format, registry_lines};
+use bcs_registry_places::{containers_of, format_in};
+use bcs_registry_sizes::Sizes;
+use bcs_registry_text::printing::registry_value;
+use bcs_registry_uses::{keep_only, standing};
+use std::alloc::Global;
+use std::collections::BTreeMap;
+
+pub(crate) fn answer(
+    alloc: Global,
+    setting: &Setting,
+    question: &str,
+    words: &[&str],
+) -> Result<String, RowFault> {
+    match (question, words) {
+        ("short", [text]) => short(alloc, text),
+        ("lines", [name, sizes @ ..]) => lines(alloc, setting, name, sizes),
+        ("standing", [name]) => stands_on(alloc, setting, name),
+        _ => Err(RowFault::NotUnderstood),
+    }
+}
+
+// The format in short, whether or not the registry admits it.
+fn short(alloc: Global, text: &str) -> Result<String, RowFault> {
+    let format = format_in(alloc, &bytes(alloc, text)?)?;
+    let mut line = Vec::new(alloc);
+    put_format(&format, &mut line)?;
+    Ok(String::from_utf8_lossy(alloc, &line)?)
+}
+
+// The lines of what the container stands on, or of all containers, each with `|` at its end.
+fn lines(alloc: Global, setting: &Setting, name: &str, sizes: &[&str]) -> Result<String, RowFault> {
+    let registry = Registry::read(alloc, &setting.registry)?;
+    let containers = containers_of(alloc, &registry)?;
+    let sizes = sizes_told(alloc, sizes)?;
+    let lines = if name == "*" {
+        registry_lines(alloc, &containers, Selection::All, &sizes)?
+    } else {
+        let Some(names) = standing(alloc, &containers, name)? else {
+            return Ok(String::from_str(alloc, "none")?);
+        };
+        registry_lines(alloc, &containers, Selection::Names(&names), &sizes)?
+    };
+    Ok(
+        String::from_utf8_lossy(alloc, &lines)?
+            .as_str()
+            .replace(alloc, "\n", "|")?,
+    )
+}
+
+// Names, each with its sizes behind it.
+fn sizes_told<'a>(alloc: Global, words: &[&'a str]) -> Result<BTreeMap<&'a str, Sizes>, RowFault> {
+    let mut sizes = BTreeMap::new(alloc);
+    for pair in words.chunks(2) {
+        let [name, word] = pair else {
+            return Err(RowFault::NotUnderstood);
+        };
+        let _ = sizes.insert(*name, sizes_of(word)?)?;
+    }
+    Ok(sizes)
+}
+
+fn sizes_of(word: &str) -> Result<Sizes, RowFault> {
+    if word == "none" {
+        return Ok(Sizes::NoValue);
+    }
+    let Some((fewest, most)) = word.split_once("..") else {
+        return Err(RowFault::NotUnderstood);
+    };
+    let most = if most.is_empty() {
+        None
+    } else {
+        Some(count(most)?)
+    };
+    Ok(Sizes::Bytes {
+        fewest: count(fewest)?,
+        most,
+    })
+}
+
+fn count(word: &str) -> Result<u64, RowFault> {
+    match word.parse::<u64>() {
+        Ok(count) => Ok(count),
+        Err(_) => Err(RowFault::NotUnderstood),
+    }
+}
+
+// The container and what it stands on, as a registry of their own.
+fn stands_on(alloc: Global, setting: &Setting, name: &str) -> Result<String, RowFault> {
+    let registry = Registry::read(alloc, &setting.registry)?;
+    let mut containers = containers_of(alloc, &registry)?;
+    let Some(names) = standing(alloc, &containers, name)? else {
+        return Ok(String::from_str(alloc, "none")?);
+    };
+    keep_only(&mut containers, &names);
+    let text = registry_value(alloc, &containers)?.to_string(alloc)?;
+    let part = Registry::read(alloc, text.as_bytes())?;
+    if part.len() != names.len() {
+        return Err(RowFault::Disagreement("len"));
+    }
+    Ok(text)
+}
