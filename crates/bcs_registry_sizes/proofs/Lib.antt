@@ -2,3 +2,9 @@ pub mod Sums
 pub mod Gathered
 pub mod RoundSteps
 pub mod SameMaps
+pub mod Within
+pub mod Bounded
+pub mod Attained
+pub mod Reached
+pub mod SameDepth
+pub mod SizeLaws

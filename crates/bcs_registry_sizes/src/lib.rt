@@ -4,6 +4,7 @@
 mod combining;
 mod containers;
 mod formats;
+pub mod laws;
 mod rounds;
 mod sizes;
 

@@ -1,9 +1,13 @@
 //! The sizes of containers, counted in rounds.
-ghost use Rattle.std.specs.Prelude.{◌≡◌, ℕ, List, IfOk};
-ghost use Rattle.bcs_registry_formats.specs.Container.{content};
+ghost use Rattle.std.specs.Prelude.{◌≡◌, ℕ, List, Some, IfOk};
+ghost use Rattle.bcs_registry_formats.specs.Container.{content, of};
+ghost use Rattle.bcs_registry_formats.specs.Ranges.{IsOrderly};
+ghost use Rattle.bcs_registry_formats.specs.Shape as shape;
 ghost use Rattle.bcs_registry_formats.specs.View.{entries_of};
 ghost use Rattle.bcs_registry_sizes.specs.Counting.{content_sizes, sizes_at};
+ghost use Rattle.bcs_registry_sizes.specs.Extremes.{AreSizes};
 ghost use Rattle.bcs_registry_sizes.specs.Known.{HasEach, sizes_of, told};
+ghost use Rattle.bcs_registry_sizes.specs.declared.sizes.Sizes as declared;
 ghost use Rattle.bcs_registry_sizes.specs.declared.sizes.Sizes.TheVariants.{NoValue};
 
 use crate::containers::inner_sizes;
@@ -19,7 +23,9 @@ pub fn container_sizes<'a>(
     containers: &'a BTreeMap<String, Container>,
     depth: u32,
 ) -> Result<BTreeMap<&'a str, Sizes>, AllocError>
-    ensures { IfOk result (λ m. (n : List ℕ) → sizes_of m n ≡ sizes_at (entries_of containers.now.entries) depth n) }
+    ensures is { IfOk result (λ m. (n : List ℕ) → sizes_of m n ≡ sizes_at (entries_of containers.now.entries) depth n) }
+    ensures sizes { IfOk result (λ m. IsOrderly (entries_of containers.now.entries)
+        → (n : List ℕ) (s : declared.Sizes) → sizes_of m n ≡ Some s → AreSizes (entries_of containers.now.entries) depth (of (shape.name n)) s) }
 {
     let mut known = no_values(alloc, containers)?;
     for _round in 0..depth {

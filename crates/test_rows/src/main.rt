@@ -17,6 +17,7 @@ mod row_fault;
 mod rows;
 mod setting;
 mod shown;
+mod sizes;
 mod texts;
 mod value_words;
 mod values;

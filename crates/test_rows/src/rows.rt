@@ -4,7 +4,7 @@ use crate::row_fault::RowFault;
 use crate::setting::Setting;
 use crate::words::unrolled;
 use crate::{
-    encodings, examples, jobs, likeness, lines, numbers, parts, places, registries, shown, texts,
+    encodings, examples, jobs, likeness, lines, numbers, parts, places, registries, shown, sizes, texts,
     values, verdicts,
 };
 use std::alloc::{AllocError, Global};
@@ -53,6 +53,7 @@ fn answered(
         "json" | "text" | "same" | "pairs" => texts::answer(alloc, setting, question, words),
         "place" => places::answer(alloc, setting, words),
         "example" => examples::answer(alloc, setting, words),
+        "sizes" => sizes::answer(alloc, setting, words),
         "line" | "usage" | "help" => lines::answer(alloc, question, words),
         "bcs" => jobs::answer(alloc, words),
         _ => Err(RowFault::NotUnderstood),
