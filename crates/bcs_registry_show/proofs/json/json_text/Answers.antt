@@ -42,5 +42,5 @@ returns-in_ok-part_value-in-Names-clause-reads_back c =
     ∙ sym (ap (λ l. shown (part (is_selected l) registry)) c.in-Names.is) in
     IfOk-weaker c.to_string.result _ _
     (λ s h formed.
-      let shallow : depth value ≤ max_depth = subst (λ d. depth d ≤ max_depth) (sym built) (depth-shown (part is_kept registry) formed) in
-      (value, (IsUtf8-string_bytes s, h shallow), record { is = built; orderly = orderly_part is_kept registry c.containers.ensures.orderly })) c.to_string.ensures.reads_back
+    let shallow : depth value ≤ max_depth = subst (λ d. depth d ≤ max_depth) (sym built) (depth-shown (part is_kept registry) formed) in
+    (value, (IsUtf8-string_bytes s, h shallow), record { is = built; orderly = orderly_part is_kept registry c.containers.ensures.orderly })) c.to_string.ensures.reads_back
