@@ -6,14 +6,17 @@ use Rattle.std.specs.Cmp.Lexicographic.{pointwise}
 use Rattle.std.specs.List.{AllByRecursion, prefix_len}
 use Rattle.std.proofs.lemmas.List.{drop-append-le, length-append, take-append-le}
 use Rattle.std.proofs.lemmas.List.Sums.{prefix_len-le-length}
+use Rattle.std.proofs.lemmas.Str.{IsUtf8-append}
 use Rattle.json.specs.Ascii as ascii
 use Rattle.json.specs.Json as json
 use Rattle.json.specs.Lex.{Class, Lexeme, Mode, between, in_word, in_string, in_escape, quote, backslash, operator, space, other, class, fresh, lex, lex_byte, operator_lexeme, punctuate, string_token, token, tokens}
 use Rattle.json.specs.Text.{Within, after_backslash, after_high, after_u, code_unit, content, is_high_surrogate, is_low_surrogate, plain, prepend, short_escape, surrogate_pair}
 use Rattle.json.specs.Token.{Token, bad, boolean, null, number}
 use Rattle.json.specs.Word.{after_digits, after_exponent, after_fraction, after_minus, after_number, after_sign, after_whole, ends_word, literal, number_before, word}
-use Rattle.serde_json.specs.Data.{Data}
+use Rattle.json.proofs.Printed.Utf8.{IsUtf8-are_ascii}
 use Rattle.serde_json.specs.Read.{max_depth, of_json, read}
+use Rattle.bcs_registry_formats.specs.Container.{Entries}
+use Rattle.bcs_registry_text.specs.Text.{WritesRegistry}
 
 abbrev pub ended : List ℕ → List ℕ
 ended t = t ++ 10 ∷ []
@@ -200,3 +203,6 @@ lex_ended m (x ∷ xs) = byte_ended x xs (λ n. lex n (ended xs)) (λ n. lex n x
 
 pub read_ended : (t : List ℕ) → read (ended t) ≡ read t
 read_ended t = ap (λ ls. option_and_then of_json (option_and_then (λ p. json.if_last p.0 p.1) (json.value max_depth (punctuate fresh ls)))) (lex_ended between t)
+
+pub writes_ended : (t : List ℕ) (registry : Entries) → WritesRegistry t registry → WritesRegistry (ended t) registry
+writes_ended t registry h = (h.0, (IsUtf8-append t (10 ∷ []) h.1.0 (IsUtf8-are_ascii (10 ∷ []) refl), read_ended t ∙ h.1.1), h.2)

@@ -1,11 +1,14 @@
 -- A registry is shown as exactly one text.
-use Rattle.std.proofs.Common.{◌≡◌, ℕ, List, Bool, true, false, Option, Some, None, refl, sym, ap, ◌∙◌}
+use Rattle.std.proofs.Common.{◌≡◌, ◌++◌, ℕ, List, [], ◌∷◌, Bool, true, false, Option, Some, None, refl, sym, ap, ◌∙◌}
 use Rattle.std.proofs.Math.Path.{fun_ext}
 use Rattle.std.proofs.lemmas.Bool.{false≢true}
 use Rattle.bcs_registry_formats.specs.Container.{Entries}
-use Rattle.bcs_registry_show.specs.ShowLaws.{OneText, SomeText}
+use Rattle.bcs_registry_show.specs.ShowLaws.{OneText, SomeText, WholeJson}
 use Rattle.bcs_registry_show.specs.Shows.{AreShown, form_text}
+use Rattle.bcs_registry_text.specs.Shown.{shown}
+use Rattle.serde_json.specs.Written.{compact_text}
 use Rattle.bcs_registry_show.proofs.Deciding.{standing_decided}
+use Rattle.bcs_registry_show.proofs.Parts.{part-all}
 
 same_answer : (a b : Bool) → (a ≡ true → b ≡ true) → (b ≡ true → a ≡ true) → a ≡ b
 same_answer true b there back = sym (there refl)
@@ -29,3 +32,6 @@ pub some_text_holds : SomeText
 some_text_holds form name registry =
     let told = some_shown name registry in
     (form_text form registry told.0, record { is_shown = told.0; are_shown = told.1; is = refl })
+
+pub whole_json_holds : WholeJson
+whole_json_holds registry text shows = shows.is ∙ ap (λ es. compact_text (shown es) ++ 10 ∷ []) (part-all shows.is_shown shows.are_shown registry)

@@ -6,7 +6,9 @@ use Rattle.bcs_registry_lines.specs.LineText.{lines_text}
 use Rattle.bcs_registry_show.specs.declared.form.RegistryForm.{RegistryForm}
 use Rattle.bcs_registry_show.specs.declared.form.RegistryForm.TheVariants.{Lines, Json}
 use Rattle.bcs_registry_sizes.specs.Counting.{sizes_at}
+use Rattle.bcs_registry_formats.specs.WellFormed.{IsWellFormed}
 use Rattle.bcs_registry_text.specs.Shown.{shown}
+use Rattle.bcs_registry_text.specs.Text.{WritesRegistry}
 use Rattle.bcs_registry_uses.specs.Uses.{StandsOn, part}
 use Rattle.serde_json.specs.Written.{compact_text}
 
@@ -32,3 +34,10 @@ pub record ShowsRegistry (form : RegistryForm) (name : Option (List ℕ)) (regis
   pub is_shown : List ℕ → Bool
   pub are_shown : AreShown name registry is_shown
   pub is : text ≡ form_text form registry is_shown
+
+-- the text is JSON that writes down just what is shown, a well-formed registry
+pub record WritesShown (name : Option (List ℕ)) (registry : Entries) (text : List ℕ) : Type 0 where
+  pub is_shown : List ℕ → Bool
+  pub are_shown : AreShown name registry is_shown
+  pub writes : WritesRegistry text (part is_shown registry)
+  pub well_formed : IsWellFormed (part is_shown registry)

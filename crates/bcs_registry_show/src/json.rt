@@ -2,10 +2,12 @@
 ghost use Rattle.std.specs.Prelude.{◌≡◌, string_bytes, IfOk};
 ghost use Rattle.std.specs.BTreeSet.{contains_text};
 ghost use Rattle.bcs_registry_formats.specs.View.{entries_of};
+ghost use Rattle.bcs_registry_formats.specs.WellFormed.{IsWellFormed};
 ghost use Rattle.bcs_registry_lines.specs.Selected.{is_selected};
 ghost use Rattle.bcs_registry_show.specs.Shows.{form_text};
 ghost use Rattle.bcs_registry_show.specs.declared.form.RegistryForm.TheVariants.{Json};
 ghost use Rattle.bcs_registry_text.specs.Shown.{shown};
+ghost use Rattle.bcs_registry_text.specs.Text.{WritesRegistry};
 ghost use Rattle.bcs_registry_uses.specs.Uses.{part};
 ghost use Rattle.serde_json.specs.View.{view};
 ghost use Rattle.serde_json.specs.Written.{compact_text};
@@ -24,7 +26,9 @@ pub(crate) fn json_line(
     registry: &Registry,
     selection: Selection<'_>,
 ) -> Result<Vec<u8>, AllocError>
-    ensures { IfOk result (λ line. line.items ≡ form_text Json registry.now (is_selected selection.entry)) }
+    ensures text { IfOk result (λ line. line.items ≡ form_text Json registry.now (is_selected selection.entry)) }
+    ensures reads_back { IfOk result (λ line. IsWellFormed (part (is_selected selection.entry) registry.now)
+        → WritesRegistry line.items (part (is_selected selection.entry) registry.now)) }
 {
     let mut text = json_text(alloc, registry, selection)?;
     text.push('\n')?;
@@ -37,8 +41,10 @@ fn json_text(
     registry: &Registry,
     selection: Selection<'_>,
 ) -> Result<String, AllocError>
-    ensures { IfOk result (λ text. string_bytes text
+    ensures text { IfOk result (λ text. string_bytes text
         ≡ compact_text (shown (part (is_selected selection.entry) registry.now))) }
+    ensures reads_back { IfOk result (λ text. IsWellFormed (part (is_selected selection.entry) registry.now)
+        → WritesRegistry (string_bytes text) (part (is_selected selection.entry) registry.now)) }
 {
     match selection {
         Selection::All => registry.print(alloc),

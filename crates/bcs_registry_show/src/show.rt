@@ -1,8 +1,11 @@
 //! A registry, or a part of it, as text.
 ghost use Rattle.std.specs.Prelude.{◌≡◌, ◌↔◌, None, IfOk, IfSome};
+ghost use Rattle.bcs_registry_formats.specs.WellFormed.{IsWellFormed};
 ghost use Rattle.bcs_registry_lines.specs.Selected.{is_selected};
-ghost use Rattle.bcs_registry_show.specs.Shows.{NamesNone, ShowsRegistry, asked, form_text};
-ghost use Rattle.bcs_registry_show.specs.declared.form.RegistryForm.TheVariants.{Lines};
+ghost use Rattle.bcs_registry_show.specs.Shows.{NamesNone, ShowsRegistry, WritesShown, asked, form_text};
+ghost use Rattle.bcs_registry_show.specs.declared.form.RegistryForm.TheVariants.{Json, Lines};
+ghost use Rattle.bcs_registry_text.specs.Text.{WritesRegistry};
+ghost use Rattle.bcs_registry_uses.specs.Uses.{part};
 
 use crate::form::RegistryForm;
 use crate::json::json_line;
@@ -23,8 +26,11 @@ pub fn show_registry(
 ) -> Result<Option<Vec<u8>>, AllocError>
     ensures some { IfOk result (λ shown. IfSome shown (λ text.
         ShowsRegistry form (asked name.entry) registry.now text.items)) }
+    ensures reads_back { IfOk result (λ shown. IfSome shown (λ text.
+        form ≡ Json → WritesShown (asked name.entry) registry.now text.items)) }
     ensures none { IfOk result (λ shown. shown ≡ None ↔ NamesNone (asked name.entry) registry.now) }
 {
+    registry.recall();
     let Some(name) = name else {
         return Ok(Some(selected_text(alloc, registry, Selection::All, form)?));
     };
@@ -44,7 +50,9 @@ fn selected_text(
     selection: Selection<'_>,
     form: RegistryForm,
 ) -> Result<Vec<u8>, AllocError>
-    ensures { IfOk result (λ text. text.items ≡ form_text form registry.now (is_selected selection.entry)) }
+    ensures text { IfOk result (λ text. text.items ≡ form_text form registry.now (is_selected selection.entry)) }
+    ensures reads_back { IfOk result (λ text. form ≡ Json → IsWellFormed (part (is_selected selection.entry) registry.now)
+        → WritesRegistry text.items (part (is_selected selection.entry) registry.now)) }
 {
     match form {
         RegistryForm::Lines => lines_text(alloc, registry, selection),

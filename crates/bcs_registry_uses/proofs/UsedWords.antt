@@ -1,4 +1,4 @@
--- A name is used exactly if a container of another name has it in its formats.
+-- What containers use, in words.
 use Rattle.std.proofs.Common.{◌≡◌, ◌≢◌, ◌↔◌, ℕ, List, [], ◌∷◌, Bool, true, false, not, ◌&&◌, true≢false, refl, sym, ap, ◌∙◌}
 use Rattle.std.specs.List.{Contains, list_any}
 use Rattle.std.specs.Str.{bytes_eq}
@@ -8,7 +8,7 @@ use Rattle.std.proofs.lemmas.List.Folds.{Any-from_list_any, list_any-from_Any}
 use Rattle.std.proofs.lemmas.Map.Views.{Contains-from_any, list_any-from_Contains}
 use Rattle.std.proofs.lemmas.Slice.Eq.{bytes_eq-Decides}
 use Rattle.bcs_registry_formats.specs.Container.{Container, Entries}
-use Rattle.bcs_registry_uses.specs.UseLaws.{UsedByAnother}
+use Rattle.bcs_registry_uses.specs.UseLaws.{OneStanding, UsedByAnother}
 use Rattle.bcs_registry_uses.specs.Uses.{is_among, is_used, names_of, uses_another}
 
 other_name : (m n : List ℕ) → not (bytes_eq m n) ≡ true → m ≢ n
@@ -31,3 +31,11 @@ used_by_another_holds registry name = (
       list_any-from_Any (uses_another name) registry
       (p.1.0, p.0, p.1.1, p.1.2, and_from _ _ (name_other p.0.0 name p.2) (list_any-from_Contains nat_list_eq_equiv name (names_of p.0.1) p.3))),
 )
+
+alike : (a b : Bool) → (a ≡ true → b ≡ true) → (b ≡ true → a ≡ true) → a ≡ b
+alike true b h k = sym (h refl)
+alike false true h k = k refl
+alike false false h k = refl
+
+pub one_standing_holds : OneStanding
+one_standing_holds registry name p q h k n = alike (p n) (q n) (λ yes. (k n).1 ((h n).0 yes)) (λ yes. (h n).1 ((k n).0 yes))

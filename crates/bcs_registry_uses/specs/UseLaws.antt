@@ -17,3 +17,9 @@ abbrev pub UsedByAnother : Type 0
 UsedByAnother =
     (registry : Entries) (name : List ℕ)
     → is_used registry name ≡ true ↔ ((e : List ℕ × Container) × Contains registry e × (e.0 ≢ name) × Contains (names_of e.1) name)
+
+-- two tests of what a container stands on are one
+abbrev pub OneStanding : Type 0
+OneStanding =
+    (registry : Entries) (name : List ℕ) (p q : List ℕ → Bool) → ((n : List ℕ) → p n ≡ true ↔ StandsOn registry name n) → ((n : List ℕ) → q n ≡ true ↔ StandsOn registry name n)
+    → (n : List ℕ) → p n ≡ q n

@@ -4,8 +4,8 @@ use crate::row_fault::RowFault;
 use crate::setting::Setting;
 use crate::words::unrolled;
 use crate::{
-    encodings, examples, jobs, likeness, lines, numbers, parts, places, registries, shown, sizes, texts,
-    values, verdicts,
+    encodings, examples, jobs, likeness, lines, numbers, parts, places, registries, shown, sizes,
+    texts, values, verdicts,
 };
 use std::alloc::{AllocError, Global};
 
@@ -44,7 +44,7 @@ fn answered(
         "registry" | "format" | "print" | "grows" | "differences" => {
             registries::answer(alloc, setting, question, words)
         }
-        "short" | "lines" | "standing" => shown::answer(alloc, setting, question, words),
+        "short" | "lines" | "standing" | "show" => shown::answer(alloc, setting, question, words),
         "verdict" | "scan" | "changes" => verdicts::answer(alloc, setting, question, words),
         "part" => parts::answer(alloc, setting, words),
         "values" | "fits" => values::answer(alloc, setting, question, words),

@@ -1,4 +1,4 @@
-//! Rows on a registry in lines, and on what its containers stand on.
+//! Rows on a registry as text, and on what its containers stand on.
 
 use crate::row_fault::RowFault;
 use crate::setting::Setting;
@@ -6,6 +6,7 @@ use crate::words::bytes;
 use bcs_registry::Registry;
 use bcs_registry_lines::{Selection, put_format, registry_lines};
 use bcs_registry_places::{containers_of, format_in};
+use bcs_registry_show::{RegistryForm, show_registry};
 use bcs_registry_sizes::Sizes;
 use bcs_registry_text::printing::registry_value;
 use bcs_registry_uses::{keep_only, standing};
@@ -22,6 +23,10 @@ pub(crate) fn answer(
         ("short", [text]) => short(alloc, text),
         ("lines", [name, sizes @ ..]) => lines(alloc, setting, name, sizes),
         ("standing", [name]) => stands_on(alloc, setting, name),
+        ("show", ["lines"]) => show(alloc, setting, None, RegistryForm::Lines),
+        ("show", ["lines", name]) => show(alloc, setting, Some(*name), RegistryForm::Lines),
+        ("show", ["json"]) => show(alloc, setting, None, RegistryForm::Json),
+        ("show", ["json", name]) => show(alloc, setting, Some(*name), RegistryForm::Json),
         _ => Err(RowFault::NotUnderstood),
     }
 }
@@ -105,4 +110,29 @@ fn stands_on(alloc: Global, setting: &Setting, name: &str) -> Result<String, Row
         return Err(RowFault::Disagreement("len"));
     }
     Ok(text)
+}
+
+// The registry, or the container and what it stands on, in this form. JSON is read again, and printed as the same.
+fn show(
+    alloc: Global,
+    setting: &Setting,
+    name: Option<&str>,
+    form: RegistryForm,
+) -> Result<String, RowFault> {
+    let registry = Registry::read(alloc, &setting.registry)?;
+    let Some(text) = show_registry(alloc, &registry, name, form)? else {
+        return Ok(String::from_str(alloc, "none")?);
+    };
+    if form == RegistryForm::Json {
+        let mut again = Registry::read(alloc, &text)?.print(alloc)?;
+        again.push('\n')?;
+        if again.as_bytes() != text.as_slice() {
+            return Err(RowFault::Disagreement("print"));
+        }
+    }
+    Ok(
+        String::from_utf8_lossy(alloc, &text)?
+            .as_str()
+            .replace(alloc, "\n", "|")?,
+    )
 }
