@@ -1,10 +1,11 @@
--- One container more in lines.
-use Rattle.std.proofs.Common.{◌≡◌, ℕ, List, ◌∷◌, ◌++◌, String, Global, Option, Bool, true, cond, codes, string_bytes, sym, ap, ◌∙◌, append_assoc}
+-- Containers in lines: one more, and what determines them.
+use Rattle.std.proofs.Common.{◌≡◌, ℕ, List, [], ◌∷◌, ◌++◌, String, Global, Option, Bool, true, cond, codes, string_bytes, refl, sym, ap, ◌∙◌, append_assoc}
 use Rattle.std.specs.List.{flat_map}
 use Rattle.bcs_registry_formats.specs.Container.{Container, Entries}
 use Rattle.bcs_registry_formats.specs.View.{container_of, entries_of, entry_of}
 use Rattle.bcs_registry_formats.specs.declared.container.Container as declared
 use Rattle.bcs_registry_lines.specs.FormatText.{name_text}
+use Rattle.bcs_registry_lines.specs.ReadingLaws.{SameLines}
 use Rattle.bcs_registry_lines.specs.LineText.{block_text, container_lines, header_text, kind_text, sizes_part, use_part}
 use Rattle.bcs_registry_sizes.specs.declared.sizes.Sizes.{Sizes}
 use Rattle.bcs_registry_uses.specs.Uses.{is_used, part}
@@ -12,12 +13,12 @@ use Rattle.bcs_registry_uses.specs.Uses.{is_used, part}
 abbrev Stored : Type 0
 Stored = String Global × declared.Container
 
+abbrev header : List ℕ → Container → Option Sizes → Bool → List ℕ
+header name c found used = name_text name ++ codes ": " ++ kind_text c ++ sizes_part found ++ use_part used ++ codes "\n"
+
 module _ (registry : Entries) (sizes : List ℕ → Option Sizes) (is_shown : List ℕ → Bool) where
   abbrev pub lines : Entries → List ℕ
   lines es = flat_map (block_text registry sizes) (part is_shown es)
-
-  abbrev header : List ℕ → Container → Option Sizes → Bool → List ℕ
-  header name c found used = name_text name ++ codes ": " ++ kind_text c ++ sizes_part found ++ use_part used ++ codes "\n"
 
   header_is : (n s : List ℕ) (c : Container) (o : Option Sizes) (u : Bool) → s ≡ n → o ≡ sizes s → u ≡ is_used registry s → header s c o u ≡ header_text registry sizes (n, c)
   header_is n s c o u same found used =
@@ -37,3 +38,19 @@ module _ (registry : Entries) (sizes : List ℕ → Option Sizes) (is_shown : Li
       ∙ append_assoc before (top ++ body) (lines (entries_of rest))
       ∙ ap (λ t. before ++ t) (sym (shown_more e rest (ap is_shown (sym same) ∙ sym test ∙ shown)))
       ∙ ap (λ es. before ++ lines (entries_of es)) (sym is)
+
+-- ---- what determines the lines
+
+part_same : (p q : List ℕ → Bool) → ((n : List ℕ) → p n ≡ q n) → (es : Entries) → part p es ≡ part q es
+part_same p q h [] = refl
+part_same p q h (e ∷ es) = ap (λ b. cond b (e ∷ part p es) (part p es)) (h e.0) ∙ ap (λ fs. cond (q e.0) (e ∷ fs) fs) (part_same p q h es)
+
+blocks_same : (registry : Entries) (f g : List ℕ → Option Sizes) → ((n : List ℕ) → f n ≡ g n) → (es : Entries) → flat_map (block_text registry f) es ≡ flat_map (block_text registry g) es
+blocks_same registry f g h [] = refl
+blocks_same registry f g h (e ∷ es) =
+    ap (λ o. (header e.0 e.1 o (is_used registry e.0) ++ container_lines e.1) ++ flat_map (block_text registry f) es) (h e.0)
+    ∙ ap (λ ls. block_text registry g e ++ ls) (blocks_same registry f g h es)
+
+pub same_lines_holds : SameLines
+same_lines_holds registry p q f g h k =
+    ap (flat_map (block_text registry f)) (part_same p q h registry) ∙ blocks_same registry f g k (part q registry)

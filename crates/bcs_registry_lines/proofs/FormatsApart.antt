@@ -9,7 +9,7 @@ use Rattle.bcs_registry_places.specs.RuleBreaks.{names_among, names_in}
 use Rattle.bcs_registry_uses.specs.Uses.{is_among}
 use Rattle.bcs_registry_uses.proofs.Among.{among_back, among_front, one_among}
 use Rattle.bcs_registry_text.specs.Shaped.{format_named}
-use Rattle.bcs_registry_lines.specs.FormatLaws.{OneFormat}
+use Rattle.bcs_registry_lines.specs.ReadingLaws.{OneFormat}
 use Rattle.bcs_registry_lines.specs.FormatText.{begins_with_letter, format_text, format_texts, further_texts, is_letter, is_letter_or_digit, is_plain, listed, name_text}
 use Rattle.bcs_registry_lines.proofs.EscapedApart.{first_of, same_first, same_rest}
 use Rattle.bcs_registry_lines.proofs.Tokens.{are_letters, begins_first, name_same, number_same, plain_begins, plain_text, quoted_text, span_same, stops, word_no_name}

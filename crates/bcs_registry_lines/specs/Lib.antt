@@ -1,4 +1,4 @@
 pub mod FormatText
 pub mod LineText
 pub mod Selected
-pub mod FormatLaws
+pub mod ReadingLaws

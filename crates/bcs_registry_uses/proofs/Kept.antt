@@ -1,7 +1,6 @@
 -- A part of a map, and of its mirror.
 use Rattle.std.proofs.Common.{◌≡◌, ℕ, List, [], ◌∷◌, String, Global, Bool, true, false, cond, string_bytes, refl, ap}
 use Rattle.std.specs.List.{filter}
-use Rattle.bcs_registry_formats.specs.Container.{Container}
 use Rattle.bcs_registry_formats.specs.View.{entry_of, entries_of}
 use Rattle.bcs_registry_formats.specs.declared.container.Container as declared
 use Rattle.bcs_registry_uses.specs.Uses.{part}

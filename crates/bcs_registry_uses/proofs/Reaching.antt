@@ -1,10 +1,9 @@
 -- Names that are reached, and what a container stands on.
-use Rattle.std.proofs.Common.{◌≡◌, ◌↔◌, ℕ, ◌+◌, ◌≤◌, ◌<◌, List, [], ◌∷◌, ◌++◌, length, get_or, take, String, Global, Option, Some, None, is_some, option_map, Bool, true, false, ◌||◌, cond, map, string_bytes, inl, inr, refl, sym, ap, subst, ◌∙◌, append_assoc, arith}
+use Rattle.std.proofs.Common.{◌≡◌, ℕ, ◌+◌, ◌≤◌, ◌<◌, List, [], ◌∷◌, ◌++◌, length, get_or, take, String, Global, Option, Some, None, is_some, option_map, Bool, true, false, ◌||◌, cond, string_bytes, inl, inr, refl, sym, ap, subst, ◌∙◌, append_assoc, arith}
 use Rattle.std.specs.Borrow.{Bor}
 use Rattle.std.specs.BTreeMap.{is_at}
 use Rattle.std.specs.BTreeSet.{Updates, contains_text}
 use Rattle.std.specs.Cmp.Lexicographic.{slice_cmp}
-use Rattle.std.specs.List.{list_any}
 use Rattle.std.specs.Map.{lookup}
 use Rattle.std.specs.Ordering.{nat_cmp}
 use Rattle.std.specs.Option.{option_copied, option_map_or}
@@ -21,7 +20,7 @@ use Rattle.bcs_registry_formats.proofs.Lookup.{find-container}
 use Rattle.bcs_registry_uses.specs.Reached.{AllStandOn, AreOne, IsClosed, Reaches, names_at, reached_names, texts}
 use Rattle.bcs_registry_uses.specs.Uses.{StandsOn, itself, further, Uses, is_among, names_of}
 use Rattle.bcs_registry_uses.specs.declared.reached.Reached.{Reached}
-use Rattle.bcs_registry_uses.proofs.Among.{among_back, among_cases, among_front, among_one, one_among}
+use Rattle.bcs_registry_uses.proofs.Among.{among_back, among_cases, among_front, among_one}
 
 -- ---- rows of names
 

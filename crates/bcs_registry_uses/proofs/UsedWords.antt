@@ -1,15 +1,13 @@
 -- What containers use, in words.
-use Rattle.std.proofs.Common.{◌≡◌, ◌≢◌, ◌↔◌, ℕ, List, [], ◌∷◌, Bool, true, false, not, ◌&&◌, true≢false, refl, sym, ap, ◌∙◌}
-use Rattle.std.specs.List.{Contains, list_any}
+use Rattle.std.proofs.Common.{◌≡◌, ◌≢◌, ℕ, List, Bool, true, false, not, true≢false, refl, sym, ap, ◌∙◌}
 use Rattle.std.specs.Str.{bytes_eq}
 use Rattle.std.proofs.lemmas.Bool.{and_from, and_parts, false_from_ne_true}
 use Rattle.std.proofs.lemmas.Cmp.{nat_list_eq_equiv}
 use Rattle.std.proofs.lemmas.List.Folds.{Any-from_list_any, list_any-from_Any}
 use Rattle.std.proofs.lemmas.Map.Views.{Contains-from_any, list_any-from_Contains}
 use Rattle.std.proofs.lemmas.Slice.Eq.{bytes_eq-Decides}
-use Rattle.bcs_registry_formats.specs.Container.{Container, Entries}
 use Rattle.bcs_registry_uses.specs.UseLaws.{OneStanding, UsedByAnother}
-use Rattle.bcs_registry_uses.specs.Uses.{is_among, is_used, names_of, uses_another}
+use Rattle.bcs_registry_uses.specs.Uses.{is_among, names_of, uses_another}
 
 other_name : (m n : List ℕ) → not (bytes_eq m n) ≡ true → m ≢ n
 other_name m n h e = true≢false (sym (ap (bytes_eq m) (sym e) ∙ nat_list_eq_equiv.refl m) ∙ unlike (bytes_eq m n) h)

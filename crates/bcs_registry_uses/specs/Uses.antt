@@ -1,5 +1,5 @@
 -- Which containers of a registry name which, and on which each of them stands.
-use Rattle.std.specs.Prelude.{◌≡◌, ℕ, List, Option, Some, is_some, Bool, true, not, ◌&&◌}
+use Rattle.std.specs.Prelude.{◌≡◌, ℕ, List, Some, is_some, Bool, true, not, ◌&&◌}
 use Rattle.std.specs.List.{filter, flat_map, list_any}
 use Rattle.std.specs.Str.{bytes_eq}
 use Rattle.bcs_registry_formats.specs.Container.{Container, Entries, container_at}

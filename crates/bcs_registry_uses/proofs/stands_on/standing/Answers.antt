@@ -1,5 +1,4 @@
-use Rattle.std.proofs.Common.{◌≡◌, is_some, true, ap, sym, refl, true≢false, ◌∙◌}
-use Rattle.bcs_registry_formats.specs.Container.{container_at}
+use Rattle.std.proofs.Common.{is_some, ap, sym, refl, true≢false, ◌∙◌}
 use Rattle.bcs_registry_formats.specs.View.{entries_of}
 use Rattle.bcs_registry_formats.proofs.KnownNames.{knows_name}
 use Rattle.bcs_registry_uses.proofs.Among.{one_among}
