@@ -1,7 +1,8 @@
 pub mod Sums
+pub mod SameSizes
+pub mod SizeEquality
 pub mod Gathered
 pub mod RoundSteps
-pub mod SameMaps
 pub mod Within
 pub mod Bounded
 pub mod Attained

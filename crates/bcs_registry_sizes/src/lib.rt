@@ -6,6 +6,7 @@ mod containers;
 mod formats;
 pub mod laws;
 mod rounds;
+mod settling;
 mod sizes;
 
 pub use rounds::container_sizes;
