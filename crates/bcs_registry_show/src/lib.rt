@@ -2,7 +2,7 @@
 #![tactic(auto)]
 
 mod form;
-mod json;
+mod as_json;
 pub mod laws;
 mod show;
 
