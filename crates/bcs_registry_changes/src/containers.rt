@@ -6,10 +6,10 @@ ghost use Rattle.bcs_registry_changes.specs.Search.{container_changes, at_name, 
 ghost use Rattle.bcs_registry_changes.specs.View.{difference_of};
 
 use crate::change::{Change, Difference};
-use crate::equality::{are_same_fields, are_same_formats, is_same_format};
 use crate::side::{Side, side_by_side};
 use crate::variants::push_variant_changes;
 use bcs_registry_formats::Container;
+use bcs_registry_formats::equality::{are_same_fields, are_same_formats, is_same_format};
 use std::alloc::{AllocError, Global};
 use std::collections::BTreeMap;
 

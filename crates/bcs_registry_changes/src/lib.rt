@@ -3,7 +3,6 @@
 
 mod change;
 mod containers;
-mod equality;
 pub mod laws;
 mod lines;
 mod side;

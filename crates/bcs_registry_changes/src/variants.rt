@@ -10,8 +10,8 @@ ghost use Rattle.bcs_registry_changes.specs.Differences as spec;
 ghost use Rattle.bcs_registry_changes.specs.View.{difference_of};
 
 use crate::change::{Change, Difference};
-use crate::equality::is_same_payload;
 use crate::side::{Side, side_by_side};
+use bcs_registry_formats::equality::is_same_payload;
 use bcs_registry_formats::{Named, VariantFormat};
 use std::alloc::AllocError;
 use std::collections::BTreeMap;

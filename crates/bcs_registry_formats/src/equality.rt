@@ -7,6 +7,7 @@ use crate::format::Format;
 use crate::named::Named;
 use crate::variant_format::VariantFormat;
 
+/// Whether two formats are one.
 #[cycle(equality)]
 pub fn is_same_format(one: &Format, other: &Format) -> bool
     ensures { result ≡ same_shape (shape_of one.now) (shape_of other.now) }
@@ -46,6 +47,7 @@ pub fn is_same_format(one: &Format, other: &Format) -> bool
     }
 }
 
+/// Whether two rows have the same formats in the same order.
 #[cycle(equality)]
 pub fn are_same_formats(ones: &[Format], others: &[Format]) -> bool
     ensures { result ≡ same_shapes (formats_shapes ones.now) (formats_shapes others.now) }
@@ -61,6 +63,7 @@ pub fn are_same_formats(ones: &[Format], others: &[Format]) -> bool
     true
 }
 
+/// Whether two rows have the same fields in the same order, by name and format.
 pub fn are_same_fields(ones: &[Named<Format>], others: &[Named<Format>]) -> bool
     ensures { result ≡ same_fields (map field_of ones.now) (map field_of others.now) }
 {
@@ -75,6 +78,7 @@ pub fn are_same_fields(ones: &[Named<Format>], others: &[Named<Format>]) -> bool
     true
 }
 
+/// Whether two payloads are one.
 pub fn is_same_payload(one: &VariantFormat, other: &VariantFormat) -> bool
     ensures { result ≡ same_payload (payload_of one.now) (payload_of other.now) }
 {

@@ -3,7 +3,7 @@
 
 mod container;
 pub mod distinct;
-mod equality;
+pub mod equality;
 mod fault;
 mod format;
 pub mod growth;

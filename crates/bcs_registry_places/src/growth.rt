@@ -8,8 +8,10 @@ ghost use Rattle.bcs_registry_places.specs.GrowthPlaces.{difference_of, place_of
 ghost use Rattle.bcs_registry_places.specs.GrowthSearch.{first_given, variant_difference, variant_beside, container_difference, container_beside};
 
 use crate::change::Change;
-use crate::equality::{are_same_fields, are_same_formats, is_same_format, is_same_payload};
 use bcs_registry::Registry;
+use bcs_registry_formats::equality::{
+    are_same_fields, are_same_formats, is_same_format, is_same_payload,
+};
 use bcs_registry_formats::{Container, Named, VariantFormat};
 use std::collections::BTreeMap;
 

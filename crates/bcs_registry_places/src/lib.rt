@@ -4,7 +4,6 @@
 mod breach;
 mod change;
 mod containers;
-mod equality;
 mod format_rule;
 mod formats;
 mod growth;
