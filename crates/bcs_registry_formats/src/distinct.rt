@@ -1,6 +1,7 @@
 //! Whether the names that must differ do.
 ghost use Rattle.std.specs.Prelude.{◌≡◌, map, IfOk};
-ghost use Rattle.std.specs.List.{list_all, flat_map};
+ghost use Rattle.std.specs.List.{list_all, list_any, flat_map};
+ghost use Rattle.std.specs.Str.{bytes_eq};
 ghost use Rattle.bcs_registry_formats.specs.View.{field_of, payload_of, choice_of, container_of, entries_of};
 ghost use Rattle.bcs_registry_formats.specs.WellFormed.{are_distinct, names_differ, container_names, payload_names};
 
@@ -10,6 +11,9 @@ use crate::named::Named;
 use crate::variant_format::VariantFormat;
 use std::alloc::{AllocError, Global};
 use std::collections::{BTreeMap, BTreeSet};
+
+/// Up to so many fields are told apart pair by pair, which takes no memory.
+const FEW_NAMES: usize = 8;
 
 /// Whether names are distinct within each struct, struct payload and enum.
 #[tactic(auto, using(crate::proofs::Inside::name_rules))]
@@ -70,6 +74,39 @@ fn has_distinct_fields(alloc: Global, payload: &VariantFormat) -> Result<bool, A
 }
 
 fn are_distinct_fields(alloc: Global, fields: &[Named<Format>]) -> Result<bool, AllocError>
+    ensures { IfOk result (λ b. b ≡ are_distinct (map (λ f. f.0) (map field_of fields.now))) }
+{
+    if fields.len() <= FEW_NAMES {
+        Ok(differ_pair_by_pair(fields))
+    } else {
+        differ_by_set(alloc, fields)
+    }
+}
+
+fn differ_pair_by_pair(fields: &[Named<Format>]) -> bool
+    ensures { result ≡ are_distinct (map (λ f. f.0) (map field_of fields.now)) }
+{
+    for (i, field) in fields.iter().enumerate() {
+        if is_among(field.name.as_str(), &fields[i + 1..]) {
+            return false;
+        }
+    }
+    true
+}
+
+// Whether one of the fields has the name.
+fn is_among(name: &str, fields: &[Named<Format>]) -> bool
+    ensures { result ≡ list_any (bytes_eq name.now) (map (λ f. f.0) (map field_of fields.now)) }
+{
+    for field in fields {
+        if name == field.name.as_str() {
+            return true;
+        }
+    }
+    false
+}
+
+fn differ_by_set(alloc: Global, fields: &[Named<Format>]) -> Result<bool, AllocError>
     ensures { IfOk result (λ b. b ≡ are_distinct (map (λ f. f.0) (map field_of fields.now))) }
 {
     let mut seen = BTreeSet::new(alloc);

@@ -2,7 +2,7 @@ use Rattle.std.proofs.Common.{◌≡◌, map, drop, string_bytes}
 use Rattle.bcs_registry_formats.specs.View.{field_of}
 use Rattle.bcs_registry_formats.specs.WellFormed.{are_distinct}
 use Rattle.bcs_registry_formats.proofs.DistinctNames.{all_new, has_name}
-use Rattle.bcs_registry_formats.proofs.distinct.are_distinct_fields.Given as goal
+use Rattle.bcs_registry_formats.proofs.distinct.differ_by_set.Given as goal
 
 abbrev pub invariant-loop-field : goal.invariant-loop-field
 invariant-loop-field l =

@@ -2,7 +2,7 @@ use Rattle.std.proofs.Common.{string_bytes, ap, ◌∙◌}
 use Rattle.bcs_registry_formats.specs.WellFormed.{are_distinct}
 use Rattle.bcs_registry_formats.proofs.Inside.{field_names-fields}
 use Rattle.bcs_registry_formats.proofs.DistinctNames.{are_distinct-from_none, all_new-step}
-use Rattle.bcs_registry_formats.proofs.distinct.are_distinct_fields.Goals as goal
+use Rattle.bcs_registry_formats.proofs.distinct.differ_by_set.Goals as goal
 
 pub loop-field-init : goal.loop-field-init
 loop-field-init c = ap are_distinct (field_names-fields c.args.fields.now) ∙ are_distinct-from_none c.new-seen.result _ c.new-seen.ensures.empty
