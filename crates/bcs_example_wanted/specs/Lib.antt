@@ -1,0 +1,6 @@
+pub mod Full
+pub mod Wanted
+pub mod Chosen
+pub mod Part
+pub mod Refused
+pub mod Laws
