@@ -1,12 +1,10 @@
--- What is promised of full examples, and of those that are wished for.
-use Rattle.std.specs.Prelude.{◌≡◌, ◌↔◌, ℕ, List, Some, None}
+-- What is promised of examples that are wished for.
+use Rattle.std.specs.Prelude.{◌≡◌, ℕ, Some}
 use Rattle.bcs_registry_formats.specs.Shape.{Shape}
 use Rattle.bcs_registry_formats.specs.Container.{Entries, of}
 use Rattle.bcs_registry_formats.specs.Ranges.{IsOrderly}
 use Rattle.bcs_value_tree.specs.Tree.{Tree}
-use Rattle.bcs_example.specs.Example.{example}
 use Rattle.bcs_example.specs.Ready.{IsReady}
-use Rattle.bcs_example_wanted.specs.Full.{full}
 use Rattle.bcs_example_wanted.specs.Wanted.{wished}
 use Rattle.bcs_example_wanted.specs.declared.wish.Wish.{Wish}
 
@@ -14,8 +12,3 @@ use Rattle.bcs_example_wanted.specs.declared.wish.Wish.{Wish}
 abbrev pub WishedIsReady : Type 0
 WishedIsReady =
     (registry : Entries) → IsOrderly registry → (d : ℕ) (wish : Wish) (s : Shape) (t : Tree) → wished registry d wish s ≡ Some t → IsReady registry d (of s) t
-
--- there is a full example exactly where there is an example, whatever is open
-abbrev pub FullWhereExample : Type 0
-FullWhereExample =
-    (registry : Entries) → IsOrderly registry → (d : ℕ) (opened : List (List ℕ)) (s : Shape) → full registry d opened s ≡ None ↔ example registry d s ≡ None

@@ -1,4 +1,3 @@
-pub mod Full
 pub mod Wanted
 pub mod Chosen
 pub mod Part

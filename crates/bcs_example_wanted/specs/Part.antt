@@ -1,5 +1,5 @@
 -- What an example is made of: a format, or what a variant carries.
-use Rattle.std.specs.Prelude.{◌≡◌, ◌≤◌, ◌<◌, ℕ, List, [], ◌∷◌, Option, Some, None}
+use Rattle.std.specs.Prelude.{◌≡◌, ◌≤◌, ◌<◌, ℕ, Option, Some, None}
 use Rattle.bcs_registry_formats.specs.Container.{payload_shape}
 use Rattle.bcs_registry_formats.specs.Shape.{Shape}
 use Rattle.bcs_registry_formats.specs.View.{payload_of, shape_of}
@@ -13,12 +13,7 @@ use Rattle.bcs_example_wanted.specs.declared.part.Part.TheVariants.{Format, Payl
 
 abbrev pub part_shape : Part → Shape
 part_shape (Format f) = shape_of f.now
-part_shape (Payload n p) = payload_shape (payload_of p.now)
-
--- the containers that are open round it
-abbrev pub part_opened : Part → List (List ℕ)
-part_opened (Format f) = []
-part_opened (Payload n p) = n.now ∷ []
+part_shape (Payload p) = payload_shape (payload_of p.now)
 
 -- the value is what is given, and has no more nodes than these
 abbrev pub Makes : Option Tree → ℕ → Value → Type 0

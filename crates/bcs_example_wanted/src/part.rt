@@ -19,11 +19,11 @@ use bcs_registry::{Format, Registry, VariantFormat};
 use bcs_value::Value;
 use std::alloc::{AllocError, Global};
 
-/// What an example is made of: a format, or what a variant of the enum of this name carries.
+/// What an example is made of: a format, or what a variant carries.
 #[derive(Clone, Copy)]
 pub enum Part<'a> {
     Format(&'a Format),
-    Payload(&'a str, &'a VariantFormat),
+    Payload(&'a VariantFormat),
 }
 
 /// Notes the containers that a value of the part itself can't do without.
@@ -34,7 +34,7 @@ pub fn note_part<'a>(part: Part<'a>, names: &mut Names<'a>) -> Result<(), AllocE
 {
     match part {
         Part::Format(format) => note_format(format, names),
-        Part::Payload(_, payload) => note_payload(payload, names),
+        Part::Payload(payload) => note_payload(payload, names),
     }
 }
 
@@ -44,7 +44,7 @@ pub fn part_nodes(part: Part<'_>, ranks: &Ranks<'_>, depth: u32) -> Option<u64>
 {
     match part {
         Part::Format(format) => format_nodes(format, ranks, depth),
-        Part::Payload(_, payload) => payload_nodes(payload, ranks, depth),
+        Part::Payload(payload) => payload_nodes(payload, ranks, depth),
     }
 }
 
@@ -64,6 +64,6 @@ pub fn fill_part(
 {
     match part {
         Part::Format(format) => fill(alloc, registry, format, ranks, depth, slot),
-        Part::Payload(_, payload) => fill_payload(alloc, registry, payload, ranks, depth, slot),
+        Part::Payload(payload) => fill_payload(alloc, registry, payload, ranks, depth, slot),
     }
 }

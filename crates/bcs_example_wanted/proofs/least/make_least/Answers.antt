@@ -21,5 +21,5 @@ pub returns-clause-made : goal.returns-clause-made
 returns-clause-made c = (
   c.in_ok-fill_part.ensures,
   few_here c.args.registry.now c.args.depth c.in_ok-ranks.ranks.found (part_shape c.args.part) c.in_ok-ranks.ensures.agrees c.part_nodes.result c.in-Some.needed c.args.nodes
-  c.part_nodes.ensures c.in-Some.is (omega (arith, c.if-needed-from.false, c.from.ensures)) (omega (arith, c.ranges.nodes.fits)) (tree_of c.fill_part.new.slot) c.in_ok-fill_part.ensures,
+      c.part_nodes.ensures c.in-Some.is (omega (arith, c.if-needed-from.false, c.from.ensures)) (omega (arith, c.ranges.nodes.fits)) (tree_of c.fill_part.new.slot) c.in_ok-fill_part.ensures,
 )

@@ -1,10 +1,9 @@
-use Rattle.std.proofs.Common.{◌≡◌, Some, map, sym, ap, ◌∙◌}
+use Rattle.std.proofs.Common.{◌≡◌, map, sym, ap, ◌∙◌}
 use Rattle.bcs_registry_formats.specs.Shape as shape
 use Rattle.bcs_registry_formats.specs.Container.{content, one_of, content_at, variant_number}
 use Rattle.bcs_registry_formats.specs.View.{choice_of, container_of}
 use Rattle.bcs_registry_formats.proofs.FormatViews as views
 use Rattle.bcs_decode_spec.proofs.LookedUp.{choice_found, choice_missing, content_found}
-use Rattle.bcs_example_wanted.specs.Chosen.{IsChosen}
 use Rattle.bcs_example_wanted.specs.Wanted.{carried}
 use Rattle.bcs_example_wanted.proofs.Variants.{number_found}
 use Rattle.bcs_example_wanted.proofs.variant.find_variant.Goals as goal
