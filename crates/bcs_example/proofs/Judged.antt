@@ -39,8 +39,11 @@ module _ (registry : Entries) (d : ℕ) (m : RankMap) (s : Shape) (agrees : Agre
   lost None h = refl
   lost (Some t) h = absurd cc
 
+  pub none_here : (w : Option ℕ) → w ≡ shape_weight (told m d) s → w ≡ None → example registry d s ≡ None
+  none_here w is none = lost (example registry d s) (sym weighed ∙ sym is ∙ none)
+
   pub no_value_here : IsOrderly registry → (w : Option ℕ) → w ≡ shape_weight (told m d) s → w ≡ None → HasNoValue registry d s
-  no_value_here orderly w is none = (none_without_value registry orderly d s).0 (lost (example registry d s) (sym weighed ∙ sym is ∙ none))
+  no_value_here orderly w is none = (none_without_value registry orderly d s).0 (none_here w is none)
 
   pub example_here : (w : Option ℕ) (n : ℕ) → w ≡ shape_weight (told m d) s → w ≡ Some n → (t : Tree) × (example registry d s ≡ Some t) × (capped (nodes t) ≡ n)
   example_here w n is some = found (example registry d s) n (sym weighed ∙ sym is ∙ some)
@@ -54,16 +57,20 @@ module _ (registry : Entries) (d : ℕ) (m : RankMap) (s : Shape) (agrees : Agre
       let same = e.2 in
       (e.0, e.1, omega (arith, same, more))
 
-  pub sound_here : IsOrderly registry → (limits : Bounds) → limits.depth ≡ d → limits.nodes < 4294967296 → (w : Option ℕ) (n : ℕ) → w ≡ shape_weight (told m d) s → w ≡ Some n → n ≤ limits.nodes → (t : Tree) → example registry d s ≡ Some t → IsSound registry limits s t
-  sound_here orderly limits deep fits w n is some few t made =
-      let h = example_is_ready registry orderly d s t made in
+  pub few_here : (w : Option ℕ) (n limit : ℕ) → w ≡ shape_weight (told m d) s → w ≡ Some n → n ≤ limit → limit < 4294967296 → (t : Tree) → example registry d s ≡ Some t → nodes t ≤ limit
+  few_here w n limit is some few fits t made =
       let e = example_here w n is some in
       let same : nodes e.0 ≡ nodes t = ap nodes (same_Some e.0 t (sym e.1 ∙ made)) in
       let counted = e.2 in
+      omega (arith, same, counted, few, fits)
+
+  pub sound_here : IsOrderly registry → (limits : Bounds) → limits.depth ≡ d → limits.nodes < 4294967296 → (w : Option ℕ) (n : ℕ) → w ≡ shape_weight (told m d) s → w ≡ Some n → n ≤ limits.nodes → (t : Tree) → example registry d s ≡ Some t → IsSound registry limits s t
+  sound_here orderly limits deep fits w n is some few t made =
+      let h = example_is_ready registry orderly d s t made in
       record {
         fit = h.fit;
         distinct = h.distinct;
         depth_holds = subst (λ k. depth t ≤ k) (sym deep) h.depth_holds;
-        nodes_hold = omega (arith, same, counted, few, fits);
+        nodes_hold = few_here w n limits.nodes is some few fits t made;
         lengths = h.lengths;
       }

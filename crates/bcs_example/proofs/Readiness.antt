@@ -200,7 +200,7 @@ module _ (r : Entries) where
   deeper : (d : ℕ) (f : Content) (t : Tree) → IsReady r d f t → IsReady r (suc d) f t
   deeper d f t h = record { fit = h.fit; distinct = h.distinct; depth_holds = omega (arith, h.depth_holds); lengths = h.lengths; canonical = h.canonical }
 
-  opened : (d : ℕ) (n : List ℕ) (t : Tree) → IsReady r d (content_at n r) t → IsReady r (suc d) (of (shape.name n)) (tree.named t)
+  pub opened : (d : ℕ) (n : List ℕ) (t : Tree) → IsReady r d (content_at n r) t → IsReady r (suc d) (of (shape.name n)) (tree.named t)
   opened d n t h = record { fit = h.fit; distinct = h.distinct; depth_holds = omega (arith, h.depth_holds); lengths = h.lengths; canonical = h.canonical }
 
   named_ready : IsOrderly r → (d : ℕ) (n : List ℕ) → IfSome (named_example r d n) (IsReady r d (of (shape.name n)))

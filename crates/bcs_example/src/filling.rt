@@ -166,7 +166,7 @@ fn fill_content(
 
 /// The example of what a variant carries.
 #[cycle(filling)]
-fn fill_payload(
+pub fn fill_payload(
     alloc: Global,
     registry: &Registry,
     payload: &VariantFormat,

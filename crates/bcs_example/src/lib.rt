@@ -3,15 +3,15 @@
 
 mod example;
 mod fault;
-mod filling;
+pub mod filling;
 pub mod laws;
-mod names;
-mod noting;
-mod placing;
-mod ranks;
-mod rounds;
+pub mod names;
+pub mod noting;
+pub mod placing;
+pub mod ranks;
+pub mod rounds;
 mod waiting;
-mod weighing;
+pub mod weighing;
 
 pub use example::example_value;
 pub use fault::ExampleFault;

@@ -70,7 +70,7 @@ fn note_fields<'a>(fields: &'a [Named<Format>], names: &mut Names<'a>) -> Result
 }
 
 /// Notes those that what a variant carries can't do without.
-fn note_payload<'a>(payload: &'a VariantFormat, names: &mut Names<'a>) -> Result<(), AllocError>
+pub fn note_payload<'a>(payload: &'a VariantFormat, names: &mut Names<'a>) -> Result<(), AllocError>
     requires { AreOne names.old }
     ensures noted { OnOk result (Noted names.old names.new) }
     ensures needed { OnOk result (needs_only (is_among (texts names.new)) (payload_shape (payload_of payload.now)) ≡ true) }

@@ -99,7 +99,7 @@ fn fields_nodes(fields: &[Named<Format>], ranks: &Ranks<'_>, depth: u32) -> Opti
 }
 
 /// The nodes of the example of what a variant carries.
-fn payload_nodes(payload: &VariantFormat, ranks: &Ranks<'_>, depth: u32) -> Option<u64>
+pub fn payload_nodes(payload: &VariantFormat, ranks: &Ranks<'_>, depth: u32) -> Option<u64>
     ensures { result ≡ shape_weight (told ranks.now.found depth) (payload_shape (payload_of payload.now)) }
 {
     match payload {

@@ -1,0 +1,3 @@
+pub mod Variants
+pub mod Wishes
+pub mod Around
