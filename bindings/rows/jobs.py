@@ -7,6 +7,7 @@ from driver import Answer, Driver, Question, Refused, expect, stop_of
 from words import Unsayable, bytes_of, bytes_of_digits, format_of
 
 FORMS = {"--ways": "ways", "--paths": "paths", "--tree": "tree", "--json": "json"}
+COMMANDS_BEYOND_CALLS = {"show", "example"}
 OPTIONS = ("--raw", "--front", "--lines", "--color", "--list", *FORMS)
 BEYOND_CALLS = {"--lines", "--color", "--list"}
 
@@ -49,6 +50,8 @@ def debug(output: bytes) -> str:
 
 
 def job(driver: Driver, name: str, words: list[str]) -> Printed:
+    if name in COMMANDS_BEYOND_CALLS:
+        raise Unsayable
     if name == "check":
         Question(driver, bytes_of(words[0]), b'"UNIT"', []).ask("check")
         return Printed(0, b"")

@@ -5,6 +5,8 @@ pub use Rattle.bcs_registry.specs.Grows
 pub use Rattle.bcs_registry.specs.Text
 pub use Rattle.bcs_registry_changes.specs.Differences
 pub use Rattle.bcs_registry_changes.specs.DifferenceText
+pub use Rattle.bcs_registry_show.specs.Shows
+pub use Rattle.bcs_registry_sizes.specs.Extremes
 pub use Rattle.bcs_value.specs.Tree
 pub use Rattle.bcs_value.specs.Fits
 pub use Rattle.bcs_value.specs.Same
@@ -24,6 +26,9 @@ pub use Rattle.bcs_decode_source_scan.specs.Scanned
 pub use Rattle.bcs_example.specs.Example
 pub use Rattle.bcs_example.specs.Ready
 pub use Rattle.bcs_example.specs.Refused as RefusedExample
+pub use Rattle.bcs_example_wanted.specs.Wanted
+pub use Rattle.bcs_example_wanted.specs.Refused as RefusedWish
+pub use Rattle.bcs_example_text.specs.ExampleText
 pub use Rattle.bcs_explain.specs.Piece
 pub use Rattle.bcs_explain.specs.Pieces
 pub use Rattle.bcs_explain.specs.Told

@@ -23,7 +23,8 @@ use Rattle.hex.specs.Hex.{decode_of}
 use Rattle.hex.specs.declared.error.FromHexError.{FromHexError}
 use Rattle.hex.specs.declared.error.FromHexError.TheVariants.{OutOfMemory}
 use Rattle.bcs_json_spec.specs.FaultNames.{json_fault_name}
-use Rattle.bcs_tool_answers.specs.Answers.{Answers, AnswersTexts, IsAsked, IsOneText, Lists, ScanStops, line_of, lists, checked, compared, damaged, decoded, different, encoded, equal, explained, explained_status, explained_text, first_refused, found, front_stopped, grown, no_bytes, normalised, nowhere, refusal_line, refused, refused_early, scan_stopped, scanned, second_refused, stop_line, stopped, too_nested}
+use Rattle.bcs_tool_answers.specs.Answers.{Answers, AnswersTexts, IsAsked, IsOneText, Lists, ScanStops, line_of, lists, checked, compared, damaged, decoded, different, encoded, equal, exampled, explained, explained_status, explained_text, first_refused, found, front_stopped, grown, no_bytes, no_example, normalised, nowhere, refusal_line, refused, refused_early, scan_stopped, scanned, second_refused, stop_line, stopped, too_nested}
+use Rattle.bcs_tool_answers.specs.Answers as answers
 use Rattle.bcs_tool_answers.specs.Places as places
 use Rattle.bcs_tool_answers.specs.Places.{IsAnswer, Places, Prints, TellsPair, TellsStop, TellsText, TellsWords}
 use Rattle.bcs_tool_answers.specs.declared.answer.Answer.{Answer}
@@ -34,7 +35,7 @@ use Rattle.bcs_tool_answers.specs.declared.job_fault.JobFault.TheVariants.{BadPa
 use Rattle.bcs_tool_files.specs.Files.{size_limit}
 use Rattle.bcs_tool_files.specs.declared.work.Work.{Work}
 use Rattle.bcs_tool_line.specs.declared.command.Command.{Command}
-use Rattle.bcs_tool_line.specs.declared.command.Command.TheVariants.{Check, Grows, Encode, Decode, Explain, Normalise, Same, Part, Scan}
+use Rattle.bcs_tool_line.specs.declared.command.Command.TheVariants.{Check, Grows, Show, Example, Encode, Decode, Explain, Normalise, Same, Part, Scan}
 
 same_print : (work : Work) (input : List ℕ) (s t : ℕ) (p q : List ℕ) → t ≡ s → q ≡ p → Answers work input s p → Answers work input t q
 same_print work input s t p q same_status same_output is =
@@ -160,6 +161,8 @@ refuses_part work BadPath h = absurd h
 pub refuses_formatted : (asked : Command) (work : Work) (fault : JobFault) → works_on_values asked ≡ true → RefusesFormatted work fault → RefusesAt asked work fault
 refuses_formatted Check work fault on h = cc
 refuses_formatted Grows work fault on h = cc
+refuses_formatted Show work fault on h = cc
+refuses_formatted Example work fault on h = cc
 refuses_formatted Encode work fault on h = h
 refuses_formatted Decode work fault on h = h
 refuses_formatted Explain work fault on h = h
@@ -194,6 +197,9 @@ pub status_below : (work : Work) (input : List ℕ) (s : ℕ) (p : List ℕ) →
 status_below work input s p (refused_early f l h a) = omega arith
 status_below work input s p (checked r k h) = omega arith
 status_below work input s p (grown o n l k a b h c) = omega arith
+status_below work input s p (answers.shown r t k h n w) = omega arith
+status_below work input s p (exampled r f t a h) = omega arith
+status_below work input s p (no_example r f e a h) = omega arith
 status_below work input s p (encoded r f b k h) = omega arith
 status_below work input s p (normalised r f t k h) = omega arith
 status_below work input s p (refused c r f e o k h) = omega arith

@@ -5,6 +5,7 @@ pub mod JudgingLemmas
 pub mod Listings
 pub mod OneRefusal
 pub mod OnePair
+pub mod OneExample
 pub mod OneKind
 pub mod OneAnswer
 pub mod SomeRefusal

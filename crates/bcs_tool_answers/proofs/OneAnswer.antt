@@ -4,6 +4,9 @@ use Rattle.bcs_registry_formats.specs.Container.{Entries}
 use Rattle.bcs_registry_formats.specs.Grows.{Grows}
 use Rattle.bcs_registry_formats.specs.Ranges.{IsOrderly}
 use Rattle.bcs_registry_formats.specs.Shape.{Shape}
+use Rattle.bcs_registry_show.specs.Shows.{NamesNone, ShowsRegistry}
+use Rattle.bcs_registry_show.proofs.ShowLaws.{one_text_holds}
+use Rattle.bcs_example_text.specs.ExampleText.{example_fault_name}
 use Rattle.bcs_encode_spec.specs.Plain.{plain}
 use Rattle.bcs_decode_parts.specs.Parts.{Step}
 use Rattle.bcs_registry_spec.proofs.OneText.{same_registry}
@@ -15,14 +18,15 @@ use Rattle.bcs_tool_line.specs.declared.command.Command.TheVariants.{Check, Enco
 use Rattle.bcs_tool_line.specs.declared.command.Command.TheVariants as command
 use Rattle.bcs_tool_answers.specs.AnswerLaws.{OneAnswer}
 use Rattle.bcs_json_spec.specs.FaultNames.{json_fault_name}
-use Rattle.bcs_tool_answers.specs.Answers.{Answers, AnswersTexts, IsAsked, Lists, count_line, line_of, lists, printed, printed_none, refusal_line, stop_end, stop_line}
+use Rattle.bcs_tool_answers.specs.Answers.{Answers, AnswersTexts, IsAsked, Lists, count_line, line_of, lists, printed, printed_none, refusal_line, registry_form, stop_end, stop_line}
 use Rattle.bcs_tool_answers.specs.Answers as answer
-use Rattle.bcs_tool_answers.specs.Judging.{IsFormat, IsPath, IsRegistry, RefusesAt, RefusesFormatted, job_fault_name}
+use Rattle.bcs_tool_answers.specs.Judging.{IsFormat, IsPath, IsRegistry, RefusesAt, RefusesFormatted, job_fault_name, name_of}
 use Rattle.bcs_tool_answers.specs.declared.job_fault.JobFault.{JobFault}
 use Rattle.bcs_tool_answers.proofs.Listings.{one_listing}
+use Rattle.bcs_tool_answers.proofs.OneExample.{Exampled, one_exampled}
 use Rattle.bcs_tool_answers.proofs.OneKind.{Decoded, Encoded, Explained, Normalised, Parted, Scanned, one_decoded, one_encoded, one_explained, one_normalised, one_parted, one_scanned}
 use Rattle.bcs_tool_answers.proofs.OnePair.{Agrees, one_pair}
-use Rattle.bcs_tool_answers.proofs.OneRefusal.{not_checked, not_formatted, not_grown, not_parted, one_format_word, one_refusal}
+use Rattle.bcs_tool_answers.proofs.OneRefusal.{not_checked, not_formatted, not_grown, not_parted, not_shown, one_format_word, one_refusal}
 
 module _ (work : Work) (input : List ℕ) where
   -- ---- what is answered by each command
@@ -37,6 +41,9 @@ module _ (work : Work) (input : List ℕ) where
   Late Check s p = (r : Entries) × IsRegistry work.registry.items r × (s ≡ 0) × (p ≡ count_line (length r))
   Late command.Grows s p = (r : Entries) × (n : Entries) × IsRegistry work.registry.items r × IsRegistry work.second.items n × Grows r n
       × (list : List ℕ) × Lists work.list work list × (s ≡ 0) × (p ≡ list ++ line_of (codes "grows"))
+  Late command.Show s p = (r : Entries) × (t : List ℕ) × IsRegistry work.registry.items r × (NamesNone (name_of work) r → ⊥)
+      × ShowsRegistry (registry_form work.style.form) (name_of work) r t × (s ≡ 0) × (p ≡ t)
+  Late command.Example s p = Valued (Exampled work) s p
   Late Encode s p = Valued (Encoded work input) s p
   Late Decode s p = Valued (Decoded work input) s p
   Late command.Explain s p = Valued (Explained work input) s p
@@ -69,6 +76,9 @@ module _ (work : Work) (input : List ℕ) where
   told (answer.refused_early fault l h a) = inl (fault, l, h, a, refl, refl)
   told (answer.checked r c h) = by Check 0 (count_line (length r)) c (r, h, refl, refl)
   told (answer.grown r n l c h k g a) = by command.Grows 0 (l ++ line_of (codes "grows")) c (r, n, h, k, g, l, a, refl, refl)
+  told (answer.shown r t c h k w) = by command.Show 0 t c (r, t, h, k, w, refl, refl)
+  told (answer.exampled r f t a h) = by command.Example 0 (line_of t) a.is_command (r, f, a.is_registry, a.is_format, inl (t, h, refl, refl))
+  told (answer.no_example r f e a h) = by command.Example 2 (refusal_line (example_fault_name e)) a.is_command (r, f, a.is_registry, a.is_format, inr (e, h, refl, refl))
   told (answer.encoded r f b a h) = by Encode 0 (printed work.raw b) a.is_command (valued (Encoded work input) Encode r f 0 (printed work.raw b) a (inl (b, h, refl, refl)))
   told (answer.normalised r f t a h) = by Normalise 0 (line_of t) a.is_command (valued (Normalised work input) Normalise r f 0 (line_of t) a (inl (t, h, refl, refl)))
   told (answer.refused c r f e (inl is) a h) = by Encode 2 (refusal_line (json_fault_name e)) (a.is_command ∙ is) (valued (Encoded work input) c r f 2 (refusal_line (json_fault_name e)) a (inr (e, h, refl, refl)))
@@ -121,6 +131,11 @@ module _ (work : Work) (input : List ℕ) where
       (hs ∙ sym ks, hp ∙ ap (λ (m : Entries). count_line (length m)) (same_registry work.registry.items r n h.0 k.0) ∙ sym kq)
   one_late command.Grows s z p q (r, n, h, g, w, l, a, hs, hp) (r2, n2, k, i, x, m, b, ks, kq) =
       (hs ∙ sym ks, hp ∙ ap (λ (list : List ℕ). list ++ line_of (codes "grows")) (one_listing work work.list l m a b) ∙ sym kq)
+  one_late command.Show s z p q (r, t, h, g, w, hs, hp) (n, u, k, i, x, ks, kq) =
+      let same : n ≡ r = same_registry work.registry.items n r k.0 h.0 in
+      let own = subst (λ (m : Entries). ShowsRegistry (registry_form work.style.form) (name_of work) m u) same x in
+      (hs ∙ sym ks, hp ∙ one_text_holds (registry_form work.style.form) (name_of work) r t u w own ∙ sym kq)
+  one_late command.Example s z p q h k = one_valued (Exampled work) (one_exampled work) s z p q h k
   one_late Encode s z p q h k = one_valued (Encoded work input) (one_encoded work input) s z p q h k
   one_late Decode s z p q h k = one_valued (Decoded work input) (one_decoded work input) s z p q h k
   one_late command.Explain s z p q h k = one_valued (Explained work input) (one_explained work input) s z p q h k
@@ -139,6 +154,8 @@ module _ (work : Work) (input : List ℕ) where
   not_late : (c : Command) (fault : JobFault) (s : ℕ) (p : List ℕ) → RefusesAt c work fault → Late c s p → ⊥
   not_late Check fault s p h (r, is, ks, kq) = not_checked work fault r h is
   not_late command.Grows fault s p h (r, n, is, i, g, l, a, ks, kq) = not_grown work fault r n h is i g
+  not_late command.Show fault s p h (r, t, is, known, w, ks, kq) = not_shown work fault r h is known
+  not_late command.Example fault s p h k = of_valued (Exampled work) fault s p h k
   not_late Encode fault s p h k = of_valued (Encoded work input) fault s p h k
   not_late Decode fault s p h k = of_valued (Decoded work input) fault s p h k
   not_late command.Explain fault s p h k = of_valued (Explained work input) fault s p h k

@@ -5,6 +5,9 @@ use Rattle.serde_json.specs.Data.{depth}
 use Rattle.bcs_registry_formats.specs.Container as container
 use Rattle.bcs_registry_formats.specs.Container.{Entries}
 use Rattle.bcs_registry_formats.specs.Shape.{Shape}
+use Rattle.bcs_registry_formats.specs.declared.fault.RegistryFault.TheVariants.{UnknownName}
+use Rattle.bcs_registry_show.proofs.ShowLaws.{some_text_holds}
+use Rattle.bcs_example_text.proofs.ExampleTextLaws.{text_or_fault_holds}
 use Rattle.bcs_value_tree.specs.Tree.{Tree}
 use Rattle.bcs_decode_spec.proofs.Verdicts.{some_verdict_is, some_verdict_of_all_is}
 use Rattle.bcs_decode_spec.specs.Accepting.{Accepts}
@@ -12,13 +15,13 @@ use Rattle.bcs_decode_spec.specs.Exact.{AreBytes}
 use Rattle.bcs_decode_parts.specs.Parts.{Part, Step, part_at}
 use Rattle.bcs_explain_table.specs.Explains as explains
 use Rattle.bcs_json_spec.specs.JsonContent.{of}
-use Rattle.bcs_json_spec.specs.Shown.{shown}
+use Rattle.bcs_json_spec.specs.Shown as value
 use Rattle.bcs_json_spec.specs.Texts.{nesting_limit}
 use Rattle.bcs_json_spec.proofs.SomeText.{some_bytes, some_normal_text, some_shown_text}
 use Rattle.bcs_tool_answers.specs.AnswerLaws.{SomeAnswer}
-use Rattle.bcs_tool_answers.specs.Answers.{Answers, IsAsked, IsWithin, Lists, lists, checked, compared, damaged, decoded, encoded, explained, found, front_stopped, grown, no_bytes, normalised, nowhere, refused, refused_early, scan_stopped, scanned, stopped, too_nested}
+use Rattle.bcs_tool_answers.specs.Answers.{Answers, AsksExample, IsAsked, IsWithin, Lists, lists, checked, compared, damaged, decoded, encoded, exampled, explained, found, front_stopped, grown, no_bytes, no_example, normalised, nowhere, refused, refused_early, registry_form, scan_stopped, scanned, shown, stopped, too_nested}
 use Rattle.bcs_tool_answers.specs.Input.{Gives}
-use Rattle.bcs_tool_answers.specs.Judging.{IsFormat, IsPath, IsRegistry, RefusesAt, works_on_values}
+use Rattle.bcs_tool_answers.specs.Judging.{IsFormat, IsPath, IsRegistry, RefusesAt, name_of, works_on_values}
 use Rattle.bcs_tool_answers.specs.declared.job_fault.JobFault.{JobFault}
 use Rattle.bcs_tool_answers.specs.declared.job_fault.JobFault.TheVariants.{BadPath, Growth, Registry}
 use Rattle.bcs_tool_answers.proofs.AnswerLemmas.{refuses_formatted}
@@ -26,7 +29,7 @@ use Rattle.bcs_tool_answers.proofs.Listings.{formatted_unlisted, some_listing}
 use Rattle.bcs_tool_answers.proofs.ScanAnswers.{some_scan}
 use Rattle.bcs_tool_answers.proofs.SomeInput.{some_given}
 use Rattle.bcs_tool_answers.proofs.SomePair.{judged, some_pair}
-use Rattle.bcs_tool_answers.proofs.SomeRefusal.{some_formatted, some_growth, some_registry}
+use Rattle.bcs_tool_answers.proofs.SomeRefusal.{named_or_none, some_formatted, some_growth, some_registry}
 use Rattle.bcs_tool_files.specs.declared.work.Work.{Work}
 use Rattle.bcs_tool_path.proofs.SomePath.{some_path}
 use Rattle.bcs_tool_path.specs.Path.{SpellsPath}
@@ -62,6 +65,28 @@ module _ (work : Work) (input : List ℕ) where
     ]
   ]
 
+  some_show : work.command ≡ command.Show → Answered
+  some_show is = elim (some_registry work.registry.items) [
+    | inr h ↦ refused_words command.Show is (Registry h.0) [] (inl h.1) refl
+    | inl r ↦ elim (named_or_none (name_of work) r.0) [
+      | inr known ↦ let text = some_text_holds (registry_form work.style.form) (name_of work) r.0 in (_, _, shown r.0 text.0 is r.1 known text.1)
+      | inl none ↦ refused_words command.Show is (Registry UnknownName) [] (inr (r.0, r.1, none, refl)) refl
+    ]
+  ]
+
+  -- an example, or a reason why there is none
+  wish_answered : (r : Entries) (s : Shape) → AsksExample work r s → Answered
+  wish_answered r s asks = elim (text_or_fault_holds r asks.is_registry.0.2.orderly work.limits (name_of work) s) [
+    | inl h ↦ (_, _, exampled r s h.0 asks h.1)
+    | inr h ↦ (_, _, no_example r s h.0 asks h.1)
+  ]
+
+  some_example : work.command ≡ command.Example → Answered
+  some_example is = elim (some_formatted work) [
+    | inr h ↦ refused_words command.Example is h.0 [] h.1 (formatted_unlisted work h.0 h.1)
+    | inl h ↦ wish_answered h.0 h.1 (record { is_command = is; is_registry = h.2; is_format = h.3 })
+  ]
+
   -- ---- an input, at a format of a registry
 
   module _ (r : Entries) (s : Shape) (registry : IsRegistry work.registry.items r) where
@@ -88,7 +113,7 @@ module _ (work : Work) (input : List ℕ) where
     bytes_answered : IsAsked work input command.Decode r s → (bytes : List ℕ) → AreBytes bytes → Gives work.raw input bytes → Answered
     bytes_answered asked bytes are given = elim (some_verdict_of_all_is r work.limits s bytes are) [
       | inr h ↦ (_, _, stopped r s bytes h.0 h.1 asked given h.2)
-      | inl h ↦ elim (cases_lt nesting_limit (depth (shown r h.0 (of s)))) [
+      | inl h ↦ elim (cases_lt nesting_limit (depth (value.shown r h.0 (of s)))) [
         | inl deep ↦ (_, _, too_nested r s bytes h.0 asked given h.1 deep)
         | inr low ↦
             let text = some_shown_text work.registry.items r work.limits s registry.0 registry.1 bytes h.0 h.1 low in
@@ -176,6 +201,8 @@ module _ (work : Work) (input : List ℕ) where
   of_command : AreBytes input → IsWithin work input → (c : Command) → work.command ≡ c → Answered
   of_command are within command.Check is = some_check is
   of_command are within command.Grows is = some_grows is
+  of_command are within command.Show is = some_show is
+  of_command are within command.Example is = some_example is
   of_command are within command.Encode is = valued command.Encode refl refl within some_encode is
   of_command are within command.Decode is = valued command.Decode refl refl within (λ r s registry asked. some_decode r s registry are asked) is
   of_command are within command.Explain is = valued command.Explain refl refl within (λ r s registry asked. some_explain r s registry are asked) is

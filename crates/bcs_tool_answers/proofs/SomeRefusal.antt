@@ -1,6 +1,8 @@
 -- The words of a job are good, or are refused for a reason.
-use Rattle.std.proofs.Common.{◌≡◌, ◌⊎◌, inl, inr, ℕ, List, Option, Some, None, Ok, Err, Bool, true, false, refl, ap, string_bytes, sym}
+use Rattle.std.proofs.Common.{◌≡◌, ◌∙◌, ◌⊎◌, inl, inr, ℕ, List, Option, Some, None, Ok, Err, Bool, true, false, refl, ap, string_bytes, sym}
 use Rattle.std.specs.Prelude.{is_some}
+use Rattle.std.proofs.lemmas.Option.{none-some}
+use Rattle.bcs_registry_show.specs.Shows.{NamesNone}
 use Rattle.bcs_registry_formats.specs.Container.{Container, Entries, container_at}
 use Rattle.bcs_registry_formats.specs.Growing.{growth_fault}
 use Rattle.bcs_registry_formats.specs.Grows.{Grows, IsFirstGrowthFault}
@@ -47,3 +49,12 @@ some_formatted work = elim (some_registry work.registry.items) [
   | inr h ↦ inr (Registry h.0, inl h.1)
   | inl r ↦ elim (some_format r.0 (string_bytes work.format)) [ inl s ↦ inl (r.0, s.0, r.1, s.1) | inr h ↦ inr (Registry h.0, inr (r.0, r.1, h.1)) ]
 ]
+
+-- no container has the name that is given, or one has it, or none is given
+pub named_or_none : (word : Option (List ℕ)) (registry : Entries) → NamesNone word registry ⊎ (NamesNone word registry → ⊥)
+named_or_none None registry = inr (λ none. none)
+named_or_none (Some word) registry = at (container_at word registry) refl
+  where
+    at : (o : Option Container) → container_at word registry ≡ o → (container_at word registry ≡ None) ⊎ (container_at word registry ≡ None → ⊥)
+    at None is = inl is
+    at (Some c) is = inr (λ none. absurd (none-some c (sym none ∙ is)))

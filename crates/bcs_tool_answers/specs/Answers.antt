@@ -10,6 +10,11 @@ use Rattle.bcs_registry_formats.specs.Shape.{Shape}
 use Rattle.bcs_registry_text.specs.Text.{WritesRegistry}
 use Rattle.bcs_registry_changes.specs.DifferenceText.{lines_text}
 use Rattle.bcs_registry_changes.specs.Differences.{Difference, AreDifferences}
+use Rattle.bcs_registry_show.specs.Shows.{NamesNone, ShowsRegistry}
+use Rattle.bcs_registry_show.specs.declared.form.RegistryForm.{RegistryForm}
+use Rattle.bcs_registry_show.specs.declared.form.RegistryForm.TheVariants as forms_of_registry
+use Rattle.bcs_example_text.specs.ExampleText.{RefusesExampleText, ShowsExample, example_fault_name}
+use Rattle.bcs_example_text.specs.declared.fault.ExampleTextFault.{ExampleTextFault}
 use Rattle.bcs_value_tree.specs.Tree.{Tree}
 use Rattle.bcs_value_spec.specs.Limits.{Bounds}
 use Rattle.bcs_encode_spec.specs.Plain.{plain}
@@ -25,13 +30,13 @@ use Rattle.bcs_explain_table.specs.Explains.{Explains}
 use Rattle.bcs_json_spec.specs.Headline.{Compares, HasBytes, Normalises, ShowsBytes}
 use Rattle.bcs_json_spec.specs.FaultNames.{json_fault_name}
 use Rattle.bcs_json_spec.specs.JsonContent.{of}
-use Rattle.bcs_json_spec.specs.Shown.{shown}
+use Rattle.bcs_json_spec.specs.Shown as value
 use Rattle.bcs_json_spec.specs.Texts.{Denotes, RefusesText, nesting_limit}
 use Rattle.bcs_json_spec.specs.declared.json_fault.JsonFault.{JsonFault}
 use Rattle.bcs_tool_path.specs.Path.{SpellsPath}
 use Rattle.bcs_tool_files.specs.Files.{size_limit}
 use Rattle.bcs_tool_answers.specs.Input as given
-use Rattle.bcs_tool_answers.specs.Judging.{Asks, IsRegistry, RefusesEarly, is_unlimited, job_fault_name}
+use Rattle.bcs_tool_answers.specs.Judging.{Asks, IsFormat, IsRegistry, RefusesEarly, is_unlimited, job_fault_name, name_of}
 use Rattle.bcs_tool_line.specs.declared.command.Command.{Command}
 use Rattle.bcs_tool_line.specs.declared.command.Command.TheVariants as command
 use Rattle.bcs_tool_answers.specs.declared.job_fault.JobFault.{JobFault}
@@ -78,6 +83,13 @@ printed_none raw = if raw then [] else line_of (codes "none")
 abbrev pub count_line : ℕ → List ℕ
 count_line n = line_of (codes "ok " ++ decimal n)
 
+-- a registry is printed in lines, or with `--json` as JSON
+abbrev pub registry_form : Form → RegistryForm
+registry_form forms.Json = forms_of_registry.Json
+registry_form forms.Ways = forms_of_registry.Lines
+registry_form forms.Paths = forms_of_registry.Lines
+registry_form forms.Tree = forms_of_registry.Lines
+
 -- the lines of all differences of the job's registries
 abbrev pub IsListOf : Work → List ℕ → Type 0
 IsListOf work list = (older : Entries) × (newer : Entries) × WritesRegistry work.registry.items older × WritesRegistry work.second.items newer
@@ -112,6 +124,12 @@ IsOneText asked = (asked ≡ command.Encode) ⊎ (asked ≡ command.Normalise)
 abbrev pub TakesBytes : Command → Type 0
 TakesBytes asked = (asked ≡ command.Decode) ⊎ (asked ≡ command.Part) ⊎ (asked ≡ command.Explain) ⊎ (asked ≡ command.Scan)
 
+-- the job is for an example of this format
+pub record AsksExample (work : Work) (registry : Entries) (s : Shape) : Type 0 where
+  pub is_command : work.command ≡ command.Example
+  pub is_registry : IsRegistry work.registry.items registry
+  pub is_format : IsFormat registry (string_bytes work.format) s
+
 -- where bytes stop that are scanned: where no value stands at their front, if that alone is asked for; else where they are
 -- no value
 abbrev pub ScanStops : Bool → Entries → Bounds → Shape → List ℕ → Reason → ℕ → Type 0
@@ -135,6 +153,12 @@ pub data Answers (work : Work) (input : List ℕ) : ℕ → List ℕ → Type 0 
   checked : (registry : Entries) → work.command ≡ command.Check → IsRegistry work.registry.items registry → Answers work input 0 (count_line (length registry))
   -- `grows`: the newer registry keeps all that the older one has; before that stands the list, where it is asked for
   grown : (older newer : Entries) (list : List ℕ) → work.command ≡ command.Grows → IsRegistry work.registry.items older → IsRegistry work.second.items newer → Grows older newer → Lists work.list work list → Answers work input 0 (list ++ line_of (codes "grows"))
+  -- `show`: the registry for reading, or the container of NAME with all that it stands on
+  shown : (registry : Entries) (text : List ℕ) → work.command ≡ command.Show → IsRegistry work.registry.items registry → (NamesNone (name_of work) registry → ⊥) → ShowsRegistry (registry_form work.style.form) (name_of work) registry text → Answers work input 0 text
+  -- `example`: the text of the example that is wished for
+  exampled : (registry : Entries) (s : Shape) (text : List ℕ) → AsksExample work registry s → ShowsExample registry work.limits (name_of work) s text → Answers work input 0 (line_of text)
+  -- `example`: there is none, or its text would nest deeper than a text may
+  no_example : (registry : Entries) (s : Shape) (fault : ExampleTextFault) → AsksExample work registry s → RefusesExampleText registry work.limits (name_of work) s fault → Answers work input 2 (refusal_line (example_fault_name fault))
   -- `encode`: the bytes of the value that the text denotes
   encoded : (registry : Entries) (s : Shape) (bytes : List ℕ) → IsAsked work input command.Encode registry s → HasBytes registry work.limits s input bytes → Answers work input 0 (printed work.raw bytes)
   -- `normalise`: its normal text
@@ -148,7 +172,7 @@ pub data Answers (work : Work) (input : List ℕ) : ℕ → List ℕ → Type 0 
   -- `decode`: the bytes stop being a value at a place
   stopped : (registry : Entries) (s : Shape) (bytes : List ℕ) (reason : Reason) (place : ℕ) → IsAsked work input command.Decode registry s → given.Gives work.raw input bytes → StopsAll registry work.limits s bytes reason place → Answers work input 2 (stop_line reason place)
   -- `decode`: they are a value's, and its text would nest deeper than a text may
-  too_nested : (registry : Entries) (s : Shape) (bytes : List ℕ) (c : Tree) → IsAsked work input command.Decode registry s → given.Gives work.raw input bytes → Accepts registry work.limits s bytes (length bytes) c → nesting_limit < depth (shown registry c (of s)) → Answers work input 2 (refusal_line (codes "TooNested"))
+  too_nested : (registry : Entries) (s : Shape) (bytes : List ℕ) (c : Tree) → IsAsked work input command.Decode registry s → given.Gives work.raw input bytes → Accepts registry work.limits s bytes (length bytes) c → nesting_limit < depth (value.shown registry c (of s)) → Answers work input 2 (refusal_line (codes "TooNested"))
   -- `explain`: the pieces of the one value whose bytes the input gives
   explained : (registry : Entries) (s : Shape) (bytes text : List ℕ) → IsAsked work input command.Explain registry s → given.Gives work.raw input bytes → Explains work.style registry work.limits s bytes text None → Answers work input 0 text
   -- `explain`: the pieces before the bytes stop being a value at a place, and behind them the line of `decode`

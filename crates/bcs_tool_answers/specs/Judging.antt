@@ -1,5 +1,5 @@
 -- What is judged of a job before its input is read: its registries, then the format, and then the path.
-use Rattle.std.specs.Prelude.{◌≡◌, ◌⊎◌, ◌==◌, ◌||◌, ◌&&◌, ℕ, List, [], ◌∷◌, None, Bool, true, false, codes, is_some, string_bytes}
+use Rattle.std.specs.Prelude.{◌≡◌, ◌⊎◌, ◌==◌, ◌||◌, ◌&&◌, ℕ, List, [], ◌∷◌, Option, None, option_map, Bool, true, false, codes, is_some, string_bytes}
 use Rattle.bcs_registry_formats.specs.Container.{Entries, container_at}
 use Rattle.bcs_registry_spec.specs.Faults.{IsLeastFault, IsLeastFormatFault}
 use Rattle.bcs_registry_formats.specs.FaultNames.{growth_fault_name, registry_fault_name}
@@ -9,6 +9,7 @@ use Rattle.bcs_registry_text.specs.Text.{WritesRegistry, WritesFormat}
 use Rattle.bcs_registry_formats.specs.WellFormed.{IsWellFormed, Admits}
 use Rattle.bcs_registry_formats.specs.declared.fault.RegistryFault.{RegistryFault}
 use Rattle.bcs_registry_formats.specs.declared.fault.RegistryFault.TheVariants.{UnknownName, OutOfMemory}
+use Rattle.bcs_registry_show.specs.Shows.{NamesNone}
 use Rattle.bcs_decode_parts.specs.Parts.{Step}
 use Rattle.bcs_tool_path.specs.Path.{SpellsNoPath, SpellsPath}
 use Rattle.bcs_tool_path.specs.declared.path_fault.PathFault.{PathFault}
@@ -54,12 +55,20 @@ abbrev pub RefusesFormat : Entries → List ℕ → RegistryFault → Type 0
 RefusesFormat registry word fault = ((is_json_word word ≡ true) × IsLeastFormatFault registry word fault)
     ⊎ ((is_json_word word ≡ false) × (container_at word registry ≡ None) × (fault ≡ UnknownName))
 
+-- ---- the name that may be left out
+
+-- that of a container or of a variant
+abbrev pub name_of : Work → Option (List ℕ)
+name_of work = option_map string_bytes work.name
+
 -- ---- the path's word
 
 -- the steps that a command's word PATH spells; none where the command has no such word
 abbrev pub IsPath : Command → List ℕ → List Step → Type 0
 IsPath command.Check word path = path ≡ []
 IsPath command.Grows word path = path ≡ []
+IsPath command.Show word path = path ≡ []
+IsPath command.Example word path = path ≡ []
 IsPath command.Encode word path = path ≡ []
 IsPath command.Decode word path = path ≡ []
 IsPath command.Explain word path = path ≡ []
@@ -74,6 +83,8 @@ IsPath command.Scan word path = path ≡ []
 abbrev pub works_on_values : Command → Bool
 works_on_values command.Check = false
 works_on_values command.Grows = false
+works_on_values command.Show = false
+works_on_values command.Example = false
 works_on_values command.Encode = true
 works_on_values command.Decode = true
 works_on_values command.Explain = true
@@ -82,10 +93,26 @@ works_on_values command.Same = true
 works_on_values command.Part = true
 works_on_values command.Scan = true
 
+-- the command has a format, whether or not it has an input
+abbrev pub takes_format : Command → Bool
+takes_format command.Check = false
+takes_format command.Grows = false
+takes_format command.Show = false
+takes_format command.Example = true
+takes_format command.Encode = true
+takes_format command.Decode = true
+takes_format command.Explain = true
+takes_format command.Normalise = true
+takes_format command.Same = true
+takes_format command.Part = true
+takes_format command.Scan = true
+
 -- the command judges bytes alone, and makes nothing of them
 abbrev pub is_scan : Command → Bool
 is_scan command.Check = false
 is_scan command.Grows = false
+is_scan command.Show = false
+is_scan command.Example = false
 is_scan command.Encode = false
 is_scan command.Decode = false
 is_scan command.Explain = false
@@ -121,6 +148,13 @@ RefusesCheck work (job.Registry fault) = IsLeastFault work.registry.items fault
 RefusesCheck work (job.Growth fault) = ⊥
 RefusesCheck work job.BadPath = ⊥
 
+-- the registry's fault, or else no container has NAME
+abbrev pub RefusesShow : Work → JobFault → Type 0
+RefusesShow work (job.Registry fault) = IsLeastFault work.registry.items fault
+    ⊎ ((registry : Entries) × IsRegistry work.registry.items registry × NamesNone (name_of work) registry × (fault ≡ UnknownName))
+RefusesShow work (job.Growth fault) = ⊥
+RefusesShow work job.BadPath = ⊥
+
 -- the older registry's fault, or else the newer's, or else why the one has not grown into the other
 abbrev pub RefusesGrowth : Work → JobFault → Type 0
 RefusesGrowth work (job.Registry fault) = IsLeastFault work.registry.items fault
@@ -139,6 +173,8 @@ RefusesPart work job.BadPath = (registry : Entries) × (s : Shape) × IsRegistry
 abbrev pub RefusesAt : Command → Work → JobFault → Type 0
 RefusesAt command.Check = RefusesCheck
 RefusesAt command.Grows = RefusesGrowth
+RefusesAt command.Show = RefusesShow
+RefusesAt command.Example = RefusesFormatted
 RefusesAt command.Encode = RefusesFormatted
 RefusesAt command.Decode = RefusesFormatted
 RefusesAt command.Explain = RefusesFormatted

@@ -1,5 +1,5 @@
 -- Where a refusal stands: which text the standard error may be told beside the answer to a job and its input.
-use Rattle.std.specs.Prelude.{◌≡◌, ◌≢◌, ◌⊎◌, ◌++◌, [], ℕ, List, codes, false, string_bytes, true}
+use Rattle.std.specs.Prelude.{◌≡◌, ◌≢◌, ◌⊎◌, ◌++◌, IsSomeAnd, [], ℕ, List, codes, false, string_bytes, true}
 use Rattle.bcs_registry_formats.specs.Container.{Entries}
 use Rattle.bcs_registry_formats.specs.Shape.{Shape}
 use Rattle.bcs_value_tree.specs.Tree.{Tree}
@@ -12,10 +12,10 @@ use Rattle.bcs_tool_line.specs.declared.command.Command.{Command}
 use Rattle.bcs_tool_line.specs.declared.command.Command.TheVariants as command
 use Rattle.bcs_tool_files.specs.declared.work.Work.{Work}
 use Rattle.bcs_tool_places.specs.LimitText.{limit_text}
-use Rattle.bcs_tool_places.specs.Places.{PlacesFormatShape, PlacesGrowth, PlacesName, PlacesNoFormatJson, PlacesNoJson, PlacesPath, PlacesRefusal, PlacesRule, PlacesShape, PlacesWord}
+use Rattle.bcs_tool_places.specs.Places.{PlacesContainer, PlacesFormatShape, PlacesGrowth, PlacesName, PlacesNoFormatJson, PlacesNoJson, PlacesPath, PlacesRefusal, PlacesRule, PlacesShape, PlacesWord}
 use Rattle.bcs_tool_answers.specs.Answers.{Answers, IsAsked, IsOneText, ScanStops}
 use Rattle.bcs_tool_answers.specs.Input.{Gives}
-use Rattle.bcs_tool_answers.specs.Judging.{RefusesEarly, is_json_word, works_on_values}
+use Rattle.bcs_tool_answers.specs.Judging.{RefusesEarly, is_json_word, name_of, takes_format}
 use Rattle.bcs_tool_answers.specs.declared.answer.Answer.{Answer}
 use Rattle.bcs_tool_answers.specs.declared.job_fault.JobFault.TheVariants.{BadPath}
 
@@ -55,12 +55,13 @@ abbrev pub PlacesFormat : Work → List ℕ → Type 0
 PlacesFormat work place = ((is_json_word (string_bytes work.format) ≡ false) × PlacesWord work.registry.items (string_bytes work.format) place)
     ⊎ ((is_json_word (string_bytes work.format) ≡ true) × PlacesJson work.registry.items (string_bytes work.format) place)
 
--- the registry is refused, or else what the command takes beside it: another registry, or FORMAT, or PATH
+-- the registry is refused, or else what the command takes beside it: another registry, or FORMAT, or PATH, or NAME
 abbrev pub PlacesWords : Work → List ℕ → Type 0
 PlacesWords work place = ((work.command ≢ command.Grows) × PlacesRegistry work.registry.items place)
     ⊎ ((work.command ≡ command.Grows) × PlacesTwo work place)
-    ⊎ ((works_on_values work.command ≡ true) × PlacesFormat work place)
+    ⊎ ((takes_format work.command ≡ true) × PlacesFormat work place)
     ⊎ (RefusesEarly work BadPath × PlacesPath (string_bytes work.path) place)
+    ⊎ ((work.command ≡ command.Show) × IsSomeAnd (name_of work) (λ name. PlacesContainer work.registry.items name place))
 
 -- ---- the input
 

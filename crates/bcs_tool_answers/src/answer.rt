@@ -119,8 +119,8 @@ pub fn placed(answer: Answer, place: Vec<u8>) -> Answer
     Answer { place, ..answer }
 }
 
-// An answer with no place.
-fn unplaced(alloc: Global, status: u8, output: Vec<u8>) -> Answer
+/// An answer with no place.
+pub fn unplaced(alloc: Global, status: u8, output: Vec<u8>) -> Answer
     ensures { Prints result status output.items }
 {
     Answer {

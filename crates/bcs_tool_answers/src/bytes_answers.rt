@@ -78,8 +78,13 @@ fn answer_bytes(
         Command::Decode => answer_decode(alloc, work, asked, bytes),
         Command::Explain => answer_explain(alloc, work, asked, bytes),
         Command::Scan => answer_scan(alloc, work, asked, bytes),
-        Command::Check | Command::Grows | Command::Encode | Command::Normalise | Command::Same =>
-            unreachable!(),
+        Command::Check
+        | Command::Grows
+        | Command::Show
+        | Command::Example
+        | Command::Encode
+        | Command::Normalise
+        | Command::Same => unreachable!(),
     }
 }
 

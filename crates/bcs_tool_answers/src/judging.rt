@@ -8,7 +8,7 @@ ghost use Rattle.bcs_registry_formats.specs.WellFormed.{Admits};
 ghost use Rattle.bcs_registry_formats.specs.declared.fault.RegistryFault.TheVariants.{OutOfMemory};
 ghost use Rattle.bcs_tool_path.specs.Path.{SpellsNoPath};
 ghost use Rattle.bcs_tool_path.specs.PathSteps.{all_spelled};
-ghost use Rattle.bcs_tool_answers.specs.Judging.{Asks, IsFormat, IsPath, IsRegistry, RefusesCheck, RefusesEarly, RefusesFormat, RefusesGrowth, is_json_word, works_on_values};
+ghost use Rattle.bcs_tool_answers.specs.Judging.{Asks, IsFormat, IsPath, IsRegistry, RefusesCheck, RefusesEarly, RefusesFormat, RefusesFormatted, RefusesGrowth, is_json_word, works_on_values};
 
 use crate::job_fault::JobFault;
 use bcs_registry::{Format, Registry, RegistryFault};
@@ -56,14 +56,24 @@ pub fn judge_asked(alloc: Global, work: &Work) -> Result<Asked, JobFault>
     ensures path { IfOk result (λ asked. IsPath work.now.command (string_bytes work.now.path) (all_spelled asked.path.items)) }
     ensures fault { IfErr result (λ e. e ≢ JobFault.Registry OutOfMemory → RefusesEarly work.now e) }
 {
-    let registry = Registry::read(alloc, work.registry.as_slice())?;
-    let format = judge_format(alloc, &registry, work.format.as_str())?;
+    let (registry, format) = judge_formatted(alloc, work)?;
     let path = judge_path(alloc, work)?;
     Ok(Asked {
         registry,
         format,
         path,
     })
+}
+
+/// The registry and the format of a job. The registry's fault comes before the format's.
+pub fn judge_formatted(alloc: Global, work: &Work) -> Result<(Registry, Format), JobFault>
+    ensures registry { IfOk result (λ p. IsRegistry work.now.registry.items p.0) }
+    ensures format { IfOk result (λ p. IsFormat p.0 (string_bytes work.now.format) (shape_of p.1)) }
+    ensures fault { IfErr result (λ e. e ≢ JobFault.Registry OutOfMemory → RefusesFormatted work.now e) }
+{
+    let registry = Registry::read(alloc, work.registry.as_slice())?;
+    let format = judge_format(alloc, &registry, work.format.as_str())?;
+    Ok((registry, format))
 }
 
 // The steps of the job's PATH; none where the command has no PATH.
@@ -75,6 +85,8 @@ fn judge_path(alloc: Global, work: &Work) -> Result<Vec<PathStep>, PathFault>
         Command::Part => read_path(alloc, work.path.as_str()),
         Command::Check
         | Command::Grows
+        | Command::Show
+        | Command::Example
         | Command::Encode
         | Command::Decode
         | Command::Explain

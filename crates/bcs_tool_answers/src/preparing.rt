@@ -1,15 +1,15 @@
 //! What the words of a job come to, before its input is read.
-ghost use Rattle.std.specs.Prelude.{◌≡◌, ◌≢◌, ℕ, List, IfOk, true};
-ghost use Rattle.bcs_registry_formats.specs.declared.fault.RegistryFault.TheVariants.{OutOfMemory};
-ghost use Rattle.bcs_tool_answers.specs.Judging.{RefusesEarly, works_on_values};
+ghost use Rattle.std.specs.Prelude.{◌≡◌, ℕ, List, IfOk, true};
+ghost use Rattle.bcs_tool_answers.specs.Judging.{works_on_values};
 ghost use Rattle.bcs_tool_answers.specs.Places.{IsAnswer};
 ghost use Rattle.bcs_tool_answers.specs.Preparing.{IsPrepared};
 
-use crate::answer::{Answer, counted, placed, told};
-use crate::job_fault::JobFault;
+use crate::answer::{Answer, counted, told};
+use crate::examples::answer_example;
 use crate::judging::{Asked, judge_asked, judge_check, judge_growth};
-use crate::listing::{has_list, listed};
-use crate::word_places::place_of_words;
+use crate::listing::listed;
+use crate::refusing::refused_words;
+use crate::showing::answer_show;
 use bcs_tool_files::Work;
 use bcs_tool_line::Command;
 use std::alloc::{AllocError, Global};
@@ -30,6 +30,8 @@ pub fn prepare(alloc: Global, work: &Work) -> Result<Prepared, AllocError>
     match work.command {
         Command::Check => Ok(Prepared::Answered(answer_check(alloc, work)?)),
         Command::Grows => Ok(Prepared::Answered(answer_growth(alloc, work)?)),
+        Command::Show => Ok(Prepared::Answered(answer_show(alloc, work)?)),
+        Command::Example => Ok(Prepared::Answered(answer_example(alloc, work)?)),
         Command::Encode
         | Command::Decode
         | Command::Explain
@@ -71,15 +73,4 @@ fn prepare_asked(alloc: Global, work: &Work) -> Result<Prepared, AllocError>
         Ok(asked) => Ok(Prepared::Asked(asked)),
         Err(fault) => Ok(Prepared::Answered(refused_words(alloc, work, fault)?)),
     }
-}
-
-// The answer to a job whose words are refused with this fault. Want of memory is no refusal.
-fn refused_words(alloc: Global, work: &Work, fault: JobFault) -> Result<Answer, AllocError>
-    requires refused { fault ≢ JobFault.Registry OutOfMemory → RefusesEarly work.now fault }
-    ensures refuses { IfOk result (λ _. RefusesEarly work.now fault) }
-    ensures answers { IfOk result (λ a. (bytes : List ℕ) → IsAnswer work.now bytes a) }
-{
-    let place = place_of_words(alloc, work, fault);
-    let answer = placed(fault.answer(alloc)?, place);
-    listed(alloc, work, has_list(work, fault), answer)
 }

@@ -36,7 +36,7 @@ pub fn answer_values(
         Command::Decode | Command::Explain | Command::Part | Command::Scan => {
             answer_given(alloc, work, asked, input)
         }
-        Command::Check | Command::Grows => unreachable!(),
+        Command::Check | Command::Grows | Command::Show | Command::Example => unreachable!(),
     }
 }
 

@@ -1,7 +1,8 @@
 //! Where the words of a job are refused.
-ghost use Rattle.std.specs.Prelude.{◌≢◌, IfOk, IfSome};
+ghost use Rattle.std.specs.Prelude.{◌≢◌, IfOk, IfSome, IsSomeAnd};
 ghost use Rattle.bcs_registry_formats.specs.declared.fault.RegistryFault.TheVariants.{OutOfMemory};
-ghost use Rattle.bcs_tool_answers.specs.Judging.{RefusesEarly};
+ghost use Rattle.bcs_tool_answers.specs.Judging.{RefusesEarly, name_of};
+ghost use Rattle.bcs_tool_places.specs.Places.{PlacesContainer};
 ghost use Rattle.bcs_tool_answers.specs.Places.{PlacesFormat, PlacesTwo, PlacesWords, TellsWords};
 
 use crate::job_fault::JobFault;
@@ -11,7 +12,7 @@ use crate::two_texts::in_text;
 use bcs_registry::RegistryFault;
 use bcs_tool_files::Work;
 use bcs_tool_line::Command;
-use bcs_tool_places::{place_of_growth, place_of_path, place_of_word};
+use bcs_tool_places::{place_of_container, place_of_growth, place_of_path, place_of_word};
 use std::alloc::Global;
 
 /// Where the job's own words are refused, for this fault. It is empty at a quiet job, where their place isn't known, and
@@ -56,7 +57,9 @@ fn words_place(alloc: Global, work: &Work) -> Result<Option<Vec<u8>>, RegistryFa
     }
     match work.command {
         Command::Check | Command::Grows => Ok(None),
-        Command::Encode
+        Command::Show => name_place(alloc, work),
+        Command::Example
+        | Command::Encode
         | Command::Decode
         | Command::Explain
         | Command::Normalise
@@ -91,6 +94,17 @@ fn format_place(alloc: Global, work: &Work) -> Result<Option<Vec<u8>>, RegistryF
         format_json_place(alloc, registry, word)
     } else {
         place_of_word(alloc, registry, word)
+    }
+}
+
+// The name that no container has.
+fn name_place(alloc: Global, work: &Work) -> Result<Option<Vec<u8>>, RegistryFault>
+    ensures { IfOk result (λ x. IfSome x (λ place. IsSomeAnd (name_of work.now) (λ name.
+        PlacesContainer work.now.registry.items name place.items))) }
+{
+    match work.name.as_deref() {
+        Some(name) => place_of_container(alloc, work.registry.as_slice(), name),
+        None => Ok(None),
     }
 }
 

@@ -4,7 +4,7 @@ use Rattle.bcs_explain_columns.specs.declared.style.Paint.TheVariants.{Plain, Co
 use Rattle.bcs_explain_columns.specs.declared.style.Style.{Style}
 use Rattle.bcs_tool_line.specs.declared.color.Color.TheVariants.{Always, Never}
 use Rattle.bcs_tool_line.specs.declared.command.Command.{Command}
-use Rattle.bcs_tool_line.specs.declared.command.Command.TheVariants.{Check, Grows, Encode, Decode, Explain, Normalise, Same, Part, Scan}
+use Rattle.bcs_tool_line.specs.declared.command.Command.TheVariants.{Check, Grows, Show, Example, Encode, Decode, Explain, Normalise, Same, Part, Scan}
 use Rattle.bcs_tool_files.specs.declared.file_fault.FileFault.{FileFault}
 use Rattle.bcs_tool_files.specs.declared.file_fault.FileFault.TheVariants.{Open, Take}
 use Rattle.bcs_tool_files.specs.declared.file_refusal.FileRefusal.{FileRefusal}
@@ -100,6 +100,8 @@ module _ {F : Type 0} (remaining : F → Option (List ℕ)) where
   abbrev pub IsSecondOf : Command → Bool → List ℕ → List ℕ → Type 0
   IsSecondOf Check lines word text = text ≡ []
   IsSecondOf Grows lines word text = IsTextOf word text
+  IsSecondOf Show lines word text = text ≡ []
+  IsSecondOf Example lines word text = text ≡ []
   IsSecondOf Encode lines word text = text ≡ []
   IsSecondOf Decode lines word text = text ≡ []
   IsSecondOf Explain lines word text = text ≡ []
@@ -115,6 +117,7 @@ module _ {F : Type 0} (remaining : F → Option (List ℕ)) where
     pub second : IsSecondOf job.command job.lines (string_bytes job.second) work.second.items
     pub format : work.format ≡ job.format
     pub path : work.path ≡ job.path
+    pub name : work.name ≡ job.name
     pub raw : work.raw ≡ job.raw
     pub lines : work.lines ≡ job.lines
     pub front : work.front ≡ job.front

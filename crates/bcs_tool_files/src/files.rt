@@ -83,6 +83,7 @@ pub fn read_work<R: Files + Env + AllocGlobal>(
         second,
         format: job.format,
         path: job.path,
+        name: job.name,
         raw: job.raw,
         lines: job.lines,
         front: job.front,
@@ -128,6 +129,8 @@ fn read_second<R: Files + AllocGlobal>(
         Command::Grows => read_registry(rt, word),
         Command::Same => read_first(rt, lines, word),
         Command::Check
+        | Command::Show
+        | Command::Example
         | Command::Encode
         | Command::Decode
         | Command::Explain

@@ -16,6 +16,8 @@ pub struct Work {
     pub format: String,
     /// PATH as it stands; empty where the command has none.
     pub path: String,
+    /// NAME, or what `--variant` names, as it stands; none where neither was given.
+    pub name: Option<String>,
     /// Whether bytes are read and written as they are, and not as hexadecimal digits.
     pub raw: bool,
     /// Whether each line of the input is an input of its own.
@@ -26,7 +28,7 @@ pub struct Work {
     pub list: bool,
     /// Whether the line that says where a refusal or a fault stands is left out.
     pub quiet: bool,
-    /// How pieces are printed.
+    /// How pieces are printed, and a registry.
     pub style: Style,
     /// What a value may hold.
     pub limits: Limits,

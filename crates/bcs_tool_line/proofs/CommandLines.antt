@@ -8,7 +8,7 @@ use Rattle.bcs_tool_words.specs.CommandLine.{bcs_app}
 use Rattle.bcs_tool_line.specs.Jobs.{command_named, is_set}
 use Rattle.bcs_tool_line.specs.TakenWords.{joins_raw_and_lines}
 use Rattle.bcs_tool_line.specs.declared.command.Command.{Command}
-use Rattle.bcs_tool_line.specs.declared.command.Command.TheVariants.{Check, Grows, Encode, Explain, Same, Part, Scan}
+use Rattle.bcs_tool_line.specs.declared.command.Command.TheVariants.{Check, Grows, Show, Example, Encode, Explain, Same, Part, Scan}
 
 -- the command of the words, and what it was given
 abbrev command_in : List Text → Option (Option Command)
@@ -144,6 +144,49 @@ grows_list = refl
 check_list : fault_of bcs_app (codes "bcs" ∷ codes "check" ∷ codes "{}" ∷ codes "--list" ∷ []) ≡ kind.UnknownArgument ∷ []
 unfolding clap_on_literals
 check_list = refl
+
+abbrev show_words : List Text
+show_words = codes "bcs" ∷ codes "show" ∷ codes "r" ∷ codes "A" ∷ codes "--json" ∷ []
+
+show_is_taken : fault_of bcs_app show_words ≡ []
+unfolding clap_on_literals
+show_is_taken = refl
+
+show_command : command_in show_words ≡ Some (Some Show)
+unfolding clap_on_literals
+show_command = refl
+
+show_name : given_in (codes "NAME") show_words ≡ Some (Some (codes "A"))
+unfolding clap_on_literals
+show_name = refl
+
+show_json : set_in (codes "json") show_words ≡ Some true
+unfolding clap_on_literals
+show_json = refl
+
+show_whole : given_in (codes "NAME") (codes "bcs" ∷ codes "show" ∷ codes "r" ∷ []) ≡ Some None
+unfolding clap_on_literals
+show_whole = refl
+
+abbrev example_words : List Text
+example_words = codes "bcs" ∷ codes "example" ∷ codes "r" ∷ codes "E" ∷ codes "--variant" ∷ codes "A" ∷ []
+
+example_is_taken : fault_of bcs_app example_words ≡ []
+unfolding clap_on_literals
+example_is_taken = refl
+
+example_command : command_in example_words ≡ Some (Some Example)
+unfolding clap_on_literals
+example_command = refl
+
+example_variant : given_in (codes "variant") example_words ≡ Some (Some (codes "A"))
+unfolding clap_on_literals
+example_variant = refl
+
+-- a variant has a name
+wants_variant : fault_of bcs_app (codes "bcs" ∷ codes "example" ∷ codes "r" ∷ codes "E" ∷ codes "--variant" ∷ []) ≡ kind.InvalidValue ∷ []
+unfolding clap_on_literals
+wants_variant = refl
 
 -- ---- words that are refused
 

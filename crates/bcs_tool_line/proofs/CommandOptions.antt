@@ -80,7 +80,7 @@ depths =
       (
         none id q (rules_at 1) refl,
         (
-          (no id q _ refl, (no id q _ refl, (λ same. record { action = refl; parser = refl; exact = refl; defaults = refl }, none id q (drop 3 (rules_at 2)) refl))),
+          none id q (rules_at 2) refl,
           (
             (no id q _ refl, (no id q _ refl, (λ same. record { action = refl; parser = refl; exact = refl; defaults = refl }, none id q (drop 3 (rules_at 3)) refl))),
             (
@@ -94,8 +94,14 @@ depths =
                     (
                       (no id q _ refl, (no id q _ refl, (λ same. record { action = refl; parser = refl; exact = refl; defaults = refl }, none id q (drop 3 (rules_at 8)) refl))),
                       (
-                        none id q (rules_at 9) refl,
-                        tt,
+                        (no id q _ refl, (no id q _ refl, (λ same. record { action = refl; parser = refl; exact = refl; defaults = refl }, none id q (drop 3 (rules_at 9)) refl))),
+                        (
+                          (no id q _ refl, (no id q _ refl, (λ same. record { action = refl; parser = refl; exact = refl; defaults = refl }, none id q (drop 3 (rules_at 10)) refl))),
+                          (
+                            none id q (rules_at 11) refl,
+                            tt,
+                          ),
+                        ),
                       ),
                     ),
                   ),
@@ -115,7 +121,7 @@ nodes =
       (
         none id q (rules_at 1) refl,
         (
-          (no id q _ refl, (no id q _ refl, (no id q _ refl, (λ same. record { action = refl; parser = refl; exact = refl; defaults = refl }, none id q (drop 4 (rules_at 2)) refl)))),
+          none id q (rules_at 2) refl,
           (
             (no id q _ refl, (no id q _ refl, (no id q _ refl, (λ same. record { action = refl; parser = refl; exact = refl; defaults = refl }, none id q (drop 4 (rules_at 3)) refl)))),
             (
@@ -129,8 +135,14 @@ nodes =
                     (
                       (no id q _ refl, (no id q _ refl, (no id q _ refl, (λ same. record { action = refl; parser = refl; exact = refl; defaults = refl }, none id q (drop 4 (rules_at 8)) refl)))),
                       (
-                        none id q (rules_at 9) refl,
-                        tt,
+                        (no id q _ refl, (no id q _ refl, (no id q _ refl, (λ same. record { action = refl; parser = refl; exact = refl; defaults = refl }, none id q (drop 4 (rules_at 9)) refl)))),
+                        (
+                          (no id q _ refl, (no id q _ refl, (no id q _ refl, (λ same. record { action = refl; parser = refl; exact = refl; defaults = refl }, none id q (drop 4 (rules_at 10)) refl)))),
+                          (
+                            none id q (rules_at 11) refl,
+                            tt,
+                          ),
+                        ),
                       ),
                     ),
                   ),

@@ -11,20 +11,22 @@ use Rattle.bcs_tool_words.specs.CommandLine.{bcs_app}
 use Rattle.bcs_tool_line.specs.declared.color.Color.{Color}
 use Rattle.bcs_tool_line.specs.declared.color.Color.TheVariants.{Auto, Always, Never}
 use Rattle.bcs_tool_line.specs.declared.command.Command.{Command}
-use Rattle.bcs_tool_line.specs.declared.command.Command.TheVariants.{Check, Grows, Encode, Decode, Explain, Normalise, Same, Part, Scan}
+use Rattle.bcs_tool_line.specs.declared.command.Command.TheVariants.{Check, Grows, Show, Example, Encode, Decode, Explain, Normalise, Same, Part, Scan}
 use Rattle.bcs_tool_line.specs.declared.job.Job.{Job}
 
 -- the command of a name
 abbrev pub command_named : Text → Option Command
 command_named name = if bytes_eq name (codes "check") then Some Check
     else (if bytes_eq name (codes "grows") then Some Grows
+    else (if bytes_eq name (codes "show") then Some Show
+    else (if bytes_eq name (codes "example") then Some Example
     else (if bytes_eq name (codes "encode") then Some Encode
     else (if bytes_eq name (codes "decode") then Some Decode
     else (if bytes_eq name (codes "explain") then Some Explain
     else (if bytes_eq name (codes "normalise") then Some Normalise
     else (if bytes_eq name (codes "same") then Some Same
     else (if bytes_eq name (codes "part") then Some Part
-    else (if bytes_eq name (codes "scan") then Some Scan else None))))))))
+    else (if bytes_eq name (codes "scan") then Some Scan else None))))))))))
 
 -- the text of a word, which is empty where there is none
 abbrev pub text_or_empty : Option Text → Text
@@ -62,6 +64,7 @@ pub record IsJob (command : Command) (found : List Row) (job : Job) : Type 0 whe
   pub second : string_bytes job.second ≡ text_or_empty (option_or (first_of (codes "NEW") found) (first_of (codes "A") found))
   pub format : string_bytes job.format ≡ text_or_empty (first_of (codes "FORMAT") found)
   pub path : string_bytes job.path ≡ text_or_empty (first_of (codes "PATH") found)
+  pub name : option_map string_bytes job.name ≡ option_or (first_of (codes "NAME") found) (first_of (codes "variant") found)
   pub file : option_map string_bytes job.file ≡ option_or (first_of (codes "FILE") found) (first_of (codes "B") found)
   pub raw : job.raw ≡ is_set (codes "raw") found
   pub lines : job.lines ≡ is_set (codes "lines") found

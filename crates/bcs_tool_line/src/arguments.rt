@@ -23,7 +23,8 @@ pub fn job_of(alloc: Global, command: Command, given: &ArgMatches<'_>) -> Result
         second: text_of(alloc, given.get_str("NEW").or(given.get_str("A")))?,
         format: text_of(alloc, given.get_str("FORMAT"))?,
         path: text_of(alloc, given.get_str("PATH"))?,
-        file: file_name(alloc, given.get_str("FILE").or(given.get_str("B")))?,
+        name: given_name(alloc, given.get_str("NAME").or(given.get_str("variant")))?,
+        file: given_name(alloc, given.get_str("FILE").or(given.get_str("B")))?,
         raw: is_set(given, "raw"),
         lines: is_set(given, "lines"),
         front: is_set(given, "front"),
@@ -77,8 +78,8 @@ fn text_of(alloc: Global, word: Option<&str>) -> Result<String, AllocError>
     String::from_str(alloc, word.unwrap_or(""))
 }
 
-// The name of a file, where there is one.
-fn file_name(alloc: Global, word: Option<&str>) -> Result<Option<String>, AllocError>
+// A word that may be left out, as a file's name or a container's.
+fn given_name(alloc: Global, word: Option<&str>) -> Result<Option<String>, AllocError>
     ensures { IfOk result (λ o. option_map string_bytes o ≡ option_map (λ t. t.now) word.entry) }
 {
     match word {

@@ -9,6 +9,10 @@ pub enum Command {
     Check,
     /// `grows`: finds whether a registry only adds to an older one.
     Grows,
+    /// `show`: prints a registry for reading.
+    Show,
+    /// `example`: makes a value of a format, and prints its JSON text.
+    Example,
     /// `encode`: turns a value's JSON text into its bytes.
     Encode,
     /// `decode`: turns a value's bytes into its JSON text.
@@ -33,6 +37,8 @@ impl Command {
         match name {
             "check" => Some(Command::Check),
             "grows" => Some(Command::Grows),
+            "show" => Some(Command::Show),
+            "example" => Some(Command::Example),
             "encode" => Some(Command::Encode),
             "decode" => Some(Command::Decode),
             "explain" => Some(Command::Explain),

@@ -18,6 +18,8 @@ pub struct Job {
     pub format: String,
     /// PATH, the steps to a part of a value.
     pub path: String,
+    /// NAME of `show`: a container's name; or of `--variant`: that of a variant.
+    pub name: Option<String>,
     /// FILE, or B of `same`: the name of the file to read in place of the standard input.
     pub file: Option<String>,
     /// Whether `--raw` was given: bytes are read and written as they are, and not as hexadecimal digits.
@@ -30,7 +32,8 @@ pub struct Job {
     pub list: bool,
     /// Whether `--quiet` was given: the line that says where a refusal stands is left out.
     pub quiet: bool,
-    /// `--paths`, `--tree`, `--json`: how pieces are printed. Of several the last one of these is meant.
+    /// `--paths`, `--tree`, `--json`: how pieces are printed. Of several the last one of these is meant. `--json` says
+    /// it of a registry, too.
     pub form: Form,
     /// `--color`, `--no-color`: whether they are printed in color. Of both the latter is meant.
     pub color: Color,

@@ -20,7 +20,7 @@ use Rattle.bcs_shape_places.specs.ShapePlace.{MisshapesAt}
 use Rattle.bcs_shape_places.specs.ShapePlace as shape
 use Rattle.bcs_shape_places.specs.declared.wanted.Wanted.TheVariants as wanted
 use Rattle.bcs_tool_path.specs.BadStep.{IsFirstBadStep}
-use Rattle.bcs_tool_places.specs.FormatText.{unknown_format_text, unknown_word_text}
+use Rattle.bcs_tool_places.specs.FormatText.{unknown_container_text, unknown_format_text, unknown_word_text}
 use Rattle.bcs_tool_places.specs.GrowthText.{growth_text}
 use Rattle.bcs_tool_places.specs.PathText.{bad_step_text}
 use Rattle.bcs_tool_places.specs.PointerText.{refused_text}
@@ -57,6 +57,10 @@ PlacesGrowth older newer line =
 -- no container of the registry that the text writes down has the word for its name
 abbrev pub PlacesWord : List ℕ → List ℕ → List ℕ → Type 0
 PlacesWord text word line = (registry : Entries) × WritesRegistry text registry × IsWellFormed registry × (container_at word registry ≡ None) × (line ≡ unknown_word_text word)
+
+-- the same of NAME
+abbrev pub PlacesContainer : List ℕ → List ℕ → List ℕ → Type 0
+PlacesContainer text name line = (registry : Entries) × WritesRegistry text registry × IsWellFormed registry × (container_at name registry ≡ None) × (line ≡ unknown_container_text name)
 
 -- this is the first name in the format that the word writes down which no container of the registry has
 abbrev pub PlacesName : List ℕ → List ℕ → List ℕ → Type 0

@@ -19,13 +19,13 @@ mod shapes;
 mod wants;
 mod wholes;
 
-pub use formats::{unknown_format_line, unknown_word_line};
+pub use formats::{unknown_container_line, unknown_format_line, unknown_word_line};
 pub use growth::growth_line;
 pub use limits::{put_limit, put_text_limit};
 pub use no_json::{place_of_no_format_json, place_of_no_json};
 pub use paths::bad_step_line;
 pub use placing::{
-    place_of_growth, place_of_name, place_of_path, place_of_rule, place_of_text, place_of_word,
+    place_of_container, place_of_growth, place_of_name, place_of_path, place_of_rule, place_of_text, place_of_word,
 };
 pub use pointers::refused_line;
 pub use rules::rule_line;

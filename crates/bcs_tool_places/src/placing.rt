@@ -8,9 +8,9 @@ ghost use Rattle.bcs_registry_formats.specs.View.{shape_of};
 ghost use Rattle.bcs_registry_formats.specs.WellFormed.{IsWellFormed, is_known};
 ghost use Rattle.bcs_registry_text.specs.Text.{WritesFormat, WritesRegistry};
 ghost use Rattle.bcs_tool_path.specs.Path.{SpellsPath};
-ghost use Rattle.bcs_tool_places.specs.Places.{PlacesGrowth, PlacesName, PlacesPath, PlacesRule, PlacesText, PlacesWord};
+ghost use Rattle.bcs_tool_places.specs.Places.{PlacesGrowth, PlacesContainer, PlacesName, PlacesPath, PlacesRule, PlacesText, PlacesWord};
 
-use crate::formats::{unknown_format_line, unknown_word_line};
+use crate::formats::{unknown_format_line, unknown_container_line, unknown_word_line};
 use crate::growth::growth_line;
 use crate::paths::bad_step_line;
 use crate::pointers::refused_line;
@@ -66,6 +66,22 @@ pub fn place_of_word(
     match registry.container(word) {
         Some(_) => Ok(None),
         None => Ok(Some(unknown_word_line(alloc, word)?)),
+    }
+}
+
+/// That no container of a registry has the NAME that was asked for. `None`: one has.
+pub fn place_of_container(
+    alloc: Global,
+    text: &[u8],
+    name: &str,
+) -> Result<Option<Vec<u8>>, RegistryFault>
+    ensures place { IfOk result (λ x. IfSome x (λ line. PlacesContainer text.now name.now line.items)) }
+    ensures none { IfOk result (λ x. x ≡ None → (registry : Entries) × WritesRegistry text.now registry × (is_some (container_at name.now registry) ≡ true)) }
+{
+    let registry = Registry::read(alloc, text)?;
+    match registry.container(name) {
+        Some(_) => Ok(None),
+        None => Ok(Some(unknown_container_line(alloc, name)?)),
     }
 }
 

@@ -23,6 +23,10 @@ abbrev pub number_option : Text → ℕ → Rule
 number_option name most =
     record (new_rule name) { long = Some name; value_names = 1; parser = Some (Signed (pos 0) (pos most)) }
 
+-- an option of this name with a value, which is any text
+abbrev pub text_option : Text → Rule
+text_option name = record (new_rule name) { long = Some name; value_names = 1 }
+
 -- a command of this name that takes these words, in this order
 abbrev pub command_with : Text → List Rule → App
 command_with name rules = fold with_rule (new_app name) rules
@@ -41,6 +45,14 @@ growth_options = flag_option (codes "list") ∷ quiet_option ∷ []
 abbrev pub grows_app : App
 grows_app = fold with_rule (command_with (codes "grows") (required (codes "OLD") ∷ required (codes "NEW") ∷ [])) growth_options
 
+-- whether a registry is printed as JSON
+abbrev pub show_options : List Rule
+show_options = flag_option (codes "json") ∷ quiet_option ∷ []
+
+-- a registry, and one of its containers
+abbrev pub show_app : App
+show_app = fold with_rule (command_with (codes "show") (required (codes "REG") ∷ optional (codes "NAME") ∷ [])) show_options
+
 -- what each command on values takes
 abbrev pub value_options : List Rule
 value_options = number_option (codes "depth") 500 ∷ number_option (codes "nodes") 4294967295 ∷ quiet_option ∷ []
@@ -48,6 +60,13 @@ value_options = number_option (codes "depth") 500 ∷ number_option (codes "node
 -- a command on values of a format, within limits
 abbrev pub value_app : Text → App
 value_app name = fold with_rule (command_with name (required (codes "REG") ∷ required (codes "FORMAT") ∷ [])) value_options
+
+-- the variant whose example is made
+abbrev pub variant_option : Rule
+variant_option = text_option (codes "variant")
+
+abbrev pub example_app : App
+example_app = fold with_rule (value_app (codes "example")) (variant_option ∷ [])
 
 -- whether each line of the input is an input of its own
 abbrev pub lines_option : Rule
@@ -96,7 +115,7 @@ tells_version = on_top (λ s. record s { has_version = true })
 
 abbrev pub bcs_app : App
 bcs_app = fold (λ program command. with_subcommand program command.top) (wants_command (tells_version (new_app (codes "bcs"))))
-    (check_app ∷ grows_app ∷ encode_app ∷ decode_app ∷ explain_app ∷ normalise_app ∷ same_app ∷ part_app ∷ scan_app ∷ [])
+    (check_app ∷ grows_app ∷ show_app ∷ example_app ∷ encode_app ∷ decode_app ∷ explain_app ∷ normalise_app ∷ same_app ∷ part_app ∷ scan_app ∷ [])
 
 -- the words as texts
 abbrev pub texts_of : List (String Global) → List Text

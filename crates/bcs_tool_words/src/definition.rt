@@ -2,7 +2,7 @@
 ghost use Rattle.std.specs.Prelude.{◌≡◌, IfOk, codes, false, fold};
 ghost use Rattle.clap.specs.Words.{app_of, rule_of, with_rule};
 ghost use Rattle.clap.specs.declared.builder.command.Command.TheViews.{out-Command};
-ghost use Rattle.bcs_tool_words.specs.CommandLine.{bcs_app, check_app, color_options, decode_app, encode_app, explain_app, flag_option, form_options, growth_options, grows_app, input_options, lines_option, normalise_app, number_option, optional, part_app, quiet_option, required, same_app, scan_app, value_app, value_options};
+ghost use Rattle.bcs_tool_words.specs.CommandLine.{bcs_app, check_app, color_options, decode_app, encode_app, example_app, explain_app, flag_option, form_options, growth_options, grows_app, input_options, lines_option, normalise_app, number_option, optional, part_app, quiet_option, required, same_app, scan_app, show_app, show_options, value_app, value_options, variant_option};
 
 use crate::texts;
 use crate::version::VERSION;
@@ -20,6 +20,8 @@ pub fn bcs_command<'a>(alloc: Global) -> Result<Command<'a>, AllocError>
         .subcommand_required(true)
         .subcommand(check_command(alloc)?)?
         .subcommand(grows_command(alloc)?)?
+        .subcommand(show_command(alloc)?)?
+        .subcommand(example_command(alloc)?)?
         .subcommand(encode_command(alloc)?)?
         .subcommand(decode_command(alloc)?)?
         .subcommand(explain_command(alloc)?)?
@@ -60,6 +62,38 @@ fn with_growth_options<'a>(alloc: Global, command: Command<'a>) -> Result<Comman
     command
         .arg(flag(alloc, "list", texts::LIST))?
         .arg(quiet_option(alloc))
+}
+
+fn show_command<'a>(alloc: Global) -> Result<Command<'a>, AllocError>
+    ensures app { IfOk result (λ c. app_of c ≡ show_app) }
+    ensures global { IfOk result (λ c. (out-Command c).has_globals ≡ false) }
+{
+    let command = Command::new(alloc, "show")
+        .about("Prints a registry for reading, or one container with all that it stands on")
+        .after_help(texts::SHOW_END)
+        .arg(required_word(alloc, "REG", texts::REGISTRY))?
+        .arg(optional_word(alloc, "NAME", texts::CONTAINER))?;
+    with_show_options(alloc, command)
+}
+
+fn with_show_options<'a>(alloc: Global, command: Command<'a>) -> Result<Command<'a>, AllocError>
+    requires global { (out-Command command).has_globals ≡ false }
+    ensures app { IfOk result (λ c. app_of c ≡ fold with_rule (app_of command.entry) show_options) }
+    ensures global { IfOk result (λ c. (out-Command c).has_globals ≡ false) }
+{
+    command
+        .arg(flag(alloc, "json", texts::REGISTRY_JSON))?
+        .arg(quiet_option(alloc))
+}
+
+fn example_command<'a>(alloc: Global) -> Result<Command<'a>, AllocError>
+    ensures app { IfOk result (λ c. app_of c ≡ example_app) }
+    ensures global { IfOk result (λ c. (out-Command c).has_globals ≡ false) }
+{
+    value_command(alloc, "example")?
+        .about("Prints the JSON text of a value of a format, ready to be filled in")
+        .after_help(texts::EXAMPLE_END)
+        .arg(variant_option(alloc))
 }
 
 fn encode_command<'a>(alloc: Global) -> Result<Command<'a>, AllocError>
@@ -246,6 +280,16 @@ fn flag<'a>(alloc: Global, name: &'a str, help: &'a str) -> Arg<'a>
         .long(name)
         .action(ArgAction::SetTrue)
         .help(help)
+}
+
+fn variant_option<'a>(alloc: Global) -> Arg<'a>
+    ensures rule { rule_of result ≡ variant_option }
+    ensures global { result.global ≡ false }
+{
+    Arg::new(alloc, "variant")
+        .long("variant")
+        .value_name("NAME")
+        .help(texts::VARIANT)
 }
 
 fn depth_option<'a>(alloc: Global) -> Arg<'a>

@@ -13,6 +13,9 @@ pub const FORMAT: &str =
     "The format: its JSON text where the word begins with { or \", else a container's name. \
     JSON's quotes are part of the word, so a shell wants '\"I16\"'";
 
+pub const CONTAINER: &str =
+    "The container to print, with all that it stands on, in place of the whole registry";
+
 pub const PATH: &str =
     "The steps to the part, joined by /, or . for the whole value. A number leads to an element or \
     a field, counted from 0; inner to what an option, a container or a variant holds; key: and \
@@ -43,6 +46,16 @@ pub const FRONT: &str = "Takes a value at the front of the bytes, and leaves the
 // ---- the option of `grows`
 
 pub const LIST: &str = "Prints all differences first, a line each";
+
+// ---- the option of `show`
+
+pub const REGISTRY_JSON: &str =
+    "Prints the registry's one compact JSON text, so that two spellings of a registry become one";
+
+// ---- the option of `example`
+
+pub const VARIANT: &str =
+    "Takes this variant of the enum that FORMAT names, in place of the first that needs the fewest containers";
 
 // ---- the option of every command
 
@@ -87,6 +100,16 @@ pub const GROWS_END: &str = "Example:
   bcs grows --list '{}' '{\"Id\":\"UNITSTRUCT\"}' | xargs  # Id: container added grows
 
 Status: 0 grows, 2 refused, 3 usage, 4 file or memory";
+
+pub const SHOW_END: &str = "Example:
+  bcs show '{\"Id\":{\"NEWTYPESTRUCT\":\"U64\"}}' | xargs  # Id: NEWTYPESTRUCT, 8 bytes, used by no other U64
+
+Status: 0 done, 2 refused, 3 usage, 4 file or memory";
+
+pub const EXAMPLE_END: &str = "Example:
+  bcs example '{\"E\":{\"ENUM\":{\"0\":{\"A\":\"UNIT\"},\"1\":{\"B\":{\"NEWTYPE\":\"U8\"}}}}}' E --variant B  # {\"B\":0}
+
+Status: 0 done, 2 refused, 3 usage, 4 file or memory";
 
 pub const ENCODE_END: &str = "Example:
   echo -4660 | bcs encode '{}' '\"I16\"'  # cced

@@ -29,6 +29,8 @@ fn answer_job(alloc: Global, quiet: bool, words: &[&str]) -> Result<String, RowF
             without_input(alloc, &work)
         }
         ["grows", words @ ..] => on_growth(alloc, quiet, words),
+        ["show", words @ ..] => on_registry(alloc, quiet, words),
+        ["example", words @ ..] => on_example(alloc, quiet, words),
         ["part", words @ ..] => on_parts(alloc, quiet, words),
         ["explain", words @ ..] => on_pieces(alloc, quiet, words),
         [name, words @ ..] => match Command::named(name) {
@@ -55,6 +57,43 @@ fn on_growth(alloc: Global, quiet: bool, words: &[&str]) -> Result<String, RowFa
     without_input(alloc, &work)
 }
 
+// The answer to a job that prints a registry, or one container with all that it stands on.
+fn on_registry(alloc: Global, quiet: bool, words: &[&str]) -> Result<String, RowFault> {
+    let (form, words) = match words {
+        ["--json", words @ ..] => (Form::Json, words),
+        _ => (Form::Ways, words),
+    };
+    let (registry, name) = match words {
+        [registry] => (*registry, None),
+        [registry, name] => (*registry, Some(String::from_str(alloc, name)?)),
+        _ => return Err(RowFault::NotUnderstood),
+    };
+    let work = Work {
+        name,
+        style: Style { form, ..PLAIN },
+        ..judged(alloc, Command::Show, quiet, registry, "")?
+    };
+    without_input(alloc, &work)
+}
+
+// The answer to a job on an example, whose variant comes first.
+fn on_example(alloc: Global, quiet: bool, words: &[&str]) -> Result<String, RowFault> {
+    let (name, words) = match words {
+        ["--variant", name, words @ ..] => (Some(String::from_str(alloc, name)?), words),
+        _ => (None, words),
+    };
+    let [registry, format, limits @ ..] = words else {
+        return Err(RowFault::NotUnderstood);
+    };
+    let (options, _) = options_of(quiet, &[]);
+    let asked = asked(Command::Example, options, registry, format, limits);
+    let work = Work {
+        name,
+        ..work_of(alloc, asked)?
+    };
+    without_input(alloc, &work)
+}
+
 // A job on a registry, or on an older one and a newer one.
 fn judged(
     alloc: Global,
@@ -73,6 +112,7 @@ fn judged(
         lines: false,
         front: false,
         list: false,
+        name: None,
         quiet,
         style: PLAIN,
         limits: Limits::standard(),
@@ -264,6 +304,7 @@ fn work_of(alloc: Global, asked: ValueJob<'_>) -> Result<Work, RowFault> {
         lines: asked.options.lines,
         front: asked.options.front,
         list: false,
+        name: None,
         quiet: asked.options.quiet,
         style: asked.style,
         limits,
@@ -319,7 +360,7 @@ fn with_pairs(
 // The input is left as it was: the first call of the source would fail.
 fn without_input(alloc: Global, work: &Work) -> Result<String, RowFault> {
     let mut input = PieceSource::new(b"x", 1, Some(1));
-    let mut out = PieceSink::<160>::new(7, None);
+    let mut out = PieceSink::<1000>::new(7, None);
     let outcome = run(alloc, work, Origin::StandardInput, &mut input, &mut out);
     if input.failed() {
         return Err(RowFault::Disagreement("input"));

@@ -32,6 +32,7 @@ pub(crate) fn job_for_lines(
         lines: true,
         front: false,
         list: false,
+        name: None,
         quiet: true,
         style: Style {
             form: Form::Ways,

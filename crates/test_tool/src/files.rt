@@ -33,6 +33,7 @@ fn job(alloc: Global, command: Command) -> Result<Job, AllocError> {
         lines: false,
         front: false,
         list: false,
+        name: Some(String::from_str(alloc, "N")?),
         quiet: true,
         form: Form::Tree,
         color: Color::Always,
@@ -47,6 +48,7 @@ fn is_work(work: &Work, command: Command) -> bool {
         && work.second.as_slice() == b"newer".as_slice()
         && work.format.as_str() == "F"
         && work.path.as_str() == "P"
+        && work.name.as_deref() == Some("N")
         && work.raw
         && work.quiet
         && work.style.form == Form::Tree

@@ -1,4 +1,4 @@
-use Rattle.bcs_tool_answers.proofs.OneRefusal.{check_reads_nothing, growth_reads_nothing}
+use Rattle.bcs_tool_answers.proofs.OneRefusal.{check_reads_nothing, example_reads_nothing, growth_reads_nothing, show_reads_nothing}
 use Rattle.bcs_tool_answers.proofs.preparing.prepare.Goals as goal
 
 pub returns-in_ok-answer_check-in-Check : goal.returns-in_ok-answer_check-in-Check
@@ -6,3 +6,9 @@ returns-in_ok-answer_check-in-Check c = (check_reads_nothing c.args.work.now c.i
 
 pub returns-in_ok-answer_growth-in-Grows : goal.returns-in_ok-answer_growth-in-Grows
 returns-in_ok-answer_growth-in-Grows c = (growth_reads_nothing c.args.work.now c.in-Grows.is, c.in_ok-answer_growth-in-Grows.ensures)
+
+pub returns-in_ok-answer_show-in-Show : goal.returns-in_ok-answer_show-in-Show
+returns-in_ok-answer_show-in-Show c = (show_reads_nothing c.args.work.now c.in-Show.is, c.in_ok-answer_show-in-Show.ensures)
+
+pub returns-in_ok-answer_example-in-Example : goal.returns-in_ok-answer_example-in-Example
+returns-in_ok-answer_example-in-Example c = (example_reads_nothing c.args.work.now c.in-Example.is, c.in_ok-answer_example-in-Example.ensures)

@@ -26,8 +26,10 @@ returns c =
           (c.get_str-4.ensures ∙ first_value-rows f (codes "A")));
       format = c.in_ok-text_of-3.ensures ∙ ap text_or_empty (c.get_str-5.ensures ∙ first_value-rows f (codes "FORMAT"));
       path = c.in_ok-text_of-4.ensures ∙ ap text_or_empty (c.get_str-6.ensures ∙ first_value-rows f (codes "PATH"));
-      file = c.in_ok-file_name.ensures ∙ either c.get_str-7.result c.get_str-8.result c.or-3.result _ _ c.or-3.ensures (c.get_str-7.ensures ∙ first_value-rows f (codes "FILE"))
-          (c.get_str-8.ensures ∙ first_value-rows f (codes "B"));
+      name = c.in_ok-given_name.ensures ∙ either c.get_str-7.result c.get_str-8.result c.or-3.result _ _ c.or-3.ensures (c.get_str-7.ensures ∙ first_value-rows f (codes "NAME"))
+          (c.get_str-8.ensures ∙ first_value-rows f (codes "variant"));
+      file = c.in_ok-given_name-2.ensures ∙ either c.get_str-9.result c.get_str-10.result c.or-4.result _ _ c.or-4.ensures (c.get_str-9.ensures ∙ first_value-rows f (codes "FILE"))
+          (c.get_str-10.ensures ∙ first_value-rows f (codes "B"));
       raw = c.is_set.ensures;
       lines = c.is_set-2.ensures;
       front = c.is_set-3.ensures;
@@ -50,5 +52,8 @@ returns-in_err-text_of-3 c = search rules
 pub returns-in_err-text_of-4 : goal.returns-in_err-text_of-4
 returns-in_err-text_of-4 c = search rules
 
-pub returns-in_err-file_name : goal.returns-in_err-file_name
-returns-in_err-file_name c = search rules
+pub returns-in_err-given_name : goal.returns-in_err-given_name
+returns-in_err-given_name c = search rules
+
+pub returns-in_err-given_name-2 : goal.returns-in_err-given_name-2
+returns-in_err-given_name-2 c = search rules

@@ -3,9 +3,9 @@ use Rattle.bcs_tool_words.specs.CommandLine.{texts_of}
 use Rattle.bcs_tool_line.specs.LineFaults.{IsFaultOf}
 use Rattle.bcs_tool_line.proofs.LineFaultLemmas.{fault_of_joined, memory_alone, takes_words}
 use Rattle.bcs_tool_line.proofs.command_line.line.Goals as goal
-use Rattle.bcs_tool_line.proofs.command_line.line.Goals.{Joined-job}
+use Rattle.bcs_tool_line.proofs.command_line.line.Goals.{Joined-job-2}
 
-refused : (c : Joined-job) → IsFaultOf (texts_of c.args.words.now) c.joined_fault.result
+refused : (c : Joined-job-2) → IsFaultOf (texts_of c.args.words.now) c.joined_fault.result
 refused c =
     fault_of_joined (texts_of c.args.words.now) c.in_ok-job.job c.joined_fault.result c.in_ok-job.ensures.job c.in_ok-job.ensures.taken
     (sym c.has_joined.ensures ∙ c.if-has_joined.true) c.joined_fault.ensures

@@ -24,18 +24,22 @@ returns c =
     c.in_ok-check_command.ensures.global top c.in_ok-check_command.ensures.app in
     let grows = added _ _ _ c.in_ok-subcommand-2.ensures
     c.in_ok-grows_command.ensures.global check c.in_ok-grows_command.ensures.app in
-    let encode = added _ _ _ c.in_ok-subcommand-3.ensures
-    c.in_ok-encode_command.ensures.global grows c.in_ok-encode_command.ensures.app in
-    let decode = added _ _ _ c.in_ok-subcommand-4.ensures
+    let show = added _ _ _ c.in_ok-subcommand-3.ensures
+    c.in_ok-show_command.ensures.global grows c.in_ok-show_command.ensures.app in
+    let example = added _ _ _ c.in_ok-subcommand-4.ensures
+    c.in_ok-example_command.ensures.global show c.in_ok-example_command.ensures.app in
+    let encode = added _ _ _ c.in_ok-subcommand-5.ensures
+    c.in_ok-encode_command.ensures.global example c.in_ok-encode_command.ensures.app in
+    let decode = added _ _ _ c.in_ok-subcommand-6.ensures
     c.in_ok-decode_command.ensures.global encode c.in_ok-decode_command.ensures.app in
-    let explain = added _ _ _ c.in_ok-subcommand-5.ensures
+    let explain = added _ _ _ c.in_ok-subcommand-7.ensures
     c.in_ok-explain_command.ensures.global decode c.in_ok-explain_command.ensures.app in
-    let normalise = added _ _ _ c.in_ok-subcommand-6.ensures
+    let normalise = added _ _ _ c.in_ok-subcommand-8.ensures
     c.in_ok-normalise_command.ensures.global explain c.in_ok-normalise_command.ensures.app in
-    let same = added _ _ _ c.in_ok-subcommand-7.ensures
+    let same = added _ _ _ c.in_ok-subcommand-9.ensures
     c.in_ok-same_command.ensures.global normalise c.in_ok-same_command.ensures.app in
-    let part = added _ _ _ c.in_ok-subcommand-8.ensures
+    let part = added _ _ _ c.in_ok-subcommand-10.ensures
     c.in_ok-part_command.ensures.global same c.in_ok-part_command.ensures.app in
-    IfOk-weaker c.subcommand-9.result _ _
+    IfOk-weaker c.subcommand-11.result _ _
     (λ r h. added _ _ r h c.in_ok-scan_command.ensures.global part c.in_ok-scan_command.ensures.app)
-    c.subcommand-9.ensures
+    c.subcommand-11.ensures

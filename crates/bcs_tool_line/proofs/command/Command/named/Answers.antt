@@ -7,6 +7,12 @@ returns-in-check c = search rules
 pub returns-in-grows : goal.returns-in-grows
 returns-in-grows c = search rules
 
+pub returns-in-show : goal.returns-in-show
+returns-in-show c = search rules
+
+pub returns-in-example : goal.returns-in-example
+returns-in-example c = search rules
+
 pub returns-in-encode : goal.returns-in-encode
 returns-in-encode c = search rules
 

@@ -3,7 +3,7 @@ use Rattle.std.proofs.lemmas.Result.{IfOk-weaker}
 use Rattle.bcs_tool_answers.specs.Answers.{Lists}
 use Rattle.bcs_tool_answers.specs.Places.{TellsWords}
 use Rattle.bcs_tool_answers.proofs.AnswerLemmas.{words_answer}
-use Rattle.bcs_tool_answers.proofs.preparing.refused_words.Goals as goal
+use Rattle.bcs_tool_answers.proofs.refusing.refused_words.Goals as goal
 
 pub returns-clause-answers : goal.returns-clause-answers
 returns-clause-answers c =

@@ -1,0 +1,2 @@
+pub mod OneWish
+pub mod ExampleTextLaws

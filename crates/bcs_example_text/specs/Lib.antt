@@ -1,0 +1,2 @@
+pub mod ExampleText
+pub mod Laws

@@ -1,0 +1,46 @@
+//! An example of a format.
+ghost use Rattle.std.specs.Prelude.{◌≡◌, ℕ, List, IfOk, string_bytes};
+ghost use Rattle.bcs_registry_formats.specs.View.{shape_of};
+ghost use Rattle.bcs_tool_answers.specs.Answers.{AsksExample};
+ghost use Rattle.bcs_tool_answers.specs.Judging.{IsFormat, IsRegistry};
+ghost use Rattle.bcs_tool_answers.specs.Places.{IsAnswer};
+
+use crate::answer::{Answer, refused, shown};
+use crate::judging::judge_formatted;
+use crate::preparing::refused_words;
+use bcs_example_text::{ExampleTextFault, WantedFault, Wish, example_text};
+use bcs_registry::{Format, Registry};
+use bcs_tool_files::Work;
+use bcs_tool_line::Command;
+use std::alloc::{AllocError, Global};
+
+/// The text of the format's example, whatever the input.
+pub fn answer_example(alloc: Global, work: &Work) -> Result<Answer, AllocError>
+    requires { work.now.command ≡ Command.Example }
+    ensures { IfOk result (λ a. (bytes : List ℕ) → IsAnswer work.now bytes a) }
+{
+    match judge_formatted(alloc, work) {
+        Ok((registry, format)) => answer_wish(alloc, work, &registry, &format),
+        Err(fault) => refused_words(alloc, work, fault),
+    }
+}
+
+// The text of the example that is wished for, or why there is none.
+fn answer_wish(
+    alloc: Global,
+    work: &Work,
+    registry: &Registry,
+    format: &Format,
+) -> Result<Answer, AllocError>
+    requires asks { AsksExample work.now registry.now (shape_of format.now) }
+    ensures { IfOk result (λ a. (bytes : List ℕ) → IsAnswer work.now bytes a) }
+{
+    let wish = Wish {
+        variant: work.name.as_deref(),
+    };
+    match example_text(alloc, registry, format, &wish, &work.limits) {
+        Ok(text) => shown(alloc, text),
+        Err(ExampleTextFault::Wanted(WantedFault::OutOfMemory)) => Err(AllocError),
+        Err(fault) => refused(alloc, fault.name()),
+    }
+}
