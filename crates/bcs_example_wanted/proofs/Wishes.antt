@@ -84,7 +84,7 @@ module _ (r : Entries) (orderly : IsOrderly r) where
   variant_is_ready zero n k = tt
   variant_is_ready (suc d) n k = holds_ready d n k (content_at n r) refl (in_range r orderly.containers n)
 
-  no_variant : (d : ℕ) (n : List ℕ) (k : ℕ) → variant_example r d n k ≡ None → HasNoVariant r d (shape.name n) k
+  pub no_variant : (d : ℕ) (n : List ℕ) (k : ℕ) → variant_example r d n k ≡ None → HasNoVariant r d (shape.name n) k
   no_variant zero n k none u h low = omega (arith, low)
   no_variant (suc d) n k none u h low = holds_none d n k u (content_at n r) (omega (arith, low)) none h
 
@@ -108,7 +108,7 @@ wished_is_ready registry orderly d wish s t is = at_some (wished registry d wish
 
 -- ---- what is made and what is refused, by the limits
 
-sound : (r : Entries) → IsOrderly r → (limits : Bounds) (wish : Wish) (s : Shape) (t : Tree) → wished r limits.depth wish s ≡ Some t → nodes t ≤ limits.nodes → IsSound r limits s t
+pub sound : (r : Entries) → IsOrderly r → (limits : Bounds) (wish : Wish) (s : Shape) (t : Tree) → wished r limits.depth wish s ≡ Some t → nodes t ≤ limits.nodes → IsSound r limits s t
 sound r orderly limits wish s t is few =
     let h = wished_is_ready r orderly limits.depth wish s t is in
     record { fit = h.fit; distinct = h.distinct; depth_holds = h.depth_holds; nodes_hold = few; lengths = h.lengths }
