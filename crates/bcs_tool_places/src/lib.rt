@@ -25,7 +25,8 @@ pub use limits::{put_limit, put_text_limit};
 pub use no_json::{place_of_no_format_json, place_of_no_json};
 pub use paths::bad_step_line;
 pub use placing::{
-    place_of_container, place_of_growth, place_of_name, place_of_path, place_of_rule, place_of_text, place_of_word,
+    place_of_container, place_of_growth, place_of_name, place_of_path, place_of_rule,
+    place_of_text, place_of_word,
 };
 pub use pointers::refused_line;
 pub use rules::rule_line;

@@ -10,7 +10,7 @@ ghost use Rattle.bcs_registry_text.specs.Text.{WritesFormat, WritesRegistry};
 ghost use Rattle.bcs_tool_path.specs.Path.{SpellsPath};
 ghost use Rattle.bcs_tool_places.specs.Places.{PlacesGrowth, PlacesContainer, PlacesName, PlacesPath, PlacesRule, PlacesText, PlacesWord};
 
-use crate::formats::{unknown_format_line, unknown_container_line, unknown_word_line};
+use crate::formats::{unknown_container_line, unknown_format_line, unknown_word_line};
 use crate::growth::growth_line;
 use crate::paths::bad_step_line;
 use crate::pointers::refused_line;
