@@ -7,7 +7,7 @@ pub mod filling;
 pub mod laws;
 pub mod names;
 pub mod noting;
-pub mod placing;
+mod placing;
 pub mod ranks;
 pub mod rounds;
 mod waiting;

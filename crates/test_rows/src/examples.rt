@@ -6,15 +6,25 @@ use crate::setting::Setting;
 use crate::words::word_of;
 use bcs_encode::encode;
 use bcs_example::example_value;
+use bcs_example_wanted::{Wish, wished_example};
 use bcs_json::from_bcs;
 use bcs_value::Value;
 use std::alloc::Global;
 
-pub(crate) fn answer(alloc: Global, setting: &Setting, words: &[&str]) -> Result<String, RowFault> {
-    match words {
-        [format, limits @ ..] => {
+pub(crate) fn answer(
+    alloc: Global,
+    setting: &Setting,
+    question: &str,
+    words: &[&str],
+) -> Result<String, RowFault> {
+    match (question, words) {
+        ("example", [format, limits @ ..]) => {
             let asked = Question::read(alloc, &setting.registry, format, limits)?;
             example(alloc, &asked)
+        }
+        ("variant", [name, format, limits @ ..]) => {
+            let asked = Question::read(alloc, &setting.registry, format, limits)?;
+            wished(alloc, &asked, Some(*name))
         }
         _ => Err(RowFault::NotUnderstood),
     }
@@ -22,7 +32,21 @@ pub(crate) fn answer(alloc: Global, setting: &Setting, words: &[&str]) -> Result
 
 // The bytes and the text of the example, or why there is none.
 fn example(alloc: Global, asked: &Question) -> Result<String, RowFault> {
-    match example_value(alloc, &asked.registry, &asked.format, &asked.limits) {
+    let answer = match example_value(alloc, &asked.registry, &asked.format, &asked.limits) {
+        Ok(value) => spelled(alloc, asked, &value)?,
+        Err(fault) => format!(in alloc; "{fault}")?,
+    };
+    if wished(alloc, asked, None)? == answer {
+        Ok(answer)
+    } else {
+        Err(RowFault::Disagreement("wished_example"))
+    }
+}
+
+// The same of the example that has the variant of this name.
+fn wished(alloc: Global, asked: &Question, variant: Option<&str>) -> Result<String, RowFault> {
+    let wish = Wish { variant };
+    match wished_example(alloc, &asked.registry, &asked.format, &wish, &asked.limits) {
         Ok(value) => spelled(alloc, asked, &value),
         Err(fault) => Ok(format!(in alloc; "{fault}")?),
     }
