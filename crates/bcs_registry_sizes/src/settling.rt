@@ -21,6 +21,7 @@ pub fn is_settled_container(container: &Container, waiting: &BTreeMap<&str, &Con
     }
 }
 
+/// The same of a format.
 #[cycle(settling)]
 fn is_settled_format(format: &Format, waiting: &BTreeMap<&str, &Container>) -> bool
     ensures { result ≡ rests_on (is_settled waiting.now) (shape_of format.now) }
@@ -52,6 +53,7 @@ fn is_settled_format(format: &Format, waiting: &BTreeMap<&str, &Container>) -> b
     }
 }
 
+/// The same of each format of a row.
 #[cycle(settling)]
 fn is_settled_row(formats: &[Format], waiting: &BTreeMap<&str, &Container>) -> bool
     ensures { result ≡ row_rests_on (is_settled waiting.now) (formats_shapes formats.now) }
@@ -64,12 +66,14 @@ fn is_settled_row(formats: &[Format], waiting: &BTreeMap<&str, &Container>) -> b
     true
 }
 
+/// Whether the container of this name doesn't wait.
 fn is_settled_name(name: &str, waiting: &BTreeMap<&str, &Container>) -> bool
     ensures { result ≡ is_settled waiting.now name.now }
 {
     !waiting.contains_key(name)
 }
 
+/// The same of each field.
 fn are_settled_fields(fields: &[Named<Format>], waiting: &BTreeMap<&str, &Container>) -> bool
     ensures { result ≡ row_rests_on (is_settled waiting.now) (field_shapes (map field_of fields.now)) }
 {
@@ -81,6 +85,7 @@ fn are_settled_fields(fields: &[Named<Format>], waiting: &BTreeMap<&str, &Contai
     true
 }
 
+/// The same of what a variant carries.
 fn is_settled_payload(payload: &VariantFormat, waiting: &BTreeMap<&str, &Container>) -> bool
     ensures { result ≡ rests_on (is_settled waiting.now) (payload_shape (payload_of payload.now)) }
 {
@@ -92,6 +97,7 @@ fn is_settled_payload(payload: &VariantFormat, waiting: &BTreeMap<&str, &Contain
     }
 }
 
+/// The same of each variant.
 fn are_settled_variants(
     variants: &BTreeMap<u32, Named<VariantFormat>>,
     waiting: &BTreeMap<&str, &Container>,
