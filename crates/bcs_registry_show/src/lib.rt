@@ -1,8 +1,8 @@
 //! A registry, or what a container of it stands on, as text: in lines for reading, or in JSON.
 #![tactic(auto)]
 
+mod as_json;
 mod form;
-mod json;
 pub mod laws;
 mod show;
 

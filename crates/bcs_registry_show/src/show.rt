@@ -7,8 +7,8 @@ ghost use Rattle.bcs_registry_show.specs.declared.form.RegistryForm.TheVariants.
 ghost use Rattle.bcs_registry_text.specs.Text.{WritesRegistry};
 ghost use Rattle.bcs_registry_uses.specs.Uses.{part};
 
+use crate::as_json::json_line;
 use crate::form::RegistryForm;
-use crate::json::json_line;
 use bcs_registry::Registry;
 use bcs_registry_lines::{Selection, registry_lines};
 use bcs_registry_sizes::container_sizes;

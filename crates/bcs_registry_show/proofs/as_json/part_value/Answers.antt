@@ -10,8 +10,8 @@ use Rattle.serde_json.proofs.Views.{view-Object}
 use Rattle.bcs_registry_formats.specs.View.{entries_of}
 use Rattle.bcs_registry_text.specs.Shown.{shown_containers}
 use Rattle.bcs_registry_show.proofs.Parts.{kept-shown}
-use Rattle.bcs_registry_show.proofs.json.part_value.Goals.{in-Some, in_default}
-use Rattle.bcs_registry_show.proofs.json.part_value.Goals as goal
+use Rattle.bcs_registry_show.proofs.as_json.part_value.Goals.{in-Some, in_default}
+use Rattle.bcs_registry_show.proofs.as_json.part_value.Goals as goal
 
 pub returns : goal.returns
 returns c =

@@ -3,7 +3,7 @@ use Rattle.bcs_registry_lines.specs.Selected.{is_selected}
 use Rattle.bcs_registry_text.specs.Text.{WritesRegistry}
 use Rattle.bcs_registry_uses.specs.Uses.{part}
 use Rattle.bcs_registry_show.proofs.LineEnd.{ended, writes_ended}
-use Rattle.bcs_registry_show.proofs.json.json_line.Goals as goal
+use Rattle.bcs_registry_show.proofs.as_json.json_line.Goals as goal
 
 pub returns-clause-reads_back : goal.returns-clause-reads_back
 returns-clause-reads_back c formed =

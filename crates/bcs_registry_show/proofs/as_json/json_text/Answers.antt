@@ -13,7 +13,7 @@ use Rattle.bcs_registry_text.specs.Shown.{shown}
 use Rattle.bcs_registry_text.specs.Text.{WritesRegistry}
 use Rattle.bcs_registry_uses.specs.Uses.{part}
 use Rattle.bcs_registry_show.proofs.Parts.{orderly_part, part-all}
-use Rattle.bcs_registry_show.proofs.json.json_text.Goals as goal
+use Rattle.bcs_registry_show.proofs.as_json.json_text.Goals as goal
 
 pub returns-in-All-clause-text : goal.returns-in-All-clause-text
 returns-in-All-clause-text c =
