@@ -25,7 +25,7 @@ use Rattle.bcs_example_text.specs.declared.fault.ExampleTextFault.TheVariants.{W
 use Rattle.bcs_example_text.proofs.OneWish.{none_given, none_or_given, same_refusal, same_wished, unknown_or_given, unknown_or_numbered}
 
 -- a wish for a variant of this name, or for none
-wish_for : Option (List ℕ) → Wish
+abbrev wish_for : Option (List ℕ) → Wish
 wish_for variant = record { variant = option_map (λ n. record { ref_ptr = (0, 0); now = n }) variant }
 
 wish_for_is : (variant : Option (List ℕ)) → IsWish variant (wish_for variant)

@@ -1,8 +1,8 @@
 -- What is given of a wish, and why there is none: never both, and one of both.
-use Rattle.std.proofs.Common.{◌≡◌, ◌∙◌, ◌⊎◌, inl, inr, ℕ, zero, suc, List, Bor, Option, Some, None, option_map, ap, arith, refl, subst, sym}
+use Rattle.std.proofs.Common.{◌≡◌, ◌∙◌, ◌⊎◌, ◌≤◌, inl, inr, ℕ, zero, suc, List, Bor, Option, Some, None, option_map, ap, arith, refl, subst, sym}
 use Rattle.std.specs.Option.{option_and_then}
 use Rattle.std.proofs.lemmas.Option.{none-some}
-use Rattle.bcs_registry_formats.specs.Container.{Entries}
+use Rattle.bcs_registry_formats.specs.Container.{Entries, content_at, of}
 use Rattle.bcs_registry_formats.specs.Ranges.{IsOrderly}
 use Rattle.bcs_registry_formats.specs.Shape as shape
 use Rattle.bcs_registry_formats.specs.Shape.{Shape}
@@ -13,12 +13,12 @@ use Rattle.bcs_value_tree.specs.Tree.{Tree, depth, nodes}
 use Rattle.bcs_example.proofs.Options.{mapped_some}
 use Rattle.bcs_example_wanted.specs.Refused.{HasNoVariant, HasNoneWished, LacksVariant, RefusesWish}
 use Rattle.bcs_example_wanted.specs.Wanted.{carried, number_in, numbered_example, wished, wished_for}
-use Rattle.bcs_registry_formats.specs.Container.{content_at}
 use Rattle.bcs_example_wanted.specs.declared.fault.WantedFault.{WantedFault}
 use Rattle.bcs_example_wanted.specs.declared.fault.WantedFault.TheVariants.{UnknownVariant, NoValue, TooManyNodes, OutOfMemory}
 use Rattle.bcs_example_wanted.specs.declared.wish.Wish.{Wish}
 use Rattle.bcs_example.proofs.ExampleLaws.{none_without_value}
 use Rattle.bcs_example.specs.Example.{content_example, named_example}
+use Rattle.bcs_example.specs.Ready.{IsReady}
 use Rattle.bcs_example_wanted.proofs.Wishes.{no_variant, wished_is_ready}
 use Rattle.bcs_example_text.specs.ExampleText.{IsWish}
 
@@ -82,6 +82,7 @@ unknown_or_given r d s wish t orderly lacks is = unknown_gives_none r d s wish.v
 pub none_or_given : (r : Entries) (d : ℕ) (s : Shape) (wish : Wish) (t : Tree) → IsOrderly r → HasNoneWished r d s wish.variant → wished r d wish s ≡ Some t → ⊥
 none_or_given r d s wish t orderly none is = by wish.variant refl none
   where
+    ready : IsReady r d (of s) t
     ready = wished_is_ready r orderly d wish s t is
 
     by : (o : Option (Bor (List ℕ))) → wish.variant ≡ o → HasNoneWished r d s o → ⊥
