@@ -1,17 +1,15 @@
--- Faults that a `?` hands on, and commands that work on values.
+-- Faults that a `?` hands on, and commands that take a format.
 use Rattle.std.proofs.Common.{◌≡◌, ◌≢◌, ◌⊎◌, ◌∙◌, Result, IfErr, ap, inl, inr, refl, sym, subst, true}
 use Rattle.std.specs.Result.{IsErrAnd}
 use Rattle.std.proofs.lemmas.Result.{err_from_is_err_and}
 use Rattle.bcs_registry_formats.specs.declared.fault.RegistryFault.{RegistryFault}
 use Rattle.bcs_registry_formats.specs.declared.fault.RegistryFault.TheVariants.{OutOfMemory}
 use Rattle.bcs_registry_formats.specs.declared.growth_fault.GrowthFault.{GrowthFault}
-use Rattle.bcs_tool_path.specs.declared.path_fault.PathFault.{PathFault}
-use Rattle.bcs_tool_path.specs.declared.path_fault.PathFault.TheVariants as path
 use Rattle.bcs_tool_line.specs.declared.command.Command.{Command}
-use Rattle.bcs_tool_line.specs.declared.command.Command.TheVariants.{Encode, Decode, Explain, Normalise, Same, Part, Scan}
-use Rattle.bcs_tool_answers.specs.Judging.{path_job_fault, works_on_values}
+use Rattle.bcs_tool_line.specs.declared.command.Command.TheVariants.{Example, Encode, Decode, Explain, Normalise, Same, Part, Scan}
+use Rattle.bcs_tool_answers.specs.Judging.{takes_format}
 use Rattle.bcs_tool_answers.specs.declared.job_fault.JobFault.{JobFault}
-use Rattle.bcs_tool_answers.specs.declared.job_fault.JobFault.TheVariants.{BadPath, Registry, Growth}
+use Rattle.bcs_tool_answers.specs.declared.job_fault.JobFault.TheVariants.{Registry, Growth}
 
 pub refused_by_registry : {T : Type 0} (P : JobFault → Type 0) (r : Result T JobFault) (fault : RegistryFault) → IsErrAnd r (λ e. e ≡ Registry fault)
     → (fault ≢ OutOfMemory → P (Registry fault)) → IfErr r (λ e. e ≢ Registry OutOfMemory → P e)
@@ -23,21 +21,14 @@ pub refused_by_growth : {T : Type 0} (P : JobFault → Type 0) (r : Result T Job
 refused_by_growth P r fault is why =
     let p = err_from_is_err_and r is in rw p.1 (λ differs. subst P (sym p.2) why)
 
--- a PATH that is refused, where memory did not run out
-pub refused_by_path : {T : Type 0} (P : JobFault → Type 0) (r : Result T JobFault) (fault : PathFault) → IsErrAnd r (λ e. e ≡ path_job_fault fault)
-    → (fault ≡ path.BadPath → P BadPath) → IfErr r (λ e. e ≢ Registry OutOfMemory → P e)
-refused_by_path P r path.BadPath is why =
-    let p = err_from_is_err_and r is in rw p.1 (λ differs. subst P (sym p.2) (why refl))
-refused_by_path P r path.OutOfMemory is why =
-    let p = err_from_is_err_and r is in rw p.1 (λ differs. absurd (differs p.2))
-
--- a command of one of these works on values
-pub works : (command : Command) → (command ≡ Encode) ⊎ (command ≡ Decode) ⊎ (command ≡ Explain) ⊎ (command ≡ Normalise) ⊎ (command ≡ Same) ⊎ (command ≡ Part) ⊎ (command ≡ Scan)
-    → works_on_values command ≡ true
-works command (inl is) = ap works_on_values is
-works command (inr (inl is)) = ap works_on_values is
-works command (inr (inr (inl is))) = ap works_on_values is
-works command (inr (inr (inr (inl is)))) = ap works_on_values is
-works command (inr (inr (inr (inr (inl is))))) = ap works_on_values is
-works command (inr (inr (inr (inr (inr (inl is)))))) = ap works_on_values is
-works command (inr (inr (inr (inr (inr (inr is)))))) = ap works_on_values is
+-- a command of one of these takes a format
+pub formatted : (command : Command) → (command ≡ Example) ⊎ (command ≡ Encode) ⊎ (command ≡ Decode) ⊎ (command ≡ Explain) ⊎ (command ≡ Normalise) ⊎ (command ≡ Same) ⊎ (command ≡ Part) ⊎ (command ≡ Scan)
+    → takes_format command ≡ true
+formatted command (inl is) = ap takes_format is
+formatted command (inr (inl is)) = ap takes_format is
+formatted command (inr (inr (inl is))) = ap takes_format is
+formatted command (inr (inr (inr (inl is)))) = ap takes_format is
+formatted command (inr (inr (inr (inr (inl is))))) = ap takes_format is
+formatted command (inr (inr (inr (inr (inr (inl is)))))) = ap takes_format is
+formatted command (inr (inr (inr (inr (inr (inr (inl is))))))) = ap takes_format is
+formatted command (inr (inr (inr (inr (inr (inr (inr is))))))) = ap takes_format is

@@ -1,13 +1,14 @@
 //! An example of a format.
-ghost use Rattle.std.specs.Prelude.{◌≡◌, ℕ, List, IfOk, string_bytes};
+ghost use Rattle.std.specs.Prelude.{◌≡◌, ◌≢◌, ℕ, List, IfOk};
 ghost use Rattle.bcs_registry_formats.specs.View.{shape_of};
-ghost use Rattle.bcs_tool_answers.specs.Answers.{AsksExample};
-ghost use Rattle.bcs_tool_answers.specs.Judging.{IsFormat, IsRegistry};
-ghost use Rattle.bcs_tool_answers.specs.Places.{IsAnswer};
+ghost use Rattle.bcs_example_text.specs.ExampleText.{example_fault_name};
+ghost use Rattle.bcs_example_wanted.specs.declared.fault.WantedFault.TheVariants.{OutOfMemory};
+ghost use Rattle.bcs_tool_answers.specs.Answers.{AsksExample, refusal_line};
+ghost use Rattle.bcs_tool_answers.specs.Places.{IsAnswer, Prints};
 
 use crate::answer::{Answer, refused, shown};
 use crate::judging::judge_formatted;
-use crate::preparing::refused_words;
+use crate::refusing::refused_words;
 use bcs_example_text::{ExampleTextFault, WantedFault, Wish, example_text};
 use bcs_registry::{Format, Registry};
 use bcs_tool_files::Work;
@@ -40,7 +41,17 @@ fn answer_wish(
     };
     match example_text(alloc, registry, format, &wish, &work.limits) {
         Ok(text) => shown(alloc, text),
-        Err(ExampleTextFault::Wanted(WantedFault::OutOfMemory)) => Err(AllocError),
-        Err(fault) => refused(alloc, fault.name()),
+        Err(fault) => refused_wish(alloc, fault),
+    }
+}
+
+// The answer to a wish that can't be granted. Want of memory is no refusal.
+fn refused_wish(alloc: Global, fault: ExampleTextFault) -> Result<Answer, AllocError>
+    ensures { IfOk result (λ a. (fault ≢ ExampleTextFault.Wanted OutOfMemory)
+        × Prints a 2 (refusal_line (example_fault_name fault))) }
+{
+    match fault {
+        ExampleTextFault::Wanted(WantedFault::OutOfMemory) => Err(AllocError),
+        _ => refused(alloc, fault.name()),
     }
 }

@@ -9,7 +9,7 @@ ghost use Rattle.bcs_tool_answers.specs.Places.{IsAnswer};
 
 use crate::answer::{Answer, unplaced};
 use crate::job_fault::JobFault;
-use crate::preparing::refused_words;
+use crate::refusing::refused_words;
 use bcs_explain_columns::style::Form;
 use bcs_registry::{Registry, RegistryFault};
 use bcs_registry_show::{RegistryForm, show_registry};
