@@ -98,6 +98,8 @@ is_scanned work content a status output within prints told = record {
 scan_raw : (c : Command) (raw : Bool) → (is_scan c && raw) ≡ true → (c ≡ command.Scan) × (raw ≡ true)
 scan_raw command.Check raw is = cc
 scan_raw command.Grows raw is = cc
+scan_raw command.Show raw is = cc
+scan_raw command.Example raw is = cc
 scan_raw command.Encode raw is = cc
 scan_raw command.Decode raw is = cc
 scan_raw command.Explain raw is = cc
