@@ -19,12 +19,12 @@ abbrev pub onto : Trees → Trees → Trees
 onto no_trees us = us
 onto (tree t ts) us = tree t (onto ts us)
 
-onto_none : (ts : Trees) → onto ts no_trees ≡ ts
+pub onto_none : (ts : Trees) → onto ts no_trees ≡ ts
 onto_none no_trees = refl
 onto_none (tree t ts) = ap (tree t) (onto_none ts)
 
 -- one value more
-one_behind : (vs : List Value) (v : Value) (us : Trees) → onto (items_trees (vs ++ v ∷ [])) us ≡ onto (items_trees vs) (tree (tree_of v) us)
+pub one_behind : (vs : List Value) (v : Value) (us : Trees) → onto (items_trees (vs ++ v ∷ [])) us ≡ onto (items_trees vs) (tree (tree_of v) us)
 one_behind [] v us = refl
 one_behind (w ∷ vs) v us = ap (tree (tree_of w)) (one_behind vs v us)
 
@@ -41,9 +41,17 @@ pub record RowFilled (registry : Entries) (m : RankMap) (d : ℕ) (all left : Sh
   pub exists : is_some (row_example (named_example registry d) left) ≡ true
   pub whole : row_example (named_example registry d) all ≡ option_map (onto made) (row_example (named_example registry d) left)
 
-same_mapped : (o : Option Trees) → o ≡ option_map (onto no_trees) o
+pub same_mapped : (o : Option Trees) → o ≡ option_map (onto no_trees) o
 same_mapped None = refl
 same_mapped (Some ts) = refl
+
+pub front_exists : (o : Option Tree) (p : Option Trees) → is_some (in_front o p) ≡ true → (is_some o ≡ true) × (is_some p ≡ true)
+front_exists None p h = absurd cc
+front_exists (Some t) p h = (refl, sym (is_some-mapped (tree t) p) ∙ h)
+
+pub put_front : (made : Trees) (t : Tree) (o : Option Trees) (k : Trees → Trees) → ((ts : Trees) → k ts ≡ onto made (tree t ts)) → option_map (onto made) (in_front (Some t) o) ≡ option_map k o
+put_front made t None k h = refl
+put_front made t (Some ts) k h = ap Some (sym (h ts))
 
 module _ (registry : Entries) (m : RankMap) (d : ℕ) where
   pub row_start : (all : Shapes) → Agrees registry m d (of (shape.tuple all)) → is_some (example registry d (shape.tuple all)) ≡ true → RowFilled registry m d all all no_trees
@@ -60,19 +68,11 @@ module _ (registry : Entries) (m : RankMap) (d : ℕ) where
   agrees_rest : (s : Shape) (ss : Shapes) → Agrees registry m d (of (shape.tuple (shape s ss))) → Agrees registry m d (of (shape.tuple ss))
   agrees_rest s ss h = record { seen = h.seen; covers = (and_parts (needs_only h.seen s) (row_needs_only h.seen ss) h.covers).1; same = h.same }
 
-  front_exists : (o : Option Tree) (p : Option Trees) → is_some (in_front o p) ≡ true → (is_some o ≡ true) × (is_some p ≡ true)
-  front_exists None p h = absurd cc
-  front_exists (Some t) p h = (refl, sym (is_some-mapped (tree t) p) ∙ h)
-
   pub row_first : (all left rest : Shapes) (s : Shape) (made : Trees) → left ≡ shape s rest → RowFilled registry m d all left made → Agrees registry m d (of s) × (is_some (example registry d s) ≡ true)
   row_first all left rest s made is h = (
     agrees_first s rest (subst (λ ss. Agrees registry m d (of (shape.tuple ss))) is h.agrees),
     (front_exists (example registry d s) (row_example (named_example registry d) rest) (ap (λ ss. is_some (row_example (named_example registry d) ss)) (sym is) ∙ h.exists)).0,
   )
-
-  put_front : (made : Trees) (t : Tree) (us : List Value) (o : Option Trees) → (k : Trees → Trees) → ((ts : Trees) → k ts ≡ onto made (tree t ts)) → option_map (onto made) (in_front (Some t) o) ≡ option_map k o
-  put_front made t us None k h = refl
-  put_front made t us (Some ts) k h = ap Some (sym (h ts))
 
   -- one more is made
   pub row_more : (all left rest : Shapes) (s : Shape) (vs us : List Value) (v : Value) → left ≡ shape s rest → RowFilled registry m d all left (items_trees vs) → example registry d s ≡ Some (tree_of v) → us ≡ vs ++ v ∷ []
@@ -83,7 +83,7 @@ module _ (registry : Entries) (m : RankMap) (d : ℕ) where
     whole =
         h.whole ∙ ap (λ ss. option_map (onto (items_trees vs)) (row_example (named_example registry d) ss)) is
         ∙ ap (λ o. option_map (onto (items_trees vs)) (in_front o (row_example (named_example registry d) rest))) made
-        ∙ put_front (items_trees vs) (tree_of v) vs (row_example (named_example registry d) rest) (onto (items_trees us)) (λ ts. ap (λ ws. onto (items_trees ws) ts) pushed ∙ one_behind vs v ts);
+        ∙ put_front (items_trees vs) (tree_of v) (row_example (named_example registry d) rest) (onto (items_trees us)) (λ ts. ap (λ ws. onto (items_trees ws) ts) pushed ∙ one_behind vs v ts);
   }
 
   -- all is made

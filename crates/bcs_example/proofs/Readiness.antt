@@ -79,15 +79,15 @@ unlike k n s (c ∷ cs) above at =
 
 module _ (r : Entries) where
   -- each tree of a row is ready for its format
-  record RowReady (d : ℕ) (ss : Shapes) (ts : Trees) : Type 0 where
-    fit : each_fits false r ts ss ≡ true
-    distinct : all_distinct ts ≡ true
-    depth_holds : trees_depth ts ≤ d
-    lengths : each_holds length_limit r ts ss ≡ true
-    canonical : EachCanonical r ts ss
+  pub record RowReady (d : ℕ) (ss : Shapes) (ts : Trees) : Type 0 where
+    pub fit : each_fits false r ts ss ≡ true
+    pub distinct : all_distinct ts ≡ true
+    pub depth_holds : trees_depth ts ≤ d
+    pub lengths : each_holds length_limit r ts ss ≡ true
+    pub canonical : EachCanonical r ts ss
 
   -- each tree of an array is
-  record ElementsReady (d n : ℕ) (s : Shape) (ts : Trees) : Type 0 where
+  pub record ElementsReady (d n : ℕ) (s : Shape) (ts : Trees) : Type 0 where
     counted : count ts ≡ n
     fit : all_fit false r ts s ≡ true
     distinct : all_distinct ts ≡ true
@@ -95,7 +95,7 @@ module _ (r : Entries) where
     lengths : all_hold length_limit r ts s ≡ true
     canonical : AllCanonical r ts s
 
-  copies_ready : (d n : ℕ) (s : Shape) (t : Tree) → IsReady r d (of s) t → ElementsReady d n s (copies n t)
+  pub copies_ready : (d n : ℕ) (s : Shape) (t : Tree) → IsReady r d (of s) t → ElementsReady d n s (copies n t)
   copies_ready d zero s t h = record { counted = refl; fit = refl; distinct = refl; depth_holds = omega arith; lengths = refl; canonical = tt }
   copies_ready d (suc n) s t h =
       let rest = copies_ready d n s t h in
@@ -108,7 +108,7 @@ module _ (r : Entries) where
         canonical = (h.canonical, rest.canonical);
       }
 
-  array_ready : (d n : ℕ) (s : Shape) (ts : Trees) → ElementsReady d n s ts → IsReady r d (of (shape.array s n)) (tree.items ts)
+  pub array_ready : (d n : ℕ) (s : Shape) (ts : Trees) → ElementsReady d n s ts → IsReady r d (of (shape.array s n)) (tree.items ts)
   array_ready d n s ts h = record {
     fit = and_from _ _ (ap (λ m. m == n) h.counted ∙ same_number n) h.fit;
     distinct = h.distinct;
@@ -116,6 +116,44 @@ module _ (r : Entries) where
     lengths = h.lengths;
     canonical = h.canonical;
   }
+
+  -- the value of a variant among these
+  pub record Picked (d : ℕ) (cs : List Choice) (t : Tree) : Type 0 where
+    pub number : ℕ
+    pub inner : Tree
+    pub carried : Shape
+    pub is : t ≡ tree.variant number inner
+    pub stands : choice_at number cs ≡ of carried
+    pub low : nat_lt number (2 ^ 32) ≡ true
+    pub ready : IsReady r d (of carried) inner
+
+  pub first_picked : (d : ℕ) (c : Choice) (cs : List Choice) → nat_lt c.0 (2 ^ 32) ≡ true → (t : Tree) → IsReady r d (of (payload_shape c.1.1)) t → Picked d (c ∷ cs) (tree.variant c.0 t)
+  first_picked d c cs low t h = record {
+    number = c.0;
+    inner = t;
+    carried = payload_shape c.1.1;
+    is = refl;
+    stands = ap (λ b. option_map_or (λ v. of (payload_shape v.1)) (cond b (Some c.1) (choice_numbered c.0 cs)) nothing) (same_number c.0);
+    low = low;
+    ready = h;
+  }
+
+  pub later_picked : (d : ℕ) (c : Choice) (cs : List Choice) → AllByRecursion (λ l. nat_cmp c.0 l ≡ Less) (keys_of cs) → (t : Tree) → Picked d cs t → Picked d (c ∷ cs) t
+  later_picked d c cs above t p = record {
+    number = p.number;
+    inner = p.inner;
+    carried = p.carried;
+    is = p.is;
+    stands = ap (λ b. option_map_or (λ v. of (payload_shape v.1)) (cond b (Some c.1) (choice_numbered p.number cs)) nothing) (unlike c.0 p.number p.carried cs above p.stands) ∙ p.stands;
+    low = p.low;
+    ready = p.ready;
+  }
+
+  pub picked_ready : (d : ℕ) (cs : List Choice) (t : Tree) → Picked d cs t → IsReady r d (one_of cs) t
+  picked_ready d cs t p =
+      let h = subst (λ f. IsReady r d f p.inner) (sym p.stands) p.ready in
+      subst (IsReady r d (one_of cs)) (sym p.is)
+      (record { fit = and_from _ _ p.low h.fit; distinct = h.distinct; depth_holds = h.depth_holds; lengths = h.lengths; canonical = h.canonical })
 
   module _ (d : ℕ) (known : List ℕ → Option Tree) (all : (n : List ℕ) → IfSome (known n) (IsReady r d (of (shape.name n)))) where
     mutual
@@ -154,50 +192,22 @@ module _ (r : Entries) where
             canonical = (h.canonical, g.canonical);
           }) (shape_ready s) (row_ready ss)
 
-    -- the example of a variant among these
-    record Picked (cs : List Choice) (t : Tree) : Type 0 where
-      number : ℕ
-      inner : Tree
-      carried : Shape
-      is : t ≡ tree.variant number inner
-      stands : choice_at number cs ≡ of carried
-      low : nat_lt number (2 ^ 32) ≡ true
-      ready : IsReady r d (of carried) inner
-
-    later : (c : Choice) (cs : List Choice) → AllByRecursion (λ l. nat_cmp c.0 l ≡ Less) (keys_of cs) → (t : Tree) → Picked cs t → Picked (c ∷ cs) t
-    later c cs above t p = record {
-      number = p.number;
-      inner = p.inner;
-      carried = p.carried;
-      is = p.is;
-      stands = ap (λ b. option_map_or (λ v. of (payload_shape v.1)) (cond b (Some c.1) (choice_numbered p.number cs)) nothing) (unlike c.0 p.number p.carried cs above p.stands) ∙ p.stands;
-      low = p.low;
-      ready = p.ready;
-    }
-
-    first_ready : (cs : List Choice) → IsStrictlySortedBy nat_cmp (keys_of cs) → list_all (λ c. nat_lt c.0 (2 ^ 32)) cs ≡ true → IfSome (first_example known cs) (Picked cs)
+    first_ready : (cs : List Choice) → IsStrictlySortedBy nat_cmp (keys_of cs) → list_all (λ c. nat_lt c.0 (2 ^ 32)) cs ≡ true → IfSome (first_example known cs) (Picked d cs)
     unfolding IsStrictlySortedBy
     first_ready [] rise low = tt
     first_ready (c ∷ cs) rise low =
         let p = and_parts (nat_lt c.0 (2 ^ 32)) (list_all (λ e. nat_lt e.0 (2 ^ 32)) cs) low in
         let s = payload_shape c.1.1 in
-        IfSome-or (option_map (tree.variant c.0) (shape_example known s)) (first_example known cs) (Picked (c ∷ cs))
-        (IfSome-mapped (tree.variant c.0) (shape_example known s) (IsReady r d (of s)) (Picked (c ∷ cs))
-        (λ t h. record { number = c.0; inner = t; carried = s; is = refl; stands = ap (λ b. option_map_or (λ v. of (payload_shape v.1)) (cond b (Some c.1) (choice_numbered c.0 cs)) nothing) (same_number c.0); low = p.0; ready = h }) (shape_ready s))
-        (IfSome_then (first_example known cs) (first_ready cs rise.1 p.1) (later c cs rise.0))
-
-    picked_ready : (cs : List Choice) (t : Tree) → Picked cs t → IsReady r d (one_of cs) t
-    picked_ready cs t p =
-        let h = subst (λ f. IsReady r d f p.inner) (sym p.stands) p.ready in
-        subst (IsReady r d (one_of cs)) (sym p.is)
-        (record { fit = and_from _ _ p.low h.fit; distinct = h.distinct; depth_holds = h.depth_holds; lengths = h.lengths; canonical = h.canonical })
+        IfSome-or (option_map (tree.variant c.0) (shape_example known s)) (first_example known cs) (Picked d (c ∷ cs))
+        (IfSome-mapped (tree.variant c.0) (shape_example known s) (IsReady r d (of s)) (Picked d (c ∷ cs)) (first_picked d c cs p.0) (shape_ready s))
+        (IfSome_then (first_example known cs) (first_ready cs rise.1 p.1) (later_picked d c cs rise.0))
 
     content_ready : (f : Content) → InRange f → IfSome (content_example known f) (IsReady r d f)
     content_ready (of s) h = shape_ready s
-    content_ready (one_of cs) h = IfSome_then (first_example known cs) (first_ready cs h.rise h.numbers) (picked_ready cs)
+    content_ready (one_of cs) h = IfSome_then (first_example known cs) (first_ready cs h.rise h.numbers) (picked_ready d cs)
     content_ready nothing h = tt
 
-  deeper : (d : ℕ) (f : Content) (t : Tree) → IsReady r d f t → IsReady r (suc d) f t
+  pub deeper : (d : ℕ) (f : Content) (t : Tree) → IsReady r d f t → IsReady r (suc d) f t
   deeper d f t h = record { fit = h.fit; distinct = h.distinct; depth_holds = omega (arith, h.depth_holds); lengths = h.lengths; canonical = h.canonical }
 
   pub opened : (d : ℕ) (n : List ℕ) (t : Tree) → IsReady r d (content_at n r) t → IsReady r (suc d) (of (shape.name n)) (tree.named t)

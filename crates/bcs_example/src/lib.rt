@@ -7,7 +7,7 @@ pub mod filling;
 pub mod laws;
 pub mod names;
 pub mod noting;
-mod placing;
+pub mod placing;
 pub mod ranks;
 pub mod rounds;
 mod waiting;

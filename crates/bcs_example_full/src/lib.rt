@@ -1,0 +1,12 @@
+//! Full examples of formats: one element in each list, map and option.
+#![tactic(auto)]
+
+mod entry;
+pub mod fault;
+pub mod filling;
+mod first;
+pub mod known;
+pub mod laws;
+mod least;
+pub mod opened;
+mod spending;
