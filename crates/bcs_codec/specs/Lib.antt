@@ -26,6 +26,7 @@ pub use Rattle.bcs_decode_source_scan.specs.Scanned
 pub use Rattle.bcs_example.specs.Example
 pub use Rattle.bcs_example.specs.Ready
 pub use Rattle.bcs_example.specs.Refused as RefusedExample
+pub use Rattle.bcs_example_full.specs.Full
 pub use Rattle.bcs_example_wanted.specs.Wanted
 pub use Rattle.bcs_example_wanted.specs.Refused as RefusedWish
 pub use Rattle.bcs_example_text.specs.ExampleText

@@ -10,7 +10,7 @@ pub use bcs_decode_source_scan::{scan_all, scan_from};
 pub use bcs_encode::{EncodeFault, WriteFault, canonicalise, encode, encode_by_entries, write};
 pub use bcs_example::{ExampleFault, example_value};
 pub use bcs_example_text::{ExampleTextFault, example_text};
-pub use bcs_example_wanted::{WantedFault, Wish, wished_example};
+pub use bcs_example_wanted::{ExampleForm, WantedFault, Wish, wished_example};
 pub use bcs_explain::{Counted, Listener, Meaning, Step as TrailStep, Trail, Wanted, explain};
 pub use bcs_explain_columns::style::{Form, Paint, Style};
 pub use bcs_explain_table::{Explanation, explain_text, stop_place};

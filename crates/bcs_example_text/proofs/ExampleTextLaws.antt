@@ -12,6 +12,7 @@ use Rattle.bcs_example_wanted.specs.Refused.{RefusesWish}
 use Rattle.bcs_example_wanted.specs.Wanted.{wished}
 use Rattle.bcs_example_wanted.specs.declared.fault.WantedFault.{WantedFault}
 use Rattle.bcs_example_wanted.specs.declared.fault.WantedFault.TheVariants.{UnknownVariant, NoValue, TooManyNodes, OutOfMemory}
+use Rattle.bcs_example_wanted.specs.declared.wish.ExampleForm.{ExampleForm}
 use Rattle.bcs_example_wanted.specs.declared.wish.Wish.{Wish}
 use Rattle.bcs_example_wanted.proofs.Wishes.{sound}
 use Rattle.bcs_json_spec.proofs.SomeText.{compact_denotes}
@@ -24,31 +25,31 @@ use Rattle.bcs_example_text.specs.declared.fault.ExampleTextFault.{ExampleTextFa
 use Rattle.bcs_example_text.specs.declared.fault.ExampleTextFault.TheVariants.{Wanted, TooNested}
 use Rattle.bcs_example_text.proofs.OneWish.{none_given, none_or_given, same_refusal, same_wished, unknown_or_given, unknown_or_numbered}
 
--- a wish for a variant of this name, or for none
-abbrev wish_for : Option (List ℕ) → Wish
-wish_for variant = record { variant = option_map (λ n. record { ref_ptr = (0, 0); now = n }) variant }
+-- a wish for a variant of this name, or for none, in this form
+abbrev wish_for : Option (List ℕ) → ExampleForm → Wish
+wish_for variant form = record { variant = option_map (λ n. record { ref_ptr = (0, 0); now = n }) variant; form = form }
 
-wish_for_is : (variant : Option (List ℕ)) → IsWish variant (wish_for variant)
-wish_for_is None = refl
-wish_for_is (Some n) = refl
+wish_for_is : (variant : Option (List ℕ)) (form : ExampleForm) → IsWish variant form (wish_for variant form)
+wish_for_is None form = (refl, refl)
+wish_for_is (Some n) form = (refl, refl)
 
-module _ (r : Entries) (limits : Bounds) (variant : Option (List ℕ)) (s : Shape) where
+module _ (r : Entries) (limits : Bounds) (variant : Option (List ℕ)) (form : ExampleForm) (s : Shape) where
   abbrev Example : Tree → Type 0
-  Example t = IsExample r limits variant s t
+  Example t = IsExample r limits variant form s t
 
   pub same_example : (t u : Tree) → Example t → Example u → t ≡ u
   same_example t u h k =
-      let both : Some t ≡ Some u = sym h.is_wished ∙ (same_wished variant h.wish k.wish h.is_wish k.is_wish r s limits.depth ∙ k.is_wished) in cc
+      let both : Some t ≡ Some u = sym h.is_wished ∙ (same_wished variant form h.wish k.wish h.is_wish k.is_wish r s limits.depth ∙ k.is_wished) in cc
 
-  pub one_text : (p q : List ℕ) → ShowsExample r limits variant s p → ShowsExample r limits variant s q → p ≡ q
+  pub one_text : (p q : List ℕ) → ShowsExample r limits variant form s p → ShowsExample r limits variant form s q → p ≡ q
   one_text p q h k =
       h.is ∙ ap (λ (t : Tree). compact_text (shown r t (of s))) (same_example h.value k.value h.example k.example) ∙ sym k.is
 
   module _ (orderly : IsOrderly r) where
     -- an example is refused for no reason that a wish has
-    not_refused : (t : Tree) → Example t → (wish : Wish) → IsWish variant wish → (e : WantedFault) → RefusesWish r limits wish s e → ⊥
+    not_refused : (t : Tree) → Example t → (wish : Wish) → IsWish variant form wish → (e : WantedFault) → RefusesWish r limits wish s e → ⊥
     not_refused t h wish is e refuses =
-        by e (same_refusal variant wish h.wish is h.is_wish r s limits e refuses)
+        by e (same_refusal variant form wish h.wish is h.is_wish r s limits e refuses)
       where
         by : (e : WantedFault) → RefusesWish r limits h.wish s e → ⊥
         by UnknownVariant lacks = unknown_or_given r limits.depth s h.wish t orderly lacks h.is_wished
@@ -77,14 +78,14 @@ module _ (r : Entries) (limits : Bounds) (variant : Option (List ℕ)) (s : Shap
     one_reason wish TooManyNodes OutOfMemory h k = absurd k
     one_reason wish OutOfMemory g h k = absurd h
 
-    pub one_fault : (e g : ExampleTextFault) → RefusesExampleText r limits variant s e → RefusesExampleText r limits variant s g → e ≡ g
+    pub one_fault : (e g : ExampleTextFault) → RefusesExampleText r limits variant form s e → RefusesExampleText r limits variant form s g → e ≡ g
     one_fault (Wanted e) (Wanted g) (v, is, h) (w, also, k) =
-        ap Wanted (one_reason w e g (same_refusal variant v w is also r s limits e h) k)
+        ap Wanted (one_reason w e g (same_refusal variant form v w is also r s limits e h) k)
     one_fault (Wanted e) TooNested (v, is, h) (t, k, deep) = absurd (not_refused t k v is e h)
     one_fault TooNested (Wanted g) (t, h, deep) (w, also, k) = absurd (not_refused t h w also g k)
     one_fault TooNested TooNested h k = refl
 
-    pub not_both : (p : List ℕ) (e : ExampleTextFault) → ShowsExample r limits variant s p → RefusesExampleText r limits variant s e → ⊥
+    pub not_both : (p : List ℕ) (e : ExampleTextFault) → ShowsExample r limits variant form s p → RefusesExampleText r limits variant form s e → ⊥
     not_both p (Wanted e) h (w, also, k) = not_refused h.value h.example w also e k
     not_both p TooNested h (t, k, deep) =
         let same : t ≡ h.value = same_example t h.value k h.example in
@@ -93,16 +94,16 @@ module _ (r : Entries) (limits : Bounds) (variant : Option (List ℕ)) (s : Shap
         omega (arith, low, own)
 
     abbrev Verdict : Type 0
-    Verdict = ((p : List ℕ) × ShowsExample r limits variant s p) ⊎ ((e : ExampleTextFault) × RefusesExampleText r limits variant s e)
+    Verdict = ((p : List ℕ) × ShowsExample r limits variant form s p) ⊎ ((e : ExampleTextFault) × RefusesExampleText r limits variant form s e)
 
     pub some_verdict : Verdict
     some_verdict = by (wished r limits.depth wish s) refl
       where
         wish : Wish
-        wish = wish_for variant
+        wish = wish_for variant form
 
-        is : IsWish variant wish
-        is = wish_for_is variant
+        is : IsWish variant form wish
+        is = wish_for_is variant form
 
         small : (t : Tree) → Example t → Verdict
         small t h = elim (cases_lt nesting_limit (json.depth (shown r t (of s)))) [
@@ -121,18 +122,18 @@ module _ (r : Entries) (limits : Bounds) (variant : Option (List ℕ)) (s : Shap
         ]
 
 pub one_example_text_holds : OneExampleText
-one_example_text_holds r limits variant s p q h k = one_text r limits variant s p q h k
+one_example_text_holds r limits variant form s p q h k = one_text r limits variant form s p q h k
 
 pub one_example_fault_holds : OneExampleFault
-one_example_fault_holds r orderly limits variant s e g h k = one_fault r limits variant s orderly e g h k
+one_example_fault_holds r orderly limits variant form s e g h k = one_fault r limits variant form s orderly e g h k
 
 pub never_both_holds : NeverBoth
-never_both_holds r orderly limits variant s p e h k = not_both r limits variant s orderly p e h k
+never_both_holds r orderly limits variant form s p e h k = not_both r limits variant form s orderly p e h k
 
 pub text_or_fault_holds : TextOrFault
-text_or_fault_holds r orderly limits variant s = some_verdict r limits variant s orderly
+text_or_fault_holds r orderly limits variant form s = some_verdict r limits variant form s orderly
 
 pub example_text_denotes_holds : ExampleTextDenotes
-example_text_denotes_holds written r writes well limits variant s p h =
+example_text_denotes_holds written r writes well limits variant form s p h =
     let value = sound r writes.2.orderly limits h.example.wish s h.value h.example.is_wished h.example.few in
     (h.value, subst (λ (text : List ℕ). Denotes r limits s text h.value) (sym h.is) (compact_denotes written r limits s writes well h.value value h.nests))

@@ -9,6 +9,7 @@ use Rattle.bcs_example_wanted.specs.Refused.{RefusesWish}
 use Rattle.bcs_example_wanted.specs.Wanted.{wished}
 use Rattle.bcs_example_wanted.specs.declared.fault.WantedFault.{WantedFault}
 use Rattle.bcs_example_wanted.specs.declared.fault.WantedFault.TheVariants as wanted
+use Rattle.bcs_example_wanted.specs.declared.wish.ExampleForm.{ExampleForm}
 use Rattle.bcs_example_wanted.specs.declared.wish.Wish.{Wish}
 use Rattle.bcs_json_spec.specs.JsonContent.{of}
 use Rattle.bcs_json_spec.specs.Shown.{shown}
@@ -16,15 +17,15 @@ use Rattle.bcs_json_spec.specs.Texts.{IsTextOf, nesting_limit}
 use Rattle.bcs_example_text.specs.declared.fault.ExampleTextFault.{ExampleTextFault}
 use Rattle.bcs_example_text.specs.declared.fault.ExampleTextFault.TheVariants.{Wanted, TooNested}
 
--- the wish is for a variant of this name, or for none
-abbrev pub IsWish : Option (List ℕ) → Wish → Type 0
-IsWish variant wish = option_map (λ name. name.now) wish.variant ≡ variant
+-- the wish is for a variant of this name, or for none, and for this form
+abbrev pub IsWish : Option (List ℕ) → ExampleForm → Wish → Type 0
+IsWish variant form wish = (option_map (λ name. name.now) wish.variant ≡ variant) × (wish.form ≡ form)
 
-module _ (registry : Entries) (limits : Bounds) (variant : Option (List ℕ)) (s : Shape) where
+module _ (registry : Entries) (limits : Bounds) (variant : Option (List ℕ)) (form : ExampleForm) (s : Shape) where
   -- the tree is the example that is wished for, and has no more nodes than the limits allow
   pub record IsExample (t : Tree) : Type 0 where
     pub wish : Wish
-    pub is_wish : IsWish variant wish
+    pub is_wish : IsWish variant form wish
     pub is_wished : wished registry limits.depth wish s ≡ Some t
     pub few : nodes t ≤ limits.nodes
 
@@ -37,7 +38,7 @@ module _ (registry : Entries) (limits : Bounds) (variant : Option (List ℕ)) (s
 
   -- there is no such example, or its text would nest too deep
   abbrev pub RefusesExampleText : ExampleTextFault → Type 0
-  RefusesExampleText (Wanted fault) = (wish : Wish) × IsWish variant wish × RefusesWish registry limits wish s fault
+  RefusesExampleText (Wanted fault) = (wish : Wish) × IsWish variant form wish × RefusesWish registry limits wish s fault
   RefusesExampleText TooNested = (t : Tree) × IsExample t × (nesting_limit < json.depth (shown registry t (of s)))
 
 -- ---- the names that are printed

@@ -5,6 +5,6 @@ mod fault;
 pub mod laws;
 mod text;
 
-pub use bcs_example_wanted::{WantedFault, Wish};
+pub use bcs_example_wanted::{ExampleForm, WantedFault, Wish};
 pub use fault::ExampleTextFault;
 pub use text::example_text;

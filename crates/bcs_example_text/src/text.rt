@@ -25,9 +25,9 @@ pub fn example_text(
     limits: &Limits,
 ) -> Result<String, ExampleTextFault>
     ensures text { IfOk result (λ text. ShowsExample registry.now limits.now
-        (option_map (λ name. name.now) wish.now.variant) (shape_of format.now) (string_bytes text)) }
+        (option_map (λ name. name.now) wish.now.variant) wish.now.form (shape_of format.now) (string_bytes text)) }
     ensures fault { IfErr result (λ e. e ≢ ExampleTextFault.Wanted OutOfMemory → RefusesExampleText registry.now limits.now
-        (option_map (λ name. name.now) wish.now.variant) (shape_of format.now) e) }
+        (option_map (λ name. name.now) wish.now.variant) wish.now.form (shape_of format.now) e) }
 {
     registry.recall();
     let value = wished_example(alloc, registry, format, wish, limits)?;

@@ -6,6 +6,8 @@ use Rattle.bcs_registry_formats.specs.View.{payload_of, shape_of}
 use Rattle.bcs_value_tree.specs.Tree.{Tree, nodes}
 use Rattle.bcs_value_tree.specs.View.{tree_of}
 use Rattle.bcs_value_tree.specs.declared.value.Value.{Value}
+use Rattle.bcs_example_full.specs.declared.fault.FullFault.{FullFault}
+use Rattle.bcs_example_full.specs.declared.fault.FullFault.TheVariants as full
 use Rattle.bcs_example_wanted.specs.declared.fault.WantedFault.{WantedFault}
 use Rattle.bcs_example_wanted.specs.declared.fault.WantedFault.TheVariants.{UnknownVariant, NoValue, TooManyNodes, OutOfMemory}
 use Rattle.bcs_example_wanted.specs.declared.part.Part.{Part}
@@ -25,3 +27,8 @@ RefusesPart o limit UnknownVariant = ⊥
 RefusesPart o limit NoValue = o ≡ None
 RefusesPart o limit TooManyNodes = (t : Tree) × (o ≡ Some t) × (limit < nodes t)
 RefusesPart o limit OutOfMemory = Unit {0}
+
+-- the same fault of a full example
+abbrev pub wanted_of : FullFault → WantedFault
+wanted_of full.TooManyNodes = TooManyNodes
+wanted_of full.OutOfMemory = OutOfMemory

@@ -1,6 +1,7 @@
 //! Why a wish for an example can't be granted.
 ghost use Rattle.std.specs.Prelude.{◌≡◌};
 
+use bcs_example_full::fault::FullFault;
 use std::alloc::AllocError;
 use thiserror::Error;
 
@@ -28,5 +29,18 @@ impl From<AllocError> for WantedFault {
 
     fn from(_: AllocError) -> Self {
         WantedFault::OutOfMemory
+    }
+}
+
+impl From<FullFault> for WantedFault {
+    ghost use Rattle.bcs_example_wanted.specs.Part.{wanted_of};
+
+    ghost from_gives = { λ e fault. fault ≡ wanted_of e };
+
+    fn from(fault: FullFault) -> Self {
+        match fault {
+            FullFault::TooManyNodes => WantedFault::TooManyNodes,
+            FullFault::OutOfMemory => WantedFault::OutOfMemory,
+        }
     }
 }

@@ -10,11 +10,13 @@ ghost use Rattle.bcs_example_wanted.specs.Wanted.{wished};
 ghost use Rattle.bcs_example_wanted.specs.declared.fault.WantedFault.TheVariants.{OutOfMemory};
 
 use crate::fault::WantedFault;
-use crate::least::make_least;
+use crate::formed::make_formed;
 use crate::making::make_variant;
 use crate::part::Part;
 use crate::variant::find_variant;
 use crate::wish::Wish;
+use bcs_example_full::known::Inside;
+use bcs_example_full::opened::nothing_opened;
 use bcs_registry::{Format, Registry};
 use bcs_value::{Limits, Value};
 use std::alloc::Global;
@@ -22,7 +24,9 @@ use std::alloc::Global;
 /// The example of the format that is wished for, ready to be filled in.
 ///
 /// With the name of a variant, the format is the name of an enum, and the value has this variant, round the example of what
-/// it carries. With no wish it is the example of the format, as `bcs_example` gives it.
+/// it carries; else it is the example of the format. Both are least, as `bcs_example` gives them, or full: each option, list
+/// and map has one element, where there is one, but a container that stands in itself is the least one there, so that the
+/// value comes to an end. In a full example an enum has the first variant that has a value.
 ///
 /// `UnknownVariant`: the format isn't the name of an enum that has a variant of this name. `NoValue`: no value of the
 /// format, or none that has the variant, keeps to the limits' depth. `TooManyNodes`: there is one, and what is wished for
@@ -42,11 +46,16 @@ pub fn wished_example(
     registry.recall();
     match wish.variant {
         None => {
+            let opened = nothing_opened();
+            let inside = Inside {
+                depth: limits.depth(),
+                opened: &opened,
+            };
             let part = Part::Format(format);
-            make_least(alloc, registry, part, limits.depth(), limits.nodes())
+            make_formed(alloc, registry, part, wish.form, inside, limits.nodes())
         }
         Some(word) => match find_variant(registry, format, word) {
-            Some(chosen) => make_variant(alloc, registry, chosen, limits),
+            Some(chosen) => make_variant(alloc, registry, chosen, wish.form, limits),
             None => Err(WantedFault::UnknownVariant),
         },
     }

@@ -21,7 +21,7 @@ use Rattle.bcs_json_spec.proofs.SomeText.{some_bytes, some_normal_text, some_sho
 use Rattle.bcs_tool_answers.specs.AnswerLaws.{SomeAnswer}
 use Rattle.bcs_tool_answers.specs.Answers.{Answers, AsksExample, IsAsked, IsWithin, Lists, lists, checked, compared, damaged, decoded, encoded, exampled, explained, found, front_stopped, grown, no_bytes, no_example, normalised, nowhere, refused, refused_early, registry_form, scan_stopped, scanned, shown, stopped, too_nested}
 use Rattle.bcs_tool_answers.specs.Input.{Gives}
-use Rattle.bcs_tool_answers.specs.Judging.{IsFormat, IsPath, IsRegistry, RefusesAt, name_of, works_on_values}
+use Rattle.bcs_tool_answers.specs.Judging.{IsFormat, IsPath, IsRegistry, RefusesAt, example_form, name_of, works_on_values}
 use Rattle.bcs_tool_answers.specs.declared.job_fault.JobFault.{JobFault}
 use Rattle.bcs_tool_answers.specs.declared.job_fault.JobFault.TheVariants.{BadPath, Growth, Registry}
 use Rattle.bcs_tool_answers.proofs.AnswerLemmas.{refuses_formatted}
@@ -76,7 +76,7 @@ module _ (work : Work) (input : List ℕ) where
 
   -- an example, or a reason why there is none
   wish_answered : (r : Entries) (s : Shape) → AsksExample work r s → Answered
-  wish_answered r s asks = elim (text_or_fault_holds r asks.is_registry.0.2.orderly work.limits (name_of work) s) [
+  wish_answered r s asks = elim (text_or_fault_holds r asks.is_registry.0.2.orderly work.limits (name_of work) (example_form work) s) [
     | inl h ↦ (_, _, exampled r s h.0 asks h.1)
     | inr h ↦ (_, _, no_example r s h.0 asks h.1)
   ]

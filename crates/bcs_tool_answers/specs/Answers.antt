@@ -36,7 +36,7 @@ use Rattle.bcs_json_spec.specs.declared.json_fault.JsonFault.{JsonFault}
 use Rattle.bcs_tool_path.specs.Path.{SpellsPath}
 use Rattle.bcs_tool_files.specs.Files.{size_limit}
 use Rattle.bcs_tool_answers.specs.Input as given
-use Rattle.bcs_tool_answers.specs.Judging.{Asks, IsFormat, IsRegistry, RefusesEarly, is_unlimited, job_fault_name, name_of}
+use Rattle.bcs_tool_answers.specs.Judging.{Asks, IsFormat, IsRegistry, RefusesEarly, is_unlimited, job_fault_name, example_form, name_of}
 use Rattle.bcs_tool_line.specs.declared.command.Command.{Command}
 use Rattle.bcs_tool_line.specs.declared.command.Command.TheVariants as command
 use Rattle.bcs_tool_answers.specs.declared.job_fault.JobFault.{JobFault}
@@ -156,9 +156,9 @@ pub data Answers (work : Work) (input : List ℕ) : ℕ → List ℕ → Type 0 
   -- `show`: the registry for reading, or the container of NAME with all that it stands on
   shown : (registry : Entries) (text : List ℕ) → work.command ≡ command.Show → IsRegistry work.registry.items registry → (NamesNone (name_of work) registry → ⊥) → ShowsRegistry (registry_form work.style.form) (name_of work) registry text → Answers work input 0 text
   -- `example`: the text of the example that is wished for
-  exampled : (registry : Entries) (s : Shape) (text : List ℕ) → AsksExample work registry s → ShowsExample registry work.limits (name_of work) s text → Answers work input 0 (line_of text)
+  exampled : (registry : Entries) (s : Shape) (text : List ℕ) → AsksExample work registry s → ShowsExample registry work.limits (name_of work) (example_form work) s text → Answers work input 0 (line_of text)
   -- `example`: there is none, or its text would nest deeper than a text may
-  no_example : (registry : Entries) (s : Shape) (fault : ExampleTextFault) → AsksExample work registry s → RefusesExampleText registry work.limits (name_of work) s fault → Answers work input 2 (refusal_line (example_fault_name fault))
+  no_example : (registry : Entries) (s : Shape) (fault : ExampleTextFault) → AsksExample work registry s → RefusesExampleText registry work.limits (name_of work) (example_form work) s fault → Answers work input 2 (refusal_line (example_fault_name fault))
   -- `encode`: the bytes of the value that the text denotes
   encoded : (registry : Entries) (s : Shape) (bytes : List ℕ) → IsAsked work input command.Encode registry s → HasBytes registry work.limits s input bytes → Answers work input 0 (printed work.raw bytes)
   -- `normalise`: its normal text

@@ -1,5 +1,5 @@
 -- What is judged of a job before its input is read: its registries, then the format, and then the path.
-use Rattle.std.specs.Prelude.{◌≡◌, ◌⊎◌, ◌==◌, ◌||◌, ◌&&◌, ℕ, List, [], ◌∷◌, Option, None, option_map, Bool, true, false, codes, is_some, string_bytes}
+use Rattle.std.specs.Prelude.{◌≡◌, ◌⊎◌, ◌==◌, ◌||◌, ◌&&◌, ℕ, List, [], ◌∷◌, Option, None, option_map, Bool, true, false, cond, codes, is_some, string_bytes}
 use Rattle.bcs_registry_formats.specs.Container.{Entries, container_at}
 use Rattle.bcs_registry_spec.specs.Faults.{IsLeastFault, IsLeastFormatFault}
 use Rattle.bcs_registry_formats.specs.FaultNames.{growth_fault_name, registry_fault_name}
@@ -10,6 +10,8 @@ use Rattle.bcs_registry_formats.specs.WellFormed.{IsWellFormed, Admits}
 use Rattle.bcs_registry_formats.specs.declared.fault.RegistryFault.{RegistryFault}
 use Rattle.bcs_registry_formats.specs.declared.fault.RegistryFault.TheVariants.{UnknownName, OutOfMemory}
 use Rattle.bcs_registry_show.specs.Shows.{NamesNone}
+use Rattle.bcs_example_wanted.specs.declared.wish.ExampleForm.{ExampleForm}
+use Rattle.bcs_example_wanted.specs.declared.wish.ExampleForm.TheVariants.{Least, Full}
 use Rattle.bcs_decode_parts.specs.Parts.{Step}
 use Rattle.bcs_tool_path.specs.Path.{SpellsNoPath, SpellsPath}
 use Rattle.bcs_tool_path.specs.declared.path_fault.PathFault.{PathFault}
@@ -60,6 +62,10 @@ RefusesFormat registry word fault = ((is_json_word word ≡ true) × IsLeastForm
 -- that of a container or of a variant
 abbrev pub name_of : Work → Option (List ℕ)
 name_of work = option_map string_bytes work.name
+
+-- what stands in the options, lists and maps of the example that is asked for
+abbrev pub example_form : Work → ExampleForm
+example_form work = cond work.full Full Least
 
 -- ---- the path's word
 

@@ -4,12 +4,13 @@ ghost use Rattle.bcs_registry_formats.specs.View.{shape_of};
 ghost use Rattle.bcs_example_text.specs.ExampleText.{example_fault_name};
 ghost use Rattle.bcs_example_wanted.specs.declared.fault.WantedFault.TheVariants.{OutOfMemory};
 ghost use Rattle.bcs_tool_answers.specs.Answers.{AsksExample, refusal_line};
+ghost use Rattle.bcs_tool_answers.specs.Judging.{example_form};
 ghost use Rattle.bcs_tool_answers.specs.Places.{IsAnswer, Prints};
 
 use crate::answer::{Answer, refused, shown};
 use crate::judging::judge_formatted;
 use crate::refusing::refused_words;
-use bcs_example_text::{ExampleTextFault, WantedFault, Wish, example_text};
+use bcs_example_text::{ExampleForm, ExampleTextFault, WantedFault, Wish, example_text};
 use bcs_registry::{Format, Registry};
 use bcs_tool_files::Work;
 use bcs_tool_line::Command;
@@ -38,10 +39,22 @@ fn answer_wish(
 {
     let wish = Wish {
         variant: work.name.as_deref(),
+        form: form_of(work),
     };
     match example_text(alloc, registry, format, &wish, &work.limits) {
         Ok(text) => shown(alloc, text),
         Err(fault) => refused_wish(alloc, fault),
+    }
+}
+
+// What stands in the options, lists and maps of the example.
+fn form_of(work: &Work) -> ExampleForm
+    ensures { result ≡ example_form work.now }
+{
+    if work.full {
+        ExampleForm::Full
+    } else {
+        ExampleForm::Least
     }
 }
 

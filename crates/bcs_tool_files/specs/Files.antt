@@ -122,6 +122,7 @@ module _ {F : Type 0} (remaining : F → Option (List ℕ)) where
     pub lines : work.lines ≡ job.lines
     pub front : work.front ≡ job.front
     pub list : work.list ≡ job.list
+    pub full : work.full ≡ job.full
     pub quiet : work.quiet ≡ job.quiet
     pub style : IsStyleOf job work.style
     pub limits : work.limits ≡ job.limits

@@ -88,6 +88,7 @@ pub fn read_work<R: Files + Env + AllocGlobal>(
         lines: job.lines,
         front: job.front,
         list: job.list,
+        full: job.full,
         quiet: job.quiet,
         style,
         limits: job.limits,

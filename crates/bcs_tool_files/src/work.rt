@@ -26,6 +26,8 @@ pub struct Work {
     pub front: bool,
     /// Whether all differences of two registries are printed first.
     pub list: bool,
+    /// Whether an example has one element in each list, map and option.
+    pub full: bool,
     /// Whether the line that says where a refusal or a fault stands is left out.
     pub quiet: bool,
     /// How pieces are printed, and a registry.

@@ -183,6 +183,18 @@ example_variant : given_in (codes "variant") example_words ≡ Some (Some (codes
 unfolding clap_on_literals
 example_variant = refl
 
+example_unfilled : set_in (codes "full") example_words ≡ Some false
+unfolding clap_on_literals
+example_unfilled = refl
+
+example_full : set_in (codes "full") (codes "bcs" ∷ codes "example" ∷ codes "r" ∷ codes "E" ∷ codes "--full" ∷ []) ≡ Some true
+unfolding clap_on_literals
+example_full = refl
+
+show_full : fault_of bcs_app (codes "bcs" ∷ codes "show" ∷ codes "r" ∷ codes "--full" ∷ []) ≡ kind.UnknownArgument ∷ []
+unfolding clap_on_literals
+show_full = refl
+
 -- a variant has a name
 wants_variant : fault_of bcs_app (codes "bcs" ∷ codes "example" ∷ codes "r" ∷ codes "E" ∷ codes "--variant" ∷ []) ≡ kind.InvalidValue ∷ []
 unfolding clap_on_literals

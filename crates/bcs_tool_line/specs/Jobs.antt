@@ -70,6 +70,7 @@ pub record IsJob (command : Command) (found : List Row) (job : Job) : Type 0 whe
   pub lines : job.lines ≡ is_set (codes "lines") found
   pub front : job.front ≡ is_set (codes "front") found
   pub list : job.list ≡ is_set (codes "list") found
+  pub full : job.full ≡ is_set (codes "full") found
   pub quiet : job.quiet ≡ is_set (codes "quiet") found
   pub form : job.form ≡ form_of found
   pub color : job.color ≡ color_of found

@@ -29,6 +29,7 @@ pub fn job_of(alloc: Global, command: Command, given: &ArgMatches<'_>) -> Result
         lines: is_set(given, "lines"),
         front: is_set(given, "front"),
         list: is_set(given, "list"),
+        full: is_set(given, "full"),
         quiet: is_set(given, "quiet"),
         form: form_of(given),
         color: color_of(given),

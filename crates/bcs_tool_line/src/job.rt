@@ -30,6 +30,8 @@ pub struct Job {
     pub front: bool,
     /// Whether `--list` was given: all differences of two registries are printed first.
     pub list: bool,
+    /// Whether `--full` was given: an example has one element in each list, map and option.
+    pub full: bool,
     /// Whether `--quiet` was given: the line that says where a refusal stands is left out.
     pub quiet: bool,
     /// `--paths`, `--tree`, `--json`: how pieces are printed. Of several the last one of these is meant. `--json` says

@@ -66,7 +66,7 @@ abbrev pub variant_option : Rule
 variant_option = text_option (codes "variant")
 
 abbrev pub example_app : App
-example_app = fold with_rule (value_app (codes "example")) (variant_option ∷ [])
+example_app = fold with_rule (value_app (codes "example")) (variant_option ∷ flag_option (codes "full") ∷ [])
 
 -- whether each line of the input is an input of its own
 abbrev pub lines_option : Rule

@@ -93,7 +93,8 @@ fn example_command<'a>(alloc: Global) -> Result<Command<'a>, AllocError>
     value_command(alloc, "example")?
         .about("Prints the JSON text of a value of a format, ready to be filled in")
         .after_help(texts::EXAMPLE_END)
-        .arg(variant_option(alloc))
+        .arg(variant_option(alloc))?
+        .arg(flag(alloc, "full", texts::FULL))
 }
 
 fn encode_command<'a>(alloc: Global) -> Result<Command<'a>, AllocError>

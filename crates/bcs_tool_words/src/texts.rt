@@ -52,10 +52,13 @@ pub const LIST: &str = "Prints all differences first, a line each";
 pub const REGISTRY_JSON: &str =
     "Prints the registry's one compact JSON text, so that two spellings of a registry become one";
 
-// ---- the option of `example`
+// ---- the options of `example`
 
 pub const VARIANT: &str =
-    "Takes this variant of the enum that FORMAT names, in place of the first that needs the fewest containers";
+    "Takes this variant of the enum that FORMAT names, in place of the one that is taken else";
+
+pub const FULL: &str =
+    "Puts one element into each list, map and option, down to a container that stands in itself";
 
 // ---- the option of every command
 
@@ -108,6 +111,7 @@ Status: 0 done, 2 refused, 3 usage, 4 file or memory";
 
 pub const EXAMPLE_END: &str = "Example:
   bcs example '{\"E\":{\"ENUM\":{\"0\":{\"A\":\"UNIT\"},\"1\":{\"B\":{\"NEWTYPE\":\"U8\"}}}}}' E --variant B  # {\"B\":0}
+  bcs example '{\"S\":{\"STRUCT\":[{\"a\":{\"OPTION\":\"U8\"}},{\"b\":{\"SEQ\":\"BOOL\"}}]}}' S --full  # {\"a\":{\"some\":0},\"b\":[false]}
 
 Status: 0 done, 2 refused, 3 usage, 4 file or memory";
 

@@ -27,6 +27,7 @@ pub(crate) fn job(
         lines: false,
         front: false,
         list: false,
+        full: false,
         name: None,
         quiet: true,
         style: Style {

@@ -6,7 +6,7 @@ use crate::setting::Setting;
 use crate::words::word_of;
 use bcs_encode::encode;
 use bcs_example::example_value;
-use bcs_example_wanted::{Wish, wished_example};
+use bcs_example_wanted::{ExampleForm, Wish, wished_example};
 use bcs_json::from_bcs;
 use bcs_value::Value;
 use std::alloc::Global;
@@ -24,7 +24,15 @@ pub(crate) fn answer(
         }
         ("variant", [name, format, limits @ ..]) => {
             let asked = Question::read(alloc, &setting.registry, format, limits)?;
-            wished(alloc, &asked, Some(*name))
+            wished(alloc, &asked, Some(*name), ExampleForm::Least)
+        }
+        ("full", [format, limits @ ..]) => {
+            let asked = Question::read(alloc, &setting.registry, format, limits)?;
+            wished(alloc, &asked, None, ExampleForm::Full)
+        }
+        ("full_variant", [name, format, limits @ ..]) => {
+            let asked = Question::read(alloc, &setting.registry, format, limits)?;
+            wished(alloc, &asked, Some(*name), ExampleForm::Full)
         }
         _ => Err(RowFault::NotUnderstood),
     }
@@ -36,16 +44,21 @@ fn example(alloc: Global, asked: &Question) -> Result<String, RowFault> {
         Ok(value) => spelled(alloc, asked, &value)?,
         Err(fault) => format!(in alloc; "{fault}")?,
     };
-    if wished(alloc, asked, None)? == answer {
+    if wished(alloc, asked, None, ExampleForm::Least)? == answer {
         Ok(answer)
     } else {
         Err(RowFault::Disagreement("wished_example"))
     }
 }
 
-// The same of the example that has the variant of this name.
-fn wished(alloc: Global, asked: &Question, variant: Option<&str>) -> Result<String, RowFault> {
-    let wish = Wish { variant };
+// The same of the example that has the variant of this name, in this form.
+fn wished(
+    alloc: Global,
+    asked: &Question,
+    variant: Option<&str>,
+    form: ExampleForm,
+) -> Result<String, RowFault> {
+    let wish = Wish { variant, form };
     match wished_example(alloc, &asked.registry, &asked.format, &wish, &asked.limits) {
         Ok(value) => spelled(alloc, asked, &value),
         Err(fault) => Ok(format!(in alloc; "{fault}")?),

@@ -76,11 +76,15 @@ fn on_registry(alloc: Global, quiet: bool, words: &[&str]) -> Result<String, Row
     without_input(alloc, &work)
 }
 
-// The answer to a job on an example, whose variant comes first.
+// The answer to a job on an example, whose variant and form come first.
 fn on_example(alloc: Global, quiet: bool, words: &[&str]) -> Result<String, RowFault> {
     let (name, words) = match words {
         ["--variant", name, words @ ..] => (Some(String::from_str(alloc, name)?), words),
         _ => (None, words),
+    };
+    let (full, words) = match words {
+        ["--full", words @ ..] => (true, words),
+        _ => (false, words),
     };
     let [registry, format, limits @ ..] = words else {
         return Err(RowFault::NotUnderstood);
@@ -89,6 +93,7 @@ fn on_example(alloc: Global, quiet: bool, words: &[&str]) -> Result<String, RowF
     let asked = asked(Command::Example, options, registry, format, limits);
     let work = Work {
         name,
+        full,
         ..work_of(alloc, asked)?
     };
     without_input(alloc, &work)
@@ -112,6 +117,7 @@ fn judged(
         lines: false,
         front: false,
         list: false,
+        full: false,
         name: None,
         quiet,
         style: PLAIN,
@@ -304,6 +310,7 @@ fn work_of(alloc: Global, asked: ValueJob<'_>) -> Result<Work, RowFault> {
         lines: asked.options.lines,
         front: asked.options.front,
         list: false,
+        full: false,
         name: None,
         quiet: asked.options.quiet,
         style: asked.style,

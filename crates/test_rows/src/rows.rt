@@ -52,7 +52,9 @@ fn answered(
         "encode" | "form" => encodings::answer(alloc, setting, question, words),
         "json" | "text" | "same" | "pairs" => texts::answer(alloc, setting, question, words),
         "place" => places::answer(alloc, setting, words),
-        "example" | "variant" => examples::answer(alloc, setting, question, words),
+        "example" | "variant" | "full" | "full_variant" => examples::answer(
+            alloc, setting, question, words,
+        ),
         "sizes" => sizes::answer(alloc, setting, words),
         "line" | "usage" | "help" => lines::answer(alloc, question, words),
         "bcs" => jobs::answer(alloc, words),

@@ -32,6 +32,7 @@ pub(crate) fn job_for_lines(
         lines: true,
         front: false,
         list: false,
+        full: false,
         name: None,
         quiet: true,
         style: Style {

@@ -33,6 +33,7 @@ fn job(alloc: Global, command: Command) -> Result<Job, AllocError> {
         lines: false,
         front: false,
         list: false,
+        full: false,
         name: Some(String::from_str(alloc, "N")?),
         quiet: true,
         form: Form::Tree,
