@@ -4,7 +4,8 @@
     bindings/proved_code.py FILE     makes FILE, the archive, as `rt lib` does in the crate's folder
 
 `rt lib` builds anew each library that `rt ci` built, since it keeps only what it built itself. So the gate builds the archive
-by this, over what it has proved a moment before. The crate itself is proved here once more.
+by this, over what it has proved a moment before. The crate itself is proved here once more. Where a library isn't there,
+`rt lib` makes them all first.
 """
 
 from __future__ import annotations
@@ -54,10 +55,20 @@ def prove_and_build(kit: pathlib.Path, archive: pathlib.Path, tools: pathlib.Pat
     print(built.stdout.strip().splitlines()[-1])
 
 
+def are_built(words: list[str]) -> bool:
+    """Whether each library of this repository that the words name is there. A run that was broken off leaves some out, and
+    a later one that has nothing to prove of them doesn't make them."""
+    folders = [pathlib.Path(word.removeprefix("dependency=")) for word in words if word.startswith("dependency=")]
+    own = [folder for folder in folders if (ROOT / "crates") in folder.parents]
+    return all((folder / f"{folder.parent.parent.name}.rlib").exists() for folder in own)
+
+
 def main() -> None:
     if len(sys.argv) != 2:
         sys.exit(f"Usage: {sys.argv[0]} FILE")
     kit = kit_folder()
+    if not are_built(words_of_crate(kit)):
+        subprocess.run(["rt", "lib"], cwd=CRATE, stdout=subprocess.DEVNULL, check=True)
     prove_and_build(kit, pathlib.Path(sys.argv[1]).resolve(), kit / "toolchain")
 
 
