@@ -1,15 +1,19 @@
 //! The encoder.
-ghost use Rattle.std.specs.Prelude.{◌≡◌, ◌≢◌, IfErr, IfOk};
+ghost use Rattle.std.specs.Prelude.{◌≡◌, ◌≢◌, [], Ok, true, IfErr, IfOk};
+ghost use Rattle.std.specs.Result.{is_err};
+ghost use Rattle.bcs_registry_formats.specs.Container.{of};
 ghost use Rattle.bcs_registry_formats.specs.View.{shape_of};
 ghost use Rattle.bcs_value_tree.specs.View.{tree_of};
 ghost use Rattle.bcs_encode_spec.specs.Encodes.{Encodes};
 ghost use Rattle.bcs_encode_spec.specs.Refused.{IsSoundBesidesKeys, Refuses};
 ghost use Rattle.bcs_encode_spec.specs.declared.fault.EncodeFault.TheVariants.{OutOfMemory, RepeatedKey};
+ghost use Rattle.bcs_encode_steps.specs.Writing.{written};
 
 use crate::soundness::check_soundness;
 use bcs_encode_spec::EncodeFault;
 use bcs_encode_steps::workspace::Workspace;
 use bcs_encode_walk::encoding::push_value;
+use bcs_encode_walk::output::{Extent, Output};
 use bcs_registry::{Format, Registry};
 use bcs_value::{Limits, Value};
 use std::alloc::Global;
@@ -18,8 +22,11 @@ use std::alloc::Global;
 ///
 /// `NotOfFormat`: the value isn't one of the format, even if every value were let stand at `F32`, `F64` and `CHAR`.
 /// `Unsupported`: it is one only then. `TooDeep`, `TooManyNodes`: it is beyond the limits. `TooLong`: a list, a map, a
-/// text or a byte string is longer than 2147483647. These are looked for in that order over the whole value, before any
-/// byte is made and without memory. `RepeatedKey`: two keys of one map are the same value.
+/// text or a byte string is longer than 2147483647. These are looked for in that order over the whole value, and told
+/// whether or not there is memory. `RepeatedKey`: two keys of one map are the same value.
+///
+/// A value without maps is judged and written in one walk. Where a map comes, the value is judged to its end, and then
+/// written anew, the keys of each map first.
 pub fn encode(
     alloc: Global,
     registry: &Registry,
@@ -31,21 +38,33 @@ pub fn encode(
     ensures fault { IfErr result (λ e. e ≢ OutOfMemory → Refuses registry.now limits.now (shape_of format.now) (tree_of value.now) e) }
     ensures memory { IfErr result (λ e. e ≡ OutOfMemory → IsSoundBesidesKeys registry.now limits.now (shape_of format.now) (tree_of value.now)) }
 {
-    check_soundness(registry, format, limits, value)?;
-    let mut work = Workspace::new(alloc);
-    if let Err(fault) = push_value(value, registry, format, &mut work) {
-        return Err(late_fault(fault));
+    let mut out = Output::new(alloc);
+    check_soundness(registry, format, limits, value, &mut out)?;
+    match out.extent {
+        Extent::Whole => Ok(out.bytes),
+        Extent::OutOfMemory => Err(EncodeFault::OutOfMemory),
+        Extent::LeftOff => encode_keys_first(alloc, registry, format, value, out.bytes),
     }
-    Ok(work.out)
 }
 
-/// What the walk's fault means once the value was judged: nothing but equal keys is left, unless memory ran out.
-fn late_fault(fault: EncodeFault) -> EncodeFault
-    ensures memory { fault ≡ OutOfMemory → result ≡ OutOfMemory }
-    ensures others { fault ≢ OutOfMemory → result ≡ RepeatedKey }
+/// The bytes of a value that was judged, in the memory of those that were left off. Nothing but equal keys is left to
+/// refuse it for.
+fn encode_keys_first(
+    alloc: Global,
+    registry: &Registry,
+    format: &Format,
+    value: &Value,
+    left_off: Vec<u8>,
+) -> Result<Vec<u8>, EncodeFault>
+    ensures bytes { IfOk result (λ b. written registry.now (tree_of value.now) (of (shape_of format.now)) [] ≡ Ok b.items) }
+    ensures fault { IfErr result (λ e. e ≢ OutOfMemory → (e ≡ RepeatedKey) × (is_err (written registry.now (tree_of value.now) (of (shape_of format.now)) []) ≡ true)) }
 {
-    match fault {
-        EncodeFault::OutOfMemory => EncodeFault::OutOfMemory,
-        _ => EncodeFault::RepeatedKey,
+    let mut work = Workspace::new(alloc);
+    work.out = left_off;
+    work.out.clear();
+    match push_value(value, registry, format, &mut work) {
+        Ok(()) => Ok(work.out),
+        Err(EncodeFault::OutOfMemory) => Err(EncodeFault::OutOfMemory),
+        Err(_) => Err(EncodeFault::RepeatedKey),
     }
 }

@@ -1,6 +1,6 @@
 -- What the walk needs of the views, shape by shape.
-use Rattle.std.proofs.Common.{◌≡◌, ℕ, ℤ, suc, ◌+◌, ◌^◌, ◌<◌, ◌≤◌, nat_lt, Bool, false, ◌&&◌, List, [], ◌∷◌, length, map, Vec, BTreeMap, Box, Bor, Global, if◌then◌else◌, Option, Some, None, refl, sym, ap, ◌∙◌, arith, rules, le-leb, lt-ltb}
-use Rattle.std.proofs.lemmas.Bool.{and_parts, and_from}
+use Rattle.std.proofs.Common.{◌≡◌, ℕ, ℤ, suc, ◌+◌, ◌^◌, ◌<◌, ◌≤◌, nat_le, nat_lt, ◌==◌, Bool, false, ◌&&◌, List, [], ◌∷◌, length, map, Vec, BTreeMap, Box, Bor, Global, if◌then◌else◌, Option, Some, None, refl, sym, ap, ◌∙◌, arith, rules, le-leb, lt-ltb}
+use Rattle.std.proofs.lemmas.Bool.{and_parts, and_from, eq-eqb, lt-leb, ne_eqb}
 use Rattle.std.specs.Ordering.{nat_cmp}
 use Rattle.std.specs.Map.{lookup}
 use Rattle.std.specs.Option.{option_and_then, option_copied}
@@ -24,9 +24,10 @@ use Rattle.bcs_value_tree.specs.Tree.{Tree, Trees, no_trees, tree, count, pair_c
 use Rattle.bcs_value_tree.specs.View.{tree_of, items_trees, entries_pairs}
 use Rattle.bcs_value_tree.specs.declared.value.Value as value
 use Rattle.bcs_value_tree.specs.declared.value.Value.{Value, Items, Pairs, Variant, the_lemmas}
+use Rattle.bcs_value_tree.proofs.Views.{tree_of_pairs}
 use Rattle.bcs_value_spec.specs.Fits.{fits, all_fit}
 use Rattle.bcs_encode_spec.specs.Lengths.{length_limit}
-use Rattle.bcs_encode_steps.proofs.WalkViews.{count_items, count_pairs, at_array, at_enum, at_list, at_map, choice-found, choice-missing}
+use Rattle.bcs_encode_steps.proofs.WalkViews.{count_items, count_pairs, at_array, at_enum, at_list, choice-found, choice-missing, shape_of_map}
 use Rattle.bcs_encode_walk.specs.Judging.{less, leaf, judged, all_judged, each_judged, pairs_judged}
 use Rattle.bcs_encode_walk.proofs.Options.{then_some, then_is, then_none, if_some, if_is, if_none, less_some, less_is, leaf_some, leaf_is, alike}
 
@@ -84,16 +85,10 @@ pub by_list : {A : Type 0} (walk : Tree → Content → A) (v : Value) (f : Form
     → walk (tree.items (items_trees us)) (of (shape.seq (shape_of g))) ≡ walk (tree_of v) (of (shape_of f))
 by_list walk v f vs element us g e h i j = rw (i, j) (sym (at_list walk v f vs element e h))
 
-pub by_array : {A : Type 0} (walk : Tree → Content → A) (v : Value) (f : Format) (vs : Vec Value Global) (element : Box Format Global) (size : ℕ) (us : List Value) (g : Format)
-    → v ≡ Items vs → f ≡ TupleArray element size → us ≡ vs.items → g ≡ element.value
-    → walk (tree.items (items_trees us)) (of (shape.array (shape_of g) size)) ≡ walk (tree_of v) (of (shape_of f))
-by_array walk v f vs element size us g e h i j = rw (i, j) (sym (at_array walk v f vs element size e h))
-
-pub by_map : {A : Type 0} (walk : Tree → Content → A) (v : Value) (f : Format) (ps : Vec (Value × Value) Global) (key value : Box Format Global)
-    (qs : List (Value × Value)) (g k : Format)
-    → v ≡ Pairs ps → f ≡ Map key value → qs ≡ ps.items → g ≡ key.value → k ≡ value.value
-    → walk (tree.pairs (entries_pairs qs)) (of (shape.map (shape_of g) (shape_of k))) ≡ walk (tree_of v) (of (shape_of f))
-by_map walk v f ps key value qs g k e h i j l = rw (i, j, l) (sym (at_map walk v f ps key value e h))
+-- a map's pairs
+pub at_pairs : {A : Type 0} (walk : Tree → A) (v : Value) (ps : Vec (Value × Value) Global) (qs : List (Value × Value)) → v ≡ Pairs ps → qs ≡ ps.items
+    → walk (tree.pairs (entries_pairs qs)) ≡ walk (tree_of v)
+at_pairs walk v ps qs e i = rw (e, i, tree_of_pairs ps) refl
 
 pub by_tuple : {A : Type 0} (walk : Tree → Content → A) (v : Value) (f : Format) (vs : Vec Value Global) (fs : Vec Format Global) (us : List Value) (gs : List Format)
     → v ≡ Items vs → f ≡ Tuple fs → us ≡ vs.items → gs ≡ fs.items
@@ -130,12 +125,44 @@ list_judged r vs s d n left short taken =
     (le-leb (count (items_trees vs)) length_limit (omega (arith, short, count_items vs)))
     ∙ ap (option_and_then (all_judged r (items_trees vs) s d)) taken
 
-pub map_judged : (r : Entries) (ps : List (Value × Value)) (k v : Shape) (d n left : ℕ) → length ps ≤ length_limit → less 1 n ≡ Some left
-    → judged r (tree.pairs (entries_pairs ps)) (of (shape.map k v)) d n ≡ pairs_judged r (entries_pairs ps) k v d left
-map_judged r ps k v d n left short taken =
-    ap (λ (b : Bool). if b then option_and_then (pairs_judged r (entries_pairs ps) k v d) (less 1 n) else None)
+at_map_format : (r : Entries) (ps : List (Value × Value)) (f : Format) (key value : Box Format Global) (d n : ℕ) → f ≡ Map key value
+    → judged r (tree.pairs (entries_pairs ps)) (of (shape_of f)) d n
+    ≡ (if nat_le (pair_count (entries_pairs ps)) length_limit then option_and_then (pairs_judged r (entries_pairs ps) (shape_of key.value) (shape_of value.value) d) (less 1 n) else None)
+at_map_format r ps f key value d n e = ap (λ (s : Shape). judged r (tree.pairs (entries_pairs ps)) (of s) d n) (ap (λ (g : Format). shape_of g) e ∙ shape_of_map key value)
+
+pub map_judged : (r : Entries) (ps : List (Value × Value)) (f : Format) (key value : Box Format Global) (d n left : ℕ) → f ≡ Map key value → length ps ≤ length_limit → less 1 n ≡ Some left
+    → judged r (tree.pairs (entries_pairs ps)) (of (shape_of f)) d n ≡ pairs_judged r (entries_pairs ps) (shape_of key.value) (shape_of value.value) d left
+map_judged r ps f key value d n left e short taken =
+    at_map_format r ps f key value d n e
+    ∙ ap (λ (b : Bool). if b then option_and_then (pairs_judged r (entries_pairs ps) (shape_of key.value) (shape_of value.value) d) (less 1 n) else None)
     (le-leb (pair_count (entries_pairs ps)) length_limit (omega (arith, short, count_pairs ps)))
-    ∙ ap (option_and_then (pairs_judged r (entries_pairs ps) k v d)) taken
+    ∙ ap (option_and_then (pairs_judged r (entries_pairs ps) (shape_of key.value) (shape_of value.value) d)) taken
+
+-- and one that is too long
+pub long_map_judged : (r : Entries) (ps : List (Value × Value)) (f : Format) (key value : Box Format Global) (d n : ℕ) → f ≡ Map key value → length_limit < length ps
+    → judged r (tree.pairs (entries_pairs ps)) (of (shape_of f)) d n ≡ None
+long_map_judged r ps f key value d n e long =
+    at_map_format r ps f key value d n e
+    ∙ ap (λ (b : Bool). if b then option_and_then (pairs_judged r (entries_pairs ps) (shape_of key.value) (shape_of value.value) d) (less 1 n) else None)
+    (lt-leb (pair_count (entries_pairs ps)) length_limit (omega (arith, long, count_pairs ps)))
+
+-- an array of its size, and of another
+pub array_judged : (r : Entries) (v : Value) (f : Format) (vs : Vec Value Global) (element : Box Format Global) (size k d n left : ℕ)
+    → v ≡ Items vs → f ≡ TupleArray element size → k ≡ length vs.items → k ≡ size → less 1 n ≡ Some left
+    → judged r (tree_of v) (of (shape_of f)) d n ≡ all_judged r (items_trees vs.items) (shape_of element.value) d left
+array_judged r v f vs element size k d n left e g i same taken =
+    at_array (λ t c. judged r t c d n) v f vs element size e g
+    ∙ ap (λ (b : Bool). if b then option_and_then (all_judged r (items_trees vs.items) (shape_of element.value) d) (less 1 n) else None)
+    (ap (λ (m : ℕ). m == size) (count_items vs.items ∙ sym i) ∙ eq-eqb k size same)
+    ∙ ap (option_and_then (all_judged r (items_trees vs.items) (shape_of element.value) d)) taken
+
+pub array_unlike : (r : Entries) (v : Value) (f : Format) (vs : Vec Value Global) (element : Box Format Global) (size k d n : ℕ)
+    → v ≡ Items vs → f ≡ TupleArray element size → k ≡ length vs.items → (k ≡ size → ⊥)
+    → judged r (tree_of v) (of (shape_of f)) d n ≡ None
+array_unlike r v f vs element size k d n e g i other =
+    at_array (λ t c. judged r t c d n) v f vs element size e g
+    ∙ ap (λ (b : Bool). if b then option_and_then (all_judged r (items_trees vs.items) (shape_of element.value) d) (less 1 n) else None)
+    (ap (λ (m : ℕ). m == size) (count_items vs.items ∙ sym i) ∙ ne_eqb k size other)
 
 -- a variant that the enum has, and one that it hasn't
 pub variant_judged : (r : Entries) (v : Value) (k : declared.Container) (vs : BTreeMap ℕ (Named VariantFormat)) (number : ℕ) (inner : Box Value Global)

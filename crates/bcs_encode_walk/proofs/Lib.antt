@@ -1,3 +1,5 @@
-pub mod Options
+pub mod AppendsLaws
 pub mod JudgingLaws
 pub mod JudgingViews
+pub mod Options
+pub mod RowsFit

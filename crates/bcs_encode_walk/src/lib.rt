@@ -5,6 +5,7 @@ pub mod encoding;
 pub mod judging;
 pub mod leaves;
 pub mod number_rows;
+pub mod output;
 mod soundness;
 
 pub use soundness::is_sound;

@@ -2,6 +2,7 @@
 
 use crate::accepted::{Accepted, value_of};
 use crate::asked::Asked;
+use crate::faults::is_early;
 use crate::parts;
 use crate::refused_values::refusing;
 use crate::row::Row;
@@ -9,8 +10,7 @@ use crate::tally::Tally;
 use crate::told::{Told, bytes_of};
 use bcs_decode::pieces::PieceSource;
 use bcs_decode::{DecodeFault, decode_all, decode_from, decode_slice};
-use bcs_encode::pieces::PieceSink;
-use bcs_encode::{EncodeFault, WriteFault, canonicalise, encode, encode_by_entries, write};
+use bcs_encode::{EncodeFault, canonicalise, encode_by_entries};
 use bcs_json::{PrintFault, print_value};
 use bcs_value::Value;
 use std::alloc::Global;
@@ -87,7 +87,7 @@ fn source_faults(alloc: Global, asked: &Asked, bytes: &[u8]) -> [Option<DecodeFa
     [front, whole]
 }
 
-// What needs no memory is told before any is asked for.
+// These look for what needs no memory before they ask for any.
 fn ask_of_fault(alloc: Global, row: &Row, is_asked: bool, tally: &mut Tally) -> Result<(), Told> {
     let asked = Asked::read(alloc, row, row.format, "")?;
     let other = refusing(alloc, row)?;
@@ -99,33 +99,19 @@ fn ask_of_fault(alloc: Global, row: &Row, is_asked: bool, tally: &mut Tally) -> 
     Ok(())
 }
 
-fn is_early(fault: &Option<EncodeFault>) -> bool {
-    match fault {
-        Some(fault) => *fault != EncodeFault::OutOfMemory,
-        None => false,
-    }
-}
-
-fn encoder_faults(alloc: Global, asked: &Asked, value: &Value) -> [Option<EncodeFault>; 5] {
+fn encoder_faults(alloc: Global, asked: &Asked, value: &Value) -> [Option<EncodeFault>; 3] {
     let Asked {
         registry,
         format,
         limits,
     } = asked;
-    let mut sink = PieceSink::<64>::new(1, None);
-    let written = match write(alloc, registry, format, limits, value, &mut sink) {
-        Err(WriteFault::Encode(fault)) => Some(fault),
-        _ => None,
-    };
     let printed = match print_value(alloc, registry, format, limits, value) {
         Err(PrintFault::Encode(fault)) => Some(fault),
         _ => None,
     };
     [
-        encode(alloc, registry, format, limits, value).err(),
         encode_by_entries(alloc, registry, format, limits, value).err(),
         canonicalise(alloc, registry, format, limits, value).err(),
-        written,
         printed,
     ]
 }

@@ -1,97 +1,190 @@
-use Rattle.std.proofs.Common.{sym, ap, ◌∙◌, arith, rules, map}
+use Rattle.std.proofs.Common.{sym, ap, ap₂, ◌∙◌, ◌++◌, List, [], Ok, arith, rules, map}
+use Rattle.std.specs.Option.{option_and_then}
+use Rattle.bcs_num.specs.Uleb.{uleb}
 use Rattle.bcs_registry_formats.specs.Container.{of, field_shapes, payload_shape}
+use Rattle.bcs_registry_formats.specs.declared.format.Format.{Format}
+use Rattle.bcs_registry_formats.specs.Whole.{whole_shape}
 use Rattle.bcs_registry_formats.specs.View.{field_of, formats_shapes, payload_of, shape_of}
 use Rattle.bcs_value_tree.specs.View.{items_trees, tree_of}
 use Rattle.bcs_value_tree.specs.declared.value.Value.{Value}
-use Rattle.bcs_encode_walk.specs.Judging.{less, judged, each_judged}
+use Rattle.bcs_encode_steps.specs.Writing.{written, items_written}
+use Rattle.bcs_encode_steps.proofs.NumberViews.{numbers_anywhere}
+use Rattle.bcs_encode_steps.proofs.WritingViews.{array_written, fields_written, tuple_written, variant_written}
+use Rattle.bcs_encode_walk.specs.Judging.{less, judged, all_judged, each_judged}
+use Rattle.bcs_encode_walk.proofs.AppendsLaws.{after, along, at_one_registry, some_appends}
 use Rattle.bcs_encode_walk.proofs.Options.{then_none}
-use Rattle.bcs_encode_walk.proofs.JudgingViews.{at_signed, at_unsigned, by_array, by_list, by_map, by_struct, by_struct_payload, by_tuple, by_tuple_payload, by_tuple_struct, each_unlike, fields_unlike, list_judged, map_judged, variant_judged, no_variant_judged, row_judged}
+use Rattle.bcs_encode_walk.proofs.JudgingViews.{array_judged, array_unlike, at_pairs, at_signed, at_unsigned, by_list, by_struct, by_struct_payload, by_tuple, by_tuple_payload, by_tuple_struct, each_unlike, fields_unlike, list_judged, long_map_judged, map_judged, variant_judged, no_variant_judged, row_judged}
 use Rattle.bcs_encode_walk.proofs.judging.+judging.Goals as goal
 
-pub judge_all-returns-in-Some : goal.judge_all-returns-in-Some
-judge_all-returns-in-Some t c =
-    c.judge_numbers.ensures ∙ sym (row_judged c.args.registry.now c.in-Some.format (shape_of c.args.element.now) c.args.items.now c.args.depth c.args.nodes (search rules))
+pub judge_all-returns-in-Some-clause-judged : goal.judge_all-returns-in-Some-clause-judged
+judge_all-returns-in-Some-clause-judged t c =
+    c.judge_numbers.ensures.judged ∙ sym (row_judged c.args.registry.now c.in-Some.format (shape_of c.args.element.now) c.args.items.now c.args.depth c.args.nodes (search rules))
 
-pub judge_content-returns-in-TupleStruct-Items : goal.judge_content-returns-in-TupleStruct-Items
-judge_content-returns-in-TupleStruct-Items t c =
+pub judge_content-returns-in-TupleStruct-Items-clause-judged : goal.judge_content-returns-in-TupleStruct-Items-clause-judged
+judge_content-returns-in-TupleStruct-Items-clause-judged t c =
     let m = c.in-TupleStruct-Items in
-    c.judge_each.ensures ∙ by_tuple_struct (λ u f. judged c.args.registry.now u f c.args.depth c.args.nodes) _ _ m.items m.formats _ _ m.is-0 m.is-1 c.deref.ensures.value c.deref-in-TupleStruct-Items.ensures.value
+    c.judge_each.ensures.judged ∙ by_tuple_struct (λ u f. judged c.args.registry.now u f c.args.depth c.args.nodes) _ _ m.items m.formats _ _ m.is-0 m.is-1 c.deref.ensures.value c.deref-in-TupleStruct-Items.ensures.value
 
-pub judge_content-returns-in-Struct-Items : goal.judge_content-returns-in-Struct-Items
-judge_content-returns-in-Struct-Items t c =
+pub judge_content-returns-in-Struct-Items-clause-judged : goal.judge_content-returns-in-Struct-Items-clause-judged
+judge_content-returns-in-Struct-Items-clause-judged t c =
     let m = c.in-Struct-Items in
-    c.judge_fields.ensures ∙ by_struct (λ u f. judged c.args.registry.now u f c.args.depth c.args.nodes) _ _ m.items m.fields _ _ m.is-0 m.is-1 c.deref-in-Struct-Items.ensures.value c.deref-in-Struct-Items-2.ensures.value
+    c.judge_fields.ensures.judged ∙ by_struct (λ u f. judged c.args.registry.now u f c.args.depth c.args.nodes) _ _ m.items m.fields _ _ m.is-0 m.is-1 c.deref-in-Struct-Items.ensures.value c.deref-in-Struct-Items-2.ensures.value
 
-pub judge_content-returns-in-Some : goal.judge_content-returns-in-Some
-judge_content-returns-in-Some t c =
+pub judge_content-returns-in-Some-clause-judged : goal.judge_content-returns-in-Some-clause-judged
+judge_content-returns-in-Some-clause-judged t c =
     let m = c.in-Enum-Variant in
-    c.judge_payload.ensures
+    c.judge_payload.ensures.judged
     ∙ ap (λ (v : Value). judged c.args.registry.now (tree_of v) (of (payload_shape (payload_of c.in-Some.variant.now.value))) c.args.depth c.in_ok-nodes-in-Enum-Variant.nodes) c.deref-in-Some.ensures
     ∙ sym (variant_judged c.args.registry.now c.args.value.now c.args.container.now m.variants m.number m.inner c.in-Some.variant c.get.result c.args.depth c.args.nodes c.in_ok-nodes-in-Enum-Variant.nodes
     (omega arith) m.is-0 m.is-1 c.get.ensures.value c.in-Some.is (sym c.take-in-Enum-Variant.ensures ∙ c.in_ok-nodes-in-Enum-Variant.was))
 
-pub judge_content-returns-in-None : goal.judge_content-returns-in-None
-judge_content-returns-in-None t c =
+pub judge_content-returns-in-None-clause-judged : goal.judge_content-returns-in-None-clause-judged
+judge_content-returns-in-None-clause-judged t c =
     let m = c.in-Enum-Variant in
     sym (no_variant_judged c.args.registry.now c.args.value.now c.args.container.now m.variants m.number m.inner c.get.result c.args.depth c.args.nodes m.is-0 m.is-1 c.get.ensures.value c.in-None.is)
 
-pub judge_each-returns-then-items-formats : goal.judge_each-returns-then-items-formats
-judge_each-returns-then-items-formats t c =
+pub judge_each-returns-then-items-formats-clause-judged : goal.judge_each-returns-then-items-formats-clause-judged
+judge_each-returns-then-items-formats-clause-judged t c =
     sym (then_none (each_judged c.args.registry.now (items_trees c.args.items.now) (formats_shapes c.args.formats.now) c.args.depth) (less 1 c.args.nodes)
     (λ n. each_unlike c.args.registry.now c.args.items.now c.args.formats.now c.args.depth n c.if-items-formats.true))
 
-pub judge_fields-returns-then-items-fields : goal.judge_fields-returns-then-items-fields
-judge_fields-returns-then-items-fields t c =
+pub judge_fields-returns-then-items-fields-clause-judged : goal.judge_fields-returns-then-items-fields-clause-judged
+judge_fields-returns-then-items-fields-clause-judged t c =
     sym (then_none (each_judged c.args.registry.now (items_trees c.args.items.now) (field_shapes (map field_of c.args.fields.now)) c.args.depth) (less 1 c.args.nodes)
     (λ n. fields_unlike c.args.registry.now c.args.items.now c.args.fields.now c.args.depth n c.if-items-fields.true))
 
-pub judge_list-returns : goal.judge_list-returns
-judge_list-returns t c =
-    c.judge_all.ensures
+pub judge_list-returns-clause-judged : goal.judge_list-returns-clause-judged
+judge_list-returns-clause-judged t c =
+    c.judge_all.ensures.judged
     ∙ sym (list_judged c.args.registry.now c.args.items.now (shape_of c.args.element.now) c.args.depth c.args.nodes c.in_ok-take.field-0 (omega (arith, c.if-items-gt-LENGTH_LIMIT.false))
     (sym c.take.ensures ∙ c.in_ok-take.was))
 
-pub judge_map-loop-k-init : goal.judge_map-loop-k-init
-judge_map-loop-k-init t c =
-    map_judged c.args.registry.now c.args.pairs.now (shape_of c.args.key.now) (shape_of c.args.value.now) c.args.depth c.args.nodes c.in_ok-left.left (omega (arith, c.if-pairs-gt-LENGTH_LIMIT.false))
-    (sym c.take.ensures ∙ c.in_ok-left.was)
-
-pub judge_payload-returns-in-Tuple-Items : goal.judge_payload-returns-in-Tuple-Items
-judge_payload-returns-in-Tuple-Items t c =
+pub judge_payload-returns-in-Tuple-Items-clause-judged : goal.judge_payload-returns-in-Tuple-Items-clause-judged
+judge_payload-returns-in-Tuple-Items-clause-judged t c =
     let m = c.in-Tuple-Items in
-    c.judge_each.ensures ∙ by_tuple_payload (λ u f. judged c.args.registry.now u f c.args.depth c.args.nodes) _ _ m.items m.formats _ _ m.is-0 m.is-1 c.deref.ensures.value c.deref-in-Tuple-Items.ensures.value
+    c.judge_each.ensures.judged ∙ by_tuple_payload (λ u f. judged c.args.registry.now u f c.args.depth c.args.nodes) _ _ m.items m.formats _ _ m.is-0 m.is-1 c.deref.ensures.value c.deref-in-Tuple-Items.ensures.value
 
-pub judge_payload-returns-in-Struct-Items : goal.judge_payload-returns-in-Struct-Items
-judge_payload-returns-in-Struct-Items t c =
+pub judge_payload-returns-in-Struct-Items-clause-judged : goal.judge_payload-returns-in-Struct-Items-clause-judged
+judge_payload-returns-in-Struct-Items-clause-judged t c =
     let m = c.in-Struct-Items in
-    c.judge_fields.ensures ∙ by_struct_payload (λ u f. judged c.args.registry.now u f c.args.depth c.args.nodes) _ _ m.items m.fields _ _ m.is-0 m.is-1 c.deref-in-Struct-Items.ensures.value c.deref-in-Struct-Items-2.ensures.value
+    c.judge_fields.ensures.judged ∙ by_struct_payload (λ u f. judged c.args.registry.now u f c.args.depth c.args.nodes) _ _ m.items m.fields _ _ m.is-0 m.is-1 c.deref-in-Struct-Items.ensures.value c.deref-in-Struct-Items-2.ensures.value
 
-pub judge_value-returns-in-Items-Seq : goal.judge_value-returns-in-Items-Seq
-judge_value-returns-in-Items-Seq t c =
+pub judge_value-returns-in-Items-Seq-clause-judged : goal.judge_value-returns-in-Items-Seq-clause-judged
+judge_value-returns-in-Items-Seq-clause-judged t c =
     let m = c.in-Items-Seq in
-    c.judge_list.ensures ∙ by_list (λ u f. judged c.args.registry.now u f c.args.depth c.args.nodes) _ _ m.items m.element _ _ m.is-0 m.is-1 c.deref-in-Items-Seq.ensures.value c.deref-in-Items-Seq-2.ensures
+    c.judge_list.ensures.judged ∙ by_list (λ u f. judged c.args.registry.now u f c.args.depth c.args.nodes) _ _ m.items m.element _ _ m.is-0 m.is-1 c.deref-in-Items-Seq.ensures.value c.deref-in-Items-Seq-2.ensures
 
-pub judge_value-returns-in-Items-Tuple : goal.judge_value-returns-in-Items-Tuple
-judge_value-returns-in-Items-Tuple t c =
+pub judge_value-returns-in-Items-Tuple-clause-judged : goal.judge_value-returns-in-Items-Tuple-clause-judged
+judge_value-returns-in-Items-Tuple-clause-judged t c =
     let m = c.in-Items-Tuple in
-    c.judge_each.ensures ∙ by_tuple (λ u f. judged c.args.registry.now u f c.args.depth c.args.nodes) _ _ m.items m.formats _ _ m.is-0 m.is-1 c.deref-in-Items-Tuple.ensures.value c.deref-in-Items-Tuple-2.ensures.value
+    c.judge_each.ensures.judged ∙ by_tuple (λ u f. judged c.args.registry.now u f c.args.depth c.args.nodes) _ _ m.items m.formats _ _ m.is-0 m.is-1 c.deref-in-Items-Tuple.ensures.value c.deref-in-Items-Tuple-2.ensures.value
 
-pub judge_value-returns-in-Items-TupleArray : goal.judge_value-returns-in-Items-TupleArray
-judge_value-returns-in-Items-TupleArray t c =
-    let m = c.in-Items-TupleArray in
-    c.judge_array.ensures ∙ by_array (λ u f. judged c.args.registry.now u f c.args.depth c.args.nodes) _ _ m.items m.element m.size _ _ m.is-0 m.is-1 c.deref-in-Items-TupleArray.ensures.value c.deref-in-Items-TupleArray-2.ensures
-
-pub judge_value-returns-in-Pairs-Map : goal.judge_value-returns-in-Pairs-Map
-judge_value-returns-in-Pairs-Map t c =
-    let m = c.in-Pairs-Map in
-    c.judge_map.ensures ∙ by_map (λ u f. judged c.args.registry.now u f c.args.depth c.args.nodes) _ _ m.pairs m.key m.value _ _ _ m.is-0 m.is-1 c.deref-in-Pairs-Map.ensures.value c.deref-in-Pairs-Map-2.ensures c.deref-in-Pairs-Map-3.ensures
-
-pub judge_value-returns-in-Unsigned-default : goal.judge_value-returns-in-Unsigned-default
-judge_value-returns-in-Unsigned-default t c =
-    c.judge_unsigned.ensures c.args.registry.now c.args.depth
+pub judge_value-returns-in-Unsigned-default-clause-judged : goal.judge_value-returns-in-Unsigned-default-clause-judged
+judge_value-returns-in-Unsigned-default-clause-judged t c =
+    c.judge_unsigned.ensures.judged c.args.registry.now c.args.depth
     ∙ at_unsigned (λ u. judged c.args.registry.now u (of (shape_of c.args.format.now)) c.args.depth c.args.nodes) c.args.value.now _ c.in-Unsigned-default.is-0
 
-pub judge_value-returns-in-Signed-default : goal.judge_value-returns-in-Signed-default
-judge_value-returns-in-Signed-default t c =
-    c.judge_signed.ensures c.args.registry.now c.args.depth
+pub judge_value-returns-in-Signed-default-clause-judged : goal.judge_value-returns-in-Signed-default-clause-judged
+judge_value-returns-in-Signed-default-clause-judged t c =
+    c.judge_signed.ensures.judged c.args.registry.now c.args.depth
     ∙ at_signed (λ u. judged c.args.registry.now u (of (shape_of c.args.format.now)) c.args.depth c.args.nodes) c.args.value.now _ c.in-Signed-default.is-0
+
+pub judge_all-returns-in-Some-clause-appended : goal.judge_all-returns-in-Some-clause-appended
+judge_all-returns-in-Some-clause-appended t c =
+    along c.judge_numbers.result c.args.out.now c.judge_numbers.new.out _ _ (λ b. numbers_anywhere c.args.registry.now [] c.in-Some.format (shape_of c.args.element.now) (items_trees c.args.items.now) b (search rules)) (some_appends c.judge_numbers.result c.args.out.now c.judge_numbers.new.out (items_written [] (items_trees c.args.items.now) (whole_shape c.in-Some.format)) c.judge_numbers.ensures.appended)
+
+pub judge_content-returns-in-TupleStruct-Items-clause-appended : goal.judge_content-returns-in-TupleStruct-Items-clause-appended
+judge_content-returns-in-TupleStruct-Items-clause-appended t c =
+    let m = c.in-TupleStruct-Items in
+    along c.judge_each.result c.args.out.now c.judge_each.new.out _ _ (λ b. sym (by_tuple_struct (λ u f. written c.args.registry.now u f b) _ _ m.items m.formats _ _ m.is-0 m.is-1 c.deref.ensures.value c.deref-in-TupleStruct-Items.ensures.value)) c.judge_each.ensures.appended
+
+pub judge_content-returns-in-Struct-Items-clause-appended : goal.judge_content-returns-in-Struct-Items-clause-appended
+judge_content-returns-in-Struct-Items-clause-appended t c =
+    let m = c.in-Struct-Items in
+    along c.judge_fields.result c.args.out.now c.judge_fields.new.out _ _ (λ b. sym (by_struct (λ u f. written c.args.registry.now u f b) _ _ m.items m.fields _ _ m.is-0 m.is-1 c.deref-in-Struct-Items.ensures.value c.deref-in-Struct-Items-2.ensures.value)) c.judge_fields.ensures.appended
+
+pub judge_content-returns-in-Some-clause-appended : goal.judge_content-returns-in-Some-clause-appended
+judge_content-returns-in-Some-clause-appended t c =
+    let m = c.in-Enum-Variant in
+    after c.judge_payload.result c.args.out.now c.push_number.new.self c.judge_payload.new.out (λ b. Ok (b ++ uleb m.number))
+    (written c.args.registry.now (tree_of c.deref-in-Some.result.now) (of (payload_shape (payload_of c.in-Some.variant.now.value)))) _
+    (λ b. variant_written c.args.registry.now c.args.value.now c.args.container.now m.variants m.number m.inner c.in-Some.variant c.get.result b m.is-0 m.is-1 c.get.ensures.value c.in-Some.is
+    ∙ ap (λ (v : Value). written c.args.registry.now (tree_of v) (of (payload_shape (payload_of c.in-Some.variant.now.value))) (b ++ uleb m.number)) (sym c.deref-in-Some.ensures))
+    c.push_number.ensures c.judge_payload.ensures.appended
+
+pub judge_payload-returns-in-Tuple-Items-clause-appended : goal.judge_payload-returns-in-Tuple-Items-clause-appended
+judge_payload-returns-in-Tuple-Items-clause-appended t c =
+    let m = c.in-Tuple-Items in
+    along c.judge_each.result c.args.out.now c.judge_each.new.out _ _ (λ b. sym (by_tuple_payload (λ u f. written c.args.registry.now u f b) _ _ m.items m.formats _ _ m.is-0 m.is-1 c.deref.ensures.value c.deref-in-Tuple-Items.ensures.value)) c.judge_each.ensures.appended
+
+pub judge_payload-returns-in-Struct-Items-clause-appended : goal.judge_payload-returns-in-Struct-Items-clause-appended
+judge_payload-returns-in-Struct-Items-clause-appended t c =
+    let m = c.in-Struct-Items in
+    along c.judge_fields.result c.args.out.now c.judge_fields.new.out _ _ (λ b. sym (by_struct_payload (λ u f. written c.args.registry.now u f b) _ _ m.items m.fields _ _ m.is-0 m.is-1 c.deref-in-Struct-Items.ensures.value c.deref-in-Struct-Items-2.ensures.value)) c.judge_fields.ensures.appended
+
+pub judge_value-returns-in-Items-Tuple-clause-appended : goal.judge_value-returns-in-Items-Tuple-clause-appended
+judge_value-returns-in-Items-Tuple-clause-appended t c =
+    let m = c.in-Items-Tuple in
+    along c.judge_each.result c.args.out.now c.judge_each.new.out _ _ (λ b. sym (by_tuple (λ u f. written c.args.registry.now u f b) _ _ m.items m.formats _ _ m.is-0 m.is-1 c.deref-in-Items-Tuple.ensures.value c.deref-in-Items-Tuple-2.ensures.value)) c.judge_each.ensures.appended
+
+pub judge_value-returns-in-Unsigned-default-clause-appended : goal.judge_value-returns-in-Unsigned-default-clause-appended
+judge_value-returns-in-Unsigned-default-clause-appended t c =
+    along c.judge_unsigned.result c.args.out.now c.judge_unsigned.new.out _ _ (λ b. sym (at_unsigned (λ u. written c.args.registry.now u (of (shape_of c.args.format.now)) b) c.args.value.now _ c.in-Unsigned-default.is-0))
+    (at_one_registry c.judge_unsigned.result c.args.registry.now _ c.judge_unsigned.ensures.appended)
+
+pub judge_value-returns-in-Signed-default-clause-appended : goal.judge_value-returns-in-Signed-default-clause-appended
+judge_value-returns-in-Signed-default-clause-appended t c =
+    along c.judge_signed.result c.args.out.now c.judge_signed.new.out _ _ (λ b. sym (at_signed (λ u. written c.args.registry.now u (of (shape_of c.args.format.now)) b) c.args.value.now _ c.in-Signed-default.is-0))
+    (at_one_registry c.judge_signed.result c.args.registry.now _ c.judge_signed.ensures.appended)
+
+pub judge_each-loop-i-init : goal.judge_each-loop-i-init
+judge_each-loop-i-init t c = record {
+  judged = ap (option_and_then (each_judged c.args.registry.now (items_trees c.args.items.now) (formats_shapes c.args.formats.now) c.args.depth)) (sym c.take.ensures ∙ c.in_ok-left.was);
+  appended = λ whole. (whole, tuple_written c.args.registry.now c.args.items.now c.args.formats.now c.args.out.now.bytes.items (omega (arith, c.if-items-formats.false)));
+}
+
+pub judge_fields-loop-i-init : goal.judge_fields-loop-i-init
+judge_fields-loop-i-init t c = record {
+  judged = ap (option_and_then (each_judged c.args.registry.now (items_trees c.args.items.now) (field_shapes (map field_of c.args.fields.now)) c.args.depth)) (sym c.take.ensures ∙ c.in_ok-left.was);
+  appended = λ whole. (whole, fields_written c.args.registry.now c.args.items.now c.args.fields.now c.args.out.now.bytes.items (omega (arith, c.if-items-fields.false)));
+}
+
+pub judge_map-returns-then-pairs-gt-LENGTH_LIMIT-clause-judged : goal.judge_map-returns-then-pairs-gt-LENGTH_LIMIT-clause-judged
+judge_map-returns-then-pairs-gt-LENGTH_LIMIT-clause-judged t c =
+    sym (long_map_judged c.args.registry.now c.args.pairs.now c.args.format.now c.in-Map.key c.in-Map.value c.args.depth c.args.nodes c.in-Map.is (omega (arith, c.if-pairs-gt-LENGTH_LIMIT.true)))
+
+pub judge_map-loop-k-init : goal.judge_map-loop-k-init
+judge_map-loop-k-init t c = record {
+  judged = map_judged c.args.registry.now c.args.pairs.now c.args.format.now c.in-Map.key c.in-Map.value c.args.depth c.args.nodes c.in_ok-left.left c.in-Map.is (omega (arith, c.if-pairs-gt-LENGTH_LIMIT.false))
+      (sym c.take.ensures ∙ c.in_ok-left.was);
+  appended = c.leave_off.ensures;
+}
+
+pub judge_value-returns-then-len-size-clause-judged : goal.judge_value-returns-then-len-size-clause-judged
+judge_value-returns-then-len-size-clause-judged t c =
+    let m = c.in-Items-TupleArray in
+    sym (array_unlike c.args.registry.now c.args.value.now c.args.format.now m.items m.element m.size c.len.result c.args.depth c.args.nodes m.is-0 m.is-1 (search rules) c.if-len-size.true)
+
+pub judge_value-returns-in_ok-take-in-Items-TupleArray-clause-judged : goal.judge_value-returns-in_ok-take-in-Items-TupleArray-clause-judged
+judge_value-returns-in_ok-take-in-Items-TupleArray-clause-judged t c =
+    let m = c.in-Items-TupleArray in
+    let left = c.in_ok-take-in-Items-TupleArray.field-0 in
+    c.judge_all.ensures.judged
+    ∙ ap₂ (λ (us : List Value) (g : Format). all_judged c.args.registry.now (items_trees us) (shape_of g) c.args.depth left) c.deref-in-Items-TupleArray.ensures.value c.deref-in-Items-TupleArray-2.ensures
+    ∙ sym (array_judged c.args.registry.now c.args.value.now c.args.format.now m.items m.element m.size c.len.result c.args.depth c.args.nodes left m.is-0 m.is-1 (search rules) (search rules)
+    (sym c.take-in-Items-TupleArray.ensures ∙ c.in_ok-take-in-Items-TupleArray.was))
+
+pub judge_value-returns-in_ok-take-in-Items-TupleArray-clause-appended : goal.judge_value-returns-in_ok-take-in-Items-TupleArray-clause-appended
+judge_value-returns-in_ok-take-in-Items-TupleArray-clause-appended t c =
+    let m = c.in-Items-TupleArray in
+    along c.judge_all.result c.args.out.now c.judge_all.new.out _ _ (λ b. array_written c.args.registry.now c.args.value.now c.args.format.now m.items m.element m.size c.len.result b m.is-0 m.is-1 (search rules) (search rules)
+    ∙ ap₂ (λ (us : List Value) (g : Format). items_written c.args.registry.now (items_trees us) (shape_of g) b) (sym c.deref-in-Items-TupleArray.ensures.value) (sym c.deref-in-Items-TupleArray-2.ensures))
+    c.judge_all.ensures.appended
+
+pub judge_value-returns-in-Pairs-default-clause-judged : goal.judge_value-returns-in-Pairs-default-clause-judged
+judge_value-returns-in-Pairs-default-clause-judged t c =
+    c.judge_map.ensures.judged ∙ at_pairs (λ u. judged c.args.registry.now u (of (shape_of c.args.format.now)) c.args.depth c.args.nodes) c.args.value.now c.in-Pairs-default.pairs c.deref-in-Pairs-default.result.now c.in-Pairs-default.is-0 c.deref-in-Pairs-default.ensures.value
+
+pub judge_value-returns-in-Pairs-default-clause-appended : goal.judge_value-returns-in-Pairs-default-clause-appended
+judge_value-returns-in-Pairs-default-clause-appended t c =
+    along c.judge_map.result c.args.out.now c.judge_map.new.out _ _ (λ b. sym (at_pairs (λ u. written c.args.registry.now u (of (shape_of c.args.format.now)) b) c.args.value.now c.in-Pairs-default.pairs c.deref-in-Pairs-default.result.now c.in-Pairs-default.is-0 c.deref-in-Pairs-default.ensures.value)) c.judge_map.ensures.appended
