@@ -1,21 +1,13 @@
 -- What full examples take of the nodes that are left, as they are put together.
 use Rattle.std.proofs.Common.{Result, Ok, Err, IfErr, ◌≡◌, ℕ, suc, ◌+◌, ◌*◌, ◌-◌, ◌<◌, ◌≤◌, Option, Some, None, option_map, is_some, Bool, true, false, not, refl, sym, ap, subst, ◌∙◌, arith}
 use Rattle.std.specs.Result.{IsErrAnd}
-use Rattle.bcs_value_tree.specs.Tree as tree
 use Rattle.bcs_value_tree.specs.Tree.{Tree, nodes}
 use Rattle.bcs_value_tree.specs.View.{tree_of}
+use Rattle.bcs_value_tree.proofs.NodeCounts.{some_nodes}
 use Rattle.bcs_value_tree.specs.declared.value.Value.{Value}
 use Rattle.bcs_example_full.specs.Spent.{Exceeds, Spends}
 use Rattle.bcs_example_full.specs.declared.fault.FullFault.{FullFault}
 use Rattle.bcs_example_full.specs.declared.fault.FullFault.TheVariants.{TooManyNodes, OutOfMemory}
-
-pub some_nodes : (t : Tree) → 0 < nodes t
-some_nodes (tree.present t) = omega arith
-some_nodes (tree.items ts) = omega arith
-some_nodes (tree.variant n t) = omega arith
-some_nodes (tree.pairs ps) = omega arith
-some_nodes (tree.named t) = omega arith
-some_nodes _ = omega arith
 
 -- nothing is left for the first node
 pub first_exceeds : (o : Option Tree) (old : ℕ) (e : FullFault) → is_some o ≡ true → (e ≡ TooManyNodes) × (old < 1) → Exceeds o old e

@@ -5,6 +5,7 @@ use Rattle.bcs_registry_formats.specs.View.{payload_of}
 use Rattle.bcs_value_tree.specs.Tree as tree
 use Rattle.bcs_value_tree.specs.Tree.{Tree, nodes}
 use Rattle.bcs_value_tree.specs.View.{tree_of}
+use Rattle.bcs_value_tree.proofs.NodeCounts.{some_nodes}
 use Rattle.bcs_value_tree.specs.declared.value.Value.{Value}
 use Rattle.bcs_example_wanted.specs.Chosen.{Carries}
 use Rattle.bcs_example_wanted.specs.Part.{Makes, RefusesPart}
@@ -13,14 +14,6 @@ use Rattle.bcs_example_wanted.specs.declared.fault.WantedFault.{WantedFault}
 use Rattle.bcs_example_wanted.specs.declared.fault.WantedFault.TheVariants.{UnknownVariant, NoValue, TooManyNodes, OutOfMemory}
 use Rattle.bcs_example_wanted.specs.declared.variant.Chosen.{Chosen}
 use Rattle.bcs_example_wanted.specs.declared.wish.ExampleForm.{ExampleForm}
-
-some_nodes : (t : Tree) → 0 < nodes t
-some_nodes (tree.present t) = omega arith
-some_nodes (tree.items ts) = omega arith
-some_nodes (tree.variant n t) = omega arith
-some_nodes (tree.pairs ps) = omega arith
-some_nodes (tree.named t) = omega arith
-some_nodes _ = omega arith
 
 module _ (form : ExampleForm) (registry : Entries) (c : Chosen) (carries : Carries registry c) (depth d : ℕ) (deep : depth ≡ suc d) (os : List (List ℕ)) (opened : os ≡ c.name.now ∷ []) where
   -- it is round the example of what the variant carries

@@ -10,6 +10,7 @@ use Rattle.bcs_registry_formats.specs.Container as container
 use Rattle.bcs_registry_formats.specs.Container.{Content, Entries, Field, field_shapes}
 use Rattle.bcs_value_tree.specs.Tree as tree
 use Rattle.bcs_value_tree.specs.Tree.{Tree, Trees, no_trees, tree, Pairs, no_pairs, pair, count, nodes, pair_count, pairs_nodes, trees_nodes}
+use Rattle.bcs_value_tree.proofs.NodeCounts.{some_nodes}
 use Rattle.bcs_encode_spec.specs.Plain.{plain, plain_each, plain_items, plain_pairs, truth_byte}
 use Rattle.bcs_decode_spec.specs.Exact.{AreBytes}
 use Rattle.bcs_explain_spec.specs.Way.{Way, onto, item, field, inner, opening, variant, key, value}
@@ -52,20 +53,6 @@ one_or true way p b ys w h = one way p b octets w
 one_or false way p b ys w h = h
 
 -- a value is a node
-some_nodes : (t : Tree) → 0 < nodes t
-some_nodes tree.unit = omega arith
-some_nodes (tree.truth b) = omega arith
-some_nodes (tree.unsigned n) = omega arith
-some_nodes (tree.signed z) = omega arith
-some_nodes (tree.text s) = omega arith
-some_nodes (tree.bytes s) = omega arith
-some_nodes tree.absent = omega arith
-some_nodes (tree.present t) = omega arith
-some_nodes (tree.items ts) = omega arith
-some_nodes (tree.variant n t) = omega arith
-some_nodes (tree.pairs ps) = omega arith
-some_nodes (tree.named t) = omega arith
-
 module _ (registry : Entries) where
   mutual
     ranged : (way : Way) (p : ℕ) (t : Tree) (h : Held) → All IsInRange way → nodes t ≤ 2 ^ 64 → AreBytes (plain registry t (unnamed h)) → All Ranged (pieces registry way p t h)

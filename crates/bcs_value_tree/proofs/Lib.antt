@@ -1,1 +1,2 @@
+pub mod NodeCounts
 pub mod Views
