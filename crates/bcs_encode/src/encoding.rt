@@ -25,8 +25,8 @@ use std::alloc::Global;
 /// text or a byte string is longer than 2147483647. These are looked for in that order over the whole value, and told
 /// whether or not there is memory. `RepeatedKey`: two keys of one map are the same value.
 ///
-/// A value without maps is judged and written in one walk. Where a map comes, the value is judged to its end, and then
-/// written anew, the keys of each map first.
+/// A value is judged and written in one walk. Where the keys of a map don't rise as its pairs stand, the value is judged
+/// to its end, and then written anew, the keys of each map first.
 pub fn encode(
     alloc: Global,
     registry: &Registry,

@@ -11,7 +11,7 @@ use crate::span::{Span, part};
 
 /// Whether the keys' bytes rise from each span to the next. Then entries stay where they are, so that maps nested in
 /// canonical values aren't copied once a level.
-pub(crate) fn rise(spans: &[Span], bytes: &[u8]) -> bool
+pub fn rise(spans: &[Span], bytes: &[u8]) -> bool
     ensures { result ≡ keys_rise (map (lone_key_at bytes.now) spans.now) }
 {
     for i in 1..spans.len() {

@@ -1,6 +1,6 @@
 //! The walk. Each of its functions is told how many more containers may be opened and how many more nodes may come, and
 //! answers how many nodes may come after that, or `None` at the first part that isn't sound. What is judged is appended
-//! to the output, until a map comes, whose keys may have to be brought into order first.
+//! to the output, until a map ends whose keys have to be brought into order.
 ghost use Rattle.std.specs.Prelude.{◌≡◌, IfSome, map};
 ghost use Rattle.bcs_registry_formats.specs.Container.{of, content, field_shapes, payload_shape};
 ghost use Rattle.bcs_registry_formats.specs.Shape.{name as name_shape, seq, tuple};
@@ -280,7 +280,8 @@ fn judge_fields(
     Some(left)
 }
 
-/// Judges the pairs of a map, but for whether its keys differ. Its bytes aren't appended, and none after them.
+/// Judges the pairs of a map, but for whether its keys differ. Its entries are appended as they stand, so where their
+/// keys don't rise, the output is left off.
 #[cycle(judging)]
 #[tactic(auto, using(bcs_encode_steps::proofs::WalkViews::count_pairs))]
 fn judge_map(
@@ -300,11 +301,16 @@ fn judge_map(
     if pairs.len() > LENGTH_LIMIT {
         return None;
     }
-    out.leave_off();
+    out.push_length(pairs.len());
+    let first = out.spans.len();
     let mut left = take(1, nodes)?;
     for (k, v) in pairs {
+        let start = out.bytes.len();
         left = judge_value(k, registry, key, depth, left, out)?;
+        let end = out.bytes.len();
         left = judge_value(v, registry, value, depth, left, out)?;
+        out.push_span(start, end);
     }
+    out.end_map(first);
     Some(left)
 }

@@ -1,13 +1,17 @@
 //! The bytes that a walk appends while it judges.
-ghost use Rattle.std.specs.Prelude.{◌≡◌, ◌≢◌, [], ◌∷◌, ◌++◌, Ok, true};
+ghost use Rattle.std.specs.Prelude.{◌≡◌, ◌≤◌, [], ◌∷◌, ◌++◌, Ok, true, drop, length, map, take};
 ghost use Rattle.bcs_num.specs.Le.{width_of};
 ghost use Rattle.bcs_num.specs.Uleb.{uleb};
 ghost use Rattle.bcs_registry_formats.specs.Whole.{whole_shape};
 ghost use Rattle.bcs_value_tree.specs.View.{items_trees};
-ghost use Rattle.bcs_encode_steps.specs.Writing.{bytes_written, items_written, length_written, signed_written, unsigned_written};
+ghost use Rattle.bcs_encode_steps.specs.KeysFirst.{lone_key_at};
+ghost use Rattle.bcs_encode_steps.specs.Laying.{span};
+ghost use Rattle.bcs_encode_steps.specs.Writing.{bytes_written, items_written, keys_rise, length_written, signed_written, unsigned_written};
 ghost use Rattle.bcs_encode_walk.specs.Appends.{Appends};
 
 use bcs_encode_spec::EncodeFault;
+use bcs_encode_steps::key_order::rise;
+use bcs_encode_steps::span::Span;
 use bcs_encode_steps::{number_rows, pushing};
 use bcs_num::Width;
 use bcs_registry_formats::WholeNumber;
@@ -20,7 +24,7 @@ pub enum Extent {
     Whole,
     /// A request for memory was refused, and nothing was appended since.
     OutOfMemory,
-    /// The rest isn't wanted, or not made by this walk.
+    /// The rest isn't wanted, or the keys of a map have to be brought into order first.
     LeftOff,
 }
 
@@ -28,6 +32,8 @@ pub enum Extent {
 #[derive(Drop)]
 pub struct Output {
     pub bytes: Vec<u8>,
+    /// The entries of all maps that are open, those of an inner map above those of the outer one.
+    pub spans: Vec<Span>,
     pub extent: Extent,
 }
 
@@ -38,6 +44,7 @@ impl Output {
     {
         Output {
             bytes: Vec::new(alloc),
+            spans: Vec::new(alloc),
             extent: Extent::Whole,
         }
     }
@@ -46,16 +53,8 @@ impl Output {
     pub fn unwanted(alloc: Global) -> Output {
         Output {
             bytes: Vec::new(alloc),
+            spans: Vec::new(alloc),
             extent: Extent::LeftOff,
-        }
-    }
-
-    /// Appends nothing from here on. That memory ran out before stays told.
-    pub fn leave_off(&mut self)
-        ensures { self.new.extent ≢ Extent.Whole }
-    {
-        if let Extent::Whole = self.extent {
-            self.extent = Extent::LeftOff;
         }
     }
 
@@ -128,6 +127,36 @@ impl Output {
     {
         if let Extent::Whole = self.extent {
             self.extent = extent_after(number_rows::push_numbers(format, items, &mut self.bytes));
+        }
+    }
+
+    /// Notes the entry of a map that was appended last, whose key stands from `start` to `end`.
+    pub fn push_span(&mut self, start: usize, end: usize)
+        ensures { self.new.extent ≡ Extent.Whole → (self.old.extent ≡ Extent.Whole) × (self.new.bytes.items ≡ self.old.bytes.items)
+            × (self.new.spans.items ≡ self.old.spans.items ++ span start end (length self.old.bytes.items) ∷ []) }
+    {
+        if let Extent::Whole = self.extent {
+            let value = self.bytes.len();
+            if self.spans.push(Span { start, end, value }).is_err() {
+                self.extent = Extent::OutOfMemory;
+            }
+        }
+    }
+
+    /// Ends a map, whose entries are those of the spans from `first` on. Where their keys don't rise they have to be
+    /// brought into order, which this walk leaves to another.
+    pub fn end_map(&mut self, first: usize)
+        requires { self.old.extent ≡ Extent.Whole → first ≤ length self.old.spans.items }
+        ensures { self.new.extent ≡ Extent.Whole → (self.old.extent ≡ Extent.Whole) × (self.new.bytes.items ≡ self.old.bytes.items)
+            × (self.new.spans.items ≡ take first self.old.spans.items)
+            × (keys_rise (map (lone_key_at self.old.bytes.items) (drop first self.old.spans.items)) ≡ true) }
+    {
+        if let Extent::Whole = self.extent {
+            if rise(&self.spans[first..], &self.bytes) {
+                self.spans.truncate(first);
+            } else {
+                self.extent = Extent::LeftOff;
+            }
         }
     }
 }

@@ -1,16 +1,25 @@
-use Rattle.std.proofs.Common.{sym, ap, ap₂, ◌∙◌, ◌++◌, List, [], Ok, arith, rules, map}
+use Rattle.std.proofs.Common.{refl, sym, ap, ap₂, ◌≡◌, ◌∙◌, ◌++◌, ℕ, List, [], Ok, arith, drop, length, rules, map, take}
+use Rattle.std.proofs.Math.ListN.{drop_of_length-le}
 use Rattle.std.specs.Option.{option_and_then}
 use Rattle.bcs_num.specs.Uleb.{uleb}
 use Rattle.bcs_registry_formats.specs.Container.{of, field_shapes, payload_shape}
 use Rattle.bcs_registry_formats.specs.declared.format.Format.{Format}
 use Rattle.bcs_registry_formats.specs.Whole.{whole_shape}
 use Rattle.bcs_registry_formats.specs.View.{field_of, formats_shapes, payload_of, shape_of}
-use Rattle.bcs_value_tree.specs.View.{items_trees, tree_of}
+use Rattle.bcs_registry_formats.specs.Shape.{Shape}
+use Rattle.bcs_registry_formats.proofs.FormatViews.{shape-Map}
+use Rattle.bcs_value_tree.specs.View.{entries_pairs, items_trees, tree_of}
+use Rattle.bcs_value_tree.specs.Tree.{pairs as pairs_tree}
 use Rattle.bcs_value_tree.specs.declared.value.Value.{Value}
-use Rattle.bcs_encode_steps.specs.Writing.{written, items_written}
+use Rattle.bcs_encode_steps.specs.Writing.{written, items_written, keys_rise}
+use Rattle.bcs_encode_steps.specs.KeysFirst.{lone_key_at}
+use Rattle.bcs_encode_steps.specs.Laying.{entries_laid}
+use Rattle.bcs_encode_steps.proofs.LayingLaws.{laid_keeps}
+use Rattle.bcs_encode_steps.proofs.WalkViews.{count_pairs}
 use Rattle.bcs_encode_steps.proofs.NumberViews.{numbers_anywhere}
 use Rattle.bcs_encode_steps.proofs.WritingViews.{array_written, fields_written, tuple_written, variant_written}
 use Rattle.bcs_encode_walk.specs.Judging.{less, judged, all_judged, each_judged}
+use Rattle.bcs_encode_walk.proofs.RisingMaps.{rising_map}
 use Rattle.bcs_encode_walk.proofs.AppendsLaws.{after, along, at_one_registry, some_appends}
 use Rattle.bcs_encode_walk.proofs.Options.{then_none}
 use Rattle.bcs_encode_walk.proofs.JudgingViews.{array_judged, array_unlike, at_pairs, at_signed, at_unsigned, by_list, by_struct, by_struct_payload, by_tuple, by_tuple_payload, by_tuple_struct, each_unlike, fields_unlike, list_judged, long_map_judged, map_judged, variant_judged, no_variant_judged, row_judged}
@@ -140,13 +149,13 @@ judge_value-returns-in-Signed-default-clause-appended t c =
 pub judge_each-loop-i-init : goal.judge_each-loop-i-init
 judge_each-loop-i-init t c = record {
   judged = ap (option_and_then (each_judged c.args.registry.now (items_trees c.args.items.now) (formats_shapes c.args.formats.now) c.args.depth)) (sym c.take.ensures ∙ c.in_ok-left.was);
-  appended = λ whole. (whole, tuple_written c.args.registry.now c.args.items.now c.args.formats.now c.args.out.now.bytes.items (omega (arith, c.if-items-formats.false)));
+  appended = λ whole. (whole, tuple_written c.args.registry.now c.args.items.now c.args.formats.now c.args.out.now.bytes.items (omega (arith, c.if-items-formats.false)), refl);
 }
 
 pub judge_fields-loop-i-init : goal.judge_fields-loop-i-init
 judge_fields-loop-i-init t c = record {
   judged = ap (option_and_then (each_judged c.args.registry.now (items_trees c.args.items.now) (field_shapes (map field_of c.args.fields.now)) c.args.depth)) (sym c.take.ensures ∙ c.in_ok-left.was);
-  appended = λ whole. (whole, fields_written c.args.registry.now c.args.items.now c.args.fields.now c.args.out.now.bytes.items (omega (arith, c.if-items-fields.false)));
+  appended = λ whole. (whole, fields_written c.args.registry.now c.args.items.now c.args.fields.now c.args.out.now.bytes.items (omega (arith, c.if-items-fields.false)), refl);
 }
 
 pub judge_map-returns-then-pairs-gt-LENGTH_LIMIT-clause-judged : goal.judge_map-returns-then-pairs-gt-LENGTH_LIMIT-clause-judged
@@ -157,7 +166,7 @@ pub judge_map-loop-k-init : goal.judge_map-loop-k-init
 judge_map-loop-k-init t c = record {
   judged = map_judged c.args.registry.now c.args.pairs.now c.args.format.now c.in-Map.key c.in-Map.value c.args.depth c.args.nodes c.in_ok-left.left c.in-Map.is (omega (arith, c.if-pairs-gt-LENGTH_LIMIT.false))
       (sym c.take.ensures ∙ c.in_ok-left.was);
-  appended = c.leave_off.ensures;
+  laid = λ whole. (whole, refl);
 }
 
 pub judge_value-returns-then-len-size-clause-judged : goal.judge_value-returns-then-len-size-clause-judged
@@ -188,3 +197,41 @@ judge_value-returns-in-Pairs-default-clause-judged t c =
 pub judge_value-returns-in-Pairs-default-clause-appended : goal.judge_value-returns-in-Pairs-default-clause-appended
 judge_value-returns-in-Pairs-default-clause-appended t c =
     along c.judge_map.result c.args.out.now c.judge_map.new.out _ _ (λ b. sym (at_pairs (λ u. written c.args.registry.now u (of (shape_of c.args.format.now)) b) c.args.value.now c.in-Pairs-default.pairs c.deref-in-Pairs-default.result.now c.in-Pairs-default.is-0 c.deref-in-Pairs-default.ensures.value)) c.judge_map.ensures.appended
+
+pub judge_map-end_map-requires : goal.judge_map-end_map-requires
+judge_map-end_map-requires t c = λ whole.
+    let l = c.loop-k in
+    let inv = l.invariant.laid whole in
+    let r = c.args.registry.now in
+    let k = shape_of c.in-Map.key.value in
+    let v = shape_of c.in-Map.value.value in
+    let before = c.push_length.new.self in
+    let laid = inv.1 ∙ ap (λ (qs : List (Value × Value)). entries_laid r (entries_pairs qs) k v l.out.bytes.items l.out.spans.items) (drop_of_length-le c.args.pairs.now c.loop-k-test.false) in
+    let keeps = laid_keeps r k v (entries_pairs c.args.pairs.now) before.bytes.items l.out.bytes.items before.spans.items l.out.spans.items laid in
+    let first : c.len-first.result ≡ length before.spans.items = search rules in
+    omega (arith, first, keeps.0)
+
+pub judge_map-returns-clause-appended : goal.judge_map-returns-clause-appended
+judge_map-returns-clause-appended t c = λ whole.
+    let l = c.loop-k in
+    let e = c.end_map.ensures whole in
+    let inv = l.invariant.laid e.0 in
+    let p = c.push_length.ensures inv.0 in
+    let r = c.args.registry.now in
+    let k = shape_of c.in-Map.key.value in
+    let v = shape_of c.in-Map.value.value in
+    let ps = entries_pairs c.args.pairs.now in
+    let before = c.push_length.new.self in
+    let b = c.args.out.now.bytes.items in
+    let d = l.out.bytes.items in
+    let us = l.out.spans.items in
+    let laid = inv.1 ∙ ap (λ (qs : List (Value × Value)). entries_laid r (entries_pairs qs) k v d us) (drop_of_length-le c.args.pairs.now c.loop-k-test.false) in
+    let keeps = laid_keeps r k v ps before.bytes.items d before.spans.items us laid in
+    let first : c.len-first.result ≡ length before.spans.items = search rules in
+    let rises = ap (λ (m : ℕ). keys_rise (map (lone_key_at d) (drop m us))) (sym first) ∙ e.3 in (
+      p.0,
+      ap (λ (s : Shape). written r (pairs_tree ps) (of s) b) (shape-Map c.args.format.now c.in-Map.key c.in-Map.value c.in-Map.is)
+          ∙ rising_map r k v ps (length c.args.pairs.now) b before.bytes.items d before.spans.items us (count_pairs c.args.pairs.now) p.1 laid rises
+          ∙ ap (λ (x : List ℕ). Ok x) (sym e.1),
+      e.2 ∙ ap (λ (m : ℕ). take m us) first ∙ keeps.1 ∙ p.2,
+    )

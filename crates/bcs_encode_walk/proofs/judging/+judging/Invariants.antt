@@ -4,6 +4,7 @@ use Rattle.bcs_registry_formats.specs.Shape.{name as name_shape, tuple}
 use Rattle.bcs_registry_formats.specs.View.{field_of, formats_shapes, shape_of}
 use Rattle.bcs_value_tree.specs.Tree.{items as items_tree, pairs as pairs_tree}
 use Rattle.bcs_value_tree.specs.View.{entries_pairs, items_trees}
+use Rattle.bcs_encode_steps.specs.Laying.{entries_laid}
 use Rattle.bcs_encode_steps.specs.Writing.{written, items_written, each_written}
 use Rattle.bcs_encode_walk.specs.Appends.{Follows}
 use Rattle.bcs_encode_walk.specs.declared.output.Extent.TheVariants.{Whole}
@@ -42,5 +43,7 @@ abbrev pub invariant-judge_map-loop-k : goal.invariant-judge_map-loop-k
 invariant-judge_map-loop-k l = record {
   judged : judged l.registry (pairs_tree (entries_pairs l.pairs)) (of (shape_of l.format)) l.depth l.nodes
       ≡ pairs_judged l.registry (entries_pairs (drop l.k-index l.pairs)) (shape_of l.key.value) (shape_of l.value.value) l.depth l.left;
-  appended : l.out.extent ≡ Whole → ⊥;
+  laid : l.out.extent ≡ Whole → (l.initial.out.extent ≡ Whole)
+      × (entries_laid l.registry (entries_pairs l.pairs) (shape_of l.key.value) (shape_of l.value.value) l.initial.out.bytes.items l.initial.out.spans.items
+      ≡ entries_laid l.registry (entries_pairs (drop l.k-index l.pairs)) (shape_of l.key.value) (shape_of l.value.value) l.out.bytes.items l.out.spans.items);
 }
