@@ -1,12 +1,11 @@
 -- Least examples in a full one.
 use Rattle.std.proofs.Common.{◌≡◌, ℕ, ◌+◌, ◌<◌, ◌≤◌, List, [], ◌∷◌, Option, Some, None, is_some, Bool, true, refl, sym, ap, subst, ◌∙◌, arith}
-use Rattle.std.specs.List.{list_all}
 use Rattle.std.proofs.lemmas.Bool.{and_from}
 use Rattle.std.proofs.lemmas.Option.{same_Some}
 use Rattle.bcs_registry_formats.specs.Shape as shape
 use Rattle.bcs_registry_formats.specs.Shape.{Shape, Shapes, no_shapes, shape}
 use Rattle.bcs_registry_formats.specs.Container.{Choice, Content, Entries, of, one_of, nothing, payload_shape}
-use Rattle.bcs_value_tree.specs.Tree.{Tree, nodes}
+use Rattle.bcs_value_tree.specs.Tree.{nodes}
 use Rattle.bcs_value_tree.specs.View.{tree_of}
 use Rattle.bcs_value_tree.specs.declared.value.Value.{Value}
 use Rattle.bcs_example.specs.Example.{example}
@@ -16,7 +15,6 @@ use Rattle.bcs_example.specs.Rounds.{Agrees}
 use Rattle.bcs_example.specs.Weight.{capped, shape_weight}
 use Rattle.bcs_example.proofs.Judged.{example_here, exists_here, none_here, too_many_here}
 use Rattle.bcs_example.specs.Example.{named_example}
-use Rattle.bcs_example.specs.Weight.{weight}
 use Rattle.bcs_example.proofs.Options.{is_some-mapped}
 use Rattle.bcs_example.proofs.Weighed.{shape_weighed}
 use Rattle.bcs_example_full.specs.Full.{full}

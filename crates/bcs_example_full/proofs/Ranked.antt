@@ -1,5 +1,5 @@
 -- The ranks of all containers of a registry.
-use Rattle.std.proofs.Common.{Result, Ok, Err, IfOk, String, string_bytes, ◌≡◌, ℕ, zero, suc, ◌≤◌, List, [], ◌∷◌, Option, Some, None, option_map, is_some, Bool, true, false, cond, refl, sym, ap, subst, ◌∙◌, arith}
+use Rattle.std.proofs.Common.{Result, Ok, Err, IfOk, String, string_bytes, ◌≡◌, ℕ, zero, suc, ◌≤◌, List, [], ◌∷◌, Option, Some, None, option_map, Bool, true, false, cond, refl, sym, ap, ◌∙◌}
 use Rattle.std.specs.Option.{option_or, option_map_or}
 use Rattle.std.specs.Str.{bytes_eq}
 use Rattle.std.proofs.lemmas.Bool.{and_from, and_parts}

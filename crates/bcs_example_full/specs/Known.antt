@@ -10,8 +10,8 @@ use Rattle.bcs_example.specs.Rounds.{AreRanks}
 use Rattle.bcs_example.specs.Weight.{weight}
 use Rattle.bcs_example_full.specs.Full.{content_full, named_full, shape_full}
 use Rattle.bcs_example_full.specs.Opened.{names_of}
-use Rattle.bcs_example_full.specs.declared.known.Inside.{Inside}
-use Rattle.bcs_example_full.specs.declared.known.Known.{Known}
+use Rattle.bcs_example_full.specs.declared.opened.Surroundings.{Surroundings}
+use Rattle.bcs_example_full.specs.declared.ranked_registry.RankedRegistry.{RankedRegistry}
 
 -- the name of each of these containers passes
 abbrev pub all_named : (List ℕ → Bool) → Entries → Bool
@@ -23,15 +23,15 @@ pub record KnowsAll (registry : Entries) (m : RankMap) (d : ℕ) : Type 0 where
   pub tells : (n : List ℕ) (e : ℕ) → e ≤ d → told m e n ≡ weight (named_example registry e n)
 
 -- the full examples that are made here
-abbrev pub containers_here : Known → Inside → List ℕ → Option Tree
+abbrev pub containers_here : RankedRegistry → Surroundings → List ℕ → Option Tree
 containers_here known inside = named_full known.registry.now inside.depth (names_of inside.opened.now)
 
-abbrev pub full_here : Known → Inside → Shape → Option Tree
+abbrev pub full_here : RankedRegistry → Surroundings → Shape → Option Tree
 full_here known inside s = shape_full (containers_here known inside) s
 
-abbrev pub content_here : Known → Inside → Content → Option Tree
+abbrev pub content_here : RankedRegistry → Surroundings → Content → Option Tree
 content_here known inside c = content_full (containers_here known inside) c
 
 -- enough is known to make them
-abbrev pub KnowsHere : Known → Inside → Type 0
+abbrev pub KnowsHere : RankedRegistry → Surroundings → Type 0
 KnowsHere known inside = KnowsAll known.registry.now known.ranks.now.found inside.depth

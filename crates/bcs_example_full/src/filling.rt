@@ -11,9 +11,9 @@ ghost use Rattle.bcs_example_full.specs.Spent.{Exceeds, Spends};
 use crate::entry::put_entry;
 use crate::fault::FullFault;
 use crate::first::first_with_value;
-use crate::known::{Inside, Known};
 use crate::least::{fill_least, fill_unit};
-use crate::opened::{is_opened, opened_within};
+use crate::opened::{Surroundings, is_opened, opened_within};
+use crate::ranked_registry::RankedRegistry;
 use crate::spending::{spend, spend_copies};
 use bcs_example::placing::{put_absent, put_list, put_map, repeat};
 use bcs_example::weighing::format_nodes;
@@ -23,34 +23,37 @@ use bcs_value_tree::slot::{keep, put_items, wrap_named, wrap_present, wrap_varia
 use std::alloc::Global;
 use std::collections::BTreeMap;
 
-/// Makes the full example of the format, if so many nodes are left.
+/// Makes the full example of the format, and takes its nodes from those that are left.
+///
+/// `TooManyNodes`: it has more than are left. It comes when they are used up, so the memory for as many may have been
+/// asked for. The slot then holds any value.
 #[cycle(filling)]
 pub fn fill_full<'r>(
     alloc: Global,
-    known: Known<'r, '_>,
+    ranked: RankedRegistry<'r, '_>,
     format: &'r Format,
-    inside: Inside<'_, 'r>,
+    around: Surroundings<'_, 'r>,
     left: &mut u32,
     slot: &mut Value,
 ) -> Result<(), FullFault>
-    requires knows { KnowsHere known inside }
-    requires exists { is_some (full_here known inside (shape_of format.now)) ≡ true }
-    ensures made { OnOk result (Spends (full_here known.entry inside.entry (shape_of format.now)) left.old left.new slot.new) }
-    ensures refused { IfErr result (Exceeds (full_here known.entry inside.entry (shape_of format.now)) left.old) }
+    requires knows { KnowsHere ranked around }
+    requires exists { is_some (full_here ranked around (shape_of format.now)) ≡ true }
+    ensures made { OnOk result (Spends (full_here ranked.entry around.entry (shape_of format.now)) left.old left.new slot.new) }
+    ensures refused { IfErr result (Exceeds (full_here ranked.entry around.entry (shape_of format.now)) left.old) }
 {
     match format {
         Format::TypeName(name) => {
-            if is_opened(name.as_str(), inside.opened) {
-                return fill_least(alloc, known, format, inside, left, slot);
+            if is_opened(name.as_str(), around.opened) {
+                return fill_least(alloc, ranked, format, around, left, slot);
             }
-            fill_named(alloc, known, name.as_str(), inside, left, slot)
+            fill_named(alloc, ranked, name.as_str(), around, left, slot)
         }
-        Format::Opt(inner) => fill_option(alloc, known, inner, inside, left, slot),
-        Format::Seq(element) => fill_list(alloc, known, element, inside, left, slot),
-        Format::Map(key, value) => fill_map(alloc, known, (key, value), inside, left, slot),
-        Format::Tuple(formats) => fill_tuple(alloc, known, formats, inside, left, slot),
+        Format::Opt(inner) => fill_option(alloc, ranked, inner, around, left, slot),
+        Format::Seq(element) => fill_list(alloc, ranked, element, around, left, slot),
+        Format::Map(key, value) => fill_map(alloc, ranked, (key, value), around, left, slot),
+        Format::Tuple(formats) => fill_tuple(alloc, ranked, formats, around, left, slot),
         Format::TupleArray(element, size) => {
-            fill_array(alloc, known, (element, *size), inside, left, slot)
+            fill_array(alloc, ranked, (element, *size), around, left, slot)
         }
         Format::Unit
         | Format::Bool
@@ -68,7 +71,7 @@ pub fn fill_full<'r>(
         | Format::F64
         | Format::Char
         | Format::Str
-        | Format::Bytes => fill_least(alloc, known, format, inside, left, slot),
+        | Format::Bytes => fill_least(alloc, ranked, format, around, left, slot),
     }
 }
 
@@ -76,22 +79,22 @@ pub fn fill_full<'r>(
 #[cycle(filling)]
 fn fill_option<'r>(
     alloc: Global,
-    known: Known<'r, '_>,
+    ranked: RankedRegistry<'r, '_>,
     inner: &'r Format,
-    inside: Inside<'_, 'r>,
+    around: Surroundings<'_, 'r>,
     left: &mut u32,
     slot: &mut Value,
 ) -> Result<(), FullFault>
-    requires knows { KnowsHere known inside }
-    ensures made { OnOk result (Spends (full_here known.entry inside.entry (shape.option (shape_of inner.now))) left.old left.new slot.new) }
-    ensures refused { IfErr result (Exceeds (full_here known.entry inside.entry (shape.option (shape_of inner.now))) left.old) }
+    requires knows { KnowsHere ranked around }
+    ensures made { OnOk result (Spends (full_here ranked.entry around.entry (shape.option (shape_of inner.now))) left.old left.new slot.new) }
+    ensures refused { IfErr result (Exceeds (full_here ranked.entry around.entry (shape.option (shape_of inner.now))) left.old) }
 {
     spend(1, left)?;
-    if format_nodes(inner, known.ranks, inside.depth).is_none() {
+    if format_nodes(inner, ranked.ranks, around.depth).is_none() {
         put_absent(slot)?;
         return Ok(());
     }
-    fill_full(alloc, known, inner, inside, left, slot)?;
+    fill_full(alloc, ranked, inner, around, left, slot)?;
     wrap_present(alloc, slot)?;
     Ok(())
 }
@@ -100,22 +103,22 @@ fn fill_option<'r>(
 #[cycle(filling)]
 fn fill_list<'r>(
     alloc: Global,
-    known: Known<'r, '_>,
+    ranked: RankedRegistry<'r, '_>,
     element: &'r Format,
-    inside: Inside<'_, 'r>,
+    around: Surroundings<'_, 'r>,
     left: &mut u32,
     slot: &mut Value,
 ) -> Result<(), FullFault>
-    requires knows { KnowsHere known inside }
-    ensures made { OnOk result (Spends (full_here known.entry inside.entry (shape.seq (shape_of element.now))) left.old left.new slot.new) }
-    ensures refused { IfErr result (Exceeds (full_here known.entry inside.entry (shape.seq (shape_of element.now))) left.old) }
+    requires knows { KnowsHere ranked around }
+    ensures made { OnOk result (Spends (full_here ranked.entry around.entry (shape.seq (shape_of element.now))) left.old left.new slot.new) }
+    ensures refused { IfErr result (Exceeds (full_here ranked.entry around.entry (shape.seq (shape_of element.now))) left.old) }
 {
     spend(1, left)?;
-    if format_nodes(element, known.ranks, inside.depth).is_none() {
+    if format_nodes(element, ranked.ranks, around.depth).is_none() {
         put_list(alloc, slot)?;
         return Ok(());
     }
-    fill_full(alloc, known, element, inside, left, slot)?;
+    fill_full(alloc, ranked, element, around, left, slot)?;
     repeat(alloc, 1, slot)?;
     Ok(())
 }
@@ -124,27 +127,27 @@ fn fill_list<'r>(
 #[cycle(filling)]
 fn fill_map<'r>(
     alloc: Global,
-    known: Known<'r, '_>,
+    ranked: RankedRegistry<'r, '_>,
     parts: (&'r Format, &'r Format),
-    inside: Inside<'_, 'r>,
+    around: Surroundings<'_, 'r>,
     left: &mut u32,
     slot: &mut Value,
 ) -> Result<(), FullFault>
-    requires knows { KnowsHere known inside }
-    ensures made { OnOk result (Spends (full_here known.entry inside.entry (shape.map (shape_of parts.entry.0.now) (shape_of parts.entry.1.now))) left.old left.new slot.new) }
-    ensures refused { IfErr result (Exceeds (full_here known.entry inside.entry (shape.map (shape_of parts.entry.0.now) (shape_of parts.entry.1.now))) left.old) }
+    requires knows { KnowsHere ranked around }
+    ensures made { OnOk result (Spends (full_here ranked.entry around.entry (shape.map (shape_of parts.entry.0.now) (shape_of parts.entry.1.now))) left.old left.new slot.new) }
+    ensures refused { IfErr result (Exceeds (full_here ranked.entry around.entry (shape.map (shape_of parts.entry.0.now) (shape_of parts.entry.1.now))) left.old) }
 {
     let (key, value) = parts;
     spend(1, left)?;
-    if format_nodes(key, known.ranks, inside.depth).is_none()
-        || format_nodes(value, known.ranks, inside.depth).is_none()
+    if format_nodes(key, ranked.ranks, around.depth).is_none()
+        || format_nodes(value, ranked.ranks, around.depth).is_none()
     {
         put_map(alloc, slot)?;
         return Ok(());
     }
     let mut held = Value::Unit;
-    fill_full(alloc, known, key, inside, left, &mut held)?;
-    fill_full(alloc, known, value, inside, left, slot)?;
+    fill_full(alloc, ranked, key, around, left, &mut held)?;
+    fill_full(alloc, ranked, value, around, left, slot)?;
     put_entry(alloc, &mut held, slot)?;
     Ok(())
 }
@@ -153,16 +156,16 @@ fn fill_map<'r>(
 #[cycle(filling)]
 fn fill_array<'r>(
     alloc: Global,
-    known: Known<'r, '_>,
+    ranked: RankedRegistry<'r, '_>,
     array: (&'r Format, u64),
-    inside: Inside<'_, 'r>,
+    around: Surroundings<'_, 'r>,
     left: &mut u32,
     slot: &mut Value,
 ) -> Result<(), FullFault>
-    requires knows { KnowsHere known inside }
-    requires exists { is_some (full_here known inside (shape.array (shape_of array.0.now) array.1)) ≡ true }
-    ensures made { OnOk result (Spends (full_here known.entry inside.entry (shape.array (shape_of array.entry.0.now) array.entry.1)) left.old left.new slot.new) }
-    ensures refused { IfErr result (Exceeds (full_here known.entry inside.entry (shape.array (shape_of array.entry.0.now) array.entry.1)) left.old) }
+    requires knows { KnowsHere ranked around }
+    requires exists { is_some (full_here ranked around (shape.array (shape_of array.0.now) array.1)) ≡ true }
+    ensures made { OnOk result (Spends (full_here ranked.entry around.entry (shape.array (shape_of array.entry.0.now) array.entry.1)) left.old left.new slot.new) }
+    ensures refused { IfErr result (Exceeds (full_here ranked.entry around.entry (shape.array (shape_of array.entry.0.now) array.entry.1)) left.old) }
 {
     let (element, size) = array;
     spend(1, left)?;
@@ -171,7 +174,7 @@ fn fill_array<'r>(
         return Ok(());
     }
     let before = *left;
-    fill_full(alloc, known, element, inside, left, slot)?;
+    fill_full(alloc, ranked, element, around, left, slot)?;
     spend_copies(before, size, left)?;
     repeat(alloc, size, slot)?;
     Ok(())
@@ -181,21 +184,21 @@ fn fill_array<'r>(
 #[cycle(filling)]
 fn fill_tuple<'r>(
     alloc: Global,
-    known: Known<'r, '_>,
+    ranked: RankedRegistry<'r, '_>,
     formats: &'r [Format],
-    inside: Inside<'_, 'r>,
+    around: Surroundings<'_, 'r>,
     left: &mut u32,
     slot: &mut Value,
 ) -> Result<(), FullFault>
-    requires knows { KnowsHere known inside }
-    requires exists { is_some (full_here known inside (shape.tuple (formats_shapes formats.now))) ≡ true }
-    ensures made { OnOk result (Spends (full_here known.entry inside.entry (shape.tuple (formats_shapes formats.now))) left.old left.new slot.new) }
-    ensures refused { IfErr result (Exceeds (full_here known.entry inside.entry (shape.tuple (formats_shapes formats.now))) left.old) }
+    requires knows { KnowsHere ranked around }
+    requires exists { is_some (full_here ranked around (shape.tuple (formats_shapes formats.now))) ≡ true }
+    ensures made { OnOk result (Spends (full_here ranked.entry around.entry (shape.tuple (formats_shapes formats.now))) left.old left.new slot.new) }
+    ensures refused { IfErr result (Exceeds (full_here ranked.entry around.entry (shape.tuple (formats_shapes formats.now))) left.old) }
 {
     spend(1, left)?;
     let mut row = Vec::with_capacity(alloc, formats.len())?;
     for format in formats {
-        fill_full(alloc, known, format, inside, left, slot)?;
+        fill_full(alloc, ranked, format, around, left, slot)?;
         keep(&mut row, slot)?;
     }
     put_items(slot, row);
@@ -206,21 +209,21 @@ fn fill_tuple<'r>(
 #[cycle(filling)]
 fn fill_fields<'r>(
     alloc: Global,
-    known: Known<'r, '_>,
+    ranked: RankedRegistry<'r, '_>,
     fields: &'r [Named<Format>],
-    inside: Inside<'_, 'r>,
+    around: Surroundings<'_, 'r>,
     left: &mut u32,
     slot: &mut Value,
 ) -> Result<(), FullFault>
-    requires knows { KnowsHere known inside }
-    requires exists { is_some (full_here known inside (shape.tuple (field_shapes (map field_of fields.now)))) ≡ true }
-    ensures made { OnOk result (Spends (full_here known.entry inside.entry (shape.tuple (field_shapes (map field_of fields.now)))) left.old left.new slot.new) }
-    ensures refused { IfErr result (Exceeds (full_here known.entry inside.entry (shape.tuple (field_shapes (map field_of fields.now)))) left.old) }
+    requires knows { KnowsHere ranked around }
+    requires exists { is_some (full_here ranked around (shape.tuple (field_shapes (map field_of fields.now)))) ≡ true }
+    ensures made { OnOk result (Spends (full_here ranked.entry around.entry (shape.tuple (field_shapes (map field_of fields.now)))) left.old left.new slot.new) }
+    ensures refused { IfErr result (Exceeds (full_here ranked.entry around.entry (shape.tuple (field_shapes (map field_of fields.now)))) left.old) }
 {
     spend(1, left)?;
     let mut row = Vec::with_capacity(alloc, fields.len())?;
     for field in fields {
-        fill_full(alloc, known, &field.value, inside, left, slot)?;
+        fill_full(alloc, ranked, &field.value, around, left, slot)?;
         keep(&mut row, slot)?;
     }
     put_items(slot, row);
@@ -231,31 +234,31 @@ fn fill_fields<'r>(
 #[cycle(filling)]
 fn fill_named<'r>(
     alloc: Global,
-    known: Known<'r, '_>,
+    ranked: RankedRegistry<'r, '_>,
     name: &'r str,
-    inside: Inside<'_, 'r>,
+    around: Surroundings<'_, 'r>,
     left: &mut u32,
     slot: &mut Value,
 ) -> Result<(), FullFault>
-    requires knows { KnowsHere known inside }
-    requires closed { is_among (names_of inside.opened.now) name.now ≡ false }
-    requires exists { is_some (containers_here known inside name.now) ≡ true }
-    ensures made { OnOk result (Spends (containers_here known.entry inside.entry name.now) left.old left.new slot.new) }
-    ensures refused { IfErr result (Exceeds (containers_here known.entry inside.entry name.now) left.old) }
+    requires knows { KnowsHere ranked around }
+    requires closed { is_among (names_of around.opened.now) name.now ≡ false }
+    requires exists { is_some (containers_here ranked around name.now) ≡ true }
+    ensures made { OnOk result (Spends (containers_here ranked.entry around.entry name.now) left.old left.new slot.new) }
+    ensures refused { IfErr result (Exceeds (containers_here ranked.entry around.entry name.now) left.old) }
 {
-    let Some(depth) = inside.depth.checked_sub(1) else {
+    let Some(depth) = around.depth.checked_sub(1) else {
         unreachable!()
     };
-    let Some(container) = known.registry.container(name) else {
+    let Some(container) = ranked.registry.container(name) else {
         unreachable!()
     };
     spend(1, left)?;
-    let opened = opened_within(name, &*inside.opened);
-    let deeper = Inside {
+    let opened = opened_within(name, &*around.opened);
+    let deeper = Surroundings {
         depth,
         opened: &opened,
     };
-    fill_content(alloc, known, container, deeper, left, slot)?;
+    fill_content(alloc, ranked, container, deeper, left, slot)?;
     wrap_named(alloc, slot)?;
     Ok(())
 }
@@ -264,25 +267,25 @@ fn fill_named<'r>(
 #[cycle(filling)]
 fn fill_content<'r>(
     alloc: Global,
-    known: Known<'r, '_>,
+    ranked: RankedRegistry<'r, '_>,
     container: &'r Container,
-    inside: Inside<'_, 'r>,
+    around: Surroundings<'_, 'r>,
     left: &mut u32,
     slot: &mut Value,
 ) -> Result<(), FullFault>
-    requires knows { KnowsHere known inside }
-    requires found { (n : List ℕ) × (content_at n known.registry.now ≡ content (container_of container.now)) }
-    requires exists { is_some (content_here known inside (content (container_of container.now))) ≡ true }
-    ensures made { OnOk result (Spends (content_here known.entry inside.entry (content (container_of container.now))) left.old left.new slot.new) }
-    ensures refused { IfErr result (Exceeds (content_here known.entry inside.entry (content (container_of container.now))) left.old) }
+    requires knows { KnowsHere ranked around }
+    requires found { (n : List ℕ) × (content_at n ranked.registry.now ≡ content (container_of container.now)) }
+    requires exists { is_some (content_here ranked around (content (container_of container.now))) ≡ true }
+    ensures made { OnOk result (Spends (content_here ranked.entry around.entry (content (container_of container.now))) left.old left.new slot.new) }
+    ensures refused { IfErr result (Exceeds (content_here ranked.entry around.entry (content (container_of container.now))) left.old) }
 {
-    known.registry.recall();
+    ranked.registry.recall();
     match container {
         Container::UnitStruct => fill_unit(left, slot),
-        Container::NewTypeStruct(format) => fill_full(alloc, known, format, inside, left, slot),
-        Container::TupleStruct(formats) => fill_tuple(alloc, known, formats, inside, left, slot),
-        Container::Struct(fields) => fill_fields(alloc, known, fields, inside, left, slot),
-        Container::Enum(variants) => fill_enum(alloc, known, variants, inside, left, slot),
+        Container::NewTypeStruct(format) => fill_full(alloc, ranked, format, around, left, slot),
+        Container::TupleStruct(formats) => fill_tuple(alloc, ranked, formats, around, left, slot),
+        Container::Struct(fields) => fill_fields(alloc, ranked, fields, around, left, slot),
+        Container::Enum(variants) => fill_enum(alloc, ranked, variants, around, left, slot),
     }
 }
 
@@ -290,24 +293,24 @@ fn fill_content<'r>(
 #[cycle(filling)]
 fn fill_enum<'r>(
     alloc: Global,
-    known: Known<'r, '_>,
+    ranked: RankedRegistry<'r, '_>,
     variants: &'r BTreeMap<u32, Named<VariantFormat>>,
-    inside: Inside<'_, 'r>,
+    around: Surroundings<'_, 'r>,
     left: &mut u32,
     slot: &mut Value,
 ) -> Result<(), FullFault>
-    requires knows { KnowsHere known inside }
-    requires found { (n : List ℕ) × (content_at n known.registry.now ≡ one_of (map choice_of variants.now.entries)) }
-    requires exists { is_some (content_here known inside (one_of (map choice_of variants.now.entries))) ≡ true }
-    ensures made { OnOk result (Spends (content_here known.entry inside.entry (one_of (map choice_of variants.now.entries))) left.old left.new slot.new) }
-    ensures refused { IfErr result (Exceeds (content_here known.entry inside.entry (one_of (map choice_of variants.now.entries))) left.old) }
+    requires knows { KnowsHere ranked around }
+    requires found { (n : List ℕ) × (content_at n ranked.registry.now ≡ one_of (map choice_of variants.now.entries)) }
+    requires exists { is_some (content_here ranked around (one_of (map choice_of variants.now.entries))) ≡ true }
+    ensures made { OnOk result (Spends (content_here ranked.entry around.entry (one_of (map choice_of variants.now.entries))) left.old left.new slot.new) }
+    ensures refused { IfErr result (Exceeds (content_here ranked.entry around.entry (one_of (map choice_of variants.now.entries))) left.old) }
 {
-    known.registry.recall();
-    let Some((number, payload)) = first_with_value(variants, known.ranks, inside.depth) else {
+    ranked.registry.recall();
+    let Some((number, payload)) = first_with_value(variants, ranked.ranks, around.depth) else {
         unreachable!()
     };
     spend(1, left)?;
-    fill_payload(alloc, known, payload, inside, left, slot)?;
+    fill_payload(alloc, ranked, payload, around, left, slot)?;
     wrap_variant(alloc, number, slot)?;
     Ok(())
 }
@@ -316,21 +319,21 @@ fn fill_enum<'r>(
 #[cycle(filling)]
 pub fn fill_payload<'r>(
     alloc: Global,
-    known: Known<'r, '_>,
+    ranked: RankedRegistry<'r, '_>,
     payload: &'r VariantFormat,
-    inside: Inside<'_, 'r>,
+    around: Surroundings<'_, 'r>,
     left: &mut u32,
     slot: &mut Value,
 ) -> Result<(), FullFault>
-    requires knows { KnowsHere known inside }
-    requires exists { is_some (full_here known inside (payload_shape (payload_of payload.now))) ≡ true }
-    ensures made { OnOk result (Spends (full_here known.entry inside.entry (payload_shape (payload_of payload.now))) left.old left.new slot.new) }
-    ensures refused { IfErr result (Exceeds (full_here known.entry inside.entry (payload_shape (payload_of payload.now))) left.old) }
+    requires knows { KnowsHere ranked around }
+    requires exists { is_some (full_here ranked around (payload_shape (payload_of payload.now))) ≡ true }
+    ensures made { OnOk result (Spends (full_here ranked.entry around.entry (payload_shape (payload_of payload.now))) left.old left.new slot.new) }
+    ensures refused { IfErr result (Exceeds (full_here ranked.entry around.entry (payload_shape (payload_of payload.now))) left.old) }
 {
     match payload {
         VariantFormat::Unit => fill_unit(left, slot),
-        VariantFormat::NewType(format) => fill_full(alloc, known, format, inside, left, slot),
-        VariantFormat::Tuple(formats) => fill_tuple(alloc, known, formats, inside, left, slot),
-        VariantFormat::Struct(fields) => fill_fields(alloc, known, fields, inside, left, slot),
+        VariantFormat::NewType(format) => fill_full(alloc, ranked, format, around, left, slot),
+        VariantFormat::Tuple(formats) => fill_tuple(alloc, ranked, formats, around, left, slot),
+        VariantFormat::Struct(fields) => fill_fields(alloc, ranked, fields, around, left, slot),
     }
 }

@@ -7,7 +7,8 @@ ghost use Rattle.bcs_example_full.specs.Known.{KnowsHere};
 ghost use Rattle.bcs_example_full.specs.Spent.{Exceeds, Spends};
 
 use crate::fault::FullFault;
-use crate::known::{Inside, Known};
+use crate::opened::Surroundings;
+use crate::ranked_registry::RankedRegistry;
 use crate::spending::spend;
 use bcs_example::filling::fill;
 use bcs_example::placing::put_unit;
@@ -20,27 +21,27 @@ use std::alloc::Global;
 #[inline(never)]
 pub fn fill_least(
     alloc: Global,
-    known: Known<'_, '_>,
+    ranked: RankedRegistry<'_, '_>,
     format: &Format,
-    inside: Inside<'_, '_>,
+    around: Surroundings<'_, '_>,
     left: &mut u32,
     slot: &mut Value,
 ) -> Result<(), FullFault>
-    requires knows { KnowsHere known inside }
-    requires exists { is_some (example known.registry.now inside.depth (shape_of format.now)) ≡ true }
-    ensures made { OnOk result (Spends (example known.entry.registry.now inside.entry.depth (shape_of format.now)) left.old left.new slot.new) }
-    ensures refused { IfErr result (Exceeds (example known.entry.registry.now inside.entry.depth (shape_of format.now)) left.old) }
+    requires knows { KnowsHere ranked around }
+    requires exists { is_some (example ranked.registry.now around.depth (shape_of format.now)) ≡ true }
+    ensures made { OnOk result (Spends (example ranked.entry.registry.now around.entry.depth (shape_of format.now)) left.old left.new slot.new) }
+    ensures refused { IfErr result (Exceeds (example ranked.entry.registry.now around.entry.depth (shape_of format.now)) left.old) }
 {
-    let Some(nodes) = format_nodes(format, known.ranks, inside.depth) else {
+    let Some(nodes) = format_nodes(format, ranked.ranks, around.depth) else {
         unreachable!()
     };
     spend(nodes, left)?;
     fill(
         alloc,
-        known.registry,
+        ranked.registry,
         format,
-        known.ranks,
-        inside.depth,
+        ranked.ranks,
+        around.depth,
         slot,
     )?;
     Ok(())

@@ -1,4 +1,4 @@
-//! The containers that are open. They stand on the stack, so they take no memory.
+//! Where an example stands. The containers that are open stand on the stack, so they take no memory.
 ghost use Rattle.std.specs.Prelude.{◌≡◌, ◌∷◌, []};
 ghost use Rattle.bcs_example.specs.Names.{is_among};
 ghost use Rattle.bcs_example_full.specs.Opened.{names_of};
@@ -8,6 +8,15 @@ ghost use Rattle.bcs_example_full.specs.Opened.{names_of};
 pub enum Opened<'t, 'r> {
     Nothing,
     Within(&'r str, &'t Opened<'t, 'r>),
+}
+
+/// Where an example stands.
+#[derive(Clone, Copy)]
+pub struct Surroundings<'t, 'r> {
+    /// How many containers may be open at once in it.
+    pub depth: u32,
+    /// Those that are open round it.
+    pub opened: &'t Opened<'t, 'r>,
 }
 
 /// No container is open.

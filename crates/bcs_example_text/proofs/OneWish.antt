@@ -1,5 +1,5 @@
 -- What is given of a wish, and why there is none: never both, and one of both.
-use Rattle.std.proofs.Common.{◌≡◌, ◌∙◌, ◌⊎◌, ◌≤◌, inl, inr, ℕ, zero, suc, List, [], ◌∷◌, Bor, Option, Some, None, option_map, ap, arith, refl, subst, sym}
+use Rattle.std.proofs.Common.{◌≡◌, ◌∙◌, ◌⊎◌, ◌≤◌, inl, inr, ℕ, zero, suc, List, [], ◌∷◌, Bor, Option, Some, None, option_map, ap, refl, subst, sym}
 use Rattle.std.specs.Option.{option_and_then}
 use Rattle.std.proofs.lemmas.Option.{none-some}
 use Rattle.bcs_registry_formats.specs.Container.{Entries, content_at, of}

@@ -9,7 +9,7 @@ use crate::full::make_full;
 use crate::least::make_least;
 use crate::part::Part;
 use crate::wish::ExampleForm;
-use bcs_example_full::known::Inside;
+use bcs_example_full::opened::Surroundings;
 use bcs_registry::Registry;
 use bcs_value::Value;
 use std::alloc::Global;
@@ -20,14 +20,14 @@ pub fn make_formed<'r>(
     registry: &'r Registry,
     part: Part<'r>,
     form: ExampleForm,
-    inside: Inside<'_, 'r>,
+    around: Surroundings<'_, 'r>,
     nodes: u32,
 ) -> Result<Value, WantedFault>
-    ensures made { IfOk result (Makes (formed form registry.now inside.entry.depth (names_of inside.entry.opened.now) (part_shape part.entry)) nodes) }
-    ensures refused { IfErr result (RefusesPart (formed form registry.now inside.entry.depth (names_of inside.entry.opened.now) (part_shape part.entry)) nodes) }
+    ensures made { IfOk result (Makes (formed form registry.now around.entry.depth (names_of around.entry.opened.now) (part_shape part.entry)) nodes) }
+    ensures refused { IfErr result (RefusesPart (formed form registry.now around.entry.depth (names_of around.entry.opened.now) (part_shape part.entry)) nodes) }
 {
     match form {
-        ExampleForm::Least => make_least(alloc, registry, part, inside.depth, nodes),
-        ExampleForm::Full => make_full(alloc, registry, part, inside, nodes),
+        ExampleForm::Least => make_least(alloc, registry, part, around.depth, nodes),
+        ExampleForm::Full => make_full(alloc, registry, part, around, nodes),
     }
 }

@@ -9,8 +9,7 @@ use crate::formed::make_formed;
 use crate::part::Part;
 use crate::variant::Chosen;
 use crate::wish::ExampleForm;
-use bcs_example_full::known::Inside;
-use bcs_example_full::opened::{nothing_opened, opened_within};
+use bcs_example_full::opened::{Surroundings, nothing_opened, opened_within};
 use bcs_registry::Registry;
 use bcs_value::{Limits, Value};
 use bcs_value_tree::slot::{wrap_named, wrap_variant};
@@ -38,11 +37,11 @@ pub fn make_variant<'r>(
     let part = Part::Payload(chosen.payload);
     let around = nothing_opened();
     let opened = opened_within(chosen.name, &around);
-    let inside = Inside {
+    let around = Surroundings {
         depth,
         opened: &opened,
     };
-    let mut slot = make_formed(alloc, registry, part, form, inside, nodes)?;
+    let mut slot = make_formed(alloc, registry, part, form, around, nodes)?;
     wrap_variant(alloc, chosen.number, &mut slot)?;
     wrap_named(alloc, &mut slot)?;
     Ok(slot)

@@ -15,8 +15,7 @@ use crate::making::make_variant;
 use crate::part::Part;
 use crate::variant::find_variant;
 use crate::wish::Wish;
-use bcs_example_full::known::Inside;
-use bcs_example_full::opened::nothing_opened;
+use bcs_example_full::opened::{Surroundings, nothing_opened};
 use bcs_registry::{Format, Registry};
 use bcs_value::{Limits, Value};
 use std::alloc::Global;
@@ -47,12 +46,12 @@ pub fn wished_example(
     match wish.variant {
         None => {
             let opened = nothing_opened();
-            let inside = Inside {
+            let around = Surroundings {
                 depth: limits.depth(),
                 opened: &opened,
             };
             let part = Part::Format(format);
-            make_formed(alloc, registry, part, wish.form, inside, limits.nodes())
+            make_formed(alloc, registry, part, wish.form, around, limits.nodes())
         }
         Some(word) => match find_variant(registry, format, word) {
             Some(chosen) => make_variant(alloc, registry, chosen, wish.form, limits),

@@ -1,5 +1,5 @@
 -- A line end behind a text changes nothing of what `serde_json` reads in it.
-use Rattle.std.proofs.Common.{◌≡◌, ℕ, ◌+◌, ◌-◌, ◌*◌, ◌≤◌, List, [], ◌∷◌, ◌++◌, length, take, drop, Option, Some, None, option_map, option_and_then, Bool, true, false, ◌&&◌, ◌||◌, ◌==◌, cond, nat_eq, nat_lt, refl, sym, ap, ap₂, ◌∙◌, arith}
+use Rattle.std.proofs.Common.{◌≡◌, ℕ, ◌+◌, ◌-◌, ◌*◌, List, [], ◌∷◌, ◌++◌, length, take, drop, Option, Some, None, option_map, option_and_then, Bool, true, false, ◌&&◌, ◌||◌, ◌==◌, cond, nat_eq, nat_lt, refl, ap, ap₂, ◌∙◌, arith}
 use Rattle.std.proofs.Math.Path.{fun_ext}
 use Rattle.std.specs.Char.{digit_value, encode_utf8, is_ascii_digit, is_digit}
 use Rattle.std.specs.Cmp.Lexicographic.{pointwise}
@@ -9,7 +9,7 @@ use Rattle.std.proofs.lemmas.List.Sums.{prefix_len-le-length}
 use Rattle.std.proofs.lemmas.Str.{IsUtf8-append}
 use Rattle.json.specs.Ascii as ascii
 use Rattle.json.specs.Json as json
-use Rattle.json.specs.Lex.{Class, Lexeme, Mode, between, in_word, in_string, in_escape, quote, backslash, operator, space, other, class, fresh, lex, lex_byte, operator_lexeme, punctuate, string_token, token, tokens}
+use Rattle.json.specs.Lex.{Class, Lexeme, Mode, between, in_word, in_string, in_escape, quote, backslash, operator, space, other, class, fresh, lex, lex_byte, operator_lexeme, punctuate, string_token, token}
 use Rattle.json.specs.Text.{Within, after_backslash, after_high, after_u, code_unit, content, is_high_surrogate, is_low_surrogate, plain, prepend, short_escape, surrogate_pair}
 use Rattle.json.specs.Token.{Token, bad, boolean, null, number}
 use Rattle.json.specs.Word.{after_digits, after_exponent, after_fraction, after_minus, after_number, after_sign, after_whole, ends_word, literal, number_before, word}

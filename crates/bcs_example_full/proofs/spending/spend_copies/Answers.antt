@@ -1,4 +1,4 @@
-use Rattle.std.proofs.Common.{◌≡◌, ◌<◌, ◌≤◌, ◌-◌, ◌*◌, ap, subst, sym, Some, None, arith}
+use Rattle.std.proofs.Common.{◌<◌, ◌-◌, ◌*◌, subst}
 use Rattle.std.specs.Option.{SomeIff}
 use Rattle.std.proofs.lemmas.Result.{IfErr-weaker, on_ok_weaker}
 use Rattle.bcs_example_full.proofs.Elements.{copies_spent, copies_too_many}

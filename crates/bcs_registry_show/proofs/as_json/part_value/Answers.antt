@@ -1,4 +1,4 @@
-use Rattle.std.proofs.Common.{◌≡◌, Some, None, is_some, false, true, string_bytes, ap, sym, ◌∙◌, rules}
+use Rattle.std.proofs.Common.{◌≡◌, is_some, string_bytes, ap, ◌∙◌, rules}
 use Rattle.std.specs.BTreeSet.{contains_text}
 use Rattle.std.specs.Option.{unwrap_or}
 use Rattle.std.proofs.lemmas.Bool.{false≢true}

@@ -1,10 +1,10 @@
-use Rattle.std.proofs.Common.{◌≡◌, true, ap, sym, subst, ◌∙◌}
+use Rattle.std.proofs.Common.{◌≡◌, true, ap, sym, subst}
 use Rattle.bcs_example.specs.Names.{is_among, texts}
 use Rattle.bcs_example.specs.Rounds.{words}
 use Rattle.bcs_example.proofs.Gathered.{noted_within}
 use Rattle.bcs_example_full.specs.Known.{all_named}
 use Rattle.bcs_example_full.proofs.Ranked.{if_both, knows_all, named_more}
-use Rattle.bcs_example_full.proofs.known.rank_all.Goals as goal
+use Rattle.bcs_example_full.proofs.ranked_registry.rank_all.Goals as goal
 
 pub returns : goal.returns
 returns c =

@@ -1,10 +1,10 @@
-use Rattle.std.proofs.Common.{string_bytes, subst, sym, ◌≡◌, true}
+use Rattle.std.proofs.Common.{string_bytes, subst, ◌≡◌, true}
 use Rattle.bcs_registry_formats.specs.View.{entries_of}
 use Rattle.bcs_example.specs.Names.{is_among, texts}
 use Rattle.bcs_example.proofs.Gathered.{gathering_on}
 use Rattle.bcs_example_full.specs.Known.{all_named}
 use Rattle.bcs_example_full.proofs.Ranked.{named_cons}
-use Rattle.bcs_example_full.proofs.known.note_all.Goals as goal
+use Rattle.bcs_example_full.proofs.ranked_registry.note_all.Goals as goal
 
 pub loop-name-preserved : goal.loop-name-preserved
 loop-name-preserved c =

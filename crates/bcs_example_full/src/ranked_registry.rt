@@ -1,10 +1,9 @@
-//! What a full example is made by.
+//! The ranks of all containers of a registry, by which a full example is made.
 ghost use Rattle.std.specs.Prelude.{◌≡◌, true, IfOk, OnOk};
 ghost use Rattle.bcs_registry_formats.specs.View.{entries_of};
 ghost use Rattle.bcs_example.specs.Names.{AreOne, Noted, is_among, texts};
 ghost use Rattle.bcs_example_full.specs.Known.{KnowsAll, all_named};
 
-use crate::opened::Opened;
 use bcs_example::names::Names;
 use bcs_example::noting::note_inner;
 use bcs_example::ranks::Ranks;
@@ -15,18 +14,9 @@ use std::collections::BTreeMap;
 
 /// A registry, and the ranks of its containers.
 #[derive(Clone, Copy)]
-pub struct Known<'a, 'r> {
+pub struct RankedRegistry<'a, 'r> {
     pub registry: &'a Registry,
     pub ranks: &'a Ranks<'r>,
-}
-
-/// Where an example stands.
-#[derive(Clone, Copy)]
-pub struct Inside<'t, 'r> {
-    /// How many containers may be open at once in it.
-    pub depth: u32,
-    /// Those that are open round it.
-    pub opened: &'t Opened<'t, 'r>,
 }
 
 /// The ranks of all containers of the registry, where at most so many are open at once.
