@@ -1,21 +1,20 @@
-//! The plain encoder: the entries of each map are laid into a buffer of their own, and appended in order.
+//! The plain encoder: each entry of a map has bytes of its own, and they are sorted.
 ghost use Rattle.std.specs.Prelude.{map};
 ghost use Rattle.bcs_registry_formats.specs.Container.{of, content, field_shapes, payload_shape};
 ghost use Rattle.bcs_registry_formats.specs.Shape.{tuple};
 ghost use Rattle.bcs_registry_formats.specs.View.{container_of, field_of, formats_shapes, payload_of, shape_of};
 ghost use Rattle.bcs_value_tree.specs.Tree.{items as items_tree};
 ghost use Rattle.bcs_value_tree.specs.View.{entries_pairs, items_trees, tree_of};
-ghost use Rattle.bcs_encode_steps.specs.Laying.{entries_laid};
+ghost use Rattle.bcs_encode_plain.specs.EntryView.{entry_of};
 ghost use Rattle.bcs_encode_steps.specs.Writing as spec;
 ghost use Rattle.bcs_encode_steps.specs.Writing.{Tells};
 
-use crate::laid_entries::LaidEntries;
+use crate::arranging::push_in_order;
+use crate::entry_bytes::EntryBytes;
 use bcs_encode_spec::EncodeFault;
 use bcs_encode_steps::pushing::{
     push_byte, push_bytes, push_length, push_number, push_signed, push_unsigned,
 };
-use bcs_encode_steps::span::Span;
-use bcs_encode_steps::spans::push_in_order;
 use bcs_num::Width;
 use bcs_registry::{Container, Format, Named, Registry, VariantFormat};
 use bcs_value::Value;
@@ -68,12 +67,9 @@ pub fn push_value(
         }
         (Value::Pairs(pairs), Format::Map(key, value)) => {
             push_length(pairs.len(), out)?;
-            let mut entries = LaidEntries {
-                bytes: Vec::new(alloc),
-                spans: Vec::new(alloc),
-            };
-            lay_entries(pairs, alloc, registry, key, value, &mut entries)?;
-            push_in_order(&mut entries.spans, &entries.bytes, out)
+            let mut entries = Vec::new(alloc);
+            collect_entries(pairs, alloc, registry, key, value, &mut entries)?;
+            push_in_order(entries, out)
         }
         (Value::Named(inner), Format::TypeName(name)) => match registry.container(name.as_str()) {
             Some(container) => push_content(inner, alloc, registry, container, out),
@@ -197,29 +193,28 @@ fn push_fields(
     Ok(())
 }
 
-/// Appends a map's entries in the order of the pairs, and their spans.
+/// Appends a map's entries to those before, in the order of the pairs.
 #[cycle(by_entries)]
-fn lay_entries(
+fn collect_entries(
     pairs: &[(Value, Value)],
     alloc: Global,
     registry: &Registry,
     key: &Format,
     value: &Format,
-    entries: &mut LaidEntries,
+    entries: &mut Vec<EntryBytes>,
 ) -> Result<(), EncodeFault>
     ensures { Tells result
-        (entries_laid registry.now (entries_pairs pairs.now) (shape_of key.now) (shape_of value.now) entries.old.bytes.items entries.old.spans.items)
-        (entries.new.bytes.items, entries.new.spans.items) }
+        (spec.entries_written registry.now (entries_pairs pairs.now) (shape_of key.now) (shape_of value.now) (map entry_of entries.old.items))
+        (map entry_of entries.new.items) }
 {
     for (k, v) in pairs {
-        let start = entries.bytes.len();
-        push_value(k, alloc, registry, key, &mut entries.bytes)?;
-        let end = entries.bytes.len();
-        push_value(v, alloc, registry, value, &mut entries.bytes)?;
-        entries.spans.push(Span {
-            start,
-            end,
-            value: entries.bytes.len(),
+        let mut key_bytes = Vec::new(alloc);
+        push_value(k, alloc, registry, key, &mut key_bytes)?;
+        let mut value_bytes = Vec::new(alloc);
+        push_value(v, alloc, registry, value, &mut value_bytes)?;
+        entries.push(EntryBytes {
+            key: key_bytes,
+            value: value_bytes,
         })?;
     }
     Ok(())

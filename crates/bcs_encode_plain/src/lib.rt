@@ -1,5 +1,6 @@
-//! The plain encoder: a walk that lays the entries of each map apart, and appends them in order.
+//! The plain encoder: a walk that gives each entry of a map bytes of its own, and sorts them.
 #![tactic(auto)]
 
+mod arranging;
 pub mod by_entries;
-mod laid_entries;
+mod entry_bytes;

@@ -1,8 +1,7 @@
--- What is laid into one buffer is what each entry has of its own.
+-- What is written behind other bytes is what is written alone; and the entries that spans stand for.
 use Rattle.std.proofs.Common.{◌≡◌, ℕ, ◌+◌, ◌-◌, ◌≤◌, Bool, true, false, ◌==◌, List, [], ◌∷◌, ◌++◌, length, map, take, drop, refl, sym, ap, ap₂, ◌∙◌, append_assoc, append-nil, length-append, arith, inl, inr, if◌then◌else◌, Result, Ok, Err}
 use Rattle.std.specs.Prelude.{nat_le, nat_lt, ◌^◌}
 use Rattle.std.specs.List.{flat_map}
-use Rattle.std.specs.Result.{is_err}
 use Rattle.std.specs.List.Sorted.{IsPermutation}
 use Rattle.std.proofs.lemmas.Bool.{cases_Bool, le-leb, true≢false}
 use Rattle.std.proofs.lemmas.List.Sorted.{IsPermutation-map}
@@ -18,8 +17,7 @@ use Rattle.bcs_num.specs.Le.{holds_signed}
 use Rattle.bcs_encode_spec.specs.Lengths.{length_limit}
 use Rattle.bcs_encode_spec.specs.Entries.{Entry, entry_bytes, EntriesRiseFrom, EntriesRise, HasTwins}
 use Rattle.bcs_encode_steps.specs.Writing.{Verdict, chain, length_written, in_order, has_twins, sorted_entries_written, shape_count, written, items_written, each_written, entries_written}
-use Rattle.bcs_encode_steps.specs.KeysFirst.{Ordered, lone_key_at}
-use Rattle.bcs_encode_steps.specs.Laying.{part, span_entry, span, entries_laid}
+use Rattle.bcs_encode_steps.specs.Laying.{Ordered, lone_key_at, part, span_entry, span}
 use Rattle.bcs_encode_steps.proofs.EntryArranging.{sorted_written, twins_written}
 use Rattle.bcs_encode_steps.specs.declared.span.Span.{Span}
 use Rattle.bcs_encode_spec.specs.declared.fault.EncodeFault.{EncodeFault}
@@ -107,75 +105,11 @@ module _ (registry : Entries) where
   pub written_behind : (t : Tree) (f : Content) (b : List ℕ) → written registry t f b ≡ after b (written registry t f [])
   written_behind t f b = ap (written registry t f) (sym (append-nil b)) ∙ written_after t f b []
 
--- ---- the entries of a map
+-- ---- the spans of entries that stand one after another
 
 abbrev pub spans_from : ℕ → List Entry → List Span
 spans_from at [] = []
 spans_from at (e ∷ es) = span at (at + length e.0) ((at + length e.0) + length e.1) ∷ spans_from ((at + length e.0) + length e.1) es
-
-abbrev Lain : Type 0
-Lain = Result (List ℕ × List Span) EncodeFault
-
-abbrev pub lain : List ℕ → List Span → List Entry → Lain
-lain b ss es = Ok (b ++ flat_map entry_bytes es, ss ++ spans_from (length b) es)
-
-lain_more : (b a c : List ℕ) (ss : List Span) (es : List Entry)
-    → lain ((b ++ a) ++ c) (ss ++ (span (length b) (length (b ++ a)) (length ((b ++ a) ++ c)) ∷ [])) es ≡ lain b ss ((a, c) ∷ es)
-lain_more b a c ss es =
-    let m : length (b ++ a) ≡ length b + length a = length-append b a in
-    let n : length ((b ++ a) ++ c) ≡ (length b + length a) + length c = length-append (b ++ a) c ∙ ap (λ (k : ℕ). k + length c) m in
-    let bytes : ((b ++ a) ++ c) ++ flat_map entry_bytes es ≡ b ++ ((a ++ c) ++ flat_map entry_bytes es) =
-    ap (λ (x : List ℕ). x ++ flat_map entry_bytes es) (append_assoc b a c) ∙ append_assoc b (a ++ c) (flat_map entry_bytes es) in
-    let spans : (ss ++ (span (length b) (length (b ++ a)) (length ((b ++ a) ++ c)) ∷ [])) ++ spans_from (length ((b ++ a) ++ c)) es ≡ ss ++ spans_from (length b) ((a, c) ∷ es) =
-    append_assoc ss (span (length b) (length (b ++ a)) (length ((b ++ a) ++ c)) ∷ []) (spans_from (length ((b ++ a) ++ c)) es)
-    ∙ ap₂ (λ (i j : ℕ). ss ++ (span (length b) i j ∷ spans_from j es)) m n in
-    ap₂ (λ (x : List ℕ) (y : List Span). Ok (x, y)) bytes spans
-
-module _ (registry : Entries) (k v : Shape) where
-  abbrev pub own_entries : Pairs → Result (List Entry) EncodeFault
-  own_entries no_pairs = Ok []
-  own_entries (pair l w ps) =
-      chain (written registry l (of k) []) (λ a. chain (written registry w (of v) []) (λ c. chain (own_entries ps) (λ es. Ok ((a, c) ∷ es))))
-
-  pub entries_own : (ps : Pairs) (es : List Entry) → entries_written registry ps k v es ≡ chain (own_entries ps) (λ fs. Ok (es ++ fs))
-  entries_own no_pairs es = ap (λ (x : List Entry). Ok x) (sym (append-nil es))
-  entries_own (pair l w ps) es = first (λ gs. entries_own ps gs) (written registry l (of k) [])
-    where
-      last : (a c : List ℕ) (u : Result (List Entry) EncodeFault) → chain u (λ fs. Ok ((es ++ ((a, c) ∷ [])) ++ fs)) ≡ chain (chain u (λ fs. Ok ((a, c) ∷ fs))) (λ fs. Ok (es ++ fs))
-      last a c (Ok fs) = ap (λ (x : List Entry). Ok x) (append_assoc es ((a, c) ∷ []) fs)
-      last a c (Err e) = refl
-
-      second : ((gs : List Entry) → entries_written registry ps k v gs ≡ chain (own_entries ps) (λ fs. Ok (gs ++ fs))) → (a : List ℕ) (u : Verdict) → chain u (λ c. entries_written registry ps k v (es ++ ((a, c) ∷ []))) ≡ chain (chain u (λ c. chain (own_entries ps) (λ fs. Ok ((a, c) ∷ fs)))) (λ fs. Ok (es ++ fs))
-      second h a (Ok c) = h (es ++ ((a, c) ∷ [])) ∙ last a c (own_entries ps)
-      second h a (Err e) = refl
-
-      first : ((gs : List Entry) → entries_written registry ps k v gs ≡ chain (own_entries ps) (λ fs. Ok (gs ++ fs))) → (u : Verdict) → chain u (λ a. chain (written registry w (of v) []) (λ c. entries_written registry ps k v (es ++ ((a, c) ∷ []))))
-          ≡ chain (chain u (λ a. chain (written registry w (of v) []) (λ c. chain (own_entries ps) (λ fs. Ok ((a, c) ∷ fs))))) (λ fs. Ok (es ++ fs))
-      first h (Ok a) = second h a (written registry w (of v) [])
-      first h (Err e) = refl
-
-  pub laid_own : (ps : Pairs) (b : List ℕ) (ss : List Span) → entries_laid registry ps k v b ss ≡ chain (own_entries ps) (lain b ss)
-  laid_own no_pairs b ss = ap₂ (λ (x : List ℕ) (y : List Span). Ok (x, y)) (sym (append-nil b)) (sym (append-nil ss))
-  laid_own (pair l w ps) b ss =
-      ap (λ (u : Verdict). chain u (λ c. chain (written registry w (of v) c) (λ d. entries_laid registry ps k v d (ss ++ (span (length b) (length c) (length d) ∷ []))))) (written_behind registry l (of k) b)
-      ∙ first (λ d us. laid_own ps d us) (written registry l (of k) [])
-    where
-      last : (a c : List ℕ) (u : Result (List Entry) EncodeFault)
-          → chain u (lain ((b ++ a) ++ c) (ss ++ (span (length b) (length (b ++ a)) (length ((b ++ a) ++ c)) ∷ []))) ≡ chain (chain u (λ fs. Ok ((a, c) ∷ fs))) (lain b ss)
-      last a c (Ok fs) = lain_more b a c ss fs
-      last a c (Err e) = refl
-
-      second : ((d : List ℕ) (us : List Span) → entries_laid registry ps k v d us ≡ chain (own_entries ps) (lain d us)) → (a : List ℕ) (u : Verdict) → chain (after (b ++ a) u) (λ d. entries_laid registry ps k v d (ss ++ (span (length b) (length (b ++ a)) (length d) ∷ [])))
-          ≡ chain (chain u (λ c. chain (own_entries ps) (λ fs. Ok ((a, c) ∷ fs)))) (lain b ss)
-      second h a (Ok c) = h ((b ++ a) ++ c) (ss ++ (span (length b) (length (b ++ a)) (length ((b ++ a) ++ c)) ∷ [])) ∙ last a c (own_entries ps)
-      second h a (Err e) = refl
-
-      first : ((d : List ℕ) (us : List Span) → entries_laid registry ps k v d us ≡ chain (own_entries ps) (lain d us)) → (u : Verdict) → chain (after b u) (λ c. chain (written registry w (of v) c) (λ d. entries_laid registry ps k v d (ss ++ (span (length b) (length c) (length d) ∷ []))))
-          ≡ chain (chain u (λ a. chain (written registry w (of v) []) (λ c. chain (own_entries ps) (λ fs. Ok ((a, c) ∷ fs))))) (lain b ss)
-      first h (Ok a) =
-          ap (λ (u : Verdict). chain u (λ d. entries_laid registry ps k v d (ss ++ (span (length b) (length (b ++ a)) (length d) ∷ [])))) (written_behind registry w (of v) (b ++ a))
-          ∙ second h a (written registry w (of v) [])
-      first h (Err e) = refl
 
 -- ---- the entries that the spans stand for
 
@@ -187,14 +121,16 @@ part_between x y z =
     let size : (length x + length y) - length x ≡ length y = omega arith in
     rw (low, high, size, drop-append_seam x (y ++ z), take-append_seam y z) refl
 
-pub spans_entries : (es : List Entry) (b : List ℕ) → map (span_entry (b ++ flat_map entry_bytes es)) (spans_from (length b) es) ≡ es
-spans_entries [] b = refl
-spans_entries (e ∷ es) b =
-    let rest : List ℕ = flat_map entry_bytes es in
-    let whole : List ℕ = b ++ ((e.0 ++ e.1) ++ rest) in
+-- other bytes may stand behind
+pub spans_within : (es : List Entry) (b more : List ℕ) → map (span_entry (b ++ (flat_map entry_bytes es ++ more))) (spans_from (length b) es) ≡ es
+spans_within [] b more = refl
+spans_within (e ∷ es) b more =
+    let rest : List ℕ = flat_map entry_bytes es ++ more in
+    let whole : List ℕ = b ++ (((e.0 ++ e.1) ++ flat_map entry_bytes es) ++ more) in
     let m : length (b ++ e.0) ≡ length b + length e.0 = length-append b e.0 in
     let n : length ((b ++ e.0) ++ e.1) ≡ (length b + length e.0) + length e.1 = length-append (b ++ e.0) e.1 ∙ ap (λ (k : ℕ). k + length e.1) m in
-    let by_key : whole ≡ b ++ (e.0 ++ (e.1 ++ rest)) = ap (λ (x : List ℕ). b ++ x) (append_assoc e.0 e.1 rest) in
+    let by_key : whole ≡ b ++ (e.0 ++ (e.1 ++ rest)) =
+    ap (λ (x : List ℕ). b ++ x) (append_assoc (e.0 ++ e.1) (flat_map entry_bytes es) more ∙ append_assoc e.0 e.1 rest) in
     let by_value : whole ≡ (b ++ e.0) ++ (e.1 ++ rest) = by_key ∙ sym (append_assoc b e.0 (e.1 ++ rest)) in
     let by_rest : whole ≡ ((b ++ e.0) ++ e.1) ++ rest = by_value ∙ sym (append_assoc (b ++ e.0) e.1 rest) in
     let key : part whole (length b) (length b + length e.0) ≡ e.0 =
@@ -202,8 +138,12 @@ spans_entries (e ∷ es) b =
     let value : part whole (length b + length e.0) ((length b + length e.0) + length e.1) ≡ e.1 =
     ap₂ (λ (x : List ℕ) (i : ℕ). part x i (i + length e.1)) by_value (sym m) ∙ part_between (b ++ e.0) e.1 rest in
     let others : map (span_entry whole) (spans_from ((length b + length e.0) + length e.1) es) ≡ es =
-    ap₂ (λ (x : List ℕ) (i : ℕ). map (span_entry x) (spans_from i es)) by_rest (sym n) ∙ spans_entries es ((b ++ e.0) ++ e.1) in
+    ap₂ (λ (x : List ℕ) (i : ℕ). map (span_entry x) (spans_from i es)) by_rest (sym n) ∙ spans_within es ((b ++ e.0) ++ e.1) more in
     ap₂ (λ (z : Entry) (zs : List Entry). z ∷ zs) (ap₂ (λ (x y : List ℕ). (x, y)) key value) others
+
+pub spans_entries : (es : List Entry) (b : List ℕ) → map (span_entry (b ++ flat_map entry_bytes es)) (spans_from (length b) es) ≡ es
+spans_entries es b =
+    ap (λ (x : List ℕ). map (span_entry (b ++ x)) (spans_from (length b) es)) (sym (append-nil (flat_map entry_bytes es))) ∙ spans_within es b []
 
 -- ---- the order of keys, with the values beside them
 
@@ -235,93 +175,3 @@ module _ (bytes b : List ℕ) (xs ys : List Span) (moved : IsPermutation xs ys) 
 
   pub repeated_refused : Ordered false bytes ys → sorted_entries_written (map (span_entry bytes) xs) b ≡ Err RepeatedKey
   repeated_refused twins = twins_written _ _ b entries_move (twins_with bytes (λ z. part bytes z.end z.value) ys twins)
-
--- what was laid: some entries, which are those of the pairs
-record LaidEntries (registry : Entries) (k v : Shape) (ps : Pairs) (b d : List ℕ) (ss us : List Span) : Type 0 where
-  es : List Entry
-  own : entries_written registry ps k v [] ≡ Ok es
-  bytes : d ≡ b ++ flat_map entry_bytes es
-  spans : us ≡ ss ++ spans_from (length b) es
-
-laid_entries : (registry : Entries) (k v : Shape) (ps : Pairs) (b d : List ℕ) (ss us : List Span) → entries_laid registry ps k v b ss ≡ Ok (d, us) → LaidEntries registry k v ps b d ss us
-laid_entries registry k v ps b d ss us h = found (own_entries registry k v ps) (entries_own registry k v ps []) (sym (laid_own registry k v ps b ss) ∙ h)
-  where
-    found : (u : Result (List Entry) EncodeFault) → entries_written registry ps k v [] ≡ chain u (λ fs. Ok fs) → chain u (lain b ss) ≡ Ok (d, us) → LaidEntries registry k v ps b d ss us
-    found (Ok es) own is =
-        let p : (b ++ flat_map entry_bytes es, ss ++ spans_from (length b) es) ≡ (d, us) = cc in
-        record { es = es; own = own; bytes = sym (ap (λ (q : List ℕ × List Span). q.0) p); spans = sym (ap (λ (q : List ℕ × List Span). q.1) p) }
-    found (Err e) own is = absurd cc
-
-pub unlaid_entries : (registry : Entries) (k v : Shape) (ps : Pairs) (b : List ℕ) (ss : List Span) (e : EncodeFault) → entries_laid registry ps k v b ss ≡ Err e → entries_written registry ps k v [] ≡ Err e
-unlaid_entries registry k v ps b ss e h = found (own_entries registry k v ps) (entries_own registry k v ps []) (sym (laid_own registry k v ps b ss) ∙ h)
-  where
-    found : (u : Result (List Entry) EncodeFault) → entries_written registry ps k v [] ≡ chain u (λ fs. Ok fs) → chain u (lain b ss) ≡ Err e → entries_written registry ps k v [] ≡ Err e
-    found (Ok es) own is = absurd cc
-    found (Err f) own is = own ∙ cc
-
--- the spans before stay, and those above are the map's
-pub laid_keeps : (registry : Entries) (k v : Shape) (ps : Pairs) (b d : List ℕ) (ss us : List Span) → entries_laid registry ps k v b ss ≡ Ok (d, us)
-    → (length ss ≤ length us) × (take (length ss) us ≡ ss)
-laid_keeps registry k v ps b d ss us h =
-    let l = laid_entries registry k v ps b d ss us h in
-    (omega (arith, ap length l.spans, length-append ss (spans_from (length b) l.es)), ap (take (length ss)) l.spans ∙ take-append_seam ss (spans_from (length b) l.es))
-
--- the entries that the spans stand for, and what stood before them
-record Laid (b d : List ℕ) (es : List Entry) (ss us : List Span) : Type 0 where
-  entries : map (span_entry d) (drop (length ss) us) ≡ es
-  before : take (length b) d ≡ b
-
-laid : (registry : Entries) (k v : Shape) (ps : Pairs) (b d : List ℕ) (ss us : List Span) (l : LaidEntries registry k v ps b d ss us) → Laid b d l.es ss us
-laid registry k v ps b d ss us l =
-    let spans_are : drop (length ss) us ≡ spans_from (length b) l.es = ap (drop (length ss)) l.spans ∙ drop-append_seam ss (spans_from (length b) l.es) in
-    record {
-      entries = ap₂ (λ (x : List ℕ) (y : List Span). map (span_entry x) y) l.bytes spans_are ∙ spans_entries l.es b;
-      before = ap (take (length b)) l.bytes ∙ take-append_seam b (flat_map entry_bytes l.es);
-    }
-
--- entries that were laid apart
-pub entries_apart : (registry : Entries) (k v : Shape) (ps : Pairs) (d : List ℕ) (us : List Span) → entries_laid registry ps k v [] [] ≡ Ok (d, us)
-    → entries_written registry ps k v [] ≡ Ok (map (span_entry d) us)
-entries_apart registry k v ps d us h =
-    let l = laid_entries registry k v ps [] d [] us h in
-    l.own ∙ ap (λ (es : List Entry). Ok es) (sym (laid registry k v ps [] d [] us l).entries)
-
--- the bytes are what stood before, and then those of the spans in turn
-pub laid_whole : (registry : Entries) (k v : Shape) (ps : Pairs) (b d : List ℕ) (ss us : List Span) → entries_laid registry ps k v b ss ≡ Ok (d, us)
-    → take (length b) d ++ flat_map entry_bytes (map (span_entry d) (drop (length ss) us)) ≡ d
-laid_whole registry k v ps b d ss us h =
-    let l = laid_entries registry k v ps b d ss us h in
-    let parts = laid registry k v ps b d ss us l in
-    ap₂ (λ (x : List ℕ) (es : List Entry). x ++ flat_map entry_bytes es) parts.before parts.entries ∙ sym l.bytes
-
--- a map whose entries were laid and then put in order
-pub laid_map : (registry : Entries) (k v : Shape) (ps : Pairs) (n : ℕ) (b c d : List ℕ) (ss us : List Span) → pair_count ps ≡ n → length_written n b ≡ Ok c → entries_laid registry ps k v c ss ≡ Ok (d, us)
-    → written registry (tree.pairs ps) (of (shape.map k v)) b ≡ sorted_entries_written (map (span_entry d) (drop (length ss) us)) (take (length c) d)
-laid_map registry k v ps n b c d ss us count lengthed h =
-    let l = laid_entries registry k v ps c d ss us h in
-    let length_is : length_written (pair_count ps) b ≡ Ok c = ap (λ (m : ℕ). length_written m b) count ∙ lengthed in
-    let parts = laid registry k v ps c d ss us l in
-    ap (λ (u : Verdict). chain u (λ x. chain (entries_written registry ps k v []) (λ es. sorted_entries_written es x))) length_is
-    ∙ ap (λ (u : Result (List Entry) EncodeFault). chain u (λ es. sorted_entries_written es c)) l.own
-    ∙ sym (ap₂ (λ (es : List Entry) (x : List ℕ). sorted_entries_written es x) parts.entries parts.before)
-
--- a map with a part that has no bytes, or of which there are too many
-pub unlaid_map : (registry : Entries) (k v : Shape) (ps : Pairs) (n : ℕ) (b c : List ℕ) (ss : List Span) (e : EncodeFault) → pair_count ps ≡ n → length_written n b ≡ Ok c → entries_laid registry ps k v c ss ≡ Err e
-    → written registry (tree.pairs ps) (of (shape.map k v)) b ≡ Err e
-unlaid_map registry k v ps n b c ss e count lengthed h =
-    let length_is : length_written (pair_count ps) b ≡ Ok c = ap (λ (m : ℕ). length_written m b) count ∙ lengthed in
-    ap (λ (u : Verdict). chain u (λ x. chain (entries_written registry ps k v []) (λ es. sorted_entries_written es x))) length_is
-    ∙ ap (λ (u : Result (List Entry) EncodeFault). chain u (λ es. sorted_entries_written es c)) (unlaid_entries registry k v ps c ss e h)
-
-pub err_unlaid_map : (registry : Entries) (k v : Shape) (ps : Pairs) (n : ℕ) (b c : List ℕ) (ss : List Span) → pair_count ps ≡ n → length_written n b ≡ Ok c → is_err (entries_laid registry ps k v c ss) ≡ true
-    → is_err (written registry (tree.pairs ps) (of (shape.map k v)) b) ≡ true
-err_unlaid_map registry k v ps n b c ss count lengthed h = found (entries_laid registry ps k v c ss) refl h
-  where
-    found : (x : Lain) → entries_laid registry ps k v c ss ≡ x → is_err x ≡ true → is_err (written registry (tree.pairs ps) (of (shape.map k v)) b) ≡ true
-    found (Ok p) is g = absurd (true≢false (sym g))
-    found (Err e) is g = ap (λ (x : Verdict). is_err x) (unlaid_map registry k v ps n b c ss e count lengthed is)
-
-pub unlengthed_map : (registry : Entries) (k v : Shape) (ps : Pairs) (n : ℕ) (b : List ℕ) (e : EncodeFault) → pair_count ps ≡ n → length_written n b ≡ Err e
-    → written registry (tree.pairs ps) (of (shape.map k v)) b ≡ Err e
-unlengthed_map registry k v ps n b e count lengthed =
-    ap (λ (u : Verdict). chain u (λ x. chain (entries_written registry ps k v []) (λ es. sorted_entries_written es x))) (ap (λ (m : ℕ). length_written m b) count ∙ lengthed)

@@ -7,7 +7,6 @@ mod decoders;
 mod encoders;
 mod failing;
 mod falling;
-mod faults;
 mod jobs;
 mod parts;
 mod quiet;

@@ -2,7 +2,6 @@
 
 use crate::accepted::{Accepted, value_of};
 use crate::asked::Asked;
-use crate::faults::is_early;
 use crate::parts;
 use crate::refused_values::refusing;
 use crate::row::Row;
@@ -10,7 +9,8 @@ use crate::tally::Tally;
 use crate::told::{Told, bytes_of};
 use bcs_decode::pieces::PieceSource;
 use bcs_decode::{DecodeFault, decode_all, decode_from, decode_slice};
-use bcs_encode::{EncodeFault, canonicalise, encode_by_entries};
+use bcs_encode::pieces::PieceSink;
+use bcs_encode::{EncodeFault, WriteFault, canonicalise, encode, encode_by_entries, write};
 use bcs_json::{PrintFault, print_value};
 use bcs_value::Value;
 use std::alloc::Global;
@@ -95,11 +95,13 @@ fn ask_of_fault(alloc: Global, row: &Row, is_asked: bool, tally: &mut Tally) -> 
     if is_asked {
         let faults = encoder_faults(alloc, &other, &value);
         tally.note("the encoders", Told::of(faults.iter().all(is_early)));
+        let fault = writer_fault(alloc, &other, &value);
+        tally.note("write", Told::of(is_early(&fault)));
     }
     Ok(())
 }
 
-fn encoder_faults(alloc: Global, asked: &Asked, value: &Value) -> [Option<EncodeFault>; 3] {
+fn encoder_faults(alloc: Global, asked: &Asked, value: &Value) -> [Option<EncodeFault>; 4] {
     let Asked {
         registry,
         format,
@@ -110,8 +112,31 @@ fn encoder_faults(alloc: Global, asked: &Asked, value: &Value) -> [Option<Encode
         _ => None,
     };
     [
+        encode(alloc, registry, format, limits, value).err(),
         encode_by_entries(alloc, registry, format, limits, value).err(),
         canonicalise(alloc, registry, format, limits, value).err(),
         printed,
     ]
+}
+
+// A sink is left without a byte.
+fn writer_fault(alloc: Global, asked: &Asked, value: &Value) -> Option<EncodeFault> {
+    let Asked {
+        registry,
+        format,
+        limits,
+    } = asked;
+    let mut sink = PieceSink::<64>::new(1, None);
+    match write(alloc, registry, format, limits, value, &mut sink) {
+        Err(WriteFault::Encode(fault)) if sink.taken().is_empty() => Some(fault),
+        _ => None,
+    }
+}
+
+// Whether there is a fault, and another than want of memory. Which one it is the part `answers` asks.
+fn is_early(fault: &Option<EncodeFault>) -> bool {
+    match fault {
+        Some(fault) => *fault != EncodeFault::OutOfMemory,
+        None => false,
+    }
 }

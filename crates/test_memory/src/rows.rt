@@ -4,8 +4,7 @@ use crate::row::Row;
 use crate::tally::Tally;
 use crate::told::Told;
 use crate::{
-    accepted, failing, faults, parts, quiet, refused_bytes, refused_texts, refused_values,
-    registries,
+    accepted, failing, parts, quiet, refused_bytes, refused_texts, refused_values, registries,
 };
 use std::alloc::Global;
 
@@ -14,7 +13,6 @@ pub(crate) fn ask(alloc: Global, part: &str, row: &Row, tally: &mut Tally) {
     let done = match part {
         "answers" => answers(alloc, row, tally),
         "failures" => failing::ask(alloc, row, tally),
-        "faults" => faults::ask(alloc, row, tally),
         "setting" => quiet::ask(alloc, row, false, tally),
         "quiet" => quiet::ask(alloc, row, true, tally),
         _ => Err(Told::Wrong),

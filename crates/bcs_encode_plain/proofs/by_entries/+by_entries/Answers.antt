@@ -1,7 +1,6 @@
 use Rattle.std.proofs.Common.{◌∙◌, arith, rules}
 use Rattle.std.proofs.lemmas.Grind.{common_steps}
 use Rattle.bcs_encode_steps.proofs.WritingViews.{tells_along, array_refused, array_written, list_written, tuple_written, fields_written, map_written, variant_written, no_variant_written}
-use Rattle.bcs_encode_steps.proofs.LayingLaws.{entries_apart, unlaid_entries}
 use Rattle.bcs_encode_plain.proofs.by_entries.+by_entries.Goals as goal
 
 pub push_value-returns-in_err-push_length-in-Items-Seq : goal.push_value-returns-in_err-push_length-in-Items-Seq
@@ -29,15 +28,15 @@ push_value-returns-in_err-push_length-in-Pairs-Map t c =
     let m = c.in-Pairs-Map in
     tells_along _ _ _ _ (map_written c.args.registry.now c.args.value.now c.args.format.now m.pairs m.key m.value c.len-in-Pairs-Map.result c.args.out.now.items m.is-0 m.is-1 (search rules)) (search rules)
 
-pub push_value-returns-in_err-lay_entries-in-Pairs-Map : goal.push_value-returns-in_err-lay_entries-in-Pairs-Map
-push_value-returns-in_err-lay_entries-in-Pairs-Map t c =
+pub push_value-returns-in_err-collect_entries-in-Pairs-Map : goal.push_value-returns-in_err-collect_entries-in-Pairs-Map
+push_value-returns-in_err-collect_entries-in-Pairs-Map t c =
     let m = c.in-Pairs-Map in
-    tells_along _ _ _ _ (map_written c.args.registry.now c.args.value.now c.args.format.now m.pairs m.key m.value c.len-in-Pairs-Map.result c.args.out.now.items m.is-0 m.is-1 (search rules)) (search (rules, unlaid_entries))
+    tells_along _ _ _ _ (map_written c.args.registry.now c.args.value.now c.args.format.now m.pairs m.key m.value c.len-in-Pairs-Map.result c.args.out.now.items m.is-0 m.is-1 (search rules)) (search rules)
 
-pub push_value-returns-in_ok-lay_entries-in-Pairs-Map : goal.push_value-returns-in_ok-lay_entries-in-Pairs-Map
-push_value-returns-in_ok-lay_entries-in-Pairs-Map t c =
+pub push_value-returns-in_ok-collect_entries-in-Pairs-Map : goal.push_value-returns-in_ok-collect_entries-in-Pairs-Map
+push_value-returns-in_ok-collect_entries-in-Pairs-Map t c =
     let m = c.in-Pairs-Map in
-    tells_along _ _ _ _ (map_written c.args.registry.now c.args.value.now c.args.format.now m.pairs m.key m.value c.len-in-Pairs-Map.result c.args.out.now.items m.is-0 m.is-1 (search rules)) (search (rules, entries_apart))
+    tells_along _ _ _ _ (map_written c.args.registry.now c.args.value.now c.args.format.now m.pairs m.key m.value c.len-in-Pairs-Map.result c.args.out.now.items m.is-0 m.is-1 (search rules)) (search rules)
 
 pub push_content-returns-in-Some : goal.push_content-returns-in-Some
 push_content-returns-in-Some t c =

@@ -2,8 +2,8 @@ use Rattle.std.proofs.Common.{◌≡◌, map, drop}
 use Rattle.bcs_registry_formats.specs.Container.{field_shapes}
 use Rattle.bcs_registry_formats.specs.View.{field_of, formats_shapes, shape_of}
 use Rattle.bcs_value_tree.specs.View.{entries_pairs, items_trees}
-use Rattle.bcs_encode_steps.specs.Laying.{entries_laid}
-use Rattle.bcs_encode_steps.specs.Writing.{items_written, each_written}
+use Rattle.bcs_encode_plain.specs.EntryView.{entry_of}
+use Rattle.bcs_encode_steps.specs.Writing.{items_written, each_written, entries_written}
 use Rattle.bcs_encode_plain.proofs.by_entries.+by_entries.Given as goal
 
 abbrev pub invariant-push_all-loop-item : goal.invariant-push_all-loop-item
@@ -21,7 +21,7 @@ invariant-push_fields-loop-i l =
     each_written l.registry (items_trees l.items) (field_shapes (map field_of l.fields)) l.initial.out.items
     ≡ each_written l.registry (items_trees (drop l.i l.items)) (field_shapes (map field_of (drop l.i l.fields))) l.out.items
 
-abbrev pub invariant-lay_entries-loop-k : goal.invariant-lay_entries-loop-k
-invariant-lay_entries-loop-k l =
-    entries_laid l.registry (entries_pairs l.pairs) (shape_of l.key) (shape_of l.value) l.initial.entries.bytes.items l.initial.entries.spans.items
-    ≡ entries_laid l.registry (entries_pairs (drop l.k-index l.pairs)) (shape_of l.key) (shape_of l.value) l.entries.bytes.items l.entries.spans.items
+abbrev pub invariant-collect_entries-loop-k : goal.invariant-collect_entries-loop-k
+invariant-collect_entries-loop-k l =
+    entries_written l.registry (entries_pairs l.pairs) (shape_of l.key) (shape_of l.value) (map entry_of l.initial.entries.items)
+    ≡ entries_written l.registry (entries_pairs (drop l.k-index l.pairs)) (shape_of l.key) (shape_of l.value) (map entry_of l.entries.items)
