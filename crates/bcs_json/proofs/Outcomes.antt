@@ -12,10 +12,6 @@ use Rattle.bcs_value_spec.specs.Same.{Same}
 use Rattle.bcs_value_tree.specs.Tree.{Tree}
 use Rattle.bcs_value_tree.specs.View.{tree_of}
 use Rattle.bcs_value_tree.specs.declared.value.Value.{Value}
-use Rattle.bcs_value_spec.proofs.Equivalence.{same-refl}
-use Rattle.bcs_encode_spec.proofs.SoundForms.{canonical_distinct}
-use Rattle.bcs_json_bytes.specs.InOrder.{IsInOrder}
-use Rattle.bcs_json_spec.proofs.Fitting.{spelled_fits}
 use Rattle.bcs_encode_spec.proofs.FormLaws.{bytes_decide_same}
 use Rattle.bcs_encode_spec.specs.Encodes.{IsForm}
 use Rattle.bcs_encode_spec.specs.Refused as encode
@@ -93,18 +89,6 @@ module _ (registry : Entries) (limits : Bounds) (s : Shape) (text : List ℕ) wh
   value_fault orderly t spelled encode_fault.TooManyNodes h other = refused_value registry limits s text orderly t spelled encode_fault.TooManyNodes (h (λ is. cc))
   value_fault orderly t spelled encode_fault.TooLong h other = refused_value registry limits s text orderly t spelled encode_fault.TooLong (h (λ is. cc))
   value_fault orderly t spelled encode_fault.RepeatedKey h other = refused_value registry limits s text orderly t spelled encode_fault.RepeatedKey (h (λ is. cc))
-
-  -- what stands in order is its own canonical form
-  pub in_order_bytes : IsOrderly registry → (d : Data) → IsReadAs text d → (b : List ℕ) → IsInOrder registry limits s d b → HasBytes registry limits s text b
-  in_order_bytes orderly d is b h =
-      let fit = spelled_fits registry s d h.tree orderly h.spells.0 in
-      let sound : IsSound registry limits s h.tree =
-      record { fit = fit; distinct = canonical_distinct registry h.tree (container.of s) fit h.canonical; depth_holds = h.spells.1; nodes_hold = h.nodes_hold; lengths = h.lengths } in
-      record {
-        value = h.tree;
-        denoted = record { read = d; is = is; spells = h.spells.0; sound = sound };
-        encoded = record { sound = sound; form = h.tree; is_form = record { fit = fit; canonical = h.canonical; is_same = same-refl h.tree }; bytes = h.bytes };
-      }
 
   -- what the bytes of a text are decoded to is the canonical form of what the text denotes
   pub decoded_form : (b : List ℕ) (form : Tree) (has : HasBytes registry limits s text b) → IsDecoded registry limits s b form → IsForm registry (container.of s) has.value form

@@ -7,17 +7,12 @@ ghost use Rattle.bcs_json_spec.specs.Texts.{Denotes, RefusesText};
 ghost use Rattle.bcs_json_spec.specs.declared.json_fault.JsonFault.TheVariants.{OutOfMemory};
 
 use crate::denoting::denoted;
-use crate::spelling::json_of;
-use bcs_json_bytes::bytes_in_order;
 use bcs_json_spec::JsonFault;
 use bcs_registry::{Format, Registry};
 use bcs_value::Limits;
 use std::alloc::Global;
 
 /// The encoding of the value that a JSON text denotes. It is refused as by [`read_value`](crate::read_value).
-///
-/// Where each map of the text has its keys in order, as in each normal text, the bytes are written from its JSON, with
-/// no value in between.
 pub fn to_bcs(
     alloc: Global,
     registry: &Registry,
@@ -29,11 +24,6 @@ pub fn to_bcs(
     ensures fault { IfErr result (λ e. e ≢ OutOfMemory → RefusesText registry.now limits.now (shape_of format.now) text.now e) }
     ensures memory { IfErr result (λ e. (t : Tree) → Denotes registry.now limits.now (shape_of format.now) text.now t → e ≡ OutOfMemory) }
 {
-    registry.recall();
-    let json = json_of(alloc, text)?;
-    if let Ok(bytes) = bytes_in_order(alloc, registry, format, limits, &json) {
-        return Ok(bytes);
-    }
-    let (_, bytes) = denoted(alloc, registry, format, limits, json)?;
+    let (_, bytes) = denoted(alloc, registry, format, limits, text)?;
     Ok(bytes)
 }

@@ -7,7 +7,6 @@ ghost use Rattle.bcs_json_spec.specs.Texts.{Denotes, RefusesText};
 ghost use Rattle.bcs_json_spec.specs.declared.json_fault.JsonFault.TheVariants.{OutOfMemory};
 
 use crate::denoting::denoted;
-use crate::spelling::json_of;
 use bcs_json_spec::JsonFault;
 use bcs_registry::{Format, Registry};
 use bcs_value::{Limits, Value};
@@ -30,7 +29,6 @@ pub fn read_value(
     ensures fault { IfErr result (λ e. e ≢ OutOfMemory → RefusesText registry.now limits.now (shape_of format.now) text.now e) }
     ensures memory { IfErr result (λ e. (t : Tree) → Denotes registry.now limits.now (shape_of format.now) text.now t → e ≡ OutOfMemory) }
 {
-    let json = json_of(alloc, text)?;
-    let (value, _) = denoted(alloc, registry, format, limits, json)?;
+    let (value, _) = denoted(alloc, registry, format, limits, text)?;
     Ok(value)
 }

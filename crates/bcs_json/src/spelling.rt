@@ -1,5 +1,5 @@
 //! The JSON of a text, and the value that it spells.
-ghost use Rattle.std.specs.Prelude.{◌≢◌, ℕ, List, IfErr, IfOk};
+ghost use Rattle.std.specs.Prelude.{◌≢◌, IfErr, IfOk};
 ghost use Rattle.serde_json.specs.View.{view};
 ghost use Rattle.bcs_registry_formats.specs.Container.{Entries};
 ghost use Rattle.bcs_registry_formats.specs.Shape.{Shape};
@@ -31,20 +31,19 @@ pub(crate) fn json_of(alloc: Global, text: &[u8]) -> Result<Json, JsonFault>
     }
 }
 
-/// The value that a text's JSON spells, its pairs as they stand there. It isn't judged yet: it may have too many nodes,
-/// too long lengths, or equal keys.
+/// The value that a text spells, its pairs as they stand there. It isn't judged yet: it may have too many nodes, too
+/// long lengths, or equal keys.
 pub(crate) fn spelled(
     alloc: Global,
     registry: &Registry,
     format: &Format,
     limits: &Limits,
-    json: Json,
+    text: &[u8],
 ) -> Result<Value, JsonFault>
-    ensures spelled { IfOk result (λ v. (text : List ℕ) → IsReadAs text (view json)
-        → SpelledBy registry.now limits.now (shape_of format.now) text (tree_of v)) }
-    ensures fault { IfErr result (λ e. e ≢ OutOfMemory → (text : List ℕ) → IsReadAs text (view json)
-        → RefusesText registry.now limits.now (shape_of format.now) text e) }
+    ensures spelled { IfOk result (λ v. SpelledBy registry.now limits.now (shape_of format.now) text.now (tree_of v)) }
+    ensures fault { IfErr result (λ e. e ≢ OutOfMemory → RefusesText registry.now limits.now (shape_of format.now) text.now e) }
 {
+    let json = json_of(alloc, text)?;
     let value = read(alloc, registry, format, limits.depth(), json)?;
     Ok(value)
 }

@@ -1,9 +1,0 @@
-pub mod Adding
-pub mod ByteRows
-pub mod WithoutParts
-pub mod Parts
-pub mod InOrderFrom
-pub mod OneMore
-pub mod Fields
-pub mod Entries
-pub mod Chosen
