@@ -1,10 +1,11 @@
 -- What is written behind other bytes is what is written alone; and the entries that spans stand for.
-use Rattle.std.proofs.Common.{◌≡◌, ℕ, ◌+◌, ◌-◌, ◌≤◌, Bool, true, false, ◌==◌, List, [], ◌∷◌, ◌++◌, length, map, take, drop, refl, sym, ap, ap₂, ◌∙◌, append_assoc, append-nil, length-append, arith, inl, inr, if◌then◌else◌, Result, Ok, Err}
+use Rattle.std.proofs.Common.{◌≡◌, ℕ, ◌+◌, ◌-◌, Bool, true, false, ◌==◌, List, [], ◌∷◌, ◌++◌, length, map, refl, sym, ap, ap₂, ◌∙◌, append_assoc, append-nil, length-append, arith, inl, inr, if◌then◌else◌, Result, Ok, Err}
 use Rattle.std.specs.Prelude.{nat_le, nat_lt, ◌^◌}
 use Rattle.std.specs.List.{flat_map}
 use Rattle.std.specs.List.Sorted.{IsPermutation}
-use Rattle.std.proofs.lemmas.Bool.{cases_Bool, le-leb, true≢false}
-use Rattle.std.proofs.lemmas.List.Sorted.{IsPermutation-map}
+use Rattle.std.proofs.lemmas.Bool.{cases_Bool, le-leb}
+use Rattle.std.proofs.lemmas.List.Concat.{length-flat_map}
+use Rattle.std.proofs.lemmas.List.Sorted.{IsPermutation-map, sum_by-IsPermutation}
 use Rattle.std.proofs.Math.Seq.{drop-append_seam, take-append_seam}
 use mir.Val.{bits}
 use Rattle.bcs_num.specs.Uleb.{uleb}
@@ -175,3 +176,9 @@ module _ (bytes b : List ℕ) (xs ys : List Span) (moved : IsPermutation xs ys) 
 
   pub repeated_refused : Ordered false bytes ys → sorted_entries_written (map (span_entry bytes) xs) b ≡ Err RepeatedKey
   repeated_refused twins = twins_written _ _ b entries_move (twins_with bytes (λ z. part bytes z.end z.value) ys twins)
+
+  pub moved_len : length (flat_map entry_bytes (map (span_entry bytes) ys)) ≡ length (flat_map entry_bytes (map (span_entry bytes) xs))
+  moved_len =
+      length-flat_map entry_bytes (map (span_entry bytes) ys)
+      ∙ sum_by-IsPermutation (λ e. length (entry_bytes e)) (map (span_entry bytes) xs) (map (span_entry bytes) ys) entries_move
+      ∙ sym (length-flat_map entry_bytes (map (span_entry bytes) xs))
