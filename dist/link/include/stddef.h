@@ -1,0 +1,7 @@
+#pragma once
+typedef __SIZE_TYPE__ size_t;
+typedef struct {
+    long long number;
+    long double fraction;
+} max_align_t;
+#define NULL ((void *)0)
