@@ -1,11 +1,13 @@
-//! Finds the proved library: `libbcs.a` in the folder that `BCS_LIB` names, or else where `pkg-config` finds `bcs.pc`.
+//! Finds the proved library: the `libbcs.a` that came with this crate; or else that in the folder which `BCS_LIB` names, or
+//! where `pkg-config` finds `bcs.pc`.
 use std::env;
 use std::path::{Path, PathBuf};
 use std::process::Command;
 
-const WHAT_TO_DO: [&str; 4] = [
+const WHAT_TO_DO: [&str; 5] = [
     "The proved library libbcs.a was not found. Do one of these:",
-    "  - install it by bindings/c/build of the bcs repository, and set BCS_LIB to the folder with libbcs.a;",
+    "  - take the package bcs-proved of the bcs repository, which has it (dist/packages makes it);",
+    "  - install it by ./install or bindings/c/build of that repository, and set BCS_LIB to the folder with libbcs.a;",
     "  - or install it so that `pkg-config bcs` finds bcs.pc: for a prefix of your own set PKG_CONFIG_PATH to",
     "    its folder lib/pkgconfig.",
 ];
@@ -27,6 +29,10 @@ fn main() {
 
 /// The folder with the library, or why there is none.
 fn find_library() -> Result<PathBuf, String> {
+    let own = own_folder();
+    if own.join("libbcs.a").is_file() {
+        return Ok(own);
+    }
     let folder = match env::var_os("BCS_LIB") {
         Some(folder) => PathBuf::from(folder),
         None => ask_pkg_config()?,
@@ -38,6 +44,13 @@ fn find_library() -> Result<PathBuf, String> {
     } else {
         Err(format!("There is no libbcs.a in {}.", folder.display()))
     }
+}
+
+/// Where a package of this crate has the library for the machine that is built for, as lib/x86_64-linux.
+fn own_folder() -> PathBuf {
+    let of_cargo = |name| env::var(name).unwrap_or_default();
+    let machine = format!("{}-{}", of_cargo("CARGO_CFG_TARGET_ARCH"), of_cargo("CARGO_CFG_TARGET_OS"));
+    Path::new(&of_cargo("CARGO_MANIFEST_DIR")).join("lib").join(machine)
 }
 
 fn ask_pkg_config() -> Result<PathBuf, String> {
