@@ -1,0 +1,122 @@
+"""The SBOM, by SPDX 2.3: what was built, the crates of this repository that it is made of, and the toolchain's libraries."""
+
+from __future__ import annotations
+
+import hashlib
+import json
+import pathlib
+import sys
+import time
+from typing import Any
+
+import archives
+import facts
+
+
+
+def crates_of(tops: list[str], crates: dict[str, list[str]]) -> dict[str, list[str]]:
+    """These crates and all that they stand on, with what each uses. What crates.txt says of a kind isn't a library."""
+    found: dict[str, list[str]] = {}
+    waiting = list(tops)
+    while waiting:
+        name = waiting.pop()
+        if name not in found:
+            found[name] = crates[name]
+            waiting += [used for used in crates[name] if used in crates]
+    return found
+
+
+def identity(kind: str, name: str) -> str:
+    """SPDX lets letters, digits, dots and hyphens stand in a name."""
+    return f"SPDXRef-{kind}-" + name.replace("_", "-").replace("/", "-")
+
+
+def package(kind: str, name: str, version: str, licence: str, copyright_text: str) -> dict[str, Any]:
+    return {
+        "SPDXID": identity(kind, name),
+        "name": name,
+        "versionInfo": version,
+        "downloadLocation": "NOASSERTION",
+        "filesAnalyzed": False,
+        "licenseConcluded": licence,
+        "licenseDeclared": licence,
+        "copyrightText": copyright_text,
+    }
+
+
+def relation(one: str, kind: str, other: str) -> dict[str, str]:
+    return {"spdxElementId": one, "relationshipType": kind, "relatedSpdxElement": other}
+
+
+def built_files() -> list[dict[str, Any]]:
+    """The files of dist/ that are in the packages, with their checksums."""
+    files = []
+    for folder in [facts.NATIVE, facts.ARM, facts.WEB]:
+        for path in sorted(folder.rglob("*")):
+            if path.is_file():
+                files.append(built_file(path))
+    return files
+
+
+def built_file(path: pathlib.Path) -> dict[str, Any]:
+    name, data = path.relative_to(facts.DIST).as_posix(), path.read_bytes()
+    sums = {"SHA1": hashlib.sha1(data).hexdigest(), "SHA256": hashlib.sha256(data).hexdigest()}
+    return {
+        "SPDXID": identity("file", name),
+        "fileName": f"./{name}",
+        "checksums": [{"algorithm": kind, "checksumValue": value} for kind, value in sums.items()],
+        "licenseConcluded": facts.licence(),
+        "copyrightText": facts.COPYRIGHT,
+    }
+
+
+def origins(files: list[dict[str, Any]]) -> list[dict[str, str]]:
+    """Of which crate each built file is. The loader and the page are sources of their own."""
+    relations = []
+    for file in files:
+        is_program = file["fileName"] == "./x86_64-linux/bcs"
+        relations.append(relation("SPDXRef-package-bcs", "CONTAINS", file["SPDXID"]))
+        if is_program or file["fileName"].endswith((".a", ".so", ".wasm")):
+            crate = identity("crate", "bcs" if is_program else "bcs_c")
+            relations.append(relation(file["SPDXID"], "GENERATED_FROM", crate))
+    return relations
+
+
+def uses(crates: dict[str, list[str]], libraries: set[str]) -> list[dict[str, str]]:
+    relations = []
+    for name, used in crates.items():
+        for other in used:
+            if other not in crates and other not in libraries:
+                sys.exit(f"packages: {name} uses {other}, which dist/LIBRARIES doesn't name")
+            kind = "crate" if other in crates else "library"
+            relations.append(relation(identity("crate", name), "DEPENDS_ON", identity(kind, other)))
+    return relations
+
+
+def document() -> dict[str, Any]:
+    crates, libraries = crates_of(["bcs", "bcs_c"], facts.own_crates()), facts.libraries()
+    whole = package("package", "bcs", facts.version(), facts.licence(), facts.COPYRIGHT)
+    own = [package("crate", name, facts.version(), facts.licence(), facts.COPYRIGHT) for name in sorted(crates)]
+    taken = [package("library", *library, "NOASSERTION") for library in libraries]
+    files = built_files()
+    relations = [relation("SPDXRef-DOCUMENT", "DESCRIBES", whole["SPDXID"]), *origins(files)]
+    relations += [relation(whole["SPDXID"], "CONTAINS", library["SPDXID"]) for library in taken]
+    checksum = hashlib.sha256((facts.DIST / "SHA256SUMS").read_bytes()).hexdigest()
+    return {
+        "spdxVersion": "SPDX-2.3",
+        "dataLicense": "CC0-1.0",
+        "SPDXID": "SPDXRef-DOCUMENT",
+        "name": f"bcs-{facts.version()}",
+        "documentNamespace": f"urn:bcs:{facts.version()}:sha256:{checksum}",
+        "creationInfo": {
+            "created": time.strftime("%Y-%m-%dT%H:%M:%SZ", time.gmtime(facts.EPOCH)),
+            "creators": ["Organization: the bcs authors", "Tool: dist/packages"],
+        },
+        "packages": [whole, *own, *taken],
+        "files": files,
+        "relationships": relations + uses(crates, {library.name for library in libraries}),
+    }
+
+
+def make() -> archives.File:
+    return archives.text(json.dumps(document(), indent=1) + "\n")

@@ -1,0 +1,42 @@
+"""The package for npm: the WebAssembly module, its loader, which is the command too, and the declarations of types."""
+
+from __future__ import annotations
+
+import json
+import sys
+from typing import Any, Iterator
+
+import archives
+import facts
+
+
+def named_files(part: Any) -> Iterator[str]:
+    """The files that package.json names under `exports` and `bin`."""
+    if isinstance(part, str):
+        yield part.removeprefix("./")
+    elif isinstance(part, dict):
+        for inner in part.values():
+            yield from named_files(inner)
+
+
+def contents(bill: archives.File) -> archives.Files:
+    """What stands in the package. The page isn't of it: it is for people, and has the module in it once more."""
+    files = {name: file for name, file in archives.tree(facts.WEB).items() if not name.endswith(".html")}
+    described = archives.taken(facts.ROOT / "bindings/web/package.json")
+    files["package.json"] = described
+    files["README.md"] = archives.text(facts.readme("bindings/web"))
+    files[f"{facts.NAME}.spdx.json"] = bill
+    for name in facts.licence_files().values():
+        files[name] = archives.taken(facts.ROOT / name)
+    told = json.loads(described.data)
+    missing = sorted({*named_files(told["exports"]), *named_files(told["bin"])} - set(files))
+    if missing:
+        sys.exit(f"packages: bindings/web/package.json names what isn't in dist/web: {', '.join(missing)}")
+    for name in named_files(told["bin"]):
+        files[name] = files[name]._replace(is_program=True)
+    return files
+
+
+def make(bill: archives.File) -> dict[str, bytes]:
+    packed = archives.gzipped(archives.tar(contents(bill), "package/"))
+    return {f"bcs-proved-{facts.version()}.tgz": packed}
