@@ -44,6 +44,12 @@ def package(kind: str, name: str, version: str, licence: str, copyright_text: st
     }
 
 
+def ported(library: facts.Library) -> dict[str, Any]:
+    """A library of the toolchain, as far as the toolchain tells of it."""
+    known = [word if word != "-" else "NOASSERTION" for word in library]
+    return package("library", *known, "NOASSERTION")
+
+
 def relation(one: str, kind: str, other: str) -> dict[str, str]:
     return {"spdxElementId": one, "relationshipType": kind, "relatedSpdxElement": other}
 
@@ -97,7 +103,7 @@ def document() -> dict[str, Any]:
     crates, libraries = crates_of(["bcs", "bcs_c"], facts.own_crates()), facts.libraries()
     whole = package("package", "bcs", facts.version(), facts.licence(), facts.COPYRIGHT)
     own = [package("crate", name, facts.version(), facts.licence(), facts.COPYRIGHT) for name in sorted(crates)]
-    taken = [package("library", *library, "NOASSERTION") for library in libraries]
+    taken = [ported(library) for library in libraries]
     files = built_files()
     relations = [relation("SPDXRef-DOCUMENT", "DESCRIBES", whole["SPDXID"]), *origins(files)]
     relations += [relation(whole["SPDXID"], "CONTAINS", library["SPDXID"]) for library in taken]

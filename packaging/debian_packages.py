@@ -48,10 +48,10 @@ def copyright_file() -> str:
     expression = facts.licence().replace(" OR ", " or ").replace(" AND ", " and ")
     for word, name in DEBIAN_NAMES.items():
         expression = expression.replace(word, name)
-    ports = "".join(f" {library.name} {library.version}, {library.licence}\n" for library in facts.libraries())
+    ports = "".join(f" {library}\n" for library in facts.libraries())
     return (
         "Format: https://www.debian.org/doc/packaging-manuals/copyright-format/1.0/\nUpstream-Name: bcs\n"
-        f"Comment: These libraries of the toolchain are in the code, each under its own licence:\n{ports}\n"
+        f"Comment: These libraries of the toolchain are in the code, with the licences\n of what they are ports of:\n{ports}\n"
         f"Files: *\nCopyright: {facts.COPYRIGHT}\nLicense: {expression}\n\n"
         + "\n".join(terms(word, file) for word, file in facts.licence_files().items())
     )

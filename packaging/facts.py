@@ -25,11 +25,14 @@ EPOCH = int(os.environ.get("SOURCE_DATE_EPOCH", "1767225600"))
 
 
 class Library(NamedTuple):
-    """A library of the toolchain that is in the program."""
+    """A library of the toolchain that is in the program. What the toolchain doesn't tell of it is `-`."""
 
     name: str
     version: str
     licence: str
+
+    def __str__(self) -> str:
+        return " ".join([self.name, *(word for word in [self.version, f"({self.licence})"] if word not in ["-", "(-)"])])
 
 
 def version() -> str:
