@@ -33,8 +33,14 @@ def contents(bill: archives.File) -> archives.Files:
     if missing:
         sys.exit(f"packages: bindings/web/package.json names what isn't in dist/web: {', '.join(missing)}")
     for name in named_files(told["bin"]):
-        files[name] = files[name]._replace(is_program=True)
+        files[name] = command(files[name])
     return files
+
+
+def command(file: archives.File) -> archives.File:
+    """A file that the system can start, which its first line has to say."""
+    first = b"#!/usr/bin/env node\n"
+    return archives.File(file.data if file.data.startswith(b"#!") else first + file.data, is_program=True)
 
 
 def make(bill: archives.File) -> dict[str, bytes]:
