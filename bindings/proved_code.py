@@ -3,10 +3,14 @@
 
     bindings/proved_code.py FILE               makes FILE, the archive, as `rt lib` does in the crate's folder
     bindings/proved_code.py --program FILE     makes FILE, the object file of the program `bcs`, as `rt run` does
+    bindings/proved_code.py --module FILE      makes FILE, the LLVM module of the archive's code as text, for other processors
 
 `rt lib` builds anew each library that `rt ci` built, since it keeps only what it built itself. So the gate builds the archive
 by this, over what it has proved a moment before. The crate itself is proved here once more. Where a library isn't there,
 `rt lib` makes them all first.
+
+The toolchain hands an LLVM module of the proved code to clang, for x86-64. `--module` keeps it, for the first level of that
+processor, since for later ones it calls what only they have. bindings/web/module and bindings/arm64/build compile it.
 """
 
 from __future__ import annotations
@@ -16,6 +20,7 @@ import importlib.util
 import pathlib
 import subprocess
 import sys
+import tempfile
 import types
 
 ROOT = pathlib.Path(__file__).resolve().parent.parent
@@ -67,14 +72,48 @@ def are_built(words: list[str]) -> bool:
     return all((folder / f"{folder.parent.parent.name}.rlib").exists() for folder in own)
 
 
-def main() -> None:
-    is_program = sys.argv[1:2] == ["--program"]
-    if len(sys.argv) != 2 + is_program:
-        sys.exit(f"Usage: {sys.argv[0]} [--program] FILE")
-    kit, crate = kit_folder(), PROGRAM if is_program else CRATE
+def make_below(kit: pathlib.Path, crate: pathlib.Path) -> None:
+    """Makes the libraries below the crate where they aren't built."""
     if not are_built(words_of_crate(kit, crate)):
-        subprocess.run(["rt", "run", "--", "--version"] if is_program else ["rt", "lib"], cwd=crate, stdout=subprocess.DEVNULL, check=True)
-    prove_and_build(kit, pathlib.Path(sys.argv[-1]).resolve(), kit / "toolchain", crate=crate)
+        words = ["rt", "run", "--", "--version"] if crate == PROGRAM else ["rt", "lib"]
+        subprocess.run(words, cwd=crate, stdout=subprocess.DEVNULL, check=True)
+
+
+def tools_that_keep_the_module(kit: pathlib.Path, room: pathlib.Path) -> pathlib.Path:
+    """The toolchain's own tools, with a clang that copies the LLVM module aside before it compiles it."""
+    tools = room / "tools"
+    (tools / "bin").mkdir(parents=True)
+    (tools / "lib").symlink_to(kit / "toolchain/lib")
+    for tool in (kit / "toolchain/bin").iterdir():
+        if tool.name != "clang":
+            (tools / "bin" / tool.name).symlink_to(tool)
+    clang = tools / "bin/clang"
+    clang.write_text(f'#!/bin/sh\ncp module.bc "{room}/module.bc" && exec "{kit}/toolchain/bin/clang" "$@"\n')
+    clang.chmod(0o755)
+    return tools
+
+
+def make_module(kit: pathlib.Path, file: pathlib.Path) -> None:
+    """Makes the file, the LLVM module as text. The archive that is built on the way is let go."""
+    with tempfile.TemporaryDirectory() as folder:
+        room = pathlib.Path(folder)
+        prove_and_build(kit, room / "x86.a", tools_that_keep_the_module(kit, room), "--cpu", "x86-64")
+        clang = [str(kit / "toolchain/bin/clang"), "--no-default-config", "--target=x86_64-unknown-linux-gnu"]
+        as_text = ["-S", "-emit-llvm", "-Xclang", "-disable-llvm-passes", "-x", "ir", f"{room}/module.bc"]
+        subprocess.run([*clang, *as_text, "-o", str(file)], check=True)
+
+
+def main() -> None:
+    option = sys.argv[1] if len(sys.argv) == 3 else ""
+    if len(sys.argv) not in (2, 3) or option not in ("", "--program", "--module"):
+        sys.exit(f"Usage: {sys.argv[0]} [--program | --module] FILE")
+    kit, file = kit_folder(), pathlib.Path(sys.argv[-1]).resolve()
+    crate = PROGRAM if option == "--program" else CRATE
+    make_below(kit, crate)
+    if option == "--module":
+        make_module(kit, file)
+    else:
+        prove_and_build(kit, file, kit / "toolchain", crate=crate)
 
 
 if __name__ == "__main__":

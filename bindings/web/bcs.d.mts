@@ -140,8 +140,8 @@ export interface Bcs {
   faultName(fault: number): string | undefined;
 }
 
-/** Whether this engine has what the module needs. */
-export function isSupported(): boolean;
+/** Whether this engine has what `bcs.wasm` needs, or with 64 what `bcs64.wasm` needs. */
+export function isSupported(bits?: 32 | 64): boolean;
 
 /** Makes the calls out of the module's bytes, a `Response` with them, or a compiled module. */
 export function load(

@@ -1,4 +1,5 @@
-/* The heap of the module, over the module's own memory. No C library.
+/* The heap of the module, over the module's own memory. No C library. It is compiled for addresses of 64 bits; with NARROW
+   for a module whose addresses are cut to 32 bits behind it.
 
    The proved code leaves three functions open, and their contracts are in the toolchain's libc/src/heap.rt: an alignment
    divides 16, and a length is below 2 to the 63. A block has a head of 16 bytes with its size, which is a multiple of 16 up
@@ -17,6 +18,17 @@ _Static_assert(sizeof(size_t) == 8 && sizeof(void *) == 8, "addresses have 64 bi
 #define PAGE 65536
 #define SMALL_MOST 1024
 #define REQUEST_MOST ((size_t)1 << 40)
+
+/* How many pages the memory may have. Cut to 32 bits, an address below the stack, and so below 0, is one near 4 GiB. So the
+   last 64 MiB below that are left out of the memory, and what overruns the stack traps there, too. */
+#ifdef NARROW
+#define PAGES_MOST (65536 - 1024)
+#else
+#define PAGES_MOST ((size_t)1 << 48)
+#endif
+
+/* What memory.grow answers where it fails is -1 of as many bits as an address has. Cut, that is widened to this. */
+#define NOT_GROWN 0xffffffff
 
 /* A block, or that there is none. */
 struct tried {
@@ -54,12 +66,16 @@ static struct head **free_list(size_t size) {
     return size <= SMALL_MOST ? &small_free[size / 16] : &large_free[logarithm(size)];
 }
 
+static bool grow_by(size_t pages) {
+    if (pages > PAGES_MOST - end / PAGE) return false;
+    return __builtin_wasm_memory_grow(0, pages) < NOT_GROWN;
+}
+
 /* Asks for an eighth more than the memory there is, so that it seldom grows, and else for just enough. */
 static bool grow(size_t missing) {
     size_t pages = (missing + PAGE - 1) / PAGE;
     size_t ahead = end / PAGE / 8;
-    bool grown = ahead > pages && __builtin_wasm_memory_grow(0, ahead) != (size_t)-1;
-    if (!grown && __builtin_wasm_memory_grow(0, pages) == (size_t)-1) return false;
+    if (!(ahead > pages && grow_by(ahead)) && !grow_by(pages)) return false;
     end = __builtin_wasm_memory_size(0) * PAGE;
     return true;
 }

@@ -1,5 +1,6 @@
 // The page: what is typed goes to the worker, and its answers into the boxes and the two views.
 import { hexOf } from '../hex.mjs';
+import { isSupported } from '../support.mjs';
 import { Digits } from './digits.mjs';
 import { Lights } from './lights.mjs';
 import { fragmentOf, stateOf } from './link.mjs';
@@ -13,8 +14,6 @@ const OWN = 'own';
 const TYPING_PAUSE = 120;
 const MOST_OPENED = 1 << 28;
 const NO_PIECES = { first: 0, pieces: [], rows: [], stop: undefined, rest: '', covered: 0, length: 0, isCut: false };
-// The smallest module that has a memory with 64-bit addresses.
-const WIDE_MODULE = Uint8Array.of(0, 0x61, 0x73, 0x6d, 1, 0, 0, 0, 5, 3, 1, 4, 1);
 
 const $ = (id) => document.getElementById(id);
 const sourceOf = (id) => $(id).textContent;
@@ -389,7 +388,7 @@ function flash(button, text) {
   setTimeout(() => (button.textContent = button.dataset.name), 2000);
 }
 
-if (typeof WebAssembly === 'object' && WebAssembly.validate(WIDE_MODULE)) {
+if (isSupported()) {
   new Page();
 } else {
   $('unsupported').hidden = false;

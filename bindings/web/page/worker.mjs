@@ -1,5 +1,5 @@
 // What runs beside the page, so that the page never waits: each message is a question, and is answered by one message.
-import { load, BcsError } from '../bcs.mjs';
+import { load, BcsError } from '../loader.mjs';
 import { bytesOfHex, hexOf } from '../hex.mjs';
 import { blankOf } from './blank.mjs';
 import { laidOut } from './layout.mjs';

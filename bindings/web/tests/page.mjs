@@ -357,12 +357,12 @@ test('a value with millions of parts without bytes is refused soon', async () =>
   await isQuiet(page);
 });
 
-test('where there is no 64-bit memory, the page says so', async () => {
+test('where there is no WebAssembly, the page says so', async () => {
   const page = await chromium.page();
   await page.send('Page.addScriptToEvaluateOnNewDocument', { source: 'WebAssembly.validate = () => false;' });
   await page.open(address);
   await page.until("!document.getElementById('unsupported').hidden");
-  assert.match(await page.ask("document.getElementById('unsupported').textContent"), /64-bit memory.*133.*134/s);
+  assert.match(await page.ask("document.getElementById('unsupported').textContent"), /WebAssembly.*since 2021/s);
   await isQuiet(page);
 });
 

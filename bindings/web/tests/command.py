@@ -1,0 +1,145 @@
+#!/usr/bin/env python3
+"""Asks the rows `bcs ..` of crates/test_rows of the command, and compares status, output and where a refusal stands.
+
+    python3 tests/command.py FOLDER
+
+FOLDER has the files that bindings/web/build made. All rows are asked in one process, by tests/rows_of_command.mjs, and every
+tenth of a process of its own as well, by its words, files and streams.
+"""
+
+import concurrent.futures
+import json
+import pathlib
+import subprocess
+import sys
+import tempfile
+from collections import Counter
+from typing import NamedTuple
+
+HERE = pathlib.Path(__file__).resolve().parent
+sys.path.insert(0, str(HERE.parent.parent / "rows"))
+sys.dont_write_bytecode = True
+from jobs import debug  # noqa: E402 (the folder has to be known first)
+from words import bytes_of, unrolled  # noqa: E402
+
+ROWS = HERE.parent.parent.parent / "crates/test_rows"
+WITH_INPUT = {"encode", "decode", "explain", "normalise", "same", "part", "scan"}
+BEYOND = {"--lines", "--list", "--color"}
+# Where bytes stop the module tells; where words, registries and texts are refused it doesn't.
+WITH_PLACE = {"decode", "part", "scan"}
+
+
+class Row(NamedTuple):
+    """A row as the command is asked it: its words, files by their names, the input, and what is wanted."""
+
+    number: int
+    words: list[str]
+    files: dict[str, str]
+    input: str
+    wanted: str
+    has_place: bool
+
+    def as_question(self) -> str:
+        return json.dumps({"words": self.words, "files": self.files, "input": self.input})
+
+
+def hexadecimal(word: str) -> str:
+    return bytes_of(word).hex()
+
+
+def row_of(number: int, words: list[str], wanted: str) -> Row | None:
+    """The row, or nothing where the module has no call for it."""
+    has_place = words[0] == "--where"
+    name, *words = words[1:] if has_place else words
+    count = next((i for i, word in enumerate(words) if not word.startswith("--")), len(words))
+    options, words = words[:count], words[count:]
+    if name not in WITH_INPUT | {"check", "grows"} or BEYOND & set(options):
+        return None
+    files: dict[str, str] = {}
+
+    def filed(word: str, file: str) -> str:
+        """A registry that doesn't begin with `{`, and the text A, stand in files."""
+        files[file] = hexadecimal(word)
+        return file
+
+    registries = 2 if name == "grows" else 1
+    words[:registries] = [word if word.startswith("{") else filed(word, f"registry{i}") for i, word in enumerate(words[:registries])]
+    if name not in WITH_INPUT:
+        return Row(number, [name, *options, *words], files, "", wanted, False)
+    fixed = {"part": 3}.get(name, 2)
+    asked, others = words[:fixed], words[fixed:]
+    if name == "part" and asked[2] == "0x":
+        asked[2] = ""
+    if name == "same":
+        asked.append(filed(others[0], "first") if others else filed("0x", "first"))
+        others = others[1:]
+    options = [option for option in options if option != "--ways"]
+    limits = [f"{option}={number}" for option, number in zip(("--depth", "--nodes"), others[1:])]
+    given = hexadecimal(others[0]) if others else ""
+    return Row(number, [name, *options, *limits, "--", *asked], files, given, wanted, has_place and name in WITH_PLACE)
+
+
+def rows() -> list[Row | None]:
+    lines = [(ROWS / name).read_text(encoding="utf-8").split("\n") for name in ("stdin", "stdout")]
+    numbered = [(i, row, told[len(row) + len(" -> ") :]) for i, (row, told) in enumerate(zip(*lines), 1)]
+    return [row_of(i, unrolled(row).split("\t")[1:], wanted) for i, row, wanted in numbered if row.startswith("bcs\t")]
+
+
+def is_right(row: Row, status: int, output: bytes, errors: str) -> bool:
+    """Of a row that tells where bytes stop, that is compared, too, and of others where the module tells nothing."""
+    told = f"{status} {debug(output)}"
+    if errors and not row.has_place:
+        return row.wanted.startswith(told) and errors.startswith("at ")
+    is_stop = " at " in row.wanted.split('"')[1] if row.has_place else False
+    if row.has_place and is_stop:
+        return row.wanted == f"{told} {errors.rstrip()}"
+    return row.wanted == told or row.wanted.startswith(f"{told} ") and not errors
+
+
+def judged(row: Row, status: int, output: bytes, errors: str) -> bool:
+    if is_right(row, status, output, errors):
+        return True
+    print(f"command: FAILED: line {row.number}: {row.words}\n  wanted {row.wanted[:300]}\n  answer {status} {output[:300]!r} {errors[:300]}")
+    return False
+
+
+def in_one_process(folder: pathlib.Path, asked: list[Row]) -> int:
+    """How many rows are wrong."""
+    questions = "".join(row.as_question() + "\n" for row in asked)
+    driver = ["node", str(HERE / "rows_of_command.mjs"), str(folder)]
+    told = subprocess.run(driver, input=questions, capture_output=True, text=True, check=True).stdout.splitlines()
+    answers = [json.loads(line) for line in told]
+    right = [judged(row, it["status"], bytes.fromhex(it["output"]), it["errors"]) for row, it in zip(asked, answers, strict=True)]
+    return right.count(False)
+
+
+def in_its_own(folder: pathlib.Path, row: Row) -> bool:
+    """Whether a process of its own answers the row, its files being real ones."""
+    with tempfile.TemporaryDirectory() as room:
+        for name, content in row.files.items():
+            (pathlib.Path(room) / name).write_bytes(bytes.fromhex(content))
+        command = ["node", str(folder / "bcs.mjs"), *row.words]
+        done = subprocess.run(command, cwd=room, input=bytes.fromhex(row.input), capture_output=True)
+    return judged(row, done.returncode, done.stdout, done.stderr.decode())
+
+
+def main(words: list[str]) -> int:
+    if len(words) != 1:
+        print(__doc__)
+        return 3
+    folder = pathlib.Path(words[0]).resolve()
+    all_rows = rows()
+    asked = [row for row in all_rows if row is not None]
+    wrong = in_one_process(folder, asked)
+    with concurrent.futures.ThreadPoolExecutor(4) as pool:
+        alone = list(pool.map(lambda row: in_its_own(folder, row), asked[::10]))
+    statuses = ", ".join(f"{count} with status {status}" for status, count in sorted(Counter(row.wanted[0] for row in asked).items()))
+    print(
+        f"command: {len(asked)} rows, {statuses}: {wrong} wrong; {len(alone)} of them in processes of their own: "
+        f"{alone.count(False)} wrong; {len(all_rows) - len(asked)} rows aren't asked"
+    )
+    return 1 if wrong or False in alone or not asked else 0
+
+
+if __name__ == "__main__":
+    sys.exit(main(sys.argv[1:]))
