@@ -79,7 +79,7 @@ module _ {S O F : Type 0} (content : S → Option (List ℕ)) (has_stopped : S �
   files_status : (work : Work) (first : List ℕ) (file : Option (String Global)) (input input' : S) (out out' : O) (outcome : Outcome)
       → PerformsPairs content has_stopped allowance taken is_failed remaining work first file input input' out out' outcome → outcome.status < 5
   files_status work first file input input' out out' outcome (first_unopened is a b) = omega (arith, is.status)
-  files_status work first file input input' out out' outcome (second_unopened name some is a b) = omega (arith, is.status)
+  files_status work first file input input' out out' outcome (second_unopened name lines some is a b) = omega (arith, is.status)
   files_status work first file input input' out out' outcome (pairs_over_input lines lines' none runs) =
       pairs_status _ _ _ _ _ _ taken is_failed work _ _ lines lines' input input' out out' outcome runs
   files_status work first file input input' out out' outcome (pairs_over_file name lines lines' source source' some runs a) =

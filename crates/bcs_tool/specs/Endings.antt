@@ -66,7 +66,7 @@ module _ {F : Type 0} (remaining : F → Option (List ℕ)) where
     pub status : outcome.status ≡ 4
     pub note : outcome.note.now ≡ file_note fault
     pub place : TellsPlace job.quiet (file_place fault name) outcome.place.items
-    pub named : fault ≢ Take taking.OutOfMemory → NamesForWork job name
+    pub named : fault ≢ Take taking.OutOfMemory → NamesForWork remaining job name
     pub known : IsFaultOfFiles remaining fault
     pub needed : NamesNoFile job → fault ≡ Take taking.OutOfMemory
 
@@ -90,10 +90,10 @@ module _ {S O F : Type 0} (content : S → Option (List ℕ)) (has_stopped : S �
         → Runs (λ s. remaining (reader_of s)) failed allowance_of taken is_failed work (file_text (string_bytes name)) source source' out out' outcome
         → input' ≡ input → PerformsOne work file input input' out out' outcome
 
-  -- what comes of one that compares the lines of two files, of which the first has this name
+  -- what comes of one that compares the lines of two files, of which the first has this name, and is opened first
   pub data PerformsPairs (work : Work) (first : List ℕ) (file : Option (String Global)) (input input' : S) (out out' : O) (outcome : Outcome) : Type 0 where
     first_unopened : IsUnopened work.quiet first outcome → input' ≡ input → out' ≡ out → PerformsPairs work first file input input' out out' outcome
-    second_unopened : (name : String Global) → file ≡ Some name → IsUnopened work.quiet (string_bytes name) outcome → input' ≡ input → out' ≡ out
+    second_unopened : (name : String Global) (lines : ReadSource F) → file ≡ Some name → IsUnopened work.quiet (string_bytes name) outcome → input' ≡ input → out' ≡ out
         → PerformsPairs work first file input input' out out' outcome
     pairs_over_input : (lines lines' : ReadSource F) → file ≡ None
         → PairRuns (λ s. remaining (reader_of s)) failed allowance_of content has_stopped allowance taken is_failed work (file_text first) (origin_text StandardInput)

@@ -47,10 +47,9 @@ abbrev pub NamesNoFile : Job → Type 0
 NamesNoFile job = (is_registry_text (string_bytes job.registry) ≡ true) × (job.command ≡ Same → job.lines ≡ true)
     × (job.command ≡ Grows → is_registry_text (string_bytes job.second) ≡ true)
 
--- the job's work needs the file of this name: that of REG or OLD, of NEW, or of A
-abbrev pub NamesForWork : Job → List ℕ → Type 0
-NamesForWork job name = ((is_registry_text name ≡ false) × (name ≡ string_bytes job.registry))
-    ⊎ ((job.command ≡ Grows) × (is_registry_text name ≡ false) × (name ≡ string_bytes job.second))
+-- the job's second word names the file that its work needs: that of NEW, or of A
+abbrev pub NamesSecond : Job → List ℕ → Type 0
+NamesSecond job name = ((job.command ≡ Grows) × (is_registry_text name ≡ false) × (name ≡ string_bytes job.second))
     ⊎ ((job.command ≡ Same) × (job.lines ≡ false) × (name ≡ string_bytes job.second))
 
 -- the files that a run reads itself: A, where its lines are compared, and that of the input
@@ -83,13 +82,18 @@ module _ {F : Type 0} (remaining : F → Option (List ℕ)) where
   IsFaultOfFiles (Take TooLarge) = HasLargeFile
   IsFaultOfFiles (Take OutOfMemory) = Unit {0}
 
-  -- a fault of the job's files, and whose it is, unless memory ran out
-  abbrev pub IsRefusalOf : Job → FileRefusal → Type 0
-  IsRefusalOf job refusal = IsFaultOfFiles refusal.fault × (refusal.fault ≢ Take OutOfMemory → NamesForWork job (string_bytes refusal.name))
-
   -- bytes that were read for a word: the word itself where it is the text, and else those of a file
   abbrev pub IsTextOf : List ℕ → List ℕ → Type 0
   IsTextOf word text = (is_registry_text word ≡ true → text ≡ word) × (is_registry_text word ≡ false → IsFileText text)
+
+  -- the job's work needs the file of this name: that of REG or OLD, or, once a text was read for these, that of NEW or of A
+  abbrev pub NamesForWork : Job → List ℕ → Type 0
+  NamesForWork job name = ((is_registry_text name ≡ false) × (name ≡ string_bytes job.registry))
+      ⊎ (((text : List ℕ) × IsTextOf (string_bytes job.registry) text) × NamesSecond job name)
+
+  -- a fault of the job's files, and whose it is, unless memory ran out
+  abbrev pub IsRefusalOf : Job → FileRefusal → Type 0
+  IsRefusalOf job refusal = IsFaultOfFiles refusal.fault × (refusal.fault ≢ Take OutOfMemory → NamesForWork job (string_bytes refusal.name))
 
   -- bytes that were read for A: none where its lines are compared one by one
   abbrev pub IsFirstText : Bool → List ℕ → Type 0

@@ -23,5 +23,5 @@ returns-in-Ok-open g c =
 pub returns : goal.returns
 returns g c =
     let outcome = c.unopened-in-Err-open in
-    second_unopened c.in-Some.name c.in-Some.is
+    second_unopened c.in-Some.name c.new-lines.result c.in-Some.is
     (subst (λ (name : List ℕ). IsUnopened c.args.work.now.quiet name outcome.result) c.as_str-name.ensures.value outcome.ensures) refl refl
