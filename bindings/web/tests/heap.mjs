@@ -1,9 +1,10 @@
 // The heap of the module, by what it hands out to the loader: blocks that are aligned and apart, and given back. BCS_WASM
-// names the module.
+// names the module, and BCS_BITS is 64 where its addresses have so many.
 import assert from 'node:assert/strict';
 import { readFileSync } from 'node:fs';
 import test from 'node:test';
 
+const END_OF_NARROW = 2 ** 32 - 2 ** 26;
 const module = await WebAssembly.compile(readFileSync(process.env.BCS_WASM));
 
 /** Numbers that look random, the same in each run. */
@@ -37,6 +38,42 @@ class Heap {
     this.blocks.push(block);
   }
 
+  /** Takes blocks of each size that the heap has, ever smaller ones, until there is no memory for the least. */
+  fill() {
+    const large = Array.from({ length: 21 }, (_, i) => 2 ** (31 - i));
+    const small = Array.from({ length: 64 }, (_, i) => 1024 - 16 * i);
+    for (const length of [...large, ...small]) {
+      for (;;) {
+        const place = Number(this.exports.take_memory(BigInt(length)));
+        if (place === 0) break;
+        this.blocks.push({ place, length });
+      }
+    }
+  }
+
+  giveAll() {
+    for (const { place } of this.blocks.splice(0)) this.exports.give_memory(BigInt(place));
+  }
+
+  /** The two words of a text that was put into the memory. */
+  put(text) {
+    const bytes = new TextEncoder().encode(text);
+    const place = this.exports.take_memory(BigInt(bytes.length));
+    this.bytes({ place: Number(place), length: bytes.length }).set(bytes);
+    return [place, BigInt(bytes.length)];
+  }
+
+  /** What a call is asked, as bcs.h lays it out. */
+  putAsk(registry, format) {
+    const words = [...this.put(registry), ...this.put(format)];
+    const place = this.exports.take_memory(40n);
+    const view = new DataView(this.exports.memory.buffer, Number(place), 40);
+    words.forEach((word, i) => view.setBigUint64(8 * i, word, true));
+    view.setUint32(32, 500, true);
+    view.setUint32(36, 0xffffffff, true);
+    return place;
+  }
+
   /** What was written into a block still stands there. */
   give(i) {
     const [block] = this.blocks.splice(i, 1);
@@ -68,4 +105,34 @@ test('a request that no memory can meet is refused, and the next is met', () => 
   }
   heap.take(64, 7);
   heap.give(0);
+});
+
+test('all the memory is given out, in blocks apart from one another, and then no more', () => {
+  const heap = new Heap();
+  heap.fill();
+  if (process.env.BCS_BITS !== '64') assert.equal(heap.size, END_OF_NARROW);
+  const ends = heap.blocks.map(({ place, length }) => [place, place + length]).sort(([a], [b]) => a - b);
+  ends.forEach(([place, end], i) => assert.ok(place >= 2 ** 22 && end <= (ends[i + 1]?.[0] ?? heap.size), `${place} to ${end}`));
+  assert.ok(ends.reduce((sum, [place, end]) => sum + end - place, 0) > 0.9 * heap.size);
+  for (const length of [2n ** 32n - 1n, 2n ** 32n, 2n ** 31n, 1n]) assert.equal(heap.exports.take_memory(length), 0n);
+  heap.giveAll();
+  heap.take(2 ** 20, 7);
+  heap.give(0);
+});
+
+test('a call in a full memory answers that, and before and behind it the bytes', () => {
+  const heap = new Heap();
+  const ask = heap.putAsk('{}', '{"SEQ":"U16"}');
+  const [text, answer, out] = [heap.put('[1,2,3]'), heap.put(' '.repeat(24)), heap.put(' '.repeat(9))];
+  const [DONE, MEMORY] = [0, 6];
+  const isAnswered = (status) => {
+    heap.exports.bcs_to_bcs(answer[0], ask, ...text, ...out);
+    assert.equal(new DataView(heap.exports.memory.buffer).getUint32(Number(answer[0]), true), status);
+    if (status === DONE) assert.deepEqual([...heap.bytes({ place: Number(out[0]), length: 7 })], [3, 1, 0, 2, 0, 3, 0]);
+  };
+  isAnswered(DONE);
+  heap.fill();
+  isAnswered(MEMORY);
+  heap.giveAll();
+  isAnswered(DONE);
 });

@@ -46,6 +46,13 @@ test('the module imports nothing, and has the calls of the header alone, without
   assert.deepEqual(exported.sort(), [...calls, 'memory', 'take_memory', 'give_memory'].sort());
 });
 
+test('a module for an engine with wider addresses is refused in words that say so', async () => {
+  const wide = Uint8Array.of(0, 0x61, 0x73, 0x6d, 1, 0, 0, 0, 5, 3, 1, 4, 1);
+  if (isSupported(64)) assert.ok(WebAssembly.validate(wide));
+  else await assert.rejects(load(wide), /64-bit addresses/);
+  await assert.rejects(load(Uint8Array.of(7)), isSupported(64) ? WebAssembly.CompileError : /takes bcs.wasm/);
+});
+
 test('texts to bytes, and back', () => {
   assert.equal(hexOf(none.encodeText('"I16"', '-4660')), 'cced');
   assert.equal(hexOf(none.encodeText(MAP, '[["aa",2],["b",1]]')), '0201620102616102');
@@ -249,7 +256,7 @@ function withMostPages(wasm, most) {
     const [length, body] = numberAt(wasm, at + 1);
     if (wasm[at] === 5) {
       const [least] = numberAt(wasm, body + 2);
-      const memory = [1, 5, ...numeral(least), ...numeral(most)];
+      const memory = [1, wasm[body + 1] | 1, ...numeral(least), ...numeral(most)];
       return Buffer.concat([wasm.subarray(0, at + 1), Buffer.from([memory.length, ...memory]), wasm.subarray(body + length)]);
     }
     at = body + length;
