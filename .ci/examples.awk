@@ -5,7 +5,7 @@
 #     a block of sh, and right below it one of what all its commands print
 #     $ COMMAND, and below it what it prints    in any block
 #
-# With `all` set every block of sh is run, and one without an answer prints nothing.
+# With `all` set every block of sh is run, and one without an answer prints nothing, on standard error neither.
 
 function example(commands, wanted, how, line) {
     printf "%s", commands >(folder "/" ++number ".commands")
@@ -38,7 +38,7 @@ function session(block, start,    lines, count, at, command, wanted, place) {
 # A block of sh waits for the line below it.
 function end_waiting() {
     if (waiting == "") return
-    if (!answers_behind_commands(waiting, waiting_at) && all) example(waiting, "", "output", waiting_at)
+    if (!answers_behind_commands(waiting, waiting_at) && all) example(waiting, "", "both", waiting_at)
     waiting = ""
 }
 !inside && /^ *```/ {
