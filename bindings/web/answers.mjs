@@ -13,7 +13,9 @@ export async function answerTo(job, calls, system) {
   try {
     return await answers(job, calls, system);
   } catch (error) {
-    throw error instanceof Interruption ? new Fault(error.kind) : error;
+    if (error instanceof Interruption) throw new Fault(error.kind);
+    // (JavaScript has no text of more than half a gigabyte)
+    throw error instanceof RangeError || error.code === 'ERR_STRING_TOO_LONG' ? new Fault('memory') : error;
   }
 }
 
