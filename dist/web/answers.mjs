@@ -1,0 +1,169 @@
+// What the command answers: a call for each job, and what is printed of its answer.
+import { Interruption } from './calls.mjs';
+import { Fault } from './system.mjs';
+
+const encoder = new TextEncoder();
+const NONE = new Uint8Array();
+const STANDARD = { depth: 500, nodes: 0xffffffff };
+const UNIT = encoder.encode('"UNIT"');
+const OF_BYTES = new Set(['decode', 'explain', 'part', 'scan']);
+
+/** The status, the output, and a line that says where a refusal stands, if one is told. */
+export async function answerTo(job, calls, system) {
+  try {
+    return await answers(job, calls, system);
+  } catch (error) {
+    if (error instanceof Interruption) throw new Fault(error.kind);
+    // (JavaScript has no text of more than half a gigabyte)
+    throw error instanceof RangeError || error.code === 'ERR_STRING_TOO_LONG' ? new Fault('memory') : error;
+  }
+}
+
+async function answers(job, calls, system) {
+  const { command, words } = job;
+  if (command === 'check') return check(calls, await registryOf(words.REG, system));
+  if (command === 'grows') return grows(calls, await registryOf(words.OLD, system), await registryOf(words.NEW, system));
+  const registry = await registryOf(words.REG, system);
+  const first = command === 'same' ? await system.read(words.A) : NONE;
+  const input = await system.open(words.FILE ?? words.B);
+  const ask = { registry, format: formatOf(words.FORMAT), depth: job.depth, nodes: job.nodes };
+  // What the words are refused for goes before the input, which isn't read then.
+  const judged = judgedWords(calls, ask, job);
+  if (judged !== undefined) return judged;
+  return valueJob(calls, job, ask, first, await input.read());
+}
+
+/** A registry's text, which begins with `{`, or the content of a file. */
+async function registryOf(word, system) {
+  return word.startsWith('{') ? encoder.encode(word) : system.read(word);
+}
+
+/** A format's JSON, or that of a container's name. */
+function formatOf(word) {
+  return encoder.encode(/^[{"]/.test(word) ? word : JSON.stringify({ TYPENAME: word }));
+}
+
+function check(calls, registry) {
+  const answer = calls.check({ registry, format: UNIT, ...STANDARD });
+  if (answer.status !== 'done') return refusal(calls, answer);
+  // (no call tells how many containers there are; the text is JSON, as the call has found)
+  return done(line(`ok ${Object.keys(JSON.parse(new TextDecoder().decode(registry))).length}`));
+}
+
+function grows(calls, older, newer) {
+  const answer = calls.grows(older, newer);
+  return answer.status === 'done' ? done(line('grows')) : refusal(calls, answer);
+}
+
+function judgedWords(calls, ask, { command, words }) {
+  const answer = calls.check(ask);
+  if (answer.status !== 'done') return refusal(calls, answer);
+  if (command !== 'part') return undefined;
+  const tried = calls.part(ask, NONE, encoder.encode(words.PATH));
+  return tried.status === 'path' ? refusal(calls, tried) : undefined;
+}
+
+function valueJob(calls, job, ask, first, input) {
+  switch (job.command) {
+    case 'encode':
+      return textJob(calls, calls.toBcs(ask, input), ({ output }) => digits(output, job.raw));
+    case 'normalise':
+      return textJob(calls, calls.normalise(ask, input), ({ output }) => [output, line('')]);
+    case 'same':
+      return textJob(calls, calls.compare(ask, first, input), () => line('equal'));
+  }
+  const bytes = job.raw ? input : bytesOfDigits(input);
+  return bytes === undefined ? refused('BadHex') : bytesJob(calls, job, ask, bytes);
+}
+
+function textJob(calls, answer, put) {
+  if (answer.status === 'no') return { status: 1, output: line('different') };
+  return answer.status === 'done' ? done(put(answer)) : refusal(calls, answer);
+}
+
+function bytesJob(calls, job, ask, bytes) {
+  switch (job.command) {
+    case 'decode':
+      return stopJob(calls, ask, bytes, calls.fromBcs(ask, bytes), ({ output }) => [output, line('')]);
+    case 'scan':
+      return scan(calls, ask, bytes, job.front);
+    case 'part':
+      return part(calls, ask, bytes, job);
+    default:
+      return explain(calls, ask, bytes, job);
+  }
+}
+
+function stopJob(calls, ask, bytes, answer, put) {
+  if (answer.status === 'done') return done(put(answer));
+  return { ...refusal(calls, answer), place: placeOf(calls, ask, bytes) };
+}
+
+function scan(calls, ask, bytes, isFront) {
+  const answer = calls.scan(ask, bytes);
+  const isShort = answer.status === 'done' && answer.length < bytes.length && !isFront;
+  if (isShort) return { ...refused(`TrailingBytes at ${answer.length}`), place: placeOf(calls, ask, bytes) };
+  return stopJob(calls, ask, bytes, answer, ({ length }) => line(`ok ${length}`));
+}
+
+function part(calls, ask, bytes, { words, raw }) {
+  const answer = calls.part(ask, bytes, encoder.encode(words.PATH));
+  if (answer.status === 'no') return { status: 1, output: raw ? NONE : line('none') };
+  return stopJob(calls, ask, bytes, answer, ({ place, length }) => digits(bytes.subarray(place, place + length), raw));
+}
+
+function explain(calls, ask, bytes, { json, tree, paths }) {
+  const form = json ? 'json' : tree ? 'tree' : paths ? 'paths' : 'ways';
+  const answer = calls.explain(ask, form, bytes);
+  if (answer.status !== 'done') return refusal(calls, answer);
+  if (answer.fault === 0) return done(answer.output);
+  const { status, output } = refused(`${nameOf(calls, answer)} at ${answer.place}`);
+  return { status, output: form === 'json' ? answer.output : [answer.output, output] };
+}
+
+/** Where bytes stop being a value, and what was wanted there: the last object of their pieces says it. */
+function placeOf(calls, ask, bytes) {
+  const answer = calls.explain(ask, 'json', bytes);
+  if (answer.status !== 'done' || answer.fault === 0) return undefined;
+  const start = answer.output.lastIndexOf(10, answer.output.length - 2) + 1;
+  const { refused, name, want } = JSON.parse(new TextDecoder().decode(answer.output.subarray(start)));
+  const limit = { TooDeep: `; --depth allows ${ask.depth}`, TooManyNodes: `; --nodes allows ${ask.nodes}` }[refused] ?? '';
+  return `at ${name}: ${refused}: wanted ${want}${limit}`;
+}
+
+function refusal(calls, answer) {
+  if (answer.status === 'memory') throw new Fault('memory');
+  const isStop = answer.fault >= 400 && answer.fault < 500;
+  return refused(nameOf(calls, answer) + (isStop ? ` at ${answer.place}` : ''));
+}
+
+function nameOf(calls, { fault }) {
+  return new TextDecoder().decode(calls.faultName(fault).output);
+}
+
+function refused(why) {
+  return { status: 2, output: line(`refused: ${why}`) };
+}
+
+function done(output) {
+  return { status: 0, output };
+}
+
+function line(text) {
+  return encoder.encode(`${text}\n`);
+}
+
+function digits(bytes, isRaw) {
+  return isRaw ? bytes : line(Buffer.from(bytes).toString('hex'));
+}
+
+/** The bytes of digits with blanks around them, or `undefined` where they are none. */
+function bytesOfDigits(input) {
+  const isBlank = (byte) => byte === 32 || byte === 9 || byte === 13 || byte === 10;
+  let [start, end] = [0, input.length];
+  while (start < end && isBlank(input[start])) start++;
+  while (start < end && isBlank(input[end - 1])) end--;
+  // (it stops at what is no digit)
+  const bytes = Buffer.from(Buffer.from(input).toString('latin1', start, end), 'hex');
+  return 2 * bytes.length === end - start ? bytes : undefined;
+}
