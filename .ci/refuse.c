@@ -1,5 +1,6 @@
-/* Refuses one request for memory of a program: the one with the number REFUSE, counted from 1. Once the program has
-   ended, descriptor 3 has the number of its requests. It is loaded before the C library, which serves the others. */
+/* Refuses requests for memory of a program, counted from 1: the one with the number REFUSE, those of 7 to 8 where that is
+   `7-8`, and all from the seventh on where it is `7-`. Once the program has ended, descriptor 3 has the number of its
+   requests. It is loaded before the C library, which serves the others. */
 typedef __SIZE_TYPE__ size;
 
 extern char *getenv(const char *name);
@@ -10,13 +11,27 @@ extern void *__libc_realloc(void *old, size length);
 extern void *__libc_memalign(size alignment, size length);
 
 static unsigned long requests;
-static unsigned long refused;
+static unsigned long first;
+static unsigned long last;
 static int counts;
 
+static const char *number(const char *digits, unsigned long *read) {
+    while (*digits >= '0' && *digits <= '9') {
+        *read = 10 * *read + (unsigned long)(*digits++ - '0');
+    }
+    return digits;
+}
+
 __attribute__((constructor)) static void begin(void) {
-    const char *digits = getenv("REFUSE");
-    while (digits && *digits >= '0' && *digits <= '9') {
-        refused = 10 * refused + (unsigned long)(*digits++ - '0');
+    const char *words = getenv("REFUSE");
+    if (words) {
+        words = number(words, &first);
+        last = first;
+        if (*words == '-') {
+            last = 0;
+            number(words + 1, &last);
+            last = last ? last : -1UL;
+        }
     }
     counts = 1;
 }
@@ -39,7 +54,7 @@ static int is_refused(void) {
         return 0;
     }
     requests += 1;
-    return requests == refused;
+    return first <= requests && requests <= last;
 }
 
 void *malloc(size length) {

@@ -80,7 +80,8 @@ fn ask_of_jobs(alloc: Global, row: &Row, tally: &mut Tally) -> Result<(), Told> 
     Ok(())
 }
 
-fn copied_told(value: &Value, copy: Result<Value, AllocError>) -> Told {
+/// A copy is the same value.
+pub(crate) fn copied_told(value: &Value, copy: Result<Value, AllocError>) -> Told {
     match copy {
         Ok(copy) => Told::of(same(&copy, value)),
         Err(_) => Told::NoMemory,

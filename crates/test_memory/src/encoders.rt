@@ -26,7 +26,7 @@ pub(crate) fn ask(alloc: Global, asked: &Asked, value: &Value, wanted: &Wanted, 
 
 // A sink takes the whole, or nothing at all.
 fn written(alloc: Global, asked: &Asked, value: &Value, wanted: &Wanted) -> Told {
-    let mut sink = PieceSink::<64>::new(7, None);
+    let mut sink = PieceSink::<512>::new(7, None);
     let answer = write(
         alloc,
         &asked.registry,

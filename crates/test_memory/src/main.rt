@@ -4,6 +4,7 @@
 mod accepted;
 mod asked;
 mod decoders;
+mod deep;
 mod encoders;
 mod failing;
 mod falling;

@@ -10,12 +10,12 @@ use bcs_tool::Command;
 use bcs_value::Value;
 use std::alloc::Global;
 
-/// A row `bytes` or `early` asks of the front and of the whole, `whole` of the whole, and `shown` of its text alone.
+/// A row `bytes`, `early` or `over` asks of the front and of the whole, `whole` of the whole, and `shown` of its text alone.
 pub(crate) fn ask(alloc: Global, row: &Row, tally: &mut Tally) -> Result<(), Told> {
     let asked = Asked::read(alloc, row, row.format, row.more)?;
     let bytes = bytes_of(alloc, row.input)?;
     let wanted = Wanted::refused(row.answer);
-    if row.question == "bytes" || row.question == "early" {
+    if matches!(row.question, "bytes" | "early" | "over") {
         decoders::ask_of_front(
             alloc,
             &asked,

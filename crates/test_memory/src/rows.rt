@@ -4,7 +4,7 @@ use crate::row::Row;
 use crate::tally::Tally;
 use crate::told::Told;
 use crate::{
-    accepted, failing, parts, quiet, refused_bytes, refused_texts, refused_values, registries,
+    accepted, deep, failing, parts, quiet, refused_bytes, refused_texts, refused_values, registries,
 };
 use std::alloc::Global;
 
@@ -12,6 +12,7 @@ use std::alloc::Global;
 pub(crate) fn ask(alloc: Global, part: &str, row: &Row, tally: &mut Tally) {
     let done = match part {
         "answers" => answers(alloc, row, tally),
+        "deep" => deep_answers(alloc, row, tally),
         "failures" => failing::ask(alloc, row, tally),
         "setting" => quiet::ask(alloc, row, false, tally),
         "quiet" => quiet::ask(alloc, row, true, tally),
@@ -33,6 +34,16 @@ fn answers(alloc: Global, row: &Row, tally: &mut Tally) -> Result<(), Told> {
         "registry" | "format" => registries::ask_refused(alloc, row, tally),
         "check" => registries::ask_printed(alloc, row, tally),
         "grows" => registries::ask_grown(alloc, row, tally),
+        "deep" | "over" => Ok(()),
         _ => Err(Told::Wrong),
+    }
+}
+
+// Rows with hundreds of open containers make thousands of requests, so they are a part of their own.
+fn deep_answers(alloc: Global, row: &Row, tally: &mut Tally) -> Result<(), Told> {
+    match row.question {
+        "deep" => deep::ask(alloc, row, tally),
+        "over" => refused_bytes::ask(alloc, row, tally),
+        _ => Ok(()),
     }
 }
