@@ -1,4 +1,3 @@
-pub mod CommandLines
 pub mod CommandNames
 pub mod CommandOptions
 pub mod LimitLemmas
