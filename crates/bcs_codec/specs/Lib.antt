@@ -3,10 +3,7 @@ pub use Rattle.bcs_registry.specs.Container
 pub use Rattle.bcs_registry.specs.WellFormed
 pub use Rattle.bcs_registry.specs.Grows
 pub use Rattle.bcs_registry.specs.Text
-pub use Rattle.bcs_registry_changes.specs.Differences
-pub use Rattle.bcs_registry_changes.specs.DifferenceText
-pub use Rattle.bcs_registry_show.specs.Shows
-pub use Rattle.bcs_registry_sizes.specs.Extremes
+pub use Rattle.bcs_look_registry.specs.Shows
 pub use Rattle.bcs_value.specs.Tree
 pub use Rattle.bcs_value.specs.Fits
 pub use Rattle.bcs_value.specs.Same

@@ -21,12 +21,13 @@ pub use bcs_json::{
     FromFault, JsonFault, JsonStep, PrintFault, Shown, compare, fault_place, from_bcs, normalise,
     print_value, read_value, to_bcs,
 };
+pub use bcs_look_registry::{
+    Change, Difference, RegistryForm, Sizes, container_sizes, difference_lines, differences,
+    show_registry,
+};
 pub use bcs_num::{NumFault, Width};
 pub use bcs_registry::{
     Container, Format, GrowthFault, Named, Registry, RegistryFault, VariantFormat,
 };
-pub use bcs_registry_changes::{Change, Difference, difference_lines, differences};
 pub use bcs_registry_places::containers_of;
-pub use bcs_registry_show::{RegistryForm, show_registry};
-pub use bcs_registry_sizes::{Sizes, container_sizes};
 pub use bcs_value::{Limits, Value, depth, fits_loosely, has_format, nodes, same};

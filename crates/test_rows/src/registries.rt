@@ -3,9 +3,8 @@
 use crate::row_fault::RowFault;
 use crate::setting::Setting;
 use crate::words::bytes;
+use bcs_look_registry::{Difference, differences, put_difference};
 use bcs_registry::Registry;
-use bcs_registry_changes::{Difference, differences, put_difference};
-use bcs_registry_places::containers_of;
 use std::alloc::{AllocError, Global};
 
 pub(crate) fn answer(
@@ -62,9 +61,7 @@ fn grown(alloc: Global, older: &str, newer: &str) -> Result<String, RowFault> {
 fn differing(alloc: Global, older: &str, newer: &str) -> Result<String, RowFault> {
     let older = Registry::read(alloc, older.as_bytes())?;
     let newer = Registry::read(alloc, newer.as_bytes())?;
-    let older_containers = containers_of(alloc, &older)?;
-    let newer_containers = containers_of(alloc, &newer)?;
-    let found = differences(alloc, &older_containers, &newer_containers)?;
+    let found = differences(alloc, older.containers(), newer.containers())?;
     let fault = found
         .iter()
         .find_map(|difference| difference.change.fault());

@@ -3,13 +3,11 @@
 use crate::row_fault::RowFault;
 use crate::setting::Setting;
 use crate::words::bytes;
+use bcs_look_registry::{
+    RegistryForm, Selection, Sizes, put_format, registry_lines, show_registry, standing,
+};
 use bcs_registry::Registry;
-use bcs_registry_lines::{Selection, put_format, registry_lines};
-use bcs_registry_places::{containers_of, format_in};
-use bcs_registry_show::{RegistryForm, show_registry};
-use bcs_registry_sizes::Sizes;
-use bcs_registry_text::printing::registry_value;
-use bcs_registry_uses::{keep_only, standing};
+use bcs_registry_places::format_in;
 use std::alloc::Global;
 use std::collections::BTreeMap;
 
@@ -42,16 +40,14 @@ fn short(alloc: Global, text: &str) -> Result<String, RowFault> {
 // The lines of what the container stands on, or of all containers, each with `|` at its end.
 fn lines(alloc: Global, setting: &Setting, name: &str, sizes: &[&str]) -> Result<String, RowFault> {
     let registry = Registry::read(alloc, &setting.registry)?;
-    let containers = containers_of(alloc, &registry)?;
+    let containers = registry.containers();
     let sizes = sizes_told(alloc, sizes)?;
-    let lines = if name == "*" {
-        registry_lines(alloc, &containers, Selection::All, &sizes)?
-    } else {
-        let Some(names) = standing(alloc, &containers, name)? else {
-            return Ok(String::from_str(alloc, "none")?);
-        };
-        registry_lines(alloc, &containers, Selection::Names(&names), &sizes)?
+    let selection = match name {
+        "*" => Selection::All,
+        _ if registry.container(name).is_none() => return Ok(String::from_str(alloc, "none")?),
+        _ => Selection::Names(standing(alloc, containers, name)?),
     };
+    let lines = registry_lines(alloc, containers, &selection, &sizes)?;
     Ok(
         String::from_utf8_lossy(alloc, &lines)?
             .as_str()
@@ -99,17 +95,14 @@ fn count(word: &str) -> Result<u64, RowFault> {
 // The container and what it stands on, as a registry of their own.
 fn stands_on(alloc: Global, setting: &Setting, name: &str) -> Result<String, RowFault> {
     let registry = Registry::read(alloc, &setting.registry)?;
-    let mut containers = containers_of(alloc, &registry)?;
-    let Some(names) = standing(alloc, &containers, name)? else {
+    let Some(text) = show_registry(alloc, &registry, Some(name), RegistryForm::Json)? else {
         return Ok(String::from_str(alloc, "none")?);
     };
-    keep_only(&mut containers, &names);
-    let text = registry_value(alloc, &containers)?.to_string(alloc)?;
-    let part = Registry::read(alloc, text.as_bytes())?;
-    if part.len() != names.len() {
+    let part = Registry::read(alloc, &text)?;
+    if part.len() != standing(alloc, registry.containers(), name)?.len() {
         return Err(RowFault::Disagreement("len"));
     }
-    Ok(text)
+    Ok(part.print(alloc)?)
 }
 
 // The registry, or the container and what it stands on, in this form. JSON is read again, and printed as the same.

@@ -3,9 +3,8 @@
 use crate::row_fault::RowFault;
 use crate::setting::Setting;
 use crate::words::number;
+use bcs_look_registry::{Sizes, container_sizes};
 use bcs_registry::Registry;
-use bcs_registry_places::containers_of;
-use bcs_registry_sizes::{Sizes, container_sizes};
 use std::alloc::Global;
 
 pub(crate) fn answer(alloc: Global, setting: &Setting, words: &[&str]) -> Result<String, RowFault> {
@@ -18,9 +17,8 @@ pub(crate) fn answer(alloc: Global, setting: &Setting, words: &[&str]) -> Result
 // Each container of the registry with its sizes.
 fn all_sizes(alloc: Global, setting: &Setting, depth: u32) -> Result<String, RowFault> {
     let registry = Registry::read(alloc, &setting.registry)?;
-    let containers = containers_of(alloc, &registry)?;
     let mut line = String::new(alloc);
-    for (name, sizes) in &container_sizes(alloc, &containers, depth)? {
+    for (name, sizes) in &container_sizes(alloc, registry.containers(), depth)? {
         if !line.is_empty() {
             line.push_str("; ")?;
         }

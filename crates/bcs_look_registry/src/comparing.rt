@@ -1,0 +1,96 @@
+//! The differences of two registries.
+
+use crate::change::{Change, Difference};
+use bcs_registry_formats::equality::{
+    are_same_fields, are_same_formats, is_same_format, is_same_payload,
+};
+use bcs_registry_formats::{Container, Named, VariantFormat};
+use std::alloc::{AllocError, Global};
+use std::collections::{BTreeMap, BTreeSet};
+
+/// The variants of an enum by number.
+type Variants = BTreeMap<u32, Named<VariantFormat>>;
+
+/// All differences between the containers of an older registry and those of a newer one, by rising name, and those of
+/// two enums by rising number. Fails only for want of memory.
+pub fn differences<'a>(
+    alloc: Global,
+    older: &'a BTreeMap<String, Container>,
+    newer: &'a BTreeMap<String, Container>,
+) -> Result<Vec<Difference<'a>>, AllocError> {
+    let mut found = Vec::new(alloc);
+    for name in &keys_of_both(alloc, older, newer)? {
+        let container = name.as_str();
+        let change = match (older.get(container), newer.get(container)) {
+            (Some(Container::Enum(older)), Some(Container::Enum(newer))) => {
+                push_variant_changes(alloc, container, older, newer, &mut found)?;
+                continue;
+            }
+            (Some(older), Some(newer)) if is_same_container(older, newer) => continue,
+            (Some(older), Some(newer)) => Change::Changed { older, newer },
+            (Some(older), None) => Change::Missing { older },
+            (None, Some(newer)) => Change::ContainerAdded { newer },
+            (None, None) => continue,
+        };
+        found.push(Difference { container, change })?;
+    }
+    Ok(found)
+}
+
+/// Appends the differences of two enums of one name.
+fn push_variant_changes<'a>(
+    alloc: Global,
+    container: &'a str,
+    older: &'a Variants,
+    newer: &'a Variants,
+    found: &mut Vec<Difference<'a>>,
+) -> Result<(), AllocError> {
+    for number in &keys_of_both(alloc, older, newer)? {
+        let number = **number;
+        let change = match (older.get(&number), newer.get(&number)) {
+            (Some(older), Some(newer)) if is_same_variant(older, newer) => continue,
+            (Some(older), Some(newer)) => Change::VariantChanged {
+                number,
+                older,
+                newer,
+            },
+            (Some(older), None) => Change::VariantMissing { number, older },
+            (None, Some(newer)) => Change::VariantAdded { number, newer },
+            (None, None) => continue,
+        };
+        found.push(Difference { container, change })?;
+    }
+    Ok(())
+}
+
+/// The keys that either map has.
+fn keys_of_both<'a, K: Ord, V>(
+    alloc: Global,
+    older: &'a BTreeMap<K, V>,
+    newer: &'a BTreeMap<K, V>,
+) -> Result<BTreeSet<&'a K>, AllocError> {
+    let mut keys = BTreeSet::new(alloc);
+    for key in older.keys().chain(newer.keys()) {
+        let _ = keys.insert(key)?;
+    }
+    Ok(keys)
+}
+
+/// Whether two containers, which aren't both enums, are one.
+fn is_same_container(one: &Container, other: &Container) -> bool {
+    match (one, other) {
+        (Container::UnitStruct, Container::UnitStruct) => true,
+        (Container::NewTypeStruct(one), Container::NewTypeStruct(other)) => {
+            is_same_format(one, other)
+        }
+        (Container::TupleStruct(one), Container::TupleStruct(other)) => {
+            are_same_formats(one, other)
+        }
+        (Container::Struct(one), Container::Struct(other)) => are_same_fields(one, other),
+        _ => false,
+    }
+}
+
+fn is_same_variant(one: &Named<VariantFormat>, other: &Named<VariantFormat>) -> bool {
+    one.name == other.name && is_same_payload(&one.value, &other.value)
+}

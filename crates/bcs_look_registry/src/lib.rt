@@ -1,0 +1,26 @@
+//! Registries for reading: what `bcs show` prints of one, and in what two of them differ.
+#![tactic(auto)]
+
+mod as_json;
+mod block;
+mod change;
+mod comparing;
+mod counting;
+mod formats;
+mod header;
+mod lines;
+mod mentions;
+mod names;
+mod rounds;
+mod show;
+mod sizes;
+mod uses;
+
+pub use change::{Change, Difference, difference_lines, put_difference};
+pub use comparing::differences;
+pub use formats::put_format;
+pub use lines::{Selection, registry_lines};
+pub use rounds::container_sizes;
+pub use show::{RegistryForm, show_registry};
+pub use sizes::Sizes;
+pub use uses::standing;

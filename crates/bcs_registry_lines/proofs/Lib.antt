@@ -1,5 +1,0 @@
-pub mod Listing
-pub mod Blocks
-pub mod EscapedApart
-pub mod Tokens
-pub mod FormatsApart

@@ -1,7 +1,0 @@
-use Rattle.std.proofs.Common.{◌≡◌, drop}
-use Rattle.std.specs.List.{list_all}
-use Rattle.bcs_registry_lines.specs.FormatText.{is_letter_or_digit}
-use Rattle.bcs_registry_lines.proofs.names.has_only_letters_and_digits.Given as goal
-
-abbrev pub invariant-loop-byte : goal.invariant-loop-byte
-invariant-loop-byte l = list_all is_letter_or_digit l.bytes ≡ list_all is_letter_or_digit (drop l.byte-index l.bytes)

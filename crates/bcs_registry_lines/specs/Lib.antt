@@ -1,4 +1,0 @@
-pub mod FormatText
-pub mod LineText
-pub mod Selected
-pub mod ReadingLaws

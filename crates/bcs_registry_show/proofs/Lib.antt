@@ -1,4 +1,0 @@
-pub mod Deciding
-pub mod ShowLaws
-pub mod Parts
-pub mod LineEnd
