@@ -1,4 +1,0 @@
-pub mod Called
-pub mod Counts
-pub mod Missing
-pub mod Leading

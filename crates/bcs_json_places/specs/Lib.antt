@@ -1,4 +1,0 @@
-pub mod Going
-pub mod Want
-pub mod Views
-pub mod WantLaws

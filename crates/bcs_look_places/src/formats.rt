@@ -1,0 +1,93 @@
+//! A format, or NAME of `show`, that names no container.
+
+use crate::names::Name;
+use bcs_registry::{Container, Format, Registry, RegistryFault};
+use bcs_registry_text::format_text::format_from;
+use bcs_registry_text::json_text::registry_json;
+use std::alloc::Global;
+use std::collections::BTreeMap;
+
+/// That no container of a registry has the word FORMAT for its name. `None`: one has. It may be meant as a format without
+/// a name, such as `U64`, so the line says how that is written.
+pub fn place_of_word(
+    alloc: Global,
+    text: &[u8],
+    word: &str,
+) -> Result<Option<Vec<u8>>, RegistryFault> {
+    let registry = Registry::read(alloc, text)?;
+    if registry.container(word).is_some() {
+        return Ok(None);
+    }
+    let name = Name::of(word);
+    let line = format!(in alloc; "at FORMAT: UnknownName: no container is called {name}; a format without a name is written as JSON, as '\"U64\"'")?;
+    Ok(Some(line.into_bytes()))
+}
+
+/// That no container of a registry has the NAME that was asked for. `None`: one has.
+pub fn place_of_container(
+    alloc: Global,
+    text: &[u8],
+    name: &str,
+) -> Result<Option<Vec<u8>>, RegistryFault> {
+    let registry = Registry::read(alloc, text)?;
+    if registry.container(name).is_some() {
+        return Ok(None);
+    }
+    let name = Name::of(name);
+    let line = format!(in alloc; "at NAME: UnknownName: no container is called {name}")?;
+    Ok(Some(line.into_bytes()))
+}
+
+/// The first name in a format's JSON that no container of a registry has. `None`: there is none.
+pub fn place_of_name(
+    alloc: Global,
+    text: &[u8],
+    word: &str,
+) -> Result<Option<Vec<u8>>, RegistryFault> {
+    let registry = Registry::read(alloc, text)?;
+    let json = registry_json(alloc, word.as_bytes())?;
+    let format = format_from(alloc, &json)?;
+    let Some(name) = first_unknown(&format, registry.containers()) else {
+        return Ok(None);
+    };
+    let name = Name::of(name);
+    let line = format!(in alloc; "at FORMAT: UnknownName: no container is called {name}")?;
+    Ok(Some(line.into_bytes()))
+}
+
+/// The first name in the format, as it is read, that none of the containers has.
+#[cycle(unknown)]
+pub(crate) fn first_unknown<'a>(
+    format: &'a Format,
+    containers: &BTreeMap<String, Container>,
+) -> Option<&'a str> {
+    match format {
+        Format::TypeName(name) => if containers.contains_key(name.as_str()) {
+            None
+        } else {
+            Some(name.as_str())
+        },
+        Format::Opt(inner) | Format::Seq(inner) | Format::TupleArray(inner, _) => {
+            first_unknown(inner, containers)
+        }
+        Format::Map(key, value) => match first_unknown(key, containers) {
+            Some(name) => Some(name),
+            None => first_unknown(value, containers),
+        },
+        Format::Tuple(formats) => first_unknown_among(formats.as_slice(), containers),
+        _ => None,
+    }
+}
+
+#[cycle(unknown)]
+fn first_unknown_among<'a>(
+    formats: &'a [Format],
+    containers: &BTreeMap<String, Container>,
+) -> Option<&'a str> {
+    for format in formats {
+        if let Some(name) = first_unknown(format, containers) {
+            return Some(name);
+        }
+    }
+    None
+}

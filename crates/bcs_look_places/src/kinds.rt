@@ -1,0 +1,205 @@
+//! What is wanted of JSON where a value of a format is to stand.
+
+use crate::content::Content;
+use crate::goals::{Goal, field_called, payload_called};
+use crate::names::Name;
+use crate::wants::{Count, Want};
+use bcs_registry::{Format, Named, VariantFormat};
+use serde_json::{Map, Value as Json};
+use std::collections::BTreeMap;
+
+/// What is wanted, or what is wrong. `None`: the JSON is of the kind that it is to be, so only a part of it is refused.
+pub(crate) fn want<'a>(goal: Goal<'a>, json: &'a Json) -> Option<Want<'a>> {
+    match goal {
+        Goal::Content(Content::Unit) => Some(Want::Words("wanted null")),
+        Goal::Content(Content::One(format)) => format_want(format, json),
+        Goal::Content(Content::Row(formats)) => row_want(formats.len() as u64, json),
+        Goal::Content(Content::Fields(fields)) => struct_want(fields, json),
+        Goal::Content(Content::Variants(variants)) => enum_want(variants, json),
+        Goal::Entry(_, _) => entry_want(json),
+    }
+}
+
+fn format_want<'a>(format: &Format, json: &'a Json) -> Option<Want<'a>> {
+    let words = match format {
+        Format::TypeName(_) => return None,
+        Format::Opt(_) => return option_want(json),
+        Format::Seq(element) => return list_want(element, json),
+        Format::Map(_, _) if json.is_array() => return None,
+        Format::Tuple(formats) => return row_want(formats.len() as u64, json),
+        Format::TupleArray(element, size) => return array_want(element, *size, json),
+        Format::Bytes => return bytes_want(json),
+        Format::Map(_, _) => "wanted an array of entries, each an array of a key and its value",
+        Format::Unit => "wanted null",
+        Format::Bool => "wanted BOOL, true or false",
+        Format::I8 => "wanted a whole number from -128 to 127 (I8)",
+        Format::I16 => "wanted a whole number from -32768 to 32767 (I16)",
+        Format::I32 => "wanted a whole number from -2147483648 to 2147483647 (I32)",
+        Format::I64 => {
+            "wanted a whole number from -9223372036854775808 to 9223372036854775807 (I64)"
+        }
+        Format::I128 => {
+            "wanted a whole number from -170141183460469231731687303715884105728 to 170141183460469231731687303715884105727 (I128)"
+        }
+        Format::U8 => "wanted a whole number from 0 to 255 (U8)",
+        Format::U16 => "wanted a whole number from 0 to 65535 (U16)",
+        Format::U32 => "wanted a whole number from 0 to 4294967295 (U32)",
+        Format::U64 => "wanted a whole number from 0 to 18446744073709551615 (U64)",
+        Format::U128 => {
+            "wanted a whole number from 0 to 340282366920938463463374607431768211455 (U128)"
+        }
+        Format::F32 => "no value of F32 is supported",
+        Format::F64 => "no value of F64 is supported",
+        Format::Char => "no value of CHAR is supported",
+        Format::Str => "wanted STR, a string",
+    };
+    Some(Want::Words(words))
+}
+
+fn bytes_want<'a>(json: &'a Json) -> Option<Want<'a>> {
+    match json {
+        Json::String(text) => digits_want(text),
+        _ => Some(Want::Words("wanted BYTES, a string of hexadecimal digits")),
+    }
+}
+
+fn digits_want<'a>(text: &str) -> Option<Want<'a>> {
+    if !text.bytes().all(|byte| byte.is_ascii_hexdigit()) {
+        Some(Want::Words("a character that is no hexadecimal digit"))
+    } else if text.len() % 2 == 1 {
+        Some(Want::Words("an odd number of digits"))
+    } else {
+        None
+    }
+}
+
+fn option_want<'a>(json: &'a Json) -> Option<Want<'a>> {
+    let is_option = match json {
+        Json::Null => true,
+        Json::Object(members) => only_name(members) == Some("some"),
+        _ => false,
+    };
+    if is_option {
+        None
+    } else {
+        Some(Want::Words("wanted null, or an object with the one member some"))
+    }
+}
+
+fn list_want<'a>(element: &Format, json: &'a Json) -> Option<Want<'a>> {
+    if json.is_array() {
+        return None;
+    }
+    if !matches!(element, Format::U8) {
+        return Some(Want::Words("wanted an array"));
+    }
+    match json {
+        Json::String(text) => digits_want(text),
+        _ => Some(Want::Words("wanted an array of U8, or a string of hexadecimal digits")),
+    }
+}
+
+fn array_want<'a>(element: &Format, number: u64, json: &'a Json) -> Option<Want<'a>> {
+    if json.is_array() || !matches!(element, Format::U8) {
+        return row_want(number, json);
+    }
+    let count = Count {
+        number,
+        part: "byte",
+    };
+    match json {
+        Json::String(text) => all_digits_want(count, text),
+        _ => Some(Want::Parts("wanted an array or hexadecimal digits of", count)),
+    }
+}
+
+fn all_digits_want<'a>(count: Count, text: &str) -> Option<Want<'a>> {
+    match digits_want(text) {
+        Some(want) => Some(want),
+        None => other_want(count, (text.len() / 2) as u64),
+    }
+}
+
+fn row_want<'a>(number: u64, json: &'a Json) -> Option<Want<'a>> {
+    let count = Count {
+        number,
+        part: "item",
+    };
+    match json {
+        Json::Array(items) => other_want(count, items.len() as u64),
+        _ => Some(Want::Parts("wanted an array of", count)),
+    }
+}
+
+fn other_want<'a>(count: Count, found: u64) -> Option<Want<'a>> {
+    if found == count.number {
+        None
+    } else {
+        Some(Want::Other(count, found))
+    }
+}
+
+fn entry_want<'a>(json: &'a Json) -> Option<Want<'a>> {
+    match json {
+        Json::Array(items) if items.len() == 2 => None,
+        _ => Some(Want::Words("wanted an entry, an array of a key and its value")),
+    }
+}
+
+fn struct_want<'a>(fields: &'a [Named<Format>], json: &'a Json) -> Option<Want<'a>> {
+    let Json::Object(members) = json else {
+        return Some(Want::Words("wanted an object with a member for each field"));
+    };
+    for field in fields {
+        if !members.contains_key(field.name.as_str()) {
+            return Some(Want::Named("no member is called", Name::of(field.name.as_str())));
+        }
+    }
+    unknown_field(fields, members)
+}
+
+// The first member that is no field.
+fn unknown_field<'a>(
+    fields: &[Named<Format>],
+    members: &'a Map<String, Json>,
+) -> Option<Want<'a>> {
+    for (name, _) in members {
+        if field_called(fields, name.as_str()).is_none() {
+            return Some(Want::Named("no field is called", Name::of(name.as_str())));
+        }
+    }
+    None
+}
+
+fn enum_want<'a>(
+    variants: &BTreeMap<u32, Named<VariantFormat>>,
+    json: &'a Json,
+) -> Option<Want<'a>> {
+    let name = match json {
+        Json::String(word) => Some(word.as_str()),
+        Json::Object(members) => only_name(members),
+        _ => None,
+    };
+    let Some(name) = name else {
+        return Some(Want::Words(
+            "wanted a variant, its name or an object with one member of that name",
+        ));
+    };
+    match payload_called(variants, name) {
+        None => Some(Want::Named("no variant is called", Name::of(name))),
+        Some(VariantFormat::Unit) => None,
+        Some(_) if json.is_object() => None,
+        Some(_) => Some(Want::Named("wanted an object with the one member", Name::of(name))),
+    }
+}
+
+// The name of the one member. `None`: there is none, or there are more.
+fn only_name<'a>(members: &'a Map<String, Json>) -> Option<&'a str> {
+    let mut entries = members.iter();
+    let (name, _) = entries.next()?;
+    if entries.next().is_none() {
+        Some(name.as_str())
+    } else {
+        None
+    }
+}

@@ -1,0 +1,20 @@
+//! A step of PATH that is none.
+
+use crate::names::Name;
+use bcs_tool_path::{BadStep, first_bad_step};
+use std::alloc::{AllocError, Global};
+
+/// The first step of PATH that is none, its text as it stands, and what would be one. The first step is 1. `None`: the
+/// word spells a path.
+pub fn place_of_path(alloc: Global, word: &str) -> Result<Option<Vec<u8>>, AllocError> {
+    let Some(BadStep { number, text }) = first_bad_step(alloc, word)? else {
+        return Ok(None);
+    };
+    let line = if text.is_empty() {
+        format!(in alloc; "at PATH, step {number}: BadPath: an empty step")?
+    } else {
+        let text = Name::of(text);
+        format!(in alloc; "at PATH, step {number} {text}: BadPath: wanted a number, inner, or key: and hexadecimal digits")?
+    };
+    Ok(Some(line.into_bytes()))
+}

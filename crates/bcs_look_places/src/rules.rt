@@ -1,0 +1,148 @@
+//! Where a registry breaks a rule.
+
+use crate::containers::containers_in;
+use crate::content::Content;
+use crate::formats::first_unknown;
+use crate::names::Name;
+use crate::owners::{Owner, Slot};
+use bcs_registry::{Container, Format, Named, RegistryFault, VariantFormat};
+use bcs_registry_formats::levels::has_few_levels;
+use std::alloc::{AllocError, Global};
+use std::collections::{BTreeMap, BTreeSet};
+
+/// Where the containers that a registry's text writes down break a rule: the first one that is broken, in the order of
+/// the faults, and where it is broken first. `None`: they break none.
+pub fn place_of_rule(alloc: Global, text: &[u8]) -> Result<Option<Vec<u8>>, RegistryFault> {
+    let containers = containers_in(alloc, text)?;
+    let mut search = Search::over(alloc, &containers);
+    for (name, container) in &containers {
+        search.container(name.as_str(), container)?;
+    }
+    Ok(search.first_line())
+}
+
+/// A search for the first place of each rule, through all containers once.
+#[derive(Drop)]
+struct Search<'a> {
+    alloc: Global,
+    containers: &'a BTreeMap<String, Container>,
+    too_nested: Option<String>,
+    repeated: Option<String>,
+    unknown: Option<String>,
+}
+
+impl<'a> Search<'a> {
+    fn over(alloc: Global, containers: &'a BTreeMap<String, Container>) -> Search<'a> {
+        Search {
+            alloc,
+            containers,
+            too_nested: None,
+            repeated: None,
+            unknown: None,
+        }
+    }
+
+    fn first_line(self) -> Option<Vec<u8>> {
+        let line = self.too_nested.or(self.repeated).or(self.unknown)?;
+        Some(line.into_bytes())
+    }
+
+    fn container(&mut self, name: &str, container: &Container) -> Result<(), AllocError> {
+        match Content::from(container) {
+            Content::Variants(variants) => self.variants(name, variants),
+            content => {
+                let owner = Owner {
+                    container: name,
+                    variant: None,
+                };
+                self.content(owner, content)
+            }
+        }
+    }
+
+    fn variants(
+        &mut self,
+        container: &str,
+        variants: &BTreeMap<u32, Named<VariantFormat>>,
+    ) -> Result<(), AllocError> {
+        self.variant_names(container, variants)?;
+        for (number, variant) in variants {
+            let owner = Owner {
+                container,
+                variant: Some((*number, variant.name.as_str())),
+            };
+            self.content(owner, Content::from(&variant.value))?;
+        }
+        Ok(())
+    }
+
+    fn variant_names(
+        &mut self,
+        container: &str,
+        variants: &BTreeMap<u32, Named<VariantFormat>>,
+    ) -> Result<(), AllocError> {
+        if self.repeated.is_some() {
+            return Ok(());
+        }
+        let mut seen = BTreeSet::new(self.alloc);
+        for variant in variants.values() {
+            if !seen.insert(variant.name.as_str())? {
+                let (container, name) = (Name::of(container), Name::of(variant.name.as_str()));
+                self.repeated = Some(format!(in self.alloc;
+                    "at {container}: RepeatedName: two variants are called {name}")?);
+                return Ok(());
+            }
+        }
+        Ok(())
+    }
+
+    // What an owner has that is no enum.
+    fn content(&mut self, owner: Owner<'_>, content: Content<'_>) -> Result<(), AllocError> {
+        match content {
+            Content::Unit | Content::Variants(_) => Ok(()),
+            Content::One(format) => self.format(owner, Slot::Whole, format),
+            Content::Row(formats) => {
+                for (i, format) in formats.iter().enumerate() {
+                    self.format(owner, Slot::Numbered(i), format)?;
+                }
+                Ok(())
+            }
+            Content::Fields(fields) => self.fields(owner, fields),
+        }
+    }
+
+    fn fields(&mut self, owner: Owner<'_>, fields: &[Named<Format>]) -> Result<(), AllocError> {
+        let mut seen = BTreeSet::new(self.alloc);
+        for field in fields {
+            let name = field.name.as_str();
+            self.format(owner, Slot::Field(name), &field.value)?;
+            if self.repeated.is_none() && !seen.insert(name)? {
+                let name = Name::of(name);
+                self.repeated = Some(format!(in self.alloc;
+                    "at {owner}: RepeatedName: two fields are called {name}")?);
+            }
+        }
+        Ok(())
+    }
+
+    fn format(
+        &mut self,
+        owner: Owner<'_>,
+        slot: Slot<'_>,
+        format: &Format,
+    ) -> Result<(), AllocError> {
+        if self.too_nested.is_none() && !has_few_levels(format) {
+            self.too_nested = Some(format!(in self.alloc;
+                "at {owner}{slot}: TooNested: a format has more than 32 levels")?);
+        }
+        if self.unknown.is_some() {
+            return Ok(());
+        }
+        if let Some(name) = first_unknown(format, self.containers) {
+            let name = Name::of(name);
+            self.unknown = Some(format!(in self.alloc;
+                "at {owner}{slot}: UnknownName: no container is called {name}")?);
+        }
+        Ok(())
+    }
+}

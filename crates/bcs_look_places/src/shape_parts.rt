@@ -1,0 +1,108 @@
+//! The parts of a registry's JSON.
+
+use bcs_registry_text::format_text::word_format;
+use serde_json::{Map, Number, Value};
+use std::fmt;
+
+/// What JSON is to be, as a registry or a format or inside of one.
+#[derive(Clone, Copy, PartialEq, Eq)]
+pub(crate) enum Part {
+    Registry,
+    Container,
+    Fields,
+    Field,
+    Variants,
+    Variant,
+    /// Whatever it is, its name among the variants of an enum should be a number.
+    VariantNumber,
+    Payload,
+    Format,
+    Formats,
+    /// The name of a container.
+    Name,
+    Map,
+    TupleArray,
+    /// The length of an array.
+    Size,
+}
+
+impl Part {
+    /// What each item of an array is to be. `None`: no array is wanted.
+    pub(crate) fn item(self) -> Option<Part> {
+        match self {
+            Part::Fields => Some(Part::Field),
+            Part::Formats => Some(Part::Format),
+            _ => None,
+        }
+    }
+
+    /// What is to stand under a name in an object. `None`: nothing may.
+    pub(crate) fn member(self, name: &str) -> Option<Part> {
+        match (self, name) {
+            (Part::Registry, _) => Some(Part::Container),
+            (Part::Container, "NEWTYPESTRUCT") | (Part::Payload, "NEWTYPE") => Some(Part::Format),
+            (Part::Container, "TUPLESTRUCT") | (Part::Payload, "TUPLE") => Some(Part::Formats),
+            (Part::Container | Part::Payload, "STRUCT") => Some(Part::Fields),
+            (Part::Container, "ENUM") => Some(Part::Variants),
+            (Part::Field, _) => Some(Part::Format),
+            (Part::Variants, _) => Some(Part::Variant),
+            (Part::Variant, _) => Some(Part::Payload),
+            (Part::Format, "TYPENAME") => Some(Part::Name),
+            (Part::Format, "OPTION" | "SEQ") => Some(Part::Format),
+            (Part::Format, "MAP") => Some(Part::Map),
+            (Part::Format, "TUPLE") => Some(Part::Formats),
+            (Part::Format, "TUPLEARRAY") => Some(Part::TupleArray),
+            (Part::Map, "KEY" | "VALUE") => Some(Part::Format),
+            (Part::TupleArray, "CONTENT") => Some(Part::Format),
+            (Part::TupleArray, "SIZE") => Some(Part::Size),
+            _ => None,
+        }
+    }
+
+    /// Whether an object has as many members as are wanted, with such names.
+    pub(crate) fn has_names(self, members: &Map<String, Value>) -> bool {
+        let count = match self {
+            Part::Registry | Part::Variants => return true,
+            Part::Map | Part::TupleArray => 2,
+            _ => 1,
+        };
+        members.len() == count && members.iter().all(|(name, _)| self.member(name).is_some())
+    }
+
+    /// Whether a JSON string is what is wanted.
+    pub(crate) fn is_word(self, word: &str) -> bool {
+        match self {
+            Part::Container => word == "UNITSTRUCT",
+            Part::Payload => word == "UNIT",
+            Part::Format => word_format(word).is_some(),
+            Part::Name => true,
+            _ => false,
+        }
+    }
+
+    /// Whether a JSON number is what is wanted; loosely, any will do where one is.
+    pub(crate) fn is_number(self, loose: bool, number: &Number) -> bool {
+        self == Part::Size && (loose || number.as_u64().is_some())
+    }
+}
+
+impl fmt::Display for Part {
+    fn fmt<W: fmt::Write>(&self, f: &mut fmt::Formatter<W>) -> fmt::Result {
+        f.write_str(match self {
+            Part::Registry => "an object of containers",
+            Part::Container => "a container",
+            Part::Fields => "an array of fields",
+            Part::Field => "a field, an object with one member",
+            Part::Variants => "an object of variants",
+            Part::Variant => "a variant, an object with one member",
+            Part::VariantNumber => "a plain decimal number below 4294967296",
+            Part::Payload => "a variant's payload",
+            Part::Format => "a format",
+            Part::Formats => "an array of formats",
+            Part::Name => "a string, the name of a container",
+            Part::Map => "an object with KEY and VALUE",
+            Part::TupleArray => "an object with CONTENT and SIZE",
+            Part::Size => "a whole number below 18446744073709551616",
+        })
+    }
+}

@@ -1,0 +1,142 @@
+//! Where JSON hasn't the shape of a registry or of a format, or a number in it is bad.
+
+use crate::pointers::Pointer;
+use crate::shape_parts::Part;
+use bcs_json::JsonStep;
+use bcs_num::{Width, parse_unsigned};
+use bcs_registry::RegistryFault;
+use bcs_registry_text::json_text::registry_json;
+use serde_json::{Map, Value};
+use std::alloc::{AllocError, Global};
+
+/// Where a registry's text, which is JSON, hasn't the shape, or else where a number in it is bad: the innermost JSON that
+/// is bad, and what was wanted there. `None`: it has the shape, with its numbers in range.
+pub fn place_of_registry_shape(
+    alloc: Global,
+    text: &[u8],
+) -> Result<Option<Vec<u8>>, RegistryFault> {
+    let json = registry_json(alloc, text)?;
+    let Some(place) = misshapen(alloc, &json, Part::Registry)? else {
+        return Ok(None);
+    };
+    let ShapePlace { steps, part, fault } = place;
+    let pointer = Pointer(&steps);
+    let line = format!(in alloc; "at {pointer}: {fault}: wanted {part}")?;
+    Ok(Some(line.into_bytes()))
+}
+
+/// The same of a format's JSON in the word FORMAT.
+pub fn place_of_format_shape(alloc: Global, word: &str) -> Result<Option<Vec<u8>>, RegistryFault> {
+    let json = registry_json(alloc, word.as_bytes())?;
+    let Some(place) = misshapen(alloc, &json, Part::Format)? else {
+        return Ok(None);
+    };
+    let ShapePlace { steps, part, fault } = place;
+    let line = if steps.is_empty() {
+        format!(in alloc; "at FORMAT: {fault}: wanted {part}")?
+    } else {
+        let pointer = Pointer(&steps);
+        format!(in alloc; "at FORMAT, {pointer}: {fault}: wanted {part}")?
+    };
+    Ok(Some(line.into_bytes()))
+}
+
+#[derive(Drop)]
+struct ShapePlace {
+    // The outermost first.
+    steps: Vec<JsonStep>,
+    part: Part,
+    fault: RegistryFault,
+}
+
+// The shape before the numbers, since a bad shape is the lesser fault wherever it stands.
+fn misshapen(
+    alloc: Global,
+    json: &Value,
+    whole: Part,
+) -> Result<Option<ShapePlace>, AllocError> {
+    for (loose, fault) in [(true, RegistryFault::BadShape), (false, RegistryFault::BadNumber)] {
+        let mut search = Search {
+            loose,
+            inward: Vec::new(alloc),
+        };
+        if let Some(part) = search.misfit(json, whole)? {
+            let mut steps = search.inward;
+            steps.reverse();
+            return Ok(Some(ShapePlace { steps, part, fault }));
+        }
+    }
+    Ok(None)
+}
+
+/// A search for the first JSON that is bad and has no part that is.
+#[derive(Drop)]
+struct Search {
+    /// Whether any numbers will do.
+    loose: bool,
+    /// The way down to what was found, the innermost step first.
+    inward: Vec<JsonStep>,
+}
+
+impl Search {
+    #[cycle(misfits)]
+    fn misfit(&mut self, json: &Value, part: Part) -> Result<Option<Part>, AllocError> {
+        let is_good = match json {
+            Value::Null | Value::Bool(_) => false,
+            Value::Number(number) => part.is_number(self.loose, number),
+            Value::String(word) => part.is_word(word),
+            Value::Array(items) => match part.item() {
+                Some(item) => return self.misfit_item(items, item),
+                None => false,
+            },
+            Value::Object(members) => if part.has_names(members) {
+                return self.misfit_member(members, part);
+            } else {
+                false
+            },
+        };
+        Ok(if is_good { None } else { Some(part) })
+    }
+
+    #[cycle(misfits)]
+    fn misfit_item(&mut self, items: &[Value], part: Part) -> Result<Option<Part>, AllocError> {
+        for (i, item) in items.iter().enumerate() {
+            if let Some(found) = self.misfit(item, part)? {
+                self.inward.push(JsonStep::Item(i as u64))?;
+                return Ok(Some(found));
+            }
+        }
+        Ok(None)
+    }
+
+    #[cycle(misfits)]
+    fn misfit_member(
+        &mut self,
+        members: &Map<String, Value>,
+        part: Part,
+    ) -> Result<Option<Part>, AllocError> {
+        for (name, member) in members.iter() {
+            if let Some(found) = self.misfit_under(name, member, part)? {
+                self.inward.push(JsonStep::Member(name.clone()?))?;
+                return Ok(Some(found));
+            }
+        }
+        Ok(None)
+    }
+
+    #[cycle(misfits)]
+    fn misfit_under(
+        &mut self,
+        name: &str,
+        member: &Value,
+        part: Part,
+    ) -> Result<Option<Part>, AllocError> {
+        if part == Part::Variants && !self.loose && parse_unsigned(Width::W4, name).is_none() {
+            return Ok(Some(Part::VariantNumber));
+        }
+        match part.member(name) {
+            Some(inner) => self.misfit(member, inner),
+            None => Ok(None),
+        }
+    }
+}

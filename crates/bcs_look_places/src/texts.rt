@@ -1,0 +1,51 @@
+//! Where a JSON text of a value is refused.
+
+use crate::content::Content;
+use crate::goals::{Goal, Spot, opened, spot_at};
+use crate::kinds::want;
+use crate::pointers::Pointer;
+use crate::wants::Want;
+use bcs_json::{JsonStep, fault_place};
+use bcs_json_text::read_json;
+use bcs_registry::{Format, Registry};
+use bcs_value::Limits;
+use serde_json::Value as Json;
+use std::alloc::Global;
+
+/// Where a JSON text of a value is refused, and what was wanted there. `None`: it isn't refused by the tests that go
+/// through it with the format, or memory ran out.
+pub fn place_of_text(
+    alloc: Global,
+    registry: &Registry,
+    format: &Format,
+    limits: &Limits,
+    text: &[u8],
+) -> Option<Vec<u8>> {
+    let (fault, steps) = fault_place(alloc, registry, format, limits, text)?;
+    let json = read_json(alloc, text).ok()?;
+    let pointer = Pointer(&steps);
+    let line = match want_at(registry, format, limits, &json, &steps) {
+        Some(want) => format!(in alloc; "at {pointer}: {fault}: {want}"),
+        None => format!(in alloc; "at {pointer}: {fault}"),
+    };
+    Some(line.ok()?.into_bytes())
+}
+
+// What is wanted where the steps lead.
+fn want_at<'a>(
+    registry: &'a Registry,
+    format: &'a Format,
+    limits: &Limits,
+    json: &'a Json,
+    steps: &[JsonStep],
+) -> Option<Want<'a>> {
+    let whole = Spot {
+        left: limits.depth(),
+        goal: Goal::Content(Content::One(format)),
+        json,
+    };
+    match opened(registry, spot_at(registry, whole, steps)?) {
+        Some(spot) => want(spot.goal, spot.json),
+        None => Some(Want::Words("more containers are open than allowed")),
+    }
+}

@@ -1,0 +1,44 @@
+//! What was wanted of JSON.
+
+use crate::names::Name;
+use std::fmt;
+
+/// What was wanted of JSON where it is refused, or what is wrong there.
+#[derive(Clone, Copy)]
+pub(crate) enum Want<'a> {
+    /// These words.
+    Words(&'static str),
+    /// Words, and the name that they are about.
+    Named(&'static str, Name<'a>),
+    /// What the words say, of so many parts.
+    Parts(&'static str, Count),
+    /// So many parts, where there are as many as the number says.
+    Other(Count, u64),
+}
+
+/// A number of parts.
+#[derive(Clone, Copy)]
+pub(crate) struct Count {
+    pub(crate) number: u64,
+    /// What one is called.
+    pub(crate) part: &'static str,
+}
+
+impl fmt::Display for Want<'_> {
+    fn fmt<W: fmt::Write>(&self, f: &mut fmt::Formatter<W>) -> fmt::Result {
+        match self {
+            Want::Words(words) => f.write_str(words),
+            Want::Named(words, name) => write!(f, "{words} {name}"),
+            Want::Parts(words, count) => write!(f, "{words} {count}"),
+            Want::Other(count, found) => write!(f, "wanted {count}, found {found}"),
+        }
+    }
+}
+
+impl fmt::Display for Count {
+    fn fmt<W: fmt::Write>(&self, f: &mut fmt::Formatter<W>) -> fmt::Result {
+        let Count { number, part } = *self;
+        let end = if number == 1 { "" } else { "s" };
+        write!(f, "{number} {part}{end}")
+    }
+}

@@ -1,4 +1,0 @@
-pub mod ShapePlace
-pub mod ShapePlaces
-pub mod ShapeSearch
-pub mod ShapePlaceLaws
