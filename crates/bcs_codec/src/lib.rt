@@ -29,5 +29,4 @@ pub use bcs_num::{NumFault, Width};
 pub use bcs_registry::{
     Container, Format, GrowthFault, Named, Registry, RegistryFault, VariantFormat,
 };
-pub use bcs_registry_places::containers_of;
 pub use bcs_value::{Limits, Value, depth, fits_loosely, has_format, nodes, same};

@@ -2,8 +2,8 @@
 
 use crate::names::Name;
 use crate::owners::Owner;
+use bcs_look_registry::{Change, Difference, differences};
 use bcs_registry::{GrowthFault, Registry, RegistryFault};
-use bcs_registry_changes::{Change, Difference, differences};
 use std::alloc::{AllocError, Global};
 
 /// Where a newer registry hasn't what an older one has, and what it has there: the first difference that is no addition.

@@ -7,7 +7,8 @@ use bcs_look_registry::{
     RegistryForm, Selection, Sizes, put_format, registry_lines, show_registry, standing,
 };
 use bcs_registry::Registry;
-use bcs_registry_places::format_in;
+use bcs_registry_text::format_text::format_from;
+use bcs_registry_text::json_text::registry_json;
 use std::alloc::Global;
 use std::collections::BTreeMap;
 
@@ -31,7 +32,8 @@ pub(crate) fn answer(
 
 // The format in short, whether or not the registry admits it.
 fn short(alloc: Global, text: &str) -> Result<String, RowFault> {
-    let format = format_in(alloc, &bytes(alloc, text)?)?;
+    let json = registry_json(alloc, &bytes(alloc, text)?)?;
+    let format = format_from(alloc, &json)?;
     let mut line = Vec::new(alloc);
     put_format(&format, &mut line)?;
     Ok(String::from_utf8_lossy(alloc, &line)?)

@@ -1,9 +1,0 @@
-pub mod FirstGiven
-pub mod FirstOfRows
-pub mod GrowthSteps
-pub mod GrowthPlacing
-pub mod UnknownNames
-pub mod RepeatSteps
-pub mod RepeatedNames
-pub mod PlacedParts
-pub mod RulePlacing
