@@ -6,9 +6,7 @@ use Rattle.bcs_value_spec.specs.Limits.{Bounds}
 use Rattle.bcs_decode_spec.specs.declared.stop.Stop.{Stop}
 use Rattle.bcs_explain_columns.specs.declared.style.Form.{Form}
 use Rattle.bcs_explain_columns.specs.declared.style.Form.TheVariants.{Json, Paths, Tree, Ways}
-use Rattle.bcs_explain_columns.specs.declared.style.Paint.TheVariants.{Plain}
-use Rattle.bcs_explain_columns.specs.declared.style.Style.{Style}
-use Rattle.bcs_explain_table.specs.Explains.{Explains}
+use Rattle.bcs_look_pieces.specs.EndsAt.{EndsAt}
 use Rattle.bcs_c.specs.Answers.{plain, with_stop}
 use Rattle.bcs_c.specs.Output.{Puts}
 use Rattle.bcs_c.specs.declared.answer.Answer.{Answer}
@@ -18,12 +16,8 @@ use Rattle.bcs_c.specs.declared.status.Status.TheVariants.{Memory}
 abbrev pub form_numbered : ℕ → Form
 form_numbered n = if n == 1 then Paths else (if n == 2 then Tree else (if n == 3 then Json else Ways))
 
--- in that form, without colours
-abbrev pub style_numbered : ℕ → Style
-style_numbered n = record { form = form_numbered n; paint = Plain }
-
--- what is printed of the bytes is handed out, and where they stop is told; or memory ran out
-pub data AnswersExplained (registry : Entries) (limits : Bounds) (s : Shape) (form : ℕ) (b old new : List ℕ) (a : Answer) : Type 0 where
-  put : (text : List ℕ) (x : Option Stop) (without : Answer) → Explains (style_numbered form) registry limits s b text x
-      → Puts text old new without → a ≡ with_stop x without → AnswersExplained registry limits s form b old new a
-  no_memory : a ≡ plain Memory → AnswersExplained registry limits s form b old new a
+-- a text is handed out, and where the bytes stop is told; or memory ran out
+pub data AnswersExplained (registry : Entries) (limits : Bounds) (s : Shape) (b old new : List ℕ) (a : Answer) : Type 0 where
+  put : (text : List ℕ) (x : Option Stop) (without : Answer) → EndsAt registry limits s b x → Puts text old new without → a ≡ with_stop x without
+      → AnswersExplained registry limits s b old new a
+  no_memory : a ≡ plain Memory → AnswersExplained registry limits s b old new a

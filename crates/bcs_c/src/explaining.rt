@@ -12,7 +12,7 @@ use crate::output::put;
 use crate::registries::read_registry;
 use crate::status::Status;
 use bcs_explain_columns::style::{Form, Paint, Style};
-use bcs_explain_table::explain_text;
+use bcs_look_pieces::explain_text;
 use bcs_registry::Registry;
 use std::alloc::Global;
 
@@ -25,7 +25,7 @@ pub extern "C" fn bcs_explain(
     bytes: &[u8],
     out: &mut [u8],
 ) -> Answer
-    ensures answers { Answers (by_texts ask.now) result (λ r l s. AnswersExplained r l s form bytes.now out.old out.new result) }
+    ensures answers { Answers (by_texts ask.now) result (λ r l s. AnswersExplained r l s bytes.now out.old out.new result) }
     ensures untouched { result.status ≢ status_number Done → out.new ≡ out.old }
 {
     match read_registry(alloc, ask.registry, Status::Registry) {
@@ -43,7 +43,7 @@ pub(crate) fn explanation(
     bytes: &[u8],
     out: &mut [u8],
 ) -> Answer
-    ensures answers { Answers (on_handle (Some registry.now) ask.now) result (λ r l s. AnswersExplained r l s form bytes.now out.old out.new result) }
+    ensures answers { Answers (on_handle (Some registry.now) ask.now) result (λ r l s. AnswersExplained r l s bytes.now out.old out.new result) }
     ensures untouched { result.status ≢ status_number Done → out.new ≡ out.old }
 {
     let asked = match read_ask(alloc, registry, ask) {

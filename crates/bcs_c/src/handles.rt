@@ -208,7 +208,7 @@ pub extern "C" fn bcs_handle_explain(
     bytes: &[u8],
     out: &mut [u8],
 ) -> Answer
-    ensures answers { Answers (on_handle handle.old.registry ask.now) result (λ r l s. AnswersExplained r l s form bytes.now out.old out.new result) }
+    ensures answers { Answers (on_handle handle.old.registry ask.now) result (λ r l s. AnswersExplained r l s bytes.now out.old out.new result) }
     ensures untouched { result.status ≢ status_number Done → out.new ≡ out.old }
     ensures kept { handle.new.registry ≡ handle.old.registry }
 {

@@ -31,8 +31,7 @@ pub use Rattle.bcs_explain.specs.Piece
 pub use Rattle.bcs_explain.specs.Pieces
 pub use Rattle.bcs_explain.specs.Told
 pub use Rattle.bcs_explain.specs.Stopped
-pub use Rattle.bcs_explain_table.specs.Explains
-pub use Rattle.bcs_explain_table.specs.StopPlace
+pub use Rattle.bcs_look_pieces.specs.EndsAt
 pub use Rattle.bcs_json.specs.Spells
 pub use Rattle.bcs_json.specs.Refuses
 pub use Rattle.bcs_json.specs.Place

@@ -13,7 +13,6 @@ pub use bcs_example_text::{ExampleTextFault, example_text};
 pub use bcs_example_wanted::{ExampleForm, WantedFault, Wish, wished_example};
 pub use bcs_explain::{Counted, Listener, Meaning, Step as TrailStep, Trail, Wanted, explain};
 pub use bcs_explain_columns::style::{Form, Paint, Style};
-pub use bcs_explain_table::{Explanation, explain_text, stop_place};
 pub use bcs_io::{
     ByteSink, ByteSource, ReadSource, SinkFailed, SliceSource, SourceFailed, WriteSink, pieces,
 };
@@ -21,6 +20,7 @@ pub use bcs_json::{
     FromFault, JsonFault, JsonStep, PrintFault, Shown, compare, fault_place, from_bcs, normalise,
     print_value, read_value, to_bcs,
 };
+pub use bcs_look_pieces::{Explanation, explain_text, stop_place};
 pub use bcs_look_registry::{
     Change, Difference, RegistryForm, Sizes, container_sizes, difference_lines, differences,
     show_registry,

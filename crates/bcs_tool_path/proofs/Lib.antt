@@ -4,4 +4,3 @@ pub mod PathReading
 pub mod SomePath
 pub mod BadSteps
 pub mod PathPassing
-pub mod WayWords

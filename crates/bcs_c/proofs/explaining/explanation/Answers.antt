@@ -1,8 +1,5 @@
 use Rattle.std.proofs.Common.{List, subst, ℕ}
 use Rattle.bcs_registry_formats.specs.View.{shape_of}
-use Rattle.bcs_explain_columns.specs.declared.style.Form.{Form}
-use Rattle.bcs_explain_columns.specs.declared.style.Paint.TheVariants.{Plain}
-use Rattle.bcs_explain_table.specs.Explains.{Explains}
 use Rattle.bcs_c.specs.Asking.{given, refused}
 use Rattle.bcs_c.specs.Explained.{no_memory, put}
 use Rattle.bcs_c.specs.Output.{Puts}
@@ -15,13 +12,9 @@ pub returns-in-Ok-explain_text-clause-answers : goal.returns-in-Ok-explain_text-
 returns-in-Ok-explain_text-clause-answers c =
     let asked = c.in-Ok.asked in
     let x = c.in-Ok-explain_text.explained in
-    let explains =
-    subst (λ (f : Form). Explains (record { form = f; paint = Plain }) asked.registry.now asked.limits (shape_of asked.format) c.args.bytes.now x.text.items x.stop)
-    c.numbered_form.ensures c.in-Ok-explain_text.ensures
-    in
     let puts = subst (λ (b : List ℕ). Puts b c.args.out.now c.put.new.out c.put.result) c.deref.ensures.value c.put.ensures.puts in
     given asked.registry.now asked.limits (shape_of asked.format) c.in-Ok.ensures.ok
-    (put x.text.items x.stop c.put.result explains puts c.with_stop.ensures)
+    (put x.text.items x.stop c.put.result c.in-Ok-explain_text.ensures puts c.with_stop.ensures)
 
 pub returns-clause-answers : goal.returns-clause-answers
 returns-clause-answers c =

@@ -1,8 +1,0 @@
-pub mod TrailViews
-pub mod PathWords
-pub mod Own
-pub mod Along
-pub mod Entries
-pub mod Leading
-pub mod Ranges
-pub mod WorkedRows

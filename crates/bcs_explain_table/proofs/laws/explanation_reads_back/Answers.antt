@@ -1,5 +1,0 @@
-use Rattle.bcs_explain_table.proofs.ReadBack as proved
-use Rattle.bcs_explain_table.proofs.laws.explanation_reads_back.Goals as goal
-
-pub returns : goal.returns
-returns c = proved.explanation_reads_back
