@@ -2,5 +2,6 @@
 #![tactic(auto)]
 
 mod containers;
+mod numbers;
 mod parts;
 pub mod reading;

@@ -9,12 +9,14 @@ ghost use Rattle.bcs_json_spec.specs.Reading as spec;
 ghost use Rattle.bcs_json_spec.specs.Reading.{Tells, read_data};
 ghost use Rattle.bcs_json_reader_steps.specs.Refused.{fault_alone, IsPlaced};
 
+use crate::numbers::read_numbers;
 use crate::reading::read;
 use bcs_json_reader_steps::arrays::pair_of;
 use bcs_json_reader_steps::objects::{no_member_left, take_field};
 use bcs_json_reader_steps::refusal::{Refusal, at_item, at_member};
 use bcs_json_spec::JsonFault;
 use bcs_registry::{Format, Named, Registry};
+use bcs_registry_formats::WholeNumber;
 use bcs_value_tree::Value;
 use serde_json::{Map, Value as Json};
 use std::alloc::Global;
@@ -32,6 +34,9 @@ pub(crate) fn read_all(
         (spec.read_all (read_data registry.now left (of (shape_of element.now))) (items_view items.items)) }
     ensures placed { IsPlaced registry.now (item_parts left (shape_of element.now) 0 (items_view items.items)) result }
 {
+    if let Some(number) = WholeNumber::of(element) {
+        return read_numbers(alloc, number, items);
+    }
     let mut found = Vec::with_capacity(alloc, items.len())?;
     for item in items {
         let outcome = read(alloc, registry, element, left, item);

@@ -7,12 +7,12 @@ use Rattle.serde_json.specs.View.{view, items_view, members_view}
 use Rattle.bcs_registry_formats.specs.Container.{Choice, field_shapes, payload_shape, choice_called}
 use Rattle.bcs_registry_formats.specs.View.{shape_of, formats_shapes, field_of, payload_of, choice_of}
 use Rattle.bcs_registry_formats.specs.WellFormed.{levels, shapes_levels}
-use Rattle.bcs_value_tree.specs.View.{tree_of}
+use Rattle.bcs_value_tree.specs.View.{tree_of, items_trees}
 use Rattle.bcs_value_tree.specs.declared.value.Value.{Value}
 use Rattle.bcs_json_spec.specs.Bytes.{is_byte}
 use Rattle.bcs_json_spec.specs.JsonContent.{of}
 use Rattle.bcs_json_spec.specs.Look.{without}
-use Rattle.bcs_json_spec.specs.Place.{value, parts, field_parts}
+use Rattle.bcs_json_spec.specs.Place.{value, parts, item_parts, field_parts}
 use Rattle.bcs_json_spec.specs.Reading.{follow, read_data, read_all, read_each, read_pairs, read_fields, read_named, read_tuple}
 use Rattle.bcs_json_reader_steps.specs.Kinds.{option_json, list_json, enum_json}
 use Rattle.bcs_json_reader_steps.proofs.Joined.{joined}
@@ -173,15 +173,23 @@ containers::read_enum-returns-in_err-value-in-Member-clause-placed t c =
 
 -- ---- parts in a row
 
+pub parts::read_all-returns-in-Some-clause-tells : goal.parts::read_all-returns-in-Some-clause-tells
+parts::read_all-returns-in-Some-clause-tells t c =
+    tells_as (λ v. items_trees v.items) _ _ _ (ap (λ s. read_all (read_data c.args.registry.now c.args.left (of s)) (items_view c.args.items.items)) c.in-Some.ensures.found) (c.read_numbers.ensures.tells c.args.registry.now c.args.left)
+
+pub parts::read_all-returns-in-Some-clause-placed : goal.parts::read_all-returns-in-Some-clause-placed
+parts::read_all-returns-in-Some-clause-placed t c =
+    placed_as c.args.registry.now _ _ c.read_numbers.result (ap (λ s. item_parts c.args.left s 0 (items_view c.args.items.items)) c.in-Some.ensures.found) (c.read_numbers.ensures.placed c.args.registry.now c.args.left)
+
 pub parts::read_all-loop-item-preserved : goal.parts::read_all-loop-item-preserved
 parts::read_all-loop-item-preserved t c =
     let l = c.loop-item in
     let r = (read_data c.args.registry.now c.args.left (of (shape_of c.args.element.now))) in
     let read = (told_ok tree_of c.read-outcome.result _ c.in_ok-value.value c.in_ok-value.ensures.same c.read-outcome.ensures.tells) in (
       l.invariant.0
-          ∙ item_more r (into_iter_items l.item-iterator) l.found.items (into_iter_items c.next.new.self) c.in-Some.item c.in_ok-value.value c.in-Some.ensures.steps.0 read
+          ∙ item_more r (into_iter_items l.item-iterator) l.found.items (into_iter_items c.next.new.self) c.in-Some-item.item c.in_ok-value.value c.in-Some-item.ensures.steps.0 read
           ∙ ap (λ (vs : List Value). follow (read_all r (items_view (into_iter_items c.next.new.self))) (λ ts. Ok (joined vs ts))) (sym c.in_ok-push.ensures.items),
-      λ path h. l.invariant.1 path (item_onward c.args.registry.now c.args.left (shape_of c.args.element.now) (length l.found.items) (into_iter_items l.item-iterator) (into_iter_items c.next.new.self) c.in-Some.item c.in-Some.ensures.steps.0 _ (tree_of c.in_ok-value.value)
+      λ path h. l.invariant.1 path (item_onward c.args.registry.now c.args.left (shape_of c.args.element.now) (length l.found.items) (into_iter_items l.item-iterator) (into_iter_items c.next.new.self) c.in-Some-item.item c.in-Some-item.ensures.steps.0 _ (tree_of c.in_ok-value.value)
           (found_more l.found.items c.push.new.self.items c.in_ok-value.value c.in_ok-push.ensures.items) read path h),
     )
 
@@ -189,7 +197,7 @@ pub parts::read_all-returns-in_err-value-clause-placed : goal.parts::read_all-re
 parts::read_all-returns-in_err-value-clause-placed t c =
     let l = c.loop-item in
     let p = err_from_is_err_and c.from_residual-in_err-value.result c.from_residual-in_err-value.ensures.1 in
-    rw (p.1, p.2) (placed_on c.args.registry.now _ _ c.in_err-value.field-0.0 l.invariant.1 (item_placed c.args.registry.now c.args.left (shape_of c.args.element.now) (length l.found.items) (into_iter_items l.item-iterator) (into_iter_items c.next.new.self) c.in-Some.item c.in-Some.ensures.steps.0
+    rw (p.1, p.2) (placed_on c.args.registry.now _ _ c.in_err-value.field-0.0 l.invariant.1 (item_placed c.args.registry.now c.args.left (shape_of c.args.element.now) (length l.found.items) (into_iter_items l.item-iterator) (into_iter_items c.next.new.self) c.in-Some-item.item c.in-Some-item.ensures.steps.0
     tree_of c.read-outcome.result c.in_err-value.field-0.0 (record { tells = c.read-outcome.ensures.tells; placed = c.read-outcome.ensures.placed }) (outside_at (length l.found.items) c.len-in-loop-item.result _ _ (omega (arith, c.len-in-loop-item.ensures, l.found.ok)) (record { same = c.in_err-value.ensures.same; way = c.in_err-value.ensures.way }))))
 
 pub parts::read_all-returns-clause-tells : goal.parts::read_all-returns-clause-tells

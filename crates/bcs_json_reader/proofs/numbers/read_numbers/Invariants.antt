@@ -1,0 +1,18 @@
+use Rattle.std.proofs.Common.{◌≡◌, ℕ, List, length, Ok}
+use Rattle.std.specs.Vec.Iter.{into_iter_items}
+use Rattle.serde_json.specs.View.{items_view}
+use Rattle.bcs_registry_formats.specs.Container.{Entries}
+use Rattle.bcs_registry_formats.specs.Whole.{whole_shape}
+use Rattle.bcs_json_spec.specs.JsonContent.{of}
+use Rattle.bcs_json_spec.specs.Place.{Step, item_parts, IsPlaceAmong}
+use Rattle.bcs_json_spec.specs.Reading.{follow, read_all, read_data}
+use Rattle.bcs_json_reader_steps.proofs.Joined.{joined}
+use Rattle.bcs_json_reader.proofs.numbers.read_numbers.Given as goal
+
+-- the whole is what was read so far, before what is still to be read, and a place there is one of the whole
+abbrev pub invariant-loop-item : goal.invariant-loop-item
+invariant-loop-item l =
+    ((registry : Entries) (left : ℕ) → read_all (read_data registry left (of (whole_shape l.format))) (items_view l.fn.items.items)
+    ≡ follow (read_all (read_data registry left (of (whole_shape l.format))) (items_view (into_iter_items l.item-iterator))) (λ ts. Ok (joined l.found.items ts)))
+    × ((registry : Entries) (left : ℕ) (path : List Step) → IsPlaceAmong registry path (item_parts left (whole_shape l.format) (length l.found.items) (items_view (into_iter_items l.item-iterator)))
+    → IsPlaceAmong registry path (item_parts left (whole_shape l.format) 0 (items_view l.fn.items.items)))
