@@ -7,8 +7,8 @@ use bcs_registry_text::json_text::registry_json;
 use std::alloc::Global;
 use std::collections::BTreeMap;
 
-/// That no container of a registry has the word FORMAT for its name. `None`: one has. It may be meant as a format without
-/// a name, such as `U64`, so the line says how that is written.
+/// That no container of a registry has the word FORMAT for its name. `None`: one has. It may be meant as a format
+/// without a name, such as `U64`, so the line says how that is written.
 pub fn place_of_word(
     alloc: Global,
     text: &[u8],
@@ -19,7 +19,9 @@ pub fn place_of_word(
         return Ok(None);
     }
     let name = Name::of(word);
-    let line = format!(in alloc; "at FORMAT: UnknownName: no container is called {name}; a format without a name is written as JSON, as '\"U64\"'")?;
+    let line = format!(in alloc;
+        "at FORMAT: UnknownName: no container is called {name}; a format without a name is written as JSON, as '\"U64\"'"
+    )?;
     Ok(Some(line.into_bytes()))
 }
 

@@ -56,7 +56,10 @@ impl<'a> Spot<'a> {
                 (self.goal.item(number)?, self.json.get(number)?)
             }
             JsonStep::Member(name) => {
-                (self.goal.member(name.as_str())?, self.json.get(name.as_str())?)
+                (
+                    self.goal.member(name.as_str())?,
+                    self.json.get(name.as_str())?,
+                )
             }
         };
         Some(Spot {

@@ -6,8 +6,8 @@ use bcs_look_registry::{Change, Difference, differences};
 use bcs_registry::{GrowthFault, Registry, RegistryFault};
 use std::alloc::{AllocError, Global};
 
-/// Where a newer registry hasn't what an older one has, and what it has there: the first difference that is no addition.
-/// `None`: it has all of it.
+/// Where a newer registry hasn't what an older one has, and what it has there: the first difference that is no
+/// addition. `None`: it has all of it.
 pub fn place_of_growth(
     alloc: Global,
     older: &[u8],
@@ -48,8 +48,8 @@ fn growth_line(
 // The variant of the older enum that differs.
 fn older_variant<'a>(change: &Change<'a>) -> Option<(u32, &'a str)> {
     match change {
-        Change::VariantMissing { number, older }
-        | Change::VariantChanged { number, older, .. } => Some((*number, older.name.as_str())),
+        Change::VariantMissing { number, older } | Change::VariantChanged { number, older, .. } =>
+            Some((*number, older.name.as_str())),
         _ => None,
     }
 }

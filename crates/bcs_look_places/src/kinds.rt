@@ -63,11 +63,16 @@ fn bytes_want<'a>(json: &'a Json) -> Option<Want<'a>> {
     }
 }
 
-fn digits_want<'a>(text: &str) -> Option<Want<'a>> {
+fn digits_want<'a>(text: &'a str) -> Option<Want<'a>> {
+    Some(Want::Words(wrong_digits(text)?))
+}
+
+// What is wrong with a string of hexadecimal digits.
+fn wrong_digits(text: &str) -> Option<&'static str> {
     if !text.bytes().all(|byte| byte.is_ascii_hexdigit()) {
-        Some(Want::Words("a character that is no hexadecimal digit"))
+        Some("a character that is no hexadecimal digit")
     } else if text.len() % 2 == 1 {
-        Some(Want::Words("an odd number of digits"))
+        Some("an odd number of digits")
     } else {
         None
     }
@@ -88,11 +93,15 @@ fn option_want<'a>(json: &'a Json) -> Option<Want<'a>> {
 
 fn list_want<'a>(element: &Format, json: &'a Json) -> Option<Want<'a>> {
     if json.is_array() {
-        return None;
+        None
+    } else if matches!(element, Format::U8) {
+        octets_want(json)
+    } else {
+        Some(Want::Words("wanted an array"))
     }
-    if !matches!(element, Format::U8) {
-        return Some(Want::Words("wanted an array"));
-    }
+}
+
+fn octets_want<'a>(json: &'a Json) -> Option<Want<'a>> {
     match json {
         Json::String(text) => digits_want(text),
         _ => Some(Want::Words("wanted an array of U8, or a string of hexadecimal digits")),
@@ -100,9 +109,14 @@ fn list_want<'a>(element: &Format, json: &'a Json) -> Option<Want<'a>> {
 }
 
 fn array_want<'a>(element: &Format, number: u64, json: &'a Json) -> Option<Want<'a>> {
-    if json.is_array() || !matches!(element, Format::U8) {
-        return row_want(number, json);
+    if matches!(element, Format::U8) && !json.is_array() {
+        all_octets_want(number, json)
+    } else {
+        row_want(number, json)
     }
+}
+
+fn all_octets_want<'a>(number: u64, json: &'a Json) -> Option<Want<'a>> {
     let count = Count {
         number,
         part: "byte",
@@ -113,9 +127,9 @@ fn array_want<'a>(element: &Format, number: u64, json: &'a Json) -> Option<Want<
     }
 }
 
-fn all_digits_want<'a>(count: Count, text: &str) -> Option<Want<'a>> {
-    match digits_want(text) {
-        Some(want) => Some(want),
+fn all_digits_want<'a>(count: Count, text: &'a str) -> Option<Want<'a>> {
+    match wrong_digits(text) {
+        Some(words) => Some(Want::Words(words)),
         None => other_want(count, (text.len() / 2) as u64),
     }
 }
@@ -159,10 +173,7 @@ fn struct_want<'a>(fields: &'a [Named<Format>], json: &'a Json) -> Option<Want<'
 }
 
 // The first member that is no field.
-fn unknown_field<'a>(
-    fields: &[Named<Format>],
-    members: &'a Map<String, Json>,
-) -> Option<Want<'a>> {
+fn unknown_field<'a>(fields: &[Named<Format>], members: &'a Map<String, Json>) -> Option<Want<'a>> {
     for (name, _) in members {
         if field_called(fields, name.as_str()).is_none() {
             return Some(Want::Named("no field is called", Name::of(name.as_str())));

@@ -42,7 +42,11 @@ impl fmt::Display for Name<'_> {
                 return f.write_str("...(cut)");
             }
             room -= signs.len();
-            f.write_str(if self.in_pointer { marked(signs) } else { signs })?;
+            f.write_str(if self.in_pointer {
+                marked(signs)
+            } else {
+                signs
+            })?;
         }
         Ok(())
     }

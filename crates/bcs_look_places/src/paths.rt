@@ -14,7 +14,9 @@ pub fn place_of_path(alloc: Global, word: &str) -> Result<Option<Vec<u8>>, Alloc
         format!(in alloc; "at PATH, step {number}: BadPath: an empty step")?
     } else {
         let text = Name::of(text);
-        format!(in alloc; "at PATH, step {number} {text}: BadPath: wanted a number, inner, or key: and hexadecimal digits")?
+        format!(in alloc;
+            "at PATH, step {number} {text}: BadPath: wanted a number, inner, or key: and hexadecimal digits"
+        )?
     };
     Ok(Some(line.into_bytes()))
 }

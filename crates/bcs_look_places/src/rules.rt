@@ -89,7 +89,8 @@ impl<'a> Search<'a> {
             if !seen.insert(variant.name.as_str())? {
                 let (container, name) = (Name::of(container), Name::of(variant.name.as_str()));
                 self.repeated = Some(format!(in self.alloc;
-                    "at {container}: RepeatedName: two variants are called {name}")?);
+                    "at {container}: RepeatedName: two variants are called {name}"
+                )?);
                 return Ok(());
             }
         }
@@ -119,7 +120,8 @@ impl<'a> Search<'a> {
             if self.repeated.is_none() && !seen.insert(name)? {
                 let name = Name::of(name);
                 self.repeated = Some(format!(in self.alloc;
-                    "at {owner}: RepeatedName: two fields are called {name}")?);
+                    "at {owner}: RepeatedName: two fields are called {name}"
+                )?);
             }
         }
         Ok(())
@@ -133,7 +135,8 @@ impl<'a> Search<'a> {
     ) -> Result<(), AllocError> {
         if self.too_nested.is_none() && !has_few_levels(format) {
             self.too_nested = Some(format!(in self.alloc;
-                "at {owner}{slot}: TooNested: a format has more than 32 levels")?);
+                "at {owner}{slot}: TooNested: a format has more than 32 levels"
+            )?);
         }
         if self.unknown.is_some() {
             return Ok(());
@@ -141,7 +144,8 @@ impl<'a> Search<'a> {
         if let Some(name) = first_unknown(format, self.containers) {
             let name = Name::of(name);
             self.unknown = Some(format!(in self.alloc;
-                "at {owner}{slot}: UnknownName: no container is called {name}")?);
+                "at {owner}{slot}: UnknownName: no container is called {name}"
+            )?);
         }
         Ok(())
     }

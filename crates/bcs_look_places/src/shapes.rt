@@ -9,8 +9,8 @@ use bcs_registry_text::json_text::registry_json;
 use serde_json::{Map, Value};
 use std::alloc::{AllocError, Global};
 
-/// Where a registry's text, which is JSON, hasn't the shape, or else where a number in it is bad: the innermost JSON that
-/// is bad, and what was wanted there. `None`: it has the shape, with its numbers in range.
+/// Where a registry's text, which is JSON, hasn't the shape, or else where a number in it is bad: the innermost JSON
+/// that is bad, and what was wanted there. `None`: it has the shape, with its numbers in range.
 pub fn place_of_registry_shape(
     alloc: Global,
     text: &[u8],
@@ -50,12 +50,11 @@ struct ShapePlace {
 }
 
 // The shape before the numbers, since a bad shape is the lesser fault wherever it stands.
-fn misshapen(
-    alloc: Global,
-    json: &Value,
-    whole: Part,
-) -> Result<Option<ShapePlace>, AllocError> {
-    for (loose, fault) in [(true, RegistryFault::BadShape), (false, RegistryFault::BadNumber)] {
+fn misshapen(alloc: Global, json: &Value, whole: Part) -> Result<Option<ShapePlace>, AllocError> {
+    for (loose, fault) in [
+        (true, RegistryFault::BadShape),
+        (false, RegistryFault::BadNumber),
+    ] {
         let mut search = Search {
             loose,
             inward: Vec::new(alloc),

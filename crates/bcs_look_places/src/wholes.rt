@@ -16,10 +16,18 @@ pub fn whole_line(
     let nodes = limits.nodes();
     let line = match fault {
         JsonFault::NotJson => return stop_line(alloc, "at", text),
-        JsonFault::TooNested => format!(in alloc; "at the whole text: TooNested: arrays and objects nest more than 100 deep"),
-        JsonFault::TooManyNodes => format!(in alloc; "at the whole text: TooManyNodes: the value has more nodes than --nodes allows, {nodes}"),
-        JsonFault::TooLong => format!(in alloc; "at the whole text: TooLong: a length is above 2147483647"),
-        JsonFault::RepeatedKey => format!(in alloc; "at the whole text: RepeatedKey: two keys of a map are equal"),
+        JsonFault::TooNested => format!(in alloc;
+            "at the whole text: TooNested: arrays and objects nest more than 100 deep"
+        ),
+        JsonFault::TooManyNodes => format!(in alloc;
+            "at the whole text: TooManyNodes: the value has more nodes than --nodes allows, {nodes}"
+        ),
+        JsonFault::TooLong => format!(in alloc;
+            "at the whole text: TooLong: a length is above 2147483647"
+        ),
+        JsonFault::RepeatedKey => format!(in alloc;
+            "at the whole text: RepeatedKey: two keys of a map are equal"
+        ),
         _ => return None,
     };
     Some(line.ok()?.into_bytes())
