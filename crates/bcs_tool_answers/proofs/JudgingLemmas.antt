@@ -1,13 +1,10 @@
--- Faults that a `?` hands on, and commands that take a format.
-use Rattle.std.proofs.Common.{◌≡◌, ◌≢◌, ◌⊎◌, ◌∙◌, Result, IfErr, ap, inl, inr, refl, sym, subst, true}
+-- Faults that a `?` hands on.
+use Rattle.std.proofs.Common.{◌≡◌, ◌≢◌, ◌∙◌, Result, IfErr, ap, sym, subst}
 use Rattle.std.specs.Result.{IsErrAnd}
 use Rattle.std.proofs.lemmas.Result.{err_from_is_err_and}
 use Rattle.bcs_registry_formats.specs.declared.fault.RegistryFault.{RegistryFault}
 use Rattle.bcs_registry_formats.specs.declared.fault.RegistryFault.TheVariants.{OutOfMemory}
 use Rattle.bcs_registry_formats.specs.declared.growth_fault.GrowthFault.{GrowthFault}
-use Rattle.bcs_tool_line.specs.declared.command.Command.{Command}
-use Rattle.bcs_tool_line.specs.declared.command.Command.TheVariants.{Example, Encode, Decode, Explain, Normalise, Same, Part, Scan}
-use Rattle.bcs_tool_answers.specs.Judging.{takes_format}
 use Rattle.bcs_tool_answers.specs.declared.job_fault.JobFault.{JobFault}
 use Rattle.bcs_tool_answers.specs.declared.job_fault.JobFault.TheVariants.{Registry, Growth}
 
@@ -20,15 +17,3 @@ pub refused_by_growth : {T : Type 0} (P : JobFault → Type 0) (r : Result T Job
     → P (Growth fault) → IfErr r (λ e. e ≢ Registry OutOfMemory → P e)
 refused_by_growth P r fault is why =
     let p = err_from_is_err_and r is in rw p.1 (λ differs. subst P (sym p.2) why)
-
--- a command of one of these takes a format
-pub formatted : (command : Command) → (command ≡ Example) ⊎ (command ≡ Encode) ⊎ (command ≡ Decode) ⊎ (command ≡ Explain) ⊎ (command ≡ Normalise) ⊎ (command ≡ Same) ⊎ (command ≡ Part) ⊎ (command ≡ Scan)
-    → takes_format command ≡ true
-formatted command (inl is) = ap takes_format is
-formatted command (inr (inl is)) = ap takes_format is
-formatted command (inr (inr (inl is))) = ap takes_format is
-formatted command (inr (inr (inr (inl is)))) = ap takes_format is
-formatted command (inr (inr (inr (inr (inl is))))) = ap takes_format is
-formatted command (inr (inr (inr (inr (inr (inl is)))))) = ap takes_format is
-formatted command (inr (inr (inr (inr (inr (inr (inl is))))))) = ap takes_format is
-formatted command (inr (inr (inr (inr (inr (inr (inr is))))))) = ap takes_format is

@@ -2,10 +2,8 @@ pub mod AnswerLemmas
 pub mod PartAnswers
 pub mod ScanAnswers
 pub mod JudgingLemmas
-pub mod Listings
 pub mod OneRefusal
 pub mod OnePair
-pub mod OneExample
 pub mod OneKind
 pub mod OneAnswer
 pub mod SomeRefusal

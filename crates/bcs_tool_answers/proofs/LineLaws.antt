@@ -5,7 +5,7 @@ use Rattle.std.proofs.lemmas.Bool.{cases_Bool}
 use Rattle.std.proofs.lemmas.List.Elements.{All-nil, All-cons, All-head, All-tail}
 use Rattle.bcs_decode_spec.specs.Exact.{AreBytes}
 use Rattle.bcs_io_lines.specs.Lines.{lines_of, onto}
-use Rattle.bcs_tool_answers.specs.AnswerLaws.{OneAnswerALine, SomeAnswerALine}
+use Rattle.bcs_tool_answers.specs.AnswerLaws.{IsExact, OneAnswerALine, SomeAnswerALine}
 use Rattle.bcs_tool_answers.specs.Answers.{Answers}
 use Rattle.bcs_tool_answers.specs.LineAnswers.{AnswersAll, greatest}
 use Rattle.bcs_tool_answers.specs.LineAnswers as all
@@ -27,17 +27,17 @@ module _ (work : Work) where
   in_turn all.none = (refl, refl)
   in_turn (all.next l ls s ss o os h more) = (s, ss, o, os, h, more, refl, refl)
 
-  pub one_for_all : (lines : List (List ℕ)) (statuses others outputs again : List ℕ) → AnswersAll work lines statuses outputs
+  pub one_for_all : (lines : List (List ℕ)) (statuses others outputs again : List ℕ) → IsExact work.command work.list → AnswersAll work lines statuses outputs
       → AnswersAll work lines others again → (statuses ≡ others) × (outputs ≡ again)
-  one_for_all [] statuses others outputs again h k =
+  one_for_all [] statuses others outputs again exact h k =
       let p = in_turn h in
       let q = in_turn k in
       (p.0 ∙ sym q.0, p.1 ∙ sym q.1)
-  one_for_all (l ∷ ls) statuses others outputs again h k =
+  one_for_all (l ∷ ls) statuses others outputs again exact h k =
       let p = in_turn h in
       let q = in_turn k in
-      let first = one_answer work l p.0 q.0 p.2 q.2 p.4 q.4 in
-      let behind = one_for_all ls p.1 q.1 p.3 q.3 p.5 q.5 in (
+      let first = one_answer work l p.0 q.0 p.2 q.2 exact p.4 q.4 in
+      let behind = one_for_all ls p.1 q.1 p.3 q.3 exact p.5 q.5 in (
         p.6 ∙ ap₂ (λ (x : ℕ) (xs : List ℕ). x ∷ xs) first.0 behind.0 ∙ sym q.6,
         p.7 ∙ ap₂ (λ (xs ys : List ℕ). xs ++ ys) first.1 behind.1 ∙ sym q.7,
       )
@@ -73,8 +73,8 @@ bytes_of_lines (c ∷ cs) are =
 -- ---- the laws
 
 pub one_answer_a_line : OneAnswerALine
-one_answer_a_line work content status other output again (ss, h, is) (tt, k, also) =
-    let same = one_for_all work (lines_of content) ss tt output again h k in
+one_answer_a_line work content status other output again exact (ss, h, is) (tt, k, also) =
+    let same = one_for_all work (lines_of content) ss tt output again exact h k in
     (is ∙ ap greatest same.0 ∙ sym also, same.1)
 
 pub some_answer_a_line : SomeAnswerALine

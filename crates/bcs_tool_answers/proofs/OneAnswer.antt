@@ -4,9 +4,6 @@ use Rattle.bcs_registry_formats.specs.Container.{Entries}
 use Rattle.bcs_registry_formats.specs.Grows.{Grows}
 use Rattle.bcs_registry_formats.specs.Ranges.{IsOrderly}
 use Rattle.bcs_registry_formats.specs.Shape.{Shape}
-use Rattle.bcs_registry_show.specs.Shows.{NamesNone, ShowsRegistry}
-use Rattle.bcs_registry_show.proofs.ShowLaws.{one_text_holds}
-use Rattle.bcs_example_text.specs.ExampleText.{example_fault_name}
 use Rattle.bcs_encode_spec.specs.Plain.{plain}
 use Rattle.bcs_decode_parts.specs.Parts.{Step}
 use Rattle.bcs_registry_spec.proofs.OneText.{same_registry}
@@ -16,17 +13,15 @@ use Rattle.bcs_tool_files.specs.declared.work.Work.{Work}
 use Rattle.bcs_tool_line.specs.declared.command.Command.{Command}
 use Rattle.bcs_tool_line.specs.declared.command.Command.TheVariants.{Check, Encode, Decode, Normalise}
 use Rattle.bcs_tool_line.specs.declared.command.Command.TheVariants as command
-use Rattle.bcs_tool_answers.specs.AnswerLaws.{OneAnswer}
+use Rattle.bcs_tool_answers.specs.AnswerLaws.{IsExact, OneAnswer}
 use Rattle.bcs_json_spec.specs.FaultNames.{json_fault_name}
-use Rattle.bcs_tool_answers.specs.Answers.{Answers, AnswersTexts, IsAsked, Lists, count_line, line_of, lists, printed, printed_none, refusal_line, registry_form, stop_end, stop_line}
+use Rattle.bcs_tool_answers.specs.Answers.{Answers, AnswersTexts, IsAsked, Lists, count_line, line_of, lists, printed, printed_none, refusal_line, stop_line}
 use Rattle.bcs_tool_answers.specs.Answers as answer
-use Rattle.bcs_tool_answers.specs.Judging.{IsFormat, IsPath, IsRegistry, RefusesAt, RefusesFormatted, job_fault_name, name_of}
+use Rattle.bcs_tool_answers.specs.Judging.{IsFormat, IsPath, IsRegistry, RefusesAt, RefusesFormatted, job_fault_name}
 use Rattle.bcs_tool_answers.specs.declared.job_fault.JobFault.{JobFault}
-use Rattle.bcs_tool_answers.proofs.Listings.{one_listing}
-use Rattle.bcs_tool_answers.proofs.OneExample.{Exampled, one_exampled}
-use Rattle.bcs_tool_answers.proofs.OneKind.{Decoded, Encoded, Explained, Normalised, Parted, Scanned, one_decoded, one_encoded, one_explained, one_normalised, one_parted, one_scanned}
+use Rattle.bcs_tool_answers.proofs.OneKind.{Decoded, Encoded, Normalised, Parted, Scanned, one_decoded, one_encoded, one_normalised, one_parted, one_scanned}
 use Rattle.bcs_tool_answers.proofs.OnePair.{Agrees, one_pair}
-use Rattle.bcs_tool_answers.proofs.OneRefusal.{not_checked, not_formatted, not_grown, not_parted, not_shown, one_format_word, one_refusal}
+use Rattle.bcs_tool_answers.proofs.OneRefusal.{not_checked, not_formatted, not_grown, not_parted, one_format_word, one_refusal, unlisted}
 
 module _ (work : Work) (input : List ℕ) where
   -- ---- what is answered by each command
@@ -40,20 +35,19 @@ module _ (work : Work) (input : List ℕ) where
   abbrev Late : Command → ℕ → List ℕ → Type 0
   Late Check s p = (r : Entries) × IsRegistry work.registry.items r × (s ≡ 0) × (p ≡ count_line (length r))
   Late command.Grows s p = (r : Entries) × (n : Entries) × IsRegistry work.registry.items r × IsRegistry work.second.items n × Grows r n
-      × (list : List ℕ) × Lists work.list work list × (s ≡ 0) × (p ≡ list ++ line_of (codes "grows"))
-  Late command.Show s p = (r : Entries) × (t : List ℕ) × IsRegistry work.registry.items r × (NamesNone (name_of work) r → ⊥)
-      × ShowsRegistry (registry_form work.style.form) (name_of work) r t × (s ≡ 0) × (p ≡ t)
-  Late command.Example s p = Valued (Exampled work) s p
+      × (list : List ℕ) × Lists work.list list × (s ≡ 0) × (p ≡ list ++ line_of (codes "grows"))
+  Late command.Show s p = Unit {0}
+  Late command.Example s p = Unit {0}
   Late Encode s p = Valued (Encoded work input) s p
   Late Decode s p = Valued (Decoded work input) s p
-  Late command.Explain s p = Valued (Explained work input) s p
+  Late command.Explain s p = Unit {0}
   Late Normalise s p = Valued (Normalised work input) s p
   Late command.Same s p = Valued Compared s p
   Late command.Scan s p = Valued (Scanned work input) s p
   Late command.Part s p = (path : List Step) × SpellsPath (string_bytes work.path) path × Valued (λ r f. Parted work input r f path) s p
 
   abbrev Early : Command → ℕ → List ℕ → Type 0
-  Early c s p = (fault : JobFault) × (list : List ℕ) × RefusesAt c work fault × Lists (lists work fault) work list × (s ≡ 2) × (p ≡ list ++ refusal_line (job_fault_name fault))
+  Early c s p = (fault : JobFault) × (list : List ℕ) × RefusesAt c work fault × Lists (lists work fault) list × (s ≡ 2) × (p ≡ list ++ refusal_line (job_fault_name fault))
 
   valued : (P : Entries → Shape → ℕ → List ℕ → Type 0) (c : Command) (r : Entries) (f : Shape) (s : ℕ) (p : List ℕ) → IsAsked work input c r f → P r f s p → Valued P s p
   valued P c r f s p asked is = (r, f, asked.asks.is_registry, asked.asks.is_format, is)
@@ -76,9 +70,8 @@ module _ (work : Work) (input : List ℕ) where
   told (answer.refused_early fault l h a) = inl (fault, l, h, a, refl, refl)
   told (answer.checked r c h) = by Check 0 (count_line (length r)) c (r, h, refl, refl)
   told (answer.grown r n l c h k g a) = by command.Grows 0 (l ++ line_of (codes "grows")) c (r, n, h, k, g, l, a, refl, refl)
-  told (answer.shown r t c h k w) = by command.Show 0 t c (r, t, h, k, w, refl, refl)
-  told (answer.exampled r f t a h) = by command.Example 0 (line_of t) a.is_command (r, f, a.is_registry, a.is_format, inl (t, h, refl, refl))
-  told (answer.no_example r f e a h) = by command.Example 2 (refusal_line (example_fault_name e)) a.is_command (r, f, a.is_registry, a.is_format, inr (e, h, refl, refl))
+  told (answer.shown r t c h k) = by command.Show 0 t c tt
+  told (answer.exampled r f z t a h) = by command.Example z t a.is_command tt
   told (answer.encoded r f b a h) = by Encode 0 (printed work.raw b) a.is_command (valued (Encoded work input) Encode r f 0 (printed work.raw b) a (inl (b, h, refl, refl)))
   told (answer.normalised r f t a h) = by Normalise 0 (line_of t) a.is_command (valued (Normalised work input) Normalise r f 0 (line_of t) a (inl (t, h, refl, refl)))
   told (answer.refused c r f e (inl is) a h) = by Encode 2 (refusal_line (json_fault_name e)) (a.is_command ∙ is) (valued (Encoded work input) c r f 2 (refusal_line (json_fault_name e)) a (inr (e, h, refl, refl)))
@@ -87,14 +80,10 @@ module _ (work : Work) (input : List ℕ) where
   told (answer.decoded r f b t a g h) = by Decode 0 (line_of t) a.is_command (valued (Decoded work input) Decode r f 0 (line_of t) a (inl (b, g, inl (t, h, refl, refl))))
   told (answer.stopped r f b e o a g h) = by Decode 2 (stop_line e o) a.is_command (valued (Decoded work input) Decode r f 2 (stop_line e o) a (inl (b, g, inr (inl (e, o, h, refl, refl)))))
   told (answer.too_nested r f b c a g h n) = by Decode 2 (refusal_line (codes "TooNested")) a.is_command (valued (Decoded work input) Decode r f 2 (refusal_line (codes "TooNested")) a (inl (b, g, inr (inr (c, h, n, refl, refl)))))
-  told (answer.explained r f b t a g h) =
-      by command.Explain 0 t a.is_command (valued (Explained work input) command.Explain r f 0 t a (inl (b, g, (t, None, h, refl, refl))))
-  told (answer.damaged r f b t e o a g h) =
-      by command.Explain 2 (t ++ stop_end work.style.form e o) a.is_command
-      (valued (Explained work input) command.Explain r f 2 (t ++ stop_end work.style.form e o) a (inl (b, g, (t, Some (record { reason = e; place = o }), h, refl, refl))))
+  told (answer.explained r f b t c a g h) = by command.Explain 0 t a.is_command tt
+  told (answer.damaged r f b t e o a g h) = by command.Explain 2 t a.is_command tt
   told (answer.no_bytes c r f (inl is) a h) = by Decode 2 (refusal_line (codes "BadHex")) (a.is_command ∙ is) (valued (Decoded work input) c r f 2 (refusal_line (codes "BadHex")) a (inr (h, refl, refl)))
-  told (answer.no_bytes c r f (inr (inr (inl is))) a h) =
-      by command.Explain 2 (refusal_line (codes "BadHex")) (a.is_command ∙ is) (valued (Explained work input) c r f 2 (refusal_line (codes "BadHex")) a (inr (h, refl, refl)))
+  told (answer.no_bytes c r f (inr (inr (inl is))) a h) = by command.Explain 2 (refusal_line (codes "BadHex")) (a.is_command ∙ is) tt
   told (answer.no_bytes c r f (inr (inr (inr is))) a h) =
       by command.Scan 2 (refusal_line (codes "BadHex")) (a.is_command ∙ is) (valued (Scanned work input) c r f 2 (refusal_line (codes "BadHex")) a (inr (h, refl, refl)))
   told (answer.no_bytes c r f (inr (inl is)) a h) =
@@ -126,54 +115,50 @@ module _ (work : Work) (input : List ℕ) where
       let format : g ≡ f = one_format_word r (string_bytes work.format) g f (subst (λ (m : Entries). IsFormat m (string_bytes work.format) g) same b) a in
       one r f h.0.2.orderly s z p q x (subst (λ (i : Shape). P r i z q) format (subst (λ (m : Entries). P m g z q) same y))
 
-  one_late : (c : Command) → IsOne (Late c)
-  one_late Check s z p q (r, h, hs, hp) (n, k, ks, kq) =
+  one_late : (c : Command) → IsExact c work.list → IsOne (Late c)
+  one_late Check exact s z p q (r, h, hs, hp) (n, k, ks, kq) =
       (hs ∙ sym ks, hp ∙ ap (λ (m : Entries). count_line (length m)) (same_registry work.registry.items r n h.0 k.0) ∙ sym kq)
-  one_late command.Grows s z p q (r, n, h, g, w, l, a, hs, hp) (r2, n2, k, i, x, m, b, ks, kq) =
-      (hs ∙ sym ks, hp ∙ ap (λ (list : List ℕ). list ++ line_of (codes "grows")) (one_listing work work.list l m a b) ∙ sym kq)
-  one_late command.Show s z p q (r, t, h, g, w, hs, hp) (n, u, k, i, x, ks, kq) =
-      let same : n ≡ r = same_registry work.registry.items n r k.0 h.0 in
-      let own = subst (λ (m : Entries). ShowsRegistry (registry_form work.style.form) (name_of work) m u) same x in
-      (hs ∙ sym ks, hp ∙ one_text_holds (registry_form work.style.form) (name_of work) r t u w own ∙ sym kq)
-  one_late command.Example s z p q h k = one_valued (Exampled work) (one_exampled work) s z p q h k
-  one_late Encode s z p q h k = one_valued (Encoded work input) (one_encoded work input) s z p q h k
-  one_late Decode s z p q h k = one_valued (Decoded work input) (one_decoded work input) s z p q h k
-  one_late command.Explain s z p q h k = one_valued (Explained work input) (one_explained work input) s z p q h k
-  one_late Normalise s z p q h k = one_valued (Normalised work input) (one_normalised work input) s z p q h k
-  one_late command.Same s z p q h k = one_valued Compared (λ r f. one_pair r work.limits f work.second.items input) s z p q h k
-  one_late command.Part s z p q (path, spells, h) (other, also, k) =
+  one_late command.Grows exact s z p q (r, n, h, g, w, l, a, hs, hp) (r2, n2, k, i, x, m, b, ks, kq) =
+      (hs ∙ sym ks, hp ∙ ap (λ (list : List ℕ). list ++ line_of (codes "grows")) (a exact ∙ sym (b exact)) ∙ sym kq)
+  one_late command.Show exact s z p q h k = absurd exact
+  one_late command.Example exact s z p q h k = absurd exact
+  one_late Encode exact s z p q h k = one_valued (Encoded work input) (one_encoded work input) s z p q h k
+  one_late Decode exact s z p q h k = one_valued (Decoded work input) (one_decoded work input) s z p q h k
+  one_late command.Explain exact s z p q h k = absurd exact
+  one_late Normalise exact s z p q h k = one_valued (Normalised work input) (one_normalised work input) s z p q h k
+  one_late command.Same exact s z p q h k = one_valued Compared (λ r f. one_pair r work.limits f work.second.items input) s z p q h k
+  one_late command.Part exact s z p q (path, spells, h) (other, also, k) =
       let same : other ≡ path = one_path (string_bytes work.path) other path also spells in
       one_valued (λ r f. Parted work input r f path) (λ r f orderly. one_parted work input r f orderly path) s z p q h
       (subst (λ (t : List Step). Valued (λ r f. Parted work input r f t) z q) same k)
-  one_late command.Scan s z p q h k = one_valued (Scanned work input) (one_scanned work input) s z p q h k
+  one_late command.Scan exact s z p q h k = one_valued (Scanned work input) (one_scanned work input) s z p q h k
 
   -- a job that is refused for its words answers nothing else
   of_valued : (P : Entries → Shape → ℕ → List ℕ → Type 0) (fault : JobFault) (s : ℕ) (p : List ℕ) → RefusesFormatted work fault → Valued P s p → ⊥
   of_valued P fault s p h (r, f, is, a, x) = not_formatted work fault r f h is a
 
-  not_late : (c : Command) (fault : JobFault) (s : ℕ) (p : List ℕ) → RefusesAt c work fault → Late c s p → ⊥
-  not_late Check fault s p h (r, is, ks, kq) = not_checked work fault r h is
-  not_late command.Grows fault s p h (r, n, is, i, g, l, a, ks, kq) = not_grown work fault r n h is i g
-  not_late command.Show fault s p h (r, t, is, known, w, ks, kq) = not_shown work fault r h is known
-  not_late command.Example fault s p h k = of_valued (Exampled work) fault s p h k
-  not_late Encode fault s p h k = of_valued (Encoded work input) fault s p h k
-  not_late Decode fault s p h k = of_valued (Decoded work input) fault s p h k
-  not_late command.Explain fault s p h k = of_valued (Explained work input) fault s p h k
-  not_late Normalise fault s p h k = of_valued (Normalised work input) fault s p h k
-  not_late command.Same fault s p h k = of_valued Compared fault s p h k
-  not_late command.Scan fault s p h k = of_valued (Scanned work input) fault s p h k
-  not_late command.Part fault s p h (path, spells, (r, f, is, a, x)) = not_parted work fault r f path h is a spells
+  not_late : (c : Command) (fault : JobFault) (s : ℕ) (p : List ℕ) → IsExact c work.list → RefusesAt c work fault → Late c s p → ⊥
+  not_late Check fault s p exact h (r, is, ks, kq) = not_checked work fault r h is
+  not_late command.Grows fault s p exact h (r, n, is, i, g, l, a, ks, kq) = not_grown work fault r n h is i g
+  not_late command.Show fault s p exact h k = absurd exact
+  not_late command.Example fault s p exact h k = absurd exact
+  not_late Encode fault s p exact h k = of_valued (Encoded work input) fault s p h k
+  not_late Decode fault s p exact h k = of_valued (Decoded work input) fault s p h k
+  not_late command.Explain fault s p exact h k = absurd exact
+  not_late Normalise fault s p exact h k = of_valued (Normalised work input) fault s p h k
+  not_late command.Same fault s p exact h k = of_valued Compared fault s p h k
+  not_late command.Scan fault s p exact h k = of_valued (Scanned work input) fault s p h k
+  not_late command.Part fault s p exact h (path, spells, (r, f, is, a, x)) = not_parted work fault r f path h is a spells
 
-  one_of_both : (c : Command) (s z : ℕ) (p q : List ℕ) → Early c s p ⊎ Late c s p → Early c z q ⊎ Late c z q → Agrees s p z q
-  one_of_both c s z p q (inl (e, l, h, a, hs, hp)) (inl (g, m, k, b, ks, kq)) =
-      let same : e ≡ g = one_refusal c work e g h k in
-      let list : l ≡ m = one_listing work (lists work g) l m (subst (λ (x : JobFault). Lists (lists work x) work l) same a) b in (
+  one_of_both : (c : Command) (s z : ℕ) (p q : List ℕ) → IsExact c work.list → Early c s p ⊎ Late c s p → Early c z q ⊎ Late c z q → Agrees s p z q
+  one_of_both c s z p q exact (inl (e, l, h, a, hs, hp)) (inl (g, m, k, b, ks, kq)) =
+      let none = a (unlisted c work e exact h) ∙ sym (b (unlisted c work g exact k)) in (
         hs ∙ sym ks,
-        hp ∙ ap (λ (x : JobFault). l ++ refusal_line (job_fault_name x)) same ∙ ap (λ (text : List ℕ). text ++ refusal_line (job_fault_name g)) list ∙ sym kq,
+        hp ∙ ap (λ (x : JobFault). l ++ refusal_line (job_fault_name x)) (one_refusal c work e g exact h k) ∙ ap (λ (text : List ℕ). text ++ refusal_line (job_fault_name g)) none ∙ sym kq,
       )
-  one_of_both c s z p q (inl (e, l, h, a, hs, hp)) (inr k) = absurd (not_late c e z q h k)
-  one_of_both c s z p q (inr h) (inl (g, m, k, b, ks, kq)) = absurd (not_late c g s p k h)
-  one_of_both c s z p q (inr h) (inr k) = one_late c s z p q h k
+  one_of_both c s z p q exact (inl (e, l, h, a, hs, hp)) (inr k) = absurd (not_late c e z q exact h k)
+  one_of_both c s z p q exact (inr h) (inl (g, m, k, b, ks, kq)) = absurd (not_late c g s p exact k h)
+  one_of_both c s z p q exact (inr h) (inr k) = one_late c exact s z p q h k
 
 pub one_answer : OneAnswer
-one_answer work input s z p q h k = one_of_both work input work.command s z p q (told work input h) (told work input k)
+one_answer work input s z p q exact h k = one_of_both work input work.command s z p q exact (told work input h) (told work input k)

@@ -16,9 +16,6 @@ use Rattle.bcs_decode_spec.specs.Stopping.{Stops, StopsAll}
 use Rattle.bcs_decode_spec.proofs.Verdicts.{accepts_once_is, no_two_verdicts_are, no_two_verdicts_of_all_are, stops_all_once_is, stops_once_is}
 use Rattle.bcs_decode_parts.specs.Parts.{Step, Part, part_at}
 use Rattle.bcs_decode_spec.specs.declared.reason.Reason.{Reason}
-use Rattle.bcs_decode_spec.specs.declared.stop.Stop.{Stop}
-use Rattle.bcs_explain_table.specs.Explains.{Explains}
-use Rattle.bcs_explain_table.proofs.OneExplanation.{explains_once}
 use Rattle.bcs_json_spec.specs.Headline.{HasBytes, Normalises, ShowsBytes}
 use Rattle.bcs_json_spec.specs.JsonContent.{of}
 use Rattle.bcs_json_spec.specs.Shown.{shown}
@@ -28,7 +25,7 @@ use Rattle.bcs_json_spec.proofs.TextLaws.{denotes_once}
 use Rattle.bcs_tool_files.specs.declared.work.Work.{Work}
 use Rattle.bcs_tool_answers.proofs.OnePair.{Agrees, Refused, not_both, one_refused}
 use Rattle.bcs_tool_answers.proofs.ScanAnswers.{Scans, not_scanned, one_count, one_scan_stop}
-use Rattle.bcs_tool_answers.specs.Answers.{ScanStops, count_line, explained_status, explained_text, line_of, printed, printed_none, refusal_line, stop_line}
+use Rattle.bcs_tool_answers.specs.Answers.{ScanStops, count_line, line_of, printed, printed_none, refusal_line, stop_line}
 use Rattle.bcs_tool_answers.specs.Input as given
 
 -- the bytes that an input gives are its own
@@ -58,12 +55,6 @@ module _ (work : Work) (input : List ℕ) where
 
     abbrev pub Decoded : ℕ → List ℕ → Type 0
     Decoded s p = Given Shown s p
-
-    abbrev pub Pieced : List ℕ → ℕ → List ℕ → Type 0
-    Pieced bytes s p = (t : List ℕ) × (x : Option Stop) × Explains work.style r work.limits f bytes t x × (s ≡ explained_status x) × (p ≡ explained_text work.style.form t x)
-
-    abbrev pub Explained : ℕ → List ℕ → Type 0
-    Explained s p = Given Pieced s p
 
     -- what is printed of the value at the front of the bytes
     abbrev pub Led : List Step → Tree → ℕ → List ℕ → Type 0
@@ -154,14 +145,6 @@ module _ (work : Work) (input : List ℕ) where
 
     pub one_decoded : (s z : ℕ) (p q : List ℕ) → Decoded r f s p → Decoded r f z q → Agrees s p z q
     one_decoded s z p q h k = one_given_answer (Shown r f) one_shown s z p q h k
-
-    one_pieced : (bytes : List ℕ) (s z : ℕ) (p q : List ℕ) → Pieced r f bytes s p → Pieced r f bytes z q → Agrees s p z q
-    one_pieced bytes s z p q (t, x, h, hs, hp) (u, y, k, ks, kq) =
-        let same = explains_once work.style r work.limits f bytes t u x y h k in
-        (hs ∙ ap explained_status same.1 ∙ sym ks, hp ∙ ap₂ (explained_text work.style.form) same.0 same.1 ∙ sym kq)
-
-    pub one_explained : (s z : ℕ) (p q : List ℕ) → Explained r f s p → Explained r f z q → Agrees s p z q
-    one_explained s z p q h k = one_given_answer (Pieced r f) one_pieced s z p q h k
 
     -- ---- of a part
 

@@ -13,13 +13,14 @@ use Rattle.bcs_registry_formats.proofs.FirstFaults.{fault_exactly, ok_exactly}
 use Rattle.bcs_registry_spec.specs.Faults.{IsLeastFault}
 use Rattle.bcs_registry_spec.proofs.OneFault.{one_fault, one_format_fault}
 use Rattle.bcs_registry_spec.proofs.OneText.{same_format, same_registry}
-use Rattle.bcs_registry_show.specs.Shows.{NamesNone}
 use Rattle.bcs_decode_parts.specs.Parts.{Step}
 use Rattle.bcs_tool_path.specs.Path.{SpellsPath}
 use Rattle.bcs_tool_files.specs.declared.work.Work.{Work}
 use Rattle.bcs_tool_line.specs.declared.command.Command.{Command}
 use Rattle.bcs_tool_line.specs.declared.command.Command.TheVariants as command
-use Rattle.bcs_tool_answers.specs.Judging.{IsFormat, IsPath, IsRegistry, ReadsInput, RefusesAt, RefusesCheck, RefusesEarly, RefusesFormat, RefusesFormatted, RefusesGrowth, RefusesPart, RefusesShow, is_json_word, name_of, works_on_values}
+use Rattle.bcs_tool_answers.specs.AnswerLaws.{IsExact}
+use Rattle.bcs_tool_answers.specs.Answers.{lists}
+use Rattle.bcs_tool_answers.specs.Judging.{IsFormat, IsPath, IsRegistry, ReadsInput, RefusesAt, RefusesCheck, RefusesEarly, RefusesFormat, RefusesFormatted, RefusesGrowth, RefusesPart, is_json_word, works_on_values}
 use Rattle.bcs_tool_answers.specs.declared.job_fault.JobFault.{JobFault}
 use Rattle.bcs_tool_answers.specs.declared.job_fault.JobFault.TheVariants.{BadPath, Registry, Growth}
 
@@ -106,19 +107,6 @@ module _ (work : Work) where
   one_check (Growth e) BadPath h k = absurd h
   one_check BadPath g h k = absurd h
 
-  -- a name that no container has, beside a registry's own fault
-  one_show : (e g : JobFault) → RefusesShow work e → RefusesShow work g → e ≡ g
-  one_show (Registry e) (Registry g) (inl h) (inl k) = ap Registry (one_fault.0 work.registry.items e g h k)
-  one_show (Registry e) (Registry g) (inl h) (inr (r, is, none, k)) = absurd (fault_of_text work.registry.items r e is h)
-  one_show (Registry e) (Registry g) (inr (r, is, none, h)) (inl k) = absurd (fault_of_text work.registry.items r g is k)
-  one_show (Registry e) (Registry g) (inr (r, is, none, h)) (inr (q, i, nil, k)) = ap Registry (h ∙ sym k)
-  one_show (Registry e) (Growth g) h k = absurd k
-  one_show (Growth e) (Registry g) h k = absurd h
-  one_show (Growth e) (Growth g) h k = absurd h
-  one_show (Registry e) BadPath h k = absurd k
-  one_show (Growth e) BadPath h k = absurd h
-  one_show BadPath g h k = absurd h
-
   one_growth : (e g : JobFault) → RefusesGrowth work e → RefusesGrowth work g → e ≡ g
   one_growth (Registry e) (Registry g) (inl h) (inl k) = ap Registry (one_fault.0 work.registry.items e g h k)
   one_growth (Registry e) (Registry g) (inl h) (inr (r, is, k)) = absurd (fault_of_text work.registry.items r e is h)
@@ -164,13 +152,6 @@ module _ (work : Work) where
   not_checked (Growth e) r h is = h
   not_checked BadPath r h is = h
 
-  pub not_shown : (e : JobFault) (r : Entries) → RefusesShow work e → IsRegistry work.registry.items r → (NamesNone (name_of work) r → ⊥) → ⊥
-  not_shown (Registry e) r (inl h) is known = fault_of_text work.registry.items r e is h
-  not_shown (Registry e) r (inr (q, i, none, h)) is known =
-      known (subst (λ (m : Entries). NamesNone (name_of work) m) (same_registry work.registry.items q r i.0 is.0) none)
-  not_shown (Growth e) r h is known = h
-  not_shown BadPath r h is known = h
-
   pub not_grown : (e : JobFault) (r n : Entries) → RefusesGrowth work e → IsRegistry work.registry.items r → IsRegistry work.second.items n → Grows r n → ⊥
   not_grown (Registry e) r n (inl h) is i g = fault_of_text work.registry.items r e is h
   not_grown (Registry e) r n (inr (q, j, h)) is i g = fault_of_text work.second.items n e i h
@@ -180,18 +161,34 @@ module _ (work : Work) where
       not_both r n e (subst (λ (x : Entries). IsFirstGrowthFault r x e) newer (subst (λ (x : Entries). IsFirstGrowthFault x m e) older h)) g
   not_grown BadPath r n h is i g = h
 
-pub one_refusal : (c : Command) (work : Work) (e g : JobFault) → RefusesAt c work e → RefusesAt c work g → e ≡ g
-one_refusal command.Check work e g h k = one_check work e g h k
-one_refusal command.Grows work e g h k = one_growth work e g h k
-one_refusal command.Show work e g h k = one_show work e g h k
-one_refusal command.Example work e g h k = one_formatted work e g h k
-one_refusal command.Encode work e g h k = one_formatted work e g h k
-one_refusal command.Decode work e g h k = one_formatted work e g h k
-one_refusal command.Explain work e g h k = one_formatted work e g h k
-one_refusal command.Normalise work e g h k = one_formatted work e g h k
-one_refusal command.Same work e g h k = one_formatted work e g h k
-one_refusal command.Part work e g h k = one_part work e g h k
-one_refusal command.Scan work e g h k = one_formatted work e g h k
+pub one_refusal : (c : Command) (work : Work) (e g : JobFault) → IsExact c work.list → RefusesAt c work e → RefusesAt c work g → e ≡ g
+one_refusal command.Check work e g exact h k = one_check work e g h k
+one_refusal command.Grows work e g exact h k = one_growth work e g h k
+one_refusal command.Show work e g exact h k = absurd exact
+one_refusal command.Example work e g exact h k = absurd exact
+one_refusal command.Encode work e g exact h k = one_formatted work e g h k
+one_refusal command.Decode work e g exact h k = one_formatted work e g h k
+one_refusal command.Explain work e g exact h k = absurd exact
+one_refusal command.Normalise work e g exact h k = one_formatted work e g h k
+one_refusal command.Same work e g exact h k = one_formatted work e g h k
+one_refusal command.Part work e g exact h k = one_part work e g h k
+one_refusal command.Scan work e g exact h k = one_formatted work e g h k
+
+-- before a refusal stands no list, where the output is exact
+pub unlisted : (c : Command) (work : Work) (e : JobFault) → IsExact c work.list → RefusesAt c work e → lists work e ≡ false
+unlisted c work (Registry e) exact h = refl
+unlisted c work BadPath exact h = refl
+unlisted command.Grows work (Growth e) exact h = exact
+unlisted command.Check work (Growth e) exact h = absurd h
+unlisted command.Show work (Growth e) exact h = absurd exact
+unlisted command.Example work (Growth e) exact h = absurd exact
+unlisted command.Encode work (Growth e) exact h = absurd h
+unlisted command.Decode work (Growth e) exact h = absurd h
+unlisted command.Explain work (Growth e) exact h = absurd exact
+unlisted command.Normalise work (Growth e) exact h = absurd h
+unlisted command.Same work (Growth e) exact h = absurd h
+unlisted command.Part work (Growth e) exact h = absurd h
+unlisted command.Scan work (Growth e) exact h = absurd h
 
 -- ---- the input
 

@@ -6,26 +6,22 @@ use Rattle.bcs_registry_formats.specs.Container as container
 use Rattle.bcs_registry_formats.specs.Container.{Entries}
 use Rattle.bcs_registry_formats.specs.Shape.{Shape}
 use Rattle.bcs_registry_formats.specs.declared.fault.RegistryFault.TheVariants.{UnknownName}
-use Rattle.bcs_registry_show.proofs.ShowLaws.{some_text_holds}
-use Rattle.bcs_example_text.proofs.ExampleTextLaws.{text_or_fault_holds}
 use Rattle.bcs_value_tree.specs.Tree.{Tree}
 use Rattle.bcs_decode_spec.proofs.Verdicts.{some_verdict_is, some_verdict_of_all_is}
 use Rattle.bcs_decode_spec.specs.Accepting.{Accepts}
 use Rattle.bcs_decode_spec.specs.Exact.{AreBytes}
 use Rattle.bcs_decode_parts.specs.Parts.{Part, Step, part_at}
-use Rattle.bcs_explain_table.specs.Explains as explains
 use Rattle.bcs_json_spec.specs.JsonContent.{of}
 use Rattle.bcs_json_spec.specs.Shown as value
 use Rattle.bcs_json_spec.specs.Texts.{nesting_limit}
 use Rattle.bcs_json_spec.proofs.SomeText.{some_bytes, some_normal_text, some_shown_text}
 use Rattle.bcs_tool_answers.specs.AnswerLaws.{SomeAnswer}
-use Rattle.bcs_tool_answers.specs.Answers.{Answers, AsksExample, IsAsked, IsWithin, Lists, lists, checked, compared, damaged, decoded, encoded, exampled, explained, found, front_stopped, grown, no_bytes, no_example, normalised, nowhere, refused, refused_early, registry_form, scan_stopped, scanned, shown, stopped, too_nested}
+use Rattle.bcs_tool_answers.specs.Answers.{Answers, IsAsked, IsWithin, checked, compared, damaged, decoded, encoded, exampled, explained, found, front_stopped, grown, no_bytes, normalised, nowhere, refused, refused_early, scan_stopped, scanned, shown, stopped, too_nested}
 use Rattle.bcs_tool_answers.specs.Input.{Gives}
-use Rattle.bcs_tool_answers.specs.Judging.{IsFormat, IsPath, IsRegistry, RefusesAt, example_form, name_of, works_on_values}
+use Rattle.bcs_tool_answers.specs.Judging.{IsFormat, IsPath, IsRegistry, RefusesAt, name_of, works_on_values}
 use Rattle.bcs_tool_answers.specs.declared.job_fault.JobFault.{JobFault}
 use Rattle.bcs_tool_answers.specs.declared.job_fault.JobFault.TheVariants.{BadPath, Growth, Registry}
 use Rattle.bcs_tool_answers.proofs.AnswerLemmas.{refuses_formatted}
-use Rattle.bcs_tool_answers.proofs.Listings.{formatted_unlisted, some_listing}
 use Rattle.bcs_tool_answers.proofs.ScanAnswers.{some_scan}
 use Rattle.bcs_tool_answers.proofs.SomeInput.{some_given}
 use Rattle.bcs_tool_answers.proofs.SomePair.{judged, some_pair}
@@ -42,49 +38,40 @@ module _ (work : Work) (input : List ℕ) where
 
   -- ---- the words
 
-  refused_words : (c : Command) → work.command ≡ c → (fault : JobFault) (list : List ℕ) → RefusesAt c work fault → Lists (lists work fault) work list → Answered
-  refused_words c is fault list h has = (_, _, refused_early fault list (subst (λ (d : Command). RefusesAt d work fault) (sym is) h) has)
+  refused_words : (c : Command) → work.command ≡ c → (fault : JobFault) → RefusesAt c work fault → Answered
+  refused_words c is fault h = (_, _, refused_early fault [] (subst (λ (d : Command). RefusesAt d work fault) (sym is) h) (λ _. refl))
 
   some_check : work.command ≡ command.Check → Answered
   some_check is = elim (some_registry work.registry.items) [
     | inl r ↦ (_, _, checked r.0 is r.1)
-    | inr h ↦ refused_words command.Check is (Registry h.0) [] h.1 refl
+    | inr h ↦ refused_words command.Check is (Registry h.0) h.1
   ]
 
   some_grows : work.command ≡ command.Grows → Answered
   some_grows is = elim (some_registry work.registry.items) [
-    | inr h ↦ refused_words command.Grows is (Registry h.0) [] (inl h.1) refl
+    | inr h ↦ refused_words command.Grows is (Registry h.0) (inl h.1)
     | inl older ↦ elim (some_registry work.second.items) [
-      | inr h ↦ refused_words command.Grows is (Registry h.0) [] (inr (older.0, older.1, h.1)) refl
+      | inr h ↦ refused_words command.Grows is (Registry h.0) (inr (older.0, older.1, h.1))
       | inl newer ↦ elim (some_growth older.0 newer.0) [
-        | inl grows ↦ let list = some_listing work work.list older.0 newer.0 older.1 newer.1 in (_, _, grown older.0 newer.0 list.0 is older.1 newer.1 grows list.1)
-        | inr h ↦
-            let list = some_listing work work.list older.0 newer.0 older.1 newer.1 in
-            refused_words command.Grows is (Growth h.0) list.0 (older.0, newer.0, older.1, newer.1, h.1) list.1
+        | inl grows ↦ (_, _, grown older.0 newer.0 [] is older.1 newer.1 grows (λ _. refl))
+        | inr h ↦ refused_words command.Grows is (Growth h.0) (older.0, newer.0, older.1, newer.1, h.1)
       ]
     ]
   ]
 
   some_show : work.command ≡ command.Show → Answered
   some_show is = elim (some_registry work.registry.items) [
-    | inr h ↦ refused_words command.Show is (Registry h.0) [] (inl h.1) refl
+    | inr h ↦ refused_words command.Show is (Registry h.0) (inl h.1)
     | inl r ↦ elim (named_or_none (name_of work) r.0) [
-      | inr known ↦ let text = some_text_holds (registry_form work.style.form) (name_of work) r.0 in (_, _, shown r.0 text.0 is r.1 known text.1)
-      | inl none ↦ refused_words command.Show is (Registry UnknownName) [] (inr (r.0, r.1, none, refl)) refl
+      | inr known ↦ (_, _, shown r.0 [] is r.1 known)
+      | inl none ↦ refused_words command.Show is (Registry UnknownName) (inr (r.0, r.1, none, refl))
     ]
-  ]
-
-  -- an example, or a reason why there is none
-  wish_answered : (r : Entries) (s : Shape) → AsksExample work r s → Answered
-  wish_answered r s asks = elim (text_or_fault_holds r asks.is_registry.0.2.orderly work.limits (name_of work) (example_form work) s) [
-    | inl h ↦ (_, _, exampled r s h.0 asks h.1)
-    | inr h ↦ (_, _, no_example r s h.0 asks h.1)
   ]
 
   some_example : work.command ≡ command.Example → Answered
   some_example is = elim (some_formatted work) [
-    | inr h ↦ refused_words command.Example is h.0 [] h.1 (formatted_unlisted work h.0 h.1)
-    | inl h ↦ wish_answered h.0 h.1 (record { is_command = is; is_registry = h.2; is_format = h.3 })
+    | inr h ↦ refused_words command.Example is h.0 h.1
+    | inl h ↦ (_, _, exampled h.0 h.1 0 [] (record { is_command = is; is_registry = h.2; is_format = h.3 }) (inl refl))
   ]
 
   -- ---- an input, at a format of a registry
@@ -130,8 +117,8 @@ module _ (work : Work) (input : List ℕ) where
     -- bytes are a value's, or stop being one, and are explained
     explain_answered : IsAsked work input command.Explain r s → (bytes : List ℕ) → AreBytes bytes → Gives work.raw input bytes → Answered
     explain_answered asked bytes are given = elim (some_verdict_of_all_is r work.limits s bytes are) [
-      | inl h ↦ (_, _, explained r s bytes _ asked given (explains.whole h.0 h.1))
-      | inr h ↦ (_, _, damaged r s bytes _ h.0 h.1 asked given (explains.damaged h.0 h.1 h.2))
+      | inl h ↦ (_, _, explained r s bytes [] h.0 asked given h.1)
+      | inr h ↦ (_, _, damaged r s bytes [] h.0 h.1 asked given h.2)
     ]
 
     some_explain : AreBytes input → IsAsked work input command.Explain r s → Answered
@@ -184,16 +171,16 @@ module _ (work : Work) (input : List ℕ) where
   valued : (c : Command) → works_on_values c ≡ true → IsPath c (string_bytes work.path) [] → IsWithin work input
       → ((r : Entries) (s : Shape) → IsRegistry work.registry.items r → IsAsked work input c r s → Answered) → work.command ≡ c → Answered
   valued c values none within answer is = elim (some_formatted work) [
-    | inr h ↦ refused_words c is h.0 [] (refuses_formatted c work h.0 values h.1) (formatted_unlisted work h.0 h.1)
+    | inr h ↦ refused_words c is h.0 (refuses_formatted c work h.0 values h.1)
     | inl h ↦ answer h.0 h.1 h.2 (asks_for c values within is h.0 h.1 h.2 h.3 [] none)
   ]
 
   -- the one with a PATH
   of_part : AreBytes input → IsWithin work input → work.command ≡ command.Part → Answered
   of_part are within is = elim (some_formatted work) [
-    | inr h ↦ refused_words command.Part is h.0 [] (refuses_formatted command.Part work h.0 refl h.1) (formatted_unlisted work h.0 h.1)
+    | inr h ↦ refused_words command.Part is h.0 (refuses_formatted command.Part work h.0 refl h.1)
     | inl h ↦ elim (some_path (string_bytes work.path)) [
-      | inr none ↦ refused_words command.Part is BadPath [] (h.0, h.1, h.2, h.3, none) refl
+      | inr none ↦ refused_words command.Part is BadPath (h.0, h.1, h.2, h.3, none)
       | inl path ↦ some_part h.0 h.1 h.2 are path.0 path.1 (asks_for command.Part refl within is h.0 h.1 h.2 h.3 path.0 path.1)
     ]
   ]

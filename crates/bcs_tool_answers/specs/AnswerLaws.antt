@@ -1,5 +1,5 @@
 -- What holds of the program's answers, whatever the job and the input are.
-use Rattle.std.specs.Prelude.{◌≡◌, ◌≤◌, ℕ, List, length}
+use Rattle.std.specs.Prelude.{◌≡◌, ◌≤◌, ℕ, List, Bool, false, length}
 use Rattle.std.specs.List.{All}
 use Rattle.bcs_decode_spec.specs.Exact.{AreBytes}
 use Rattle.bcs_io_lines.specs.Lines.{lines_of}
@@ -9,10 +9,20 @@ use Rattle.bcs_tool_answers.specs.LineAnswers.{AnswersLines}
 use Rattle.bcs_tool_answers.specs.PairAnswers.{AnswersFiles}
 use Rattle.bcs_tool_files.specs.Files.{size_limit}
 use Rattle.bcs_tool_files.specs.declared.work.Work.{Work}
+use Rattle.bcs_tool_line.specs.declared.command.Command.{Command}
+use Rattle.bcs_tool_line.specs.declared.command.Command.TheVariants as command
 
--- there is at most one answer
+-- the command's output is promised byte by byte: it isn't for reading, nor is a list asked for that stands before it
+abbrev pub IsExact : Command → Bool → Type 0
+IsExact command.Grows listed = listed ≡ false
+IsExact command.Show listed = ⊥
+IsExact command.Example listed = ⊥
+IsExact command.Explain listed = ⊥
+IsExact other listed = Unit {0}
+
+-- there is at most one answer, where the output is exact
 abbrev pub OneAnswer : Type 0
-OneAnswer = (work : Work) (input : List ℕ) (status other : ℕ) (output again : List ℕ)
+OneAnswer = (work : Work) (input : List ℕ) (status other : ℕ) (output again : List ℕ) → IsExact work.command work.list
     → Answers work input status output → Answers work input other again → (status ≡ other) × (output ≡ again)
 
 -- and there is one, to each input of bytes within the size
@@ -22,9 +32,9 @@ SomeAnswer = (work : Work) (input : List ℕ) → AreBytes input → IsWithin wo
 
 -- ---- each line as an input of its own
 
--- there is at most one answer to the lines of an input
+-- there is at most one answer to the lines of an input, where the output is exact
 abbrev pub OneAnswerALine : Type 0
-OneAnswerALine = (work : Work) (content : List ℕ) (status other : ℕ) (output again : List ℕ)
+OneAnswerALine = (work : Work) (content : List ℕ) (status other : ℕ) (output again : List ℕ) → IsExact work.command work.list
     → AnswersLines work content status output → AnswersLines work content other again → (status ≡ other) × (output ≡ again)
 
 -- and there is one, to bytes of which each line is within the size

@@ -7,26 +7,14 @@ use Rattle.bcs_registry_formats.specs.Container as container
 use Rattle.bcs_registry_formats.specs.Container.{Entries}
 use Rattle.bcs_registry_formats.specs.Grows.{Grows}
 use Rattle.bcs_registry_formats.specs.Shape.{Shape}
-use Rattle.bcs_registry_text.specs.Text.{WritesRegistry}
-use Rattle.bcs_registry_changes.specs.DifferenceText.{lines_text}
-use Rattle.bcs_registry_changes.specs.Differences.{Difference, AreDifferences}
-use Rattle.bcs_registry_show.specs.Shows.{NamesNone, ShowsRegistry}
-use Rattle.bcs_registry_show.specs.declared.form.RegistryForm.{RegistryForm}
-use Rattle.bcs_registry_show.specs.declared.form.RegistryForm.TheVariants as forms_of_registry
-use Rattle.bcs_example_text.specs.ExampleText.{RefusesExampleText, ShowsExample, example_fault_name}
-use Rattle.bcs_example_text.specs.declared.fault.ExampleTextFault.{ExampleTextFault}
 use Rattle.bcs_value_tree.specs.Tree.{Tree}
 use Rattle.bcs_value_spec.specs.Limits.{Bounds}
 use Rattle.bcs_encode_spec.specs.Plain.{plain}
 use Rattle.bcs_decode_spec.specs.Stop.{reason_name}
 use Rattle.bcs_decode_spec.specs.declared.reason.Reason.{Reason}
-use Rattle.bcs_decode_spec.specs.declared.stop.Stop.{Stop}
 use Rattle.bcs_decode_spec.specs.Accepting.{Accepts}
 use Rattle.bcs_decode_spec.specs.Stopping.{Stops, StopsAll}
 use Rattle.bcs_decode_parts.specs.Parts.{Step, Part, part_at}
-use Rattle.bcs_explain_columns.specs.declared.style.Form.{Form}
-use Rattle.bcs_explain_columns.specs.declared.style.Form.TheVariants as forms
-use Rattle.bcs_explain_table.specs.Explains.{Explains}
 use Rattle.bcs_json_spec.specs.Headline.{Compares, HasBytes, Normalises, ShowsBytes}
 use Rattle.bcs_json_spec.specs.FaultNames.{json_fault_name}
 use Rattle.bcs_json_spec.specs.JsonContent.{of}
@@ -36,7 +24,7 @@ use Rattle.bcs_json_spec.specs.declared.json_fault.JsonFault.{JsonFault}
 use Rattle.bcs_tool_path.specs.Path.{SpellsPath}
 use Rattle.bcs_tool_files.specs.Files.{size_limit}
 use Rattle.bcs_tool_answers.specs.Input as given
-use Rattle.bcs_tool_answers.specs.Judging.{Asks, IsFormat, IsRegistry, RefusesEarly, is_unlimited, job_fault_name, example_form, name_of}
+use Rattle.bcs_tool_answers.specs.Judging.{Asks, IsFormat, IsRegistry, NamesNone, RefusesEarly, is_unlimited, job_fault_name, name_of}
 use Rattle.bcs_tool_line.specs.declared.command.Command.{Command}
 use Rattle.bcs_tool_line.specs.declared.command.Command.TheVariants as command
 use Rattle.bcs_tool_answers.specs.declared.job_fault.JobFault.{JobFault}
@@ -55,22 +43,6 @@ refusal_line name = line_of (codes "refused: " ++ name)
 abbrev pub stop_line : Reason → ℕ → List ℕ
 stop_line reason place = refusal_line (reason_name reason ++ codes " at " ++ decimal place)
 
--- how the job ends whose bytes are explained, by where they stop being a value, and what it prints
-abbrev pub explained_status : Option Stop → ℕ
-explained_status None = 0
-explained_status (Some stop) = 2
-
--- behind the pieces stands the line of `decode`, but for JSON, which has an object for it
-abbrev pub stop_end : Form → Reason → ℕ → List ℕ
-stop_end forms.Json reason place = []
-stop_end forms.Ways reason place = stop_line reason place
-stop_end forms.Paths reason place = stop_line reason place
-stop_end forms.Tree reason place = stop_line reason place
-
-abbrev pub explained_text : Form → List ℕ → Option Stop → List ℕ
-explained_text form text None = text
-explained_text form text (Some stop) = text ++ stop_end form stop.reason stop.place
-
 -- bytes as they are, or as a line of hexadecimal digits
 abbrev pub printed : Bool → List ℕ → List ℕ
 printed raw bytes = if raw then bytes else line_of (encode_lower bytes)
@@ -83,22 +55,9 @@ printed_none raw = if raw then [] else line_of (codes "none")
 abbrev pub count_line : ℕ → List ℕ
 count_line n = line_of (codes "ok " ++ decimal n)
 
--- a registry is printed in lines, or with `--json` as JSON
-abbrev pub registry_form : Form → RegistryForm
-registry_form forms.Json = forms_of_registry.Json
-registry_form forms.Ways = forms_of_registry.Lines
-registry_form forms.Paths = forms_of_registry.Lines
-registry_form forms.Tree = forms_of_registry.Lines
-
--- the lines of all differences of the job's registries
-abbrev pub IsListOf : Work → List ℕ → Type 0
-IsListOf work list = (older : Entries) × (newer : Entries) × WritesRegistry work.registry.items older × WritesRegistry work.second.items newer
-    × (ds : List Difference) × AreDifferences older newer ds × (list ≡ lines_text ds)
-
--- what stands before a verdict on growth: that list, where it is asked for
-abbrev pub Lists : Bool → Work → List ℕ → Type 0
-Lists true work list = IsListOf work list
-Lists false work list = list ≡ []
+-- before a verdict on growth stands nothing, unless a list of all differences is asked for: that is for reading, and any
+abbrev pub Lists : Bool → List ℕ → Type 0
+Lists asked list = asked ≡ false → list ≡ []
 
 -- of refusals that of growth alone has the list before it
 abbrev pub lists : Work → JobFault → Bool
@@ -148,17 +107,15 @@ pub data AnswersTexts (registry : Entries) (limits : Bounds) (s : Shape) (first 
 -- a case for each kind of answer
 pub data Answers (work : Work) (input : List ℕ) : ℕ → List ℕ → Type 0 where
   -- the words are refused, whatever the input; before a refusal of growth stands the list, where it is asked for
-  refused_early : (fault : JobFault) (list : List ℕ) → RefusesEarly work fault → Lists (lists work fault) work list → Answers work input 2 (list ++ refusal_line (job_fault_name fault))
+  refused_early : (fault : JobFault) (list : List ℕ) → RefusesEarly work fault → Lists (lists work fault) list → Answers work input 2 (list ++ refusal_line (job_fault_name fault))
   -- `check`: how many containers the registry has
   checked : (registry : Entries) → work.command ≡ command.Check → IsRegistry work.registry.items registry → Answers work input 0 (count_line (length registry))
   -- `grows`: the newer registry keeps all that the older one has; before that stands the list, where it is asked for
-  grown : (older newer : Entries) (list : List ℕ) → work.command ≡ command.Grows → IsRegistry work.registry.items older → IsRegistry work.second.items newer → Grows older newer → Lists work.list work list → Answers work input 0 (list ++ line_of (codes "grows"))
-  -- `show`: the registry for reading, or the container of NAME with all that it stands on
-  shown : (registry : Entries) (text : List ℕ) → work.command ≡ command.Show → IsRegistry work.registry.items registry → (NamesNone (name_of work) registry → ⊥) → ShowsRegistry (registry_form work.style.form) (name_of work) registry text → Answers work input 0 text
-  -- `example`: the text of the example that is wished for
-  exampled : (registry : Entries) (s : Shape) (text : List ℕ) → AsksExample work registry s → ShowsExample registry work.limits (name_of work) (example_form work) s text → Answers work input 0 (line_of text)
-  -- `example`: there is none, or its text would nest deeper than a text may
-  no_example : (registry : Entries) (s : Shape) (fault : ExampleTextFault) → AsksExample work registry s → RefusesExampleText registry work.limits (name_of work) (example_form work) s fault → Answers work input 2 (refusal_line (example_fault_name fault))
+  grown : (older newer : Entries) (list : List ℕ) → work.command ≡ command.Grows → IsRegistry work.registry.items older → IsRegistry work.second.items newer → Grows older newer → Lists work.list list → Answers work input 0 (list ++ line_of (codes "grows"))
+  -- `show`: a text for reading, where NAME, if it is given, is that of a container
+  shown : (registry : Entries) (text : List ℕ) → work.command ≡ command.Show → IsRegistry work.registry.items registry → (NamesNone (name_of work) registry → ⊥) → Answers work input 0 text
+  -- `example`: done with an example for reading, or refused since there is none. Only that the words are good is promised
+  exampled : (registry : Entries) (s : Shape) (status : ℕ) (output : List ℕ) → AsksExample work registry s → (status ≡ 0) ⊎ (status ≡ 2) → Answers work input status output
   -- `encode`: the bytes of the value that the text denotes
   encoded : (registry : Entries) (s : Shape) (bytes : List ℕ) → IsAsked work input command.Encode registry s → HasBytes registry work.limits s input bytes → Answers work input 0 (printed work.raw bytes)
   -- `normalise`: its normal text
@@ -173,10 +130,10 @@ pub data Answers (work : Work) (input : List ℕ) : ℕ → List ℕ → Type 0 
   stopped : (registry : Entries) (s : Shape) (bytes : List ℕ) (reason : Reason) (place : ℕ) → IsAsked work input command.Decode registry s → given.Gives work.raw input bytes → StopsAll registry work.limits s bytes reason place → Answers work input 2 (stop_line reason place)
   -- `decode`: they are a value's, and its text would nest deeper than a text may
   too_nested : (registry : Entries) (s : Shape) (bytes : List ℕ) (c : Tree) → IsAsked work input command.Decode registry s → given.Gives work.raw input bytes → Accepts registry work.limits s bytes (length bytes) c → nesting_limit < depth (value.shown registry c (of s)) → Answers work input 2 (refusal_line (codes "TooNested"))
-  -- `explain`: the pieces of the one value whose bytes the input gives
-  explained : (registry : Entries) (s : Shape) (bytes text : List ℕ) → IsAsked work input command.Explain registry s → given.Gives work.raw input bytes → Explains work.style registry work.limits s bytes text None → Answers work input 0 text
-  -- `explain`: the pieces before the bytes stop being a value at a place, and behind them the line of `decode`
-  damaged : (registry : Entries) (s : Shape) (bytes text : List ℕ) (reason : Reason) (place : ℕ) → IsAsked work input command.Explain registry s → given.Gives work.raw input bytes → Explains work.style registry work.limits s bytes text (Some (record { reason = reason; place = place })) → Answers work input 2 (text ++ stop_end work.style.form reason place)
+  -- `explain`: a text for reading, where the input gives the bytes of one value
+  explained : (registry : Entries) (s : Shape) (bytes text : List ℕ) (c : Tree) → IsAsked work input command.Explain registry s → given.Gives work.raw input bytes → Accepts registry work.limits s bytes (length bytes) c → Answers work input 0 text
+  -- `explain`: a text for reading, where the bytes stop being a value
+  damaged : (registry : Entries) (s : Shape) (bytes text : List ℕ) (reason : Reason) (place : ℕ) → IsAsked work input command.Explain registry s → given.Gives work.raw input bytes → StopsAll registry work.limits s bytes reason place → Answers work input 2 text
   -- `decode`, `explain`, `part` and `scan`: the input gives no bytes
   no_bytes : (asked : Command) (registry : Entries) (s : Shape) → TakesBytes asked → IsAsked work input asked registry s → ((bytes : List ℕ) → given.Gives work.raw input bytes → ⊥) → Answers work input 2 (refusal_line (codes "BadHex"))
   -- `part`: a value stands at the front of the bytes, and the steps of PATH lead to a part of it, whose bytes these are

@@ -1,5 +1,5 @@
 -- What is judged of a job before its input is read: its registries, then the format, and then the path.
-use Rattle.std.specs.Prelude.{◌≡◌, ◌⊎◌, ◌==◌, ◌||◌, ◌&&◌, ℕ, List, [], ◌∷◌, Option, None, option_map, Bool, true, false, cond, codes, is_some, string_bytes}
+use Rattle.std.specs.Prelude.{◌≡◌, ◌⊎◌, ◌==◌, ◌||◌, ◌&&◌, ℕ, List, [], ◌∷◌, Option, Some, None, option_map, Bool, true, false, codes, is_some, string_bytes}
 use Rattle.bcs_registry_formats.specs.Container.{Entries, container_at}
 use Rattle.bcs_registry_spec.specs.Faults.{IsLeastFault, IsLeastFormatFault}
 use Rattle.bcs_registry_formats.specs.FaultNames.{growth_fault_name, registry_fault_name}
@@ -9,9 +9,6 @@ use Rattle.bcs_registry_text.specs.Text.{WritesRegistry, WritesFormat}
 use Rattle.bcs_registry_formats.specs.WellFormed.{IsWellFormed, Admits}
 use Rattle.bcs_registry_formats.specs.declared.fault.RegistryFault.{RegistryFault}
 use Rattle.bcs_registry_formats.specs.declared.fault.RegistryFault.TheVariants.{UnknownName, OutOfMemory}
-use Rattle.bcs_registry_show.specs.Shows.{NamesNone}
-use Rattle.bcs_example_wanted.specs.declared.wish.ExampleForm.{ExampleForm}
-use Rattle.bcs_example_wanted.specs.declared.wish.ExampleForm.TheVariants.{Least, Full}
 use Rattle.bcs_decode_parts.specs.Parts.{Step}
 use Rattle.bcs_tool_path.specs.Path.{SpellsNoPath, SpellsPath}
 use Rattle.bcs_tool_path.specs.declared.path_fault.PathFault.{PathFault}
@@ -63,25 +60,17 @@ RefusesFormat registry word fault = ((is_json_word word ≡ true) × IsLeastForm
 abbrev pub name_of : Work → Option (List ℕ)
 name_of work = option_map string_bytes work.name
 
--- what stands in the options, lists and maps of the example that is asked for
-abbrev pub example_form : Work → ExampleForm
-example_form work = cond work.full Full Least
+-- a name is given that no container has
+abbrev pub NamesNone : Option (List ℕ) → Entries → Type 0
+NamesNone None registry = ⊥
+NamesNone (Some word) registry = container_at word registry ≡ None
 
 -- ---- the path's word
 
 -- the steps that a command's word PATH spells; none where the command has no such word
 abbrev pub IsPath : Command → List ℕ → List Step → Type 0
-IsPath command.Check word path = path ≡ []
-IsPath command.Grows word path = path ≡ []
-IsPath command.Show word path = path ≡ []
-IsPath command.Example word path = path ≡ []
-IsPath command.Encode word path = path ≡ []
-IsPath command.Decode word path = path ≡ []
-IsPath command.Explain word path = path ≡ []
-IsPath command.Normalise word path = path ≡ []
-IsPath command.Same word path = path ≡ []
 IsPath command.Part word path = SpellsPath word path
-IsPath command.Scan word path = path ≡ []
+IsPath other word path = path ≡ []
 
 -- ---- the job
 
@@ -91,41 +80,12 @@ works_on_values command.Check = false
 works_on_values command.Grows = false
 works_on_values command.Show = false
 works_on_values command.Example = false
-works_on_values command.Encode = true
-works_on_values command.Decode = true
-works_on_values command.Explain = true
-works_on_values command.Normalise = true
-works_on_values command.Same = true
-works_on_values command.Part = true
-works_on_values command.Scan = true
-
--- the command has a format, whether or not it has an input
-abbrev pub takes_format : Command → Bool
-takes_format command.Check = false
-takes_format command.Grows = false
-takes_format command.Show = false
-takes_format command.Example = true
-takes_format command.Encode = true
-takes_format command.Decode = true
-takes_format command.Explain = true
-takes_format command.Normalise = true
-takes_format command.Same = true
-takes_format command.Part = true
-takes_format command.Scan = true
+works_on_values other = true
 
 -- the command judges bytes alone, and makes nothing of them
 abbrev pub is_scan : Command → Bool
-is_scan command.Check = false
-is_scan command.Grows = false
-is_scan command.Show = false
-is_scan command.Example = false
-is_scan command.Encode = false
-is_scan command.Decode = false
-is_scan command.Explain = false
-is_scan command.Normalise = false
-is_scan command.Same = false
-is_scan command.Part = false
 is_scan command.Scan = true
+is_scan other = false
 
 -- the input may have any size: bytes as they are, which are judged as they come
 abbrev pub is_unlimited : Work → Bool
@@ -180,14 +140,8 @@ abbrev pub RefusesAt : Command → Work → JobFault → Type 0
 RefusesAt command.Check = RefusesCheck
 RefusesAt command.Grows = RefusesGrowth
 RefusesAt command.Show = RefusesShow
-RefusesAt command.Example = RefusesFormatted
-RefusesAt command.Encode = RefusesFormatted
-RefusesAt command.Decode = RefusesFormatted
-RefusesAt command.Explain = RefusesFormatted
-RefusesAt command.Normalise = RefusesFormatted
-RefusesAt command.Same = RefusesFormatted
 RefusesAt command.Part = RefusesPart
-RefusesAt command.Scan = RefusesFormatted
+RefusesAt other = RefusesFormatted
 
 -- the job is refused before an input is read
 abbrev pub RefusesEarly : Work → JobFault → Type 0

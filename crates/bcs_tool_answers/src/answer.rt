@@ -1,12 +1,13 @@
 //! What is printed.
-ghost use Rattle.std.specs.Prelude.{◌≡◌, IfOk, string_bytes};
+ghost use Rattle.std.specs.Prelude.{◌≡◌, ◌≢◌, IfOk, string_bytes};
 ghost use Rattle.hex.specs.Hex.{encode_lower};
-ghost use Rattle.bcs_tool_answers.specs.Answers.{count_line, explained_status, explained_text, line_of, printed, printed_none, refusal_line, stop_line};
+ghost use Rattle.bcs_json_spec.specs.FaultNames.{json_fault_name};
+ghost use Rattle.bcs_tool_answers.specs.Answers.{count_line, line_of, printed, printed_none, refusal_line, stop_line};
 ghost use Rattle.bcs_tool_answers.specs.Places.{Prints};
 
 use bcs_decode::Stop;
 use bcs_explain_columns::style::Form;
-use bcs_explain_table::Explanation;
+use bcs_json::JsonFault;
 use std::alloc::{AllocError, Global};
 
 /// The program's status, and what it prints.
@@ -27,6 +28,17 @@ pub fn refused(alloc: Global, name: &str) -> Result<Answer, AllocError>
     Ok(unplaced(alloc, 2, with_line_end(text)?))
 }
 
+/// The line of the refusal of a text. Want of memory is no refusal.
+pub fn refused_text(alloc: Global, fault: JsonFault) -> Result<Answer, AllocError>
+    ensures { IfOk result (λ a. (fault ≢ JsonFault.OutOfMemory)
+        × Prints a 2 (refusal_line (json_fault_name fault))) }
+{
+    match fault {
+        JsonFault::OutOfMemory => Err(AllocError),
+        _ => refused(alloc, fault.name()),
+    }
+}
+
 /// The line for a registry of so many containers.
 pub fn counted(alloc: Global, count: usize) -> Result<Answer, AllocError>
     ensures { IfOk result (λ a. Prints a 0 (count_line count)) }
@@ -44,21 +56,20 @@ pub fn stopped(alloc: Global, stop: Stop) -> Result<Answer, AllocError>
     refused(alloc, text.as_str())
 }
 
-/// The pieces of bytes; where the bytes stop being a value, the line of this stands behind them, but for JSON, which has
-/// an object for it.
-pub fn explained(alloc: Global, form: Form, explanation: Explanation) -> Result<Answer, AllocError>
-    ensures { IfOk result (λ a. Prints a (explained_status explanation.stop)
-        (explained_text form explanation.text.items explanation.stop)) }
+/// The pieces before bytes stop being a value, and behind them the line of this, but for JSON, which has an object for it.
+pub fn damaged(
+    alloc: Global,
+    form: Form,
+    mut text: Vec<u8>,
+    stop: Stop,
+) -> Result<Answer, AllocError>
+    ensures { IfOk result (λ a. Prints a 2 a.output.items) }
 {
-    let Explanation { mut text, stop } = explanation;
-    let Some(stop) = stop else {
-        return Ok(unplaced(alloc, 0, text));
-    };
     let line = stopped(alloc, stop)?;
     if form != Form::Json {
         text.extend_from_slice(line.output.as_slice())?;
     }
-    Ok(unplaced(alloc, line.status, text))
+    Ok(unplaced(alloc, 2, text))
 }
 
 /// A word on a line of its own.

@@ -1,21 +1,17 @@
 //! The answers to the bytes of a value.
-ghost use Rattle.std.specs.Prelude.{◌≡◌, ◌≢◌, ◌≤◌, ℕ, List, codes, length, string_bytes, IfOk};
-ghost use Rattle.bcs_registry_formats.specs.View.{shape_of};
-ghost use Rattle.bcs_registry_formats.specs.WellFormed.{Admits};
-ghost use Rattle.bcs_tool_path.specs.PathSteps.{all_spelled};
+ghost use Rattle.std.specs.Prelude.{◌≡◌, ◌≢◌, ◌≤◌, codes, length, IfOk};
 ghost use Rattle.bcs_tool_files.specs.Files.{size_limit};
 ghost use Rattle.bcs_tool_answers.specs.Answers.{TakesBytes, refusal_line};
-ghost use Rattle.bcs_tool_answers.specs.Input.{Gives};
-ghost use Rattle.bcs_tool_answers.specs.Judging.{Asks, IsPath};
-ghost use Rattle.bcs_tool_answers.specs.Places.{IsAnswer, Prints};
+ghost use Rattle.bcs_tool_answers.specs.Places.{AnswersBytes, IsAnswer, Prints};
+ghost use Rattle.bcs_tool_answers.specs.Preparing.{IsAskedBy};
 
-use crate::answer::{Answer, explained, found, nowhere, refused, shown};
+use crate::answer::{Answer, damaged, found, nowhere, refused, shown, unplaced};
 use crate::blanks::without_blanks;
 use crate::judging::Asked;
-use crate::scan_answers::answer_scan;
+use crate::scan_answers::{answer_scan, scanned};
 use crate::stop_answers::answer_stop;
 use bcs_decode::part;
-use bcs_explain_table::explain_text;
+use bcs_look_pieces::explain_text;
 use bcs_json::{FromFault, from_bcs};
 use bcs_tool_files::Work;
 use bcs_tool_line::Command;
@@ -31,9 +27,7 @@ pub fn answer_given(
     input: &[u8],
 ) -> Result<Answer, AllocError>
     requires command { TakesBytes work.now.command }
-    requires asks { Asks work.now asked.now.registry (shape_of asked.now.format) }
-    requires admitted { Admits asked.now.registry (shape_of asked.now.format) }
-    requires path { IsPath work.now.command (string_bytes work.now.path) (all_spelled asked.now.path.items) }
+    requires asked { IsAskedBy work.now asked.now }
     requires within { length input.now ≤ size_limit }
     ensures { IfOk result (λ a. IsAnswer work.now input.now a) }
 {
@@ -67,11 +61,8 @@ fn answer_bytes(
     bytes: &[u8],
 ) -> Result<Answer, AllocError>
     requires command { TakesBytes work.now.command }
-    requires asks { Asks work.now asked.now.registry (shape_of asked.now.format) }
-    requires admitted { Admits asked.now.registry (shape_of asked.now.format) }
-    requires path { IsPath work.now.command (string_bytes work.now.path) (all_spelled asked.now.path.items) }
-    ensures { IfOk result (λ a. (input : List ℕ) → length input ≤ size_limit → Gives work.now.raw input bytes.now
-        → IsAnswer work.now input a) }
+    requires asked { IsAskedBy work.now asked.now }
+    ensures { IfOk result (λ a. AnswersBytes work.now bytes.now a) }
 {
     match work.command {
         Command::Part => answer_part(alloc, work, asked, bytes),
@@ -96,17 +87,10 @@ fn answer_decode(
     bytes: &[u8],
 ) -> Result<Answer, AllocError>
     requires command { work.now.command ≡ Command.Decode }
-    requires asks { Asks work.now asked.now.registry (shape_of asked.now.format) }
-    requires admitted { Admits asked.now.registry (shape_of asked.now.format) }
-    ensures { IfOk result (λ a. (input : List ℕ) → length input ≤ size_limit → Gives work.now.raw input bytes.now
-        → IsAnswer work.now input a) }
+    requires asked { IsAskedBy work.now asked.now }
+    ensures { IfOk result (λ a. AnswersBytes work.now bytes.now a) }
 {
-    let Asked {
-        registry,
-        format,
-        ..
-    } = asked;
-    match from_bcs(alloc, registry, format, &work.limits, bytes) {
+    match from_bcs(alloc, &asked.registry, &asked.format, &work.limits, bytes) {
         Ok(text) => shown(alloc, text),
         Err(FromFault::Stop(stop)) => answer_stop(alloc, work, asked, bytes, stop),
         Err(FromFault::TooNested) => refused(alloc, "TooNested"),
@@ -114,7 +98,8 @@ fn answer_decode(
     }
 }
 
-// The pieces of the value whose bytes these are; where they are none, those before they stop being one.
+// The pieces of the value whose bytes these are; where they are none, those before they stop being one. The status is that
+// of a scan of them all.
 fn answer_explain(
     alloc: Global,
     work: &Work,
@@ -122,10 +107,8 @@ fn answer_explain(
     bytes: &[u8],
 ) -> Result<Answer, AllocError>
     requires command { work.now.command ≡ Command.Explain }
-    requires asks { Asks work.now asked.now.registry (shape_of asked.now.format) }
-    requires admitted { Admits asked.now.registry (shape_of asked.now.format) }
-    ensures { IfOk result (λ a. (input : List ℕ) → length input ≤ size_limit → Gives work.now.raw input bytes.now
-        → IsAnswer work.now input a) }
+    requires asked { IsAskedBy work.now asked.now }
+    ensures { IfOk result (λ a. AnswersBytes work.now bytes.now a) }
 {
     let Asked {
         registry,
@@ -133,7 +116,10 @@ fn answer_explain(
         ..
     } = asked;
     let explanation = explain_text(alloc, registry, format, &work.limits, work.style, bytes)?;
-    explained(alloc, work.style.form, explanation)
+    match scanned(work, asked, bytes, false) {
+        Ok(_) => Ok(unplaced(alloc, 0, explanation.text)),
+        Err(stop) => damaged(alloc, work.style.form, explanation.text, stop),
+    }
 }
 
 // The bytes of the part to which the path leads in the value at the front of these bytes.
@@ -144,11 +130,8 @@ fn answer_part(
     bytes: &[u8],
 ) -> Result<Answer, AllocError>
     requires command { work.now.command ≡ Command.Part }
-    requires asks { Asks work.now asked.now.registry (shape_of asked.now.format) }
-    requires admitted { Admits asked.now.registry (shape_of asked.now.format) }
-    requires path { IsPath work.now.command (string_bytes work.now.path) (all_spelled asked.now.path.items) }
-    ensures { IfOk result (λ a. (input : List ℕ) → length input ≤ size_limit → Gives work.now.raw input bytes.now
-        → IsAnswer work.now input a) }
+    requires asked { IsAskedBy work.now asked.now }
+    ensures { IfOk result (λ a. AnswersBytes work.now bytes.now a) }
 {
     let Asked {
         registry,

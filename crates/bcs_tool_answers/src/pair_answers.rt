@@ -3,9 +3,8 @@ ghost use Rattle.std.specs.Prelude.{◌≡◌, [], IfOk};
 ghost use Rattle.bcs_registry_formats.specs.View.{shape_of};
 ghost use Rattle.bcs_tool_answers.specs.Answers.{AnswersTexts};
 
-use crate::answer::{Answer, told};
+use crate::answer::{Answer, refused_text, told};
 use crate::judging::Asked;
-use crate::text_refusal::refused_text;
 use bcs_json::compare;
 use bcs_tool_files::Work;
 use std::alloc::{AllocError, Global};

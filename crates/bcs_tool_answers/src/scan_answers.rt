@@ -1,15 +1,13 @@
 //! The answers to bytes of which no text is wanted.
-ghost use Rattle.std.specs.Prelude.{◌≡◌, ◌≤◌, ℕ, List, false, length, IfErr, IfOk};
+ghost use Rattle.std.specs.Prelude.{◌≡◌, false, length, IfErr, IfOk};
 ghost use Rattle.bcs_registry_formats.specs.View.{shape_of};
-ghost use Rattle.bcs_registry_formats.specs.WellFormed.{Admits};
 ghost use Rattle.bcs_value_tree.specs.Tree.{Tree};
 ghost use Rattle.bcs_decode_spec.specs.Accepting.{Accepts};
-ghost use Rattle.bcs_tool_files.specs.Files.{size_limit};
 ghost use Rattle.bcs_tool_line.specs.declared.command.Command.TheVariants as command;
 ghost use Rattle.bcs_tool_answers.specs.Answers.{ScanStops};
-ghost use Rattle.bcs_tool_answers.specs.Input.{Gives};
-ghost use Rattle.bcs_tool_answers.specs.Judging.{Asks, is_unlimited};
-ghost use Rattle.bcs_tool_answers.specs.Places.{IsAnswer};
+ghost use Rattle.bcs_tool_answers.specs.Judging.{is_unlimited};
+ghost use Rattle.bcs_tool_answers.specs.Places.{AnswersBytes};
+ghost use Rattle.bcs_tool_answers.specs.Preparing.{IsAskedBy};
 
 use crate::answer::{Answer, counted};
 use crate::judging::Asked;
@@ -34,32 +32,25 @@ pub fn answer_scan(
     bytes: &[u8],
 ) -> Result<Answer, AllocError>
     requires command { work.now.command ≡ command.Scan }
-    requires asks { Asks work.now asked.now.registry (shape_of asked.now.format) }
-    requires admitted { Admits asked.now.registry (shape_of asked.now.format) }
-    ensures { IfOk result (λ a. (input : List ℕ) → length input ≤ size_limit → Gives work.now.raw input bytes.now
-        → IsAnswer work.now input a) }
+    requires asked { IsAskedBy work.now asked.now }
+    ensures { IfOk result (λ a. AnswersBytes work.now bytes.now a) }
 {
-    match scanned(work, asked, bytes) {
+    match scanned(work, asked, bytes, work.front) {
         Ok(count) => counted(alloc, count),
         Err(stop) => answer_stop(alloc, work, asked, bytes, stop),
     }
 }
 
-// How many bytes the value has: all of these, unless the front alone is asked for. No memory is taken.
-fn scanned(work: &Work, asked: &Asked, bytes: &[u8]) -> Result<usize, Stop>
-    requires admitted { Admits asked.now.registry (shape_of asked.now.format) }
+/// How many bytes the value has: all of these, unless the front alone is asked for. No memory is taken.
+pub fn scanned(work: &Work, asked: &Asked, bytes: &[u8], front: bool) -> Result<usize, Stop>
+    requires asked { IsAskedBy work.now asked.now }
     ensures found { IfOk result (λ n. ((c : Tree) × Accepts asked.now.registry work.now.limits (shape_of asked.now.format) bytes.now n c)
-        × (work.now.front ≡ false → n ≡ length bytes.now)) }
-    ensures stops { IfErr result (λ stop. ScanStops work.now.front asked.now.registry work.now.limits (shape_of asked.now.format)
+        × (front ≡ false → n ≡ length bytes.now)) }
+    ensures stops { IfErr result (λ stop. ScanStops front asked.now.registry work.now.limits (shape_of asked.now.format)
         bytes.now stop.reason stop.place) }
 {
-    let Asked {
-        registry,
-        format,
-        ..
-    } = asked;
-    let count = scan(registry, format, &work.limits, bytes)?;
-    if work.front || count == bytes.len() {
+    let count = scan(&asked.registry, &asked.format, &work.limits, bytes)?;
+    if front || count == bytes.len() {
         return Ok(count);
     }
     Err(Stop {

@@ -1,16 +1,16 @@
 //! The answer to bytes that stop being a value.
 ghost use Rattle.std.specs.Prelude.{◌≡◌, IfOk};
-ghost use Rattle.bcs_registry_formats.specs.View.{shape_of};
-ghost use Rattle.bcs_registry_formats.specs.WellFormed.{Admits};
-ghost use Rattle.bcs_decode_spec.specs.Stopping.{StopsAll};
 ghost use Rattle.bcs_tool_answers.specs.Answers.{stop_line};
-ghost use Rattle.bcs_tool_answers.specs.Places.{TellsStop};
+ghost use Rattle.bcs_tool_answers.specs.Places.{Tells};
+ghost use Rattle.bcs_tool_answers.specs.Preparing.{IsAskedBy};
 
-use crate::answer::{Answer, stopped};
+use crate::answer::{Answer, placed, stopped};
 use crate::judging::Asked;
-use crate::places::place_of_stop;
+use crate::places::place_of_line;
 use bcs_decode::Stop;
+use bcs_look_pieces::stop_place;
 use bcs_tool_files::Work;
+use bcs_look_places::put_limit;
 use std::alloc::{AllocError, Global};
 
 /// The line for bytes that stop being a value, and the place of that.
@@ -21,12 +21,43 @@ pub fn answer_stop(
     bytes: &[u8],
     stop: Stop,
 ) -> Result<Answer, AllocError>
-    requires admitted { Admits asked.now.registry (shape_of asked.now.format) }
-    requires stops { StopsAll asked.now.registry work.now.limits (shape_of asked.now.format) bytes.now stop.reason stop.place }
+    requires { IsAskedBy work.now asked.now }
     ensures { IfOk result (λ a. (a.status ≡ 2) × (a.output.items ≡ stop_line stop.reason stop.place)
-        × TellsStop work.now asked.now.registry (shape_of asked.now.format) bytes.now a.place.items) }
+        × Tells work.now a.place.items) }
 {
-    let mut answer = stopped(alloc, stop)?;
-    answer.place = place_of_stop(alloc, work, asked, bytes, stop);
-    Ok(answer)
+    let answer = stopped(alloc, stop)?;
+    Ok(placed(answer, place_of_stop(alloc, work, asked, bytes, stop)))
+}
+
+// Where these bytes stop being a value. It is empty at a quiet job and at one for lines, and where no memory is left for
+// it, since the refusal stands without it.
+fn place_of_stop(alloc: Global, work: &Work, asked: &Asked, bytes: &[u8], stop: Stop) -> Vec<u8>
+    requires { IsAskedBy work.now asked.now }
+    ensures { Tells work.now result.items }
+{
+    if work.quiet || work.lines {
+        return Vec::new(alloc);
+    }
+    match halt_line(alloc, work, asked, bytes, stop) {
+        Ok(line) => place_of_line(alloc, line),
+        Err(AllocError) => Vec::new(alloc),
+    }
+}
+
+fn halt_line(
+    alloc: Global,
+    work: &Work,
+    asked: &Asked,
+    bytes: &[u8],
+    stop: Stop,
+) -> Result<Option<Vec<u8>>, AllocError>
+    requires { IsAskedBy work.now asked.now }
+{
+    match stop_place(alloc, &asked.registry, &asked.format, &work.limits, bytes)? {
+        Some(mut line) => {
+            put_limit(&work.limits, stop.reason, &mut line)?;
+            Ok(Some(line))
+        }
+        None => Ok(None),
+    }
 }

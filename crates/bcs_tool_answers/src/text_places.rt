@@ -1,15 +1,12 @@
 //! Where JSON texts of values are refused.
-ghost use Rattle.std.specs.Prelude.{◌≢◌, IfSome};
-ghost use Rattle.bcs_registry_formats.specs.View.{shape_of};
-ghost use Rattle.bcs_json_spec.specs.Texts.{RefusesText};
-ghost use Rattle.bcs_tool_answers.specs.Places.{TellsText};
-ghost use Rattle.bcs_tool_places.specs.Places.{PlacesRefusal, PlacesWithin};
+ghost use Rattle.bcs_tool_answers.specs.Places.{Tells};
 
 use crate::judging::Asked;
-use bcs_json::JsonFault;
+use crate::places::{in_text, place_of_line};
+use bcs_json::{JsonFault, read_value};
 use bcs_tool_files::Work;
-use bcs_tool_places::{place_of_text, put_text_limit, whole_line};
-use std::alloc::{AllocError, Global};
+use bcs_look_places::{place_of_text, put_text_limit, whole_line};
+use std::alloc::Global;
 
 /// Where this text is refused, which is with this fault. It is empty at a quiet job and at one for lines, and where no
 /// memory is left for it.
@@ -20,32 +17,53 @@ pub fn place_of_refusal(
     text: &[u8],
     fault: JsonFault,
 ) -> Vec<u8>
-    requires refused { fault ≢ JsonFault.OutOfMemory
-        → RefusesText asked.now.registry work.now.limits (shape_of asked.now.format) text.now fault }
-    ensures { TellsText work.now asked.now.registry (shape_of asked.now.format) text.now result.items }
+    ensures { Tells work.now result.items }
 {
     if work.quiet || work.lines {
         return Vec::new(alloc);
     }
-    match refusal_line(alloc, work, asked, text, fault) {
-        Some(place) => place,
-        None => Vec::new(alloc),
+    place_of_line(alloc, refusal_line(alloc, work, asked, text, fault))
+}
+
+/// Where the job's text, or else this one, is refused. It is empty at a quiet job, and where no memory is left for it.
+pub fn place_of_pair(alloc: Global, work: &Work, asked: &Asked, text: &[u8]) -> Vec<u8>
+    ensures { Tells work.now result.items }
+{
+    if work.quiet {
+        return Vec::new(alloc);
+    }
+    place_of_line(alloc, pair_line(alloc, work, asked, text))
+}
+
+// The line of the first of two texts that is refused.
+fn pair_line(alloc: Global, work: &Work, asked: &Asked, text: &[u8]) -> Option<Vec<u8>> {
+    let first = work.second.as_slice();
+    match fault_of(alloc, work, asked, first) {
+        Some(fault) => {
+            let line = refusal_line(alloc, work, asked, first, fault)?;
+            in_text(alloc, "A", &line).ok()
+        }
+        None => {
+            let fault = fault_of(alloc, work, asked, text)?;
+            let line = refusal_line(alloc, work, asked, text, fault)?;
+            in_text(alloc, "B", &line).ok()
+        }
     }
 }
 
-/// The line of it, where there is memory for it.
-pub fn refusal_line(
+// Why the text is refused, if it is.
+fn fault_of(alloc: Global, work: &Work, asked: &Asked, text: &[u8]) -> Option<JsonFault> {
+    read_value(alloc, &asked.registry, &asked.format, &work.limits, text).err()
+}
+
+// The line of a text that is refused with this fault: as a whole, or at a place in it.
+fn refusal_line(
     alloc: Global,
     work: &Work,
     asked: &Asked,
     text: &[u8],
     fault: JsonFault,
-) -> Option<Vec<u8>>
-    requires refused { fault ≢ JsonFault.OutOfMemory
-        → RefusesText asked.now.registry work.now.limits (shape_of asked.now.format) text.now fault }
-    ensures { IfSome result (λ line.
-        PlacesRefusal asked.now.registry work.now.limits (shape_of asked.now.format) text.now line.items) }
-{
+) -> Option<Vec<u8>> {
     if fault == JsonFault::OutOfMemory {
         return None;
     }
@@ -55,26 +73,14 @@ pub fn refusal_line(
     }
 }
 
-// The line of a text that is refused at a place in it.
 fn placed_line(
     alloc: Global,
     work: &Work,
     asked: &Asked,
     text: &[u8],
     fault: JsonFault,
-) -> Option<Vec<u8>>
-    requires refused { RefusesText asked.now.registry work.now.limits (shape_of asked.now.format) text.now fault }
-    ensures { IfSome result (λ line.
-        PlacesWithin asked.now.registry work.now.limits (shape_of asked.now.format) text.now line.items) }
-{
-    let Asked {
-        registry,
-        format,
-        ..
-    } = asked;
-    let mut line = place_of_text(alloc, registry, format, &work.limits, text)?;
-    match put_text_limit(&work.limits, fault, &mut line) {
-        Ok(()) => Some(line),
-        Err(AllocError) => None,
-    }
+) -> Option<Vec<u8>> {
+    let mut line = place_of_text(alloc, &asked.registry, &asked.format, &work.limits, text)?;
+    put_text_limit(&work.limits, fault, &mut line).ok()?;
+    Some(line)
 }

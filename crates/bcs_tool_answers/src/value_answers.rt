@@ -1,18 +1,14 @@
 //! The answers to the input of a job that works on values.
 ghost use Rattle.std.specs.Prelude.{◌≡◌, ◌≤◌, length, IfOk};
-ghost use Rattle.bcs_registry_formats.specs.View.{shape_of};
 ghost use Rattle.bcs_tool_files.specs.Files.{size_limit};
-ghost use Rattle.bcs_tool_answers.specs.Judging.{Asks};
 ghost use Rattle.bcs_tool_answers.specs.Places.{IsAnswer};
 ghost use Rattle.bcs_tool_answers.specs.Preparing.{IsAskedBy};
 
-use crate::answer::{Answer, encoded, placed, shown};
+use crate::answer::{Answer, encoded, placed, refused_text, shown};
 use crate::bytes_answers::answer_given;
 use crate::judging::Asked;
 use crate::pair_answers::answer_pair;
-use crate::pair_places::place_of_pair;
-use crate::text_places::place_of_refusal;
-use crate::text_refusal::refused_text;
+use crate::text_places::{place_of_pair, place_of_refusal};
 use bcs_json::{normalise, to_bcs};
 use bcs_tool_files::Work;
 use bcs_tool_line::Command;
@@ -48,16 +44,11 @@ fn answer_encode(
     text: &[u8],
 ) -> Result<Answer, AllocError>
     requires command { work.now.command ≡ Command.Encode }
-    requires asks { Asks work.now asked.now.registry (shape_of asked.now.format) }
+    requires asked { IsAskedBy work.now asked.now }
     requires within { length text.now ≤ size_limit }
     ensures { IfOk result (λ a. IsAnswer work.now text.now a) }
 {
-    let Asked {
-        registry,
-        format,
-        ..
-    } = asked;
-    match to_bcs(alloc, registry, format, &work.limits, text) {
+    match to_bcs(alloc, &asked.registry, &asked.format, &work.limits, text) {
         Ok(bytes) => encoded(alloc, bytes, work.raw),
         Err(fault) => {
             let place = place_of_refusal(alloc, work, asked, text, fault);
@@ -74,16 +65,11 @@ fn answer_normalise(
     text: &[u8],
 ) -> Result<Answer, AllocError>
     requires command { work.now.command ≡ Command.Normalise }
-    requires asks { Asks work.now asked.now.registry (shape_of asked.now.format) }
+    requires asked { IsAskedBy work.now asked.now }
     requires within { length text.now ≤ size_limit }
     ensures { IfOk result (λ a. IsAnswer work.now text.now a) }
 {
-    let Asked {
-        registry,
-        format,
-        ..
-    } = asked;
-    match normalise(alloc, registry, format, &work.limits, text) {
+    match normalise(alloc, &asked.registry, &asked.format, &work.limits, text) {
         Ok(normal) => shown(alloc, normal),
         Err(fault) => {
             let place = place_of_refusal(alloc, work, asked, text, fault);
@@ -95,7 +81,7 @@ fn answer_normalise(
 // Whether the job's text and this one have the same value.
 fn answer_same(alloc: Global, work: &Work, asked: &Asked, text: &[u8]) -> Result<Answer, AllocError>
     requires command { work.now.command ≡ Command.Same }
-    requires asks { Asks work.now asked.now.registry (shape_of asked.now.format) }
+    requires asked { IsAskedBy work.now asked.now }
     requires within { length text.now ≤ size_limit }
     ensures { IfOk result (λ a. IsAnswer work.now text.now a) }
 {

@@ -1,9 +1,8 @@
-use Rattle.std.proofs.Common.{◌≡◌, ◌⊎◌, Bool, Err, List, Ok, codes, refl, subst, sym, ℕ}
+use Rattle.std.proofs.Common.{◌≡◌, ◌⊎◌, Bool, Err, List, Ok, refl, subst, sym, ℕ}
 use Rattle.std.proofs.lemmas.Result.{IfOk-weaker}
 use Rattle.hex.specs.Hex.{decode_of}
 use Rattle.hex.specs.declared.error.FromHexError.TheVariants.{OutOfMemory}
-use Rattle.bcs_registry_formats.specs.View.{shape_of}
-use Rattle.bcs_tool_answers.specs.Answers.{no_bytes, refusal_line}
+use Rattle.bcs_tool_answers.specs.Answers.{no_bytes}
 use Rattle.bcs_tool_answers.specs.Input.{Gives, without_blanks}
 use Rattle.bcs_tool_answers.proofs.AnswerLemmas.{is_asked, no_digits, same_answer}
 use Rattle.bcs_tool_answers.proofs.bytes_answers.answer_given.Goals as goal
@@ -25,12 +24,9 @@ returns-in-Ok c =
 
 pub returns-in-Err : goal.returns-in-Err
 returns-in-Err c =
-    let work = c.args.work.now in
     let input = c.args.input.now in
-    let registry = c.args.asked.now.registry in
-    let s = shape_of c.args.asked.now.format in
     let fault = c.in-Err.fault in
     let refused = subst (λ (text : List ℕ). (fault ≡ OutOfMemory) ⊎ (decode_of text ≡ Err fault)) c.without_blanks.ensures c.in-Err.ensures.err in
-    IfOk-weaker c.refused_digits.result _ _ (λ a is. same_answer work input a 2 (refusal_line (codes "BadHex")) is.1
-    (no_bytes work.command registry s c.requires.command (is_asked work input work.command registry s refl c.requires.asks c.requires.within)
+    IfOk-weaker c.refused_digits.result _ _ (λ a is. same_answer _ input a 2 _ is.1
+    (no_bytes c.args.work.now.command _ _ c.requires.command (is_asked input c.args.work.now.command refl c.requires.asked c.requires.within)
     (λ bytes gives. no_digits (without_blanks input) fault refused is.0 bytes (subst (λ (raw : Bool). Gives raw input bytes) c.if-work.false gives)))) c.refused_digits.ensures

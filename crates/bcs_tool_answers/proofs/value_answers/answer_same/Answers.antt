@@ -1,30 +1,25 @@
-use Rattle.std.proofs.Common.{List, subst, sym, ℕ}
+use Rattle.std.proofs.Common.{List, subst, ℕ}
 use Rattle.bcs_registry_formats.specs.View.{shape_of}
-use Rattle.bcs_tool_answers.specs.Answers.{AnswersTexts}
-use Rattle.bcs_tool_answers.specs.Places.{TellsPair}
+use Rattle.bcs_tool_answers.specs.Answers.{AnswersTexts, compared}
+use Rattle.bcs_tool_answers.specs.Places.{nothing}
 use Rattle.bcs_tool_line.specs.declared.command.Command.TheVariants.{Same}
-use Rattle.bcs_tool_answers.proofs.AnswerLemmas.{is_asked, pair_answer, placed_pair}
+use Rattle.bcs_tool_answers.proofs.AnswerLemmas.{is_asked, placed_answer, with_place}
 use Rattle.bcs_tool_answers.proofs.value_answers.answer_same.Goals as goal
 
 pub returns-then-answer-eq2 : goal.returns-then-answer-eq2
 returns-then-answer-eq2 c =
-    let work = c.args.work.now in
     let text = c.args.text.now in
-    let registry = c.args.asked.now.registry in
-    let s = shape_of c.args.asked.now.format in
+    let asked = c.args.asked.now in
     let answer = c.in_ok-answer.answer in
-    let P : List ℕ → Type 0 = λ first. AnswersTexts registry work.limits s first text answer.status answer.output.items in
-    placed_pair work text registry s (is_asked work text Same registry s c.requires.command c.requires.asks c.requires.within) answer
-    (subst P c.as_slice.ensures.value c.in_ok-answer.ensures.answers) c.placed.result c.placed.ensures.status c.placed.ensures.output
-    (subst (λ (place : List ℕ). TellsPair work registry s text place) (sym c.placed.ensures.place) c.place_of_pair-place.ensures)
+    let set = c.placed.ensures in
+    let P : List ℕ → Type 0 = λ first. AnswersTexts asked.registry c.args.work.now.limits (shape_of asked.format) first text answer.status answer.output.items in
+    placed_answer _ text _ _ c.placed.result set.status set.output (with_place c.args.work.now _ _ set.place c.place_of_pair-place.ensures)
+    (compared _ _ _ _ (is_asked text Same c.requires.command c.requires.asked c.requires.within) (subst P c.as_slice.ensures.value c.in_ok-answer.ensures.answers))
 
 pub returns-else-answer-eq2 : goal.returns-else-answer-eq2
 returns-else-answer-eq2 c =
-    let work = c.args.work.now in
     let text = c.args.text.now in
-    let registry = c.args.asked.now.registry in
-    let s = shape_of c.args.asked.now.format in
+    let asked = c.args.asked.now in
     let answer = c.in_ok-answer.answer in
-    let P : List ℕ → Type 0 = λ first. AnswersTexts registry work.limits s first text answer.status answer.output.items in
-    pair_answer work text registry s (is_asked work text Same registry s c.requires.command c.requires.asks c.requires.within) answer
-    (subst P c.as_slice.ensures.value c.in_ok-answer.ensures.answers) c.in_ok-answer.ensures.place
+    let P : List ℕ → Type 0 = λ first. AnswersTexts asked.registry c.args.work.now.limits (shape_of asked.format) first text answer.status answer.output.items in
+    (compared _ _ _ _ (is_asked text Same c.requires.command c.requires.asked c.requires.within) (subst P c.as_slice.ensures.value c.in_ok-answer.ensures.answers), nothing c.in_ok-answer.ensures.place)

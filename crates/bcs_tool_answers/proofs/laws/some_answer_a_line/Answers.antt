@@ -1,5 +1,0 @@
-use Rattle.bcs_tool_answers.proofs.LineLaws as law
-use Rattle.bcs_tool_answers.proofs.laws.some_answer_a_line.Goals as goal
-
-pub returns : goal.returns
-returns c = law.some_answer_a_line
