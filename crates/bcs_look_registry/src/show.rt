@@ -1,6 +1,6 @@
 //! A registry, or a part of it, as text.
-ghost use Rattle.std.specs.Prelude.{◌≡◌, ◌↔◌, None, IfOk, IfSome};
-ghost use Rattle.bcs_look_registry.specs.Shows.{NamesNone, WritesSome, asked};
+ghost use Rattle.std.specs.Prelude.{◌≡◌, IfOk, IfSome};
+ghost use Rattle.bcs_look_registry.specs.Shows.{WritesSome};
 ghost use Rattle.bcs_look_registry.specs.declared.show.RegistryForm.TheVariants.{Json};
 
 use crate::as_json::json_line;
@@ -29,7 +29,6 @@ pub fn show_registry(
     form: RegistryForm,
 ) -> Result<Option<Vec<u8>>, AllocError>
     ensures json { IfOk result (λ shown. IfSome shown (λ text. form ≡ Json → WritesSome text.items)) }
-    ensures none { IfOk result (λ shown. shown ≡ None ↔ NamesNone (asked name.entry) registry.now) }
 {
     let selection = match name {
         None => Selection::All,
