@@ -6,4 +6,5 @@ pub mod PastParts
 pub mod PastRows
 pub mod PastTexts
 pub mod Scans
+pub mod Sparing
 pub mod Utf8Fronts

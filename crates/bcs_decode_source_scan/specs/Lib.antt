@@ -1,3 +1,4 @@
 pub mod Past
+pub mod Reaching
 pub mod Scanned
 pub mod Texts

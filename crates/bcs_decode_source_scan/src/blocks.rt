@@ -1,6 +1,7 @@
 //! Bytes that are gone past by blocks.
 ghost use Rattle.bcs_decode_source_scan.specs.Past.{bytes_run};
 ghost use Rattle.bcs_decode_source_steps.specs.Reads.{Ready, Reads};
+ghost use Rattle.bcs_decode_source_steps.specs.Sees.{SparesMemory};
 
 use bcs_decode_source_steps::bytes::read_exact;
 use bcs_decode_source_steps::reader::Reader;
@@ -15,6 +16,7 @@ const BLOCK: usize = 512;
 pub fn pass_bytes<S: ByteSource>(reader: &mut Reader<'_, S>, count: u32) -> Result<(), DecodeFault>
     requires ready { Ready S.is_failed S.allowance reader.old }
     ensures reads { Reads S.content S.is_failed S.allowance (λ x. x) result reader.old (bytes_run count) reader.new }
+    ensures spares { SparesMemory result reader.old.at.now }
 {
     let mut block = [0u8; BLOCK];
     let mut left = count as usize;

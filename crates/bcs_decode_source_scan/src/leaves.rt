@@ -42,6 +42,7 @@ pub fn whole<S: ByteSource>(reader: &mut Reader<'_, S>, width: usize) -> Result<
 pub fn text<S: ByteSource>(reader: &mut Reader<'_, S>) -> Result<(), DecodeFault>
     requires ready { Ready S.is_failed S.allowance reader.old }
     ensures reads { Reads S.content S.is_failed S.allowance (λ x. x) result reader.old text_past reader.new }
+    ensures spares { SparesMemory result reader.old.at.now }
 {
     begin(reader)?;
     let count = length(reader)?;
@@ -52,6 +53,7 @@ pub fn text<S: ByteSource>(reader: &mut Reader<'_, S>) -> Result<(), DecodeFault
 pub fn bytes<S: ByteSource>(reader: &mut Reader<'_, S>) -> Result<(), DecodeFault>
     requires ready { Ready S.is_failed S.allowance reader.old }
     ensures reads { Reads S.content S.is_failed S.allowance (λ x. x) result reader.old bytes_past reader.new }
+    ensures spares { SparesMemory result reader.old.at.now }
 {
     begin(reader)?;
     let count = length(reader)?;
@@ -63,6 +65,7 @@ pub fn bytes<S: ByteSource>(reader: &mut Reader<'_, S>) -> Result<(), DecodeFaul
 pub fn unsupported<S: ByteSource>(reader: &mut Reader<'_, S>) -> Result<(), DecodeFault>
     requires ready { Ready S.is_failed S.allowance reader.old }
     ensures reads { Reads S.content S.is_failed S.allowance (λ x. x) result reader.old unsupported_here reader.new }
+    ensures spares { SparesMemory result reader.old.at.now }
 {
     begin(reader)?;
     Err(DecodeFault::Stop(Stop {

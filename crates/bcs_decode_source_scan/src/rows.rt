@@ -4,7 +4,9 @@ ghost use Rattle.bcs_registry_formats.specs.View.{shape_of, formats_shapes};
 ghost use Rattle.bcs_decode_spec.specs.Reading.{items_here, skipping};
 ghost use Rattle.bcs_decode_slice_steps.specs.Passing.{skip};
 ghost use Rattle.bcs_decode_source_steps.specs.Reads.{Ready, Reads};
+ghost use Rattle.bcs_decode_source_steps.specs.Sees.{Spares};
 ghost use Rattle.bcs_decode_source_scan.specs.Past.{items_past};
+ghost use Rattle.bcs_decode_source_scan.specs.Reaching.{reaches_no_map};
 
 use crate::values::value;
 use crate::whole_row::whole_row;
@@ -27,6 +29,7 @@ pub fn items<S: ByteSource>(
 ) -> Result<(), DecodeFault>
     requires ready { Ready S.is_failed S.allowance reader.old }
     ensures reads { Reads S.content S.is_failed S.allowance (λ x. x) result reader.old (items_past (skip reader.old.registry.now depth (shape_of element.now)) size) reader.new }
+    ensures spares { Spares (reaches_no_map reader.old.registry.now depth (shape_of element.now)) result reader.old.at.now }
 {
     let count = row_count(reader, size)?;
     elements(reader, element, count, depth)
@@ -42,6 +45,7 @@ fn elements<S: ByteSource>(
 ) -> Result<(), DecodeFault>
     requires ready { Ready S.is_failed S.allowance reader.old }
     ensures reads { Reads S.content S.is_failed S.allowance (λ x. x) result reader.old (items_here skipping (skip reader.old.registry.now depth (shape_of element.now)) count) reader.new }
+    ensures spares { Spares (reaches_no_map reader.old.registry.now depth (shape_of element.now)) result reader.old.at.now }
 {
     if let Some(width) = whole_width(element) {
         return whole_row(reader, width, count);
@@ -62,6 +66,7 @@ pub fn tuple<S: ByteSource>(
 ) -> Result<(), DecodeFault>
     requires ready { Ready S.is_failed S.allowance reader.old }
     ensures reads { Reads S.content S.is_failed S.allowance (λ x. x) result reader.old (skip reader.old.registry.now depth (tuple_shape (formats_shapes formats.now))) reader.new }
+    ensures spares { Spares (reaches_no_map reader.old.registry.now depth (tuple_shape (formats_shapes formats.now))) result reader.old.at.now }
 {
     begin(reader)?;
     for format in formats {

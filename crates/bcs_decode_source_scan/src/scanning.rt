@@ -2,7 +2,7 @@
 ghost use Rattle.std.specs.Prelude.{◌≡◌, ◌≢◌, ◌↔◌, true, Err, IsErrOf};
 ghost use Rattle.bcs_registry_formats.specs.View.{shape_of};
 ghost use Rattle.bcs_registry_formats.specs.WellFormed.{Admits};
-ghost use Rattle.bcs_decode_source_steps.specs.Sees.{takes_no_memory};
+ghost use Rattle.bcs_decode_source_scan.specs.Reaching.{reaches_no_map};
 ghost use Rattle.bcs_decode_source_scan.specs.Scanned.{ScansAll, ScansFrom};
 
 use crate::values::value;
@@ -28,7 +28,7 @@ pub fn scan_from<S: ByteSource>(
     requires { Admits registry.now (shape_of format.now) }
     ensures told { ScansFrom registry.now limits.now (shape_of format.now) (S.content source.old) (S.content source.new) result }
     ensures read { IsErrOf result DecodeFault.Read ↔ S.is_failed source.new ≡ true }
-    ensures memory { takes_no_memory (shape_of format.now) ≡ true → result ≢ Err DecodeFault.OutOfMemory }
+    ensures memory { reaches_no_map registry.now limits.now.depth (shape_of format.now) ≡ true → result ≢ Err DecodeFault.OutOfMemory }
 {
     if source.failed() {
         return Err(DecodeFault::Read);
@@ -62,7 +62,7 @@ pub fn scan_all<S: ByteSource>(
     requires { Admits registry.now (shape_of format.now) }
     ensures told { ScansAll registry.now limits.now (shape_of format.now) (S.content source.old) (S.content source.new) result }
     ensures read { IsErrOf result DecodeFault.Read ↔ S.is_failed source.new ≡ true }
-    ensures memory { takes_no_memory (shape_of format.now) ≡ true → result ≢ Err DecodeFault.OutOfMemory }
+    ensures memory { reaches_no_map registry.now limits.now.depth (shape_of format.now) ≡ true → result ≢ Err DecodeFault.OutOfMemory }
 {
     match scan_from(alloc, registry, format, limits, source) {
         Ok(length) => match source.next(&mut [0]) {

@@ -5,6 +5,7 @@ ghost use Rattle.bcs_decode_spec.specs.Reading.{bytes_here};
 ghost use Rattle.bcs_decode_source_scan.specs.Past.{text_run};
 ghost use Rattle.bcs_decode_source_scan.specs.Texts.{BeginsNoText};
 ghost use Rattle.bcs_decode_source_steps.specs.Reads.{Ready, Reads};
+ghost use Rattle.bcs_decode_source_steps.specs.Sees.{SparesMemory};
 
 use crate::blocks::pass_bytes;
 use crate::valid::valid_len;
@@ -29,6 +30,7 @@ const ROOM: usize = 515;
 pub fn pass_text<S: ByteSource>(reader: &mut Reader<'_, S>, count: u32) -> Result<(), DecodeFault>
     requires ready { Ready S.is_failed S.allowance reader.old }
     ensures reads { Reads S.content S.is_failed S.allowance (λ x. x) result reader.old (text_run count) reader.new }
+    ensures spares { SparesMemory result reader.old.at.now }
 {
     let start = reader.at.place;
     let mut block = [0u8; ROOM];
@@ -62,6 +64,7 @@ fn read_behind<S: ByteSource>(
     requires ready { Ready S.is_failed S.allowance reader.old }
     requires room { held + size ≤ length block.old }
     ensures reads { Reads S.content S.is_failed S.allowance (λ _. slice_range block.new held (held + size)) result reader.old (bytes_here size) reader.new }
+    ensures spares { SparesMemory result reader.old.at.now }
     ensures held { take held block.new ≡ take held block.old }
     ensures len { length block.new ≡ length block.old }
     ensures far { OnOk result (reader.new.at.now.place ≡ reader.old.at.now.place + size) }

@@ -3,8 +3,9 @@
 ghost use Rattle.bcs_registry_formats.specs.View.{shape_of};
 ghost use Rattle.bcs_decode_slice_steps.specs.Passing.{skip};
 ghost use Rattle.bcs_decode_source_steps.specs.Reads.{Ready, Reads};
-ghost use Rattle.bcs_decode_source_steps.specs.Sees.{Spares, takes_no_memory};
+ghost use Rattle.bcs_decode_source_steps.specs.Sees.{Spares};
 ghost use Rattle.bcs_decode_source_scan.specs.Past.{option_past};
+ghost use Rattle.bcs_decode_source_scan.specs.Reaching.{reaches_no_map};
 
 use crate::containers::named;
 use crate::leaves::{bytes, text, truth, unsupported, whole};
@@ -27,7 +28,7 @@ pub fn value<S: ByteSource>(
 ) -> Result<(), DecodeFault>
     requires ready { Ready S.is_failed S.allowance reader.old }
     ensures reads { Reads S.content S.is_failed S.allowance (λ x. x) result reader.old (skip reader.old.registry.now depth (shape_of format.now)) reader.new }
-    ensures spares { Spares (takes_no_memory (shape_of format.now)) result reader.old.at.now }
+    ensures spares { Spares (reaches_no_map reader.old.registry.now depth (shape_of format.now)) result reader.old.at.now }
 {
     match format {
         Format::Unit => begin(reader),
@@ -59,6 +60,7 @@ fn option<S: ByteSource>(
 ) -> Result<(), DecodeFault>
     requires ready { Ready S.is_failed S.allowance reader.old }
     ensures reads { Reads S.content S.is_failed S.allowance (λ x. x) result reader.old (option_past (skip reader.old.registry.now depth (shape_of part.now))) reader.new }
+    ensures spares { Spares (reaches_no_map reader.old.registry.now depth (shape_of part.now)) result reader.old.at.now }
 {
     if flag_node(reader)? {
         value(reader, part, depth)

@@ -3,6 +3,7 @@ ghost use Rattle.std.specs.Prelude.{◌≡◌, ◌*◌, ◌≤◌, ◌⊎◌};
 ghost use Rattle.bcs_decode_spec.specs.Reading.{items_here, skipping};
 ghost use Rattle.bcs_decode_slice_steps.specs.Passing.{whole_here};
 ghost use Rattle.bcs_decode_source_steps.specs.Reads.{Ready, Reads};
+ghost use Rattle.bcs_decode_source_steps.specs.Sees.{SparesMemory};
 
 use bcs_decode_source_steps::bytes::read_exact;
 use bcs_decode_source_steps::reader::Reader;
@@ -23,6 +24,7 @@ pub fn whole_row<S: ByteSource>(
     requires ready { Ready S.is_failed S.allowance reader.old }
     requires small { width ≤ 16 }
     ensures reads { Reads S.content S.is_failed S.allowance (λ x. x) result reader.old (items_here skipping (whole_here width) count) reader.new }
+    ensures spares { SparesMemory result reader.old.at.now }
 {
     let mut block = [0u8; BLOCK];
     let mut left = count;

@@ -40,6 +40,7 @@ pub fn flag<S: ByteSource>(reader: &mut Reader<'_, S>, bad: Reason) -> Result<bo
 pub fn flag_node<S: ByteSource>(reader: &mut Reader<'_, S>) -> Result<bool, DecodeFault>
     requires ready { Ready S.is_failed S.allowance reader.old }
     ensures reads { Reads S.content S.is_failed S.allowance (λ x. x) result reader.old flag_node reader.new }
+    ensures spares { SparesMemory result reader.old.at.now }
 {
     begin(reader)?;
     flag(reader, Reason::BadOption)

@@ -8,6 +8,7 @@ use Rattle.bcs_registry_formats.specs.View.{shape_of, formats_shapes, field_of, 
 use Rattle.bcs_registry_formats.specs.declared.named.Named.{Named}
 use Rattle.bcs_registry_formats.specs.declared.format.Format.{Format}
 use Rattle.bcs_registry_formats.specs.declared.container.Container.{Container}
+use Rattle.bcs_registry_formats.proofs.FormatViews.{shape-Opt, shape-Seq, shape-TupleArray, shape-Map, shape-Tuple, shape-TypeName}
 use Rattle.bcs_registry_formats.proofs.Admitted.{content_at-inside, choice_at-inside}
 use Rattle.bcs_decode_spec.specs.declared.reason.Reason.TheVariants.{UnknownVariant}
 use Rattle.bcs_decode_spec.specs.Reading.{fail, key_here, pairs_here, skipping}
@@ -22,10 +23,12 @@ use Rattle.bcs_decode_source_steps.proofs.KeptKeys.{Stands-begun, Stands-more, l
 use Rattle.bcs_decode_source_steps.proofs.Readers.{IsSame-then, Reads-as, Reads-then, Reads-ends, Reads-exit}
 use Rattle.bcs_decode_source_steps.proofs.StreamedRows.{Found}
 use Rattle.bcs_decode_source_scan.specs.Past.{option_past, items_past, pairs_past}
+use Rattle.bcs_decode_source_scan.specs.Reaching.{content_has_no_map, named_reaches_no_map, reaches_no_map}
 use Rattle.bcs_decode_source_scan.proofs.Leading.{leads_ends, leads_done, Reads-bare, Reads-in, Leads-none, Leads-on, Leads-ends, Leads-done, Leads-rest, Leads-stops}
 use Rattle.bcs_decode_source_scan.proofs.PastEntries.{value_ends, entry_on}
 use Rattle.bcs_decode_source_scan.proofs.PastKeys.{key_ends, kept_wrong, kept_right}
 use Rattle.bcs_decode_source_scan.proofs.PastParts.{past_Opt, past_Seq, past_TupleArray, past_Map, past_Tuple, past_TypeName, some_is, held_past, absent_is, option_on, items_same, enter_is, enum_ends, enum_unknown, enum_on}
+use Rattle.bcs_decode_source_scan.proofs.Sparing.{Spares-any, Spares-by, Spares-never, Spares-exit, Spares-on, format_has_no_map, field_has_no_map, choice_has_no_map, named_content}
 use Rattle.bcs_decode_source_scan.proofs.+scanning.Goals as goal
 
 abbrev fields_shapes : List (Named Format) → Shapes
@@ -97,50 +100,44 @@ pub values::value-returns-in-TypeName-clause-reads : goal.values::value-returns-
 values::value-returns-in-TypeName-clause-reads g t c =
     Reads-as (λ p m b. past_TypeName c.args.reader.now.registry.now c.args.depth c.args.format.now p m b c.in-TypeName.name c.in-TypeName.is) (rw (← c.as_str.ensures.value) c.named.ensures.reads)
 
-pub values::option-returns-in_err-flag_node : goal.values::option-returns-in_err-flag_node
+pub values::option-returns-in_err-flag_node-clause-reads : goal.values::option-returns-in_err-flag_node-clause-reads
 unfolding option_past
-values::option-returns-in_err-flag_node g t c =
-    record { reads = Reads-exit c.from_residual.ensures.1 (Reads-ends _ c.in_err-flag_node.ensures.reads) }
+values::option-returns-in_err-flag_node-clause-reads g t c =
+    Reads-exit c.from_residual.ensures.1 (Reads-ends _ c.in_err-flag_node.ensures.reads)
 
-pub values::option-returns-then-branch : goal.values::option-returns-then-branch
+pub values::option-returns-then-branch-clause-reads : goal.values::option-returns-then-branch-clause-reads
 unfolding option_past
-values::option-returns-then-branch g t c =
-    record {
-      reads = Reads-then _ c.in_ok-flag_node.ensures.reads
-          (Reads-as (λ p m b. some_is (skip c.args.reader.now.registry.now c.args.depth (shape_of c.args.part.now)) c.in_ok-flag_node.field-0 p m b c.if-branch.true) (rw (← c.in_ok-flag_node.ensures.reads.same.registry) c.value.ensures.reads));
-    }
+values::option-returns-then-branch-clause-reads g t c =
+    Reads-then _ c.in_ok-flag_node.ensures.reads
+          (Reads-as (λ p m b. some_is (skip c.args.reader.now.registry.now c.args.depth (shape_of c.args.part.now)) c.in_ok-flag_node.field-0 p m b c.if-branch.true) (rw (← c.in_ok-flag_node.ensures.reads.same.registry) c.value.ensures.reads))
 
-pub values::option-returns-else-branch : goal.values::option-returns-else-branch
-values::option-returns-else-branch g t c =
+pub values::option-returns-else-branch-clause-reads : goal.values::option-returns-else-branch-clause-reads
+values::option-returns-else-branch-clause-reads g t c =
     let f = (skip c.args.reader.now.registry.now c.args.depth (shape_of c.args.part.now)) in
-    record {
-      reads = Leads-done {g = held_past f c.in_ok-flag_node.field-0} (Leads-on (Leads-none {f = option_past f} {g = option_past f} c.requires.ready (λ b. refl)) c.in_ok-flag_node.ensures.reads (λ b t h. option_on f _ _ b c.in_ok-flag_node.field-0 _ _ t h))
-          (λ b. absent_is f c.in_ok-flag_node.field-0 _ _ b c.if-branch.false);
-    }
+    Leads-done {g = held_past f c.in_ok-flag_node.field-0} (Leads-on (Leads-none {f = option_past f} {g = option_past f} c.requires.ready (λ b. refl)) c.in_ok-flag_node.ensures.reads (λ b t h. option_on f _ _ b c.in_ok-flag_node.field-0 _ _ t h))
+          (λ b. absent_is f c.in_ok-flag_node.field-0 _ _ b c.if-branch.false)
 
 -- ---- rows
 
-pub rows::items-returns-in_err-count : goal.rows::items-returns-in_err-count
+pub rows::items-returns-in_err-count-clause-reads : goal.rows::items-returns-in_err-count-clause-reads
 unfolding items_past
-rows::items-returns-in_err-count g t c =
-    record { reads = Reads-exit c.from_residual.ensures.1 (Reads-ends _ c.in_err-count.ensures.reads) }
+rows::items-returns-in_err-count-clause-reads g t c =
+    Reads-exit c.from_residual.ensures.1 (Reads-ends _ c.in_err-count.ensures.reads)
 
-pub rows::items-returns : goal.rows::items-returns
+pub rows::items-returns-clause-reads : goal.rows::items-returns-clause-reads
 unfolding items_past
-rows::items-returns g t c =
-    record { reads = Reads-then _ c.in_ok-count.ensures.reads (Reads-bare (rw (← c.in_ok-count.ensures.reads.same.registry) c.elements.ensures.reads)) }
+rows::items-returns-clause-reads g t c =
+    Reads-then _ c.in_ok-count.ensures.reads (Reads-bare (rw (← c.in_ok-count.ensures.reads.same.registry) c.elements.ensures.reads))
 
-pub rows::elements-returns-in-Some : goal.rows::elements-returns-in-Some
-rows::elements-returns-in-Some g t c =
+pub rows::elements-returns-in-Some-clause-reads : goal.rows::elements-returns-in-Some-clause-reads
+rows::elements-returns-in-Some-clause-reads g t c =
     let found = c.in-Some.ensures in
-    record { reads = Reads-as (λ p m b. items_same _ _ (λ o l s. found.1 c.args.reader.now.registry.now c.args.depth o l s) c.args.count p m b) c.whole_row.ensures.reads }
+    Reads-as (λ p m b. items_same _ _ (λ o l s. found.1 c.args.reader.now.registry.now c.args.depth o l s) c.args.count p m b) c.whole_row.ensures.reads
 
-pub rows::elements-returns-in_err-value : goal.rows::elements-returns-in_err-value
-rows::elements-returns-in_err-value g t c =
-    record {
-      reads = Reads-exit c.from_residual.ensures.1 (Leads-ends c.loop.invariant.leads (Reads-in (λ r. skip r c.args.depth (shape_of c.args.element.now)) c.loop.invariant.leads.on.same.registry c.in_err-value.ensures.reads)
-          (λ b e h. items_stop (skip c.args.reader.now.registry.now c.args.depth (shape_of c.args.element.now)) c.args.count c.loop.counter _ _ b e c.loop-test.true h));
-    }
+pub rows::elements-returns-in_err-value-clause-reads : goal.rows::elements-returns-in_err-value-clause-reads
+rows::elements-returns-in_err-value-clause-reads g t c =
+    Reads-exit c.from_residual.ensures.1 (Leads-ends c.loop.invariant.leads (Reads-in (λ r. skip r c.args.depth (shape_of c.args.element.now)) c.loop.invariant.leads.on.same.registry c.in_err-value.ensures.reads)
+          (λ b e h. items_stop (skip c.args.reader.now.registry.now c.args.depth (shape_of c.args.element.now)) c.args.count c.loop.counter _ _ b e c.loop-test.true h))
 
 pub rows::elements-loop-preserved : goal.rows::elements-loop-preserved
 rows::elements-loop-preserved g t c =
@@ -149,13 +146,13 @@ rows::elements-loop-preserved g t c =
           (λ b t h. items_on (skip c.args.reader.now.registry.now c.args.depth (shape_of c.args.element.now)) c.args.count c.loop.counter _ _ b _ _ t c.loop-test.true h);
     }
 
-pub rows::elements-returns : goal.rows::elements-returns
-rows::elements-returns g t c =
-    record { reads = Leads-done c.loop.invariant.leads (λ b. items_end (skip c.args.reader.now.registry.now c.args.depth (shape_of c.args.element.now)) c.args.count c.loop.counter _ _ b c.loop-test.false) }
+pub rows::elements-returns-clause-reads : goal.rows::elements-returns-clause-reads
+rows::elements-returns-clause-reads g t c =
+    Leads-done c.loop.invariant.leads (λ b. items_end (skip c.args.reader.now.registry.now c.args.depth (shape_of c.args.element.now)) c.args.count c.loop.counter _ _ b c.loop-test.false)
 
-pub rows::tuple-returns-in_err-begin : goal.rows::tuple-returns-in_err-begin
-rows::tuple-returns-in_err-begin g t c =
-    record { reads = Reads-exit c.from_residual.ensures.1 (Leads-ends (Leads-none {g = skip c.args.reader.now.registry.now c.args.depth (tuple_shape (formats_shapes c.args.formats.now))} c.requires.ready (λ b. refl)) c.in_err-begin.ensures.reads (λ b e h. tuple_stop c.args.reader.now.registry.now c.args.depth _ _ b (formats_shapes c.args.formats.now) e h)) }
+pub rows::tuple-returns-in_err-begin-clause-reads : goal.rows::tuple-returns-in_err-begin-clause-reads
+rows::tuple-returns-in_err-begin-clause-reads g t c =
+    Reads-exit c.from_residual.ensures.1 (Leads-ends (Leads-none {g = skip c.args.reader.now.registry.now c.args.depth (tuple_shape (formats_shapes c.args.formats.now))} c.requires.ready (λ b. refl)) c.in_err-begin.ensures.reads (λ b e h. tuple_stop c.args.reader.now.registry.now c.args.depth _ _ b (formats_shapes c.args.formats.now) e h))
 
 pub rows::tuple-loop-format-init : goal.rows::tuple-loop-format-init
 rows::tuple-loop-format-init g t c =
@@ -166,13 +163,11 @@ rows::tuple-value-requires g t c κs within =
     let low = levels_in c.args.formats.now c.loop-format.format-index c.format-item.result (omega arith) c.format-item.is in
     (omega (arith, low), (within, c.loop-format.invariant.leads.on.ready))
 
-pub rows::tuple-returns-in_err-value : goal.rows::tuple-returns-in_err-value
-rows::tuple-returns-in_err-value g t c =
+pub rows::tuple-returns-in_err-value-clause-reads : goal.rows::tuple-returns-in_err-value-clause-reads
+rows::tuple-returns-in_err-value-clause-reads g t c =
     let next = formats_next c.args.formats.now c.loop-format.format-index c.format-item.result (omega arith) c.format-item.is in
-    record {
-      reads = Reads-exit c.from_residual-in_err-value.ensures.1 (Leads-ends c.loop-format.invariant.leads (Reads-in (λ r. skip r c.args.depth (shape_of c.format-item.result)) c.loop-format.invariant.leads.on.same.registry c.in_err-value.ensures.reads)
-          (λ b e h. each_stop c.args.reader.now.registry.now c.args.depth _ _ b _ _ _ e next h));
-    }
+    Reads-exit c.from_residual-in_err-value.ensures.1 (Leads-ends c.loop-format.invariant.leads (Reads-in (λ r. skip r c.args.depth (shape_of c.format-item.result)) c.loop-format.invariant.leads.on.same.registry c.in_err-value.ensures.reads)
+          (λ b e h. each_stop c.args.reader.now.registry.now c.args.depth _ _ b _ _ _ e next h))
 
 pub rows::tuple-loop-format-preserved : goal.rows::tuple-loop-format-preserved
 rows::tuple-loop-format-preserved g t c =
@@ -182,16 +177,16 @@ rows::tuple-loop-format-preserved g t c =
           (λ b t h. each_on c.args.reader.now.registry.now c.args.depth _ _ b _ _ _ _ _ t next h);
     }
 
-pub rows::tuple-returns : goal.rows::tuple-returns
-rows::tuple-returns g t c =
+pub rows::tuple-returns-clause-reads : goal.rows::tuple-returns-clause-reads
+rows::tuple-returns-clause-reads g t c =
     let none : drop c.loop-format.format-index c.args.formats.now ≡ [] = drop_all c.loop-format.format-index c.args.formats.now (omega arith) in
-    record { reads = Leads-done c.loop-format.invariant.leads (λ b. ap (λ ys. each c.args.reader.now.registry.now c.args.depth (formats_shapes ys) c.loop-format.reader.at.now.place c.loop-format.reader.at.now.nodes b) none ∙ each_end c.args.reader.now.registry.now c.args.depth _ _ b) }
+    Leads-done c.loop-format.invariant.leads (λ b. ap (λ ys. each c.args.reader.now.registry.now c.args.depth (formats_shapes ys) c.loop-format.reader.at.now.place c.loop-format.reader.at.now.nodes b) none ∙ each_end c.args.reader.now.registry.now c.args.depth _ _ b)
 
 -- ---- containers
 
-pub containers::structure-returns-in_err-begin : goal.containers::structure-returns-in_err-begin
-containers::structure-returns-in_err-begin g t c =
-    record { reads = Reads-exit c.from_residual.ensures.1 (Leads-ends (Leads-none {g = skip c.args.reader.now.registry.now c.args.depth (tuple_shape (fields_shapes c.args.fields.now))} c.requires.ready (λ b. refl)) c.in_err-begin.ensures.reads (λ b e h. tuple_stop c.args.reader.now.registry.now c.args.depth _ _ b (fields_shapes c.args.fields.now) e h)) }
+pub containers::structure-returns-in_err-begin-clause-reads : goal.containers::structure-returns-in_err-begin-clause-reads
+containers::structure-returns-in_err-begin-clause-reads g t c =
+    Reads-exit c.from_residual.ensures.1 (Leads-ends (Leads-none {g = skip c.args.reader.now.registry.now c.args.depth (tuple_shape (fields_shapes c.args.fields.now))} c.requires.ready (λ b. refl)) c.in_err-begin.ensures.reads (λ b e h. tuple_stop c.args.reader.now.registry.now c.args.depth _ _ b (fields_shapes c.args.fields.now) e h))
 
 pub containers::structure-loop-field-init : goal.containers::structure-loop-field-init
 containers::structure-loop-field-init g t c =
@@ -202,13 +197,11 @@ containers::structure-value-requires g t c κs within =
     let low = field_levels_in c.args.fields.now c.loop-field.field-index c.field-item.result (omega arith) c.field-item.is in
     (omega (arith, low), (within, c.loop-field.invariant.leads.on.ready))
 
-pub containers::structure-returns-in_err-value : goal.containers::structure-returns-in_err-value
-containers::structure-returns-in_err-value g t c =
+pub containers::structure-returns-in_err-value-clause-reads : goal.containers::structure-returns-in_err-value-clause-reads
+containers::structure-returns-in_err-value-clause-reads g t c =
     let next = fields_next c.args.fields.now c.loop-field.field-index c.field-item.result (omega arith) c.field-item.is in
-    record {
-      reads = Reads-exit c.from_residual-in_err-value.ensures.1 (Leads-ends c.loop-field.invariant.leads (Reads-in (λ r. skip r c.args.depth (shape_of c.field-item.result.value)) c.loop-field.invariant.leads.on.same.registry c.in_err-value.ensures.reads)
-          (λ b e h. each_stop c.args.reader.now.registry.now c.args.depth _ _ b _ _ _ e next h));
-    }
+    Reads-exit c.from_residual-in_err-value.ensures.1 (Leads-ends c.loop-field.invariant.leads (Reads-in (λ r. skip r c.args.depth (shape_of c.field-item.result.value)) c.loop-field.invariant.leads.on.same.registry c.in_err-value.ensures.reads)
+          (λ b e h. each_stop c.args.reader.now.registry.now c.args.depth _ _ b _ _ _ e next h))
 
 pub containers::structure-loop-field-preserved : goal.containers::structure-loop-field-preserved
 containers::structure-loop-field-preserved g t c =
@@ -218,10 +211,10 @@ containers::structure-loop-field-preserved g t c =
           (λ b t h. each_on c.args.reader.now.registry.now c.args.depth _ _ b _ _ _ _ _ t next h);
     }
 
-pub containers::structure-returns : goal.containers::structure-returns
-containers::structure-returns g t c =
+pub containers::structure-returns-clause-reads : goal.containers::structure-returns-clause-reads
+containers::structure-returns-clause-reads g t c =
     let none : drop c.loop-field.field-index c.args.fields.now ≡ [] = drop_all c.loop-field.field-index c.args.fields.now (omega arith) in
-    record { reads = Leads-done c.loop-field.invariant.leads (λ b. ap (λ ys. each c.args.reader.now.registry.now c.args.depth (fields_shapes ys) c.loop-field.reader.at.now.place c.loop-field.reader.at.now.nodes b) none ∙ each_end c.args.reader.now.registry.now c.args.depth _ _ b) }
+    Leads-done c.loop-field.invariant.leads (λ b. ap (λ ys. each c.args.reader.now.registry.now c.args.depth (fields_shapes ys) c.loop-field.reader.at.now.place c.loop-field.reader.at.now.nodes b) none ∙ each_end c.args.reader.now.registry.now c.args.depth _ _ b)
 
 content_as : (registry : Entries) (d p m : ℕ) (b : List ℕ) (k j : Container) → k ≡ j → content_past registry d (content (container_of k)) p m b ≡ content_past registry d (content (container_of j)) p m b
 content_as registry d p m b k j is = ap (λ (x : Container). content_past registry d (content (container_of x)) p m b) is
@@ -258,60 +251,58 @@ containers::content-payload-requires g t c κs within =
     let low : levels s ≤ 33 = (choice_at-inside c.args.reader.now.registry.now c.requires.known.well_formed c.requires.known.name cs is c.in_ok-number-in-Enum.number s chosen).1 in
     (omega (arith, low), (within, record { good = c.in_ok-number-in-Enum.ensures.reads.failed; room = c.in_ok-number-in-Enum.ensures.reads.room }))
 
-pub containers::content-returns-in-UnitStruct : goal.containers::content-returns-in-UnitStruct
-containers::content-returns-in-UnitStruct g t c =
-    record { reads = Reads-as (λ p m b. content_as c.args.reader.now.registry.now c.args.depth p m b c.args.found.now _ c.in-UnitStruct.is ∙ content_shape c.args.reader.now.registry.now c.args.depth p m b _ ∙ unit_is c.args.reader.now.registry.now c.args.depth p m b) c.begin.ensures.reads }
+pub containers::content-returns-in-UnitStruct-clause-reads : goal.containers::content-returns-in-UnitStruct-clause-reads
+containers::content-returns-in-UnitStruct-clause-reads g t c =
+    Reads-as (λ p m b. content_as c.args.reader.now.registry.now c.args.depth p m b c.args.found.now _ c.in-UnitStruct.is ∙ content_shape c.args.reader.now.registry.now c.args.depth p m b _ ∙ unit_is c.args.reader.now.registry.now c.args.depth p m b) c.begin.ensures.reads
 
-pub containers::content-returns-in-NewTypeStruct : goal.containers::content-returns-in-NewTypeStruct
-containers::content-returns-in-NewTypeStruct g t c =
-    record { reads = Reads-as (λ p m b. content_as c.args.reader.now.registry.now c.args.depth p m b c.args.found.now _ c.in-NewTypeStruct.is ∙ content_shape c.args.reader.now.registry.now c.args.depth p m b _) c.value.ensures.reads }
+pub containers::content-returns-in-NewTypeStruct-clause-reads : goal.containers::content-returns-in-NewTypeStruct-clause-reads
+containers::content-returns-in-NewTypeStruct-clause-reads g t c =
+    Reads-as (λ p m b. content_as c.args.reader.now.registry.now c.args.depth p m b c.args.found.now _ c.in-NewTypeStruct.is ∙ content_shape c.args.reader.now.registry.now c.args.depth p m b _) c.value.ensures.reads
 
-pub containers::content-returns-in-TupleStruct : goal.containers::content-returns-in-TupleStruct
-containers::content-returns-in-TupleStruct g t c =
-    record { reads = Reads-as (λ p m b. content_as c.args.reader.now.registry.now c.args.depth p m b c.args.found.now _ c.in-TupleStruct.is ∙ content_shape c.args.reader.now.registry.now c.args.depth p m b _) (rw (← c.deref.ensures.value) c.tuple.ensures.reads) }
+pub containers::content-returns-in-TupleStruct-clause-reads : goal.containers::content-returns-in-TupleStruct-clause-reads
+containers::content-returns-in-TupleStruct-clause-reads g t c =
+    Reads-as (λ p m b. content_as c.args.reader.now.registry.now c.args.depth p m b c.args.found.now _ c.in-TupleStruct.is ∙ content_shape c.args.reader.now.registry.now c.args.depth p m b _) (rw (← c.deref.ensures.value) c.tuple.ensures.reads)
 
-pub containers::content-returns-in-Struct : goal.containers::content-returns-in-Struct
-containers::content-returns-in-Struct g t c =
-    record { reads = Reads-as (λ p m b. content_as c.args.reader.now.registry.now c.args.depth p m b c.args.found.now _ c.in-Struct.is ∙ content_shape c.args.reader.now.registry.now c.args.depth p m b _) (rw (← c.deref-in-Struct.ensures.value) c.structure.ensures.reads) }
+pub containers::content-returns-in-Struct-clause-reads : goal.containers::content-returns-in-Struct-clause-reads
+containers::content-returns-in-Struct-clause-reads g t c =
+    Reads-as (λ p m b. content_as c.args.reader.now.registry.now c.args.depth p m b c.args.found.now _ c.in-Struct.is ∙ content_shape c.args.reader.now.registry.now c.args.depth p m b _) (rw (← c.deref-in-Struct.ensures.value) c.structure.ensures.reads)
 
-pub containers::content-returns-in_err-number-in-Enum : goal.containers::content-returns-in_err-number-in-Enum
-containers::content-returns-in_err-number-in-Enum g t c =
+pub containers::content-returns-in_err-number-in-Enum-clause-reads : goal.containers::content-returns-in_err-number-in-Enum-clause-reads
+containers::content-returns-in_err-number-in-Enum-clause-reads g t c =
     let cs = map choice_of c.in-Enum.variants.entries in
     let from = Leads-none {f = content_past c.args.reader.now.registry.now c.args.depth (content (container_of c.args.found.now))} {g = content_past c.args.reader.now.registry.now c.args.depth (one_of cs)} c.requires.ready (λ b. content_as c.args.reader.now.registry.now c.args.depth _ _ b c.args.found.now _ c.in-Enum.is) in
-    record { reads = Reads-exit c.from_residual.ensures.1 (Leads-ends from c.in_err-number-in-Enum.ensures.reads (λ b e h. enum_ends _ _ b c.args.reader.now.registry.now c.args.depth cs e h)) }
+    Reads-exit c.from_residual.ensures.1 (Leads-ends from c.in_err-number-in-Enum.ensures.reads (λ b e h. enum_ends _ _ b c.args.reader.now.registry.now c.args.depth cs e h))
 
-pub containers::content-returns-in-Some : goal.containers::content-returns-in-Some
-containers::content-returns-in-Some g t c =
+pub containers::content-returns-in-Some-clause-reads : goal.containers::content-returns-in-Some-clause-reads
+containers::content-returns-in-Some-clause-reads g t c =
     let cs = map choice_of c.in-Enum.variants.entries in
     let s : Shape = payload_shape (payload_of c.in-Some.variant.now.value) in
     let chosen : choice_at c.in_ok-number-in-Enum.number cs ≡ of s = choice_found c.in_ok-number-in-Enum.number c.in-Enum.variants.entries c.in-Some.variant c.get.result c.get.ensures.value c.in-Some.is in
     let from = Leads-none {f = content_past c.args.reader.now.registry.now c.args.depth (content (container_of c.args.found.now))} {g = content_past c.args.reader.now.registry.now c.args.depth (one_of cs)} c.requires.ready (λ b. content_as c.args.reader.now.registry.now c.args.depth _ _ b c.args.found.now _ c.in-Enum.is) in
     let on = Leads-on {k = skip c.args.reader.now.registry.now c.args.depth s} from c.in_ok-number-in-Enum.ensures.reads (λ b t h. enum_on _ _ b c.args.reader.now.registry.now c.args.depth cs c.in_ok-number-in-Enum.number _ _ t s h chosen) in
-    record { reads = Leads-rest on (Reads-in (λ r. skip r c.args.depth s) c.in_ok-number-in-Enum.ensures.reads.same.registry c.payload.ensures.reads) (λ b. refl) }
+    Leads-rest on (Reads-in (λ r. skip r c.args.depth s) c.in_ok-number-in-Enum.ensures.reads.same.registry c.payload.ensures.reads) (λ b. refl)
 
-pub containers::content-returns-in-None : goal.containers::content-returns-in-None
+pub containers::content-returns-in-None-clause-reads : goal.containers::content-returns-in-None-clause-reads
 unfolding fail
-containers::content-returns-in-None g t c =
+containers::content-returns-in-None-clause-reads g t c =
     let cs = map choice_of c.in-Enum.variants.entries in
     let from = Leads-none {f = content_past c.args.reader.now.registry.now c.args.depth (content (container_of c.args.found.now))} {g = content_past c.args.reader.now.registry.now c.args.depth (one_of cs)} c.requires.ready (λ b. content_as c.args.reader.now.registry.now c.args.depth _ _ b c.args.found.now _ c.in-Enum.is) in
     let none : choice_at c.in_ok-number-in-Enum.number cs ≡ nothing = choice_missing c.in_ok-number-in-Enum.number c.in-Enum.variants.entries c.get.result c.get.ensures.value c.in-None.is in
     let on = Leads-on {k = fail UnknownVariant c.args.reader.now.at.now.place} from c.in_ok-number-in-Enum.ensures.reads (λ b t h. enum_unknown _ _ b c.args.reader.now.registry.now c.args.depth cs c.in_ok-number-in-Enum.number _ _ t h none) in
-    record { reads = Leads-stops on (omega (arith, on.on.goes.later)) (λ b. refl) }
+    Leads-stops on (omega (arith, on.on.goes.later)) (λ b. refl)
 
-pub containers::named-returns-in_err-enter : goal.containers::named-returns-in_err-enter
-containers::named-returns-in_err-enter g t c =
+pub containers::named-returns-in_err-enter-clause-reads : goal.containers::named-returns-in_err-enter-clause-reads
+containers::named-returns-in_err-enter-clause-reads g t c =
     let from = Leads-none {f = skip c.args.reader.now.registry.now c.args.depth (name_shape c.args.name.now)} {g = skip c.args.reader.now.registry.now c.args.depth (name_shape c.args.name.now)} (record { good = search rules; room = search rules }) (λ b. refl) in
-    record { reads = Reads-exit c.from_residual.ensures.1 (Leads-ends from c.in_err-enter.ensures.reads (λ b e h. named_stop c.args.reader.now.registry.now c.args.name.now _ _ b c.args.depth e (enter_is c.args.depth _ _ b ∙ h))) }
+    Reads-exit c.from_residual.ensures.1 (Leads-ends from c.in_err-enter.ensures.reads (λ b e h. named_stop c.args.reader.now.registry.now c.args.name.now _ _ b c.args.depth e (enter_is c.args.depth _ _ b ∙ h)))
 
-pub containers::named-returns-in_default : goal.containers::named-returns-in_default
-containers::named-returns-in_default g t c =
+pub containers::named-returns-in_default-clause-reads : goal.containers::named-returns-in_default-clause-reads
+containers::named-returns-in_default-clause-reads g t c =
     let from = Leads-none {f = skip c.args.reader.now.registry.now c.args.depth (name_shape c.args.name.now)} {g = skip c.args.reader.now.registry.now c.args.depth (name_shape c.args.name.now)} (record { good = search rules; room = search rules }) (λ b. refl) in
     let on = Leads-on {k = content_past c.args.reader.now.registry.now (c.args.depth - 1) (content_at c.args.name.now c.args.reader.now.registry.now)} from c.in_ok-enter.ensures.reads
     (λ b t h. named_on c.args.reader.now.registry.now c.args.name.now _ _ b c.args.depth _ _ t c.in_ok-enter.ensures.positive (enter_is c.args.depth _ _ b ∙ h)) in
     let none : content_at c.args.name.now c.args.reader.now.registry.now ≡ nothing = ap (λ r. content_at c.args.name.now r) (sym c.in_ok-enter.ensures.reads.same.registry) ∙ content_missing c.enter.new.reader.registry.now c.args.name.now c.container.result c.container.ensures.found c.in_default.is in
-    record {
-      reads = Leads-stops on (omega arith) (λ b. ap (λ (k : Content). content_past c.args.reader.now.registry.now (c.args.depth - 1) k c.enter.new.reader.at.now.place c.enter.new.reader.at.now.nodes b) none ∙ content_nothing c.args.reader.now.registry.now (c.args.depth - 1) _ _ b);
-    }
+    Leads-stops on (omega arith) (λ b. ap (λ (k : Content). content_past c.args.reader.now.registry.now (c.args.depth - 1) k c.enter.new.reader.at.now.place c.enter.new.reader.at.now.nodes b) none ∙ content_nothing c.args.reader.now.registry.now (c.args.depth - 1) _ _ b)
 
 pub containers::named-content-requires : goal.containers::named-content-requires
 containers::named-content-requires g t c κs within = (
@@ -329,20 +320,18 @@ containers::named-content-requires g t c κs within = (
   ),
 )
 
-pub containers::named-returns : goal.containers::named-returns
-containers::named-returns g t c =
+pub containers::named-returns-clause-reads : goal.containers::named-returns-clause-reads
+containers::named-returns-clause-reads g t c =
     let from = Leads-none {f = skip c.args.reader.now.registry.now c.args.depth (name_shape c.args.name.now)} {g = skip c.args.reader.now.registry.now c.args.depth (name_shape c.args.name.now)} (record { good = search rules; room = search rules }) (λ b. refl) in
     let on = Leads-on {k = content_past c.args.reader.now.registry.now (c.args.depth - 1) (content_at c.args.name.now c.args.reader.now.registry.now)} from c.in_ok-enter.ensures.reads
     (λ b t h. named_on c.args.reader.now.registry.now c.args.name.now _ _ b c.args.depth _ _ t c.in_ok-enter.ensures.positive (enter_is c.args.depth _ _ b ∙ h)) in
     let found : content_at c.args.name.now c.args.reader.now.registry.now ≡ content (container_of c.in-Some.found.now) = ap (λ r. content_at c.args.name.now r) (sym c.in_ok-enter.ensures.reads.same.registry) ∙ content_found c.enter.new.reader.registry.now c.args.name.now c.container.result c.in-Some.found c.container.ensures.found c.in-Some.is in
-    record {
-      reads = Leads-rest on (Reads-in (λ r. content_past r (c.args.depth - 1) (content (container_of c.in-Some.found.now))) c.in_ok-enter.ensures.reads.same.registry c.content.ensures.reads)
-          (λ b. ap (λ (k : Content). content_past c.args.reader.now.registry.now (c.args.depth - 1) k c.enter.new.reader.at.now.place c.enter.new.reader.at.now.nodes b) found);
-    }
+    Leads-rest on (Reads-in (λ r. content_past r (c.args.depth - 1) (content (container_of c.in-Some.found.now))) c.in_ok-enter.ensures.reads.same.registry c.content.ensures.reads)
+          (λ b. ap (λ (k : Content). content_past c.args.reader.now.registry.now (c.args.depth - 1) k c.enter.new.reader.at.now.place c.enter.new.reader.at.now.nodes b) found)
 
-pub containers::payload-returns-in-Unit : goal.containers::payload-returns-in-Unit
-containers::payload-returns-in-Unit g t c =
-    record { reads = Reads-as (λ p m b. ap (λ k. skip c.args.reader.now.registry.now c.args.depth (payload_shape (payload_of k)) p m b) c.in-Unit.is ∙ unit_is c.args.reader.now.registry.now c.args.depth p m b) c.begin.ensures.reads }
+pub containers::payload-returns-in-Unit-clause-reads : goal.containers::payload-returns-in-Unit-clause-reads
+containers::payload-returns-in-Unit-clause-reads g t c =
+    Reads-as (λ p m b. ap (λ k. skip c.args.reader.now.registry.now c.args.depth (payload_shape (payload_of k)) p m b) c.in-Unit.is ∙ unit_is c.args.reader.now.registry.now c.args.depth p m b) c.begin.ensures.reads
 
 -- ---- maps
 
@@ -463,3 +452,162 @@ maps::next_key-returns-clause-reads g t c =
           c.in_ok-value.ensures.reads.goes same.place same.key c.follow.ensures.recorded c.follow.ensures.front;
       same = search rules;
     }
+
+-- ---- want of memory
+
+pub values::value-returns-in-Str-clause-spares : goal.values::value-returns-in-Str-clause-spares
+values::value-returns-in-Str-clause-spares g t c =
+    Spares-any c.text.ensures.spares
+
+pub values::value-returns-in-Bytes-clause-spares : goal.values::value-returns-in-Bytes-clause-spares
+values::value-returns-in-Bytes-clause-spares g t c =
+    Spares-any c.bytes.ensures.spares
+
+pub values::value-returns-in-F32-clause-spares : goal.values::value-returns-in-F32-clause-spares
+values::value-returns-in-F32-clause-spares g t c =
+    Spares-any c.unsupported.ensures.spares
+
+pub values::value-returns-in-Opt-clause-spares : goal.values::value-returns-in-Opt-clause-spares
+values::value-returns-in-Opt-clause-spares g t c =
+    Spares-by (λ h. ap (reaches_no_map c.args.reader.now.registry.now c.args.depth) (sym (shape-Opt c.args.format.now c.in-Opt.part c.in-Opt.is)) ∙ h) (rw (← c.deref.ensures) c.option.ensures.spares)
+
+pub values::value-returns-in-Seq-clause-spares : goal.values::value-returns-in-Seq-clause-spares
+values::value-returns-in-Seq-clause-spares g t c =
+    Spares-by (λ h. ap (reaches_no_map c.args.reader.now.registry.now c.args.depth) (sym (shape-Seq c.args.format.now c.in-Seq.element c.in-Seq.is)) ∙ h) (rw (← c.deref-in-Seq.ensures) c.items.ensures.spares)
+
+pub values::value-returns-in-TupleArray-clause-spares : goal.values::value-returns-in-TupleArray-clause-spares
+values::value-returns-in-TupleArray-clause-spares g t c =
+    Spares-by (λ h. ap (reaches_no_map c.args.reader.now.registry.now c.args.depth) (sym (shape-TupleArray c.args.format.now c.in-TupleArray.element c.in-TupleArray.size c.in-TupleArray.is)) ∙ h) (rw (← c.deref-in-TupleArray.ensures) c.items-in-TupleArray.ensures.spares)
+
+pub values::value-returns-in-Map-clause-spares : goal.values::value-returns-in-Map-clause-spares
+values::value-returns-in-Map-clause-spares g t c =
+    Spares-never (ap (reaches_no_map c.args.reader.now.registry.now c.args.depth) (shape-Map c.args.format.now c.in-Map.key c.in-Map.part c.in-Map.is))
+
+pub values::value-returns-in-Tuple-clause-spares : goal.values::value-returns-in-Tuple-clause-spares
+values::value-returns-in-Tuple-clause-spares g t c =
+    Spares-by (λ h. ap (reaches_no_map c.args.reader.now.registry.now c.args.depth) (sym (shape-Tuple c.args.format.now c.in-Tuple.formats c.in-Tuple.is)) ∙ h) (rw (← c.deref-in-Tuple.ensures.value) c.tuple.ensures.spares)
+
+pub values::value-returns-in-TypeName-clause-spares : goal.values::value-returns-in-TypeName-clause-spares
+values::value-returns-in-TypeName-clause-spares g t c =
+    Spares-by (λ h. ap (reaches_no_map c.args.reader.now.registry.now c.args.depth) (sym (shape-TypeName c.args.format.now c.in-TypeName.name c.in-TypeName.is)) ∙ h) (rw (← c.as_str.ensures.value) c.named.ensures.spares)
+
+pub values::option-returns-in_err-flag_node-clause-spares : goal.values::option-returns-in_err-flag_node-clause-spares
+values::option-returns-in_err-flag_node-clause-spares g t c =
+    Spares-exit c.from_residual.ensures.1 refl (Spares-any c.in_err-flag_node.ensures.spares)
+
+pub values::option-returns-then-branch-clause-spares : goal.values::option-returns-then-branch-clause-spares
+values::option-returns-then-branch-clause-spares g t c =
+    Spares-on c.in_ok-flag_node.ensures.reads.goes.same (rw (← c.in_ok-flag_node.ensures.reads.same.registry) c.value.ensures.spares)
+
+pub values::option-returns-else-branch-clause-spares : goal.values::option-returns-else-branch-clause-spares
+values::option-returns-else-branch-clause-spares g t c =
+    Spares-any tt
+
+pub rows::items-returns-in_err-count-clause-spares : goal.rows::items-returns-in_err-count-clause-spares
+rows::items-returns-in_err-count-clause-spares g t c =
+    Spares-exit c.from_residual.ensures.1 refl (Spares-any c.in_err-count.ensures.spares)
+
+pub rows::items-returns-clause-spares : goal.rows::items-returns-clause-spares
+rows::items-returns-clause-spares g t c =
+    Spares-on c.in_ok-count.ensures.reads.goes.same (rw (← c.in_ok-count.ensures.reads.same.registry) c.elements.ensures.spares)
+
+pub rows::elements-returns-in-Some-clause-spares : goal.rows::elements-returns-in-Some-clause-spares
+rows::elements-returns-in-Some-clause-spares g t c =
+    Spares-any c.whole_row.ensures.spares
+
+pub rows::elements-returns-in_err-value-clause-spares : goal.rows::elements-returns-in_err-value-clause-spares
+rows::elements-returns-in_err-value-clause-spares g t c =
+    Spares-exit c.from_residual.ensures.1 c.loop.invariant.leads.on.goes.same (Spares-by (λ h. ap (λ r. reaches_no_map r c.args.depth (shape_of c.args.element.now)) c.loop.invariant.leads.on.same.registry ∙ h) c.in_err-value.ensures.spares)
+
+pub rows::elements-returns-clause-spares : goal.rows::elements-returns-clause-spares
+rows::elements-returns-clause-spares g t c =
+    Spares-any tt
+
+pub rows::tuple-returns-in_err-begin-clause-spares : goal.rows::tuple-returns-in_err-begin-clause-spares
+rows::tuple-returns-in_err-begin-clause-spares g t c =
+    Spares-exit c.from_residual.ensures.1 refl (Spares-any c.in_err-begin.ensures.spares)
+
+pub rows::tuple-returns-in_err-value-clause-spares : goal.rows::tuple-returns-in_err-value-clause-spares
+rows::tuple-returns-in_err-value-clause-spares g t c =
+    Spares-exit c.from_residual-in_err-value.ensures.1 c.loop-format.invariant.leads.on.goes.same
+    (Spares-by (λ h. ap (λ r. reaches_no_map r c.args.depth (shape_of c.format-item.result)) c.loop-format.invariant.leads.on.same.registry ∙ format_has_no_map (named_reaches_no_map c.args.reader.now.registry.now c.args.depth) c.args.formats.now c.loop-format.format-index c.format-item.result (omega arith) c.format-item.is h) c.in_err-value.ensures.spares)
+
+pub rows::tuple-returns-clause-spares : goal.rows::tuple-returns-clause-spares
+rows::tuple-returns-clause-spares g t c =
+    Spares-any tt
+
+pub containers::structure-returns-in_err-begin-clause-spares : goal.containers::structure-returns-in_err-begin-clause-spares
+containers::structure-returns-in_err-begin-clause-spares g t c =
+    Spares-exit c.from_residual.ensures.1 refl (Spares-any c.in_err-begin.ensures.spares)
+
+pub containers::structure-returns-in_err-value-clause-spares : goal.containers::structure-returns-in_err-value-clause-spares
+containers::structure-returns-in_err-value-clause-spares g t c =
+    Spares-exit c.from_residual-in_err-value.ensures.1 c.loop-field.invariant.leads.on.goes.same
+    (Spares-by (λ h. ap (λ r. reaches_no_map r c.args.depth (shape_of c.field-item.result.value)) c.loop-field.invariant.leads.on.same.registry ∙ field_has_no_map (named_reaches_no_map c.args.reader.now.registry.now c.args.depth) c.args.fields.now c.loop-field.field-index c.field-item.result (omega arith) c.field-item.is h) c.in_err-value.ensures.spares)
+
+pub containers::structure-returns-clause-spares : goal.containers::structure-returns-clause-spares
+containers::structure-returns-clause-spares g t c =
+    Spares-any tt
+
+pub containers::content-returns-in-UnitStruct-clause-spares : goal.containers::content-returns-in-UnitStruct-clause-spares
+containers::content-returns-in-UnitStruct-clause-spares g t c =
+    Spares-any c.begin.ensures.spares
+
+pub containers::content-returns-in-NewTypeStruct-clause-spares : goal.containers::content-returns-in-NewTypeStruct-clause-spares
+containers::content-returns-in-NewTypeStruct-clause-spares g t c =
+    Spares-by (λ h. ap (λ (x : Container). content_has_no_map (named_reaches_no_map c.args.reader.now.registry.now c.args.depth) (content (container_of x))) (sym c.in-NewTypeStruct.is) ∙ h) c.value.ensures.spares
+
+pub containers::content-returns-in-TupleStruct-clause-spares : goal.containers::content-returns-in-TupleStruct-clause-spares
+containers::content-returns-in-TupleStruct-clause-spares g t c =
+    Spares-by (λ h. ap (λ (x : Container). content_has_no_map (named_reaches_no_map c.args.reader.now.registry.now c.args.depth) (content (container_of x))) (sym c.in-TupleStruct.is) ∙ h) (rw (← c.deref.ensures.value) c.tuple.ensures.spares)
+
+pub containers::content-returns-in-Struct-clause-spares : goal.containers::content-returns-in-Struct-clause-spares
+containers::content-returns-in-Struct-clause-spares g t c =
+    Spares-by (λ h. ap (λ (x : Container). content_has_no_map (named_reaches_no_map c.args.reader.now.registry.now c.args.depth) (content (container_of x))) (sym c.in-Struct.is) ∙ h) (rw (← c.deref-in-Struct.ensures.value) c.structure.ensures.spares)
+
+pub containers::content-returns-in_err-number-in-Enum-clause-spares : goal.containers::content-returns-in_err-number-in-Enum-clause-spares
+containers::content-returns-in_err-number-in-Enum-clause-spares g t c =
+    Spares-exit c.from_residual.ensures.1 refl (Spares-any c.in_err-number-in-Enum.ensures.spares)
+
+pub containers::content-returns-in-Some-clause-spares : goal.containers::content-returns-in-Some-clause-spares
+containers::content-returns-in-Some-clause-spares g t c =
+    let cs = map choice_of c.in-Enum.variants.entries in
+    let s : Shape = payload_shape (payload_of c.in-Some.variant.now.value) in
+    let chosen : choice_at c.in_ok-number-in-Enum.number cs ≡ of s = choice_found c.in_ok-number-in-Enum.number c.in-Enum.variants.entries c.in-Some.variant c.get.result c.get.ensures.value c.in-Some.is in
+    Spares-on c.in_ok-number-in-Enum.ensures.reads.goes.same
+    (Spares-by (λ h. ap (λ r. reaches_no_map r c.args.depth s) c.in_ok-number-in-Enum.ensures.reads.same.registry ∙ choice_has_no_map (named_reaches_no_map c.args.reader.now.registry.now c.args.depth) c.in_ok-number-in-Enum.number cs s (ap (λ (x : Container). content_has_no_map (named_reaches_no_map c.args.reader.now.registry.now c.args.depth) (content (container_of x))) (sym c.in-Enum.is) ∙ h) chosen) c.payload.ensures.spares)
+
+pub containers::content-returns-in-None-clause-spares : goal.containers::content-returns-in-None-clause-spares
+containers::content-returns-in-None-clause-spares g t c =
+    Spares-any tt
+
+pub containers::named-returns-in_err-enter-clause-spares : goal.containers::named-returns-in_err-enter-clause-spares
+containers::named-returns-in_err-enter-clause-spares g t c =
+    Spares-exit c.from_residual.ensures.1 refl (Spares-any c.in_err-enter.ensures.spares)
+
+pub containers::named-returns-in_default-clause-spares : goal.containers::named-returns-in_default-clause-spares
+containers::named-returns-in_default-clause-spares g t c =
+    Spares-any tt
+
+pub containers::named-returns-clause-spares : goal.containers::named-returns-clause-spares
+containers::named-returns-clause-spares g t c =
+    let found : content_at c.args.name.now c.args.reader.now.registry.now ≡ content (container_of c.in-Some.found.now) = ap (λ r. content_at c.args.name.now r) (sym c.in_ok-enter.ensures.reads.same.registry) ∙ content_found c.enter.new.reader.registry.now c.args.name.now c.container.result c.in-Some.found c.container.ensures.found c.in-Some.is in
+    let inside = λ (r : Entries) (k : Content). content_has_no_map (named_reaches_no_map r (c.args.depth - 1)) k in
+    Spares-on c.in_ok-enter.ensures.reads.goes.same
+    (Spares-by (λ h. ap (λ r. inside r (content (container_of c.in-Some.found.now))) c.in_ok-enter.ensures.reads.same.registry ∙ ap (inside c.args.reader.now.registry.now) (sym found) ∙ sym (named_content c.args.reader.now.registry.now c.args.depth c.args.name.now c.in_ok-enter.ensures.positive) ∙ h) c.content.ensures.spares)
+
+pub containers::payload-returns-in-Unit-clause-spares : goal.containers::payload-returns-in-Unit-clause-spares
+containers::payload-returns-in-Unit-clause-spares g t c =
+    Spares-any c.begin.ensures.spares
+
+pub containers::payload-returns-in-NewType-clause-spares : goal.containers::payload-returns-in-NewType-clause-spares
+containers::payload-returns-in-NewType-clause-spares g t c =
+    Spares-by (λ h. ap (λ k. reaches_no_map c.args.reader.now.registry.now c.args.depth (payload_shape (payload_of k))) (sym c.in-NewType.is) ∙ h) c.value.ensures.spares
+
+pub containers::payload-returns-in-Tuple-clause-spares : goal.containers::payload-returns-in-Tuple-clause-spares
+containers::payload-returns-in-Tuple-clause-spares g t c =
+    Spares-by (λ h. ap (λ k. reaches_no_map c.args.reader.now.registry.now c.args.depth (payload_shape (payload_of k))) (sym c.in-Tuple.is) ∙ h) (rw (← c.deref.ensures.value) c.tuple.ensures.spares)
+
+pub containers::payload-returns-in-Struct-clause-spares : goal.containers::payload-returns-in-Struct-clause-spares
+containers::payload-returns-in-Struct-clause-spares g t c =
+    Spares-by (λ h. ap (λ k. reaches_no_map c.args.reader.now.registry.now c.args.depth (payload_shape (payload_of k))) (sym c.in-Struct.is) ∙ h) (rw (← c.deref-in-Struct.ensures.value) c.structure.ensures.spares)

@@ -4,14 +4,12 @@ use Rattle.bcs_decode_source_scan.proofs.Leading.{Reads-count, Leads-on, Leads-e
 use Rattle.bcs_decode_source_scan.proofs.PastBlocks.{bytes_on, bytes_end_early, bytes_end}
 use Rattle.bcs_decode_source_scan.proofs.blocks.pass_bytes.Goals as goal
 
-pub returns-in_err-read_exact : goal.returns-in_err-read_exact
-returns-in_err-read_exact g c =
+pub returns-in_err-read_exact-clause-reads : goal.returns-in_err-read_exact-clause-reads
+returns-in_err-read_exact-clause-reads g c =
     let size = c.min-size.result in
     let block = length-take-le size c.loop-left.block (omega (arith, c.min-size.ensures, c.loop-left.invariant.block)) in
-    record {
-      reads = Reads-exit c.from_residual.ensures.1 (Leads-ends c.loop-left.invariant.leads (Reads-count block c.in_err-read_exact.ensures.reads)
-          (λ b e h. bytes_end_early size c.loop-left.left _ _ b (omega (arith, c.min-size.ensures)) e h));
-    }
+    Reads-exit c.from_residual.ensures.1 (Leads-ends c.loop-left.invariant.leads (Reads-count block c.in_err-read_exact.ensures.reads)
+          (λ b e h. bytes_end_early size c.loop-left.left _ _ b (omega (arith, c.min-size.ensures)) e h))
 
 pub loop-left-preserved : goal.loop-left-preserved
 loop-left-preserved g c =
@@ -23,5 +21,5 @@ loop-left-preserved g c =
       block = omega (arith, length-append c.read_exact.new.buf (drop size c.loop-left.block), length-drop size c.loop-left.block, c.loop-left.invariant.block, c.in_ok-read_exact.ensures.len, block, c.min-size.ensures);
     }
 
-pub returns : goal.returns
-returns g c = record { reads = Leads-done c.loop-left.invariant.leads (λ b. bytes_end c.loop-left.left _ _ b (omega (arith, c.loop-left-test.false))) }
+pub returns-clause-reads : goal.returns-clause-reads
+returns-clause-reads g c = Leads-done c.loop-left.invariant.leads (λ b. bytes_end c.loop-left.left _ _ b (omega (arith, c.loop-left-test.false)))

@@ -6,12 +6,12 @@ use Rattle.bcs_decode_source_steps.proofs.Readers.{Reads-ends, Reads-exit}
 use Rattle.bcs_decode_source_scan.proofs.Leading.{Leads-none, Leads-on, Leads-stops, chain_on}
 use Rattle.bcs_decode_source_scan.proofs.leaves.unsupported.Goals as goal
 
-pub returns-in_err-begin : goal.returns-in_err-begin
+pub returns-in_err-begin-clause-reads : goal.returns-in_err-begin-clause-reads
 unfolding unsupported_here
-returns-in_err-begin g c = record { reads = Reads-exit c.from_residual.ensures.1 (Reads-ends _ c.in_err-begin.ensures.reads) }
+returns-in_err-begin-clause-reads g c = Reads-exit c.from_residual.ensures.1 (Reads-ends _ c.in_err-begin.ensures.reads)
 
-pub returns : goal.returns
+pub returns-clause-reads : goal.returns-clause-reads
 unfolding unsupported_here fail_here
-returns g c =
+returns-clause-reads g c =
     let on = Leads-on {k = fail_here Unsupported} (Leads-none {f = unsupported_here} {g = unsupported_here} c.requires.ready (λ b. refl)) c.in_ok-begin.ensures.reads (λ b t h. chain_on node_here (λ _. fail_here Unsupported) _ _ b _ _ _ t h) in
-    record { reads = Leads-stops on (omega arith) (λ b. refl) }
+    Leads-stops on (omega arith) (λ b. refl)

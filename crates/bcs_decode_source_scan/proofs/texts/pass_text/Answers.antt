@@ -11,13 +11,11 @@ loop-done-init g c = record {
   sees = text_none c.args.count _ (g.S.ByteSource.content c.args.reader.now.source.now) c.args.reader.now.at.now;
 }
 
-pub returns-in_err-read_behind : goal.returns-in_err-read_behind
-returns-in_err-read_behind g c =
+pub returns-in_err-read_behind-clause-reads : goal.returns-in_err-read_behind-clause-reads
+returns-in_err-read_behind-clause-reads g c =
     let l = c.loop-done in
-    record {
-      reads = Reads-exit c.from_residual.ensures.1 (Onward-ends l.invariant.on c.in_err-read_behind.ensures.reads
-          (text_refused c.args.count l.good l.done l.block _ _ c.args.reader.now.at.now l.reader.at.now l.invariant.sees c.in_err-read_behind.field-0.0 c.min-size.result (omega (arith, c.min-size.ensures)) c.in_err-read_behind.ensures.reads.sees));
-    }
+    Reads-exit c.from_residual.ensures.1 (Onward-ends l.invariant.on c.in_err-read_behind.ensures.reads
+          (text_refused c.args.count l.good l.done l.block _ _ c.args.reader.now.at.now l.reader.at.now l.invariant.sees c.in_err-read_behind.field-0.0 c.min-size.result (omega (arith, c.min-size.ensures)) c.in_err-read_behind.ensures.reads.sees))
 
 pub loop-done-preserved : goal.loop-done-preserved
 loop-done-preserved g c =
@@ -31,16 +29,14 @@ loop-done-preserved g c =
           (omega (arith, c.min-size.ensures)) (omega (arith, room, read.len, l.invariant.block)) read.held c.settle.ensures.within c.settle.ensures.text c.settle.ensures.held c.settle.ensures.behind read.far read.reads.sees;
     }
 
-pub returns-in_err-pass_bytes : goal.returns-in_err-pass_bytes
-returns-in_err-pass_bytes g c =
+pub returns-in_err-pass_bytes-clause-reads : goal.returns-in_err-pass_bytes-clause-reads
+returns-in_err-pass_bytes-clause-reads g c =
     let l = c.loop-done in
-    record {
-      reads = Reads-exit c.from_residual-in_err-pass_bytes.ensures.1 (Onward-ends l.invariant.on c.in_err-pass_bytes.ensures.reads
-          (text_cut c.args.count l.good l.done l.block _ _ c.args.reader.now.at.now l.reader.at.now l.invariant.sees c.in_err-pass_bytes.field-0.0 c.in_err-pass_bytes.ensures.reads.sees));
-    }
+    Reads-exit c.from_residual-in_err-pass_bytes.ensures.1 (Onward-ends l.invariant.on c.in_err-pass_bytes.ensures.reads
+          (text_cut c.args.count l.good l.done l.block _ _ c.args.reader.now.at.now l.reader.at.now l.invariant.sees c.in_err-pass_bytes.field-0.0 c.in_err-pass_bytes.ensures.reads.sees))
 
-pub returns-then-good-count : goal.returns-then-good-count
-returns-then-good-count g c =
+pub returns-then-good-count-clause-reads : goal.returns-then-good-count-clause-reads
+returns-then-good-count-clause-reads g c =
     let l = c.loop-done in
     let all = l.invariant.sees.within in
     let ends : (l.done ≡ c.args.count) ⊎ (3 < l.done - l.good) = elim c.loop-done-test.branch [
@@ -48,16 +44,12 @@ returns-then-good-count g c =
       | else-loop-done-test w ↦ inl (omega (arith, w.loop-done-test.false, all))
     ] in
     let on = Onward-then l.invariant.on c.in_ok-pass_bytes.ensures.reads in
-    record {
-      reads = rw c.from.ensures (Onward-stops on (omega (arith, c.in_ok-pass_bytes.ensures.reads.goes.later, l.invariant.sees.far, l.invariant.sees.order))
-          (text_bad c.args.count l.good l.done l.block _ _ c.args.reader.now.at.now l.reader.at.now l.invariant.sees _ c.pass_bytes.new.reader.at.now c.in_ok-pass_bytes.ensures.reads.sees c.if-good-count.true ends));
-    }
+    rw c.from.ensures (Onward-stops on (omega (arith, c.in_ok-pass_bytes.ensures.reads.goes.later, l.invariant.sees.far, l.invariant.sees.order))
+          (text_bad c.args.count l.good l.done l.block _ _ c.args.reader.now.at.now l.reader.at.now l.invariant.sees _ c.pass_bytes.new.reader.at.now c.in_ok-pass_bytes.ensures.reads.sees c.if-good-count.true ends))
 
-pub returns : goal.returns
-returns g c =
+pub returns-clause-reads : goal.returns-clause-reads
+returns-clause-reads g c =
     let l = c.loop-done in
-    record {
-      reads = Onward-done (Onward-then l.invariant.on c.in_ok-pass_bytes.ensures.reads)
+    Onward-done (Onward-then l.invariant.on c.in_ok-pass_bytes.ensures.reads)
           (text_good c.args.count l.good l.done l.block _ _ c.args.reader.now.at.now l.reader.at.now l.invariant.sees _ c.pass_bytes.new.reader.at.now c.in_ok-pass_bytes.ensures.reads.sees
-          (omega (arith, c.if-good-count.false, l.invariant.sees.order, l.invariant.sees.within)));
-    }
+          (omega (arith, c.if-good-count.false, l.invariant.sees.order, l.invariant.sees.within)))

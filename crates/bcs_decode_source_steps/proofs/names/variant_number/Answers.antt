@@ -2,10 +2,10 @@ use Rattle.bcs_decode_source_steps.specs.Sees.{number_node}
 use Rattle.bcs_decode_source_steps.proofs.Readers.{Reads-then, Reads-ends, Reads-exit}
 use Rattle.bcs_decode_source_steps.proofs.names.variant_number.Goals as goal
 
-pub returns-in_err-begin : goal.returns-in_err-begin
+pub returns-in_err-begin-clause-reads : goal.returns-in_err-begin-clause-reads
 unfolding number_node
-returns-in_err-begin g c = record { reads = Reads-exit c.from_residual.ensures.1 (Reads-ends _ c.in_err-begin.ensures.reads) }
+returns-in_err-begin-clause-reads g c = Reads-exit c.from_residual.ensures.1 (Reads-ends _ c.in_err-begin.ensures.reads)
 
-pub returns : goal.returns
+pub returns-clause-reads : goal.returns-clause-reads
 unfolding number_node
-returns g c = record { reads = Reads-then _ c.in_ok-begin.ensures.reads c.number.ensures.reads }
+returns-clause-reads g c = Reads-then _ c.in_ok-begin.ensures.reads c.number.ensures.reads

@@ -1,0 +1,97 @@
+-- Want of memory that comes in an open key alone, carried along a walk that reaches no map.
+use Rattle.std.proofs.Common.{◌≡◌, ℕ, zero, suc, ◌-◌, ◌<◌, Bool, true, false, cond, ◌&&◌, List, [], ◌∷◌, length, get_or, map, drop, Result, Ok, Err, IsErrAnd, refl, sym, ap, subst, ◌∙◌, arith}
+use Rattle.std.specs.List.{list_all}
+use Rattle.std.specs.Map.{lookup}
+use Rattle.std.specs.Option.{option_map_or}
+use Rattle.std.proofs.lemmas.Bool.{and_parts}
+use Rattle.bcs_registry_formats.specs.Shape as shape
+use Rattle.bcs_registry_formats.specs.Shape.{Shape, Shapes}
+use Rattle.bcs_registry_formats.specs.Container.{Entries, Choice, Content, of, one_of, nothing, content_at, choice_at, payload_shape, field_shapes}
+use Rattle.bcs_registry_formats.specs.View.{shape_of, formats_shapes, field_of}
+use Rattle.bcs_registry_formats.specs.declared.named.Named.{Named}
+use Rattle.bcs_registry_formats.specs.declared.format.Format.{Format}
+use Rattle.bcs_decode_spec.proofs.LookedUp.{formats_next, fields_next}
+use Rattle.bcs_decode_spec.specs.declared.decode_fault.DecodeFault.{DecodeFault}
+use Rattle.bcs_decode_spec.specs.declared.decode_fault.DecodeFault.TheVariants.{Stop, Read, OutOfMemory}
+use Rattle.bcs_decode_source_steps.specs.declared.at.At.{At}
+use Rattle.bcs_decode_source_steps.specs.Sees.{SparesMemory, Spares}
+use Rattle.bcs_decode_source_scan.specs.Reaching.{has_no_map, have_no_map, content_has_no_map, named_reaches_no_map, reaches_no_map}
+
+-- ---- want of memory
+
+module _ {X : Type 0} {r : Result X DecodeFault} {p : At} where
+  pub Spares-any : {b : Bool} → SparesMemory r p → Spares b r p
+  Spares-any {b = true} h = h
+  Spares-any {b = false} h = tt
+
+  -- a format that reaches a map
+  pub Spares-never : {b : Bool} → b ≡ false → Spares b r p
+  Spares-never {b = true} h = absurd cc
+  Spares-never {b = false} h = tt
+
+  pub Spares-by : {a b : Bool} → (a ≡ true → b ≡ true) → Spares b r p → Spares a r p
+  Spares-by {a = false} part h = tt
+  Spares-by {a = true} {b = true} part h = h
+  Spares-by {a = true} {b = false} part h = absurd (let no = part refl in cc)
+
+-- what the exit of a `?` returns on the way from p to q
+pub SparesMemory-exit : {X Y : Type 0} {r : Result Y DecodeFault} {e : DecodeFault} {p q : At} → IsErrAnd r (λ y. y ≡ e) → q.is_in_key ≡ p.is_in_key → SparesMemory {X} (Err e) q → SparesMemory r p
+SparesMemory-exit {r = Ok x} h same k = absurd h
+SparesMemory-exit {r = Err (Stop s)} h same k = tt
+SparesMemory-exit {r = Err Read} h same k = tt
+SparesMemory-exit {e = e} {r = Err OutOfMemory} {p} {q} h same k = sym same ∙ subst (λ (x : DecodeFault). SparesMemory (Err x) q) (sym h) k
+
+pub Spares-exit : {X Y : Type 0} {b : Bool} {r : Result Y DecodeFault} {e : DecodeFault} {p q : At} → IsErrAnd r (λ y. y ≡ e) → q.is_in_key ≡ p.is_in_key → Spares {X} b (Err e) q → Spares b r p
+Spares-exit {b = true} h same k = SparesMemory-exit h same k
+Spares-exit {b = false} h same k = tt
+
+-- what is returned at the end of the way
+pub SparesMemory-on : {X : Type 0} {r : Result X DecodeFault} {p q : At} → q.is_in_key ≡ p.is_in_key → SparesMemory r q → SparesMemory r p
+SparesMemory-on {r = Ok x} same k = tt
+SparesMemory-on {r = Err (Stop s)} same k = tt
+SparesMemory-on {r = Err Read} same k = tt
+SparesMemory-on {r = Err OutOfMemory} same k = sym same ∙ k
+
+pub Spares-on : {X : Type 0} {b : Bool} {r : Result X DecodeFault} {p q : At} → q.is_in_key ≡ p.is_in_key → Spares b r q → Spares b r p
+Spares-on {b = true} same k = SparesMemory-on same k
+Spares-on {b = false} same k = tt
+
+-- ---- parts of what reaches no map
+
+module _ (r : List ℕ → Bool) where
+  formats_drop : (fs : List Format) (i : ℕ) → have_no_map r (formats_shapes fs) ≡ true → have_no_map r (formats_shapes (drop i fs)) ≡ true
+  formats_drop [] zero h = h
+  formats_drop [] (suc i) h = h
+  formats_drop (f ∷ fs) zero h = h
+  formats_drop (f ∷ fs) (suc i) h = formats_drop fs i (and_parts (has_no_map r (shape_of f)) (have_no_map r (formats_shapes fs)) h).1
+
+  pub format_has_no_map : (fs : List Format) (i : ℕ) (f : Format) → i < length fs → f ≡ get_or fs i f → have_no_map r (formats_shapes fs) ≡ true → has_no_map r (shape_of f) ≡ true
+  format_has_no_map fs i f lt is h =
+      (and_parts (has_no_map r (shape_of f)) (have_no_map r (formats_shapes (drop (i + 1) fs))) (ap (have_no_map r) (sym (formats_next fs i f lt is)) ∙ formats_drop fs i h)).0
+
+  fields_drop : (fs : List (Named Format)) (i : ℕ) → have_no_map r (field_shapes (map field_of fs)) ≡ true → have_no_map r (field_shapes (map field_of (drop i fs))) ≡ true
+  fields_drop [] zero h = h
+  fields_drop [] (suc i) h = h
+  fields_drop (f ∷ fs) zero h = h
+  fields_drop (f ∷ fs) (suc i) h = fields_drop fs i (and_parts (has_no_map r (shape_of f.value)) (have_no_map r (field_shapes (map field_of fs))) h).1
+
+  pub field_has_no_map : (fs : List (Named Format)) (i : ℕ) (f : Named Format) → i < length fs → f ≡ get_or fs i f → have_no_map r (field_shapes (map field_of fs)) ≡ true → has_no_map r (shape_of f.value) ≡ true
+  field_has_no_map fs i f lt is h =
+      (and_parts (has_no_map r (shape_of f.value)) (have_no_map r (field_shapes (map field_of (drop (i + 1) fs)))) (ap (have_no_map r) (sym (fields_next fs i f lt is)) ∙ fields_drop fs i h)).0
+
+  pub choice_has_no_map : (n : ℕ) (cs : List Choice) (s : Shape) → content_has_no_map r (one_of cs) ≡ true → choice_at n cs ≡ of s → has_no_map r s ≡ true
+  choice_has_no_map n [] s h is = absurd cc
+  choice_has_no_map n (c ∷ cs) s h is =
+      let both = and_parts (has_no_map r (payload_shape c.1.1)) (content_has_no_map r (one_of cs)) h in
+      elim (c.0 == n) as (λ b. option_map_or (λ c. of (payload_shape c.1)) (cond b (Some c.1) (lookup (λ m. m == n) cs)) nothing ≡ of s → has_no_map r s ≡ true) [
+        | true ↦ λ found. subst (λ x. has_no_map r x ≡ true) (same_of found) both.0
+        | false ↦ λ rest. choice_has_no_map n cs s both.1 rest
+      ] is
+    where
+      same_of : {x y : Shape} → of x ≡ of y → x ≡ y
+      same_of k = cc
+
+-- a container that opens
+pub named_content : (registry : Entries) (d : ℕ) (n : List ℕ) → 0 < d → named_reaches_no_map registry d n ≡ content_has_no_map (named_reaches_no_map registry (d - 1)) (content_at n registry)
+named_content registry zero n h = absurd (omega arith)
+named_content registry (suc d) n h = refl
