@@ -8,3 +8,4 @@ pub mod PastTexts
 pub mod Scans
 pub mod Sparing
 pub mod Utf8Fronts
+pub mod WorkedRows

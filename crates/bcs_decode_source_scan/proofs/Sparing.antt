@@ -1,5 +1,5 @@
 -- Want of memory that comes in an open key alone, carried along a walk that reaches no map.
-use Rattle.std.proofs.Common.{◌≡◌, ℕ, zero, suc, ◌-◌, ◌<◌, Bool, true, false, cond, ◌&&◌, List, [], ◌∷◌, length, get_or, map, drop, Result, Ok, Err, IsErrAnd, refl, sym, ap, subst, ◌∙◌, arith}
+use Rattle.std.proofs.Common.{◌≡◌, ◌≢◌, ◌==◌, ℕ, zero, suc, ◌+◌, ◌-◌, ◌<◌, Bool, true, false, cond, ◌&&◌, List, [], ◌∷◌, length, get_or, map, drop, Some, Result, Ok, Err, IsErrAnd, refl, sym, ap, subst, ◌∙◌, arith}
 use Rattle.std.specs.List.{list_all}
 use Rattle.std.specs.Map.{lookup}
 use Rattle.std.specs.Option.{option_map_or}
@@ -14,47 +14,31 @@ use Rattle.bcs_decode_spec.proofs.LookedUp.{formats_next, fields_next}
 use Rattle.bcs_decode_spec.specs.declared.decode_fault.DecodeFault.{DecodeFault}
 use Rattle.bcs_decode_spec.specs.declared.decode_fault.DecodeFault.TheVariants.{Stop, Read, OutOfMemory}
 use Rattle.bcs_decode_source_steps.specs.declared.at.At.{At}
-use Rattle.bcs_decode_source_steps.specs.Sees.{SparesMemory, Spares}
+use Rattle.bcs_decode_source_steps.specs.Sees.{SparesMemory}
 use Rattle.bcs_decode_source_scan.specs.Reaching.{has_no_map, have_no_map, content_has_no_map, named_reaches_no_map, reaches_no_map}
 
 -- ---- want of memory
 
-module _ {X : Type 0} {r : Result X DecodeFault} {p : At} where
-  pub Spares-any : {b : Bool} → SparesMemory r p → Spares b r p
-  Spares-any {b = true} h = h
-  Spares-any {b = false} h = tt
-
-  -- a format that reaches a map
-  pub Spares-never : {b : Bool} → b ≡ false → Spares b r p
-  Spares-never {b = true} h = absurd cc
-  Spares-never {b = false} h = tt
-
-  pub Spares-by : {a b : Bool} → (a ≡ true → b ≡ true) → Spares b r p → Spares a r p
-  Spares-by {a = false} part h = tt
-  Spares-by {a = true} {b = true} part h = h
-  Spares-by {a = true} {b = false} part h = absurd (let no = part refl in cc)
-
 -- what the exit of a `?` returns on the way from p to q
-pub SparesMemory-exit : {X Y : Type 0} {r : Result Y DecodeFault} {e : DecodeFault} {p q : At} → IsErrAnd r (λ y. y ≡ e) → q.is_in_key ≡ p.is_in_key → SparesMemory {X} (Err e) q → SparesMemory r p
-SparesMemory-exit {r = Ok x} h same k = absurd h
-SparesMemory-exit {r = Err (Stop s)} h same k = tt
-SparesMemory-exit {r = Err Read} h same k = tt
-SparesMemory-exit {e = e} {r = Err OutOfMemory} {p} {q} h same k = sym same ∙ subst (λ (x : DecodeFault). SparesMemory (Err x) q) (sym h) k
-
-pub Spares-exit : {X Y : Type 0} {b : Bool} {r : Result Y DecodeFault} {e : DecodeFault} {p q : At} → IsErrAnd r (λ y. y ≡ e) → q.is_in_key ≡ p.is_in_key → Spares {X} b (Err e) q → Spares b r p
-Spares-exit {b = true} h same k = SparesMemory-exit h same k
-Spares-exit {b = false} h same k = tt
+pub SparesMemory-exit : (r : Result (Unit {0}) DecodeFault) (e : DecodeFault) (p q : At) → IsErrAnd r (λ y. y ≡ e) → q.is_in_key ≡ p.is_in_key → SparesMemory {X = Unit {0}} (Err e) q → SparesMemory r p
+SparesMemory-exit (Ok x) e p q h same k = absurd h
+SparesMemory-exit (Err (Stop s)) e p q h same k = tt
+SparesMemory-exit (Err Read) e p q h same k = tt
+SparesMemory-exit (Err OutOfMemory) e p q h same k = sym same ∙ subst (λ (x : DecodeFault). SparesMemory {X = Unit {0}} (Err x) q) (sym h) k
 
 -- what is returned at the end of the way
-pub SparesMemory-on : {X : Type 0} {r : Result X DecodeFault} {p q : At} → q.is_in_key ≡ p.is_in_key → SparesMemory r q → SparesMemory r p
-SparesMemory-on {r = Ok x} same k = tt
-SparesMemory-on {r = Err (Stop s)} same k = tt
-SparesMemory-on {r = Err Read} same k = tt
-SparesMemory-on {r = Err OutOfMemory} same k = sym same ∙ k
+pub SparesMemory-on : (r : Result (Unit {0}) DecodeFault) (p q : At) → q.is_in_key ≡ p.is_in_key → SparesMemory r q → SparesMemory r p
+SparesMemory-on (Ok x) p q same k = tt
+SparesMemory-on (Err (Stop s)) p q same k = tt
+SparesMemory-on (Err Read) p q same k = tt
+SparesMemory-on (Err OutOfMemory) p q same k = sym same ∙ k
 
-pub Spares-on : {X : Type 0} {b : Bool} {r : Result X DecodeFault} {p q : At} → q.is_in_key ≡ p.is_in_key → Spares b r q → Spares b r p
-Spares-on {b = true} same k = SparesMemory-on same k
-Spares-on {b = false} same k = tt
+-- no key is open
+pub never_lacks : {Y : Type 0} (r : Result Y DecodeFault) (e : DecodeFault) (p : At) → IsErrAnd r (λ y. y ≡ e) → p.is_in_key ≡ false → SparesMemory {X = Unit {0}} (Err e) p → r ≢ Err OutOfMemory
+never_lacks (Ok x) e p h outside k = absurd h
+never_lacks (Err (Stop s)) e p h outside k = λ bad. absurd cc
+never_lacks (Err Read) e p h outside k = λ bad. absurd cc
+never_lacks (Err OutOfMemory) e p h outside k = λ bad. absurd (let within = subst (λ (x : DecodeFault). SparesMemory {X = Unit {0}} (Err x) p) (sym h) k in let no = outside in cc)
 
 -- ---- parts of what reaches no map
 
@@ -94,4 +78,4 @@ module _ (r : List ℕ → Bool) where
 -- a container that opens
 pub named_content : (registry : Entries) (d : ℕ) (n : List ℕ) → 0 < d → named_reaches_no_map registry d n ≡ content_has_no_map (named_reaches_no_map registry (d - 1)) (content_at n registry)
 named_content registry zero n h = absurd (omega arith)
-named_content registry (suc d) n h = refl
+named_content registry (suc d) n h = let less : suc d - 1 ≡ d = omega arith in rw less refl

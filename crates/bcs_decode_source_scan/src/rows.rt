@@ -1,10 +1,11 @@
 //! Going past values in a row from a source.
+ghost use Rattle.std.specs.Prelude.{◌≡◌, true};
 ghost use Rattle.bcs_registry_formats.specs.Shape.{tuple as tuple_shape};
 ghost use Rattle.bcs_registry_formats.specs.View.{shape_of, formats_shapes};
 ghost use Rattle.bcs_decode_spec.specs.Reading.{items_here, skipping};
 ghost use Rattle.bcs_decode_slice_steps.specs.Passing.{skip};
 ghost use Rattle.bcs_decode_source_steps.specs.Reads.{Ready, Reads};
-ghost use Rattle.bcs_decode_source_steps.specs.Sees.{Spares};
+ghost use Rattle.bcs_decode_source_steps.specs.Sees.{SparesMemory};
 ghost use Rattle.bcs_decode_source_scan.specs.Past.{items_past};
 ghost use Rattle.bcs_decode_source_scan.specs.Reaching.{reaches_no_map};
 
@@ -29,7 +30,7 @@ pub fn items<S: ByteSource>(
 ) -> Result<(), DecodeFault>
     requires ready { Ready S.is_failed S.allowance reader.old }
     ensures reads { Reads S.content S.is_failed S.allowance (λ x. x) result reader.old (items_past (skip reader.old.registry.now depth (shape_of element.now)) size) reader.new }
-    ensures spares { Spares (reaches_no_map reader.old.registry.now depth (shape_of element.now)) result reader.old.at.now }
+    ensures spares { reaches_no_map reader.old.registry.now depth (shape_of element.now) ≡ true → SparesMemory result reader.old.at.now }
 {
     let count = row_count(reader, size)?;
     elements(reader, element, count, depth)
@@ -45,7 +46,7 @@ fn elements<S: ByteSource>(
 ) -> Result<(), DecodeFault>
     requires ready { Ready S.is_failed S.allowance reader.old }
     ensures reads { Reads S.content S.is_failed S.allowance (λ x. x) result reader.old (items_here skipping (skip reader.old.registry.now depth (shape_of element.now)) count) reader.new }
-    ensures spares { Spares (reaches_no_map reader.old.registry.now depth (shape_of element.now)) result reader.old.at.now }
+    ensures spares { reaches_no_map reader.old.registry.now depth (shape_of element.now) ≡ true → SparesMemory result reader.old.at.now }
 {
     if let Some(width) = whole_width(element) {
         return whole_row(reader, width, count);
@@ -66,7 +67,7 @@ pub fn tuple<S: ByteSource>(
 ) -> Result<(), DecodeFault>
     requires ready { Ready S.is_failed S.allowance reader.old }
     ensures reads { Reads S.content S.is_failed S.allowance (λ x. x) result reader.old (skip reader.old.registry.now depth (tuple_shape (formats_shapes formats.now))) reader.new }
-    ensures spares { Spares (reaches_no_map reader.old.registry.now depth (tuple_shape (formats_shapes formats.now))) result reader.old.at.now }
+    ensures spares { reaches_no_map reader.old.registry.now depth (tuple_shape (formats_shapes formats.now)) ≡ true → SparesMemory result reader.old.at.now }
 {
     begin(reader)?;
     for format in formats {

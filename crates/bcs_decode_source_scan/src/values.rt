@@ -1,9 +1,10 @@
 //! Going past values from a source, front to back. `value` is part of its callers, and no leaf is part of one, so that
 //! each level of a format takes little of the stack: 384 bytes where maps nest as keys, and less elsewhere.
+ghost use Rattle.std.specs.Prelude.{◌≡◌, true};
 ghost use Rattle.bcs_registry_formats.specs.View.{shape_of};
 ghost use Rattle.bcs_decode_slice_steps.specs.Passing.{skip};
 ghost use Rattle.bcs_decode_source_steps.specs.Reads.{Ready, Reads};
-ghost use Rattle.bcs_decode_source_steps.specs.Sees.{Spares};
+ghost use Rattle.bcs_decode_source_steps.specs.Sees.{SparesMemory};
 ghost use Rattle.bcs_decode_source_scan.specs.Past.{option_past};
 ghost use Rattle.bcs_decode_source_scan.specs.Reaching.{reaches_no_map};
 
@@ -28,7 +29,7 @@ pub fn value<S: ByteSource>(
 ) -> Result<(), DecodeFault>
     requires ready { Ready S.is_failed S.allowance reader.old }
     ensures reads { Reads S.content S.is_failed S.allowance (λ x. x) result reader.old (skip reader.old.registry.now depth (shape_of format.now)) reader.new }
-    ensures spares { Spares (reaches_no_map reader.old.registry.now depth (shape_of format.now)) result reader.old.at.now }
+    ensures spares { reaches_no_map reader.old.registry.now depth (shape_of format.now) ≡ true → SparesMemory result reader.old.at.now }
 {
     match format {
         Format::Unit => begin(reader),
@@ -60,7 +61,7 @@ fn option<S: ByteSource>(
 ) -> Result<(), DecodeFault>
     requires ready { Ready S.is_failed S.allowance reader.old }
     ensures reads { Reads S.content S.is_failed S.allowance (λ x. x) result reader.old (option_past (skip reader.old.registry.now depth (shape_of part.now))) reader.new }
-    ensures spares { Spares (reaches_no_map reader.old.registry.now depth (shape_of part.now)) result reader.old.at.now }
+    ensures spares { reaches_no_map reader.old.registry.now depth (shape_of part.now) ≡ true → SparesMemory result reader.old.at.now }
 {
     if flag_node(reader)? {
         value(reader, part, depth)

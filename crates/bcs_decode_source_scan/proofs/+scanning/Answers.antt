@@ -28,7 +28,7 @@ use Rattle.bcs_decode_source_scan.proofs.Leading.{leads_ends, leads_done, Reads-
 use Rattle.bcs_decode_source_scan.proofs.PastEntries.{value_ends, entry_on}
 use Rattle.bcs_decode_source_scan.proofs.PastKeys.{key_ends, kept_wrong, kept_right}
 use Rattle.bcs_decode_source_scan.proofs.PastParts.{past_Opt, past_Seq, past_TupleArray, past_Map, past_Tuple, past_TypeName, some_is, held_past, absent_is, option_on, items_same, enter_is, enum_ends, enum_unknown, enum_on}
-use Rattle.bcs_decode_source_scan.proofs.Sparing.{Spares-any, Spares-by, Spares-never, Spares-exit, Spares-on, format_has_no_map, field_has_no_map, choice_has_no_map, named_content}
+use Rattle.bcs_decode_source_scan.proofs.Sparing.{SparesMemory-exit, SparesMemory-on, format_has_no_map, field_has_no_map, choice_has_no_map, named_content}
 use Rattle.bcs_decode_source_scan.proofs.+scanning.Goals as goal
 
 abbrev fields_shapes : List (Named Format) → Shapes
@@ -455,159 +455,90 @@ maps::next_key-returns-clause-reads g t c =
 
 -- ---- want of memory
 
-pub values::value-returns-in-Str-clause-spares : goal.values::value-returns-in-Str-clause-spares
-values::value-returns-in-Str-clause-spares g t c =
-    Spares-any c.text.ensures.spares
-
-pub values::value-returns-in-Bytes-clause-spares : goal.values::value-returns-in-Bytes-clause-spares
-values::value-returns-in-Bytes-clause-spares g t c =
-    Spares-any c.bytes.ensures.spares
-
-pub values::value-returns-in-F32-clause-spares : goal.values::value-returns-in-F32-clause-spares
-values::value-returns-in-F32-clause-spares g t c =
-    Spares-any c.unsupported.ensures.spares
-
 pub values::value-returns-in-Opt-clause-spares : goal.values::value-returns-in-Opt-clause-spares
 values::value-returns-in-Opt-clause-spares g t c =
-    Spares-by (λ h. ap (reaches_no_map c.args.reader.now.registry.now c.args.depth) (sym (shape-Opt c.args.format.now c.in-Opt.part c.in-Opt.is)) ∙ h) (rw (← c.deref.ensures) c.option.ensures.spares)
+    λ h. c.option.ensures.spares (rw c.deref.ensures (ap (reaches_no_map c.args.reader.now.registry.now c.args.depth) (sym (shape-Opt c.args.format.now c.in-Opt.part c.in-Opt.is)) ∙ h))
 
 pub values::value-returns-in-Seq-clause-spares : goal.values::value-returns-in-Seq-clause-spares
 values::value-returns-in-Seq-clause-spares g t c =
-    Spares-by (λ h. ap (reaches_no_map c.args.reader.now.registry.now c.args.depth) (sym (shape-Seq c.args.format.now c.in-Seq.element c.in-Seq.is)) ∙ h) (rw (← c.deref-in-Seq.ensures) c.items.ensures.spares)
+    λ h. c.items.ensures.spares (rw c.deref-in-Seq.ensures (ap (reaches_no_map c.args.reader.now.registry.now c.args.depth) (sym (shape-Seq c.args.format.now c.in-Seq.element c.in-Seq.is)) ∙ h))
 
 pub values::value-returns-in-TupleArray-clause-spares : goal.values::value-returns-in-TupleArray-clause-spares
 values::value-returns-in-TupleArray-clause-spares g t c =
-    Spares-by (λ h. ap (reaches_no_map c.args.reader.now.registry.now c.args.depth) (sym (shape-TupleArray c.args.format.now c.in-TupleArray.element c.in-TupleArray.size c.in-TupleArray.is)) ∙ h) (rw (← c.deref-in-TupleArray.ensures) c.items-in-TupleArray.ensures.spares)
+    λ h. c.items-in-TupleArray.ensures.spares (rw c.deref-in-TupleArray.ensures (ap (reaches_no_map c.args.reader.now.registry.now c.args.depth) (sym (shape-TupleArray c.args.format.now c.in-TupleArray.element c.in-TupleArray.size c.in-TupleArray.is)) ∙ h))
 
 pub values::value-returns-in-Map-clause-spares : goal.values::value-returns-in-Map-clause-spares
 values::value-returns-in-Map-clause-spares g t c =
-    Spares-never (ap (reaches_no_map c.args.reader.now.registry.now c.args.depth) (shape-Map c.args.format.now c.in-Map.key c.in-Map.part c.in-Map.is))
+    λ h. absurd (let no = ap (reaches_no_map c.args.reader.now.registry.now c.args.depth) (sym (shape-Map c.args.format.now c.in-Map.key c.in-Map.part c.in-Map.is)) ∙ h in cc)
 
 pub values::value-returns-in-Tuple-clause-spares : goal.values::value-returns-in-Tuple-clause-spares
 values::value-returns-in-Tuple-clause-spares g t c =
-    Spares-by (λ h. ap (reaches_no_map c.args.reader.now.registry.now c.args.depth) (sym (shape-Tuple c.args.format.now c.in-Tuple.formats c.in-Tuple.is)) ∙ h) (rw (← c.deref-in-Tuple.ensures.value) c.tuple.ensures.spares)
+    λ h. c.tuple.ensures.spares (rw c.deref-in-Tuple.ensures.value (ap (reaches_no_map c.args.reader.now.registry.now c.args.depth) (sym (shape-Tuple c.args.format.now c.in-Tuple.formats c.in-Tuple.is)) ∙ h))
 
 pub values::value-returns-in-TypeName-clause-spares : goal.values::value-returns-in-TypeName-clause-spares
 values::value-returns-in-TypeName-clause-spares g t c =
-    Spares-by (λ h. ap (reaches_no_map c.args.reader.now.registry.now c.args.depth) (sym (shape-TypeName c.args.format.now c.in-TypeName.name c.in-TypeName.is)) ∙ h) (rw (← c.as_str.ensures.value) c.named.ensures.spares)
-
-pub values::option-returns-in_err-flag_node-clause-spares : goal.values::option-returns-in_err-flag_node-clause-spares
-values::option-returns-in_err-flag_node-clause-spares g t c =
-    Spares-exit c.from_residual.ensures.1 refl (Spares-any c.in_err-flag_node.ensures.spares)
+    λ h. c.named.ensures.spares (rw c.as_str.ensures.value (ap (reaches_no_map c.args.reader.now.registry.now c.args.depth) (sym (shape-TypeName c.args.format.now c.in-TypeName.name c.in-TypeName.is)) ∙ h))
 
 pub values::option-returns-then-branch-clause-spares : goal.values::option-returns-then-branch-clause-spares
 values::option-returns-then-branch-clause-spares g t c =
-    Spares-on c.in_ok-flag_node.ensures.reads.goes.same (rw (← c.in_ok-flag_node.ensures.reads.same.registry) c.value.ensures.spares)
-
-pub values::option-returns-else-branch-clause-spares : goal.values::option-returns-else-branch-clause-spares
-values::option-returns-else-branch-clause-spares g t c =
-    Spares-any tt
-
-pub rows::items-returns-in_err-count-clause-spares : goal.rows::items-returns-in_err-count-clause-spares
-rows::items-returns-in_err-count-clause-spares g t c =
-    Spares-exit c.from_residual.ensures.1 refl (Spares-any c.in_err-count.ensures.spares)
+    λ h. SparesMemory-on c.value.result c.args.reader.now.at.now c.flag_node.new.reader.at.now c.in_ok-flag_node.ensures.reads.goes.same (c.value.ensures.spares (ap (λ r. reaches_no_map r c.args.depth (shape_of c.args.part.now)) c.in_ok-flag_node.ensures.reads.same.registry ∙ h))
 
 pub rows::items-returns-clause-spares : goal.rows::items-returns-clause-spares
 rows::items-returns-clause-spares g t c =
-    Spares-on c.in_ok-count.ensures.reads.goes.same (rw (← c.in_ok-count.ensures.reads.same.registry) c.elements.ensures.spares)
-
-pub rows::elements-returns-in-Some-clause-spares : goal.rows::elements-returns-in-Some-clause-spares
-rows::elements-returns-in-Some-clause-spares g t c =
-    Spares-any c.whole_row.ensures.spares
+    λ h. SparesMemory-on c.elements.result c.args.reader.now.at.now c.row_count.new.reader.at.now c.in_ok-count.ensures.reads.goes.same (c.elements.ensures.spares (ap (λ r. reaches_no_map r c.args.depth (shape_of c.args.element.now)) c.in_ok-count.ensures.reads.same.registry ∙ h))
 
 pub rows::elements-returns-in_err-value-clause-spares : goal.rows::elements-returns-in_err-value-clause-spares
 rows::elements-returns-in_err-value-clause-spares g t c =
-    Spares-exit c.from_residual.ensures.1 c.loop.invariant.leads.on.goes.same (Spares-by (λ h. ap (λ r. reaches_no_map r c.args.depth (shape_of c.args.element.now)) c.loop.invariant.leads.on.same.registry ∙ h) c.in_err-value.ensures.spares)
-
-pub rows::elements-returns-clause-spares : goal.rows::elements-returns-clause-spares
-rows::elements-returns-clause-spares g t c =
-    Spares-any tt
-
-pub rows::tuple-returns-in_err-begin-clause-spares : goal.rows::tuple-returns-in_err-begin-clause-spares
-rows::tuple-returns-in_err-begin-clause-spares g t c =
-    Spares-exit c.from_residual.ensures.1 refl (Spares-any c.in_err-begin.ensures.spares)
+    λ h. SparesMemory-exit c.from_residual.result c.in_err-value.field-0.0 c.args.reader.now.at.now c.loop.reader.at.now c.from_residual.ensures.1 c.loop.invariant.leads.on.goes.same
+    (c.in_err-value.ensures.spares (ap (λ r. reaches_no_map r c.args.depth (shape_of c.args.element.now)) c.loop.invariant.leads.on.same.registry ∙ h))
 
 pub rows::tuple-returns-in_err-value-clause-spares : goal.rows::tuple-returns-in_err-value-clause-spares
 rows::tuple-returns-in_err-value-clause-spares g t c =
-    Spares-exit c.from_residual-in_err-value.ensures.1 c.loop-format.invariant.leads.on.goes.same
-    (Spares-by (λ h. ap (λ r. reaches_no_map r c.args.depth (shape_of c.format-item.result)) c.loop-format.invariant.leads.on.same.registry ∙ format_has_no_map (named_reaches_no_map c.args.reader.now.registry.now c.args.depth) c.args.formats.now c.loop-format.format-index c.format-item.result (omega arith) c.format-item.is h) c.in_err-value.ensures.spares)
-
-pub rows::tuple-returns-clause-spares : goal.rows::tuple-returns-clause-spares
-rows::tuple-returns-clause-spares g t c =
-    Spares-any tt
-
-pub containers::structure-returns-in_err-begin-clause-spares : goal.containers::structure-returns-in_err-begin-clause-spares
-containers::structure-returns-in_err-begin-clause-spares g t c =
-    Spares-exit c.from_residual.ensures.1 refl (Spares-any c.in_err-begin.ensures.spares)
+    λ h. SparesMemory-exit c.from_residual-in_err-value.result c.in_err-value.field-0.0 c.args.reader.now.at.now c.loop-format.reader.at.now c.from_residual-in_err-value.ensures.1 c.loop-format.invariant.leads.on.goes.same
+    (c.in_err-value.ensures.spares (ap (λ r. reaches_no_map r c.args.depth (shape_of c.format-item.result)) c.loop-format.invariant.leads.on.same.registry ∙ format_has_no_map (named_reaches_no_map c.args.reader.now.registry.now c.args.depth) c.args.formats.now c.loop-format.format-index c.format-item.result (omega arith) c.format-item.is h))
 
 pub containers::structure-returns-in_err-value-clause-spares : goal.containers::structure-returns-in_err-value-clause-spares
 containers::structure-returns-in_err-value-clause-spares g t c =
-    Spares-exit c.from_residual-in_err-value.ensures.1 c.loop-field.invariant.leads.on.goes.same
-    (Spares-by (λ h. ap (λ r. reaches_no_map r c.args.depth (shape_of c.field-item.result.value)) c.loop-field.invariant.leads.on.same.registry ∙ field_has_no_map (named_reaches_no_map c.args.reader.now.registry.now c.args.depth) c.args.fields.now c.loop-field.field-index c.field-item.result (omega arith) c.field-item.is h) c.in_err-value.ensures.spares)
-
-pub containers::structure-returns-clause-spares : goal.containers::structure-returns-clause-spares
-containers::structure-returns-clause-spares g t c =
-    Spares-any tt
-
-pub containers::content-returns-in-UnitStruct-clause-spares : goal.containers::content-returns-in-UnitStruct-clause-spares
-containers::content-returns-in-UnitStruct-clause-spares g t c =
-    Spares-any c.begin.ensures.spares
+    λ h. SparesMemory-exit c.from_residual-in_err-value.result c.in_err-value.field-0.0 c.args.reader.now.at.now c.loop-field.reader.at.now c.from_residual-in_err-value.ensures.1 c.loop-field.invariant.leads.on.goes.same
+    (c.in_err-value.ensures.spares (ap (λ r. reaches_no_map r c.args.depth (shape_of c.field-item.result.value)) c.loop-field.invariant.leads.on.same.registry ∙ field_has_no_map (named_reaches_no_map c.args.reader.now.registry.now c.args.depth) c.args.fields.now c.loop-field.field-index c.field-item.result (omega arith) c.field-item.is h))
 
 pub containers::content-returns-in-NewTypeStruct-clause-spares : goal.containers::content-returns-in-NewTypeStruct-clause-spares
 containers::content-returns-in-NewTypeStruct-clause-spares g t c =
-    Spares-by (λ h. ap (λ (x : Container). content_has_no_map (named_reaches_no_map c.args.reader.now.registry.now c.args.depth) (content (container_of x))) (sym c.in-NewTypeStruct.is) ∙ h) c.value.ensures.spares
+    λ h. c.value.ensures.spares (ap (λ (x : Container). content_has_no_map (named_reaches_no_map c.args.reader.now.registry.now c.args.depth) (content (container_of x))) (sym c.in-NewTypeStruct.is) ∙ h)
 
 pub containers::content-returns-in-TupleStruct-clause-spares : goal.containers::content-returns-in-TupleStruct-clause-spares
 containers::content-returns-in-TupleStruct-clause-spares g t c =
-    Spares-by (λ h. ap (λ (x : Container). content_has_no_map (named_reaches_no_map c.args.reader.now.registry.now c.args.depth) (content (container_of x))) (sym c.in-TupleStruct.is) ∙ h) (rw (← c.deref.ensures.value) c.tuple.ensures.spares)
+    λ h. c.tuple.ensures.spares (rw c.deref.ensures.value (ap (λ (x : Container). content_has_no_map (named_reaches_no_map c.args.reader.now.registry.now c.args.depth) (content (container_of x))) (sym c.in-TupleStruct.is) ∙ h))
 
 pub containers::content-returns-in-Struct-clause-spares : goal.containers::content-returns-in-Struct-clause-spares
 containers::content-returns-in-Struct-clause-spares g t c =
-    Spares-by (λ h. ap (λ (x : Container). content_has_no_map (named_reaches_no_map c.args.reader.now.registry.now c.args.depth) (content (container_of x))) (sym c.in-Struct.is) ∙ h) (rw (← c.deref-in-Struct.ensures.value) c.structure.ensures.spares)
-
-pub containers::content-returns-in_err-number-in-Enum-clause-spares : goal.containers::content-returns-in_err-number-in-Enum-clause-spares
-containers::content-returns-in_err-number-in-Enum-clause-spares g t c =
-    Spares-exit c.from_residual.ensures.1 refl (Spares-any c.in_err-number-in-Enum.ensures.spares)
+    λ h. c.structure.ensures.spares (rw c.deref-in-Struct.ensures.value (ap (λ (x : Container). content_has_no_map (named_reaches_no_map c.args.reader.now.registry.now c.args.depth) (content (container_of x))) (sym c.in-Struct.is) ∙ h))
 
 pub containers::content-returns-in-Some-clause-spares : goal.containers::content-returns-in-Some-clause-spares
 containers::content-returns-in-Some-clause-spares g t c =
     let cs = map choice_of c.in-Enum.variants.entries in
     let s : Shape = payload_shape (payload_of c.in-Some.variant.now.value) in
     let chosen : choice_at c.in_ok-number-in-Enum.number cs ≡ of s = choice_found c.in_ok-number-in-Enum.number c.in-Enum.variants.entries c.in-Some.variant c.get.result c.get.ensures.value c.in-Some.is in
-    Spares-on c.in_ok-number-in-Enum.ensures.reads.goes.same
-    (Spares-by (λ h. ap (λ r. reaches_no_map r c.args.depth s) c.in_ok-number-in-Enum.ensures.reads.same.registry ∙ choice_has_no_map (named_reaches_no_map c.args.reader.now.registry.now c.args.depth) c.in_ok-number-in-Enum.number cs s (ap (λ (x : Container). content_has_no_map (named_reaches_no_map c.args.reader.now.registry.now c.args.depth) (content (container_of x))) (sym c.in-Enum.is) ∙ h) chosen) c.payload.ensures.spares)
-
-pub containers::content-returns-in-None-clause-spares : goal.containers::content-returns-in-None-clause-spares
-containers::content-returns-in-None-clause-spares g t c =
-    Spares-any tt
-
-pub containers::named-returns-in_err-enter-clause-spares : goal.containers::named-returns-in_err-enter-clause-spares
-containers::named-returns-in_err-enter-clause-spares g t c =
-    Spares-exit c.from_residual.ensures.1 refl (Spares-any c.in_err-enter.ensures.spares)
-
-pub containers::named-returns-in_default-clause-spares : goal.containers::named-returns-in_default-clause-spares
-containers::named-returns-in_default-clause-spares g t c =
-    Spares-any tt
+    λ h. SparesMemory-on c.payload.result c.args.reader.now.at.now c.variant_number.new.reader.at.now c.in_ok-number-in-Enum.ensures.reads.goes.same
+    (c.payload.ensures.spares (ap (λ r. reaches_no_map r c.args.depth s) c.in_ok-number-in-Enum.ensures.reads.same.registry ∙ choice_has_no_map (named_reaches_no_map c.args.reader.now.registry.now c.args.depth) c.in_ok-number-in-Enum.number cs s (ap (λ (x : Container). content_has_no_map (named_reaches_no_map c.args.reader.now.registry.now c.args.depth) (content (container_of x))) (sym c.in-Enum.is) ∙ h) chosen))
 
 pub containers::named-returns-clause-spares : goal.containers::named-returns-clause-spares
 containers::named-returns-clause-spares g t c =
     let found : content_at c.args.name.now c.args.reader.now.registry.now ≡ content (container_of c.in-Some.found.now) = ap (λ r. content_at c.args.name.now r) (sym c.in_ok-enter.ensures.reads.same.registry) ∙ content_found c.enter.new.reader.registry.now c.args.name.now c.container.result c.in-Some.found c.container.ensures.found c.in-Some.is in
-    let inside = λ (r : Entries) (k : Content). content_has_no_map (named_reaches_no_map r (c.args.depth - 1)) k in
-    Spares-on c.in_ok-enter.ensures.reads.goes.same
-    (Spares-by (λ h. ap (λ r. inside r (content (container_of c.in-Some.found.now))) c.in_ok-enter.ensures.reads.same.registry ∙ ap (inside c.args.reader.now.registry.now) (sym found) ∙ sym (named_content c.args.reader.now.registry.now c.args.depth c.args.name.now c.in_ok-enter.ensures.positive) ∙ h) c.content.ensures.spares)
-
-pub containers::payload-returns-in-Unit-clause-spares : goal.containers::payload-returns-in-Unit-clause-spares
-containers::payload-returns-in-Unit-clause-spares g t c =
-    Spares-any c.begin.ensures.spares
+    λ h. SparesMemory-on c.content.result c.args.reader.now.at.now c.enter.new.reader.at.now c.in_ok-enter.ensures.reads.goes.same
+    (c.content.ensures.spares (ap (λ r. content_has_no_map (named_reaches_no_map r (c.args.depth - 1)) (content (container_of c.in-Some.found.now))) c.in_ok-enter.ensures.reads.same.registry
+    ∙ ap (content_has_no_map (named_reaches_no_map c.args.reader.now.registry.now (c.args.depth - 1))) (sym found)
+    ∙ sym (named_content c.args.reader.now.registry.now c.args.depth c.args.name.now c.in_ok-enter.ensures.positive)
+    ∙ h))
 
 pub containers::payload-returns-in-NewType-clause-spares : goal.containers::payload-returns-in-NewType-clause-spares
 containers::payload-returns-in-NewType-clause-spares g t c =
-    Spares-by (λ h. ap (λ k. reaches_no_map c.args.reader.now.registry.now c.args.depth (payload_shape (payload_of k))) (sym c.in-NewType.is) ∙ h) c.value.ensures.spares
+    λ h. c.value.ensures.spares (ap (λ k. reaches_no_map c.args.reader.now.registry.now c.args.depth (payload_shape (payload_of k))) (sym c.in-NewType.is) ∙ h)
 
 pub containers::payload-returns-in-Tuple-clause-spares : goal.containers::payload-returns-in-Tuple-clause-spares
 containers::payload-returns-in-Tuple-clause-spares g t c =
-    Spares-by (λ h. ap (λ k. reaches_no_map c.args.reader.now.registry.now c.args.depth (payload_shape (payload_of k))) (sym c.in-Tuple.is) ∙ h) (rw (← c.deref.ensures.value) c.tuple.ensures.spares)
+    λ h. c.tuple.ensures.spares (rw c.deref.ensures.value (ap (λ k. reaches_no_map c.args.reader.now.registry.now c.args.depth (payload_shape (payload_of k))) (sym c.in-Tuple.is) ∙ h))
 
 pub containers::payload-returns-in-Struct-clause-spares : goal.containers::payload-returns-in-Struct-clause-spares
 containers::payload-returns-in-Struct-clause-spares g t c =
-    Spares-by (λ h. ap (λ k. reaches_no_map c.args.reader.now.registry.now c.args.depth (payload_shape (payload_of k))) (sym c.in-Struct.is) ∙ h) (rw (← c.deref-in-Struct.ensures.value) c.structure.ensures.spares)
+    λ h. c.structure.ensures.spares (rw c.deref-in-Struct.ensures.value (ap (λ k. reaches_no_map c.args.reader.now.registry.now c.args.depth (payload_shape (payload_of k))) (sym c.in-Struct.is) ∙ h))
