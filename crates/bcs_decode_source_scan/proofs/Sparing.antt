@@ -1,12 +1,11 @@
 -- Want of memory that comes in an open key alone, carried along a walk that reaches no map.
-use Rattle.std.proofs.Common.{◌≡◌, ◌≢◌, ◌==◌, ℕ, zero, suc, ◌+◌, ◌-◌, ◌<◌, Bool, true, false, cond, ◌&&◌, List, [], ◌∷◌, length, get_or, map, drop, Some, Result, Ok, Err, IsErrAnd, refl, sym, ap, subst, ◌∙◌, arith}
-use Rattle.std.specs.List.{list_all}
+use Rattle.std.proofs.Common.{◌≡◌, ◌≢◌, ◌==◌, ℕ, zero, suc, ◌+◌, ◌-◌, ◌<◌, Bool, true, false, cond, List, [], ◌∷◌, length, get_or, map, drop, Some, Result, Ok, Err, IsErrAnd, refl, sym, ap, subst, ◌∙◌, arith}
 use Rattle.std.specs.Map.{lookup}
 use Rattle.std.specs.Option.{option_map_or}
 use Rattle.std.proofs.lemmas.Bool.{and_parts}
 use Rattle.bcs_registry_formats.specs.Shape as shape
-use Rattle.bcs_registry_formats.specs.Shape.{Shape, Shapes}
-use Rattle.bcs_registry_formats.specs.Container.{Entries, Choice, Content, of, one_of, nothing, content_at, choice_at, payload_shape, field_shapes}
+use Rattle.bcs_registry_formats.specs.Shape.{Shape}
+use Rattle.bcs_registry_formats.specs.Container.{Entries, Choice, of, one_of, nothing, content_at, choice_at, payload_shape, field_shapes}
 use Rattle.bcs_registry_formats.specs.View.{shape_of, formats_shapes, field_of}
 use Rattle.bcs_registry_formats.specs.declared.named.Named.{Named}
 use Rattle.bcs_registry_formats.specs.declared.format.Format.{Format}
@@ -15,7 +14,7 @@ use Rattle.bcs_decode_spec.specs.declared.decode_fault.DecodeFault.{DecodeFault}
 use Rattle.bcs_decode_spec.specs.declared.decode_fault.DecodeFault.TheVariants.{Stop, Read, OutOfMemory}
 use Rattle.bcs_decode_source_steps.specs.declared.at.At.{At}
 use Rattle.bcs_decode_source_steps.specs.Sees.{SparesMemory}
-use Rattle.bcs_decode_source_scan.specs.Reaching.{has_no_map, have_no_map, content_has_no_map, named_reaches_no_map, reaches_no_map}
+use Rattle.bcs_decode_source_scan.specs.Reaching.{has_no_map, have_no_map, content_has_no_map, named_reaches_no_map}
 
 -- ---- want of memory
 

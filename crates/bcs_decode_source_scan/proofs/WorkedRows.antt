@@ -2,7 +2,7 @@
 use Rattle.std.proofs.Common.{◌≡◌, ℕ, [], ◌∷◌, true, false, codes, refl}
 use Rattle.std.specs.Int.{w8}
 use Rattle.bcs_registry_formats.specs.Shape as shape
-use Rattle.bcs_registry_formats.specs.Shape.{Shape, no_shapes, float32}
+use Rattle.bcs_registry_formats.specs.Shape.{Shape, no_shapes}
 use Rattle.bcs_registry_formats.specs.Container.{Entries, unit, newtype, newtype_struct, field_struct, enumeration}
 use Rattle.bcs_decode_source_steps.specs.Sees.{takes_no_memory}
 use Rattle.bcs_decode_source_scan.specs.Reaching.{reaches_no_map}

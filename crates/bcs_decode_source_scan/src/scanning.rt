@@ -16,8 +16,8 @@ use std::alloc::Global;
 
 /// How many bytes the value of the format has that the source gives next, of which it takes exactly these. A refusal is
 /// that of `decode_from`. Memory holds the bytes of open keys, and the last key of each open map; the rest of the value
-/// is gone past, however long it is. After a refusal the source isn't to be read on: it gave a front of its content,
-/// which after `Read` and `OutOfMemory` may end anywhere.
+/// is gone past, however long it is. So no memory is wanted where the format reaches no map. After a refusal the source
+/// isn't to be read on: it gave a front of its content, which after `Read` and `OutOfMemory` may end anywhere.
 pub fn scan_from<S: ByteSource>(
     alloc: Global,
     registry: &Registry,

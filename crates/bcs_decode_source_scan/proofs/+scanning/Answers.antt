@@ -109,13 +109,13 @@ pub values::option-returns-then-branch-clause-reads : goal.values::option-return
 unfolding option_past
 values::option-returns-then-branch-clause-reads g t c =
     Reads-then _ c.in_ok-flag_node.ensures.reads
-          (Reads-as (λ p m b. some_is (skip c.args.reader.now.registry.now c.args.depth (shape_of c.args.part.now)) c.in_ok-flag_node.field-0 p m b c.if-branch.true) (rw (← c.in_ok-flag_node.ensures.reads.same.registry) c.value.ensures.reads))
+    (Reads-as (λ p m b. some_is (skip c.args.reader.now.registry.now c.args.depth (shape_of c.args.part.now)) c.in_ok-flag_node.field-0 p m b c.if-branch.true) (rw (← c.in_ok-flag_node.ensures.reads.same.registry) c.value.ensures.reads))
 
 pub values::option-returns-else-branch-clause-reads : goal.values::option-returns-else-branch-clause-reads
 values::option-returns-else-branch-clause-reads g t c =
     let f = (skip c.args.reader.now.registry.now c.args.depth (shape_of c.args.part.now)) in
     Leads-done {g = held_past f c.in_ok-flag_node.field-0} (Leads-on (Leads-none {f = option_past f} {g = option_past f} c.requires.ready (λ b. refl)) c.in_ok-flag_node.ensures.reads (λ b t h. option_on f _ _ b c.in_ok-flag_node.field-0 _ _ t h))
-          (λ b. absent_is f c.in_ok-flag_node.field-0 _ _ b c.if-branch.false)
+    (λ b. absent_is f c.in_ok-flag_node.field-0 _ _ b c.if-branch.false)
 
 -- ---- rows
 
@@ -137,7 +137,7 @@ rows::elements-returns-in-Some-clause-reads g t c =
 pub rows::elements-returns-in_err-value-clause-reads : goal.rows::elements-returns-in_err-value-clause-reads
 rows::elements-returns-in_err-value-clause-reads g t c =
     Reads-exit c.from_residual.ensures.1 (Leads-ends c.loop.invariant.leads (Reads-in (λ r. skip r c.args.depth (shape_of c.args.element.now)) c.loop.invariant.leads.on.same.registry c.in_err-value.ensures.reads)
-          (λ b e h. items_stop (skip c.args.reader.now.registry.now c.args.depth (shape_of c.args.element.now)) c.args.count c.loop.counter _ _ b e c.loop-test.true h))
+    (λ b e h. items_stop (skip c.args.reader.now.registry.now c.args.depth (shape_of c.args.element.now)) c.args.count c.loop.counter _ _ b e c.loop-test.true h))
 
 pub rows::elements-loop-preserved : goal.rows::elements-loop-preserved
 rows::elements-loop-preserved g t c =
@@ -167,7 +167,7 @@ pub rows::tuple-returns-in_err-value-clause-reads : goal.rows::tuple-returns-in_
 rows::tuple-returns-in_err-value-clause-reads g t c =
     let next = formats_next c.args.formats.now c.loop-format.format-index c.format-item.result (omega arith) c.format-item.is in
     Reads-exit c.from_residual-in_err-value.ensures.1 (Leads-ends c.loop-format.invariant.leads (Reads-in (λ r. skip r c.args.depth (shape_of c.format-item.result)) c.loop-format.invariant.leads.on.same.registry c.in_err-value.ensures.reads)
-          (λ b e h. each_stop c.args.reader.now.registry.now c.args.depth _ _ b _ _ _ e next h))
+    (λ b e h. each_stop c.args.reader.now.registry.now c.args.depth _ _ b _ _ _ e next h))
 
 pub rows::tuple-loop-format-preserved : goal.rows::tuple-loop-format-preserved
 rows::tuple-loop-format-preserved g t c =
@@ -201,7 +201,7 @@ pub containers::structure-returns-in_err-value-clause-reads : goal.containers::s
 containers::structure-returns-in_err-value-clause-reads g t c =
     let next = fields_next c.args.fields.now c.loop-field.field-index c.field-item.result (omega arith) c.field-item.is in
     Reads-exit c.from_residual-in_err-value.ensures.1 (Leads-ends c.loop-field.invariant.leads (Reads-in (λ r. skip r c.args.depth (shape_of c.field-item.result.value)) c.loop-field.invariant.leads.on.same.registry c.in_err-value.ensures.reads)
-          (λ b e h. each_stop c.args.reader.now.registry.now c.args.depth _ _ b _ _ _ e next h))
+    (λ b e h. each_stop c.args.reader.now.registry.now c.args.depth _ _ b _ _ _ e next h))
 
 pub containers::structure-loop-field-preserved : goal.containers::structure-loop-field-preserved
 containers::structure-loop-field-preserved g t c =
@@ -327,7 +327,7 @@ containers::named-returns-clause-reads g t c =
     (λ b t h. named_on c.args.reader.now.registry.now c.args.name.now _ _ b c.args.depth _ _ t c.in_ok-enter.ensures.positive (enter_is c.args.depth _ _ b ∙ h)) in
     let found : content_at c.args.name.now c.args.reader.now.registry.now ≡ content (container_of c.in-Some.found.now) = ap (λ r. content_at c.args.name.now r) (sym c.in_ok-enter.ensures.reads.same.registry) ∙ content_found c.enter.new.reader.registry.now c.args.name.now c.container.result c.in-Some.found c.container.ensures.found c.in-Some.is in
     Leads-rest on (Reads-in (λ r. content_past r (c.args.depth - 1) (content (container_of c.in-Some.found.now))) c.in_ok-enter.ensures.reads.same.registry c.content.ensures.reads)
-          (λ b. ap (λ (k : Content). content_past c.args.reader.now.registry.now (c.args.depth - 1) k c.enter.new.reader.at.now.place c.enter.new.reader.at.now.nodes b) found)
+    (λ b. ap (λ (k : Content). content_past c.args.reader.now.registry.now (c.args.depth - 1) k c.enter.new.reader.at.now.place c.enter.new.reader.at.now.nodes b) found)
 
 pub containers::payload-returns-in-Unit-clause-reads : goal.containers::payload-returns-in-Unit-clause-reads
 containers::payload-returns-in-Unit-clause-reads g t c =

@@ -9,7 +9,7 @@ returns-in_err-read_exact-clause-reads g c =
     let size = c.min-size.result in
     let block = length-take-le size c.loop-left.block (omega (arith, c.min-size.ensures, c.loop-left.invariant.block)) in
     Reads-exit c.from_residual.ensures.1 (Leads-ends c.loop-left.invariant.leads (Reads-count block c.in_err-read_exact.ensures.reads)
-          (λ b e h. bytes_end_early size c.loop-left.left _ _ b (omega (arith, c.min-size.ensures)) e h))
+    (λ b e h. bytes_end_early size c.loop-left.left _ _ b (omega (arith, c.min-size.ensures)) e h))
 
 pub loop-left-preserved : goal.loop-left-preserved
 loop-left-preserved g c =

@@ -15,7 +15,7 @@ pub returns-in_err-read_behind-clause-reads : goal.returns-in_err-read_behind-cl
 returns-in_err-read_behind-clause-reads g c =
     let l = c.loop-done in
     Reads-exit c.from_residual.ensures.1 (Onward-ends l.invariant.on c.in_err-read_behind.ensures.reads
-          (text_refused c.args.count l.good l.done l.block _ _ c.args.reader.now.at.now l.reader.at.now l.invariant.sees c.in_err-read_behind.field-0.0 c.min-size.result (omega (arith, c.min-size.ensures)) c.in_err-read_behind.ensures.reads.sees))
+    (text_refused c.args.count l.good l.done l.block _ _ c.args.reader.now.at.now l.reader.at.now l.invariant.sees c.in_err-read_behind.field-0.0 c.min-size.result (omega (arith, c.min-size.ensures)) c.in_err-read_behind.ensures.reads.sees))
 
 pub loop-done-preserved : goal.loop-done-preserved
 loop-done-preserved g c =
@@ -33,7 +33,7 @@ pub returns-in_err-pass_bytes-clause-reads : goal.returns-in_err-pass_bytes-clau
 returns-in_err-pass_bytes-clause-reads g c =
     let l = c.loop-done in
     Reads-exit c.from_residual-in_err-pass_bytes.ensures.1 (Onward-ends l.invariant.on c.in_err-pass_bytes.ensures.reads
-          (text_cut c.args.count l.good l.done l.block _ _ c.args.reader.now.at.now l.reader.at.now l.invariant.sees c.in_err-pass_bytes.field-0.0 c.in_err-pass_bytes.ensures.reads.sees))
+    (text_cut c.args.count l.good l.done l.block _ _ c.args.reader.now.at.now l.reader.at.now l.invariant.sees c.in_err-pass_bytes.field-0.0 c.in_err-pass_bytes.ensures.reads.sees))
 
 pub returns-then-good-count-clause-reads : goal.returns-then-good-count-clause-reads
 returns-then-good-count-clause-reads g c =
@@ -45,11 +45,11 @@ returns-then-good-count-clause-reads g c =
     ] in
     let on = Onward-then l.invariant.on c.in_ok-pass_bytes.ensures.reads in
     rw c.from.ensures (Onward-stops on (omega (arith, c.in_ok-pass_bytes.ensures.reads.goes.later, l.invariant.sees.far, l.invariant.sees.order))
-          (text_bad c.args.count l.good l.done l.block _ _ c.args.reader.now.at.now l.reader.at.now l.invariant.sees _ c.pass_bytes.new.reader.at.now c.in_ok-pass_bytes.ensures.reads.sees c.if-good-count.true ends))
+    (text_bad c.args.count l.good l.done l.block _ _ c.args.reader.now.at.now l.reader.at.now l.invariant.sees _ c.pass_bytes.new.reader.at.now c.in_ok-pass_bytes.ensures.reads.sees c.if-good-count.true ends))
 
 pub returns-clause-reads : goal.returns-clause-reads
 returns-clause-reads g c =
     let l = c.loop-done in
     Onward-done (Onward-then l.invariant.on c.in_ok-pass_bytes.ensures.reads)
-          (text_good c.args.count l.good l.done l.block _ _ c.args.reader.now.at.now l.reader.at.now l.invariant.sees _ c.pass_bytes.new.reader.at.now c.in_ok-pass_bytes.ensures.reads.sees
-          (omega (arith, c.if-good-count.false, l.invariant.sees.order, l.invariant.sees.within)))
+    (text_good c.args.count l.good l.done l.block _ _ c.args.reader.now.at.now l.reader.at.now l.invariant.sees _ c.pass_bytes.new.reader.at.now c.in_ok-pass_bytes.ensures.reads.sees
+    (omega (arith, c.if-good-count.false, l.invariant.sees.order, l.invariant.sees.within)))

@@ -22,7 +22,7 @@ returns-in_err-read_exact-clause-reads g c =
     let block = length-take-le (some * w) c.loop-left.block (omega (arith, c.share-some.ensures.room, c.loop-left.invariant.block)) in
     let on = Leads-nodes {k = begun w some left} (c.loop-left.reader.at.now.nodes - some) c.loop-left.invariant.leads (λ b. row_begun w some left _ _ b c.share-some.ensures.left c.share-some.ensures.nodes) in
     Reads-exit c.from_residual.ensures.1 (Leads-ends on (Reads-count block c.in_err-read_exact.ensures.reads)
-          (λ b e h. chain_ends (bytes_here (some * w)) (λ _. items_here skipping (whole_here w) (left - some)) _ _ b e h))
+    (λ b e h. chain_ends (bytes_here (some * w)) (λ _. items_here skipping (whole_here w) (left - some)) _ _ b e h))
 
 pub loop-left-preserved : goal.loop-left-preserved
 loop-left-preserved g c =
