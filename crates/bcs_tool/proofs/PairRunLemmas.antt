@@ -13,7 +13,7 @@ use Rattle.bcs_tool_answers.proofs.AnswerLemmas.{status_below}
 use Rattle.bcs_tool_answers.proofs.PairAnswerLemmas.{greatest_pair_below}
 use Rattle.bcs_tool_files.specs.FaultPlaces.{TellsPlace}
 use Rattle.bcs_tool_files.specs.declared.taking.TakeFault.TheVariants.{OutOfMemory}
-use Rattle.bcs_tool_files.specs.declared.work.Outcome.{Outcome}
+use Rattle.bcs_tool_files.specs.declared.work.Report.{Report}
 use Rattle.bcs_tool_files.specs.declared.work.Work.{Work}
 use Rattle.bcs_tool.specs.PairLines.{AllPaired}
 use Rattle.bcs_tool.specs.Pairs.{AreCompared, EndsPairs, PutPairs, RespondsPairs, compared, refused, refused_alone}
@@ -46,12 +46,12 @@ module _ {F S K : Type 0} (former : F → Option (List ℕ)) (former_stopped : F
 
   -- the words are refused, and the one answer was put, or a front of it
   module _ (first : F) (second : S) (out out' : K) (answer : Answer) (none : ¬ ReadsInput work) (is : IsAnswer work [] answer) where
-    pub refused_pairs : (outcome : Outcome) → PutsAnswer taken is_failed answer out out' (Ok outcome)
-        → AreCompared former former_stopped former_allowance content has_stopped allowance taken is_failed work first second out out' outcome
-    refused_pairs outcome puts =
+    pub refused_pairs : (report : Report) → PutsAnswer taken is_failed answer out out' (Ok report)
+        → AreCompared former former_stopped former_allowance content has_stopped allowance taken is_failed work first second out out' report
+    refused_pairs report puts =
         let ones = some_content (former first) in
         let others = some_content (content second) in
-        let P : ℕ → Type 0 = λ status. RespondsPairs work ones.0 others.0 status answer.output.items outcome.place.items in
+        let P : ℕ → Type 0 = λ status. RespondsPairs work ones.0 others.0 status answer.output.items report.place.items in
         record {
           note = puts.note;
           below = omega (arith, puts.status, status_below work [] answer.status answer.output.items is.0);
@@ -62,7 +62,7 @@ module _ {F S K : Type 0} (former : F → Option (List ℕ)) (former_stopped : F
           output = answer.output.items;
           put = puts.put;
           responds = subst P (sym puts.status)
-              (refused answer.status answer.output.items outcome.place.items none is.0 (subst (λ (place : List ℕ). Places work [] place) (sym puts.place) is.1));
+              (refused answer.status answer.output.items report.place.items none is.0 (subst (λ (place : List ℕ). Places work [] place) (sym puts.place) is.1));
         }
 
     pub refused_pairs_part : (e : Interruption) → PutsAnswer taken is_failed answer out out' (Err e)
@@ -85,17 +85,17 @@ module _ {F S K : Type 0} (former : F → Option (List ℕ)) (former_stopped : F
         })
 
   -- all pairs were answered, and how many with which status is told
-  pub told_pairs : (first : F) (second : S) (out out' : K) (all : Compared) (outcome : Outcome) → ReadsInput work
+  pub told_pairs : (first : F) (second : S) (out out' : K) (all : Compared) (report : Report) → ReadsInput work
       → AllPaired former former_stopped former_allowance content has_stopped allowance taken is_failed work first second out out' all
-      → outcome.status ≡ all.tally.status → outcome.note.now ≡ []
-      → TellsPlace work.quiet (tally_text all.tally.done all.tally.negative all.tally.refused ++ lacking_text all.ending all.tally.answered) outcome.place.items
-      → AreCompared former former_stopped former_allowance content has_stopped allowance taken is_failed work first second out out' outcome
-  told_pairs first second out out' all outcome reads paired status note tells =
+      → report.outcome.status ≡ all.tally.status → report.outcome.note.now ≡ []
+      → TellsPlace work.quiet (tally_text all.tally.done all.tally.negative all.tally.refused ++ lacking_text all.ending all.tally.answered) report.place.items
+      → AreCompared former former_stopped former_allowance content has_stopped allowance taken is_failed work first second out out' report
+  told_pairs first second out out' all report reads paired status note tells =
       let counted = paired.counted in
       let text : (tally_text all.tally.done all.tally.negative all.tally.refused ++ lacking_text all.ending all.tally.answered) ≡ pairs_summary all.ending paired.statuses =
       ap (λ (t : List ℕ). t ++ lacking_text all.ending all.tally.answered) (told_counts all.tally paired.statuses counted)
       ∙ ap (λ (n : ℕ). summary paired.statuses ++ lacking_text all.ending n) counted.answered in
-      let P : ℕ → Type 0 = λ s. RespondsPairs work paired.ones paired.others s paired.output outcome.place.items in
+      let P : ℕ → Type 0 = λ s. RespondsPairs work paired.ones paired.others s paired.output report.place.items in
       record {
         note = note;
         below = omega (arith, status, counted.status, greatest_pair_below work (lines_of paired.ones) (lines_of paired.others) all.ending paired.statuses paired.output paired.answers);
@@ -105,6 +105,6 @@ module _ {F S K : Type 0} (former : F → Option (List ℕ)) (former_stopped : F
         second_known = paired.second_known;
         output = paired.output;
         put = paired.put;
-        responds = subst P (sym (status ∙ counted.status)) (compared all.ending paired.statuses paired.output outcome.place.items reads paired.answers
-            (subst (λ (t : List ℕ). TellsPlace work.quiet t outcome.place.items) text tells));
+        responds = subst P (sym (status ∙ counted.status)) (compared all.ending paired.statuses paired.output report.place.items reads paired.answers
+            (subst (λ (t : List ℕ). TellsPlace work.quiet t report.place.items) text tells));
       }

@@ -13,7 +13,7 @@ use Rattle.bcs_tool_answers.specs.declared.ending.Ending.TheVariants.{Together}
 use Rattle.bcs_tool_files.specs.FaultPlaces.{TellsPlace}
 use Rattle.bcs_tool_files.specs.Files.{IsContent}
 use Rattle.bcs_tool_files.specs.declared.taking.TakeFault.TheVariants.{Read, TooLarge, OutOfMemory}
-use Rattle.bcs_tool_files.specs.declared.work.Outcome.{Outcome}
+use Rattle.bcs_tool_files.specs.declared.work.Report.{Report}
 use Rattle.bcs_tool_files.specs.declared.work.Work.{Work}
 use Rattle.bcs_tool.specs.Running.{AreFirst, IsLongBehind, fault_note, run_place}
 use Rattle.bcs_tool.specs.declared.pair_interruption.PairInterruption.{PairInterruption}
@@ -119,44 +119,44 @@ module _ {F S K : Type 0} (former : F → Option (List ℕ)) (former_stopped : F
   FailsPairsAt work first first' second second' out out' side Write count = PutPairPart work first second out out' count
 
   -- the answers to all pairs were put
-  pub record AreCompared (work : Work) (first : F) (second : S) (out out' : K) (outcome : Outcome) : Type 0 where
-    pub note : outcome.note.now ≡ []
-    pub below : outcome.status < 3
+  pub record AreCompared (work : Work) (first : F) (second : S) (out out' : K) (report : Report) : Type 0 where
+    pub note : report.outcome.note.now ≡ []
+    pub below : report.outcome.status < 3
     pub ones : List ℕ
     pub others : List ℕ
     pub first_known : IsContent (former first) ones
     pub second_known : IsContent (content second) others
     pub output : List ℕ
     pub put : sink.Took taken is_failed out out' output
-    pub responds : RespondsPairs work ones others outcome.status output outcome.place.items
+    pub responds : RespondsPairs work ones others report.outcome.status output report.place.items
 
-  abbrev pub EndsPairs : Work → F → F → S → S → K → K → Result Outcome PairInterruption → Type 0
-  EndsPairs work first first' second second' out out' (Ok outcome) = AreCompared work first second out out' outcome
+  abbrev pub EndsPairs : Work → F → F → S → S → K → K → Result Report PairInterruption → Type 0
+  EndsPairs work first first' second second' out out' (Ok report) = AreCompared work first second out out' report
   EndsPairs work first first' second second' out out' (Err e) = FailsPairsAt work first first' second second' out out' e.side e.interruption.fault e.interruption.answered
 
--- ---- the outcome
+-- ---- the report
 
 -- the text of the file of this side
 abbrev pub side_text : Side → List ℕ → List ℕ → List ℕ
 side_text First name other = name
 side_text Second name other = other
 
--- the outcome tells where a comparison of files of these texts was broken off
-pub record IsBrokenOff (work : Work) (name other : List ℕ) (e : PairInterruption) (outcome : Outcome) : Type 0 where
-  pub status : outcome.status ≡ 4
-  pub note : outcome.note.now ≡ fault_note e.interruption.fault
-  pub tells : TellsPlace work.quiet (run_place work.lines e.interruption.fault (side_text e.side name other) e.interruption.answered) outcome.place.items
+-- the report tells where a comparison of files of these texts was broken off
+pub record IsBrokenOff (work : Work) (name other : List ℕ) (e : PairInterruption) (report : Report) : Type 0 where
+  pub status : report.outcome.status ≡ 4
+  pub note : report.outcome.note.now ≡ fault_note e.interruption.fault
+  pub tells : TellsPlace work.quiet (run_place work.lines e.interruption.fault (side_text e.side name other) e.interruption.answered) report.place.items
 
 -- it is the one of a run that went through, or tells where the run was broken off
-abbrev pub IsOutcomeOf : Work → List ℕ → List ℕ → Result Outcome PairInterruption → Outcome → Type 0
-IsOutcomeOf work name other (Ok done) outcome = outcome ≡ done
-IsOutcomeOf work name other (Err e) outcome = IsBrokenOff work name other e outcome
+abbrev pub IsReportOf : Work → List ℕ → List ℕ → Result Report PairInterruption → Report → Type 0
+IsReportOf work name other (Ok done) report = report ≡ done
+IsReportOf work name other (Err e) report = IsBrokenOff work name other e report
 
 module _ {F S K : Type 0} (former : F → Option (List ℕ)) (former_stopped : F → Bool) (former_allowance : F → ℕ)
     (content : S → Option (List ℕ)) (has_stopped : S → Bool) (allowance : S → ℕ) (taken : K → Option (List ℕ)) (is_failed : K → Bool) where
   -- what comes of a comparison of two files of these texts; a job that its own words refuse leaves both as they were
-  pub record PairRuns (work : Work) (name other : List ℕ) (first first' : F) (second second' : S) (out out' : K) (outcome : Outcome) : Type 0 where
-    pub result : Result Outcome PairInterruption
+  pub record PairRuns (work : Work) (name other : List ℕ) (first first' : F) (second second' : S) (out out' : K) (report : Report) : Type 0 where
+    pub result : Result Report PairInterruption
     pub ends : EndsPairs former former_stopped former_allowance content has_stopped allowance taken is_failed work first first' second second' out out' result
-    pub is : IsOutcomeOf work name other result outcome
+    pub is : IsReportOf work name other result report
     pub untouched : ¬ ReadsInput work → (first' ≡ first) × (second' ≡ second)

@@ -5,13 +5,13 @@ ghost use Rattle.bcs_tool_words.specs.CommandLine.{texts_of};
 ghost use Rattle.bcs_tool_line.specs.Jobs.{IsJobOf};
 ghost use Rattle.bcs_tool_line.specs.LineFaults.{IsFaultOf};
 ghost use Rattle.bcs_tool_line.specs.TakenWords.{TakesWords};
-ghost use Rattle.bcs_tool.specs.Endings.{IsWordsFault, Performs, TellsFault, TellsOutcome};
+ghost use Rattle.bcs_tool.specs.Endings.{IsWordsFault, Performs, TellsFault, TellsReport};
 
 use crate::responding::respond;
 use crate::telling::tell_fault;
 use bcs_decode::{ByteSource, ReadSource};
 use bcs_encode::{ByteSink, WriteSink};
-use bcs_tool_files::Outcome;
+use bcs_tool_files::Report;
 use bcs_tool_line::{Job, LineFault};
 use std::env;
 use std::env::Env;
@@ -50,10 +50,10 @@ pub fn start<R: Files + Env + AllocGlobal, S: ByteSource, O: ByteSink, E: ByteSi
     ensures job { IfOk words (λ given. TakesWords (texts_of given.items) →
         ((input.new ≡ input.old) × TellsFault O.taken O.is_failed E.taken E.is_failed
         LineFault.OutOfMemory out.old out.new errors.old errors.new result)
-        ⊎ ((job : Job) × (outcome : Outcome) × IsJobOf (texts_of given.items) job
+        ⊎ ((job : Job) × (report : Report) × IsJobOf (texts_of given.items) job
         × Performs S.content S.is_failed S.allowance O.taken O.is_failed R.File.remaining
-        job input.old input.new out.old out.new outcome
-        × TellsOutcome E.taken E.is_failed outcome errors.old errors.new result)) }
+        job input.old input.new out.old out.new report
+        × TellsReport E.taken E.is_failed report errors.old errors.new result)) }
 {
     match words {
         Ok(words) => respond(rt, words.as_slice(), input, out, errors),

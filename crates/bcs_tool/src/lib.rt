@@ -24,8 +24,8 @@ pub use bcs_explain_columns::style::{Form, Paint, Style};
 pub use bcs_io::put_all;
 pub use bcs_tool_answers::laws;
 pub use bcs_tool_files::{
-    FileFault, FileRefusal, Inputs, OpenCause, Origin, Outcome, TakeFault, Work, read_named,
-    read_opened, read_work, take_all,
+    FileFault, FileRefusal, Inputs, OpenCause, Origin, Outcome, Report, TakeFault, UnreadFile,
+    Work, read_named, read_opened, read_work, take_all,
 };
 pub use bcs_tool_line::{Color, Command, Job, LineFault, line};
 pub use entry::{program, start, words_of};
@@ -34,5 +34,5 @@ pub use pair_interruption::{PairInterruption, Side};
 pub use pair_running::run_pairs;
 pub use responding::respond;
 pub use run_fault::RunFault;
-pub use running::run;
-pub use telling::{tell_fault, tell_outcome};
+pub use running::{run, run_from};
+pub use telling::{tell_fault, tell_report};

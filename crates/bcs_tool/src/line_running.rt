@@ -15,7 +15,7 @@ use bcs_io::put_all;
 use bcs_io_lines::LineBuffer;
 use bcs_tool_answers::{Asked, answer_values};
 use bcs_tool_files::limits::SIZE_LIMIT;
-use bcs_tool_files::{Outcome, TakeFault, Work};
+use bcs_tool_files::{Outcome, Report, TakeFault, Work};
 use std::alloc::Global;
 
 /// Puts the answer to each line of the input, and tells how many have which status.
@@ -25,16 +25,18 @@ pub fn run_lines<S: ByteSource, K: ByteSink>(
     asked: &Asked,
     input: &mut S,
     out: &mut K,
-) -> Result<Outcome, Interruption>
+) -> Result<Report, Interruption>
     requires asked { IsAskedBy work.now asked.now }
     requires by_line { work.now.lines ≡ true }
     ensures { Ends S.content S.is_failed S.allowance K.taken K.is_failed work.now
         input.old input.new out.old out.new result }
 {
     let tally = put_lines(alloc, work, asked, input, out)?;
-    Ok(Outcome {
-        status: tally.status,
-        note: "",
+    Ok(Report {
+        outcome: Outcome {
+            status: tally.status,
+            note: "",
+        },
         place: place_of_tally(alloc, work.quiet, tally),
     })
 }

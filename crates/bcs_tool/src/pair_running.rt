@@ -1,6 +1,6 @@
 //! A job that compares two files line by line.
 ghost use Rattle.std.specs.Prelude.{◌≡◌};
-ghost use Rattle.bcs_tool.specs.Pairs.{EndsPairs, IsOutcomeOf};
+ghost use Rattle.bcs_tool.specs.Pairs.{EndsPairs, IsReportOf};
 ghost use Rattle.bcs_tool_answers.specs.Judging.{ReadsInput};
 ghost use Rattle.bcs_tool_files.specs.FaultPlaces.{origin_text};
 
@@ -12,7 +12,7 @@ use crate::running::failed;
 use bcs_decode::ByteSource;
 use bcs_encode::ByteSink;
 use bcs_tool_answers::{Prepared, prepare};
-use bcs_tool_files::{Origin, Outcome, Work};
+use bcs_tool_files::{Origin, Outcome, Report, Work};
 use std::alloc::Global;
 
 /// Puts the answer to each pair of lines of two files: whether they have the same value. It is put before the next pair is
@@ -24,7 +24,7 @@ pub fn run_pairs<F: ByteSource, S: ByteSource, K: ByteSink>(
     first: &mut F,
     second: &mut S,
     out: &mut K,
-) -> Result<Outcome, PairInterruption>
+) -> Result<Report, PairInterruption>
     ensures ends { EndsPairs F.content F.is_failed F.allowance S.content S.is_failed S.allowance K.taken K.is_failed work.now
         first.old first.new second.old second.new out.old out.new result }
     ensures untouched { ¬ ReadsInput work.now → (first.new ≡ first.old) × (second.new ≡ second.old) }
@@ -33,27 +33,29 @@ pub fn run_pairs<F: ByteSource, S: ByteSource, K: ByteSink>(
         Prepared::Answered(answer) => Ok(put_answer(answer, out)?),
         Prepared::Asked(asked) => {
             let compared = compare_lines(alloc, work, &asked, first, second, out)?;
-            Ok(Outcome {
-                status: compared.tally.status,
-                note: "",
+            Ok(Report {
+                outcome: Outcome {
+                    status: compared.tally.status,
+                    note: "",
+                },
                 place: place_of_pairs(alloc, work.quiet, compared),
             })
         }
     }
 }
 
-/// The outcome of a comparison of these two files.
-pub fn outcome_of_pairs(
+/// The report of a comparison of these two files.
+pub fn report_of_pairs(
     alloc: Global,
     work: &Work,
-    ended: Result<Outcome, PairInterruption>,
+    ended: Result<Report, PairInterruption>,
     first: Origin<'_>,
     second: Origin<'_>,
-) -> Outcome
-    ensures { IsOutcomeOf work.now (origin_text first.entry) (origin_text second.entry) ended result }
+) -> Report
+    ensures { IsReportOf work.now (origin_text first.entry) (origin_text second.entry) ended result }
 {
     match ended {
-        Ok(outcome) => outcome,
+        Ok(report) => report,
         Err(interruption) => failed(
             interruption.interruption.fault.note(),
             place_of_pair_interruption(alloc, work, interruption, first, second),

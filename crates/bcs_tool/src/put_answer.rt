@@ -6,16 +6,18 @@ use crate::run_fault::RunFault;
 use bcs_encode::ByteSink;
 use bcs_io::put_all;
 use bcs_tool_answers::Answer;
-use bcs_tool_files::Outcome;
+use bcs_tool_files::{Outcome, Report};
 
 /// Puts an answer, and hands on its status and its place.
-pub fn put_answer<K: ByteSink>(answer: Answer, out: &mut K) -> Result<Outcome, Interruption>
+pub fn put_answer<K: ByteSink>(answer: Answer, out: &mut K) -> Result<Report, Interruption>
     ensures { PutsAnswer K.taken K.is_failed answer out.old out.new result }
 {
     match put_all(answer.output.as_slice(), out) {
-        Ok(()) => Ok(Outcome {
-            status: answer.status,
-            note: "",
+        Ok(()) => Ok(Report {
+            outcome: Outcome {
+                status: answer.status,
+                note: "",
+            },
             place: answer.place,
         }),
         Err(_) => Err(Interruption {

@@ -4,15 +4,15 @@ ghost use Rattle.bcs_tool_words.specs.CommandLine.{texts_of};
 ghost use Rattle.bcs_tool_line.specs.Jobs.{IsJobOf};
 ghost use Rattle.bcs_tool_line.specs.LineFaults.{IsFaultOf};
 ghost use Rattle.bcs_tool_line.specs.TakenWords.{TakesWords};
-ghost use Rattle.bcs_tool.specs.Endings.{IsUnopened, Performs, PerformsOne, PerformsPairs, TellsFault, TellsOutcome};
+ghost use Rattle.bcs_tool.specs.Endings.{IsUnopened, Performs, PerformsOne, PerformsPairs, TellsFault, TellsReport};
 
-use crate::pair_running::{outcome_of_pairs, run_pairs};
-use crate::running::{failed, run};
-use crate::telling::{tell_fault, tell_outcome};
+use crate::pair_running::{report_of_pairs, run_pairs};
+use crate::running::{failed, run_from};
+use crate::telling::{tell_fault, tell_report};
 use bcs_decode::{ByteSource, ReadSource};
 use bcs_encode::ByteSink;
 use bcs_tool_files::{
-    FileFault, Inputs, OpenCause, Origin, Outcome, Work, place_of_file, read_work,
+    FileFault, Inputs, OpenCause, Origin, Report, UnreadFile, Work, place_of_file, read_work,
 };
 use bcs_tool_line::{Job, LineFault, line};
 use std::alloc::Global;
@@ -41,13 +41,13 @@ pub fn respond<R: Files + Env + AllocGlobal, S: ByteSource, O: ByteSink, E: Byte
     ensures job { TakesWords (texts_of words.now) →
         ((input.new ≡ input.old) × TellsFault O.taken O.is_failed E.taken E.is_failed
         LineFault.OutOfMemory out.old out.new errors.old errors.new result)
-        ⊎ ((job : Job) × (outcome : Outcome) × IsJobOf (texts_of words.now) job
+        ⊎ ((job : Job) × (report : Report) × IsJobOf (texts_of words.now) job
         × Performs S.content S.is_failed S.allowance O.taken O.is_failed R.File.remaining
-        job input.old input.new out.old out.new outcome
-        × TellsOutcome E.taken E.is_failed outcome errors.old errors.new result) }
+        job input.old input.new out.old out.new report
+        × TellsReport E.taken E.is_failed report errors.old errors.new result) }
 {
     match line(rt.alloc(), words) {
-        Ok(job) => tell_outcome(perform(rt, job, input, out), errors),
+        Ok(job) => tell_report(perform(rt, job, input, out), errors),
         Err(fault) => tell_fault(&fault, out, errors),
     }
 }
@@ -58,14 +58,17 @@ fn perform<R: Files + Env + AllocGlobal, S: ByteSource, O: ByteSink>(
     job: Job,
     input: &mut S,
     out: &mut O,
-) -> Outcome
+) -> Report
     ensures { Performs S.content S.is_failed S.allowance O.taken O.is_failed R.File.remaining
         job input.old input.new out.old out.new result }
 {
     let quiet = job.quiet;
     let (work, inputs) = match read_work(rt, job) {
         Ok(read) => read,
-        Err(refusal) => return failed(refusal.fault.note(), refusal.place(rt.alloc(), quiet)),
+        Err(refusal) => {
+            let fault = FileFault::from(refusal.reason);
+            return failed(fault.note(), refusal.place(rt.alloc(), quiet));
+        }
     };
     let Inputs { first, file } = inputs;
     match first {
@@ -81,16 +84,16 @@ fn perform_one<R: Files + Env + AllocGlobal, S: ByteSource, O: ByteSink>(
     file: Option<String>,
     input: &mut S,
     out: &mut O,
-) -> Outcome
+) -> Report
     ensures { PerformsOne S.content S.is_failed S.allowance O.taken O.is_failed R.File.remaining
         work.now file input.old input.new out.old out.new result }
 {
     let Some(name) = file else {
-        return run(rt.alloc(), work, Origin::StandardInput, input, out);
+        return run_from(rt.alloc(), work, Origin::StandardInput, input, out);
     };
     let name = name.as_str();
     match File::open(rt, name) {
-        Ok(file) => run(
+        Ok(file) => run_from(
             rt.alloc(),
             work,
             Origin::File(name),
@@ -109,7 +112,7 @@ fn perform_pairs<R: Files + Env + AllocGlobal, S: ByteSource, O: ByteSink>(
     file: Option<String>,
     input: &mut S,
     out: &mut O,
-) -> Outcome
+) -> Report
     ensures { PerformsPairs S.content S.is_failed S.allowance O.taken O.is_failed R.File.remaining
         work.now first.now file input.old input.new out.old out.new result }
 {
@@ -121,22 +124,25 @@ fn perform_pairs<R: Files + Env + AllocGlobal, S: ByteSource, O: ByteSink>(
     let origin = Origin::File(first);
     let Some(name) = file else {
         let result = run_pairs(alloc, work, &mut lines, input, out);
-        return outcome_of_pairs(alloc, work, result, origin, Origin::StandardInput);
+        return report_of_pairs(alloc, work, result, origin, Origin::StandardInput);
     };
     let name = name.as_str();
     match File::open(rt, name) {
         Ok(file) => {
             let result = run_pairs(alloc, work, &mut lines, &mut ReadSource::new(file), out);
-            outcome_of_pairs(alloc, work, result, origin, Origin::File(name))
+            report_of_pairs(alloc, work, result, origin, Origin::File(name))
         }
         Err(error) => unopened(alloc, work.quiet, name, error.kind()),
     }
 }
 
-// The outcome of a job of which a file of an input was not opened.
-fn unopened(alloc: Global, quiet: bool, name: &str, kind: ErrorKind) -> Outcome
+// The report of a job of which a file of an input was not opened.
+fn unopened(alloc: Global, quiet: bool, name: &str, kind: ErrorKind) -> Report
     ensures { IsUnopened quiet name.now result }
 {
-    let fault = FileFault::Open(OpenCause::of(kind));
-    failed(fault.note(), place_of_file(alloc, quiet, fault, name))
+    let unread = UnreadFile::Unopened(OpenCause::of(kind));
+    failed(
+        FileFault::from(unread).note(),
+        place_of_file(alloc, quiet, unread, name),
+    )
 }

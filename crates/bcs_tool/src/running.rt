@@ -1,6 +1,6 @@
 //! A job, its input and its output.
 ghost use Rattle.std.specs.Prelude.{◌≡◌, false};
-ghost use Rattle.bcs_tool.specs.Running.{Ends, Runs};
+ghost use Rattle.bcs_tool.specs.Running.{Ends, EndsWith, Runs};
 ghost use Rattle.bcs_tool_answers.specs.Judging.{ReadsInput};
 ghost use Rattle.bcs_tool_answers.specs.Preparing.{IsAskedBy};
 ghost use Rattle.bcs_tool_files.specs.FaultPlaces.{origin_text};
@@ -14,24 +14,38 @@ use bcs_decode::ByteSource;
 use bcs_encode::ByteSink;
 use bcs_tool_answers::{Asked, Prepared, answer_values, is_unlimited, prepare};
 use bcs_tool_files::limits::SIZE_LIMIT;
-use bcs_tool_files::{Origin, Outcome, Work, take_all};
+use bcs_tool_files::{Origin, Outcome, Report, Work, take_all};
 use std::alloc::Global;
 
-/// Puts the answer to a job and its input, which is this file or the standard input; or, where the job is for lines, the
-/// answer to each line of it. A whole answer is made before its first byte is put, and it is put before the next line is
-/// read. The input is read only where the job has one and its own words are not refused.
+/// Puts the answer to a job and its input; or, where the job is for lines, the answer to each line of it. A whole answer is
+/// made before its first byte is put, and it is put before the next line is read. The input is read only where the job has
+/// one and its own words are not refused.
 pub fn run<S: ByteSource, K: ByteSink>(
+    alloc: Global,
+    work: &Work,
+    input: &mut S,
+    out: &mut K,
+) -> Outcome
+    ensures { EndsWith S.content S.is_failed S.allowance K.taken K.is_failed work.now
+        input.old input.new out.old out.new result }
+{
+    run_from(alloc, work, Origin::StandardInput, input, out).outcome
+}
+
+/// The same of an input that is this file or the standard input, and where the job is refused or broken off, which is a
+/// line for the standard error.
+pub fn run_from<S: ByteSource, K: ByteSink>(
     alloc: Global,
     work: &Work,
     origin: Origin<'_>,
     input: &mut S,
     out: &mut K,
-) -> Outcome
+) -> Report
     ensures { Runs S.content S.is_failed S.allowance K.taken K.is_failed work.now (origin_text origin.entry)
         input.old input.new out.old out.new result }
 {
     match put_answers(alloc, work, input, out) {
-        Ok(outcome) => outcome,
+        Ok(report) => report,
         Err(interruption) => failed(
             interruption.fault.note(),
             place_of_interruption(alloc, work, interruption, origin),
@@ -39,15 +53,14 @@ pub fn run<S: ByteSource, K: ByteSink>(
     }
 }
 
-/// The outcome of a job that has no answer.
-pub fn failed(note: &'static str, place: Vec<u8>) -> Outcome
-    ensures status { result.status ≡ 4 }
-    ensures note { result.note.now ≡ note.now }
+/// The report of a job that has no answer.
+pub fn failed(note: &'static str, place: Vec<u8>) -> Report
+    ensures status { result.outcome.status ≡ 4 }
+    ensures note { result.outcome.note.now ≡ note.now }
     ensures place { result.place.items ≡ place.items }
 {
-    Outcome {
-        status: 4,
-        note,
+    Report {
+        outcome: Outcome { status: 4, note },
         place,
     }
 }
@@ -58,7 +71,7 @@ fn put_answers<S: ByteSource, K: ByteSink>(
     work: &Work,
     input: &mut S,
     out: &mut K,
-) -> Result<Outcome, Interruption>
+) -> Result<Report, Interruption>
     ensures ends { Ends S.content S.is_failed S.allowance K.taken K.is_failed work.now
         input.old input.new out.old out.new result }
     ensures untouched { ¬ ReadsInput work.now → input.new ≡ input.old }
@@ -84,7 +97,7 @@ fn run_whole<S: ByteSource, K: ByteSink>(
     asked: &Asked,
     input: &mut S,
     out: &mut K,
-) -> Result<Outcome, Interruption>
+) -> Result<Report, Interruption>
     requires asked { IsAskedBy work.now asked.now }
     requires whole { work.now.lines ≡ false }
     ensures { Ends S.content S.is_failed S.allowance K.taken K.is_failed work.now

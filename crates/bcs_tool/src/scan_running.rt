@@ -12,7 +12,7 @@ use bcs_decode::{ByteSource, DecodeFault};
 use bcs_decode_source_scan::{scan_all, scan_from};
 use bcs_encode::ByteSink;
 use bcs_tool_answers::{Answer, Asked, counted, stopped};
-use bcs_tool_files::{Outcome, TakeFault, Work};
+use bcs_tool_files::{Report, TakeFault, Work};
 use std::alloc::Global;
 
 /// Puts how many bytes the value has that the input gives, or where they stop being one. Where they stand in the value is
@@ -23,7 +23,7 @@ pub fn run_scan<S: ByteSource, K: ByteSink>(
     asked: &Asked,
     input: &mut S,
     out: &mut K,
-) -> Result<Outcome, Interruption>
+) -> Result<Report, Interruption>
     requires asked { IsAskedBy work.now asked.now }
     requires streams { Streams work.now }
     ensures { Ends S.content S.is_failed S.allowance K.taken K.is_failed work.now

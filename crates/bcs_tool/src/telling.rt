@@ -1,11 +1,11 @@
 //! What the standard output and the standard error are told, and the status.
 ghost use Rattle.std.specs.Prelude.{◌≡◌, ◌++◌, codes};
 ghost use Rattle.bcs_tool_answers.specs.Answers.{line_of};
-ghost use Rattle.bcs_tool.specs.Endings.{Told, TellsFault, TellsOutcome};
+ghost use Rattle.bcs_tool.specs.Endings.{Told, TellsFault, TellsReport};
 
 use bcs_encode::ByteSink;
 use bcs_io::put_all;
-use bcs_tool_files::Outcome;
+use bcs_tool_files::Report;
 use bcs_tool_line::LineFault;
 
 /// Tells why the words are no job, or what they ask for, and gives the status.
@@ -26,20 +26,24 @@ pub fn tell_fault<O: ByteSink, E: ByteSink>(fault: &LineFault, out: &mut O, erro
     }
 }
 
-/// Tells the note of an outcome on a line, and then its place on one, each where it has one, and gives its status.
-pub fn tell_outcome<E: ByteSink>(outcome: Outcome, errors: &mut E) -> u8
-    ensures { TellsOutcome E.taken E.is_failed outcome errors.old errors.new result }
+/// Tells the note of a report on a line, and then its place on one, each where it has one, and gives its status.
+pub fn tell_report<E: ByteSink>(report: Report, errors: &mut E) -> u8
+    ensures { TellsReport E.taken E.is_failed report errors.old errors.new result }
 {
-    if outcome.note.is_empty() {
-        if !outcome.place.is_empty() {
-            tell_line(outcome.place.as_slice(), errors);
+    if report.outcome.note.is_empty() {
+        if !report.place.is_empty() {
+            tell_line(report.place.as_slice(), errors);
         }
-    } else if outcome.place.is_empty() {
-        tell_line(outcome.note.as_bytes(), errors);
+    } else if report.place.is_empty() {
+        tell_line(report.outcome.note.as_bytes(), errors);
     } else {
-        tell_lines(outcome.note.as_bytes(), outcome.place.as_slice(), errors);
+        tell_lines(
+            report.outcome.note.as_bytes(),
+            report.place.as_slice(),
+            errors,
+        );
     }
-    outcome.status
+    report.outcome.status
 }
 
 // Tells the note of a fault on a line, and gives its status.

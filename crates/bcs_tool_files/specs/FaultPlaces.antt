@@ -3,14 +3,14 @@ use Rattle.std.specs.Prelude.{◌≡◌, ◌⊎◌, ◌++◌, ℕ, List, [], Boo
 use Rattle.std.specs.declared.io.ErrorKind.{ErrorKind}
 use Rattle.std.specs.declared.io.ErrorKind.TheVariants as kind
 use Rattle.bcs_explain_columns.specs.Escaped.{escaped}
-use Rattle.bcs_tool_files.specs.declared.file_fault.FileFault.{FileFault}
-use Rattle.bcs_tool_files.specs.declared.file_fault.FileFault.TheVariants.{Open, Take}
 use Rattle.bcs_tool_files.specs.declared.open_cause.OpenCause.{OpenCause}
 use Rattle.bcs_tool_files.specs.declared.open_cause.OpenCause.TheVariants.{Missing, Forbidden, NoFolder, Loop, LongName, BadName, Other}
 use Rattle.bcs_tool_files.specs.declared.origin.Origin.{Origin}
 use Rattle.bcs_tool_files.specs.declared.origin.Origin.TheVariants.{File, StandardInput}
 use Rattle.bcs_tool_files.specs.declared.taking.TakeFault.{TakeFault}
 use Rattle.bcs_tool_files.specs.declared.taking.TakeFault.TheVariants.{Read, TooLarge, OutOfMemory}
+use Rattle.bcs_tool_files.specs.declared.unread_file.UnreadFile.{UnreadFile}
+use Rattle.bcs_tool_files.specs.declared.unread_file.UnreadFile.TheVariants.{Unopened, Untaken}
 
 -- ---- why a file was not opened
 
@@ -51,10 +51,10 @@ take_place Read text = text
 take_place TooLarge text = text
 take_place OutOfMemory text = []
 
--- of a fault of the file of this name
-abbrev pub file_place : FileFault → List ℕ → List ℕ
-file_place (Open cause) name = file_text name ++ cause_text cause
-file_place (Take fault) name = take_place fault (file_text name)
+-- of the file of this name, which was not read
+abbrev pub file_place : UnreadFile → List ℕ → List ℕ
+file_place (Unopened cause) name = file_text name ++ cause_text cause
+file_place (Untaken fault) name = take_place fault (file_text name)
 
 -- what is told of a place: it, if the job isn't quiet; or nothing
 abbrev pub TellsPlace : Bool → List ℕ → List ℕ → Type 0

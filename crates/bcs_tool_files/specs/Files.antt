@@ -6,11 +6,13 @@ use Rattle.bcs_tool_line.specs.declared.color.Color.TheVariants.{Always, Never}
 use Rattle.bcs_tool_line.specs.declared.command.Command.{Command}
 use Rattle.bcs_tool_line.specs.declared.command.Command.TheVariants.{Check, Grows, Show, Example, Encode, Decode, Explain, Normalise, Same, Part, Scan}
 use Rattle.bcs_tool_files.specs.declared.file_fault.FileFault.{FileFault}
-use Rattle.bcs_tool_files.specs.declared.file_fault.FileFault.TheVariants.{Open, Take}
+use Rattle.bcs_tool_files.specs.declared.file_fault.FileFault.TheVariants as fault
 use Rattle.bcs_tool_files.specs.declared.file_refusal.FileRefusal.{FileRefusal}
 use Rattle.bcs_tool_line.specs.declared.job.Job.{Job}
 use Rattle.bcs_tool_files.specs.declared.taking.TakeFault.{TakeFault}
 use Rattle.bcs_tool_files.specs.declared.taking.TakeFault.TheVariants.{Read, TooLarge, OutOfMemory}
+use Rattle.bcs_tool_files.specs.declared.unread_file.UnreadFile.{UnreadFile}
+use Rattle.bcs_tool_files.specs.declared.unread_file.UnreadFile.TheVariants.{Unopened, Untaken}
 use Rattle.bcs_tool_files.specs.declared.work.Inputs.{Inputs}
 use Rattle.bcs_tool_files.specs.declared.work.Work.{Work}
 
@@ -25,8 +27,17 @@ take_note TooLarge = codes "fault: too large"
 take_note OutOfMemory = codes "fault: memory"
 
 abbrev pub file_note : FileFault → List ℕ
-file_note (Open cause) = codes "fault: open"
-file_note (Take fault) = take_note fault
+file_note fault.Open = codes "fault: open"
+file_note fault.Read = take_note Read
+file_note fault.TooLarge = take_note TooLarge
+file_note fault.OutOfMemory = take_note OutOfMemory
+
+-- the fault of a file that was not read
+abbrev pub fault_of : UnreadFile → FileFault
+fault_of (Unopened cause) = fault.Open
+fault_of (Untaken Read) = fault.Read
+fault_of (Untaken TooLarge) = fault.TooLarge
+fault_of (Untaken OutOfMemory) = fault.OutOfMemory
 
 -- a word for a registry that begins with a brace is its text, and any other names a file
 abbrev pub is_registry_text : List ℕ → Bool
@@ -77,10 +88,10 @@ module _ {F : Type 0} (remaining : F → Option (List ℕ)) where
 
   -- what is known of the files where one of them is at fault
   abbrev pub IsFaultOfFiles : FileFault → Type 0
-  IsFaultOfFiles (Open cause) = Unit {0}
-  IsFaultOfFiles (Take Read) = F
-  IsFaultOfFiles (Take TooLarge) = HasLargeFile
-  IsFaultOfFiles (Take OutOfMemory) = Unit {0}
+  IsFaultOfFiles fault.Open = Unit {0}
+  IsFaultOfFiles fault.Read = F
+  IsFaultOfFiles fault.TooLarge = HasLargeFile
+  IsFaultOfFiles fault.OutOfMemory = Unit {0}
 
   -- bytes that were read for a word: the word itself where it is the text, and else those of a file
   abbrev pub IsTextOf : List ℕ → List ℕ → Type 0
@@ -93,7 +104,7 @@ module _ {F : Type 0} (remaining : F → Option (List ℕ)) where
 
   -- a fault of the job's files, and whose it is, unless memory ran out
   abbrev pub IsRefusalOf : Job → FileRefusal → Type 0
-  IsRefusalOf job refusal = IsFaultOfFiles refusal.fault × (refusal.fault ≢ Take OutOfMemory → NamesForWork job (string_bytes refusal.name))
+  IsRefusalOf job refusal = IsFaultOfFiles (fault_of refusal.reason) × (refusal.reason ≢ Untaken OutOfMemory → NamesForWork job (string_bytes refusal.name))
 
   -- bytes that were read for A: none where its lines are compared one by one
   abbrev pub IsFirstText : Bool → List ℕ → Type 0

@@ -2,22 +2,22 @@
 ghost use Rattle.std.specs.Prelude.{◌≡◌, ◌++◌, IfOk};
 ghost use Rattle.bcs_tool_files.specs.FaultPlaces.{TellsPlace, cause_text, file_place, file_text, origin_text, output_text, take_place};
 
-use crate::file_fault::FileFault;
 use crate::open_cause::OpenCause;
 use crate::origin::Origin;
 use crate::taking::TakeFault;
+use crate::unread_file::UnreadFile;
 use bcs_explain_columns::escaping::put_escaped;
 use std::alloc::{AllocError, Global};
 
 /// The file of this name, which was not read, and why it wasn't opened. It is empty at a quiet job, at want of memory, and
 /// where no memory is left for it.
-pub fn place_of_file(alloc: Global, quiet: bool, fault: FileFault, name: &str) -> Vec<u8>
-    ensures { TellsPlace quiet (file_place fault name.now) result.items }
+pub fn place_of_file(alloc: Global, quiet: bool, unread: UnreadFile, name: &str) -> Vec<u8>
+    ensures { TellsPlace quiet (file_place unread name.now) result.items }
 {
     if quiet {
         return Vec::new(alloc);
     }
-    match file_fault_line(alloc, fault, name) {
+    match unread_line(alloc, unread, name) {
         Ok(line) => line,
         Err(AllocError) => Vec::new(alloc),
     }
@@ -44,13 +44,13 @@ pub fn output_line(alloc: Global) -> Result<Vec<u8>, AllocError>
     Vec::from_slice(alloc, b"in the standard output")
 }
 
-fn file_fault_line(alloc: Global, fault: FileFault, name: &str) -> Result<Vec<u8>, AllocError>
-    ensures { IfOk result (λ line. line.items ≡ file_place fault name.now) }
+fn unread_line(alloc: Global, unread: UnreadFile, name: &str) -> Result<Vec<u8>, AllocError>
+    ensures { IfOk result (λ line. line.items ≡ file_place unread name.now) }
 {
-    match fault {
-        FileFault::Open(cause) => unopened_line(alloc, name, cause),
-        FileFault::Take(TakeFault::Read | TakeFault::TooLarge) => file_line(alloc, name),
-        FileFault::Take(TakeFault::OutOfMemory) => Ok(Vec::new(alloc)),
+    match unread {
+        UnreadFile::Unopened(cause) => unopened_line(alloc, name, cause),
+        UnreadFile::Untaken(TakeFault::Read | TakeFault::TooLarge) => file_line(alloc, name),
+        UnreadFile::Untaken(TakeFault::OutOfMemory) => Ok(Vec::new(alloc)),
     }
 }
 

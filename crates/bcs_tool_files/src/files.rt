@@ -3,7 +3,7 @@ ghost use Rattle.std.specs.Prelude.{◌≡◌, ◌≢◌, ◌⊎◌, ◌≤◌, 
 ghost use Rattle.std.specs.Io.KnownBytes.{IsAtEnd};
 ghost use Rattle.bcs_io.specs.Giving.{Took, Lost};
 ghost use Rattle.bcs_tool_files.specs.Files.{size_limit};
-ghost use Rattle.bcs_tool_files.specs.Files.{IsFaultOfFiles, IsFileText, IsFirstText, IsInputsOf, IsRefusalOf, IsSecondOf, IsTextOf, IsWorkOf, NamesNoFile, is_registry_text};
+ghost use Rattle.bcs_tool_files.specs.Files.{IsFaultOfFiles, IsFileText, IsFirstText, IsInputsOf, IsRefusalOf, IsSecondOf, IsTextOf, IsWorkOf, NamesNoFile, fault_of, is_registry_text};
 
 use crate::file_fault::FileFault;
 use crate::file_refusal::FileRefusal;
@@ -11,6 +11,7 @@ use crate::limits::SIZE_LIMIT;
 use crate::open_cause::OpenCause;
 use crate::styling::style_of;
 use crate::taking::{TakeFault, take_all};
+use crate::unread_file::UnreadFile;
 use crate::work::{Inputs, Work};
 use bcs_io::{ByteSource, ReadSource};
 use bcs_tool_line::{Command, Job};
@@ -25,26 +26,34 @@ pub fn read_named<R: Files + AllocGlobal>(rt: &R, name: &str) -> Result<Vec<u8>,
     ensures text { IfOk result (λ v. IsFileText R.File.remaining v.items) }
     ensures fault { IfErr result (IsFaultOfFiles R.File.remaining) }
 {
+    Ok(read_file(rt, name)?)
+}
+
+// The same, with the cause where the file wasn't opened.
+fn read_file<R: Files + AllocGlobal>(rt: &R, name: &str) -> Result<Vec<u8>, UnreadFile>
+    ensures within { IfOk result (λ v. vec_len v ≤ size_limit) }
+    ensures text { IfOk result (λ v. IsFileText R.File.remaining v.items) }
+    ensures fault { IfErr result (λ e. IsFaultOfFiles R.File.remaining (fault_of e)) }
+{
     match File::open(rt, name) {
-        Ok(file) => read_opened(rt.alloc(), &mut ReadSource::new(file)),
-        Err(error) => Err(FileFault::Open(OpenCause::of(error.kind()))),
+        Ok(file) => Ok(read_opened(rt.alloc(), &mut ReadSource::new(file))?),
+        Err(error) => Err(UnreadFile::Unopened(OpenCause::of(error.kind()))),
     }
 }
 
 /// The content of a file that is open, of at most 268435456 bytes: what `take_all` takes of it.
-pub fn read_opened<S: ByteSource>(alloc: Global, file: &mut S) -> Result<Vec<u8>, FileFault>
+pub fn read_opened<S: ByteSource>(alloc: Global, file: &mut S) -> Result<Vec<u8>, TakeFault>
     ensures whole { IfOk result (λ v. Took S.content S.is_failed S.allowance file.old file.new v.items
         × IsAtEnd (S.content file.new) × (S.is_failed file.new ≡ false) × (vec_len v ≤ size_limit)) }
-    ensures is_open { (cause : OpenCause) → result ≢ Err (FileFault.Open cause) }
-    ensures read { result ≡ Err (FileFault.Take TakeFault.Read) → (bytes : List ℕ)
+    ensures read { result ≡ Err TakeFault.Read → (bytes : List ℕ)
         × Lost S.content S.is_failed S.allowance file.old file.new bytes × (length bytes ≤ size_limit) }
-    ensures too_large { result ≡ Err (FileFault.Take TakeFault.TooLarge) → (bytes : List ℕ)
+    ensures too_large { result ≡ Err TakeFault.TooLarge → (bytes : List ℕ)
         × Took S.content S.is_failed S.allowance file.old file.new bytes × (length bytes ≡ size_limit + 1) }
-    ensures memory { result ≡ Err (FileFault.Take TakeFault.OutOfMemory) → (bytes : List ℕ)
+    ensures memory { result ≡ Err TakeFault.OutOfMemory → (bytes : List ℕ)
         × Took S.content S.is_failed S.allowance file.old file.new bytes × (length bytes ≤ size_limit)
         × (S.is_failed file.new ≡ false) }
 {
-    Ok(take_all(alloc, file, SIZE_LIMIT)?)
+    take_all(alloc, file, SIZE_LIMIT)
 }
 
 /// The work of a job, and the names of its inputs' files. The other files that the job names are read, that of REG or OLD
@@ -56,22 +65,22 @@ pub fn read_work<R: Files + Env + AllocGlobal>(
     ensures work { IfOk result (λ r. IsWorkOf R.File.remaining job r.0) }
     ensures inputs { IfOk result (λ r. IsInputsOf job r.1) }
     ensures fault { IfErr result (IsRefusalOf R.File.remaining job) }
-    ensures good { NamesNoFile job → IfErr result (λ e. e.fault ≡ FileFault.Take TakeFault.OutOfMemory) }
+    ensures good { NamesNoFile job → IfErr result (λ e. e.reason ≡ UnreadFile.Untaken TakeFault.OutOfMemory) }
 {
     let registry = match read_registry(rt, job.registry.as_str()) {
         Ok(text) => text,
-        Err(fault) => {
+        Err(reason) => {
             return Err(FileRefusal {
-                fault,
+                reason,
                 name: job.registry,
             });
         }
     };
     let second = match read_second(rt, job.command, job.lines, job.second.as_str()) {
         Ok(text) => text,
-        Err(fault) => {
+        Err(reason) => {
             return Err(FileRefusal {
-                fault,
+                reason,
                 name: job.second,
             });
         }
@@ -118,12 +127,12 @@ fn read_second<R: Files + AllocGlobal>(
     command: Command,
     lines: bool,
     word: &str,
-) -> Result<Vec<u8>, FileFault>
+) -> Result<Vec<u8>, UnreadFile>
     ensures text { IfOk result (λ v. IsSecondOf R.File.remaining command lines word.now v.items) }
-    ensures fault { IfErr result (IsFaultOfFiles R.File.remaining) }
+    ensures fault { IfErr result (λ e. IsFaultOfFiles R.File.remaining (fault_of e)) }
     ensures good { (command ≡ Command.Same → lines ≡ true) → (command ≡ Command.Grows → is_registry_text word.now ≡ true)
-        → IsOkUnless result (FileFault.Take TakeFault.OutOfMemory) }
-    ensures named { IfErr result (λ e. e ≢ FileFault.Take TakeFault.OutOfMemory
+        → IsOkUnless result (UnreadFile.Untaken TakeFault.OutOfMemory) }
+    ensures named { IfErr result (λ e. e ≢ UnreadFile.Untaken TakeFault.OutOfMemory
         → ((command ≡ Command.Same) × (lines ≡ false)) ⊎ ((command ≡ Command.Grows) × (is_registry_text word.now ≡ false))) }
 {
     match command {
@@ -142,29 +151,33 @@ fn read_second<R: Files + AllocGlobal>(
 }
 
 // The text of A: nothing, where its lines are compared.
-fn read_first<R: Files + AllocGlobal>(rt: &R, lines: bool, name: &str) -> Result<Vec<u8>, FileFault>
+fn read_first<R: Files + AllocGlobal>(
+    rt: &R,
+    lines: bool,
+    name: &str,
+) -> Result<Vec<u8>, UnreadFile>
     ensures text { IfOk result (λ v. IsFirstText R.File.remaining lines v.items) }
-    ensures fault { IfErr result (IsFaultOfFiles R.File.remaining) }
-    ensures good { lines ≡ true → IsOkUnless result (FileFault.Take TakeFault.OutOfMemory) }
+    ensures fault { IfErr result (λ e. IsFaultOfFiles R.File.remaining (fault_of e)) }
+    ensures good { lines ≡ true → IsOkUnless result (UnreadFile.Untaken TakeFault.OutOfMemory) }
     ensures named { IfErr result (λ _. lines ≡ false) }
 {
     if lines {
         return Ok(Vec::new(rt.alloc()));
     }
-    read_named(rt, name)
+    read_file(rt, name)
 }
 
 // The text of a registry: the word itself, or the content of the file that it names.
-fn read_registry<R: Files + AllocGlobal>(rt: &R, word: &str) -> Result<Vec<u8>, FileFault>
+fn read_registry<R: Files + AllocGlobal>(rt: &R, word: &str) -> Result<Vec<u8>, UnreadFile>
     ensures text { IfOk result (λ v. IsTextOf R.File.remaining word.now v.items) }
-    ensures fault { IfErr result (IsFaultOfFiles R.File.remaining) }
-    ensures good { is_registry_text word.now ≡ true → IsOkUnless result (FileFault.Take TakeFault.OutOfMemory) }
-    ensures named { IfErr result (λ e. e ≢ FileFault.Take TakeFault.OutOfMemory → is_registry_text word.now ≡ false) }
+    ensures fault { IfErr result (λ e. IsFaultOfFiles R.File.remaining (fault_of e)) }
+    ensures good { is_registry_text word.now ≡ true → IsOkUnless result (UnreadFile.Untaken TakeFault.OutOfMemory) }
+    ensures named { IfErr result (λ e. e ≢ UnreadFile.Untaken TakeFault.OutOfMemory → is_registry_text word.now ≡ false) }
 {
     if is_registry_text(word) {
         copy(rt.alloc(), word)
     } else {
-        read_named(rt, word)
+        read_file(rt, word)
     }
 }
 
@@ -174,12 +187,12 @@ fn is_registry_text(word: &str) -> bool
     word.as_bytes().first() == Some(&b'{')
 }
 
-fn copy(alloc: Global, text: &str) -> Result<Vec<u8>, FileFault>
+fn copy(alloc: Global, text: &str) -> Result<Vec<u8>, UnreadFile>
     ensures text { IfOk result (λ v. v.items ≡ text.now) }
-    ensures good { IsOkUnless result (FileFault.Take TakeFault.OutOfMemory) }
+    ensures good { IsOkUnless result (UnreadFile.Untaken TakeFault.OutOfMemory) }
 {
     match Vec::from_slice(alloc, text.as_bytes()) {
         Ok(bytes) => Ok(bytes),
-        Err(AllocError) => Err(FileFault::Take(TakeFault::OutOfMemory)),
+        Err(AllocError) => Err(UnreadFile::Untaken(TakeFault::OutOfMemory)),
     }
 }

@@ -10,6 +10,7 @@ mod open_cause;
 mod origin;
 mod styling;
 mod taking;
+mod unread_file;
 mod work;
 
 pub use fault_places::{input_line, output_line, place_of_file};
@@ -19,4 +20,5 @@ pub use files::{read_named, read_opened, read_work};
 pub use open_cause::OpenCause;
 pub use origin::Origin;
 pub use taking::{TakeFault, take_all};
-pub use work::{Inputs, Outcome, Work};
+pub use unread_file::UnreadFile;
+pub use work::{Inputs, Outcome, Report, Work};

@@ -8,12 +8,12 @@ use bcs_io::ByteSource;
 use std::alloc::Global;
 use thiserror::Error;
 
-/// Why the content of a source was not taken. The message is the variant's name alone.
+/// Why the content of a source was not taken. The message is the variant's name alone, and the variants count from 1.
 #[derive(Clone, Copy, Debug, Drop, PartialEq, Eq, Error)]
 pub enum TakeFault {
     /// The source failed.
     #[error("Read")]
-    Read,
+    Read = 1,
     /// The content has more bytes than are allowed.
     #[error("TooLarge")]
     TooLarge,

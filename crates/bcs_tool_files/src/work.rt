@@ -46,13 +46,19 @@ pub struct Inputs {
 }
 
 /// How a run ended.
-#[derive(Debug, Drop)]
+#[derive(Clone, Copy, Debug, Drop, PartialEq, Eq)]
 pub struct Outcome {
     /// 0 where it is done, 1 where the answer is a no, 2 where it is refused, and 4 where a read, a
     /// write or memory failed or the input is too large.
     pub status: u8,
     /// The line for the standard error: empty except with status 4.
     pub note: &'static str,
+}
+
+/// How a run ended, and where.
+#[derive(Debug, Drop)]
+pub struct Report {
+    pub outcome: Outcome,
     /// Where the refusal stands, and what was wanted there; or which file or stream is at fault: the line for the
     /// standard error behind the note. Empty where there is none.
     pub place: Vec<u8>,

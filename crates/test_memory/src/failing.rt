@@ -10,7 +10,7 @@ use bcs_decode::pieces::PieceSource;
 use bcs_decode::{ByteSource, DecodeFault, SliceSource, decode_all, decode_from};
 use bcs_encode::pieces::PieceSink;
 use bcs_encode::{ByteSink, WriteFault, write};
-use bcs_tool::{Command, Origin, Work, run};
+use bcs_tool::{Command, Work, run};
 use bcs_value::{Value, same};
 use std::alloc::{AllocError, Global};
 
@@ -176,7 +176,7 @@ fn read_told(
 ) -> Told {
     let mut source = PieceSource::new(input.as_bytes(), 1, Some((done as u64).saturating_add(1)));
     let mut out = PieceSink::<256>::new(1, None);
-    let outcome = run(alloc, work, Origin::StandardInput, &mut source, &mut out);
+    let outcome = run(alloc, work, &mut source, &mut out);
     if done > input.len() {
         return Told::of(outcome.status == status && jobs::is_line(out.taken(), line));
     }
@@ -187,7 +187,7 @@ fn read_told(
 fn unread_told(alloc: Global, work: &Work, line: &str, status: u8) -> Told {
     let mut source = PieceSource::new(&[], 1, Some(1));
     let mut out = PieceSink::<256>::new(1, None);
-    let outcome = run(alloc, work, Origin::StandardInput, &mut source, &mut out);
+    let outcome = run(alloc, work, &mut source, &mut out);
     Told::of(outcome.status == status && jobs::is_line(out.taken(), line) && !source.failed())
 }
 
@@ -196,7 +196,7 @@ fn unread_told(alloc: Global, work: &Work, line: &str, status: u8) -> Told {
 fn put_told(alloc: Global, work: &Work, [input, line]: [&str; 2], status: u8, done: usize) -> Told {
     let mut source = SliceSource::new(input.as_bytes());
     let mut out = PieceSink::<256>::new(1, Some((done as u64).saturating_add(1)));
-    let outcome = run(alloc, work, Origin::StandardInput, &mut source, &mut out);
+    let outcome = run(alloc, work, &mut source, &mut out);
     if done > line.len() {
         return Told::of(outcome.status == status && jobs::is_line(out.taken(), line));
     }

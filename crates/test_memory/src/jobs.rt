@@ -4,7 +4,7 @@ use crate::tally::Tally;
 use crate::told::Told;
 use bcs_decode::SliceSource;
 use bcs_encode::pieces::PieceSink;
-use bcs_tool::{Command, Form, Origin, Outcome, Paint, Style, Work, run};
+use bcs_tool::{Command, Form, Outcome, Paint, Style, Work, run};
 use bcs_value::Limits;
 use std::alloc::{AllocError, Global};
 use std::str;
@@ -51,7 +51,6 @@ pub(crate) fn ask(
     let outcome = run(
         alloc,
         work,
-        Origin::StandardInput,
         &mut SliceSource::new(input.as_bytes()),
         &mut out,
     );
@@ -59,7 +58,6 @@ pub(crate) fn ask(
         Outcome {
             status: 4,
             note: "fault: memory",
-            ..
         } if out.taken().is_empty() => Told::NoMemory,
         ended => Told::of(ended.status == status && is_line(out.taken(), answer)),
     };

@@ -5,7 +5,9 @@ use crate::row_fault::RowFault;
 use crate::words::{bytes, word_of};
 use bcs_decode::pieces::PieceSource;
 use bcs_encode::pieces::PieceSink;
-use bcs_tool::{ByteSource, Command, Form, Origin, Outcome, Paint, Style, Work, run, run_pairs};
+use bcs_tool::{
+    ByteSource, Command, Form, Origin, Outcome, Paint, Report, Style, Work, run_from, run_pairs,
+};
 use bcs_value::Limits;
 use std::alloc::{AllocError, Global};
 use std::str;
@@ -330,14 +332,14 @@ fn with_input(alloc: Global, asked: ValueJob<'_>, input: &str) -> Result<String,
     let work = work_of(alloc, asked)?;
     let input = bytes(alloc, input)?;
     let mut out = PieceSink::<1000>::new(7, None);
-    let outcome = run(
+    let report = run_from(
         alloc,
         &work,
         Origin::StandardInput,
         &mut PieceSource::new(&input, 3, None),
         &mut out,
     );
-    told(alloc, outcome, out.taken())
+    told(alloc, report, out.taken())
 }
 
 // Two files that are compared line by line.
@@ -359,7 +361,7 @@ fn with_pairs(
         &mut out,
     );
     match result {
-        Ok(outcome) => told(alloc, outcome, out.taken()),
+        Ok(report) => told(alloc, report, out.taken()),
         Err(_) => Err(RowFault::Disagreement("fault")),
     }
 }
@@ -368,20 +370,19 @@ fn with_pairs(
 fn without_input(alloc: Global, work: &Work) -> Result<String, RowFault> {
     let mut input = PieceSource::new(b"x", 1, Some(1));
     let mut out = PieceSink::<1000>::new(7, None);
-    let outcome = run(alloc, work, Origin::StandardInput, &mut input, &mut out);
+    let report = run_from(alloc, work, Origin::StandardInput, &mut input, &mut out);
     if input.failed() {
         return Err(RowFault::Disagreement("input"));
     }
-    told(alloc, outcome, out.taken())
+    told(alloc, report, out.taken())
 }
 
 // The status, what was put, and the note or the place where there is one.
-fn told(alloc: Global, outcome: Outcome, output: &[u8]) -> Result<String, RowFault> {
-    let Outcome {
-        status,
-        note,
+fn told(alloc: Global, report: Report, output: &[u8]) -> Result<String, RowFault> {
+    let Report {
+        outcome: Outcome { status, note },
         place,
-    } = outcome;
+    } = report;
     let output = match str::from_utf8(output) {
         Ok(text) => format!(in alloc; "{text:?}")?,
         Err(_) => word_of(alloc, output)?,

@@ -2,7 +2,7 @@
 use bcs_decode::ByteSource;
 use bcs_decode::pieces::RepeatSource;
 use bcs_encode::pieces::PieceSink;
-use bcs_tool::{Command, Form, Origin, Paint, Style, Work, run};
+use bcs_tool::{Command, Form, Paint, Style, Work, run};
 use bcs_value::Limits;
 use std::alloc::{AllocError, Global};
 use std::test::Fail;
@@ -48,13 +48,7 @@ fn an_endless_input(rt: HostRuntime) -> Result<(), Fail> {
     let work = encoding(rt.alloc())?;
     let mut input = RepeatSource::new(b' ');
     let mut out = PieceSink::<16>::new(1, None);
-    let outcome = run(
-        rt.alloc(),
-        &work,
-        Origin::StandardInput,
-        &mut input,
-        &mut out,
-    );
+    let outcome = run(rt.alloc(), &work, &mut input, &mut out);
     assert!(rt; outcome.status == 4 && outcome.note == "fault: too large");
     assert!(rt; out.taken().is_empty());
     assert!(rt; input.given() == 268435457);
@@ -67,13 +61,7 @@ fn an_endless_line(rt: HostRuntime) -> Result<(), Fail> {
     let work = job_for_lines(rt.alloc(), Command::Encode, "\"I16\"")?;
     let mut input = RepeatSource::new(b' ');
     let mut out = PieceSink::<16>::new(1, None);
-    let outcome = run(
-        rt.alloc(),
-        &work,
-        Origin::StandardInput,
-        &mut input,
-        &mut out,
-    );
+    let outcome = run(rt.alloc(), &work, &mut input, &mut out);
     assert!(rt; outcome.status == 4 && outcome.note == "fault: too large");
     assert!(rt; out.taken().is_empty());
     assert!(rt; input.given() == 268435456 + 65536);

@@ -1,6 +1,6 @@
 //! Files that are named, and the work of jobs.
 use bcs_tool::{
-    Color, Command, FileFault, Form, Job, OpenCause, Paint, Work, read_named, read_work,
+    Color, Command, FileFault, Form, Job, OpenCause, Paint, UnreadFile, Work, read_named, read_work,
 };
 use bcs_value::Limits;
 use std::alloc::{AllocError, Global};
@@ -16,7 +16,7 @@ fn named_files(rt: HostRuntime) -> Result<(), Fail> {
     assert!(rt; bytes == content);
     fs::remove_file(&rt, "bcs_tool_named.test")?;
     let answer = read_named(&rt, "bcs_tool_named.test");
-    assert!(rt; matches!(answer, Err(FileFault::Open(OpenCause::Missing))));
+    assert!(rt; matches!(answer, Err(FileFault::Open)));
     Ok(())
 }
 
@@ -82,5 +82,16 @@ fn work_of_a_job_for_pairs_of_lines(rt: HostRuntime) -> Result<(), Fail> {
     assert!(rt; work.lines && work.second.is_empty());
     assert!(rt; inputs.first.as_deref() == Some("bcs_tool_second.test"));
     assert!(rt; inputs.file.as_deref() == Some("I"));
+    Ok(())
+}
+
+// The file that the second word names isn't there.
+#[test]
+fn work_of_a_job_without_its_file(rt: HostRuntime) -> Result<(), Fail> {
+    let mut job = job(rt.alloc(), Command::Grows)?;
+    job.second = String::from_str(rt.alloc(), "bcs_tool_missing.test")?;
+    let answer = read_work(&rt, job);
+    let missing = UnreadFile::Unopened(OpenCause::Missing);
+    assert!(rt; matches!(answer, Err(refusal) if refusal.reason == missing));
     Ok(())
 }

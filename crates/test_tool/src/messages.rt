@@ -1,5 +1,5 @@
-//! The messages of faults, which are their names, and the notes of files' faults.
-use bcs_tool::{FileFault, LineFault, OpenCause, TakeFault};
+//! The messages of faults, which are their names, and the numbers and notes of those of files.
+use bcs_tool::{FileFault, LineFault, OpenCause, TakeFault, UnreadFile};
 use std::alloc::AllocGlobal;
 use std::fmt::Display;
 use std::process::Abort;
@@ -10,27 +10,52 @@ fn is_named(rt: &(impl Abort + AllocGlobal), fault: &impl Display, name: &str) -
     Ok(())
 }
 
-// A fault in taking a content, alone and as a file's.
-fn is_noted(
+// A fault of a file: its number, its name and its note.
+fn is_told(
     rt: &(impl Abort + AllocGlobal),
-    fault: TakeFault,
+    fault: FileFault,
+    number: u8,
     name: &str,
     note: &str,
 ) -> Result<(), Fail> {
-    is_named(rt, &fault, name)?;
-    let fault = FileFault::Take(fault);
+    assert!(rt; fault as u8 == number);
     assert!(rt; fault.note() == note);
     is_named(rt, &fault, name)
 }
 
 #[test]
 fn of_files(rt: HostRuntime) -> Result<(), Fail> {
-    let missing = FileFault::Open(OpenCause::Missing);
-    assert!(rt; missing.note() == "fault: open");
+    is_told(&rt, FileFault::Open, 1, "Open", "fault: open")?;
+    is_told(&rt, FileFault::Read, 2, "Read", "fault: read")?;
+    is_told(&rt, FileFault::TooLarge, 3, "TooLarge", "fault: too large")?;
+    is_told(
+        &rt,
+        FileFault::OutOfMemory,
+        4,
+        "OutOfMemory",
+        "fault: memory",
+    )
+}
+
+#[test]
+fn of_contents(rt: HostRuntime) -> Result<(), Fail> {
+    for (fault, number, name, note) in [
+        (TakeFault::Read, 1, "Read", "fault: read"),
+        (TakeFault::TooLarge, 2, "TooLarge", "fault: too large"),
+        (TakeFault::OutOfMemory, 3, "OutOfMemory", "fault: memory"),
+    ] {
+        assert!(rt; fault as u8 == number);
+        assert!(rt; fault.note() == note);
+        is_named(&rt, &fault, name)?;
+    }
+    Ok(())
+}
+
+#[test]
+fn of_unread_files(rt: HostRuntime) -> Result<(), Fail> {
+    let missing = UnreadFile::Unopened(OpenCause::Missing);
     is_named(&rt, &missing, "Open")?;
-    is_noted(&rt, TakeFault::Read, "Read", "fault: read")?;
-    is_noted(&rt, TakeFault::TooLarge, "TooLarge", "fault: too large")?;
-    is_noted(&rt, TakeFault::OutOfMemory, "OutOfMemory", "fault: memory")
+    is_named(&rt, &UnreadFile::Untaken(TakeFault::Read), "Read")
 }
 
 #[test]

@@ -142,7 +142,7 @@ fn each_read_and_write_of_pairs_failing(rt: HostRuntime) -> Result<(), Fail> {
         let mut second = PieceSource::new(second.as_bytes(), 2, fails[1]);
         let mut out = PieceSink::<80>::new(80, fails[2]);
         let ended = match run_pairs(rt.alloc(), &work, &mut first, &mut second, &mut out) {
-            Ok(outcome) => Done(outcome.status),
+            Ok(report) => Done(report.outcome.status),
             Err(broken) => Broken(
                 broken.side,
                 broken.interruption.fault.note(),

@@ -2,7 +2,7 @@ use Rattle.std.proofs.Common.{Result, [], refl, subst}
 use Rattle.bcs_tool_answers.specs.Preparing.{IsPrepared}
 use Rattle.bcs_tool_answers.specs.declared.preparing.Prepared.{Prepared}
 use Rattle.bcs_tool_files.specs.declared.taking.TakeFault.TheVariants.{OutOfMemory}
-use Rattle.bcs_tool_files.specs.declared.work.Outcome.{Outcome}
+use Rattle.bcs_tool_files.specs.declared.work.Report.{Report}
 use Rattle.bcs_tool.specs.Pairs.{EndsPairs}
 use Rattle.bcs_tool.specs.declared.pair_interruption.PairInterruption.{PairInterruption}
 use Rattle.bcs_tool.specs.declared.pair_interruption.Side.TheVariants.{First}
@@ -13,7 +13,7 @@ use Rattle.bcs_tool.proofs.pair_running.run_pairs.Goals as goal
 
 pub returns-in_err-answer-clause-ends : goal.returns-in_err-answer-clause-ends
 returns-in_err-answer-clause-ends g c =
-    let P : Result Outcome PairInterruption → Type 0 = λ r. EndsPairs g.F.ByteSource.content g.F.ByteSource.is_failed g.F.ByteSource.allowance g.S.ByteSource.content g.S.ByteSource.is_failed g.S.ByteSource.allowance g.K.ByteSink.taken g.K.ByteSink.is_failed c.args.work.now
+    let P : Result Report PairInterruption → Type 0 = λ r. EndsPairs g.F.ByteSource.content g.F.ByteSource.is_failed g.F.ByteSource.allowance g.S.ByteSource.content g.S.ByteSource.is_failed g.S.ByteSource.allowance g.K.ByteSink.taken g.K.ByteSink.is_failed c.args.work.now
     c.args.first.now c.args.first.now c.args.second.now c.args.second.now c.args.out.now c.args.out.now r in
     handed_on P c.from_residual.result (record { side = First; interruption = record { fault = Take OutOfMemory; answered = 0 } }) c.from_residual.ensures.1
     (no_memory_for_pairs g.F.ByteSource.content g.F.ByteSource.is_failed g.F.ByteSource.allowance g.S.ByteSource.content g.S.ByteSource.is_failed g.S.ByteSource.allowance g.K.ByteSink.taken g.K.ByteSink.is_failed c.args.work.now c.args.first.now c.args.second.now c.args.out.now)
@@ -23,7 +23,7 @@ returns-in_err-put_answer-in-Answered-clause-ends g c =
     let work = c.args.work.now in
     let e = c.in_err-put_answer-in-Answered.field-0.0 in
     let is = subst (λ (p : Prepared). IsPrepared work p) c.in-Answered.is c.in_ok-answer.ensures in
-    let P : Result Outcome PairInterruption → Type 0 = λ r. EndsPairs g.F.ByteSource.content g.F.ByteSource.is_failed g.F.ByteSource.allowance g.S.ByteSource.content g.S.ByteSource.is_failed g.S.ByteSource.allowance g.K.ByteSink.taken g.K.ByteSink.is_failed work
+    let P : Result Report PairInterruption → Type 0 = λ r. EndsPairs g.F.ByteSource.content g.F.ByteSource.is_failed g.F.ByteSource.allowance g.S.ByteSource.content g.S.ByteSource.is_failed g.S.ByteSource.allowance g.K.ByteSink.taken g.K.ByteSink.is_failed work
     c.args.first.now c.args.first.now c.args.second.now c.args.second.now c.args.out.now c.put_answer.new.out r in
     handed_on P c.from_residual-in_err-put_answer-in-Answered.result (record { side = First; interruption = e }) c.from_residual-in_err-put_answer-in-Answered.ensures.1
     (refused_pairs_part g.F.ByteSource.content g.F.ByteSource.is_failed g.F.ByteSource.allowance g.S.ByteSource.content g.S.ByteSource.is_failed g.S.ByteSource.allowance g.K.ByteSink.taken g.K.ByteSink.is_failed work c.args.first.now c.args.second.now c.args.out.now c.put_answer.new.out

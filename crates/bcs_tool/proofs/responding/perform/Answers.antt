@@ -3,7 +3,7 @@ use Rattle.std.specs.Prelude.{String, string_bytes}
 use Rattle.std.specs.declared.alloc.Global.{Global}
 use Rattle.bcs_tool_answers.proofs.AnswerLemmas.{if_some_holds}
 use Rattle.bcs_tool_files.specs.FaultPlaces.{TellsPlace, file_place}
-use Rattle.bcs_tool_files.specs.Files.{ComparesLines}
+use Rattle.bcs_tool_files.specs.Files.{ComparesLines, file_note}
 use Rattle.bcs_tool.specs.Endings.{PerformsOne, PerformsPairs, lacks_file, over_one, over_pairs}
 use Rattle.bcs_tool.proofs.responding.perform.Goals as goal
 
@@ -14,11 +14,11 @@ returns-in-Err g c =
     let name = string_bytes refusal.name in
     let of = c.in-Err.ensures.fault in
     lacks_file (record {
-      fault = refusal.fault;
+      unread = refusal.reason;
       name = name;
       status = c.failed.ensures.status;
-      note = c.failed.ensures.note ∙ c.note.ensures;
-      place = subst (λ (place : List ℕ). TellsPlace job.quiet (file_place refusal.fault name) place) (sym c.failed.ensures.place) c.place.ensures;
+      note = c.failed.ensures.note ∙ c.note.ensures ∙ ap file_note c.from-fault.ensures;
+      place = subst (λ (place : List ℕ). TellsPlace job.quiet (file_place refusal.reason name) place) (sym c.failed.ensures.place) c.place.ensures;
       named = of.1;
       known = of.0;
       needed = c.in-Err.ensures.good;

@@ -9,8 +9,8 @@ use Rattle.bcs_tool.proofs.responding.perform_one.Goals as goal
 pub returns-in-Ok : goal.returns-in-Ok
 returns-in-Ok g c =
     let P : List ℕ → Type 0 = λ text. Runs (λ s. g.R.File.Read.remaining (reader_of s)) failed allowance_of g.O.ByteSink.taken g.O.ByteSink.is_failed
-    c.args.work.now (file_text text) c.new.result c.run-in-Ok.new.input c.args.out.now c.run-in-Ok.new.out c.run-in-Ok.result in
-    over_file c.in-Some.name c.new.result c.run-in-Ok.new.input c.in-Some.is (subst P c.as_str-name.ensures.value c.run-in-Ok.ensures) refl
+    c.args.work.now (file_text text) c.new.result c.run_from-in-Ok.new.input c.args.out.now c.run_from-in-Ok.new.out c.run_from-in-Ok.result in
+    over_file c.in-Some.name c.new.result c.run_from-in-Ok.new.input c.in-Some.is (subst P c.as_str-name.ensures.value c.run_from-in-Ok.ensures) refl
 
 -- a file that isn't there
 pub returns : goal.returns

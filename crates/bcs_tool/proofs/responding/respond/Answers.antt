@@ -1,20 +1,20 @@
 use Rattle.std.proofs.Common.{inl, inr, refl, subst}
 use Rattle.bcs_tool_line.specs.declared.line_fault.LineFault.{LineFault}
 use Rattle.bcs_tool.specs.Endings.{TellsFault}
-use Rattle.bcs_tool.proofs.EndingLemmas.{fault_status, outcome_status}
+use Rattle.bcs_tool.proofs.EndingLemmas.{fault_status, report_status}
 use Rattle.bcs_tool.proofs.responding.respond.Goals as goal
 
 pub returns-in-Ok-clause-status : goal.returns-in-Ok-clause-status
 returns-in-Ok-clause-status g c =
-    outcome_status g.S.ByteSource.content g.S.ByteSource.is_failed g.S.ByteSource.allowance g.O.ByteSink.taken g.O.ByteSink.is_failed g.R.File.Read.remaining
-    _ _ _ _ _ c.perform.result _ c.perform.ensures c.tell_outcome.ensures.0
+    report_status g.S.ByteSource.content g.S.ByteSource.is_failed g.S.ByteSource.allowance g.O.ByteSink.taken g.O.ByteSink.is_failed g.R.File.Read.remaining
+    _ _ _ _ _ c.perform.result _ c.perform.ensures c.tell_report.ensures.0
 
 pub returns-in-Ok-clause-no_job : goal.returns-in-Ok-clause-no_job
 returns-in-Ok-clause-no_job g c = λ wrong. absurd (wrong c.in-Ok.ensures.taken)
 
 pub returns-in-Ok-clause-job : goal.returns-in-Ok-clause-job
 returns-in-Ok-clause-job g c =
-    λ good. inr (c.in-Ok.job, c.perform.result, c.in-Ok.ensures.job, c.perform.ensures, c.tell_outcome.ensures)
+    λ good. inr (c.in-Ok.job, c.perform.result, c.in-Ok.ensures.job, c.perform.ensures, c.tell_report.ensures)
 
 pub returns-in-Err-clause-status : goal.returns-in-Err-clause-status
 returns-in-Err-clause-status g c =

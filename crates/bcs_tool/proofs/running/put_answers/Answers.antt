@@ -2,7 +2,7 @@ use Rattle.std.proofs.Common.{Result, inl, refl, subst}
 use Rattle.bcs_tool_answers.specs.Preparing.{IsPrepared}
 use Rattle.bcs_tool_answers.specs.declared.preparing.Prepared.{Prepared}
 use Rattle.bcs_tool_files.specs.declared.taking.TakeFault.TheVariants.{OutOfMemory}
-use Rattle.bcs_tool_files.specs.declared.work.Outcome.{Outcome}
+use Rattle.bcs_tool_files.specs.declared.work.Report.{Report}
 use Rattle.bcs_tool.specs.Running.{Ends}
 use Rattle.bcs_tool.specs.declared.interruption.Interruption.{Interruption}
 use Rattle.bcs_tool.specs.declared.run_fault.RunFault.TheVariants.{Take}
@@ -12,7 +12,7 @@ use Rattle.bcs_tool.proofs.running.put_answers.Goals as goal
 pub returns-in_err-answer-clause-ends : goal.returns-in_err-answer-clause-ends
 returns-in_err-answer-clause-ends g c =
     let work = c.args.work.now in
-    let P : Result Outcome Interruption → Type 0 = λ r. Ends g.S.ByteSource.content g.S.ByteSource.is_failed g.S.ByteSource.allowance g.K.ByteSink.taken g.K.ByteSink.is_failed
+    let P : Result Report Interruption → Type 0 = λ r. Ends g.S.ByteSource.content g.S.ByteSource.is_failed g.S.ByteSource.allowance g.K.ByteSink.taken g.K.ByteSink.is_failed
     work c.args.input.now c.args.input.now c.args.out.now c.args.out.now r in
     handed_on P c.from_residual.result (record { fault = Take OutOfMemory; answered = 0 }) c.from_residual.ensures.1
     (no_memory g.S.ByteSource.content g.S.ByteSource.is_failed g.S.ByteSource.allowance g.K.ByteSink.taken g.K.ByteSink.is_failed work

@@ -2,7 +2,7 @@ use Rattle.std.proofs.Common.{◌∙◌, ◌≤◌, Err, List, Result, ap, arith
 use Rattle.bcs_tool_answers.specs.Places.{IsAnswer}
 use Rattle.bcs_tool_files.specs.Files.{size_limit}
 use Rattle.bcs_tool_files.specs.declared.taking.TakeFault.TheVariants.{OutOfMemory}
-use Rattle.bcs_tool_files.specs.declared.work.Outcome.{Outcome}
+use Rattle.bcs_tool_files.specs.declared.work.Report.{Report}
 use Rattle.bcs_tool.specs.Running.{Ends}
 use Rattle.bcs_tool.specs.declared.interruption.Interruption.{Interruption}
 use Rattle.bcs_tool.specs.declared.run_fault.RunFault.TheVariants.{Take}
@@ -15,7 +15,7 @@ returns-in_err-bytes g c =
     let fault = c.in_err-bytes.field-0.0 in
     let is = c.in_err-bytes.was in
     let e = c.take_all.ensures in
-    let P : Result Outcome Interruption → Type 0 = λ r. Ends g.S.ByteSource.content g.S.ByteSource.is_failed g.S.ByteSource.allowance g.K.ByteSink.taken g.K.ByteSink.is_failed
+    let P : Result Report Interruption → Type 0 = λ r. Ends g.S.ByteSource.content g.S.ByteSource.is_failed g.S.ByteSource.allowance g.K.ByteSink.taken g.K.ByteSink.is_failed
     work c.args.input.now c.take_all.new.input c.args.out.now c.args.out.now r in
     handed_on P c.from_residual.result (record { fault = Take fault; answered = 0 }) c.from_residual.ensures.1
     (not_taken g.S.ByteSource.content g.S.ByteSource.is_failed g.S.ByteSource.allowance g.K.ByteSink.taken g.K.ByteSink.is_failed work
@@ -28,7 +28,7 @@ returns-in_err-answer g c =
     let bytes = c.in_ok-bytes.bytes.items in
     let whole = c.in_ok-bytes.ensures.whole in
     let within : length bytes ≤ size_limit = omega (arith, c.in_ok-bytes.ensures.within) in
-    let P : Result Outcome Interruption → Type 0 = λ r. Ends g.S.ByteSource.content g.S.ByteSource.is_failed g.S.ByteSource.allowance g.K.ByteSink.taken g.K.ByteSink.is_failed
+    let P : Result Report Interruption → Type 0 = λ r. Ends g.S.ByteSource.content g.S.ByteSource.is_failed g.S.ByteSource.allowance g.K.ByteSink.taken g.K.ByteSink.is_failed
     work c.args.input.now c.take_all.new.input c.args.out.now c.args.out.now r in
     handed_on P c.from_residual-in_err-answer.result (record { fault = Take OutOfMemory; answered = 0 }) c.from_residual-in_err-answer.ensures.1
     (no_memory g.S.ByteSource.content g.S.ByteSource.is_failed g.S.ByteSource.allowance g.K.ByteSink.taken g.K.ByteSink.is_failed work
