@@ -1,6 +1,8 @@
 #!/usr/bin/env python3
 """Runs a program at the edges of its sizes: sizes.py BCS. Prints the status, the first bytes of the answer, processor
-seconds, and the most memory, also as a multiple of the input. The stack is 8 MiB, and the memory 6 GiB."""
+seconds, and the most memory, also as a multiple of the input. The stack is 8 MiB, and the memory 6 GiB.
+
+With --bounds it runs jobs over many lines alone, within 16 MiB and 5 processor seconds, and fails where one doesn't end so."""
 
 import os
 import resource
@@ -76,6 +78,13 @@ def cases():
     yield "part, the last of 32 Mi numbers", ["part", "--raw", "{}", '{"SEQ":"U16"}', str(32 * MIB - 1)], lambda: uleb(32 * MIB) + b"ab" * (32 * MIB)
 
 
+def bounded():
+    """Jobs over many lines: memory is that of the longest line, whatever the size of the input, and the registry is read once."""
+    registry = containers(10_000 * 32).decode()
+    yield "lines, 200,000 of 100 bytes", ["encode", "--lines", "{}", '"STR"'], lambda: (b'"' + b"a" * 97 + b'"\n') * 200_000
+    yield "lines, 20,000 at a registry of 10,000 containers", ["encode", "--lines", registry, "C0009999"], lambda: b"7\n" * 20_000
+
+
 def uleb(number):
     digits = []
     while number >= 128:
@@ -101,12 +110,13 @@ def members(count):
     return ("{" + ",".join(f'"f{number}":1' for number in range(count)) + "}").encode()
 
 
-def limit():
+def limit(memory=MEMORY, time=resource.RLIM_INFINITY):
     resource.setrlimit(resource.RLIMIT_STACK, (STACK, STACK))
-    resource.setrlimit(resource.RLIMIT_AS, (MEMORY, MEMORY))
+    resource.setrlimit(resource.RLIMIT_CPU, (time, time))
+    resource.setrlimit(resource.RLIMIT_AS, (memory, memory))
 
 
-def run(program, words, given):
+def run(program, words, given, *bounds):
     with tempfile.NamedTemporaryFile() as file, tempfile.NamedTemporaryFile() as registry:
         file.write(given)
         file.flush()
@@ -119,7 +129,7 @@ def run(program, words, given):
                 words[place] = registry.name
         file.seek(0)
         process = subprocess.Popen([program, *words], stdin=file, stdout=subprocess.PIPE, stderr=subprocess.PIPE,
-                                   preexec_fn=limit)
+                                   preexec_fn=lambda: limit(*bounds))
         answer = process.stdout.read(24)
         while process.stdout.read(MIB):
             pass
@@ -163,7 +173,15 @@ def run_stream(program, words, blocks):
     return os.waitstatus_to_exitcode(status), answer or note, usage
 
 
+def ends_within_bounds(program, name, words, given):
+    status, answer, usage = run(program, words, given, 16 * MIB, 5)
+    print(f"sizes: {name}: status {status}, {usage.ru_utime + usage.ru_stime:.2f} processor seconds", flush=True)
+    return status == 0
+
+
 def main():
+    if sys.argv[2:] == ["--bounds"]:
+        sys.exit(not all([ends_within_bounds(sys.argv[1], name, words, make()) for name, words, make in bounded()]))
     print("| Case | Input, MB | Status | Answer begins | Processor s | MiB | MiB for each MiB of input |")
     print("|---|---|---|---|---|---|---|")
     for name, words, make in cases():
