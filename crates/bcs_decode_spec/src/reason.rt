@@ -8,7 +8,7 @@ use std::fmt;
 #[derive(Clone, Copy, Debug, Drop, PartialEq, Eq)]
 pub enum Reason {
     /// The bytes end within the value.
-    EndOfInput,
+    EndOfInput = 1,
     /// A truth value's byte is above `01`.
     BadBool,
     /// An option's byte is above `01`.

@@ -10,25 +10,25 @@ use thiserror::Error;
 pub enum EncodeFault {
     /// The value isn't one of the format, even if every value were let stand at `F32`, `F64` and `CHAR`.
     #[error("NotOfFormat")]
-    NotOfFormat,
+    NotOfFormat = 1,
     /// The value is one of the format only if every value may stand at `F32`, `F64` and `CHAR`.
     #[error("Unsupported")]
-    Unsupported,
+    Unsupported = 5,
     /// More containers stand in one another than the limits allow.
     #[error("TooDeep")]
-    TooDeep,
+    TooDeep = 2,
     /// The value has more nodes than the limits allow.
     #[error("TooManyNodes")]
-    TooManyNodes,
+    TooManyNodes = 8,
     /// A list, a map, a text or a byte string is longer than 2147483647.
     #[error("TooLong")]
-    TooLong,
+    TooLong = 3,
     /// Two keys of one map are the same value.
     #[error("RepeatedKey")]
-    RepeatedKey,
+    RepeatedKey = 4,
     /// Memory ran out.
     #[error("OutOfMemory")]
-    OutOfMemory,
+    OutOfMemory = 6,
 }
 
 impl From<AllocError> for EncodeFault {

@@ -13,7 +13,9 @@ use Rattle.bcs_json_spec.specs.JsonContent.{of}
 use Rattle.bcs_json_spec.specs.Shown.{shown}
 use Rattle.bcs_json_spec.specs.Texts.{nesting_limit, Denotes, IsTextOf}
 use Rattle.bcs_json.specs.declared.print_fault.PrintFault.{PrintFault}
-use Rattle.bcs_json.specs.declared.print_fault.PrintFault.TheVariants.{Encode, TooNested}
+use Rattle.bcs_encode_spec.specs.declared.fault.EncodeFault.{EncodeFault}
+use Rattle.bcs_encode_spec.specs.declared.fault.EncodeFault.TheVariants as encoding
+use Rattle.bcs_json.specs.declared.print_fault.PrintFault.TheVariants.{NotOfFormat, Unsupported, TooDeep, TooManyNodes, TooLong, RepeatedKey, TooNested, OutOfMemory}
 
 -- the text is what is shown of the canonical form of t, and denotes this form
 pub record Prints (registry : Entries) (limits : Bounds) (s : Shape) (t : Tree) (text : List ℕ) : Type 0 where
@@ -29,7 +31,23 @@ pub record IsShownTooDeep (registry : Entries) (limits : Bounds) (s : Shape) (t 
   pub is_form : IsForm registry (container.of s) t form
   pub too_deep : nesting_limit < depth (shown registry form (of s))
 
+-- why a value is not encoded, as why it is not printed
+abbrev pub fault_of : EncodeFault → PrintFault
+fault_of encoding.NotOfFormat = NotOfFormat
+fault_of encoding.Unsupported = Unsupported
+fault_of encoding.TooDeep = TooDeep
+fault_of encoding.TooManyNodes = TooManyNodes
+fault_of encoding.TooLong = TooLong
+fault_of encoding.RepeatedKey = RepeatedKey
+fault_of encoding.OutOfMemory = OutOfMemory
+
 -- the value has no text, for this reason: it has no encoding, or its text would nest too deep
 abbrev pub PrintRefuses : Entries → Bounds → Shape → Tree → PrintFault → Type 0
-PrintRefuses registry limits s t (Encode e) = encode.Refuses registry limits s t e
+PrintRefuses registry limits s t NotOfFormat = encode.Refuses registry limits s t encoding.NotOfFormat
+PrintRefuses registry limits s t Unsupported = encode.Refuses registry limits s t encoding.Unsupported
+PrintRefuses registry limits s t TooDeep = encode.Refuses registry limits s t encoding.TooDeep
+PrintRefuses registry limits s t TooManyNodes = encode.Refuses registry limits s t encoding.TooManyNodes
+PrintRefuses registry limits s t TooLong = encode.Refuses registry limits s t encoding.TooLong
+PrintRefuses registry limits s t RepeatedKey = encode.Refuses registry limits s t encoding.RepeatedKey
+PrintRefuses registry limits s t OutOfMemory = encode.Refuses registry limits s t encoding.OutOfMemory
 PrintRefuses registry limits s t TooNested = IsShownTooDeep registry limits s t

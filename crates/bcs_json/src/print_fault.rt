@@ -1,39 +1,57 @@
 //! What keeps a value from being printed.
+ghost use Rattle.std.specs.Prelude.{◌≡◌};
 
 use bcs_encode::EncodeFault;
 use std::alloc::AllocError;
 use thiserror::Error;
 
-/// Why a value has no text. The message of `TooNested` is its name, that of `Encode` the name of the encoder's fault.
+/// Why a value has no text, in the order in which it is told: it has no encoding, as `EncodeFault` says, or its text would
+/// nest too deep. The message is the variant's name alone.
 #[derive(Clone, Copy, Debug, PartialEq, Eq, Error)]
 pub enum PrintFault {
-    /// The value has no encoding, so it has no canonical form.
-    #[error(transparent)]
-    Encode(EncodeFault),
+    #[error("NotOfFormat")]
+    NotOfFormat = 1,
+    #[error("Unsupported")]
+    Unsupported = 5,
+    #[error("TooDeep")]
+    TooDeep = 2,
+    #[error("TooManyNodes")]
+    TooManyNodes = 8,
+    #[error("TooLong")]
+    TooLong = 3,
+    #[error("RepeatedKey")]
+    RepeatedKey = 4,
     /// The arrays and objects of its text would nest more than 100 deep.
     #[error("TooNested")]
-    TooNested,
+    TooNested = 7,
+    #[error("OutOfMemory")]
+    OutOfMemory = 6,
 }
 
 impl From<EncodeFault> for PrintFault {
-    ghost use Rattle.std.specs.Prelude.{◌≡◌};
-    ghost use Rattle.bcs_json.specs.declared.print_fault.PrintFault.TheVariants.{Encode};
+    ghost use Rattle.bcs_json.specs.Printing.{fault_of};
 
-    ghost from_gives = { λ fault result. result ≡ Encode fault };
+    ghost from_gives = { λ fault result. result ≡ fault_of fault };
 
     fn from(fault: EncodeFault) -> Self {
-        PrintFault::Encode(fault)
+        match fault {
+            EncodeFault::NotOfFormat => PrintFault::NotOfFormat,
+            EncodeFault::Unsupported => PrintFault::Unsupported,
+            EncodeFault::TooDeep => PrintFault::TooDeep,
+            EncodeFault::TooManyNodes => PrintFault::TooManyNodes,
+            EncodeFault::TooLong => PrintFault::TooLong,
+            EncodeFault::RepeatedKey => PrintFault::RepeatedKey,
+            EncodeFault::OutOfMemory => PrintFault::OutOfMemory,
+        }
     }
 }
 
 impl From<AllocError> for PrintFault {
-    ghost use Rattle.std.specs.Prelude.{◌≡◌};
-    ghost use Rattle.bcs_encode_spec.specs.declared.fault.EncodeFault.TheVariants.{OutOfMemory};
-    ghost use Rattle.bcs_json.specs.declared.print_fault.PrintFault.TheVariants.{Encode};
+    ghost use Rattle.bcs_json.specs.declared.print_fault.PrintFault.TheVariants.{OutOfMemory};
 
-    ghost from_gives = { λ _ result. result ≡ Encode OutOfMemory };
+    ghost from_gives = { λ _ result. result ≡ OutOfMemory };
 
     fn from(_: AllocError) -> Self {
-        PrintFault::Encode(EncodeFault::OutOfMemory)
+        PrintFault::OutOfMemory
     }
 }

@@ -2,11 +2,10 @@
 ghost use Rattle.std.specs.Prelude.{◌≡◌, ◌≢◌, IfErr, IfOk, OnOk, string_bytes};
 ghost use Rattle.bcs_encode_spec.specs.Refused.{IsSoundBesidesKeys};
 ghost use Rattle.bcs_encode_spec.specs.Sound.{IsSound};
-ghost use Rattle.bcs_encode_spec.specs.declared.fault.EncodeFault.TheVariants.{OutOfMemory};
 ghost use Rattle.bcs_registry_formats.specs.View.{shape_of};
 ghost use Rattle.bcs_value_tree.specs.View.{tree_of};
 ghost use Rattle.bcs_json.specs.Printing.{Prints, PrintRefuses};
-ghost use Rattle.bcs_json.specs.declared.print_fault.PrintFault.TheVariants.{Encode};
+ghost use Rattle.bcs_json.specs.declared.print_fault.PrintFault.TheVariants.{OutOfMemory};
 
 use crate::print_fault::PrintFault;
 use bcs_encode::canonicalise;
@@ -19,8 +18,8 @@ use std::alloc::Global;
 
 /// The one text of a sound value: the compact JSON of its canonical form.
 ///
-/// `Encode`: the value is refused as `encode` refuses it. `TooNested`: it is sound, and the arrays and objects of its
-/// text would nest more than 100 deep.
+/// The value is refused as `encode` refuses it. `TooNested`: it is sound, and the arrays and objects of its text would nest
+/// more than 100 deep.
 pub fn print_value(
     alloc: Global,
     registry: &Registry,
@@ -30,8 +29,8 @@ pub fn print_value(
 ) -> Result<String, PrintFault>
     ensures sound { OnOk result (IsSound registry.now limits.now (shape_of format.now) (tree_of value.now)) }
     ensures prints { IfOk result (λ s. Prints registry.now limits.now (shape_of format.now) (tree_of value.now) (string_bytes s)) }
-    ensures fault { IfErr result (λ e. e ≢ Encode OutOfMemory → PrintRefuses registry.now limits.now (shape_of format.now) (tree_of value.now) e) }
-    ensures memory { IfErr result (λ e. e ≡ Encode OutOfMemory → IsSoundBesidesKeys registry.now limits.now (shape_of format.now) (tree_of value.now)) }
+    ensures fault { IfErr result (λ e. e ≢ OutOfMemory → PrintRefuses registry.now limits.now (shape_of format.now) (tree_of value.now) e) }
+    ensures memory { IfErr result (λ e. e ≡ OutOfMemory → IsSoundBesidesKeys registry.now limits.now (shape_of format.now) (tree_of value.now)) }
 {
     registry.recall();
     let form = canonicalise(alloc, registry, format, limits, value)?;

@@ -97,26 +97,36 @@ fn ask_of_fault(alloc: Global, row: &Row, is_asked: bool, tally: &mut Tally) -> 
         tally.note("the encoders", Told::of(faults.iter().all(is_early)));
         let fault = writer_fault(alloc, &other, &value);
         tally.note("write", Told::of(is_early(&fault)));
+        let is_refused = is_print_refused(alloc, &other, &value);
+        tally.note("print_value", Told::of(is_refused));
     }
     Ok(())
 }
 
-fn encoder_faults(alloc: Global, asked: &Asked, value: &Value) -> [Option<EncodeFault>; 4] {
+fn encoder_faults(alloc: Global, asked: &Asked, value: &Value) -> [Option<EncodeFault>; 3] {
     let Asked {
         registry,
         format,
         limits,
     } = asked;
-    let printed = match print_value(alloc, registry, format, limits, value) {
-        Err(PrintFault::Encode(fault)) => Some(fault),
-        _ => None,
-    };
     [
         encode(alloc, registry, format, limits, value).err(),
         encode_by_entries(alloc, registry, format, limits, value).err(),
         canonicalise(alloc, registry, format, limits, value).err(),
-        printed,
     ]
+}
+
+// Whether the value is refused before its text is thought of.
+fn is_print_refused(alloc: Global, asked: &Asked, value: &Value) -> bool {
+    let Asked {
+        registry,
+        format,
+        limits,
+    } = asked;
+    match print_value(alloc, registry, format, limits, value) {
+        Ok(_) | Err(PrintFault::TooNested | PrintFault::OutOfMemory) => false,
+        Err(_) => true,
+    }
 }
 
 // A sink is left without a byte.
