@@ -2,7 +2,6 @@
 //! didn't grow, FORMAT, NAME, PATH, and the JSON text of a value.
 #![tactic(auto)]
 
-mod containers;
 mod content;
 mod formats;
 mod goals;
@@ -21,7 +20,6 @@ mod texts;
 mod wants;
 mod wholes;
 
-pub use containers::containers_in;
 pub use formats::{place_of_container, place_of_name, place_of_word};
 pub use growth::place_of_growth;
 pub use limits::{put_limit, put_text_limit};

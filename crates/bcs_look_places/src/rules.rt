@@ -1,19 +1,20 @@
 //! Where a registry breaks a rule.
 
-use crate::containers::containers_in;
 use crate::content::Content;
 use crate::formats::first_unknown;
 use crate::names::Name;
 use crate::owners::{Owner, Slot};
 use bcs_registry::{Container, Format, Named, RegistryFault, VariantFormat};
 use bcs_registry_formats::levels::has_few_levels;
+use bcs_registry_text::one_by_one::containers_one_by_one;
 use std::alloc::{AllocError, Global};
 use std::collections::{BTreeMap, BTreeSet};
 
 /// Where the containers that a registry's text writes down break a rule: the first one that is broken, in the order of
-/// the faults, and where it is broken first. `None`: they break none.
+/// the faults, and where it is broken first. `None`: they break none. Of a text that is no JSON or hasn't the shape it
+/// gives a fault, which needn't be the text's.
 pub fn place_of_rule(alloc: Global, text: &[u8]) -> Result<Option<Vec<u8>>, RegistryFault> {
-    let containers = containers_in(alloc, text)?;
+    let containers = containers_one_by_one(alloc, text)?;
     let mut search = Search::over(alloc, &containers);
     for (name, container) in &containers {
         search.container(name.as_str(), container)?;
