@@ -20,13 +20,6 @@ pub use Rattle.bcs_decode.specs.Sliced
 pub use Rattle.bcs_decode.specs.Whole
 pub use Rattle.bcs_decode.specs.Parts
 pub use Rattle.bcs_decode_source_scan.specs.Scanned
-pub use Rattle.bcs_example.specs.Example
-pub use Rattle.bcs_example.specs.Ready
-pub use Rattle.bcs_example.specs.Refused as RefusedExample
-pub use Rattle.bcs_example_full.specs.Full
-pub use Rattle.bcs_example_wanted.specs.Wanted
-pub use Rattle.bcs_example_wanted.specs.Refused as RefusedWish
-pub use Rattle.bcs_example_text.specs.ExampleText
 pub use Rattle.bcs_explain.specs.Piece
 pub use Rattle.bcs_explain.specs.Pieces
 pub use Rattle.bcs_explain.specs.Told

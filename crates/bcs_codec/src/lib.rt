@@ -8,9 +8,6 @@ pub use bcs_decode::{
 };
 pub use bcs_decode_source_scan::{scan_all, scan_from};
 pub use bcs_encode::{EncodeFault, WriteFault, canonicalise, encode, encode_by_entries, write};
-pub use bcs_example::{ExampleFault, example_value};
-pub use bcs_example_text::{ExampleTextFault, example_text};
-pub use bcs_example_wanted::{ExampleForm, WantedFault, Wish, wished_example};
 pub use bcs_explain::{Counted, Listener, Meaning, Step as TrailStep, Trail, Wanted, explain};
 pub use bcs_explain_columns::style::{Form, Paint, Style};
 pub use bcs_io::{
@@ -19,6 +16,10 @@ pub use bcs_io::{
 pub use bcs_json::{
     FromFault, JsonFault, JsonStep, PrintFault, Shown, compare, fault_place, from_bcs, normalise,
     print_value, read_value, to_bcs,
+};
+pub use bcs_look_example::{
+    ExampleFault, ExampleForm, ExampleTextFault, WantedFault, Wish, example_text, example_value,
+    wished_example,
 };
 pub use bcs_look_pieces::{Explanation, explain_text, stop_place};
 pub use bcs_look_registry::{

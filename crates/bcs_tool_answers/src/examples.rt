@@ -7,7 +7,7 @@ ghost use Rattle.bcs_tool_answers.specs.Places.{IsAnswer, Prints};
 use crate::answer::{Answer, refused, shown};
 use crate::judging::judge_formatted;
 use crate::refusing::refused_words;
-use bcs_example_text::{ExampleForm, ExampleTextFault, WantedFault, Wish, example_text};
+use bcs_look_example::{ExampleForm, ExampleTextFault, WantedFault, Wish, example_text};
 use bcs_registry::{Format, Registry};
 use bcs_tool_files::Work;
 use bcs_tool_line::Command;

@@ -5,9 +5,8 @@ use crate::row_fault::RowFault;
 use crate::setting::Setting;
 use crate::words::word_of;
 use bcs_encode::encode;
-use bcs_example::example_value;
-use bcs_example_wanted::{ExampleForm, Wish, wished_example};
 use bcs_json::from_bcs;
+use bcs_look_example::{ExampleForm, Wish, example_value, wished_example};
 use bcs_value::Value;
 use std::alloc::Global;
 

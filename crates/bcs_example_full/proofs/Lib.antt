@@ -1,8 +1,0 @@
-pub mod FullReady
-pub mod FullExists
-pub mod Spends
-pub mod Leasts
-pub mod Elements
-pub mod Rows
-pub mod Contents
-pub mod Ranked

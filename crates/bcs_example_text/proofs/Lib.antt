@@ -1,2 +1,0 @@
-pub mod OneWish
-pub mod ExampleTextLaws

@@ -1,2 +1,0 @@
-pub mod ExampleText
-pub mod Laws
