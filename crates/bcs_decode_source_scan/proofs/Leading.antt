@@ -4,7 +4,7 @@ use Rattle.bcs_registry_formats.specs.Container.{Entries}
 use Rattle.bcs_decode_spec.specs.declared.reason.Reason.{Reason}
 use Rattle.bcs_decode_spec.specs.declared.decode_fault.DecodeFault.{DecodeFault}
 use Rattle.bcs_decode_spec.specs.declared.decode_fault.DecodeFault.TheVariants.{Stop}
-use Rattle.bcs_decode_spec.specs.Reading.{Read, Parser, follow, chain, give, bytes_here}
+use Rattle.bcs_decode_spec.specs.Reading.{Parser, chain, give, bytes_here}
 use Rattle.bcs_decode_source_steps.specs.declared.at.At.{At}
 use Rattle.bcs_decode_source_steps.specs.declared.reader.Reader.{Reader}
 use Rattle.bcs_decode_source_steps.specs.Sees.{is_told, rest_of, Refuses, Sees}
@@ -55,15 +55,6 @@ chain_on f k p m b x q l c h = rw h refl
 pub chain_ends : {A : Type 0} (f : Parser A) (k : A → Parser (Unit {0})) (p m : ℕ) (b : List ℕ) (e : Reason × ℕ) → f p m b ≡ Err e → chain f k p m b ≡ Err e
 unfolding chain
 chain_ends f k p m b e h = rw h refl
-
-follow_assoc : {A B C : Type 0} (r : Read A) (g : A → Parser B) (k : B → Parser C) → follow (follow r g) k ≡ follow r (λ a. chain (g a) k)
-unfolding chain
-follow_assoc (Ok x) g k = refl
-follow_assoc (Err e) g k = refl
-
-pub chain_assoc : {A B C : Type 0} (f : Parser A) (g : A → Parser B) (k : B → Parser C) (p m : ℕ) (b : List ℕ) → chain (chain f g) k p m b ≡ chain f (λ a. chain (g a) k) p m b
-unfolding chain
-chain_assoc f g k p m b = follow_assoc (f p m b) g k
 
 -- ---- readers
 

@@ -9,7 +9,7 @@ use Rattle.bcs_num.specs.declared.fault.NumFault.TheVariants as num
 use Rattle.bcs_decode_spec.specs.declared.reason.Reason.{Reason}
 use Rattle.bcs_decode_spec.specs.declared.reason.Reason.TheVariants.{LongForm, NumberTooLarge, BadUtf8}
 use Rattle.bcs_decode_spec.specs.Reading.{Parser, follow, chain, give, fail, shifted, uleb_from, number_read, number_here, bytes_here, flag_here, text_here, node}
-use Rattle.bcs_decode_source_steps.specs.Sees.{node_here, byte_here, tail_read, tail_here, tail_limit}
+use Rattle.bcs_decode_source_steps.specs.Sees.{node_here, byte_here, tail_read, tail_here}
 
 number_same : (p m : ℕ) (b : List ℕ) (r : Result (ℕ × ℕ) NumFault) → number_read p m b r ≡ tail_read p p m b r
 number_same p m b (Ok x) = refl
@@ -77,27 +77,6 @@ module _ (start i p m : ℕ) (b : List ℕ) (x q l : ℕ) (d : List ℕ) (byte :
   tail_next high = tail_step start i p m b ∙ rw (byte, not_large i x small, le-ltb x 128 high) refl
 
 -- ---- what a number is below
-
-pub tail_limit_step : (i : ℕ) → i < 4 → tail_limit i ≡ 128 * tail_limit (i + 1)
-tail_limit_step zero h = refl
-tail_limit_step (suc zero) h = refl
-tail_limit_step (suc (suc zero)) h = refl
-tail_limit_step (suc (suc (suc zero))) h = refl
-tail_limit_step (suc (suc (suc (suc i)))) h = absurd (omega arith)
-
-pub tail_limit_low : (i : ℕ) → 16 ≤ tail_limit i
-tail_limit_low zero = omega arith
-tail_limit_low (suc zero) = omega arith
-tail_limit_low (suc (suc zero)) = omega arith
-tail_limit_low (suc (suc (suc zero))) = omega arith
-tail_limit_low (suc (suc (suc (suc i)))) = omega arith
-
-pub tail_limit_high : (i : ℕ) → tail_limit i ≤ 4294967296
-tail_limit_high zero = omega arith
-tail_limit_high (suc zero) = omega arith
-tail_limit_high (suc (suc zero)) = omega arith
-tail_limit_high (suc (suc (suc zero))) = omega arith
-tail_limit_high (suc (suc (suc (suc i)))) = omega arith
 
 -- ---- values that have no parts
 

@@ -21,12 +21,9 @@ use Rattle.bcs_registry_formats.specs.Container.{Entries, Content, of}
 use Rattle.bcs_value_tree.specs.Tree.{Tree, pairs, Pairs, no_pairs, pair}
 use Rattle.bcs_value_spec.specs.Fits.{fits, pairs_fit}
 use Rattle.bcs_value_spec.specs.Same.{same, all_pairs, distinct, pairs_distinct}
-use Rattle.bcs_value_spec.specs.Limits.{Bounds}
 use Rattle.bcs_value_spec.proofs.Equivalence.{same-sym, same-trans}
 use Rattle.bcs_encode_spec.specs.Plain.{plain, plain_pairs}
 use Rattle.bcs_encode_spec.specs.Canonical.{Rises, RisesFrom}
-use Rattle.bcs_encode_spec.specs.Sound.{IsSound}
-use Rattle.bcs_encode_spec.specs.Encodes.{Encodes}
 use Rattle.bcs_encode_spec.specs.Entries.{HasBytes, Entry, entry_bytes, EntriesOf, EntriesRiseFrom, EntriesRise, HasTwins, SortedEntries, TwinsRepeat}
 use Rattle.bcs_encode_spec.proofs.BelowLaws.{order, not_below}
 use Rattle.bcs_encode_spec.proofs.EntryOrder.{one, one_same, Once, rising_once, twins_twice, once_moved, In, moved, rising_alike}
@@ -193,14 +190,6 @@ has_bytes_of_form registry f t b h = sym h.bytes ∙ ap (λ (c : Tree). plain re
 pub form_has_bytes : (registry : Entries) (f : Content) (t : Tree) → fits false registry t f ≡ true → distinct t ≡ true
     → HasBytes registry f t (plain registry (form_of registry t f) f)
 form_has_bytes registry f t h d = record { fit = h; distinct = d; form = form_of registry t f; is_form = form_of_is_form registry f t h d; bytes = refl }
-
--- with the limits they are the encoding
-pub encodes_from_bytes : (registry : Entries) (limits : Bounds) (s : Shape) (t : Tree) (b : List ℕ) → IsSound registry limits s t → HasBytes registry (of s) t b
-    → Encodes registry limits s t b
-encodes_from_bytes registry limits s t b h p = record { sound = h; form = p.form; is_form = p.is_form; bytes = p.bytes }
-
-pub bytes_from_encodes : (registry : Entries) (limits : Bounds) (s : Shape) (t : Tree) (b : List ℕ) → Encodes registry limits s t b → HasBytes registry (of s) t b
-bytes_from_encodes registry limits s t b p = record { fit = p.sound.fit; distinct = p.sound.distinct; form = p.form; is_form = p.is_form; bytes = p.bytes }
 
 -- ---- a map's entries
 

@@ -1,4 +1,3 @@
 pub mod Digits
 pub mod EscapedUnits
-pub mod Painting
 pub mod Printable

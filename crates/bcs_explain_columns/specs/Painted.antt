@@ -1,6 +1,5 @@
 -- Text in a colour, as a terminal is told of it: `ESC [`, the colour's numbers and `m` before it, and `ESC [0m` behind it (ECMA-48, SGR).
-use Rattle.std.specs.Prelude.{ℕ, ◌-◌, List, [], ◌∷◌, ◌++◌, codes, length}
-use Rattle.bcs_explain_columns.specs.Columns.{blanks}
+use Rattle.std.specs.Prelude.{ℕ, List, [], ◌∷◌, ◌++◌, codes}
 use Rattle.bcs_explain_columns.specs.declared.style.Paint.{Paint}
 use Rattle.bcs_explain_columns.specs.declared.style.Paint.TheVariants.{Colored, Plain}
 
@@ -18,7 +17,3 @@ color_off Colored = 27 ∷ codes "[0m"
 abbrev pub painted : Paint → List ℕ → List ℕ → List ℕ
 painted Plain color text = text
 painted Colored color text = color_on Colored color ++ text ++ color_off Colored
-
--- the same at the left of a column, whose width counts the text alone
-abbrev pub painted_in : ℕ → Paint → List ℕ → List ℕ → List ℕ
-painted_in width paint color text = painted paint color text ++ blanks (width - length text)

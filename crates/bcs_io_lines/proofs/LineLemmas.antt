@@ -16,9 +16,6 @@ no_feed_rest c cs plain = elim (c == 10) as (λ b. (b || list_any (λ d. d == 10
 lines_of-other : (c : ℕ) (cs : List ℕ) → (c == 10) ≡ false → lines_of (c ∷ cs) ≡ onto c (lines_of cs)
 lines_of-other c cs other = ap (λ b. cond b ([] ∷ lines_of cs) (onto c (lines_of cs))) other
 
-pub lines_of-empty : lines_of [] ≡ []
-lines_of-empty = refl
-
 -- a line, its line feed, and what stands behind it
 pub lines_of-line : (line rest : List ℕ) → HasNoLineFeed line → lines_of (line ++ 10 ∷ rest) ≡ line ∷ lines_of rest
 lines_of-line [] rest plain = refl

@@ -27,8 +27,6 @@ use Rattle.serde_json.specs.declared.value.Value.{Value as Json}
 use Rattle.bcs_json_spec.specs.Causes.{fault_of_text, fault_of_value}
 use Rattle.bcs_json_spec.specs.declared.json_fault.JsonFault.{JsonFault}
 use Rattle.bcs_json_spec.specs.declared.json_fault.JsonFault.TheVariants.{OutOfMemory}
-use Rattle.bcs_json.specs.Printing.{PrintRefuses, fault_of}
-use Rattle.bcs_json.specs.declared.print_fault.PrintFault.TheVariants as print_fault
 use Rattle.bcs_json_spec.specs.Headline.{HasBytes, Compares, Normalises}
 use Rattle.bcs_json_spec.specs.JsonContent.{of}
 use Rattle.bcs_json_spec.specs.Place.{Step, value, parts, IsPlaceOf}
@@ -126,26 +124,6 @@ prints registry limits s well orderly t form out sound is_form is back =
       is = is;
       denotes = shown_denotes registry limits s well orderly form (form_is_sound registry limits s well orderly t form sound is_form) out back.0 back.1;
     }
-
--- what is not encoded is not printed, for the same reason
-module _ (registry : Entries) (limits : Bounds) (s : Shape) (t : Tree) where
-  pub unprinted : (e : EncodeFault) → (e ≢ encode_fault.OutOfMemory → encode.Refuses registry limits s t e) → fault_of e ≢ print_fault.OutOfMemory → PrintRefuses registry limits s t (fault_of e)
-  unprinted encode_fault.OutOfMemory h other = absurd (other refl)
-  unprinted encode_fault.NotOfFormat h other = h (λ is. cc)
-  unprinted encode_fault.Unsupported h other = h (λ is. cc)
-  unprinted encode_fault.TooDeep h other = h (λ is. cc)
-  unprinted encode_fault.TooManyNodes h other = h (λ is. cc)
-  unprinted encode_fault.TooLong h other = h (λ is. cc)
-  unprinted encode_fault.RepeatedKey h other = h (λ is. cc)
-
-pub unprinted_memory : (e : EncodeFault) → fault_of e ≡ print_fault.OutOfMemory → e ≡ encode_fault.OutOfMemory
-unprinted_memory encode_fault.OutOfMemory is = refl
-unprinted_memory encode_fault.NotOfFormat is = cc
-unprinted_memory encode_fault.Unsupported is = cc
-unprinted_memory encode_fault.TooDeep is = cc
-unprinted_memory encode_fault.TooManyNodes is = cc
-unprinted_memory encode_fault.TooLong is = cc
-unprinted_memory encode_fault.RepeatedKey is = cc
 
 -- bytes that are equal or not say whether the values are the same
 pub compares : (registry : Entries) (limits : Bounds) (s : Shape) (first second b c : List ℕ) (answer : Bool) → HasBytes registry limits s first b → HasBytes registry limits s second c

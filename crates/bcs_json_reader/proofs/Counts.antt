@@ -1,7 +1,7 @@
 -- Arrays of exactly so many items.
 use Rattle.std.proofs.Common.{◌≡◌, ◌∙◌, ℕ, suc, List, [], ◌∷◌, length, Vec, Global, Bool, Ok, Err, ◌==◌, refl, ap, sym, rules}
 use Rattle.std.proofs.lemmas.Bool.Decides.{Decides-eqb}
-use Rattle.serde_json.specs.Data.{Data, Items, null, boolean, number, string, array, object}
+use Rattle.serde_json.specs.Data.{Data, Items, array}
 use Rattle.serde_json.specs.View.{items_view}
 use Rattle.serde_json.specs.declared.value.Value.{Value as Json}
 use Rattle.bcs_registry_formats.specs.Shape as shape
@@ -16,7 +16,7 @@ use Rattle.bcs_json_spec.specs.declared.json_fault.JsonFault.{JsonFault}
 use Rattle.bcs_json_spec.specs.declared.json_fault.JsonFault.TheVariants.{BadShape}
 use Rattle.bcs_json_spec.specs.Look.{item_count, shape_count}
 use Rattle.bcs_json_spec.specs.Place.{item_parts, each_parts, array_parts, tuple_parts}
-use Rattle.bcs_json_spec.specs.Reading.{Read, follow, read_all, read_array, read_map, read_tuple, read_shape, read_each}
+use Rattle.bcs_json_spec.specs.Reading.{Read, follow, read_all, read_array, read_tuple, read_shape, read_each}
 use Rattle.bcs_json_spec.proofs.Exact.{when_true, when_false}
 use Rattle.bcs_json_reader_steps.proofs.OtherCounts.{count_items}
 
@@ -85,12 +85,3 @@ tuple_items left fs j v is same =
     ap (tuple_parts left (formats_shapes fs)) is
     ∙ when_true (item_count (items_view v.items) == shape_count (formats_shapes fs)) (each_parts left (formats_shapes fs) 0 (items_view v.items)) [] (Decides-eqb (item_count (items_view v.items)) (shape_count (formats_shapes fs)))
     (count_items v.items ∙ same ∙ sym (count_formats fs))
-
--- another kind of JSON than an array is no map
-pub map_other : (k v : Data → Read Tree) (j : Data) → ((ds : Items) → j ≡ array ds → ⊥) → read_map k v j ≡ Err BadShape
-map_other k v null other = refl
-map_other k v (boolean b) other = refl
-map_other k v (number n) other = refl
-map_other k v (string s) other = refl
-map_other k v (array ds) other = absurd (other ds refl)
-map_other k v (object ms) other = refl

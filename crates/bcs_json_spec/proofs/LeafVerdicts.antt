@@ -54,9 +54,6 @@ hex_errs : (s : List ℕ) (e : JsonFault) → IsNoHex s × (e ≡ BadHex) → re
 unfolding read_hex
 hex_errs s e h = hex_refused (decode_of s) h.0 ∙ ap Err (sym h.1)
 
-pub exact_hex : Exact IsHexOf (λ s e. IsNoHex s × (e ≡ BadHex)) read_hex
-exact_hex = record { ok = hex_ok; again = hex_again; err = hex_err; errs = hex_errs }
-
 pub bytes_depth : (n : ℕ) (b : List ℕ) → trees_depth (byte_trees b) ≤ n
 bytes_depth n [] = omega arith
 bytes_depth n (x ∷ b) = max-le (omega arith) (bytes_depth n b)

@@ -1,5 +1,5 @@
 -- Looking at JSON: its kind and its parts.
-use Rattle.std.specs.Prelude.{ℕ, suc, List, Bool, true, false, Option, Some, None, cond}
+use Rattle.std.specs.Prelude.{ℕ, suc, List, Option, Some, None, cond}
 use Rattle.std.specs.Str.{bytes_eq}
 use Rattle.bcs_registry_formats.specs.Shape.{Shapes, no_shapes, shape}
 use Rattle.serde_json.specs.Data.{Data, null, string, array, object, Items, no_items, item, Members, no_members, member}
@@ -57,7 +57,3 @@ shape_count (shape s ss) = suc (shape_count ss)
 abbrev pub without : List ℕ → Members → Members
 without name no_members = no_members
 without name (member k d ms) = cond (bytes_eq name k) ms (member k d (without name ms))
-
-abbrev pub has_no_members : Members → Bool
-has_no_members no_members = true
-has_no_members (member k d ms) = false

@@ -1,5 +1,5 @@
 -- Bytes that are judged as they come: the answer to them, and what comes of it.
-use Rattle.std.proofs.Common.{◌≡◌, ◌⊎◌, ◌≤◌, ◌∙◌, ◌&&◌, ℕ, suc, Bool, true, false, List, [], ◌∷◌, Option, Some, None, Result, Ok, Err, ap, arith, drop, inl, inr, length, refl, subst, sym, true≢false}
+use Rattle.std.proofs.Common.{◌≡◌, ◌⊎◌, ◌≤◌, ◌∙◌, ◌&&◌, ℕ, suc, Bool, true, false, List, [], ◌∷◌, Option, Some, None, Result, Ok, Err, arith, drop, inl, inr, length, refl, subst, sym, true≢false}
 use Rattle.bcs_decode.specs.Whole.{FrontGone, GoneTo, Trails}
 use Rattle.bcs_decode_spec.specs.Stopping.{Stops}
 use Rattle.bcs_decode_spec.specs.Accepting.{Accepts}
@@ -14,7 +14,7 @@ use Rattle.bcs_tool_answers.specs.Input.{Gives}
 use Rattle.bcs_tool_answers.specs.Judging.{Asks, is_scan, is_unlimited}
 use Rattle.bcs_tool_answers.specs.LineAnswers.{none}
 use Rattle.bcs_tool_answers.specs.Places as places
-use Rattle.bcs_tool_answers.specs.Places.{Places, Prints}
+use Rattle.bcs_tool_answers.specs.Places.{Prints}
 use Rattle.bcs_tool_answers.specs.Preparing.{IsAskedBy}
 use Rattle.bcs_tool_answers.specs.declared.answer.Answer.{Answer}
 use Rattle.bcs_tool_answers.specs.declared.judging.Asked.{Asked}
@@ -59,12 +59,6 @@ module _ (work : Work) (registry : Entries) (s : Shape) (asks : Asks work regist
 drop_all : (xs : List ℕ) → drop (length xs) xs ≡ []
 drop_all [] = refl
 drop_all (x ∷ xs) = drop_all xs
-
-pub gone_at : (front : Bool) (work : Work) (registry : Entries) (s : Shape) (content left : Option (List ℕ)) (n : ℕ) → Scans front registry work.limits s content left (Ok n)
-    → IfTold content (λ all. FrontGone all left)
-gone_at front work registry s None left n told = tt
-gone_at true work registry s (Some all) left n told = λ are. (n, told.1, told.0)
-gone_at false work registry s (Some all) left n told = λ are. (length all, omega arith, told.0 ∙ ap Some (sym (drop_all all)))
 
 pub gone_at_stop : (front : Bool) (work : Work) (registry : Entries) (s : Shape) (content left : Option (List ℕ)) (stop : Stop)
     → Scans front registry work.limits s content left (Err (decode_fault.Stop stop)) → IfTold content (λ all. FrontGone all left)
