@@ -26,8 +26,7 @@ pub(crate) struct Maker<'a, 'r> {
 impl<'a, 'r> Maker<'a, 'r> {
     /// Whether one element stands in an option, a list or a map there.
     fn has_element(&self, format: &Format, place: Place<'_, 'r>) -> bool {
-        place.form == ExampleForm::Full
-            && format_nodes(format, self.ranks, place.depth).is_some()
+        place.form == ExampleForm::Full && format_nodes(format, self.ranks, place.depth).is_some()
     }
 
     /// In which form the container of this name is made there. Where it is open already, it is the least one, whose nodes
@@ -91,8 +90,7 @@ fn fill<'r>(
             fill_copies(maker, element, 1, place, left, slot)
         }
         Format::Map(key, value)
-            if maker.has_element(key, place) && maker.has_element(value, place) =>
-        {
+            if maker.has_element(key, place) && maker.has_element(value, place) => {
             fill_entry(maker, key, value, place, left, slot)
         }
         _ => {

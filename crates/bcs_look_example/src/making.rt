@@ -71,11 +71,7 @@ struct Chosen<'r> {
 }
 
 /// The variant of this name, if the format is the name of an enum that has it.
-fn find_variant<'r>(
-    registry: &'r Registry,
-    format: &'r Format,
-    word: &str,
-) -> Option<Chosen<'r>> {
+fn find_variant<'r>(registry: &'r Registry, format: &'r Format, word: &str) -> Option<Chosen<'r>> {
     let Format::TypeName(name) = format else {
         return None;
     };

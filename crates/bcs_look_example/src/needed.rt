@@ -117,10 +117,7 @@ fn note_part<'r>(part: Part<'r>, needed: &mut Needed<'r>) -> Result<(), AllocErr
 }
 
 // Any of an enum's variants may be the one that is taken.
-fn note_container<'r>(
-    container: &'r Container,
-    needed: &mut Needed<'r>,
-) -> Result<(), AllocError> {
+fn note_container<'r>(container: &'r Container, needed: &mut Needed<'r>) -> Result<(), AllocError> {
     match container {
         Container::UnitStruct => {}
         Container::NewTypeStruct(format) => note_format(format, needed)?,

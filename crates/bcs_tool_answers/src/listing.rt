@@ -4,8 +4,8 @@ ghost use Rattle.bcs_tool_answers.specs.Answers.{Lists, lists};
 
 use crate::answer::Answer;
 use crate::job_fault::JobFault;
-use bcs_registry::Registry;
 use bcs_look_registry::{difference_lines, differences};
+use bcs_registry::Registry;
 use bcs_tool_files::Work;
 use std::alloc::{AllocError, Global};
 

@@ -8,5 +8,5 @@ pub returns : goal.returns
 returns c = (
   tree_of c.in_ok-value.value,
   shown_denotes c.args.registry.now c.args.limits.now (shape_of c.args.format.now) c.recall.ensures.well_formed c.recall.ensures.orderly
-  (tree_of c.in_ok-value.value) c.in_ok-value.ensures.sound (string_bytes c.in_ok-text.text) c.in_ok-text.ensures.reads_back.0 c.in_ok-text.ensures.reads_back.1,
+      (tree_of c.in_ok-value.value) c.in_ok-value.ensures.sound (string_bytes c.in_ok-text.text) c.in_ok-text.ensures.reads_back.0 c.in_ok-text.ensures.reads_back.1,
 )
