@@ -1,5 +1,5 @@
 -- At a registry and a format there is at most one answer of each kind.
-use Rattle.std.proofs.Common.{◌≡◌, ◌<◌, ◌∙◌, ◌⊎◌, inl, inr, ℕ, List, Bool, true, false, Option, Some, None, Ok, codes, length, ap, ap₂, arith, sym, subst}
+use Rattle.std.proofs.Common.{◌≡◌, ◌<◌, ◌∙◌, ◌⊎◌, inl, inr, ℕ, List, Bool, true, false, Some, None, Ok, codes, length, ap, ap₂, arith, sym, subst}
 use Rattle.serde_json.specs.Data.{depth}
 use Rattle.serde_json.specs.Written.{compact_text}
 use Rattle.bcs_registry_formats.specs.Container.{Entries}
