@@ -3,7 +3,7 @@ use Rattle.std.specs.Prelude.{◌≡◌, ◌≢◌, ◌⊎◌, ℕ, ◌+◌, ◌
 use Rattle.std.specs.Io.KnownBytes.{IsAtEnd}
 use Rattle.bcs_io.specs.Giving.{Took, Lost}
 use Rattle.bcs_io_lines.specs.Held.{Held}
-use Rattle.bcs_io_lines.specs.Lines.{HasNoLineFeed}
+use Rattle.bcs_io_lines.specs.Lines.{HasNoLineFeed, before_block, block_size}
 
 module _ {S : Type 0} (content : S → Option (List ℕ)) (is_failed : S → Bool) (allowance : S → ℕ) where
   -- these bytes are the line, and behind them the content is at its end
@@ -21,6 +21,8 @@ module _ {S : Type 0} (content : S → Option (List ℕ)) (is_failed : S → Boo
     pub plain : HasNoLineFeed after.line
     pub within : length after.line ≤ limit
     pub parts : (before.rest ++ given ≡ after.line ++ 10 ∷ after.rest) ⊎ IsLastLine new (before.rest ++ given) after
+    -- less than a block is left, since none is asked for where a line is left
+    pub ahead : HasNoLineFeed (before_block before.rest) → length after.rest < block_size
 
   -- nothing was left, and nothing is to come
   pub record HasNoLine (old new : S) (before after : Held) : Type 0 where
@@ -46,9 +48,11 @@ module _ {S : Type 0} (content : S → Option (List ℕ)) (is_failed : S → Boo
     pub longer : limit < length (before.rest ++ given)
     pub plain : HasNoLineFeed (take (limit + 1) (before.rest ++ given))
     pub kept : after.rest ≡ before.rest ++ given
+    pub ahead : HasNoLineFeed (before_block before.rest) → HasNoLineFeed (before_block (before.rest ++ given))
 
-  -- memory ran out for what was given last
-  pub record RunsOut (old new : S) : Type 0 where
+  -- memory ran out for the block that was given last; before it stands no whole line
+  pub record RunsOut (old new : S) (before : Held) : Type 0 where
     pub given : List ℕ
     pub took : Took content is_failed allowance old new given
     pub works : is_failed new ≡ false
+    pub ahead : HasNoLineFeed (before_block (before.rest ++ given))

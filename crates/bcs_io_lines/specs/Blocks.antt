@@ -1,7 +1,8 @@
 -- What reading one block takes of a source.
-use Rattle.std.specs.Prelude.{◌≡◌, ℕ, Bool, false, List, [], ◌++◌, length, Option, Result, Ok, Err}
+use Rattle.std.specs.Prelude.{◌≡◌, ◌≤◌, ℕ, Bool, false, List, [], ◌++◌, length, Option, Result, Ok, Err}
 use Rattle.std.specs.Io.KnownBytes.{IsAtEnd}
 use Rattle.bcs_io.specs.Giving.{Took, Lost}
+use Rattle.bcs_io_lines.specs.Lines.{block_size}
 use Rattle.bcs_io_lines.specs.declared.next_fault.NextFault.{NextFault}
 use Rattle.bcs_io_lines.specs.declared.next_fault.NextFault.TheVariants.{Read, TooLong, OutOfMemory}
 
@@ -13,6 +14,7 @@ module _ {S : Type 0} (content : S → Option (List ℕ)) (is_failed : S → Boo
     pub works : is_failed new ≡ false
     pub rest : after ≡ before ++ given
     pub many : length given ≡ count
+    pub within : count ≤ block_size
     pub ends : count ≡ 0 → IsAtEnd (content new)
 
   pub record FailsAtBlock (old new : S) (before after : List ℕ) : Type 0 where
@@ -23,6 +25,7 @@ module _ {S : Type 0} (content : S → Option (List ℕ)) (is_failed : S → Boo
     pub given : List ℕ
     pub took : Took content is_failed allowance old new given
     pub works : is_failed new ≡ false
+    pub within : length given ≤ block_size
 
   abbrev pub ReadsBlock : S → S → List ℕ → List ℕ → Result ℕ NextFault → Type 0
   ReadsBlock old new before after (Ok count) = GivesBlock old new before after count

@@ -1,5 +1,5 @@
 -- The lines of a text.
-use Rattle.std.specs.Prelude.{◌≡◌, ℕ, ◌==◌, false, if◌then◌else◌, List, [], ◌∷◌}
+use Rattle.std.specs.Prelude.{◌≡◌, ℕ, suc, ◌-◌, ◌==◌, false, if◌then◌else◌, List, [], ◌∷◌, length, take}
 use Rattle.std.specs.List.{list_any}
 
 -- a byte before the first of the lines
@@ -15,3 +15,16 @@ lines_of (c ∷ cs) = if c == 10 then [] ∷ lines_of cs else onto c (lines_of c
 -- no byte is a line feed
 abbrev pub HasNoLineFeed : List ℕ → Type 0
 HasNoLineFeed bytes = list_any (λ c. c == 10) bytes ≡ false
+
+-- how many line feeds there are
+abbrev pub line_feeds : List ℕ → ℕ
+line_feeds [] = 0
+line_feeds (c ∷ cs) = if c == 10 then suc (line_feeds cs) else line_feeds cs
+
+-- how many bytes are asked of a source at a time
+abbrev pub block_size : ℕ
+block_size = 65536
+
+-- all of these bytes but the last block
+abbrev pub before_block : List ℕ → List ℕ
+before_block bytes = take (length bytes - block_size) bytes

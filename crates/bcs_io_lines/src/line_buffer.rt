@@ -67,7 +67,7 @@ impl LineBuffer {
         ensures too_long { result ≡ Err NextFault.TooLong →
             IsTooLong S.content S.is_failed S.allowance limit source.old source.new self.old self.new }
         ensures memory { result ≡ Err NextFault.OutOfMemory →
-            RunsOut S.content S.is_failed S.allowance source.old source.new }
+            RunsOut S.content S.is_failed S.allowance source.old source.new self.old }
     {
         let mut searched = 0;
         loop {

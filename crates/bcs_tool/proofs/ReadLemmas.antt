@@ -6,7 +6,9 @@ use Rattle.bcs_io.specs.Giving as source
 use Rattle.bcs_io.proofs.GivingLemmas as giving
 use Rattle.bcs_io_lines.specs.Advancing.{HasNoLine, IsLastLine, IsTooLong, TakesLine}
 use Rattle.bcs_io_lines.specs.Held.{Held}
-use Rattle.bcs_io_lines.specs.Lines.{HasNoLineFeed, lines_of}
+use Rattle.bcs_io_lines.specs.Lines.{HasNoLineFeed, before_block, line_feeds, lines_of}
+use Rattle.bcs_io_lines.proofs.Ahead.{short_ahead}
+use Rattle.bcs_io_lines.proofs.FeedLemmas.{feeds_append, feeds_before_block, feeds_none}
 use Rattle.bcs_tool_files.specs.Files.{IsContent, size_limit}
 use Rattle.bcs_tool.specs.Lines.{AreRead, StandBefore}
 use Rattle.bcs_tool.specs.PairLines.{ReadsOn}
@@ -28,6 +30,10 @@ module _ {S : Type 0} (content : S → Option (List ℕ)) (has_stopped : S → B
   none_read input = record {
     given = [];
     took = giving.Took-nothing content has_stopped allowance input;
+    front = [];
+    parts = refl;
+    few = omega arith;
+    ahead = omega arith;
     stand = stand_nothing (content input);
     plain = All-nil HasNoLineFeed;
     room = omega arith;
@@ -57,14 +63,37 @@ module _ {S : Type 0} (content : S → Option (List ℕ)) (has_stopped : S → B
         go (inl parts) = stand_line (content input) (content now) (content later) lines after.line before.rest takes.given after.rest takes.took.front parts takes.plain read.stand
         go (inr last) = stand_last (content input) (content now) (content later) lines after.line before.rest takes.given after.rest takes.took.front last.line last.rest last.ends takes.plain last.some read.stand
 
+    -- what was given, up to what stands behind the line
+    front_behind : (given : List ℕ) → HasNoLineFeed after.line
+        → (before.rest ++ given ≡ after.line ++ 10 ∷ after.rest) ⊎ IsLastLine content has_stopped allowance later (before.rest ++ given) after
+        → (front : List ℕ) × (read.given ++ given ≡ front ++ after.rest) × (line_feeds front ≤ length lines + 1)
+    front_behind given plain (inl parts) = (
+      read.front ++ (after.line ++ 10 ∷ []),
+      ap (λ (t : List ℕ). t ++ given) read.parts ∙ append_assoc read.front before.rest given ∙ ap (λ (t : List ℕ). read.front ++ t) (parts ∙ sym (append_assoc after.line (10 ∷ []) after.rest))
+          ∙ sym (append_assoc read.front (after.line ++ 10 ∷ []) after.rest),
+      omega (arith, feeds_append read.front (after.line ++ 10 ∷ []), feeds_append after.line (10 ∷ []), feeds_none after.line plain, read.few),
+    )
+    front_behind given plain (inr last) = (
+      read.front ++ after.line,
+      ap (λ (t : List ℕ). t ++ given) read.parts ∙ append_assoc read.front before.rest given ∙ ap (λ (t : List ℕ). read.front ++ t) last.line
+          ∙ sym (append-nil (read.front ++ after.line)) ∙ ap (λ (t : List ℕ). (read.front ++ after.line) ++ t) (sym last.rest),
+      omega (arith, feeds_append read.front after.line, feeds_none after.line plain, read.few),
+    )
+
     pub line_read : TakesLine content has_stopped allowance size_limit now later before after → AreRead content has_stopped allowance input later (lines ++ after.line ∷ []) after.rest
-    line_read takes = record {
-      given = read.given ++ takes.given;
-      took = giving.Took-then content has_stopped allowance input now later read.given takes.given read.took takes.took;
-      stand = stand_behind takes;
-      plain = All-push HasNoLineFeed lines after.line read.plain takes.plain;
-      room = omega (arith, line_room now later before after takes, read.room, length-append lines (after.line ∷ []));
-    }
+    line_read takes =
+        let behind = front_behind takes.given takes.plain takes.parts in
+        record {
+          given = read.given ++ takes.given;
+          took = giving.Took-then content has_stopped allowance input now later read.given takes.given read.took takes.took;
+          front = behind.0;
+          parts = behind.1;
+          few = omega (arith, behind.2, length-append lines (after.line ∷ []));
+          ahead = takes.ahead (short_ahead before.rest read.ahead);
+          stand = stand_behind takes;
+          plain = All-push HasNoLineFeed lines after.line read.plain takes.plain;
+          room = omega (arith, line_room now later before after takes, read.room, length-append lines (after.line ∷ []));
+        }
 
     -- one line more than these can be counted
     pub room_for_one : allowance input < 2 ^ 64 → TakesLine content has_stopped allowance size_limit now later before after → length lines + 1 < 2 ^ 64
@@ -96,6 +125,17 @@ module _ {S : Type 0} (content : S → Option (List ℕ)) (has_stopped : S → B
     -- what was given of the input in all
     pub gave : (given : List ℕ) → source.Took content has_stopped allowance now later given → (bytes : List ℕ) × source.Took content has_stopped allowance input later bytes
     gave given took = (read.given ++ given, giving.Took-then content has_stopped allowance input now later read.given given read.took took)
+
+    -- behind the lines no whole one was given
+    pub gave_none : (given : List ℕ) → HasNoLineFeed (before.rest ++ given) → line_feeds (read.given ++ given) ≤ length lines
+    gave_none given plain =
+        omega (arith, ap line_feeds read.parts, feeds_append read.given given, feeds_append read.front before.rest, feeds_append before.rest given, feeds_none (before.rest ++ given) plain, read.few)
+
+    -- or none before the last block
+    pub gave_few : (given : List ℕ) → HasNoLineFeed (before_block (before.rest ++ given)) → line_feeds (before_block (read.given ++ given)) ≤ length lines
+    gave_few given ahead =
+        let parts : read.given ++ given ≡ read.front ++ (before.rest ++ given) = ap (λ (t : List ℕ). t ++ given) read.parts ∙ append_assoc read.front before.rest given in
+        omega (arith, ap (λ (t : List ℕ). line_feeds (before_block t)) parts, feeds_before_block read.front (before.rest ++ given) ahead, read.few)
 
     -- the next line was given, or none is left
     pub gave_line : (has_line : Bool) → ReadsOn content has_stopped allowance has_line now later before after → GaveLine content has_stopped allowance input later (length lines)

@@ -3,6 +3,7 @@ use Rattle.std.proofs.Common.{◌≡◌, ◌≤◌, ◌+◌, ◌++◌, ◌∙◌
 use Rattle.std.specs.Result.{IsErrAnd}
 use Rattle.std.specs.Io.KnownBytes.{Consumes, IsAtEnd}
 use Rattle.bcs_io.specs.Giving as source
+use Rattle.bcs_io.proofs.GivingLemmas as giving
 use Rattle.bcs_io.proofs.TakingLemmas as taking
 use Rattle.bcs_io_lines.specs.Lines.{lines_of}
 use Rattle.bcs_tool_answers.specs.Judging.{ReadsInput}
@@ -20,7 +21,7 @@ use Rattle.bcs_tool_files.specs.declared.taking.TakeFault.TheVariants as take_fa
 use Rattle.bcs_tool_files.specs.declared.work.Report.{Report}
 use Rattle.bcs_tool_files.specs.declared.work.Work.{Work}
 use Rattle.bcs_tool.specs.Lines.{AllAnswered, IsTally}
-use Rattle.bcs_tool.specs.Running.{AreFirst, Ends, FailsAt, HasLines, IsAnswered, IsUnhurt, PutBefore, PutsAnswer, Responds, by_line, once}
+use Rattle.bcs_tool.specs.Running.{AreFirst, Ends, FailsAt, HasLines, IsAnswered, IsUnhurt, PutBefore, PutsAnswer, ReadsNoFurther, Responds, by_line, once}
 use Rattle.bcs_tool.specs.declared.interruption.Interruption.{Interruption}
 use Rattle.bcs_tool.specs.declared.run_fault.RunFault.TheVariants.{Take}
 use Rattle.bcs_tool.specs.declared.tally.Tally.{Tally}
@@ -74,10 +75,15 @@ module _ {S K : Type 0} (content : S → Option (List ℕ)) (has_stopped : S →
     once = λ whole. (refl, refl);
   }
 
+  -- the input wasn't read
+  pub unread : (input : S) → ReadsNoFurther content has_stopped allowance taken is_failed work input input 0
+  unread input lines = ([], giving.Took-nothing content has_stopped allowance input, omega arith)
+
   -- memory ran out before the input was read, or behind all of it
   pub no_memory : (input input' : S) (out : K) → IsUnhurt content has_stopped allowance taken is_failed work input input'
+      → ReadsNoFurther content has_stopped allowance taken is_failed work input input' 0
       → Ends content has_stopped allowance taken is_failed work input input' out out (Err (record { fault = Take take_fault.OutOfMemory; answered = 0 }))
-  no_memory input input' out unhurt = (unhurt, nothing_before input out)
+  no_memory input input' out unhurt no_further = (unhurt, no_further, nothing_before input out)
 
   pub unhurt_whole : (input input' : S) (bytes : List ℕ) → source.Took content has_stopped allowance input input' bytes → length bytes ≤ size_limit → has_stopped input' ≡ false
       → IsUnhurt content has_stopped allowance taken is_failed work input input'
@@ -89,12 +95,12 @@ module _ {S K : Type 0} (content : S → Option (List ℕ)) (has_stopped : S →
       → (fault ≡ take_fault.TooLarge → (bytes : List ℕ) × source.Took content has_stopped allowance input input' bytes × (length bytes ≡ size_limit + 1))
       → (fault ≡ take_fault.OutOfMemory → (bytes : List ℕ) × source.Took content has_stopped allowance input input' bytes × (length bytes ≤ size_limit) × (has_stopped input' ≡ false))
       → Ends content has_stopped allowance taken is_failed work input input' out out (Err (record { fault = Take fault; answered = 0 }))
-  not_taken input input' out take_fault.Read reads whole read large memory = (reads, (read refl).1.after, nothing_before input out)
+  not_taken input input' out take_fault.Read reads whole read large memory = (reads, (read refl).1.after, λ lines. absurd (whole lines), nothing_before input out)
   not_taken input input' out take_fault.TooLarge reads whole read large memory =
       let l = large refl in
-      (reads, inl (whole, (l.0, l.2, l.1)), nothing_before input out)
+      (reads, inl (whole, (l.0, l.2, l.1)), λ lines. absurd (whole lines), nothing_before input out)
   not_taken input input' out take_fault.OutOfMemory reads whole read large memory =
-      let m = memory refl in no_memory input input' out (unhurt_whole input input' m.0 m.1 m.2 m.3)
+      let m = memory refl in no_memory input input' out (unhurt_whole input input' m.0 m.1 m.2 m.3) (λ lines. absurd (whole lines))
 
   -- one answer was put, or a front of it
   pub put_once : (input input' : S) (out out' : K) (answer : Answer) (bytes : List ℕ) (result : Result Report Interruption) → ¬ HasLines work
@@ -116,20 +122,23 @@ module _ {S K : Type 0} (content : S → Option (List ℕ)) (has_stopped : S →
       }
   put_once input input' out out' answer bytes (Err e) whole known is puts =
       let P : Interruption → Type 0 = λ i. FailsAt content has_stopped allowance taken is_failed work input input' out out' i.fault i.answered in
-      subst P (sym puts.0) (record {
-        lines = [];
-        statuses = [];
-        before = [];
-        many = refl;
-        answers = none;
-        status = answer.status;
-        output = answer.output.items;
-        next = inr (inl (whole, (bytes, known, is.0)));
-        shown = puts.1.0;
-        short = puts.1.1;
-        put = puts.1.2;
-        once = λ whole. refl;
-      })
+      subst P (sym puts.0) (
+        λ lines. absurd (whole lines),
+        record {
+          lines = [];
+          statuses = [];
+          before = [];
+          many = refl;
+          answers = none;
+          status = answer.status;
+          output = answer.output.items;
+          next = inr (inl (whole, (bytes, known, is.0)));
+          shown = puts.1.0;
+          short = puts.1.1;
+          put = puts.1.2;
+          once = λ whole. refl;
+        },
+      )
 
   -- all lines were answered, and how many with which status is told
   pub tallied : (input : S) (out out' : K) (tally : Tally) (report : Report) → HasLines work → AllAnswered content has_stopped allowance taken is_failed work input out out' tally

@@ -141,9 +141,9 @@ module _ {S K : Type 0} (content : S → Option (List ℕ)) (has_stopped : S →
   scan_fails input input' out e of first = subst (λ (n : ℕ). FailsAt content has_stopped allowance taken is_failed work input input' out out e.fault n) (sym first) (go e.fault of)
     where
       go : (fault : RunFault) → FaultOfScan content has_stopped input input' fault → FailsAt content has_stopped allowance taken is_failed work input input' out out fault 0
-      go (Take take_fault.Read) of = (streams.2, of, nothing_before content has_stopped allowance taken is_failed work input out)
+      go (Take take_fault.Read) of = (streams.2, of, λ lines. absurd (whole lines), nothing_before content has_stopped allowance taken is_failed work input out)
       go (Take take_fault.TooLarge) of = absurd of
-      go (Take take_fault.OutOfMemory) of = (inr (inr (streams, of)), nothing_before content has_stopped allowance taken is_failed work input out)
+      go (Take take_fault.OutOfMemory) of = (inr (inr (streams, of)), λ lines. absurd (whole lines), nothing_before content has_stopped allowance taken is_failed work input out)
       go Write of = absurd of
 
   -- the answer was put, or a front of it
@@ -165,17 +165,20 @@ module _ {S K : Type 0} (content : S → Option (List ℕ)) (has_stopped : S →
           (once answer.status answer.output.items report.place.items whole (told are) (places.nothing (puts.place ∙ is.place)))
   put_scan input input' out out' answer (Err e) is puts =
       let P : Interruption → Type 0 = λ i. FailsAt content has_stopped allowance taken is_failed work input input' out out' i.fault i.answered in
-      subst P (sym puts.0) (record {
-        lines = [];
-        statuses = [];
-        before = [];
-        many = refl;
-        answers = none;
-        status = answer.status;
-        output = answer.output.items;
-        next = inr (inr (streams, is.told));
-        shown = puts.1.0;
-        short = puts.1.1;
-        put = puts.1.2;
-        once = λ whole. refl;
-      })
+      subst P (sym puts.0) (
+        λ lines. absurd (whole lines),
+        record {
+          lines = [];
+          statuses = [];
+          before = [];
+          many = refl;
+          answers = none;
+          status = answer.status;
+          output = answer.output.items;
+          next = inr (inr (streams, is.told));
+          shown = puts.1.0;
+          short = puts.1.1;
+          put = puts.1.2;
+          once = λ whole. refl;
+        },
+      )

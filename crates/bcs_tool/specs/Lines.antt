@@ -1,8 +1,8 @@
 -- What is known of a run over lines, between two of them.
-use Rattle.std.specs.Prelude.{◌≡◌, ◌+◌, ◌≤◌, ◌++◌, ℕ, List, Bool, All, Option, Some, None, Result, Ok, Err, length}
+use Rattle.std.specs.Prelude.{◌≡◌, ◌+◌, ◌<◌, ◌≤◌, ◌++◌, ℕ, List, Bool, All, Option, Some, None, Result, Ok, Err, length}
 use Rattle.bcs_io.specs.Giving as source
 use Rattle.bcs_io.specs.Taking as sink
-use Rattle.bcs_io_lines.specs.Lines.{HasNoLineFeed, lines_of}
+use Rattle.bcs_io_lines.specs.Lines.{HasNoLineFeed, block_size, line_feeds, lines_of}
 use Rattle.bcs_tool_answers.specs.LineAnswers.{AnswersAll, count_of, greatest}
 use Rattle.bcs_tool_files.specs.Files.{IsContent}
 use Rattle.bcs_tool_files.specs.declared.work.Work.{Work}
@@ -29,6 +29,11 @@ module _ {S : Type 0} (content : S → Option (List ℕ)) (has_stopped : S → B
   pub record AreRead (input now : S) (lines : List (List ℕ)) (rest : List ℕ) : Type 0 where
     pub given : List ℕ
     pub took : source.Took content has_stopped allowance input now given
+    -- the rest stands behind the lines, and is less than a block
+    pub front : List ℕ
+    pub parts : given ≡ front ++ rest
+    pub few : line_feeds front ≤ length lines
+    pub ahead : length rest < block_size
     pub stand : StandBefore (content input) (content now) lines rest
     pub plain : All HasNoLineFeed lines
     -- each line took a byte at least, so that they can be counted

@@ -64,7 +64,7 @@ module _ {S : Type 0} (content : S → Option (List ℕ)) (has_stopped : S → B
   abbrev pub FailsNext : NextFault → S → S → Held → Held → Type 0
   FailsNext next_fault.Read old new before after = FailsInLine content has_stopped allowance size_limit old new before after
   FailsNext next_fault.TooLong old new before after = IsTooLong content has_stopped allowance size_limit old new before after
-  FailsNext next_fault.OutOfMemory old new before after = RunsOut content has_stopped allowance old new
+  FailsNext next_fault.OutOfMemory old new before after = RunsOut content has_stopped allowance old new before
 
   -- whether there is a next line
   abbrev pub ReadsOn : Bool → S → S → Held → Held → Type 0

@@ -5,7 +5,7 @@ use Rattle.bcs_decode.specs.Whole.{FrontGone}
 use Rattle.bcs_decode_spec.specs.Exact.{AreBytes}
 use Rattle.bcs_io.specs.Giving as source
 use Rattle.bcs_io.specs.Taking as sink
-use Rattle.bcs_io_lines.specs.Lines.{lines_of}
+use Rattle.bcs_io_lines.specs.Lines.{before_block, line_feeds, lines_of}
 use Rattle.bcs_io_lines.specs.declared.next_fault.NextFault.{NextFault}
 use Rattle.bcs_io_lines.specs.declared.next_fault.NextFault.TheVariants as next
 use Rattle.bcs_tool_answers.specs.Answers.{Answers}
@@ -163,12 +163,23 @@ module _ {S K : Type 0} (content : S → Option (List ℕ)) (has_stopped : S →
       × (¬ HasLines work → (length bytes ≤ size_limit) × (has_stopped input' ≡ false)))
       ⊎ (Streams work × IfTold (content input) (λ all. FrontGone all (content input')))
 
+  -- the input gave no whole line behind so many, and then a call failed
+  abbrev pub StopsInLine : Work → S → S → ℕ → Type 0
+  StopsInLine work input input' count =
+      HasLines work → (given : List ℕ) × source.Lost content has_stopped allowance input input' given × (line_feeds given ≤ count)
+
+  -- before the last block that the input gave stands no whole line behind so many: no block is asked for before the lines of
+  -- the one before are answered
+  abbrev pub ReadsNoFurther : Work → S → S → ℕ → Type 0
+  ReadsNoFurther work input input' count =
+      HasLines work → (given : List ℕ) × source.Took content has_stopped allowance input input' given × (line_feeds (before_block given) ≤ count)
+
   -- the run stopped with this fault, behind so many lines
   abbrev pub FailsAt : Work → S → S → K → K → RunFault → ℕ → Type 0
-  FailsAt work input input' out out' (Take Read) count = ReadsInput work × (has_stopped input' ≡ true) × PutBefore work input out out' count
-  FailsAt work input input' out out' (Take TooLarge) count = ReadsInput work × IsTooLarge work input input' count × PutBefore work input out out' count
-  FailsAt work input input' out out' (Take OutOfMemory) count = IsUnhurt work input input' × PutBefore work input out out' count
-  FailsAt work input input' out out' Write count = PutPart work input out out' count
+  FailsAt work input input' out out' (Take Read) count = ReadsInput work × (has_stopped input' ≡ true) × StopsInLine work input input' count × PutBefore work input out out' count
+  FailsAt work input input' out out' (Take TooLarge) count = ReadsInput work × IsTooLarge work input input' count × ReadsNoFurther work input input' count × PutBefore work input out out' count
+  FailsAt work input input' out out' (Take OutOfMemory) count = IsUnhurt work input input' × ReadsNoFurther work input input' count × PutBefore work input out out' count
+  FailsAt work input input' out out' Write count = ReadsNoFurther work input input' count × PutPart work input out out' count
 
   -- the answers to the whole input were put; of bytes that are judged as they come something is said where they are known
   pub record IsAnswered (work : Work) (input : S) (out out' : K) (report : Report) : Type 0 where

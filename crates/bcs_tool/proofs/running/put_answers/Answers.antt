@@ -6,7 +6,7 @@ use Rattle.bcs_tool_files.specs.declared.work.Report.{Report}
 use Rattle.bcs_tool.specs.Running.{Ends}
 use Rattle.bcs_tool.specs.declared.interruption.Interruption.{Interruption}
 use Rattle.bcs_tool.specs.declared.run_fault.RunFault.TheVariants.{Take}
-use Rattle.bcs_tool.proofs.RunLemmas.{handed_on, no_input_no_lines, no_memory, put_once, some_content}
+use Rattle.bcs_tool.proofs.RunLemmas.{handed_on, no_input_no_lines, no_memory, put_once, some_content, unread}
 use Rattle.bcs_tool.proofs.running.put_answers.Goals as goal
 
 pub returns-in_err-answer-clause-ends : goal.returns-in_err-answer-clause-ends
@@ -16,7 +16,8 @@ returns-in_err-answer-clause-ends g c =
     work c.args.input.now c.args.input.now c.args.out.now c.args.out.now r in
     handed_on P c.from_residual.result (record { fault = Take OutOfMemory; answered = 0 }) c.from_residual.ensures.1
     (no_memory g.S.ByteSource.content g.S.ByteSource.is_failed g.S.ByteSource.allowance g.K.ByteSink.taken g.K.ByteSink.is_failed work
-    c.args.input.now c.args.input.now c.args.out.now (inl refl))
+    c.args.input.now c.args.input.now c.args.out.now (inl refl)
+    (unread g.S.ByteSource.content g.S.ByteSource.is_failed g.S.ByteSource.allowance g.K.ByteSink.taken g.K.ByteSink.is_failed work c.args.input.now))
 
 pub returns-in-Answered-clause-ends : goal.returns-in-Answered-clause-ends
 returns-in-Answered-clause-ends g c =

@@ -34,7 +34,8 @@ returns-in_err-answer g c =
     (no_memory g.S.ByteSource.content g.S.ByteSource.is_failed g.S.ByteSource.allowance g.K.ByteSink.taken g.K.ByteSink.is_failed work
     c.args.input.now c.take_all.new.input c.args.out.now
     (unhurt_whole g.S.ByteSource.content g.S.ByteSource.is_failed g.S.ByteSource.allowance g.K.ByteSink.taken g.K.ByteSink.is_failed work
-    c.args.input.now c.take_all.new.input bytes whole.0 within whole.2))
+    c.args.input.now c.take_all.new.input bytes whole.0 within whole.2)
+    (λ lines. absurd (no_lines work c.requires.whole lines)))
 
 pub returns : goal.returns
 returns g c =
