@@ -2,8 +2,11 @@
 use Rattle.std.proofs.Common.{◌≡◌, ℕ, ℤ, Bool, Vec, Global, String, string_bytes, rules}
 use Rattle.bcs_value_tree.specs.Tree as tree
 use Rattle.bcs_value_tree.specs.View.{tree_of}
-use Rattle.bcs_value_tree.specs.declared.value.Value.{the_lemmas}
+use Rattle.bcs_value_tree.specs.declared.value.Value.{Value, the_lemmas}
 use Rattle.bcs_value_tree.specs.declared.value.Value as value
+
+pub tree_unit : tree_of value.Unit ≡ tree.unit
+tree_unit = search (rules, the_lemmas)
 
 pub tree_truth : (b : Bool) → tree_of (value.Bool b) ≡ tree.truth b
 tree_truth b = search (rules, the_lemmas)
@@ -19,3 +22,6 @@ tree_text s = search (rules, the_lemmas)
 
 pub tree_bytes : (v : Vec ℕ Global) → tree_of (value.Bytes v) ≡ tree.bytes v.items
 tree_bytes v = search (rules, the_lemmas)
+
+pub tree_absent : tree_of value.Absent ≡ tree.absent
+tree_absent = search (rules, the_lemmas)

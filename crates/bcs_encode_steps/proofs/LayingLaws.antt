@@ -13,7 +13,7 @@ use Rattle.bcs_registry_formats.specs.Shape as shape
 use Rattle.bcs_registry_formats.specs.Shape.{Shape, Shapes, no_shapes, shape}
 use Rattle.bcs_registry_formats.specs.Container.{Entries, Content, of, one_of, content_at, choice_at}
 use Rattle.bcs_value_tree.specs.Tree as tree
-use Rattle.bcs_value_tree.specs.Tree.{Tree, Trees, no_trees, tree, count, pair_count}
+use Rattle.bcs_value_tree.specs.Tree.{Tree, Trees, no_trees, tree, Pairs, no_pairs, pair, count, pair_count}
 use Rattle.bcs_num.specs.Le.{holds_signed}
 use Rattle.bcs_encode_spec.specs.Lengths.{length_limit}
 use Rattle.bcs_encode_spec.specs.Entries.{Entry, entry_bytes, EntriesRiseFrom, EntriesRise, HasTwins}
@@ -53,6 +53,14 @@ entries_after es b x = elim (cases_Bool (has_twins (in_order es))) [
   | inl is ↦ rw is refl
   | inr isnt ↦ rw isnt (appended b x (flat_map entry_bytes (in_order es)))
 ]
+
+-- what comes of the spans, behind other bytes
+pub arranged : (b bytes c : List ℕ) (xs ys : List Span) (v : Verdict) → c ≡ bytes → ys ≡ xs → sorted_entries_written (map (span_entry c) ys) [] ≡ v
+    → sorted_entries_written (map (span_entry bytes) xs) b ≡ chain v (λ d. Ok (b ++ d))
+arranged b bytes c xs ys v same is h =
+    ap (sorted_entries_written (map (span_entry bytes) xs)) (sym (append-nil b))
+    ∙ entries_after (map (span_entry bytes) xs) b []
+    ∙ ap (after b) (sym (ap₂ (λ (x : List ℕ) (zs : List Span). sorted_entries_written (map (span_entry x) zs) []) same is) ∙ h)
 
 map_after : (v : Result (List Entry) EncodeFault) (b c : List ℕ) → chain v (λ es. sorted_entries_written es (b ++ c)) ≡ after b (chain v (λ es. sorted_entries_written es c))
 map_after (Ok es) b c = entries_after es b c

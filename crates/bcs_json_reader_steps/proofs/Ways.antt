@@ -4,6 +4,9 @@ use Rattle.std.proofs.lemmas.List.{reverse-append, map-append}
 use Rattle.bcs_json_spec.specs.Place.{step_of}
 use Rattle.bcs_json_spec.specs.declared.json_step.JsonStep.{JsonStep}
 
+pub steps_more : (inner : List JsonStep) (s : JsonStep) → reverse (map step_of (inner ++ s ∷ [])) ≡ step_of s ∷ reverse (map step_of inner)
+steps_more inner s = ap reverse (map-append step_of inner (s ∷ [])) ∙ reverse-append (map step_of inner) (step_of s ∷ [])
+
 pub steps_turned : (inner : List JsonStep) → map step_of (reverse inner) ≡ reverse (map step_of inner)
 steps_turned [] = refl
 steps_turned (s ∷ inner) =
