@@ -1,11 +1,11 @@
 -- One thing at most is asked for, and then it isn't refused. What is answered of a registry is answered of its text too, and of
 -- a handle in which it is open.
 use Rattle.std.proofs.Common.{◌≡◌, ◌∙◌, ℕ, List, Option, Some, None, ap, arith, refl, subst, sym}
-use Rattle.bcs_registry_formats.specs.Container.{Entries}
-use Rattle.bcs_registry_formats.specs.Shape.{Shape}
-use Rattle.bcs_registry_spec.proofs.OneFault.{one_fault, one_format_fault}
-use Rattle.bcs_registry_spec.proofs.OneText.{same_format, same_registry}
-use Rattle.bcs_value_spec.specs.Limits.{Bounds}
+use Rattle.bcs_registry_model.specs.Container.{Entries}
+use Rattle.bcs_registry_model.specs.Shape.{Shape}
+use Rattle.bcs_registry.proofs.OneFault.{one_fault, one_format_fault}
+use Rattle.bcs_registry.proofs.OneText.{same_format, same_registry}
+use Rattle.bcs_value_model.specs.Limits.{Bounds}
 use Rattle.bcs_c.specs.Answers.{plain}
 use Rattle.bcs_c.specs.Asking.{Answers, Asks, Has, RefusesAsk, RefusesSource, Request, Source, Whatever, by_texts, given, kept, no_format, no_limits, no_registry, on_handle, refused, rest, written}
 use Rattle.bcs_c.specs.Registries.{IsFormat, IsRegistry, RefusesFormat, RefusesRegistry, has_fault, no_memory}

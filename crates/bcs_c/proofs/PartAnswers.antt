@@ -1,9 +1,9 @@
 -- The answers to a path, by what `part` hands out.
 use Rattle.std.proofs.Common.{◌≡◌, ◌≢◌, ℕ, List, Option, Some, None, length, drop, take, ap, subst, ◌∙◌}
-use Rattle.bcs_registry_formats.specs.Container.{Entries, of}
-use Rattle.bcs_registry_formats.specs.Shape.{Shape}
-use Rattle.bcs_value_spec.specs.Limits.{Bounds}
-use Rattle.bcs_value_tree.specs.Tree.{Tree}
+use Rattle.bcs_registry_model.specs.Container.{Entries, of}
+use Rattle.bcs_registry_model.specs.Shape.{Shape}
+use Rattle.bcs_value_model.specs.Limits.{Bounds}
+use Rattle.bcs_value_model.specs.Tree.{Tree}
 use Rattle.bcs_encode_spec.specs.Plain.{plain as bytes_of}
 use Rattle.bcs_decode_spec.specs.Accepting.{Accepts}
 use Rattle.bcs_decode_spec.specs.Stopping.{Stops}
@@ -12,7 +12,7 @@ use Rattle.bcs_decode_spec.proofs.Verdicts.{accepts_once_is, no_two_verdicts_are
 use Rattle.bcs_decode_parts.specs.Parts.{Part, part_at}
 use Rattle.bcs_decode_parts.specs.Steps.{GivesPart}
 use Rattle.bcs_decode_parts.specs.declared.part.Part as declared
-use Rattle.bcs_tool_path.proofs.Parts.{one_path}
+use Rattle.bcs_decode_parts.proofs.Parts.{one_path}
 use Rattle.bcs_c.specs.Answers.{placed, plain, stop_at}
 use Rattle.bcs_c.specs.Asking.{IsUnlessMemory}
 use Rattle.bcs_c.specs.Parts.{AnswersPart, AnswersSteps, Finds, IsPath, RefusesPath, Steps, found, no_memory, no_path, no_text, out_of_memory, refused, stepped, stopped}

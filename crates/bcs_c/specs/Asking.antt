@@ -1,9 +1,9 @@
 -- What is asked for of a registry that a text writes down, or of one that is open, and why it is refused.
 use Rattle.std.specs.Prelude.{◌≡◌, ◌≢◌, ◌<◌, ◌≤◌, ℕ, List, Option, Some, None}
-use Rattle.bcs_registry_formats.specs.Container.{Entries}
-use Rattle.bcs_registry_formats.specs.Shape.{Shape}
-use Rattle.bcs_registry_formats.specs.View.{shape_of}
-use Rattle.bcs_value_spec.specs.Limits.{Bounds}
+use Rattle.bcs_registry_model.specs.Container.{Entries}
+use Rattle.bcs_registry_model.specs.Shape.{Shape}
+use Rattle.bcs_registry_model.specs.View.{shape_of}
+use Rattle.bcs_value_model.specs.Limits.{Bounds}
 use Rattle.bcs_c.specs.Answers.{plain}
 use Rattle.bcs_c.specs.Registries.{IsFormat, IsRegistry, RefusesFormat, RefusesRegistry}
 use Rattle.bcs_c.specs.declared.answer.Answer.{Answer}

@@ -1,9 +1,9 @@
 -- What is answered to a JSON text of which something is asked for.
 use Rattle.std.specs.Prelude.{◌≡◌, ℕ, List}
-use Rattle.bcs_registry_formats.specs.Container.{Entries}
-use Rattle.bcs_registry_formats.specs.Shape.{Shape}
-use Rattle.bcs_value_spec.specs.Limits.{Bounds}
-use Rattle.bcs_value_tree.specs.Tree.{Tree}
+use Rattle.bcs_registry_model.specs.Container.{Entries}
+use Rattle.bcs_registry_model.specs.Shape.{Shape}
+use Rattle.bcs_value_model.specs.Limits.{Bounds}
+use Rattle.bcs_value_model.specs.Tree.{Tree}
 use Rattle.bcs_json_spec.specs.Texts.{Denotes, RefusesText}
 use Rattle.bcs_json_spec.specs.declared.json_fault.JsonFault.{JsonFault}
 use Rattle.bcs_c.specs.Answers.{plain, refusal}

@@ -1,11 +1,11 @@
 -- What is answered to bytes that are to be explained.
 use Rattle.std.specs.Prelude.{◌≡◌, ◌==◌, ℕ, List, Option, if◌then◌else◌}
-use Rattle.bcs_registry_formats.specs.Container.{Entries}
-use Rattle.bcs_registry_formats.specs.Shape.{Shape}
-use Rattle.bcs_value_spec.specs.Limits.{Bounds}
+use Rattle.bcs_registry_model.specs.Container.{Entries}
+use Rattle.bcs_registry_model.specs.Shape.{Shape}
+use Rattle.bcs_value_model.specs.Limits.{Bounds}
 use Rattle.bcs_decode_spec.specs.declared.stop.Stop.{Stop}
-use Rattle.bcs_explain_columns.specs.declared.style.Form.{Form}
-use Rattle.bcs_explain_columns.specs.declared.style.Form.TheVariants.{Json, Paths, Tree, Ways}
+use Rattle.bcs_look_text.specs.declared.style.Form.{Form}
+use Rattle.bcs_look_text.specs.declared.style.Form.TheVariants.{Json, Paths, Tree, Ways}
 use Rattle.bcs_look_pieces.specs.EndsAt.{EndsAt}
 use Rattle.bcs_c.specs.Answers.{plain, with_stop}
 use Rattle.bcs_c.specs.Output.{Puts}

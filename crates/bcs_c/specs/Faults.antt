@@ -1,10 +1,10 @@
 -- The numbers of faults, as C sees them, and their names. Want of memory is a status of its own, and has no number.
 use Rattle.std.specs.Prelude.{ℕ, List, codes}
-use Rattle.bcs_registry_formats.specs.FaultNames.{growth_fault_name, registry_fault_name}
-use Rattle.bcs_registry_formats.specs.declared.fault.RegistryFault.{RegistryFault}
-use Rattle.bcs_registry_formats.specs.declared.fault.RegistryFault.TheVariants as registry
-use Rattle.bcs_registry_formats.specs.declared.growth_fault.GrowthFault.{GrowthFault}
-use Rattle.bcs_registry_formats.specs.declared.growth_fault.GrowthFault.TheVariants as growth
+use Rattle.bcs_registry_model.specs.FaultNames.{growth_fault_name, registry_fault_name}
+use Rattle.bcs_registry_model.specs.declared.fault.RegistryFault.{RegistryFault}
+use Rattle.bcs_registry_model.specs.declared.fault.RegistryFault.TheVariants as registry
+use Rattle.bcs_registry_model.specs.declared.growth_fault.GrowthFault.{GrowthFault}
+use Rattle.bcs_registry_model.specs.declared.growth_fault.GrowthFault.TheVariants as growth
 use Rattle.bcs_decode_spec.specs.Stop.{reason_name}
 use Rattle.bcs_decode_spec.specs.declared.reason.Reason.{Reason}
 use Rattle.bcs_decode_spec.specs.declared.reason.Reason.TheVariants as reason

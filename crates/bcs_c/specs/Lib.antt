@@ -12,3 +12,4 @@ pub mod Scanned
 pub mod Parts
 pub mod Explained
 pub mod Named
+pub mod Holding

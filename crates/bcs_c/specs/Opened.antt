@@ -1,6 +1,6 @@
 -- What is answered to the text of a registry that is to be open.
 use Rattle.std.specs.Prelude.{◌≡◌, ℕ, List, Option, Some}
-use Rattle.bcs_registry_formats.specs.Container.{Entries}
+use Rattle.bcs_registry_model.specs.Container.{Entries}
 use Rattle.bcs_c.specs.Answers.{plain}
 use Rattle.bcs_c.specs.Registries.{IsRegistry, RefusesRegistry}
 use Rattle.bcs_c.specs.declared.answer.Answer.{Answer}

@@ -1,15 +1,15 @@
 -- What is answered to a path into the bytes of a value.
 use Rattle.std.specs.Prelude.{◌≡◌, ℕ, IsUtf8, List, Option, Some, None, drop, length, take}
-use Rattle.bcs_registry_formats.specs.Container.{Entries, of}
-use Rattle.bcs_registry_formats.specs.Shape.{Shape}
-use Rattle.bcs_value_spec.specs.Limits.{Bounds}
-use Rattle.bcs_value_tree.specs.Tree.{Tree}
+use Rattle.bcs_registry_model.specs.Container.{Entries, of}
+use Rattle.bcs_registry_model.specs.Shape.{Shape}
+use Rattle.bcs_value_model.specs.Limits.{Bounds}
+use Rattle.bcs_value_model.specs.Tree.{Tree}
 use Rattle.bcs_encode_spec.specs.Plain.{plain as bytes_of}
 use Rattle.bcs_decode_spec.specs.Accepting.{Accepts}
 use Rattle.bcs_decode_spec.specs.Stopping.{Stops}
 use Rattle.bcs_decode_spec.specs.declared.reason.Reason.{Reason}
 use Rattle.bcs_decode_parts.specs.Parts.{Part, Step, part_at}
-use Rattle.bcs_tool_path.specs.Path.{SpellsNoPath, SpellsPath}
+use Rattle.bcs_decode_parts.specs.Path.{SpellsNoPath, SpellsPath}
 use Rattle.bcs_c.specs.Answers.{placed, plain, refusal, stop_at}
 use Rattle.bcs_c.specs.declared.answer.Answer.{Answer}
 use Rattle.bcs_c.specs.declared.fault.Fault.TheVariants.{BadPath}

@@ -1,13 +1,13 @@
 -- What is answered to texts of registries and formats.
 use Rattle.std.specs.Prelude.{◌≡◌, ℕ, List}
-use Rattle.bcs_registry_formats.specs.Container.{Entries}
-use Rattle.bcs_registry_formats.specs.Grows.{Grows, IsFirstGrowthFault}
-use Rattle.bcs_registry_formats.specs.Shape.{Shape}
-use Rattle.bcs_registry_formats.specs.WellFormed.{Admits, IsWellFormed}
-use Rattle.bcs_registry_formats.specs.declared.fault.RegistryFault.{RegistryFault}
-use Rattle.bcs_registry_formats.specs.declared.growth_fault.GrowthFault.{GrowthFault}
-use Rattle.bcs_registry_spec.specs.Faults.{IsLeastFault, IsLeastFormatFault}
-use Rattle.bcs_registry_text.specs.Text.{WritesFormat, WritesRegistry}
+use Rattle.bcs_registry_model.specs.Container.{Entries}
+use Rattle.bcs_registry_model.specs.Grows.{Grows, IsFirstGrowthFault}
+use Rattle.bcs_registry_model.specs.Shape.{Shape}
+use Rattle.bcs_registry_model.specs.WellFormed.{Admits, IsWellFormed}
+use Rattle.bcs_registry_model.specs.declared.fault.RegistryFault.{RegistryFault}
+use Rattle.bcs_registry_model.specs.declared.growth_fault.GrowthFault.{GrowthFault}
+use Rattle.bcs_registry.specs.Faults.{IsLeastFault, IsLeastFormatFault}
+use Rattle.bcs_registry_json.specs.Text.{WritesFormat, WritesRegistry}
 use Rattle.bcs_c.specs.Answers.{plain, refusal}
 use Rattle.bcs_c.specs.declared.answer.Answer.{Answer}
 use Rattle.bcs_c.specs.declared.fault.Fault.TheVariants as fault

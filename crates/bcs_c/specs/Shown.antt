@@ -1,10 +1,10 @@
 -- What is answered to bytes of which the text is asked for.
 use Rattle.std.specs.Prelude.{◌≡◌, ◌<◌, ℕ, List, length}
 use Rattle.serde_json.specs.Data.{depth}
-use Rattle.bcs_registry_formats.specs.Container.{Entries}
-use Rattle.bcs_registry_formats.specs.Shape.{Shape}
-use Rattle.bcs_value_spec.specs.Limits.{Bounds}
-use Rattle.bcs_value_tree.specs.Tree.{Tree}
+use Rattle.bcs_registry_model.specs.Container.{Entries}
+use Rattle.bcs_registry_model.specs.Shape.{Shape}
+use Rattle.bcs_value_model.specs.Limits.{Bounds}
+use Rattle.bcs_value_model.specs.Tree.{Tree}
 use Rattle.bcs_decode_spec.specs.Accepting.{Accepts}
 use Rattle.bcs_decode_spec.specs.Stopping.{StopsAll}
 use Rattle.bcs_decode_spec.specs.declared.reason.Reason.{Reason}

@@ -1,6 +1,6 @@
 //! What a call answers.
 ghost use Rattle.std.specs.Prelude.{◌≡◌, ◌≢◌};
-ghost use Rattle.bcs_registry_formats.specs.declared.fault.RegistryFault.TheVariants as registry_fault;
+ghost use Rattle.bcs_registry_model.specs.declared.fault.RegistryFault.TheVariants as registry_fault;
 ghost use Rattle.bcs_json_spec.specs.declared.json_fault.JsonFault.TheVariants as json_fault;
 ghost use Rattle.bcs_c.specs.declared.status.Status.TheVariants.{Memory, Refused};
 ghost use Rattle.bcs_c.specs.declared.fault.Fault.TheVariants.{Registry, Text};
@@ -10,7 +10,7 @@ use crate::fault::Fault;
 use crate::status::Status;
 use bcs_decode_spec::Stop;
 use bcs_json_spec::JsonFault;
-use bcs_registry_formats::RegistryFault;
+use bcs_registry_model::RegistryFault;
 
 /// What a call answers. `status` says how it went, and which of the other fields tell something; the others are 0.
 #[repr(C)]

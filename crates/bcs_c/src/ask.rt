@@ -1,7 +1,7 @@
 //! What a call is asked for, beside its input.
 ghost use Rattle.std.specs.Prelude.{◌≡◌, IfErr, IfOk};
 ghost use Rattle.std.specs.declared.option.Option.TheVariants.{Some};
-ghost use Rattle.bcs_registry_formats.specs.View.{shape_of};
+ghost use Rattle.bcs_registry_model.specs.View.{shape_of};
 ghost use Rattle.bcs_c.specs.Asking.{Asks, RefusesAsk, on_handle, rest};
 
 use crate::answer::Answer;

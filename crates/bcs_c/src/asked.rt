@@ -1,6 +1,6 @@
 //! What was read of what a call is asked for.
-ghost use Rattle.bcs_registry_formats.specs.View.{shape_of};
-ghost use Rattle.bcs_registry_formats.specs.WellFormed.{Admits};
+ghost use Rattle.bcs_registry_model.specs.View.{shape_of};
+ghost use Rattle.bcs_registry_model.specs.WellFormed.{Admits};
 
 use bcs_registry::{Format, Registry};
 use bcs_value::Limits;

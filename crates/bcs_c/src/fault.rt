@@ -4,7 +4,7 @@ ghost use Rattle.bcs_c.specs.Faults.{fault_name, fault_number, growth_number, re
 
 use bcs_decode_spec::Reason;
 use bcs_json_spec::JsonFault;
-use bcs_registry_formats::{GrowthFault, RegistryFault};
+use bcs_registry_model::{GrowthFault, RegistryFault};
 
 /// Why something is refused. C sees its number.
 #[derive(Clone, Copy)]

@@ -1,8 +1,8 @@
 //! A registry that is open between calls, for C, and the calls on it.
 ghost use Rattle.std.specs.Prelude.{◌≡◌, ◌≢◌, ℕ};
 ghost use Rattle.std.specs.declared.option.Option.TheVariants.{None};
-ghost use Rattle.bcs_registry_formats.specs.Container.{Entries, of};
-ghost use Rattle.bcs_value_tree.specs.Tree.{Tree};
+ghost use Rattle.bcs_registry_model.specs.Container.{Entries, of};
+ghost use Rattle.bcs_value_model.specs.Tree.{Tree};
 ghost use Rattle.bcs_decode_spec.specs.Accepting.{Accepts};
 ghost use Rattle.bcs_decode_spec.specs.Stopping.{Stops};
 ghost use Rattle.bcs_decode_spec.specs.declared.reason.Reason.{Reason};
@@ -21,6 +21,7 @@ ghost use Rattle.bcs_c.specs.Shown.{AnswersBytes};
 ghost use Rattle.bcs_c.specs.Statuses.{status_number};
 ghost use Rattle.bcs_c.specs.declared.status.Status.TheVariants.{Done, Memory};
 
+use crate::Handle;
 use crate::answer::Answer;
 use crate::ask::HandleAsk;
 use crate::checking::soundness;
@@ -30,7 +31,6 @@ use crate::scanning::value_length;
 use crate::showing::bytes_text;
 use crate::status::Status;
 use crate::texts::{comparison, normal_text, text_bytes};
-use bcs_handle::Handle;
 use std::alloc::Global;
 
 /// Reads a registry and keeps it in the handle, in the place of one that was open.

@@ -7,13 +7,17 @@ mod asked;
 mod checking;
 mod explaining;
 mod fault;
+mod handle;
 mod handles;
 mod naming;
 mod numbered;
 mod output;
 mod parts;
+mod raw_box;
 mod registries;
 mod scanning;
 mod showing;
 mod status;
 mod texts;
+
+pub use handle::Handle;

@@ -1,7 +1,7 @@
 //! Which fault a number is of.
 ghost use Rattle.std.specs.Prelude.{◌≡◌, IfNone, IfSome};
-ghost use Rattle.bcs_registry_formats.specs.declared.fault.RegistryFault.{RegistryFault};
-ghost use Rattle.bcs_registry_formats.specs.declared.growth_fault.GrowthFault.{GrowthFault};
+ghost use Rattle.bcs_registry_model.specs.declared.fault.RegistryFault.{RegistryFault};
+ghost use Rattle.bcs_registry_model.specs.declared.growth_fault.GrowthFault.{GrowthFault};
 ghost use Rattle.bcs_decode_spec.specs.declared.reason.Reason.{Reason};
 ghost use Rattle.bcs_json_spec.specs.declared.json_fault.JsonFault.{JsonFault};
 ghost use Rattle.bcs_c.specs.Faults.{growth_number, reason_number, registry_number, text_number};
@@ -12,7 +12,7 @@ ghost use Rattle.bcs_c.specs.declared.fault.Fault.TheVariants.{Growth, Registry,
 use crate::fault::Fault;
 use bcs_decode_spec::Reason;
 use bcs_json_spec::JsonFault;
-use bcs_registry_formats::{GrowthFault, RegistryFault};
+use bcs_registry_model::{GrowthFault, RegistryFault};
 
 /// The fault of this number. None exactly where no fault has it.
 pub(crate) fn fault_numbered(number: u32) -> Option<Fault>

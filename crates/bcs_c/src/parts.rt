@@ -1,14 +1,14 @@
 //! Parts of values, for C.
 ghost use Rattle.std.specs.Prelude.{◌≡◌, ◌≢◌, ℕ, IfErr, IfOk, map};
 ghost use Rattle.std.specs.declared.option.Option.TheVariants.{Some};
-ghost use Rattle.bcs_registry_formats.specs.Container.{of};
-ghost use Rattle.bcs_value_tree.specs.Tree.{Tree};
+ghost use Rattle.bcs_registry_model.specs.Container.{of};
+ghost use Rattle.bcs_value_model.specs.Tree.{Tree};
 ghost use Rattle.bcs_decode_spec.specs.Accepting.{Accepts};
 ghost use Rattle.bcs_decode_spec.specs.Stopping.{Stops};
 ghost use Rattle.bcs_decode_spec.specs.declared.reason.Reason.{Reason};
 ghost use Rattle.bcs_decode_parts.specs.Parts.{part_at};
 ghost use Rattle.bcs_decode_parts.specs.Steps.{step_of};
-ghost use Rattle.bcs_tool_path.specs.PathSteps.{all_spelled};
+ghost use Rattle.bcs_decode_parts.specs.PathSteps.{all_spelled};
 ghost use Rattle.bcs_c.specs.Answers.{plain, stop_at};
 ghost use Rattle.bcs_c.specs.Asking.{Answers, IsUnlessMemory, On, Whatever, by_texts, on_handle};
 ghost use Rattle.bcs_c.specs.Parts.{AnswersPart, AnswersSteps, Finds, IsPath, RefusesPath, Steps};
@@ -21,8 +21,8 @@ use crate::fault::Fault;
 use crate::registries::read_registry;
 use crate::status::Status;
 use bcs_decode::{Step, part};
+use bcs_decode_parts::{PathFault, PathStep, read_path, steps_of};
 use bcs_registry::Registry;
-use bcs_tool_path::{PathFault, PathStep, read_path, steps_of};
 use std::alloc::Global;
 
 /// Where the part of the value at the front of the input stands to which the path leads.

@@ -1,9 +1,9 @@
 //! Registries, for C.
 ghost use Rattle.std.specs.Prelude.{◌≡◌, IfErr, IfOk};
-ghost use Rattle.bcs_registry_formats.specs.Container.{Entries};
-ghost use Rattle.bcs_registry_formats.specs.Grows.{Grows, IsFirstGrowthFault};
-ghost use Rattle.bcs_registry_formats.specs.View.{shape_of};
-ghost use Rattle.bcs_registry_formats.specs.declared.growth_fault.GrowthFault.{GrowthFault};
+ghost use Rattle.bcs_registry_model.specs.Container.{Entries};
+ghost use Rattle.bcs_registry_model.specs.Grows.{Grows, IsFirstGrowthFault};
+ghost use Rattle.bcs_registry_model.specs.View.{shape_of};
+ghost use Rattle.bcs_registry_model.specs.declared.growth_fault.GrowthFault.{GrowthFault};
 ghost use Rattle.bcs_c.specs.Answers.{plain, refusal};
 ghost use Rattle.bcs_c.specs.Asking.{IsUnlessMemory};
 ghost use Rattle.bcs_c.specs.Registries.{AnswersGrowth, AnswersTwo, IsFormat, IsRegistry, RefusesFormat, RefusesRegistry};

@@ -19,11 +19,11 @@ pub use Rattle.bcs_decode.specs.Stopping
 pub use Rattle.bcs_decode.specs.Sliced
 pub use Rattle.bcs_decode.specs.Whole
 pub use Rattle.bcs_decode.specs.Parts
-pub use Rattle.bcs_decode_source_scan.specs.Scanned
-pub use Rattle.bcs_explain.specs.Piece
-pub use Rattle.bcs_explain.specs.Pieces
-pub use Rattle.bcs_explain.specs.Told
-pub use Rattle.bcs_explain.specs.Stopped
+pub use Rattle.bcs_decode.specs.Scanned
+pub use Rattle.bcs_pieces.specs.Piece
+pub use Rattle.bcs_pieces.specs.Pieces
+pub use Rattle.bcs_pieces.specs.Told
+pub use Rattle.bcs_pieces.specs.Stopped
 pub use Rattle.bcs_look_pieces.specs.EndsAt
 pub use Rattle.bcs_json.specs.Spells
 pub use Rattle.bcs_json.specs.Refuses
@@ -41,4 +41,4 @@ pub use Rattle.bcs_value.specs.Laws as ValueLaws
 pub use Rattle.bcs_encode.specs.Laws as EncodeLaws
 pub use Rattle.bcs_decode.specs.Laws as DecodeLaws
 pub use Rattle.bcs_json.specs.Laws as JsonLaws
-pub use Rattle.bcs_explain.specs.Laws as ExplainLaws
+pub use Rattle.bcs_pieces.specs.Laws as ExplainLaws

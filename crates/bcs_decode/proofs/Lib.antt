@@ -1,2 +1,13 @@
 pub mod Slices
 pub mod Wholes
+pub mod Leading
+pub mod PastBlocks
+pub mod PastEntries
+pub mod PastKeys
+pub mod PastParts
+pub mod PastRows
+pub mod PastTexts
+pub mod Scans
+pub mod Sparing
+pub mod Utf8Fronts
+pub mod WorkedRows

@@ -4,21 +4,21 @@ use Rattle.std.proofs.lemmas.List.{drop_at}
 use Rattle.std.specs.Io.KnownBytes.{Consumes, IsAtEnd}
 use Rattle.bcs_decode_spec.specs.Accepting.{Accepts}
 use Rattle.bcs_decode_spec.specs.declared.reason.Reason.TheVariants.{TrailingBytes}
-use Rattle.bcs_registry_formats.specs.Shape.{Shape}
-use Rattle.bcs_registry_formats.specs.Container.{Entries}
-use Rattle.bcs_value_spec.specs.Limits.{Bounds}
-use Rattle.bcs_value_tree.specs.Tree.{Tree}
-use Rattle.bcs_value_tree.specs.View.{tree_of}
-use Rattle.bcs_value_tree.specs.declared.value.Value.{Value}
-use Rattle.bcs_decode_source_steps.specs.declared.at.At.{At}
+use Rattle.bcs_registry_model.specs.Shape.{Shape}
+use Rattle.bcs_registry_model.specs.Container.{Entries}
+use Rattle.bcs_value_model.specs.Limits.{Bounds}
+use Rattle.bcs_value_model.specs.Tree.{Tree}
+use Rattle.bcs_value_model.specs.View.{tree_of}
+use Rattle.bcs_value_model.specs.declared.value.Value.{Value}
+use Rattle.bcs_decode_source.specs.declared.at.At.{At}
 use Rattle.bcs_decode_spec.specs.declared.decode_fault.DecodeFault.{DecodeFault}
 use Rattle.bcs_decode_spec.specs.declared.decode_fault.DecodeFault.TheVariants.{Stop, Read, OutOfMemory}
-use Rattle.bcs_decode_source_steps.specs.Sees.{Refuses, Left, Along, GaveFront, Halts, read}
+use Rattle.bcs_decode_source.specs.Sees.{Refuses, Left, Along, GaveFront, Halts, read}
 use Rattle.bcs_decode.specs.Whole.{FrontGone, DecodesAll, DecodesFrom, DecodesFront}
 use Rattle.bcs_decode_spec.specs.Reading as Reading
 use Rattle.bcs_decode_spec.specs.Reading.{read_value}
-use Rattle.bcs_decode_source_steps.proofs.Going.{Along-gave}
-use Rattle.bcs_decode_source_steps.proofs.StreamedRows.{Found}
+use Rattle.bcs_decode_source.proofs.Going.{Along-gave}
+use Rattle.bcs_decode_source.proofs.StreamedRows.{Found}
 use Rattle.bcs_decode_spec.proofs.Values.{exact_value}
 use Rattle.bcs_decode_spec.proofs.Verdicts.{reads_accepts}
 use Rattle.bcs_decode_spec.proofs.Encoded.{is_decoded, no_encoding_stops}

@@ -12,4 +12,8 @@ pub use Rattle.bcs_decode_spec.specs.Laws
 pub use Rattle.bcs_decode_parts.specs.Parts
 pub use Rattle.bcs_decode_parts.specs.Steps
 pub use Rattle.bcs_decode_parts.specs.PartLaws
-pub use Rattle.bcs_decode_source_steps.specs.Sees
+pub use Rattle.bcs_decode_source.specs.Sees
+pub mod Past
+pub mod Reaching
+pub mod Scanned
+pub mod Texts

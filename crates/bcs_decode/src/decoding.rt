@@ -1,13 +1,13 @@
 //! Values from sources.
 ghost use Rattle.std.specs.Prelude.{◌≡◌, ◌≢◌, ◌↔◌, true, Err, IsErrOf};
-ghost use Rattle.bcs_registry_formats.specs.View.{shape_of};
-ghost use Rattle.bcs_registry_formats.specs.WellFormed.{Admits};
-ghost use Rattle.bcs_decode_source_steps.specs.Sees.{takes_no_memory};
+ghost use Rattle.bcs_registry_model.specs.View.{shape_of};
+ghost use Rattle.bcs_registry_model.specs.WellFormed.{Admits};
+ghost use Rattle.bcs_decode_source.specs.Sees.{takes_no_memory};
 ghost use Rattle.bcs_decode.specs.Whole.{AreKnown, DecodesAll, DecodesFrom, DecodesFront};
 
-use bcs_decode_source_steps::at::At;
-use bcs_decode_source_steps::reader::Reader;
-use bcs_decode_source_walk::values::value;
+use bcs_decode_source::at::At;
+use bcs_decode_source::reader::Reader;
+use bcs_decode_source::values::value;
 use bcs_decode_spec::{DecodeFault, Reason, Stop};
 use bcs_io::ByteSource;
 use bcs_registry::{Format, Registry};

@@ -1,14 +1,14 @@
 //! The value at the front of a slice.
 ghost use Rattle.std.specs.Prelude.{◌≡◌, ℕ, Ok, Err, IfOk, IfErr};
-ghost use Rattle.bcs_registry_formats.specs.View.{shape_of};
-ghost use Rattle.bcs_registry_formats.specs.WellFormed.{Admits};
-ghost use Rattle.bcs_value_tree.specs.Tree.{Tree};
+ghost use Rattle.bcs_registry_model.specs.View.{shape_of};
+ghost use Rattle.bcs_registry_model.specs.WellFormed.{Admits};
+ghost use Rattle.bcs_value_model.specs.Tree.{Tree};
 ghost use Rattle.bcs_decode_spec.specs.declared.reason.Reason.{Reason};
 ghost use Rattle.bcs_decode_spec.specs.Accepting.{Accepts};
 ghost use Rattle.bcs_decode_spec.specs.Stopping.{Stops};
 
-use bcs_decode_slice_steps::cursor::Cursor;
-use bcs_decode_slice_walk::scanning::value;
+use bcs_decode_slice::cursor::Cursor;
+use bcs_decode_slice::scanning::value;
 use bcs_decode_spec::Stop;
 use bcs_registry::{Format, Registry};
 use bcs_value::Limits;

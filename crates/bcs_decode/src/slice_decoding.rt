@@ -1,11 +1,11 @@
 //! Values from slices.
 ghost use Rattle.std.specs.Prelude.{◌≡◌, ◌≢◌, ℕ, true, Err, IfOk};
-ghost use Rattle.bcs_registry_formats.specs.View.{shape_of};
-ghost use Rattle.bcs_registry_formats.specs.WellFormed.{Admits};
-ghost use Rattle.bcs_value_tree.specs.Tree.{Tree};
-ghost use Rattle.bcs_value_tree.specs.View.{tree_of};
+ghost use Rattle.bcs_registry_model.specs.View.{shape_of};
+ghost use Rattle.bcs_registry_model.specs.WellFormed.{Admits};
+ghost use Rattle.bcs_value_model.specs.Tree.{Tree};
+ghost use Rattle.bcs_value_model.specs.View.{tree_of};
 ghost use Rattle.bcs_encode_spec.specs.Encodes.{Encodes};
-ghost use Rattle.bcs_decode_source_steps.specs.Sees.{takes_no_memory};
+ghost use Rattle.bcs_decode_source.specs.Sees.{takes_no_memory};
 ghost use Rattle.bcs_decode.specs.Sliced.{DecodesSlice};
 ghost use Rattle.bcs_decode_spec.specs.Accepting.{IsDecoded};
 ghost use Rattle.bcs_decode_spec.specs.Stopping.{Stops};

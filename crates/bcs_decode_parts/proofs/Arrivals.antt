@@ -1,8 +1,8 @@
 -- Where a step arrives.
 use Rattle.std.proofs.Common.{◌≡◌, ℕ, ◌≤◌, List, ◌++◌, length, Option, Some, None, sym, ap, subst, ◌∙◌, append_assoc, arith}
 use Rattle.std.proofs.lemmas.List.{length-append}
-use Rattle.bcs_registry_formats.specs.Container.{Entries, Content}
-use Rattle.bcs_value_tree.specs.Tree.{Tree, nodes}
+use Rattle.bcs_registry_model.specs.Container.{Entries, Content}
+use Rattle.bcs_value_model.specs.Tree.{Tree, nodes}
 use Rattle.bcs_encode_spec.specs.Plain.{plain}
 use Rattle.bcs_decode_spec.specs.Accepting.{IsDecodable}
 use Rattle.bcs_decode_parts.specs.Parts.{Step, Part, part_after}

@@ -3,15 +3,15 @@ use Rattle.std.proofs.Common.{◌≡◌, ℕ, zero, suc, ◌+◌, ◌==◌, ◌&
 use Rattle.std.specs.Str.{bytes_eq}
 use Rattle.std.proofs.lemmas.Bool.{false≢true, and_parts}
 use Rattle.bcs_num.specs.Uleb.{uleb}
-use Rattle.bcs_registry_formats.specs.Shape as shape
-use Rattle.bcs_registry_formats.specs.Shape.{Shape, Shapes, no_shapes, shape}
-use Rattle.bcs_registry_formats.specs.Container.{Entries, Content, of, one_of, nothing, content_at, choice_at}
-use Rattle.bcs_registry_formats.specs.Grows.{Grows}
-use Rattle.bcs_registry_formats.proofs.GrowthLaws.{StaysIn, content_at-grows, choice_at-grows}
-use Rattle.bcs_value_tree.specs.Tree as tree
-use Rattle.bcs_value_tree.specs.Tree.{Tree, Trees, no_trees, tree, Pairs, no_pairs, pair, count, pair_count}
-use Rattle.bcs_value_spec.specs.Fits.{fits, all_fit, each_fits, pairs_fit}
-use Rattle.bcs_value_spec.proofs.VariantFits.{payload_fits}
+use Rattle.bcs_registry_model.specs.Shape as shape
+use Rattle.bcs_registry_model.specs.Shape.{Shape, Shapes, no_shapes, shape}
+use Rattle.bcs_registry_model.specs.Container.{Entries, Content, of, one_of, nothing, content_at, choice_at}
+use Rattle.bcs_registry_model.specs.Grows.{Grows}
+use Rattle.bcs_registry_model.proofs.GrowthLaws.{StaysIn, content_at-grows, choice_at-grows}
+use Rattle.bcs_value_model.specs.Tree as tree
+use Rattle.bcs_value_model.specs.Tree.{Tree, Trees, no_trees, tree, Pairs, no_pairs, pair, count, pair_count}
+use Rattle.bcs_value_model.specs.Fits.{fits, all_fit, each_fits, pairs_fit}
+use Rattle.bcs_value_model.proofs.VariantFits.{payload_fits}
 use Rattle.bcs_encode_spec.specs.Plain.{plain}
 use Rattle.bcs_encode_spec.proofs.Growth.{plain_newer, fitting_stays}
 use Rattle.bcs_decode_parts.specs.Parts.{Step, item, inner, key, Part, part_after, part_onward, item_of, item_in, value_of, step_at, part_at}

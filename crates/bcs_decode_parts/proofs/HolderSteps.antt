@@ -2,13 +2,13 @@
 use Rattle.std.proofs.Common.{◌≡◌, ◌≢◌, ℕ, ◌-◌, ◌<◌, ◌^◌, List, [], ◌∷◌, ◌++◌, length, Some, None, false, true, refl, sym, ap, subst, ◌∙◌, append_assoc, arith}
 use Rattle.std.proofs.lemmas.Bool.{false≢true}
 use Rattle.bcs_num.specs.Uleb.{uleb}
-use Rattle.bcs_registry_formats.specs.Shape as shape
-use Rattle.bcs_registry_formats.specs.Shape.{Shape}
-use Rattle.bcs_registry_formats.specs.Container.{Entries, Content, Choice, of, one_of, nothing, content_at, choice_at}
-use Rattle.bcs_value_tree.specs.Tree as tree
-use Rattle.bcs_value_tree.specs.Tree.{Tree, nodes}
-use Rattle.bcs_value_spec.specs.Fits.{fits}
-use Rattle.bcs_value_spec.proofs.VariantFits.{number_fits, payload_fits}
+use Rattle.bcs_registry_model.specs.Shape as shape
+use Rattle.bcs_registry_model.specs.Shape.{Shape}
+use Rattle.bcs_registry_model.specs.Container.{Entries, Content, Choice, of, one_of, nothing, content_at, choice_at}
+use Rattle.bcs_value_model.specs.Tree as tree
+use Rattle.bcs_value_model.specs.Tree.{Tree, nodes}
+use Rattle.bcs_value_model.specs.Fits.{fits}
+use Rattle.bcs_value_model.proofs.VariantFits.{number_fits, payload_fits}
 use Rattle.bcs_encode_spec.specs.Plain.{plain}
 use Rattle.bcs_decode_spec.specs.Accepting.{IsDecodable}
 use Rattle.bcs_decode_spec.proofs.Decodable.{decodable}

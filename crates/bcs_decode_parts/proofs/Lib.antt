@@ -12,3 +12,9 @@ pub mod Rows
 pub mod Skips
 pub mod Standing
 pub mod WorkedRows
+pub mod Steps
+pub mod Parts
+pub mod PathReading
+pub mod SomePath
+pub mod BadSteps
+pub mod PathPassing

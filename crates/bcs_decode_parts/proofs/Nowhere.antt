@@ -1,6 +1,6 @@
 -- What opens in one way opens so in other words.
 use Rattle.std.proofs.Common.{◌≡◌, subst}
-use Rattle.bcs_registry_formats.specs.Container.{Content}
+use Rattle.bcs_registry_model.specs.Container.{Content}
 use Rattle.bcs_decode_parts.specs.declared.inside.Inside.{Inside}
 use Rattle.bcs_decode_parts.specs.Inside.{Opens}
 

@@ -1,8 +1,8 @@
 -- Steps in a row.
 use Rattle.std.proofs.Common.{◌≡◌, ℕ, ◌+◌, ◌<◌, List, [], ◌∷◌, ◌++◌, length, get_or, map, take, drop, Option, Some, None, sym, ap, subst, ◌∙◌, append_assoc, arith}
 use Rattle.std.proofs.lemmas.List.{length-append, drop_more, take_at, drop_at, drop-drop}
-use Rattle.bcs_registry_formats.specs.Container.{Entries, Content}
-use Rattle.bcs_value_tree.specs.Tree.{Tree}
+use Rattle.bcs_registry_model.specs.Container.{Entries, Content}
+use Rattle.bcs_value_model.specs.Tree.{Tree}
 use Rattle.bcs_encode_spec.specs.Plain.{plain}
 use Rattle.bcs_decode_parts.specs.Parts as parts
 use Rattle.bcs_decode_parts.specs.Parts.{part_after, part_onward, step_at, part_at}

@@ -2,13 +2,13 @@
 use Rattle.std.proofs.Common.{◌≡◌, ℕ, ◌<◌, ◌≤◌, ◌^◌, ◌==◌, nat_le, false, List, ◌++◌, length, Some, None, refl, sym, ap, subst, ◌∙◌, append_assoc, arith}
 use Rattle.std.proofs.lemmas.Bool.{and_parts, and_from, eq-eqb, leb-true}
 use Rattle.bcs_num.specs.Uleb.{uleb}
-use Rattle.bcs_registry_formats.specs.Shape as shape
-use Rattle.bcs_registry_formats.specs.Shape.{Shape, Shapes}
-use Rattle.bcs_registry_formats.specs.Container.{Entries, Content, of}
-use Rattle.bcs_value_tree.specs.Tree as tree
-use Rattle.bcs_value_tree.specs.Tree.{Tree, Trees, no_trees, tree, count, nodes, trees_nodes}
-use Rattle.bcs_value_spec.specs.Fits.{all_fit}
-use Rattle.bcs_value_spec.proofs.Equivalence.{nat-same}
+use Rattle.bcs_registry_model.specs.Shape as shape
+use Rattle.bcs_registry_model.specs.Shape.{Shape, Shapes}
+use Rattle.bcs_registry_model.specs.Container.{Entries, Content, of}
+use Rattle.bcs_value_model.specs.Tree as tree
+use Rattle.bcs_value_model.specs.Tree.{Tree, Trees, no_trees, tree, count, nodes, trees_nodes}
+use Rattle.bcs_value_model.specs.Fits.{all_fit}
+use Rattle.bcs_value_model.proofs.Equivalence.{nat-same}
 use Rattle.bcs_encode_spec.specs.Plain.{plain, plain_items, plain_each}
 use Rattle.bcs_encode_spec.specs.Lengths.{length_limit, all_hold}
 use Rattle.bcs_decode_spec.specs.Accepting.{IsDecodable}

@@ -1,10 +1,10 @@
 -- Values at the front of bytes, and where a step leads from there.
 use Rattle.std.specs.Prelude.{◌≡◌, ◌≤◌, ℕ, List, ◌++◌, length, Option, Some, None}
 use Rattle.std.specs.Borrow.{Bor}
-use Rattle.bcs_registry_formats.specs.Container.{Entries, Content, of, nothing, Choice, choice_at, payload_shape}
-use Rattle.bcs_registry_formats.specs.View.{payload_of}
-use Rattle.bcs_registry_formats.specs.declared.variant_format.VariantFormat.{VariantFormat}
-use Rattle.bcs_value_tree.specs.Tree.{Tree, nodes}
+use Rattle.bcs_registry_model.specs.Container.{Entries, Content, of, nothing, Choice, choice_at, payload_shape}
+use Rattle.bcs_registry_model.specs.View.{payload_of}
+use Rattle.bcs_registry_model.specs.declared.variant_format.VariantFormat.{VariantFormat}
+use Rattle.bcs_value_model.specs.Tree.{Tree, nodes}
 use Rattle.bcs_encode_spec.specs.Plain.{plain}
 use Rattle.bcs_decode_spec.specs.Accepting.{IsDecodable}
 use Rattle.bcs_decode_parts.specs.declared.ahead.Ahead.{Ahead}

@@ -1,8 +1,8 @@
 -- What a `Here` stands for.
 use Rattle.std.specs.Prelude.{map}
-use Rattle.bcs_registry_formats.specs.Shape.{unit as unit_shape, tuple as tuple_shape}
-use Rattle.bcs_registry_formats.specs.Container.{Content, of, one_of, field_shapes}
-use Rattle.bcs_registry_formats.specs.View.{shape_of, formats_shapes, field_of, choice_of}
+use Rattle.bcs_registry_model.specs.Shape.{unit as unit_shape, tuple as tuple_shape}
+use Rattle.bcs_registry_model.specs.Container.{Content, of, one_of, field_shapes}
+use Rattle.bcs_registry_model.specs.View.{shape_of, formats_shapes, field_of, choice_of}
 use Rattle.bcs_decode_parts.specs.declared.here.Here.{Here}
 use Rattle.bcs_decode_parts.specs.declared.here.Here.TheVariants.{Unit, Value, Tuple, Fields, Variants}
 

@@ -1,9 +1,9 @@
 -- What an `Inside` stands for.
 use Rattle.std.specs.Prelude.{◌≡◌, map, None}
-use Rattle.bcs_registry_formats.specs.Shape.{array as array_shape, map as map_shape, name as name_shape, option as option_shape, seq as seq_shape, tuple as tuple_shape}
-use Rattle.bcs_registry_formats.specs.Container.{Entries, Content, of, one_of, field_shapes}
-use Rattle.bcs_registry_formats.specs.View.{shape_of, formats_shapes, field_of, choice_of}
-use Rattle.bcs_value_tree.specs.Tree.{Tree}
+use Rattle.bcs_registry_model.specs.Shape.{array as array_shape, map as map_shape, name as name_shape, option as option_shape, seq as seq_shape, tuple as tuple_shape}
+use Rattle.bcs_registry_model.specs.Container.{Entries, Content, of, one_of, field_shapes}
+use Rattle.bcs_registry_model.specs.View.{shape_of, formats_shapes, field_of, choice_of}
+use Rattle.bcs_value_model.specs.Tree.{Tree}
 use Rattle.bcs_decode_parts.specs.Parts.{Step, step_at}
 use Rattle.bcs_decode_parts.specs.declared.inside.Inside.{Inside}
 use Rattle.bcs_decode_parts.specs.declared.inside.Inside.TheVariants as inside

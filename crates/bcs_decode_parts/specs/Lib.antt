@@ -4,3 +4,7 @@ pub mod Here
 pub mod Inside
 pub mod Fronts
 pub mod PartLaws
+pub mod Path
+pub mod PathSteps
+pub mod BadStep
+pub mod PathLaws

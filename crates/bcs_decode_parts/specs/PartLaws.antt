@@ -1,12 +1,12 @@
 -- What holds of parts, whatever the registry and the format are.
 use Rattle.std.specs.Prelude.{◌≡◌, ◌+◌, IsTrue, false, List, Option, Some, None, length}
 use Rattle.bcs_num.specs.Uleb.{uleb}
-use Rattle.bcs_registry_formats.specs.Shape.{Shape, map as map_shape}
-use Rattle.bcs_registry_formats.specs.Container.{Entries, Content, of}
-use Rattle.bcs_registry_formats.specs.Grows.{Grows}
-use Rattle.bcs_value_tree.specs.Tree as tree
-use Rattle.bcs_value_tree.specs.Tree.{Tree, Pairs, no_pairs, pair, pair_count}
-use Rattle.bcs_value_spec.specs.Fits.{fits}
+use Rattle.bcs_registry_model.specs.Shape.{Shape, map as map_shape}
+use Rattle.bcs_registry_model.specs.Container.{Entries, Content, of}
+use Rattle.bcs_registry_model.specs.Grows.{Grows}
+use Rattle.bcs_value_model.specs.Tree as tree
+use Rattle.bcs_value_model.specs.Tree.{Tree, Pairs, no_pairs, pair, pair_count}
+use Rattle.bcs_value_model.specs.Fits.{fits}
 use Rattle.bcs_encode_spec.specs.Plain.{plain, plain_pairs}
 use Rattle.bcs_encode_spec.specs.Canonical.{IsCanonical}
 use Rattle.bcs_decode_parts.specs.Parts.{Step, key, Part, step_at, part_at, Stands}

@@ -1,6 +1,6 @@
 -- What a clause reads of steps and parts.
 use Rattle.std.specs.Prelude.{◌≡◌, ℕ, List, length, take, drop, Option, Some, None}
-use Rattle.bcs_registry_formats.specs.Container.{Entries}
+use Rattle.bcs_registry_model.specs.Container.{Entries}
 use Rattle.bcs_encode_spec.specs.Plain.{plain}
 use Rattle.bcs_decode_parts.specs.declared.step.Step.{Step}
 use Rattle.bcs_decode_parts.specs.declared.step.Step.TheVariants.{Item, Inner, Key}

@@ -1,7 +1,7 @@
 //! What stands at a place of an encoding.
 ghost use Rattle.std.specs.Prelude.{◌≡◌};
-ghost use Rattle.bcs_registry_formats.specs.Container.{content, of, payload_shape};
-ghost use Rattle.bcs_registry_formats.specs.View.{container_of, payload_of};
+ghost use Rattle.bcs_registry_model.specs.Container.{content, of, payload_shape};
+ghost use Rattle.bcs_registry_model.specs.View.{container_of, payload_of};
 ghost use Rattle.bcs_decode_parts.specs.Here.{content_of};
 
 use crate::ahead::Ahead;

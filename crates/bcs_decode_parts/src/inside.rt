@@ -1,6 +1,6 @@
 //! What stands inside a value.
-ghost use Rattle.bcs_registry_formats.specs.Container.{of};
-ghost use Rattle.bcs_registry_formats.specs.View.{shape_of};
+ghost use Rattle.bcs_registry_model.specs.Container.{of};
+ghost use Rattle.bcs_registry_model.specs.View.{shape_of};
 ghost use Rattle.bcs_decode_parts.specs.Here.{content_of};
 ghost use Rattle.bcs_decode_parts.specs.Inside.{Opens};
 

@@ -1,16 +1,25 @@
-//! Parts of an encoding, handed out as slices of it.
+//! Parts of an encoding, handed out as slices of it, and the paths that lead to them.
 #![tactic(auto)]
 
 pub mod ahead;
+mod bad_step;
 pub mod here;
 pub mod inside;
 pub mod laws;
 mod part;
 pub mod passing;
+mod path_fault;
+pub mod path_laws;
+mod path_step;
+mod reading;
 mod step;
 pub mod stepping;
 pub mod variants;
 pub mod walking;
 
+pub use bad_step::{BadStep, first_bad_step};
 pub use part::Part;
+pub use path_fault::PathFault;
+pub use path_step::{PathStep, steps_of};
+pub use reading::read_path;
 pub use step::Step;

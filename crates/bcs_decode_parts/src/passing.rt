@@ -1,17 +1,17 @@
 //! The bytes after what stands ahead.
 ghost use Rattle.std.specs.Prelude.{◌≡◌, List, ℕ, map};
-ghost use Rattle.bcs_registry_formats.specs.Container.{Content, field_shapes, of, payload_shape};
-ghost use Rattle.bcs_registry_formats.specs.Shape.{array as array_shape, tuple as tuple_shape};
-ghost use Rattle.bcs_registry_formats.specs.View.{shape_of, formats_shapes, field_of, payload_of};
-ghost use Rattle.bcs_value_tree.specs.Tree.{Tree};
+ghost use Rattle.bcs_registry_model.specs.Container.{Content, field_shapes, of, payload_shape};
+ghost use Rattle.bcs_registry_model.specs.Shape.{array as array_shape, tuple as tuple_shape};
+ghost use Rattle.bcs_registry_model.specs.View.{shape_of, formats_shapes, field_of, payload_of};
+ghost use Rattle.bcs_value_model.specs.Tree.{Tree};
 ghost use Rattle.bcs_decode_parts.specs.Fronts.{Fronts, IsRest};
 ghost use Rattle.bcs_decode_parts.specs.Here.{content_of};
 
 use crate::ahead::Ahead;
 use crate::here::{Here, Reached};
 use crate::variants::chosen;
-use bcs_decode_slice_steps::cursor::Cursor;
-use bcs_decode_slice_walk::scanning::{elements, payload, structure, tuple, value};
+use bcs_decode_slice::cursor::Cursor;
+use bcs_decode_slice::scanning::{elements, payload, structure, tuple, value};
 use bcs_registry::{Format, Named, Registry, VariantFormat};
 
 fn over<'a>(ahead: &Ahead<'a>) -> Cursor<'a>

@@ -1,8 +1,8 @@
 //! One step into a value.
 ghost use Rattle.std.specs.Prelude.{List, ℕ, map};
-ghost use Rattle.bcs_registry_formats.specs.Container.{Entries, field_shapes, of, one_of};
-ghost use Rattle.bcs_registry_formats.specs.Shape.{array as array_shape, map as map_shape, name as name_shape, option as option_shape, seq as seq_shape, tuple as tuple_shape};
-ghost use Rattle.bcs_registry_formats.specs.View.{shape_of, formats_shapes, field_of, choice_of};
+ghost use Rattle.bcs_registry_model.specs.Container.{Entries, field_shapes, of, one_of};
+ghost use Rattle.bcs_registry_model.specs.Shape.{array as array_shape, map as map_shape, name as name_shape, option as option_shape, seq as seq_shape, tuple as tuple_shape};
+ghost use Rattle.bcs_registry_model.specs.View.{shape_of, formats_shapes, field_of, choice_of};
 ghost use Rattle.bcs_decode_parts.specs.Parts.{inner, item, key as key_step};
 ghost use Rattle.bcs_decode_parts.specs.Fronts.{StepsTo};
 ghost use Rattle.bcs_decode_parts.specs.Here.{content_of};

@@ -1,7 +1,7 @@
 //! Numbers and variants at the front of bytes.
 ghost use Rattle.std.specs.Prelude.{◌<◌, ◌^◌, ◌≡◌, ◌++◌, List, ℕ, map};
 ghost use Rattle.bcs_num.specs.Uleb.{uleb};
-ghost use Rattle.bcs_registry_formats.specs.View.{choice_of};
+ghost use Rattle.bcs_registry_model.specs.View.{choice_of};
 ghost use Rattle.bcs_decode_parts.specs.Fronts.{IsChosen, IsNumber};
 
 use bcs_num::take_uleb;

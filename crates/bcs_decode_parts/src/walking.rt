@@ -1,8 +1,8 @@
 //! Steps in a row.
 ghost use Rattle.std.specs.Prelude.{List, ℕ, map, ◌≤◌, ◌≡◌, ◌++◌};
-ghost use Rattle.bcs_registry_formats.specs.Container.{of};
-ghost use Rattle.bcs_registry_formats.specs.View.{shape_of};
-ghost use Rattle.bcs_value_tree.specs.Tree.{Tree};
+ghost use Rattle.bcs_registry_model.specs.Container.{of};
+ghost use Rattle.bcs_registry_model.specs.View.{shape_of};
+ghost use Rattle.bcs_value_model.specs.Tree.{Tree};
 ghost use Rattle.bcs_decode_parts.specs.Fronts.{Fronts};
 ghost use Rattle.bcs_decode_parts.specs.Parts.{part_at};
 ghost use Rattle.bcs_decode_parts.specs.Steps.{GivesPart, step_of};

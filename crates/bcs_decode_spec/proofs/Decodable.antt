@@ -2,10 +2,10 @@
 use Rattle.std.proofs.Common.{◌≡◌, ℕ, max, ◌≤◌, Bool, true, false, ◌&&◌, List, Option, Some, None, refl, arith}
 use Rattle.std.proofs.lemmas.Bool.{and_parts, and_from}
 use Rattle.std.proofs.Math.Nat.{max-le, le-max_left, le-max_right}
-use Rattle.bcs_registry_formats.specs.Shape.{Shape, Shapes, shape}
-use Rattle.bcs_registry_formats.specs.Container.{Entries, Content, of}
-use Rattle.bcs_value_tree.specs.Tree.{Tree, Trees, no_trees, tree, Pairs, no_pairs, pair, depth, trees_depth, pairs_depth}
-use Rattle.bcs_value_spec.specs.Fits.{fits, all_fit, each_fits, pairs_fit}
+use Rattle.bcs_registry_model.specs.Shape.{Shape, Shapes, shape}
+use Rattle.bcs_registry_model.specs.Container.{Entries, Content, of}
+use Rattle.bcs_value_model.specs.Tree.{Tree, Trees, no_trees, tree, Pairs, no_pairs, pair, depth, trees_depth, pairs_depth}
+use Rattle.bcs_value_model.specs.Fits.{fits, all_fit, each_fits, pairs_fit}
 use Rattle.bcs_encode_spec.specs.Plain.{plain}
 use Rattle.bcs_encode_spec.specs.Canonical.{IsCanonical, AllCanonical, EachCanonical, PairsCanonical, Rises, RisesFrom}
 use Rattle.bcs_encode_spec.specs.Lengths.{length_limit, lengths_hold, all_hold, each_holds, pairs_hold}

@@ -1,12 +1,12 @@
 -- What is accepted is what is encoded.
 use Rattle.std.proofs.Common.{◌≡◌, ℕ, List, length, sym, subst, ◌∙◌, arith}
 use Rattle.std.proofs.lemmas.List.{take_all}
-use Rattle.bcs_registry_formats.specs.Container.{Entries, of}
-use Rattle.bcs_registry_formats.specs.Shape.{Shape}
-use Rattle.bcs_value_tree.specs.Tree.{Tree}
-use Rattle.bcs_value_spec.specs.Limits.{Bounds}
-use Rattle.bcs_value_spec.specs.Same.{Same}
-use Rattle.bcs_value_spec.proofs.Equivalence.{same-refl}
+use Rattle.bcs_registry_model.specs.Container.{Entries, of}
+use Rattle.bcs_registry_model.specs.Shape.{Shape}
+use Rattle.bcs_value_model.specs.Tree.{Tree}
+use Rattle.bcs_value_model.specs.Limits.{Bounds}
+use Rattle.bcs_value_model.specs.Same.{Same}
+use Rattle.bcs_value_model.proofs.Equivalence.{same-refl}
 use Rattle.bcs_encode_spec.proofs.FormLaws.{has_one_form}
 use Rattle.bcs_encode_spec.specs.Sound.{IsSoundAt}
 use Rattle.bcs_decode_spec.specs.Accepting.{Accepts, IsDecoded}

@@ -3,14 +3,14 @@ use Rattle.std.proofs.Common.{◌≡◌, ◌≢◌, ℕ, zero, suc, ◌+◌, tru
 use Rattle.std.specs.Option.{option_map_or}
 use Rattle.std.proofs.lemmas.Bool.{false≢true, and_parts}
 use Rattle.bcs_num.specs.Uleb.{uleb}
-use Rattle.bcs_registry_formats.specs.Shape as shape
-use Rattle.bcs_registry_formats.specs.Shape.{Shape, Shapes, no_shapes, shape}
-use Rattle.bcs_registry_formats.specs.Container.{Container, unit_struct, newtype_struct, tuple_struct, field_struct, enumeration, Entries, Content, of, one_of, nothing, Choice, content, container_at, content_at, choice_at}
-use Rattle.bcs_registry_formats.specs.Grows.{Grows}
-use Rattle.bcs_registry_formats.specs.WellFormed.{IsWellFormed, has_few_levels, is_known, are_known}
-use Rattle.bcs_registry_formats.proofs.GrowthLaws.{StaysIn, HasChoices, content_at-grows, choice_at-grows}
-use Rattle.bcs_registry_formats.proofs.Admitted.{content_at-inside, choice_at-inside}
-use Rattle.bcs_value_tree.specs.Tree.{Tree, Trees, no_trees, tree, Pairs, no_pairs, pair}
+use Rattle.bcs_registry_model.specs.Shape as shape
+use Rattle.bcs_registry_model.specs.Shape.{Shape, Shapes, no_shapes, shape}
+use Rattle.bcs_registry_model.specs.Container.{Container, unit_struct, newtype_struct, tuple_struct, field_struct, enumeration, Entries, Content, of, one_of, nothing, Choice, content, container_at, content_at, choice_at}
+use Rattle.bcs_registry_model.specs.Grows.{Grows}
+use Rattle.bcs_registry_model.specs.WellFormed.{IsWellFormed, has_few_levels, is_known, are_known}
+use Rattle.bcs_registry_model.proofs.GrowthLaws.{StaysIn, HasChoices, content_at-grows, choice_at-grows}
+use Rattle.bcs_registry_model.proofs.Admitted.{content_at-inside, choice_at-inside}
+use Rattle.bcs_value_model.specs.Tree.{Tree, Trees, no_trees, tree, Pairs, no_pairs, pair}
 use Rattle.bcs_encode_spec.specs.Plain.{plain, plain_items, plain_pairs}
 use Rattle.bcs_encode_spec.proofs.Growth.{keeps_soundness, keeps_order, keeps_bytes}
 use Rattle.bcs_decode_spec.specs.declared.reason.Reason.{Reason}

@@ -7,9 +7,9 @@ use Rattle.std.specs.Cmp.Lexicographic.{slice_cmp}
 use Rattle.std.proofs.lemmas.Bool.{le-ltb, eq-eqb}
 use Rattle.std.proofs.lemmas.Bool.Decides.{nat_tests}
 use Rattle.std.proofs.lemmas.List.{append-nil, take_at}
-use Rattle.bcs_registry_formats.specs.Shape.{Shape}
-use Rattle.bcs_registry_formats.specs.Container.{Entries, of}
-use Rattle.bcs_value_tree.specs.Tree.{Tree, nodes}
+use Rattle.bcs_registry_model.specs.Shape.{Shape}
+use Rattle.bcs_registry_model.specs.Container.{Entries, of}
+use Rattle.bcs_value_model.specs.Tree.{Tree, nodes}
 use Rattle.bcs_encode_spec.specs.Plain.{plain}
 use Rattle.bcs_encode_spec.specs.Canonical.{Below}
 use Rattle.bcs_encode_spec.proofs.BelowLaws.{below_less, less_below, order}

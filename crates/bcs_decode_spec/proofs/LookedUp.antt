@@ -5,15 +5,15 @@ use Rattle.std.specs.Ordering.{nat_cmp}
 use Rattle.std.specs.Map.{lookup}
 use Rattle.std.specs.Option.{option_copied, option_map_or}
 use Rattle.std.specs.BTreeMap.{is_at}
-use Rattle.bcs_registry_formats.specs.Shape as shape
-use Rattle.bcs_registry_formats.specs.Container.{Entries, Payload, Content, of, nothing, content, container_at, content_at, choice_at, payload_shape, field_shapes}
-use Rattle.bcs_registry_formats.specs.View.{shape_of, formats_shapes, field_of, payload_of, choice_of, container_of}
-use Rattle.bcs_registry_formats.specs.WellFormed.{levels, shapes_levels}
-use Rattle.bcs_registry_formats.specs.declared.named.Named.{Named}
-use Rattle.bcs_registry_formats.specs.declared.format.Format.{Format}
-use Rattle.bcs_registry_formats.specs.declared.variant_format.VariantFormat.{VariantFormat}
-use Rattle.bcs_registry_formats.specs.declared.container.Container as declared
-use Rattle.bcs_registry_formats.proofs.Lookup.{find-choice}
+use Rattle.bcs_registry_model.specs.Shape as shape
+use Rattle.bcs_registry_model.specs.Container.{Entries, Payload, Content, of, nothing, content, container_at, content_at, choice_at, payload_shape, field_shapes}
+use Rattle.bcs_registry_model.specs.View.{shape_of, formats_shapes, field_of, payload_of, choice_of, container_of}
+use Rattle.bcs_registry_model.specs.WellFormed.{levels, shapes_levels}
+use Rattle.bcs_registry_model.specs.declared.named.Named.{Named}
+use Rattle.bcs_registry_model.specs.declared.format.Format.{Format}
+use Rattle.bcs_registry_model.specs.declared.variant_format.VariantFormat.{VariantFormat}
+use Rattle.bcs_registry_model.specs.declared.container.Container as declared
+use Rattle.bcs_registry_model.proofs.Lookup.{find-choice}
 
 -- ---- containers and variants that were looked up
 

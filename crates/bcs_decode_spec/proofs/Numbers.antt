@@ -14,7 +14,7 @@ use Rattle.bcs_num.proofs.LeLaws.{All-le, length-le, le_injective, le_signed_inj
 use Rattle.bcs_num.proofs.LeReading.{number_read as le_number_read, signed_taken}
 use Rattle.bcs_num.proofs.UlebReading as reading
 use Rattle.bcs_num.proofs.UlebReading.{number_from, number_at, number_at_number, number_at_fault, number_at_is_number, number_at_is_fault}
-use Rattle.bcs_value_spec.specs.Fits.{are_bytes}
+use Rattle.bcs_value_model.specs.Fits.{are_bytes}
 use Rattle.bcs_encode_spec.specs.Lengths.{length_limit}
 use Rattle.bcs_encode_spec.specs.Plain.{truth_byte}
 use Rattle.bcs_decode_spec.specs.declared.reason.Reason.{Reason}

@@ -1,18 +1,18 @@
 -- A value of each kind, over exact parsers of its parts.
 use Rattle.std.proofs.Common.{◌≡◌, ℕ, suc, ◌^◌, ◌==◌, nat_le, false, List, ◌∷◌, ◌++◌, length, None, refl, sym, ap, ap₂, subst, ◌∙◌, arith, inl, inr}
 use Rattle.std.proofs.lemmas.Bool.{false≢true, and_parts, and_from, ltb-true, lt-ltb, leb-true, le-leb, eq-eqb}
-use Rattle.bcs_value_spec.proofs.Equivalence.{nat-same}
+use Rattle.bcs_value_model.proofs.Equivalence.{nat-same}
 use Rattle.std.specs.Int.{Width, byte_len}
 use mir.Val.{bits}
 use Rattle.bcs_num.specs.Uleb.{uleb}
 use Rattle.bcs_num.specs.Le.{le}
 use Rattle.bcs_num.proofs.Ranges.{holds_signed-is, is-holds_signed}
-use Rattle.bcs_registry_formats.specs.Shape as shape
-use Rattle.bcs_registry_formats.specs.Shape.{Shape, Shapes, no_shapes, shape}
-use Rattle.bcs_registry_formats.specs.Container.{Entries, Content, of}
-use Rattle.bcs_value_tree.specs.Tree as tree
-use Rattle.bcs_value_tree.specs.Tree.{Tree, Trees, no_trees, tree, Pairs, no_pairs, pair, count, pair_count, depth, nodes, trees_nodes, pairs_nodes}
-use Rattle.bcs_value_spec.specs.Fits.{all_fit}
+use Rattle.bcs_registry_model.specs.Shape as shape
+use Rattle.bcs_registry_model.specs.Shape.{Shape, Shapes, no_shapes, shape}
+use Rattle.bcs_registry_model.specs.Container.{Entries, Content, of}
+use Rattle.bcs_value_model.specs.Tree as tree
+use Rattle.bcs_value_model.specs.Tree.{Tree, Trees, no_trees, tree, Pairs, no_pairs, pair, count, pair_count, depth, nodes, trees_nodes, pairs_nodes}
+use Rattle.bcs_value_model.specs.Fits.{all_fit}
 use Rattle.bcs_encode_spec.specs.Plain.{plain, plain_items, plain_pairs}
 use Rattle.bcs_encode_spec.specs.Lengths.{length_limit, all_hold, pairs_hold}
 use Rattle.bcs_decode_spec.specs.declared.reason.Reason.{Reason}

@@ -1,9 +1,9 @@
 -- Entries in a row, with keys that rise.
 use Rattle.std.proofs.Common.{◌≡◌, ℕ, zero, suc, ◌+◌, List, [], ◌++◌, length, Option, Some, refl, sym, ap, ap₂, subst, ◌∙◌, append_assoc, arith, inl, inr}
 use Rattle.std.proofs.lemmas.List.{length-append, append-nil}
-use Rattle.bcs_registry_formats.specs.Shape.{Shape}
-use Rattle.bcs_registry_formats.specs.Container.{Entries, of}
-use Rattle.bcs_value_tree.specs.Tree.{Tree, Pairs, no_pairs, pair, pair_count, nodes, pairs_nodes}
+use Rattle.bcs_registry_model.specs.Shape.{Shape}
+use Rattle.bcs_registry_model.specs.Container.{Entries, of}
+use Rattle.bcs_value_model.specs.Tree.{Tree, Pairs, no_pairs, pair, pair_count, nodes, pairs_nodes}
 use Rattle.bcs_encode_spec.specs.Plain.{plain, plain_pairs}
 use Rattle.bcs_decode_spec.specs.declared.reason.Reason.{Reason}
 use Rattle.bcs_decode_spec.specs.Reading.{Parser, pairs_here, building}

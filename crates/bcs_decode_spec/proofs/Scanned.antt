@@ -1,9 +1,9 @@
 -- What was gone past is the one verdict.
 use Rattle.std.proofs.Common.{◌≡◌, ℕ, ◌-◌, List, drop, Ok, Err, sym, ◌∙◌}
-use Rattle.bcs_registry_formats.specs.Shape.{Shape}
-use Rattle.bcs_registry_formats.specs.Container.{Entries}
-use Rattle.bcs_value_tree.specs.Tree.{Tree, nodes}
-use Rattle.bcs_value_spec.specs.Limits.{Bounds}
+use Rattle.bcs_registry_model.specs.Shape.{Shape}
+use Rattle.bcs_registry_model.specs.Container.{Entries}
+use Rattle.bcs_value_model.specs.Tree.{Tree, nodes}
+use Rattle.bcs_value_model.specs.Limits.{Bounds}
 use Rattle.bcs_decode_spec.specs.declared.reason.Reason.{Reason}
 use Rattle.bcs_decode_spec.specs.Accepting.{Accepts}
 use Rattle.bcs_decode_spec.specs.Reading.{skip_value}

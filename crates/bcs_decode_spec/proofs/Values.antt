@@ -2,13 +2,13 @@
 use Rattle.std.proofs.Common.{◌≡◌, ℕ, zero, suc, ◌+◌, ◌^◌, false, List, ◌++◌, length, Option, Some, None, refl, sym, ap, ap₂, subst, ◌∙◌, arith, inl, inr}
 use Rattle.std.proofs.lemmas.Bool.{false≢true, and_from, lt-ltb}
 use Rattle.bcs_num.specs.Uleb.{uleb}
-use Rattle.bcs_registry_formats.specs.Shape as shape
-use Rattle.bcs_registry_formats.specs.Shape.{Shape, Shapes, no_shapes, shape}
-use Rattle.bcs_registry_formats.specs.Container.{Entries, Content, of, one_of, nothing, Choice, Payload, content_at, choice_at, choice_numbered, payload_shape}
+use Rattle.bcs_registry_model.specs.Shape as shape
+use Rattle.bcs_registry_model.specs.Shape.{Shape, Shapes, no_shapes, shape}
+use Rattle.bcs_registry_model.specs.Container.{Entries, Content, of, one_of, nothing, Choice, Payload, content_at, choice_at, choice_numbered, payload_shape}
 use Rattle.std.specs.Option.{option_map_or}
-use Rattle.bcs_value_tree.specs.Tree as tree
-use Rattle.bcs_value_tree.specs.Tree.{Tree, Trees, no_trees, tree, Pairs, no_pairs, pair, count, pair_count, depth, nodes, trees_nodes, pairs_nodes}
-use Rattle.bcs_value_spec.proofs.VariantFits.{number_fits, payload_fits}
+use Rattle.bcs_value_model.specs.Tree as tree
+use Rattle.bcs_value_model.specs.Tree.{Tree, Trees, no_trees, tree, Pairs, no_pairs, pair, count, pair_count, depth, nodes, trees_nodes, pairs_nodes}
+use Rattle.bcs_value_model.proofs.VariantFits.{number_fits, payload_fits}
 use Rattle.bcs_encode_spec.specs.Plain.{plain, plain_each}
 use Rattle.bcs_decode_spec.specs.declared.reason.Reason.{Reason}
 use Rattle.bcs_decode_spec.specs.declared.reason.Reason.TheVariants.{TooDeep, UnknownVariant, Unsupported}

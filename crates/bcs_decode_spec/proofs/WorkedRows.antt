@@ -1,10 +1,10 @@
 -- What the definitions say of some inputs, by computation.
 use Rattle.std.proofs.Common.{◌≡◌, ℕ, List, [], ◌∷◌, codes, Ok, Err, refl}
 use Rattle.std.specs.Int.{w8, w16}
-use Rattle.bcs_registry_formats.specs.Shape as shape
-use Rattle.bcs_registry_formats.specs.Shape.{Shape, no_shapes}
-use Rattle.bcs_registry_formats.specs.Container.{Entries, unit, newtype, newtype_struct, field_struct, enumeration}
-use Rattle.bcs_value_spec.specs.Limits.{Bounds}
+use Rattle.bcs_registry_model.specs.Shape as shape
+use Rattle.bcs_registry_model.specs.Shape.{Shape, no_shapes}
+use Rattle.bcs_registry_model.specs.Container.{Entries, unit, newtype, newtype_struct, field_struct, enumeration}
+use Rattle.bcs_value_model.specs.Limits.{Bounds}
 use Rattle.bcs_decode_spec.specs.declared.reason.Reason.TheVariants.{EndOfInput, BadBool, BadOption, LongForm, NumberTooLarge, LengthTooLarge, UnknownVariant, KeyOrder, KeyRepeated, TooDeep, TooManyNodes}
 use Rattle.bcs_decode_spec.specs.Reading.{Read, skip_value, value_here, shape_here, each_here, named_here, node, chain, give, fail, fail_here, number_here, length_here, bytes_here, flag_here, unsigned_here, key_after, key_here, items_here, pairs_here, option_here, choice_here, variant_here, content_here}
 

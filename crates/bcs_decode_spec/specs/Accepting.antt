@@ -1,14 +1,14 @@
 -- Which values bytes begin with, and which value they are.
 use Rattle.std.specs.Prelude.{◌≡◌, ◌≤◌, ℕ, List, length, take}
-use Rattle.bcs_registry_formats.specs.Shape.{Shape}
-use Rattle.bcs_registry_formats.specs.Container.{Entries, Content, of}
-use Rattle.bcs_value_tree.specs.Tree.{Tree, nodes}
-use Rattle.bcs_value_spec.specs.Limits.{Bounds}
+use Rattle.bcs_registry_model.specs.Shape.{Shape}
+use Rattle.bcs_registry_model.specs.Container.{Entries, Content, of}
+use Rattle.bcs_value_model.specs.Tree.{Tree, nodes}
+use Rattle.bcs_value_model.specs.Limits.{Bounds}
 use Rattle.bcs_encode_spec.specs.Plain.{plain}
 use Rattle.bcs_encode_spec.specs.Canonical.{IsCanonical}
 use Rattle.bcs_encode_spec.specs.Sound.{IsSoundAt, IsSound}
 use Rattle.bcs_encode_spec.specs.Encodes.{Encodes}
-use Rattle.bcs_value_spec.specs.Same.{Same}
+use Rattle.bcs_value_model.specs.Same.{Same}
 
 -- a value that bytes may have where so many containers may still be opened: sound and canonical, however many nodes it
 -- has, since these are counted where it stands

@@ -8,12 +8,12 @@ use Rattle.std.specs.Str.{is_utf8}
 use Rattle.std.specs.Str.Lossy.{utf8_valid_len}
 use Rattle.bcs_num.specs.declared.fault.NumFault.{NumFault}
 use Rattle.bcs_num.specs.declared.fault.NumFault.TheVariants as num
-use Rattle.bcs_registry_formats.specs.Shape as shape
-use Rattle.bcs_registry_formats.specs.Shape.{Shape, Shapes, no_shapes, shape}
-use Rattle.bcs_registry_formats.specs.Container.{Entries, Content, of, one_of, nothing, Choice, content_at, choice_at}
-use Rattle.bcs_value_tree.specs.Tree as tree
-use Rattle.bcs_value_tree.specs.Tree.{Tree, Trees, Pairs}
-use Rattle.bcs_value_spec.specs.Limits.{Bounds}
+use Rattle.bcs_registry_model.specs.Shape as shape
+use Rattle.bcs_registry_model.specs.Shape.{Shape, Shapes, no_shapes, shape}
+use Rattle.bcs_registry_model.specs.Container.{Entries, Content, of, one_of, nothing, Choice, content_at, choice_at}
+use Rattle.bcs_value_model.specs.Tree as tree
+use Rattle.bcs_value_model.specs.Tree.{Tree, Trees, Pairs}
+use Rattle.bcs_value_model.specs.Limits.{Bounds}
 use Rattle.bcs_encode_spec.specs.Lengths.{length_limit}
 use Rattle.bcs_decode_spec.specs.declared.reason.Reason.{Reason}
 use Rattle.bcs_decode_spec.specs.declared.reason.Reason.TheVariants.{EndOfInput, BadBool, BadOption, LongForm, NumberTooLarge, LengthTooLarge, UnknownVariant, BadUtf8, KeyOrder, KeyRepeated, TooDeep, TooManyNodes, Unsupported}

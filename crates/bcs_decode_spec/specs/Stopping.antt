@@ -4,11 +4,11 @@ use Rattle.std.specs.Int.{byte_len}
 use Rattle.std.specs.Str.{is_utf8}
 use Rattle.std.specs.Str.Lossy.{utf8_valid_len}
 use Rattle.bcs_num.specs.Uleb.{uleb, IsUnended, IsLongForm, IsTooLarge}
-use Rattle.bcs_registry_formats.specs.Shape as shape
-use Rattle.bcs_registry_formats.specs.Shape.{Shape, Shapes, no_shapes, shape}
-use Rattle.bcs_registry_formats.specs.Container.{Entries, Content, of, one_of, nothing, Choice, content_at, choice_at}
-use Rattle.bcs_value_tree.specs.Tree.{Tree, Trees, no_trees, tree, Pairs, no_pairs, pair, count, pair_count, nodes, trees_nodes, pairs_nodes}
-use Rattle.bcs_value_spec.specs.Limits.{Bounds}
+use Rattle.bcs_registry_model.specs.Shape as shape
+use Rattle.bcs_registry_model.specs.Shape.{Shape, Shapes, no_shapes, shape}
+use Rattle.bcs_registry_model.specs.Container.{Entries, Content, of, one_of, nothing, Choice, content_at, choice_at}
+use Rattle.bcs_value_model.specs.Tree.{Tree, Trees, no_trees, tree, Pairs, no_pairs, pair, count, pair_count, nodes, trees_nodes, pairs_nodes}
+use Rattle.bcs_value_model.specs.Limits.{Bounds}
 use Rattle.bcs_encode_spec.specs.Plain.{plain, plain_items, plain_pairs}
 use Rattle.bcs_encode_spec.specs.Canonical.{Below}
 use Rattle.bcs_encode_spec.specs.Lengths.{length_limit}

@@ -7,7 +7,7 @@ use Rattle.std.proofs.lemmas.Bool.{cases_Bool}
 use Rattle.std.proofs.lemmas.List.Elements.{All-nil, All-cons, All-head, All-tail, All-weaker}
 use Rattle.std.proofs.lemmas.List.Sorted.{All-permutation, sum_by-IsPermutation}
 use Rattle.std.proofs.lemmas.List.Sums.{sum_by-cons}
-use Rattle.bcs_value_spec.proofs.Equivalence.{bytes-same, bytes-refl}
+use Rattle.bcs_value_model.proofs.Equivalence.{bytes-same, bytes-refl}
 use Rattle.bcs_encode_spec.specs.Canonical.{Below}
 use Rattle.bcs_encode_spec.specs.Entries.{Keyed, EntriesRiseFrom, EntriesRise, HasTwins}
 use Rattle.bcs_encode_spec.proofs.BelowLaws.{Below-irrefl, Below-trans}

@@ -3,19 +3,19 @@ use Rattle.std.proofs.Common.{◌≡◌, ℕ, true, false, ◌&&◌, ◌==◌, L
 use Rattle.std.specs.Option.{option_map_or}
 use Rattle.std.proofs.lemmas.Bool.{false≢true, and_parts}
 use Rattle.bcs_num.specs.Uleb.{uleb}
-use Rattle.bcs_registry_formats.specs.Shape as shape
-use Rattle.bcs_registry_formats.specs.Shape.{Shape, Shapes, no_shapes, shape}
-use Rattle.bcs_registry_formats.specs.Container.{Payload, Choice, Entries, Content, of, one_of, nothing, payload_shape, choice_numbered, content_at, choice_at}
-use Rattle.bcs_registry_formats.specs.Grows.{Grows}
-use Rattle.bcs_registry_formats.proofs.GrowthLaws.{HasChoices, StaysIn, content_at-grows}
-use Rattle.bcs_value_tree.specs.Tree as tree
-use Rattle.bcs_value_tree.specs.Tree.{Tree, Trees, no_trees, tree, Pairs, no_pairs, pair, count, pair_count}
-use Rattle.bcs_value_spec.specs.Fits.{fits, all_fit, each_fits, pairs_fit}
-use Rattle.bcs_value_spec.proofs.VariantFits.{payload_fits}
-use Rattle.bcs_value_spec.proofs.Growth.{fits-grows}
+use Rattle.bcs_registry_model.specs.Shape as shape
+use Rattle.bcs_registry_model.specs.Shape.{Shape, Shapes, no_shapes, shape}
+use Rattle.bcs_registry_model.specs.Container.{Payload, Choice, Entries, Content, of, one_of, nothing, payload_shape, choice_numbered, content_at, choice_at}
+use Rattle.bcs_registry_model.specs.Grows.{Grows}
+use Rattle.bcs_registry_model.proofs.GrowthLaws.{HasChoices, StaysIn, content_at-grows}
+use Rattle.bcs_value_model.specs.Tree as tree
+use Rattle.bcs_value_model.specs.Tree.{Tree, Trees, no_trees, tree, Pairs, no_pairs, pair, count, pair_count}
+use Rattle.bcs_value_model.specs.Fits.{fits, all_fit, each_fits, pairs_fit}
+use Rattle.bcs_value_model.proofs.VariantFits.{payload_fits}
+use Rattle.bcs_value_model.proofs.Growth.{fits-grows}
 use Rattle.bcs_encode_spec.specs.Plain.{plain, plain_items, plain_each, plain_pairs}
 use Rattle.bcs_encode_spec.specs.Lengths.{lengths_hold, all_hold, each_holds, pairs_hold}
-use Rattle.bcs_value_spec.specs.Limits.{Bounds}
+use Rattle.bcs_value_model.specs.Limits.{Bounds}
 use Rattle.bcs_encode_spec.specs.Lengths.{length_limit}
 use Rattle.bcs_encode_spec.specs.Sound.{IsSoundAt}
 use Rattle.bcs_encode_spec.specs.Encodes.{IsForm}

@@ -15,13 +15,13 @@ use Rattle.std.proofs.lemmas.Bool.{and_parts, and_from, cases_Bool, false_from_n
 use Rattle.std.proofs.lemmas.List.Sorted.{IsPermutation-sym, ranks_by}
 use Rattle.std.proofs.lemmas.List.Sums.{sum_by-cons}
 use Rattle.bcs_num.specs.Uleb.{uleb}
-use Rattle.bcs_registry_formats.specs.Shape.{Shape}
-use Rattle.bcs_registry_formats.specs.Shape as shape
-use Rattle.bcs_registry_formats.specs.Container.{Entries, Content, of}
-use Rattle.bcs_value_tree.specs.Tree.{Tree, pairs, Pairs, no_pairs, pair}
-use Rattle.bcs_value_spec.specs.Fits.{fits, pairs_fit}
-use Rattle.bcs_value_spec.specs.Same.{same, all_pairs, distinct, pairs_distinct}
-use Rattle.bcs_value_spec.proofs.Equivalence.{same-sym, same-trans}
+use Rattle.bcs_registry_model.specs.Shape.{Shape}
+use Rattle.bcs_registry_model.specs.Shape as shape
+use Rattle.bcs_registry_model.specs.Container.{Entries, Content, of}
+use Rattle.bcs_value_model.specs.Tree.{Tree, pairs, Pairs, no_pairs, pair}
+use Rattle.bcs_value_model.specs.Fits.{fits, pairs_fit}
+use Rattle.bcs_value_model.specs.Same.{same, all_pairs, distinct, pairs_distinct}
+use Rattle.bcs_value_model.proofs.Equivalence.{same-sym, same-trans}
 use Rattle.bcs_encode_spec.specs.Plain.{plain, plain_pairs}
 use Rattle.bcs_encode_spec.specs.Canonical.{Rises, RisesFrom}
 use Rattle.bcs_encode_spec.specs.Entries.{HasBytes, Entry, entry_bytes, EntriesOf, EntriesRiseFrom, EntriesRise, HasTwins, SortedEntries, TwinsRepeat}

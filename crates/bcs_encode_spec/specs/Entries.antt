@@ -3,11 +3,11 @@ use Rattle.std.specs.Prelude.{◌≡◌, ℕ, List, [], ◌∷◌, ◌++◌, ◌
 use Rattle.std.specs.List.{flat_map}
 use Rattle.std.specs.List.Sorted.{IsPermutation}
 use Rattle.bcs_num.specs.Uleb.{uleb}
-use Rattle.bcs_registry_formats.specs.Shape.{Shape, map}
-use Rattle.bcs_registry_formats.specs.Container.{Entries, Content, of}
-use Rattle.bcs_value_tree.specs.Tree.{Tree, pairs, Pairs, no_pairs, pair, pair_count}
-use Rattle.bcs_value_spec.specs.Fits.{fits}
-use Rattle.bcs_value_spec.specs.Same.{distinct, HasDistinctKeys}
+use Rattle.bcs_registry_model.specs.Shape.{Shape, map}
+use Rattle.bcs_registry_model.specs.Container.{Entries, Content, of}
+use Rattle.bcs_value_model.specs.Tree.{Tree, pairs, Pairs, no_pairs, pair, pair_count}
+use Rattle.bcs_value_model.specs.Fits.{fits}
+use Rattle.bcs_value_model.specs.Same.{distinct, HasDistinctKeys}
 use Rattle.bcs_encode_spec.specs.Canonical.{Below}
 use Rattle.bcs_encode_spec.specs.Encodes.{IsForm}
 use Rattle.bcs_encode_spec.specs.Plain.{plain}

@@ -1,12 +1,12 @@
 -- What holds of the bytes of values and of their canonical forms.
 use Rattle.std.specs.Prelude.{◌≡◌, ◌↔◌, ◌⊎◌, IsTrue, false, ℕ, List, ◌++◌}
-use Rattle.bcs_registry_formats.specs.Shape.{Shape}
-use Rattle.bcs_registry_formats.specs.Container.{Entries, Content}
-use Rattle.bcs_registry_formats.specs.Grows.{Grows}
-use Rattle.bcs_value_tree.specs.Tree.{Tree, depth, nodes}
-use Rattle.bcs_value_spec.specs.Fits.{fits}
-use Rattle.bcs_value_spec.specs.Same.{Same, HasDistinctKeys}
-use Rattle.bcs_value_spec.specs.Limits.{Bounds}
+use Rattle.bcs_registry_model.specs.Shape.{Shape}
+use Rattle.bcs_registry_model.specs.Container.{Entries, Content}
+use Rattle.bcs_registry_model.specs.Grows.{Grows}
+use Rattle.bcs_value_model.specs.Tree.{Tree, depth, nodes}
+use Rattle.bcs_value_model.specs.Fits.{fits}
+use Rattle.bcs_value_model.specs.Same.{Same, HasDistinctKeys}
+use Rattle.bcs_value_model.specs.Limits.{Bounds}
 use Rattle.bcs_encode_spec.specs.Plain.{plain}
 use Rattle.bcs_encode_spec.specs.Canonical.{IsCanonical}
 use Rattle.bcs_encode_spec.specs.Lengths.{lengths_hold}

@@ -1,10 +1,10 @@
 -- Trees whose lengths are all within a limit.
 use Rattle.std.specs.Prelude.{ℕ, length, Bool, true, ◌&&◌, nat_le}
-use Rattle.bcs_value_tree.specs.Tree as tree
-use Rattle.bcs_value_tree.specs.Tree.{Tree, Trees, no_trees, tree, Pairs, no_pairs, pair, count, pair_count}
-use Rattle.bcs_registry_formats.specs.Shape as shape
-use Rattle.bcs_registry_formats.specs.Shape.{Shape, Shapes, no_shapes, shape}
-use Rattle.bcs_registry_formats.specs.Container.{Entries, Content, of, one_of, content_at, choice_at}
+use Rattle.bcs_value_model.specs.Tree as tree
+use Rattle.bcs_value_model.specs.Tree.{Tree, Trees, no_trees, tree, Pairs, no_pairs, pair, count, pair_count}
+use Rattle.bcs_registry_model.specs.Shape as shape
+use Rattle.bcs_registry_model.specs.Shape.{Shape, Shapes, no_shapes, shape}
+use Rattle.bcs_registry_model.specs.Container.{Entries, Content, of, one_of, content_at, choice_at}
 
 module _ (limit : ℕ) (registry : Entries) where
   abbrev mutual

@@ -1,11 +1,11 @@
 -- When a value has no encoding.
 use Rattle.std.specs.Prelude.{◌≤◌, ◌<◌, IsTrue}
-use Rattle.bcs_registry_formats.specs.Container.{Entries, of}
-use Rattle.bcs_registry_formats.specs.Shape.{Shape}
-use Rattle.bcs_value_tree.specs.Tree.{Tree, depth, nodes}
-use Rattle.bcs_value_spec.specs.Fits.{Fits, FitsLoosely}
-use Rattle.bcs_value_spec.specs.Same.{HasDistinctKeys}
-use Rattle.bcs_value_spec.specs.Limits.{Bounds}
+use Rattle.bcs_registry_model.specs.Container.{Entries, of}
+use Rattle.bcs_registry_model.specs.Shape.{Shape}
+use Rattle.bcs_value_model.specs.Tree.{Tree, depth, nodes}
+use Rattle.bcs_value_model.specs.Fits.{Fits, FitsLoosely}
+use Rattle.bcs_value_model.specs.Same.{HasDistinctKeys}
+use Rattle.bcs_value_model.specs.Limits.{Bounds}
 use Rattle.bcs_encode_spec.specs.Lengths.{length_limit, lengths_hold}
 use Rattle.bcs_encode_spec.specs.declared.fault.EncodeFault.{EncodeFault}
 use Rattle.bcs_encode_spec.specs.declared.fault.EncodeFault.TheVariants.{NotOfFormat, Unsupported, TooDeep, TooManyNodes, TooLong, RepeatedKey, OutOfMemory}

@@ -1,11 +1,11 @@
 -- Which trees have an encoding.
 use Rattle.std.specs.Prelude.{◌≤◌, IsTrue, false}
-use Rattle.bcs_registry_formats.specs.Container.{Entries, Content, of}
-use Rattle.bcs_registry_formats.specs.Shape.{Shape}
-use Rattle.bcs_value_tree.specs.Tree.{Tree, depth, nodes}
-use Rattle.bcs_value_spec.specs.Fits.{fits}
-use Rattle.bcs_value_spec.specs.Same.{HasDistinctKeys}
-use Rattle.bcs_value_spec.specs.Limits.{Bounds}
+use Rattle.bcs_registry_model.specs.Container.{Entries, Content, of}
+use Rattle.bcs_registry_model.specs.Shape.{Shape}
+use Rattle.bcs_value_model.specs.Tree.{Tree, depth, nodes}
+use Rattle.bcs_value_model.specs.Fits.{fits}
+use Rattle.bcs_value_model.specs.Same.{HasDistinctKeys}
+use Rattle.bcs_value_model.specs.Limits.{Bounds}
 use Rattle.bcs_encode_spec.specs.Lengths.{length_limit, lengths_hold}
 
 -- the tree fits what stands here, the keys of each of its maps differ, and its depth, its nodes and its lengths are

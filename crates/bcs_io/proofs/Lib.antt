@@ -2,3 +2,8 @@ pub mod TakingLemmas
 pub mod GivingLemmas
 pub mod Repeating
 pub mod Filled
+pub mod LineLemmas
+pub mod Searching
+pub mod Ahead
+pub mod FeedLemmas
+pub mod Reading

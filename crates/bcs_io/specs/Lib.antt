@@ -7,3 +7,8 @@ pub mod ReadSource
 pub mod PieceSource
 pub mod RepeatSource
 pub mod Filling
+pub mod Lines
+pub mod Laws
+pub mod Held
+pub mod Advancing
+pub mod Blocks

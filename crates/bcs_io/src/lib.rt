@@ -1,7 +1,10 @@
-//! Where bytes go, and where they come from.
+//! Where bytes come from, line by line too, and where they go.
 #![tactic(auto)]
 
 pub mod filling;
+pub mod laws;
+mod line_buffer;
+mod next_fault;
 pub mod pieces;
 mod putting;
 mod read_source;
@@ -10,6 +13,8 @@ mod slice_source;
 mod source;
 mod write_sink;
 
+pub use line_buffer::LineBuffer;
+pub use next_fault::NextFault;
 pub use putting::put_all;
 pub use read_source::ReadSource;
 pub use sink::{ByteSink, SinkFailed};

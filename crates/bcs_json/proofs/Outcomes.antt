@@ -2,16 +2,16 @@
 use Rattle.std.proofs.Common.{◌≡◌, ◌≢◌, ◌≤◌, ◌↔◌, ℕ, List, Ok, Err, Result, Some, None, IfOk, IfErr, IfSome, Bool, Decides, refl, ap, sym, subst}
 use Rattle.std.specs.Result.{result_ok, result_err}
 use Rattle.serde_json.specs.Data.{Data, depth}
-use Rattle.bcs_registry_formats.specs.Container.{Entries}
-use Rattle.bcs_registry_formats.specs.Container as container
-use Rattle.bcs_registry_formats.specs.Ranges.{IsOrderly}
-use Rattle.bcs_registry_formats.specs.Shape.{Shape}
-use Rattle.bcs_registry_formats.specs.WellFormed.{IsWellFormed}
-use Rattle.bcs_value_spec.specs.Limits.{Bounds}
-use Rattle.bcs_value_spec.specs.Same.{Same}
-use Rattle.bcs_value_tree.specs.Tree.{Tree}
-use Rattle.bcs_value_tree.specs.View.{tree_of}
-use Rattle.bcs_value_tree.specs.declared.value.Value.{Value}
+use Rattle.bcs_registry_model.specs.Container.{Entries}
+use Rattle.bcs_registry_model.specs.Container as container
+use Rattle.bcs_registry_model.specs.Ranges.{IsOrderly}
+use Rattle.bcs_registry_model.specs.Shape.{Shape}
+use Rattle.bcs_registry_model.specs.WellFormed.{IsWellFormed}
+use Rattle.bcs_value_model.specs.Limits.{Bounds}
+use Rattle.bcs_value_model.specs.Same.{Same}
+use Rattle.bcs_value_model.specs.Tree.{Tree}
+use Rattle.bcs_value_model.specs.View.{tree_of}
+use Rattle.bcs_value_model.specs.declared.value.Value.{Value}
 use Rattle.bcs_encode_spec.proofs.FormLaws.{bytes_decide_same}
 use Rattle.bcs_encode_spec.specs.Encodes.{IsForm}
 use Rattle.bcs_encode_spec.specs.Refused as encode
@@ -19,10 +19,10 @@ use Rattle.bcs_encode_spec.specs.Sound.{IsSound}
 use Rattle.bcs_encode_spec.specs.declared.fault.EncodeFault.{EncodeFault}
 use Rattle.bcs_encode_spec.specs.declared.fault.EncodeFault.TheVariants as encode_fault
 use Rattle.bcs_decode_spec.specs.Accepting.{IsDecoded}
-use Rattle.bcs_json_text.specs.Json.{IsNotJson}
-use Rattle.bcs_json_text.specs.declared.json_text.TextFault.{TextFault}
-use Rattle.bcs_json_text.specs.declared.json_text.TextFault.TheVariants as unread
-use Rattle.bcs_json_text.specs.declared.json_text.TextFault.TheVariants.{NotJson}
+use Rattle.bcs_registry_json.specs.Json.{IsNotJson}
+use Rattle.bcs_registry_json.specs.declared.json_reading.TextFault.{TextFault}
+use Rattle.bcs_registry_json.specs.declared.json_reading.TextFault.TheVariants as unread
+use Rattle.bcs_registry_json.specs.declared.json_reading.TextFault.TheVariants.{NotJson}
 use Rattle.serde_json.specs.declared.value.Value.{Value as Json}
 use Rattle.bcs_json_spec.specs.Causes.{fault_of_text, fault_of_value}
 use Rattle.bcs_json_spec.specs.declared.json_fault.JsonFault.{JsonFault}
@@ -36,8 +36,8 @@ use Rattle.bcs_json_spec.specs.Texts.{nesting_limit, IsReadAs, SpelledBy, Misspe
 use Rattle.bcs_json_spec.proofs.Printed.{shown_denotes, form_is_sound, form_nests}
 use Rattle.bcs_json_spec.proofs.Verdict.{exact_data}
 use Rattle.bcs_json_spec.proofs.TextOutcomes.{read_is_spelled, stop_is_refusal, refused_value}
-use Rattle.bcs_json_reader_steps.specs.Refused.{steps, IsPlaced}
-use Rattle.bcs_json_reader_steps.specs.declared.refusal.Refusal.{Refusal}
+use Rattle.bcs_json_reader.specs.Refused.{steps, IsPlaced}
+use Rattle.bcs_json_reader.specs.declared.refusal.Refusal.{Refusal}
 use Rattle.bcs_json.specs.Printing.{Prints}
 
 some_is : {A : Type 0} (x y : A) → Some x ≡ Some y → x ≡ y

@@ -10,7 +10,7 @@ pub use Rattle.bcs_value.specs.Fits
 pub use Rattle.bcs_value.specs.Limits
 pub use Rattle.bcs_value.specs.Same
 pub use Rattle.bcs_value.specs.Tree
-pub use Rattle.bcs_json_text.specs.Json
+pub use Rattle.bcs_registry_json.specs.Json
 pub use Rattle.bcs_json_spec.specs.JsonContent
 pub use Rattle.bcs_json_spec.specs.Look
 pub use Rattle.bcs_json_spec.specs.Numbers

@@ -2,12 +2,12 @@
 use Rattle.std.specs.Prelude.{◌<◌, ℕ, List, length, Result, Ok, Err, String, string_bytes}
 use Rattle.std.specs.declared.alloc.Global.{Global}
 use Rattle.serde_json.specs.Data.{depth}
-use Rattle.bcs_registry_formats.specs.Container.{Entries}
-use Rattle.bcs_registry_formats.specs.Shape.{Shape}
-use Rattle.bcs_value_spec.specs.Limits.{Bounds}
-use Rattle.bcs_value_tree.specs.Tree.{Tree}
-use Rattle.bcs_value_tree.specs.View.{tree_of}
-use Rattle.bcs_value_tree.specs.declared.value.Value.{Value}
+use Rattle.bcs_registry_model.specs.Container.{Entries}
+use Rattle.bcs_registry_model.specs.Shape.{Shape}
+use Rattle.bcs_value_model.specs.Limits.{Bounds}
+use Rattle.bcs_value_model.specs.Tree.{Tree}
+use Rattle.bcs_value_model.specs.View.{tree_of}
+use Rattle.bcs_value_model.specs.declared.value.Value.{Value}
 use Rattle.bcs_decode_spec.specs.Accepting.{Accepts}
 use Rattle.bcs_decode_spec.specs.Stopping.{StopsAll}
 use Rattle.bcs_json_spec.specs.Headline.{ShowsBytes}

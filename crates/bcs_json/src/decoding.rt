@@ -1,15 +1,15 @@
 //! Texts of bytes.
 ghost use Rattle.std.specs.Prelude.{string_bytes};
-ghost use Rattle.bcs_registry_formats.specs.View.{shape_of};
-ghost use Rattle.bcs_registry_formats.specs.WellFormed.{Admits};
+ghost use Rattle.bcs_registry_model.specs.View.{shape_of};
+ghost use Rattle.bcs_registry_model.specs.WellFormed.{Admits};
 ghost use Rattle.bcs_json.specs.Showing.{DecodesWhole, Shows};
 
 use crate::from_fault::FromFault;
 use bcs_decode::{DecodeFault, Reason, Stop, decode_slice};
 use bcs_json_printer::nesting::shown_nests_within;
 use bcs_json_printer::texts::show;
-use bcs_json_text::NESTING_LIMIT;
 use bcs_registry::{Format, Registry};
+use bcs_registry_json::NESTING_LIMIT;
 use bcs_value::{Limits, Value};
 use std::alloc::Global;
 

@@ -1,6 +1,6 @@
 //! Where a text is refused.
 ghost use Rattle.std.specs.Prelude.{IfSome, map};
-ghost use Rattle.bcs_registry_formats.specs.View.{shape_of};
+ghost use Rattle.bcs_registry_model.specs.View.{shape_of};
 ghost use Rattle.bcs_json_spec.specs.Place.{step_of};
 ghost use Rattle.bcs_json_spec.specs.Texts.{MisspellsAt, RefusesText};
 

@@ -2,8 +2,8 @@
 ghost use Rattle.std.specs.Prelude.{◌≡◌, ◌≢◌, IfErr, IfOk, OnOk, string_bytes};
 ghost use Rattle.bcs_encode_spec.specs.Refused.{IsSoundBesidesKeys};
 ghost use Rattle.bcs_encode_spec.specs.Sound.{IsSound};
-ghost use Rattle.bcs_registry_formats.specs.View.{shape_of};
-ghost use Rattle.bcs_value_tree.specs.View.{tree_of};
+ghost use Rattle.bcs_registry_model.specs.View.{shape_of};
+ghost use Rattle.bcs_value_model.specs.View.{tree_of};
 ghost use Rattle.bcs_json.specs.Printing.{Prints, PrintRefuses};
 ghost use Rattle.bcs_json.specs.declared.print_fault.PrintFault.TheVariants.{OutOfMemory};
 
@@ -11,8 +11,8 @@ use crate::print_fault::PrintFault;
 use bcs_encode::canonicalise;
 use bcs_json_printer::nesting::shown_nests_within;
 use bcs_json_printer::texts::show;
-use bcs_json_text::NESTING_LIMIT;
 use bcs_registry::{Format, Registry};
+use bcs_registry_json::NESTING_LIMIT;
 use bcs_value::{Limits, Value};
 use std::alloc::Global;
 

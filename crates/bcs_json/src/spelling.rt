@@ -1,18 +1,18 @@
 //! The JSON of a text, and the value that it spells.
 ghost use Rattle.std.specs.Prelude.{◌≢◌, IfErr, IfOk};
 ghost use Rattle.serde_json.specs.View.{view};
-ghost use Rattle.bcs_registry_formats.specs.Container.{Entries};
-ghost use Rattle.bcs_registry_formats.specs.Shape.{Shape};
-ghost use Rattle.bcs_registry_formats.specs.View.{shape_of};
-ghost use Rattle.bcs_value_spec.specs.Limits.{Bounds};
-ghost use Rattle.bcs_value_tree.specs.View.{tree_of};
+ghost use Rattle.bcs_registry_model.specs.Container.{Entries};
+ghost use Rattle.bcs_registry_model.specs.Shape.{Shape};
+ghost use Rattle.bcs_registry_model.specs.View.{shape_of};
+ghost use Rattle.bcs_value_model.specs.Limits.{Bounds};
+ghost use Rattle.bcs_value_model.specs.View.{tree_of};
 ghost use Rattle.bcs_json_spec.specs.Texts.{IsReadAs, SpelledBy, RefusesText};
 ghost use Rattle.bcs_json_spec.specs.declared.json_fault.JsonFault.TheVariants.{OutOfMemory};
 
 use bcs_json_reader::reading::read;
 use bcs_json_spec::JsonFault;
-use bcs_json_text::{NESTING_LIMIT, nests_within, read_json};
 use bcs_registry::{Format, Registry};
+use bcs_registry_json::{NESTING_LIMIT, nests_within, read_json};
 use bcs_value::{Limits, Value};
 use serde_json::Value as Json;
 use std::alloc::Global;

@@ -2,9 +2,9 @@
 use Rattle.std.proofs.Common.{◌≡◌, ℕ, List, Some, true, ◌&&◌}
 use Rattle.std.specs.List.{list_all}
 use Rattle.std.proofs.lemmas.Bool.{and_parts}
-use Rattle.bcs_registry_formats.proofs.Admitted.{list_all-found}
-use Rattle.bcs_registry_formats.specs.Container.{Payload, Choice, Container, enumeration, Entries, container_at, choice_numbered}
-use Rattle.bcs_registry_formats.specs.WellFormed.{are_distinct, container_names, payload_names, levels_hold, names_differ, names_known, IsWellFormed}
+use Rattle.bcs_registry_model.proofs.Admitted.{list_all-found}
+use Rattle.bcs_registry_model.specs.Container.{Payload, Choice, Container, enumeration, Entries, container_at, choice_numbered}
+use Rattle.bcs_registry_model.specs.WellFormed.{are_distinct, container_names, payload_names, levels_hold, names_differ, names_known, IsWellFormed}
 
 pub container_distinct : (registry : Entries) → IsWellFormed registry → (n : List ℕ) (c : Container) → container_at n registry ≡ Some c → list_all are_distinct (container_names c) ≡ true
 container_distinct registry good n c found =

@@ -5,15 +5,15 @@ use Rattle.std.specs.List.{All}
 use Rattle.std.specs.Map.{values_of}
 use Rattle.serde_json.specs.Data.{Data}
 use Rattle.serde_json.specs.Events.{items_len, members_len}
-use Rattle.bcs_registry_formats.specs.Container.{Entries, field_shapes, of as at_format}
-use Rattle.bcs_registry_formats.specs.Shape.{Shape}
-use Rattle.bcs_registry_formats.specs.View.{field_of, formats_shapes, shape_of}
-use Rattle.bcs_registry_formats.specs.declared.format.Format.{Format}
-use Rattle.bcs_registry_formats.specs.declared.named.Named.{Named}
-use Rattle.bcs_value_spec.specs.Fits.{each_fits, fits}
-use Rattle.bcs_value_tree.specs.Tree.{nodes, pairs_nodes, trees_nodes}
-use Rattle.bcs_value_tree.specs.View.{entries_pairs, items_trees, tree_of}
-use Rattle.bcs_value_tree.specs.declared.value.Value.{Value}
+use Rattle.bcs_registry_model.specs.Container.{Entries, field_shapes, of as at_format}
+use Rattle.bcs_registry_model.specs.Shape.{Shape}
+use Rattle.bcs_registry_model.specs.View.{field_of, formats_shapes, shape_of}
+use Rattle.bcs_registry_model.specs.declared.format.Format.{Format}
+use Rattle.bcs_registry_model.specs.declared.named.Named.{Named}
+use Rattle.bcs_value_model.specs.Fits.{each_fits, fits}
+use Rattle.bcs_value_model.specs.Tree.{nodes, pairs_nodes, trees_nodes}
+use Rattle.bcs_value_model.specs.View.{entries_pairs, items_trees, tree_of}
+use Rattle.bcs_value_model.specs.declared.value.Value.{Value}
 use Rattle.bcs_json_spec.specs.Shown.{shown_all, shown_each, shown_pairs}
 use Rattle.bcs_json_printer.specs.Places.{placed}
 

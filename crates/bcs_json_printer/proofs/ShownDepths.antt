@@ -10,14 +10,14 @@ use Rattle.std.specs.Str.{bytes_eq}
 use Rattle.serde_json.proofs.Views.{get_member-put_other}
 use Rattle.serde_json.specs.Data.{Data, Members, no_members, member, put, depth, members_depth}
 use Rattle.serde_json.specs.Find.{get_member}
-use Rattle.bcs_registry_formats.specs.Container.{Field, Entries}
-use Rattle.bcs_registry_formats.specs.View.{shape_of, field_of}
-use Rattle.bcs_registry_formats.specs.WellFormed.{are_distinct}
-use Rattle.bcs_registry_formats.specs.declared.format.Format.{Format}
-use Rattle.bcs_registry_formats.specs.declared.named.Named.{Named}
-use Rattle.bcs_value_tree.specs.Tree.{Tree, Trees, no_trees, tree}
-use Rattle.bcs_value_tree.specs.View.{tree_of, items_trees}
-use Rattle.bcs_value_tree.specs.declared.value.Value.{Value}
+use Rattle.bcs_registry_model.specs.Container.{Field, Entries}
+use Rattle.bcs_registry_model.specs.View.{shape_of, field_of}
+use Rattle.bcs_registry_model.specs.WellFormed.{are_distinct}
+use Rattle.bcs_registry_model.specs.declared.format.Format.{Format}
+use Rattle.bcs_registry_model.specs.declared.named.Named.{Named}
+use Rattle.bcs_value_model.specs.Tree.{Tree, Trees, no_trees, tree}
+use Rattle.bcs_value_model.specs.View.{tree_of, items_trees}
+use Rattle.bcs_value_model.specs.declared.value.Value.{Value}
 use Rattle.bcs_json_spec.specs.JsonContent.{of}
 use Rattle.bcs_json_spec.specs.Shown.{shown, shown_fields}
 use Rattle.bcs_json_printer.proofs.PrintedRows.{left_at}

@@ -10,12 +10,12 @@ ghost use Rattle.serde.specs.declared.name.Case.TheVariants.{AsIs};
 ghost use Rattle.serde_json.specs.Data.{boolean, null, number as json_number, string, unsigned};
 ghost use Rattle.serde_json.specs.Events.{SendsValue};
 ghost use Rattle.serde_json.specs.Find.{of_integer};
-ghost use Rattle.bcs_value_tree.specs.Tree.{no_trees, tree};
-ghost use Rattle.bcs_value_tree.specs.View.{items_trees, tree_of};
-ghost use Rattle.bcs_value_spec.specs.Fits.{are_bytes};
+ghost use Rattle.bcs_value_model.specs.Tree.{no_trees, tree};
+ghost use Rattle.bcs_value_model.specs.View.{items_trees, tree_of};
+ghost use Rattle.bcs_value_model.specs.Fits.{are_bytes};
 ghost use Rattle.bcs_json_spec.specs.Bytes.{trees_bytes};
 
-use bcs_value_tree::Value;
+use bcs_value_model::Value;
 use itoa::Buffer;
 use serde::Serializer;
 use std::alloc::{AllocError, Global};

@@ -2,15 +2,15 @@
 ghost use Rattle.std.specs.Prelude.{◌≡◌, ◌||◌, Some, true, map, nat_le, string_bytes};
 ghost use Rattle.std.specs.List.{list_all};
 ghost use Rattle.serde_json.specs.Data.{array, depth, items_depth, members_depth};
-ghost use Rattle.bcs_registry_formats.specs.View.{container_of, field_of, formats_shapes, payload_of, shape_of};
-ghost use Rattle.bcs_registry_formats.specs.WellFormed.{are_distinct, container_names, payload_names};
-ghost use Rattle.bcs_value_tree.specs.View.{entries_pairs, items_trees, tree_of};
+ghost use Rattle.bcs_registry_model.specs.View.{container_of, field_of, formats_shapes, payload_of, shape_of};
+ghost use Rattle.bcs_registry_model.specs.WellFormed.{are_distinct, container_names, payload_names};
+ghost use Rattle.bcs_value_model.specs.View.{entries_pairs, items_trees, tree_of};
 ghost use Rattle.bcs_json_spec.specs.Bytes.{is_byte};
 ghost use Rattle.bcs_json_spec.specs.JsonContent.{json_content, of};
 ghost use Rattle.bcs_json_spec.specs.Shown.{shown, shown_all, shown_choice, shown_each, shown_fields, shown_pairs};
 
 use bcs_registry::{Container, Format, Named, Registry, VariantFormat};
-use bcs_value_tree::Value;
+use bcs_value_model::Value;
 
 /// Whether arrays and objects nest at most `limit` deep in the JSON of the value. The walk goes as deep as they may,
 /// and as containers do.

@@ -4,23 +4,19 @@ ghost use Rattle.std.specs.Prelude.{◌≡◌, IfSome, IsTrue, OnOk, false, is_s
 ghost use Rattle.hex.specs.Hex.{encode_lower};
 ghost use Rattle.serde_json.specs.Data.{array, null, object, string};
 ghost use Rattle.serde_json.specs.Events.{SendsValue};
-ghost use Rattle.bcs_registry_formats.specs.Container.{content, field_shapes, of as at_format, payload_shape};
-ghost use Rattle.bcs_registry_formats.specs.View.{container_of, field_of, formats_shapes, payload_of, shape_of};
-ghost use Rattle.bcs_value_spec.specs.Fits.{Fits, all_fit, each_fits, fits, pairs_fit};
-ghost use Rattle.bcs_value_tree.specs.View.{entries_pairs, items_trees, tree_of};
+ghost use Rattle.bcs_registry_model.specs.Container.{content, field_shapes, of as at_format, payload_shape};
+ghost use Rattle.bcs_registry_model.specs.View.{container_of, field_of, formats_shapes, payload_of, shape_of};
+ghost use Rattle.bcs_value_model.specs.Fits.{Fits, all_fit, each_fits, fits, pairs_fit};
+ghost use Rattle.bcs_value_model.specs.View.{entries_pairs, items_trees, tree_of};
 ghost use Rattle.bcs_json_spec.specs.Bytes.{is_byte, trees_bytes};
 ghost use Rattle.bcs_json_spec.specs.JsonContent.{json_content, of, payload_content};
 ghost use Rattle.bcs_json_spec.specs.Shown.{shown, shown_all, shown_choice, shown_each, shown_fields, shown_pairs};
 
 use crate::field_order::sent_places;
-use crate::leaves::{
-    close_map, close_seq, open_map, open_seq, send_byte_list, send_bytes, send_name,
-    send_narrow_signed, send_narrow_unsigned, send_null, send_text, send_truth, send_wide_signed,
-    send_wide_unsigned,
-};
+use crate::leaves::{close_map, close_seq, open_map, open_seq, send_byte_list, send_bytes, send_name, send_narrow_signed, send_narrow_unsigned, send_null, send_text, send_truth, send_wide_signed, send_wide_unsigned};
 use bcs_registry::{Container, Format, Named, Registry, VariantFormat};
 use bcs_value::has_format;
-use bcs_value_tree::Value;
+use bcs_value_model::Value;
 use serde::{Described, Serialize, Serializer};
 use std::alloc::Global;
 

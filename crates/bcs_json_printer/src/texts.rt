@@ -1,16 +1,16 @@
 //! The compact text of a value's JSON.
 ghost use Rattle.std.specs.Prelude.{◌≤◌, IfOk, string_bytes};
 ghost use Rattle.serde_json.specs.Data.{depth};
-ghost use Rattle.bcs_registry_formats.specs.View.{shape_of};
-ghost use Rattle.bcs_value_spec.specs.Fits.{Fits};
-ghost use Rattle.bcs_value_tree.specs.View.{tree_of};
+ghost use Rattle.bcs_registry_model.specs.View.{shape_of};
+ghost use Rattle.bcs_value_model.specs.Fits.{Fits};
+ghost use Rattle.bcs_value_model.specs.View.{tree_of};
 ghost use Rattle.bcs_json_spec.specs.JsonContent.{of};
 ghost use Rattle.bcs_json_spec.specs.Shown.{shown};
 ghost use Rattle.bcs_json_spec.specs.Texts.{IsReadAs, IsTextOf, nesting_limit};
 
 use crate::shown::Shown;
 use bcs_registry::{Format, Registry};
-use bcs_value_tree::Value;
+use bcs_value_model::Value;
 use std::alloc::{AllocError, Global};
 
 /// The text of a value of the format, whose JSON nests within the limit. It is read as that JSON again.

@@ -4,21 +4,21 @@ use Rattle.std.proofs.lemmas.Bool.Decides.{Decides-eqb}
 use Rattle.serde_json.specs.Data.{Data, Items, array}
 use Rattle.serde_json.specs.View.{items_view}
 use Rattle.serde_json.specs.declared.value.Value.{Value as Json}
-use Rattle.bcs_registry_formats.specs.Shape as shape
-use Rattle.bcs_registry_formats.specs.Shape.{Shape}
-use Rattle.bcs_registry_formats.specs.View.{formats_shapes}
-use Rattle.bcs_registry_formats.specs.declared.format.Format.{Format}
-use Rattle.bcs_value_tree.specs.Tree.{Tree, Trees, items}
-use Rattle.bcs_value_tree.specs.View.{tree_of, items_trees}
-use Rattle.bcs_value_tree.specs.declared.value.Value as value
-use Rattle.bcs_value_tree.specs.declared.value.Value.{Value, the_lemmas}
+use Rattle.bcs_registry_model.specs.Shape as shape
+use Rattle.bcs_registry_model.specs.Shape.{Shape}
+use Rattle.bcs_registry_model.specs.View.{formats_shapes}
+use Rattle.bcs_registry_model.specs.declared.format.Format.{Format}
+use Rattle.bcs_value_model.specs.Tree.{Tree, Trees, items}
+use Rattle.bcs_value_model.specs.View.{tree_of, items_trees}
+use Rattle.bcs_value_model.specs.declared.value.Value as value
+use Rattle.bcs_value_model.specs.declared.value.Value.{Value, the_lemmas}
 use Rattle.bcs_json_spec.specs.declared.json_fault.JsonFault.{JsonFault}
 use Rattle.bcs_json_spec.specs.declared.json_fault.JsonFault.TheVariants.{BadShape}
 use Rattle.bcs_json_spec.specs.Look.{item_count, shape_count}
 use Rattle.bcs_json_spec.specs.Place.{item_parts, each_parts, array_parts, tuple_parts}
 use Rattle.bcs_json_spec.specs.Reading.{Read, follow, read_all, read_array, read_tuple, read_shape, read_each}
 use Rattle.bcs_json_spec.proofs.Exact.{when_true, when_false}
-use Rattle.bcs_json_reader_steps.proofs.OtherCounts.{count_items}
+use Rattle.bcs_json_reader.proofs.OtherCounts.{count_items}
 
 pub count_formats : (fs : List Format) → shape_count (formats_shapes fs) ≡ length fs
 count_formats [] = refl

@@ -2,17 +2,17 @@
 use Rattle.std.proofs.Common.{◌≡◌, ◌∙◌, ◌++◌, ℕ, List, [], ◌∷◌, Ok, Err, Some, None, map, string_bytes, refl, ap, sym}
 use Rattle.serde_json.specs.Data.{Data, Members, no_members, member}
 use Rattle.serde_json.specs.Find.{get_member}
-use Rattle.bcs_registry_formats.specs.View.{shape_of, field_of}
-use Rattle.bcs_registry_formats.specs.declared.format.Format.{Format}
-use Rattle.bcs_registry_formats.specs.declared.named.Named.{Named}
-use Rattle.bcs_value_tree.specs.Tree.{Tree, Trees}
-use Rattle.bcs_value_tree.specs.View.{tree_of, items_trees}
-use Rattle.bcs_value_tree.specs.declared.value.Value.{Value}
+use Rattle.bcs_registry_model.specs.View.{shape_of, field_of}
+use Rattle.bcs_registry_model.specs.declared.format.Format.{Format}
+use Rattle.bcs_registry_model.specs.declared.named.Named.{Named}
+use Rattle.bcs_value_model.specs.Tree.{Tree, Trees}
+use Rattle.bcs_value_model.specs.View.{tree_of, items_trees}
+use Rattle.bcs_value_model.specs.declared.value.Value.{Value}
 use Rattle.bcs_json_spec.specs.Look.{without}
 use Rattle.bcs_json_spec.specs.Reading.{Read, follow, read_shape, read_member, read_fields}
 use Rattle.bcs_json_spec.specs.declared.json_fault.JsonFault.{JsonFault}
 use Rattle.bcs_json_spec.specs.declared.json_fault.JsonFault.TheVariants.{UnknownField, MissingField}
-use Rattle.bcs_json_reader_steps.proofs.Joined.{joined, joined-none}
+use Rattle.bcs_json_reader.proofs.Joined.{joined, joined-none}
 use Rattle.bcs_json_reader.proofs.Rows.{row_more, row_fault}
 
 module _ (named : List ℕ → Data → Read Tree) (x : Named Format) (fs gs : List (Named Format)) (here : gs ≡ x ∷ fs) (ms : Members) (vs : List Value) where

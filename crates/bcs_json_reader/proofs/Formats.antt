@@ -1,12 +1,12 @@
 -- Formats with formats inside, and how many levels these have.
 use Rattle.std.proofs.Common.{◌≡◌, ◌∙◌, ℕ, zero, suc, ◌≤◌, List, [], ◌∷◌, map, drop, Box, Global, Result, ap, sym, subst, arith, rules}
-use Rattle.bcs_registry_formats.specs.Shape as shape
-use Rattle.bcs_registry_formats.specs.Container.{field_shapes}
-use Rattle.bcs_registry_formats.specs.View.{shape_of, formats_shapes, field_of}
-use Rattle.bcs_registry_formats.specs.WellFormed.{levels, shapes_levels}
-use Rattle.bcs_registry_formats.specs.declared.format.Format as format
-use Rattle.bcs_registry_formats.specs.declared.format.Format.{Format}
-use Rattle.bcs_registry_formats.specs.declared.named.Named.{Named}
+use Rattle.bcs_registry_model.specs.Shape as shape
+use Rattle.bcs_registry_model.specs.Container.{field_shapes}
+use Rattle.bcs_registry_model.specs.View.{shape_of, formats_shapes, field_of}
+use Rattle.bcs_registry_model.specs.WellFormed.{levels, shapes_levels}
+use Rattle.bcs_registry_model.specs.declared.format.Format as format
+use Rattle.bcs_registry_model.specs.declared.format.Format.{Format}
+use Rattle.bcs_registry_model.specs.declared.named.Named.{Named}
 use Rattle.bcs_json_spec.specs.declared.json_fault.JsonFault.{JsonFault}
 use Rattle.bcs_json_spec.specs.Reading.{Read, Tells}
 

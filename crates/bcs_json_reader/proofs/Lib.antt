@@ -7,3 +7,10 @@ pub mod Names
 pub mod Placed
 pub mod OwnKind
 pub mod PlacedRows
+pub mod Whole
+pub mod Joined
+pub mod Texts
+pub mod Taken
+pub mod OtherCounts
+pub mod Called
+pub mod Ways

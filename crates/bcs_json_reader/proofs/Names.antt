@@ -1,16 +1,16 @@
 -- A container that was looked up: what stands in it, and how many levels that has.
 use Rattle.std.proofs.Common.{◌≡◌, ◌∙◌, ℕ, suc, ◌≤◌, List, Some, ap}
 use Rattle.std.specs.Option.{option_map_or}
-use Rattle.bcs_registry_formats.specs.Shape.{Shape, Shapes, tuple as tuple_shape}
-use Rattle.bcs_registry_formats.specs.Container as container
-use Rattle.bcs_registry_formats.specs.Container.{Field, Choice, Container, newtype_struct, tuple_struct, field_struct, enumeration, Entries, container_at, content, content_at, choice_at, field_shapes, payload_shape, choice_called}
-use Rattle.bcs_registry_formats.specs.Ranges.{IsOrderly}
-use Rattle.bcs_registry_formats.specs.View.{container_of}
-use Rattle.bcs_registry_formats.specs.WellFormed.{IsWellFormed, levels, shapes_levels}
-use Rattle.bcs_registry_formats.specs.declared.container.Container as declared
-use Rattle.bcs_registry_formats.proofs.Admitted.{content_at-inside, choice_at-inside}
+use Rattle.bcs_registry_model.specs.Shape.{Shape, Shapes, tuple as tuple_shape}
+use Rattle.bcs_registry_model.specs.Container as container
+use Rattle.bcs_registry_model.specs.Container.{Field, Choice, Container, newtype_struct, tuple_struct, field_struct, enumeration, Entries, container_at, content, content_at, choice_at, field_shapes, payload_shape, choice_called}
+use Rattle.bcs_registry_model.specs.Ranges.{IsOrderly}
+use Rattle.bcs_registry_model.specs.View.{container_of}
+use Rattle.bcs_registry_model.specs.WellFormed.{IsWellFormed, levels, shapes_levels}
+use Rattle.bcs_registry_model.specs.declared.container.Container as declared
+use Rattle.bcs_registry_model.proofs.Admitted.{content_at-inside, choice_at-inside}
 use Rattle.bcs_json_spec.proofs.Fitting.{called_numbered}
-use Rattle.bcs_json_reader_steps.proofs.Called.{differ}
+use Rattle.bcs_json_reader.proofs.Called.{differ}
 
 -- what was found is this container
 pub container_found : (registry : Entries) (name : List ℕ) (c k : declared.Container) → container_at name registry ≡ Some (container_of c) → c ≡ k

@@ -2,11 +2,11 @@
 use Rattle.std.proofs.Common.{◌≡◌, ◌∙◌, ℕ, List, [], ◌∷◌, codes, Bool, true, false, cond, Some, None, Ok, Err, ◌==◌, if◌then◌else◌, bytes_eq, refl, ap}
 use Rattle.std.proofs.lemmas.Slice.Eq.{bytes_eq-Decides}
 use Rattle.serde_json.specs.Data.{Data, array, object, Items, no_items, item, Members, no_members, member}
-use Rattle.bcs_registry_formats.specs.Shape as shape
-use Rattle.bcs_registry_formats.specs.Shape.{Shape, Shapes}
-use Rattle.bcs_registry_formats.specs.Container.{Field, newtype, Choice, choice_called}
-use Rattle.bcs_value_tree.specs.Tree as tree
-use Rattle.bcs_value_tree.specs.Tree.{Tree, Trees, no_trees}
+use Rattle.bcs_registry_model.specs.Shape as shape
+use Rattle.bcs_registry_model.specs.Shape.{Shape, Shapes}
+use Rattle.bcs_registry_model.specs.Container.{Field, newtype, Choice, choice_called}
+use Rattle.bcs_value_model.specs.Tree as tree
+use Rattle.bcs_value_model.specs.Tree.{Tree, Trees, no_trees}
 use Rattle.bcs_json_spec.specs.Look.{item_count, shape_count}
 use Rattle.bcs_json_spec.specs.Place.{Part, option_parts, seq_parts, map_parts, tuple_parts, array_parts, struct_parts, enum_parts, pair_parts}
 use Rattle.bcs_json_spec.specs.Reading.{Read, follow, read_all, read_choice, read_enum, read_option, read_pair, read_seq, read_tuple}

@@ -3,9 +3,9 @@ use Rattle.std.proofs.Common.{◌≡◌, ◌∙◌, ◌++◌, List, [], ◌∷�
 use Rattle.serde_json.specs.Data.{Data, array, no_items, item}
 use Rattle.serde_json.specs.View.{view, items_view}
 use Rattle.serde_json.specs.declared.value.Value.{Value as Json}
-use Rattle.bcs_value_tree.specs.Tree.{Tree, Pairs, no_pairs, pair}
-use Rattle.bcs_value_tree.specs.View.{tree_of, entries_pairs}
-use Rattle.bcs_value_tree.specs.declared.value.Value.{Value}
+use Rattle.bcs_value_model.specs.Tree.{Tree, Pairs, no_pairs, pair}
+use Rattle.bcs_value_model.specs.View.{tree_of, entries_pairs}
+use Rattle.bcs_value_model.specs.declared.value.Value.{Value}
 use Rattle.bcs_json_spec.specs.declared.json_fault.JsonFault.{JsonFault}
 use Rattle.bcs_json_spec.specs.Reading.{Read, follow, read_pair, read_pairs}
 

@@ -2,15 +2,15 @@
 use Rattle.std.proofs.Common.{◌≡◌, ◌≢◌, ◌∙◌, List, [], ◌∷◌, Option, Some, None, Result, Ok, Err, IfSome, All, option_map, refl, ap, sym, subst}
 use Rattle.std.specs.Result.{result_err}
 use Rattle.std.proofs.lemmas.List.Elements.{All-nil}
-use Rattle.bcs_registry_formats.specs.Container.{Entries}
+use Rattle.bcs_registry_model.specs.Container.{Entries}
 use Rattle.bcs_json_spec.specs.Place.{Step, Part, parts, fault_at, IsGood, IsPlaceAmong}
 use Rattle.bcs_json_spec.specs.Reading.{Read, Tells}
 use Rattle.bcs_json_spec.specs.declared.json_fault.JsonFault.{JsonFault}
 use Rattle.bcs_json_spec.specs.declared.json_fault.JsonFault.TheVariants.{OutOfMemory}
 use Rattle.bcs_json_spec.proofs.Places.{place-here, place-later}
-use Rattle.bcs_json_reader_steps.specs.Refused.{steps, fault_alone, way_of, IsPlaced}
-use Rattle.bcs_json_reader_steps.specs.declared.refusal.Refusal.{Refusal}
-use Rattle.bcs_json_reader_steps.specs.declared.way.Way.TheVariants.{Here}
+use Rattle.bcs_json_reader.specs.Refused.{steps, fault_alone, way_of, IsPlaced}
+use Rattle.bcs_json_reader.specs.declared.refusal.Refusal.{Refusal}
+use Rattle.bcs_json_reader.specs.declared.way.Way.TheVariants.{Here}
 
 -- what was told stays so, seen from outside
 pub told_ok : {X A : Type 0} (see : X → A) (inner : Result X Refusal) (read : Read A) (v : X) → Ok v ≡ fault_alone inner → Tells see (fault_alone inner) read → read ≡ Ok (see v)

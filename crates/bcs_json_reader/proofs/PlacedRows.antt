@@ -7,19 +7,19 @@ use Rattle.serde_json.specs.Data as json
 use Rattle.serde_json.specs.Find.{get_member}
 use Rattle.serde_json.specs.View.{view, items_view}
 use Rattle.serde_json.specs.declared.value.Value.{Value as Json}
-use Rattle.bcs_registry_formats.specs.Container as container
-use Rattle.bcs_registry_formats.specs.Container.{Entries, Field, Payload, Choice, choice_called}
-use Rattle.bcs_registry_formats.specs.Shape.{Shape}
-use Rattle.bcs_registry_formats.specs.View.{shape_of, formats_shapes, field_of}
-use Rattle.bcs_registry_formats.specs.declared.format.Format.{Format}
-use Rattle.bcs_registry_formats.specs.declared.named.Named.{Named}
-use Rattle.bcs_value_tree.specs.Tree.{Tree}
+use Rattle.bcs_registry_model.specs.Container as container
+use Rattle.bcs_registry_model.specs.Container.{Entries, Field, Payload, Choice, choice_called}
+use Rattle.bcs_registry_model.specs.Shape.{Shape}
+use Rattle.bcs_registry_model.specs.View.{shape_of, formats_shapes, field_of}
+use Rattle.bcs_registry_model.specs.declared.format.Format.{Format}
+use Rattle.bcs_registry_model.specs.declared.named.Named.{Named}
+use Rattle.bcs_value_model.specs.Tree.{Tree}
 use Rattle.bcs_json_spec.specs.JsonContent.{of, payload_content}
 use Rattle.bcs_json_spec.specs.Look.{without}
 use Rattle.bcs_json_spec.specs.Place.{Step, item, member, Part, part, parts, entry, item_parts, each_parts, entry_parts, field_parts, option_parts, enum_parts, pair_parts, fault_at, IsPlaceAmong}
 use Rattle.bcs_json_spec.specs.Reading.{Read, Tells, read_content, read_data, read_named, read_pair, read_part}
-use Rattle.bcs_json_reader_steps.specs.Refused.{steps, fault_alone, way_of, IsPlaced}
-use Rattle.bcs_json_reader_steps.specs.declared.refusal.Refusal.{Refusal}
+use Rattle.bcs_json_reader.specs.Refused.{steps, fault_alone, way_of, IsPlaced}
+use Rattle.bcs_json_reader.specs.declared.refusal.Refusal.{Refusal}
 use Rattle.bcs_json_reader.proofs.Placed.{IsWay, placed_here, placed_on, read_later}
 
 -- what was found, with one more

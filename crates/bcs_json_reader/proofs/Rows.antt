@@ -3,14 +3,14 @@ use Rattle.std.proofs.Common.{◌≡◌, ◌∙◌, ◌++◌, ℕ, List, [], ◌
 use Rattle.serde_json.specs.Data.{Data}
 use Rattle.serde_json.specs.View.{view, items_view}
 use Rattle.serde_json.specs.declared.value.Value.{Value as Json}
-use Rattle.bcs_registry_formats.specs.View.{shape_of, formats_shapes}
-use Rattle.bcs_registry_formats.specs.declared.format.Format.{Format}
-use Rattle.bcs_value_tree.specs.Tree.{Tree, Trees, tree}
-use Rattle.bcs_value_tree.specs.View.{tree_of, items_trees}
-use Rattle.bcs_value_tree.specs.declared.value.Value.{Value}
+use Rattle.bcs_registry_model.specs.View.{shape_of, formats_shapes}
+use Rattle.bcs_registry_model.specs.declared.format.Format.{Format}
+use Rattle.bcs_value_model.specs.Tree.{Tree, Trees, tree}
+use Rattle.bcs_value_model.specs.View.{tree_of, items_trees}
+use Rattle.bcs_value_model.specs.declared.value.Value.{Value}
 use Rattle.bcs_json_spec.specs.declared.json_fault.JsonFault.{JsonFault}
 use Rattle.bcs_json_spec.specs.Reading.{Read, follow, read_all, read_shape, read_each}
-use Rattle.bcs_json_reader_steps.proofs.Joined.{joined, joined-none, joined-more}
+use Rattle.bcs_json_reader.proofs.Joined.{joined, joined-none, joined-more}
 
 step : (vs : List Value) (v : Value) (rest : Read Trees) → follow (follow rest (λ ts. Ok (tree (tree_of v) ts))) (λ ts. Ok (joined vs ts)) ≡ follow rest (λ ts. Ok (joined (vs ++ v ∷ []) ts))
 step vs v (Ok ts) = ap Ok (sym (joined-more vs v ts))

@@ -1,19 +1,19 @@
 //! Rows of whole numbers. They stand outside of the walk, so that a long row is one loop.
 ghost use Rattle.std.specs.Prelude.{ℕ};
 ghost use Rattle.serde_json.specs.View.{view, items_view};
-ghost use Rattle.bcs_registry_formats.specs.Container.{Entries};
-ghost use Rattle.bcs_registry_formats.specs.Whole.{whole_shape};
-ghost use Rattle.bcs_value_tree.specs.View.{tree_of, items_trees};
+ghost use Rattle.bcs_registry_model.specs.Container.{Entries};
+ghost use Rattle.bcs_registry_model.specs.Whole.{whole_shape};
+ghost use Rattle.bcs_value_model.specs.View.{tree_of, items_trees};
 ghost use Rattle.bcs_json_spec.specs.JsonContent.{of};
 ghost use Rattle.bcs_json_spec.specs.Place.{value, item_parts, parts};
 ghost use Rattle.bcs_json_spec.specs.Reading as spec;
 ghost use Rattle.bcs_json_spec.specs.Reading.{Tells, read_data};
-ghost use Rattle.bcs_json_reader_steps.specs.Refused.{fault_alone, IsPlaced};
+ghost use Rattle.bcs_json_reader.specs.Refused.{fault_alone, IsPlaced};
 
-use bcs_json_reader_steps::leaves::{read_signed, read_unsigned};
-use bcs_json_reader_steps::refusal::{Refusal, at_item};
-use bcs_registry_formats::WholeNumber;
-use bcs_value_tree::Value;
+use crate::leaves::{read_signed, read_unsigned};
+use crate::refusal::{Refusal, at_item};
+use bcs_registry_model::WholeNumber;
+use bcs_value_model::Value;
 use serde_json::Value as Json;
 use std::alloc::Global;
 

@@ -1,23 +1,23 @@
 //! The parts of a value in their order, until the first fault.
 ghost use Rattle.std.specs.Prelude.{map};
 ghost use Rattle.serde_json.specs.View.{view, items_view, members_view};
-ghost use Rattle.bcs_registry_formats.specs.View.{shape_of, formats_shapes, field_of};
-ghost use Rattle.bcs_value_tree.specs.View.{tree_of, items_trees, entries_pairs};
+ghost use Rattle.bcs_registry_model.specs.View.{shape_of, formats_shapes, field_of};
+ghost use Rattle.bcs_value_model.specs.View.{tree_of, items_trees, entries_pairs};
 ghost use Rattle.bcs_json_spec.specs.JsonContent.{of};
 ghost use Rattle.bcs_json_spec.specs.Place.{item_parts, each_parts, entry_parts, pair_parts, field_parts};
 ghost use Rattle.bcs_json_spec.specs.Reading as spec;
 ghost use Rattle.bcs_json_spec.specs.Reading.{Tells, read_data};
-ghost use Rattle.bcs_json_reader_steps.specs.Refused.{fault_alone, IsPlaced};
+ghost use Rattle.bcs_json_reader.specs.Refused.{fault_alone, IsPlaced};
 
+use crate::arrays::pair_of;
 use crate::numbers::read_numbers;
+use crate::objects::{no_member_left, take_field};
 use crate::reading::read;
-use bcs_json_reader_steps::arrays::pair_of;
-use bcs_json_reader_steps::objects::{no_member_left, take_field};
-use bcs_json_reader_steps::refusal::{Refusal, at_item, at_member};
+use crate::refusal::{Refusal, at_item, at_member};
 use bcs_json_spec::JsonFault;
 use bcs_registry::{Format, Named, Registry};
-use bcs_registry_formats::WholeNumber;
-use bcs_value_tree::Value;
+use bcs_registry_model::WholeNumber;
+use bcs_value_model::Value;
 use serde_json::{Map, Value as Json};
 use std::alloc::Global;
 

@@ -1,26 +1,26 @@
 //! Reading a value's JSON, front to back. Each call takes its JSON and gives the value of the tree that it spells, or
 //! the first fault with the way to it, which is written from the fault back.
 ghost use Rattle.serde_json.specs.View.{view};
-ghost use Rattle.bcs_registry_formats.specs.View.{shape_of, formats_shapes};
-ghost use Rattle.bcs_registry_formats.specs.Shape.{tuple as tuple_shape};
-ghost use Rattle.bcs_value_tree.specs.View.{tree_of};
+ghost use Rattle.bcs_registry_model.specs.View.{shape_of, formats_shapes};
+ghost use Rattle.bcs_registry_model.specs.Shape.{tuple as tuple_shape};
+ghost use Rattle.bcs_value_model.specs.View.{tree_of};
 ghost use Rattle.bcs_json_spec.specs.Bytes.{is_byte};
 ghost use Rattle.bcs_json_spec.specs.JsonContent.{of};
 ghost use Rattle.bcs_json_spec.specs.Place.{value, option_parts, seq_parts, map_parts, tuple_parts, array_parts, parts};
 ghost use Rattle.bcs_json_spec.specs.Reading as spec;
 ghost use Rattle.bcs_json_spec.specs.Reading.{Tells, read_data};
-ghost use Rattle.bcs_json_reader_steps.specs.Refused.{fault_alone, IsPlaced};
+ghost use Rattle.bcs_json_reader.specs.Refused.{fault_alone, IsPlaced};
 
+use crate::arrays::{array_of, array_of_exactly, exactly};
 use crate::containers::read_named;
+use crate::hexadecimal::{read_byte_array, read_byte_text};
+use crate::leaf::read_leaf;
+use crate::lists::{ListJson, list_of};
+use crate::options::option_of;
 use crate::parts::{read_all, read_each, read_pairs};
-use bcs_json_reader_steps::arrays::{array_of, array_of_exactly, exactly};
-use bcs_json_reader_steps::hexadecimal::{read_byte_array, read_byte_text};
-use bcs_json_reader_steps::leaf::read_leaf;
-use bcs_json_reader_steps::lists::{ListJson, list_of};
-use bcs_json_reader_steps::options::option_of;
-use bcs_json_reader_steps::refusal::{Refusal, at_member};
+use crate::refusal::{Refusal, at_member};
 use bcs_registry::{Format, Registry};
-use bcs_value_tree::Value;
+use bcs_value_model::Value;
 use serde_json::Value as Json;
 use std::alloc::Global;
 

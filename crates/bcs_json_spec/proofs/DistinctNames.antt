@@ -3,10 +3,10 @@ use Rattle.std.proofs.Common.{◌≡◌, ◌∙◌, ℕ, List, [], ◌∷◌, ma
 use Rattle.std.proofs.lemmas.List.Folds.{list_all-append}
 use Rattle.std.specs.List.{flat_map, list_all}
 use Rattle.std.specs.Option.{option_map_or}
-use Rattle.bcs_registry_formats.specs.Container as container
-use Rattle.bcs_registry_formats.specs.Container.{Container, unit_struct, newtype_struct, tuple_struct, field_struct, enumeration, Field, Payload, newtype, tuple, Choice, Entries, container_at, choice_numbered, choice_called}
-use Rattle.bcs_registry_formats.specs.WellFormed.{payload_names, container_names, are_distinct, levels_hold, names_differ, IsWellFormed}
-use Rattle.bcs_value_spec.proofs.Equivalence.{bytes-refl}
+use Rattle.bcs_registry_model.specs.Container as container
+use Rattle.bcs_registry_model.specs.Container.{Container, unit_struct, newtype_struct, tuple_struct, field_struct, enumeration, Field, Payload, newtype, tuple, Choice, Entries, container_at, choice_numbered, choice_called}
+use Rattle.bcs_registry_model.specs.WellFormed.{payload_names, container_names, are_distinct, levels_hold, names_differ, IsWellFormed}
+use Rattle.bcs_value_model.proofs.Equivalence.{bytes-refl}
 use Rattle.bcs_json_spec.specs.JsonContent.{JsonContent, fields, one_of, nothing, json_content, json_content_at, payload_content}
 use Rattle.bcs_json_spec.proofs.DistinctVariants.{numbered_called as called_by_name}
 use Rattle.bcs_json_spec.proofs.Fitting.{and_left, and_right}

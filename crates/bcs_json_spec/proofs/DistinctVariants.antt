@@ -7,8 +7,8 @@ use Rattle.std.proofs.lemmas.Bool.Decides.{Decides-eqb}
 use Rattle.std.proofs.lemmas.List.Folds.{list_all-append}
 use Rattle.std.proofs.lemmas.Option.{none-some, same_Some}
 use Rattle.std.proofs.lemmas.Slice.Eq.{bytes_eq-Decides}
-use Rattle.bcs_registry_formats.specs.Container.{Payload, Choice, Container, enumeration, Entries, container_at, choice_numbered, choice_called}
-use Rattle.bcs_registry_formats.specs.WellFormed.{container_names, name_lists, payload_names, are_distinct, levels_hold, names_differ, names_known, IsWellFormed}
+use Rattle.bcs_registry_model.specs.Container.{Payload, Choice, Container, enumeration, Entries, container_at, choice_numbered, choice_called}
+use Rattle.bcs_registry_model.specs.WellFormed.{container_names, name_lists, payload_names, are_distinct, levels_hold, names_differ, names_known, IsWellFormed}
 
 abbrev pub choice_names : List Choice → List (List ℕ)
 choice_names = map (λ c. c.1.0)

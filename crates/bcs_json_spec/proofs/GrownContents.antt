@@ -3,10 +3,10 @@ use Rattle.std.proofs.Common.{◌≡◌, ◌⊎◌, inl, inr, ℕ, List, [], ◌
 use Rattle.std.specs.Option.{option_map_or}
 use Rattle.std.proofs.lemmas.List.Elements.{All-head, All-tail}
 use Rattle.std.proofs.lemmas.Option.{none-some, same_Some}
-use Rattle.bcs_registry_formats.specs.Container.{Choice, Container, unit_struct, newtype_struct, tuple_struct, field_struct, enumeration, Entries, container_at, choice_called}
-use Rattle.bcs_registry_formats.specs.Grows.{Grows, GrowsTo, HasChoice}
-use Rattle.bcs_registry_formats.specs.WellFormed.{IsWellFormed, are_distinct}
-use Rattle.bcs_registry_formats.proofs.GrowthLaws.{container_at-grows}
+use Rattle.bcs_registry_model.specs.Container.{Choice, Container, unit_struct, newtype_struct, tuple_struct, field_struct, enumeration, Entries, container_at, choice_called}
+use Rattle.bcs_registry_model.specs.Grows.{Grows, GrowsTo, HasChoice}
+use Rattle.bcs_registry_model.specs.WellFormed.{IsWellFormed, are_distinct}
+use Rattle.bcs_registry_model.proofs.GrowthLaws.{container_at-grows}
 use Rattle.bcs_json_spec.specs.JsonContent.{JsonContent, one_of, nothing, json_content, json_content_at}
 use Rattle.bcs_json_spec.proofs.DistinctVariants.{choice_names, variants_differ, numbered_called}
 

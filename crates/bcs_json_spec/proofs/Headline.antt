@@ -1,12 +1,12 @@
 -- Equal values and equal bytes, a stable normal text, and bytes that come back.
 use Rattle.std.proofs.Common.{◌≡◌, ◌∙◌, ℕ, List, sym, ap, subst}
 use Rattle.serde_json.specs.Written.{compact_text}
-use Rattle.bcs_registry_formats.specs.Container.{Entries}
-use Rattle.bcs_registry_formats.specs.Container as container
-use Rattle.bcs_registry_formats.specs.Shape.{Shape}
-use Rattle.bcs_value_spec.proofs.Equivalence.{same-refl}
-use Rattle.bcs_value_spec.specs.Limits.{Bounds}
-use Rattle.bcs_value_tree.specs.Tree.{Tree}
+use Rattle.bcs_registry_model.specs.Container.{Entries}
+use Rattle.bcs_registry_model.specs.Container as container
+use Rattle.bcs_registry_model.specs.Shape.{Shape}
+use Rattle.bcs_value_model.proofs.Equivalence.{same-refl}
+use Rattle.bcs_value_model.specs.Limits.{Bounds}
+use Rattle.bcs_value_model.specs.Tree.{Tree}
 use Rattle.bcs_encode_spec.proofs.FormLaws.{bytes_decide_same, forms_same}
 use Rattle.bcs_encode_spec.specs.Encodes.{Encodes, IsForm}
 use Rattle.bcs_decode_spec.proofs.Encoded.{accepted_is_encoded_is}

@@ -8,12 +8,12 @@ use Rattle.std.specs.Ordering.{nat_cmp, match_ordering}
 use Rattle.hex.specs.Hex.{encode_lower}
 use Rattle.serde_json.specs.Data.{Data, number, unsigned as whole, string, array, Items, no_items, item, Members, no_members, member, put, depth, items_depth, members_depth}
 use Rattle.serde_json.specs.Find.{get_member, of_integer}
-use Rattle.bcs_registry_formats.specs.Container as container
-use Rattle.bcs_registry_formats.specs.Container.{Field, Payload, newtype, tuple, Choice, Entries, choice_called, choice_numbered}
-use Rattle.bcs_registry_formats.specs.Shape as shape
-use Rattle.bcs_registry_formats.specs.Shape.{Shape, Shapes, no_shapes, shape}
-use Rattle.bcs_value_tree.specs.Tree as tree
-use Rattle.bcs_value_tree.specs.Tree.{Tree, Trees, no_trees, tree, Pairs, no_pairs, pair}
+use Rattle.bcs_registry_model.specs.Container as container
+use Rattle.bcs_registry_model.specs.Container.{Field, Payload, newtype, tuple, Choice, Entries, choice_called, choice_numbered}
+use Rattle.bcs_registry_model.specs.Shape as shape
+use Rattle.bcs_registry_model.specs.Shape.{Shape, Shapes, no_shapes, shape}
+use Rattle.bcs_value_model.specs.Tree as tree
+use Rattle.bcs_value_model.specs.Tree.{Tree, Trees, no_trees, tree, Pairs, no_pairs, pair}
 use Rattle.bcs_json_spec.specs.Bytes.{ByteTextSpells, is_byte, trees_bytes}
 use Rattle.bcs_json_spec.specs.JsonContent.{JsonContent, of, fields, one_of, json_content, json_content_at, payload_content}
 use Rattle.bcs_json_spec.specs.Laws.{ShownIsLowest}

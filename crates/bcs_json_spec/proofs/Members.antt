@@ -8,10 +8,10 @@ use Rattle.std.specs.Ordering.{nat_cmp, match_ordering, is_eq}
 use Rattle.serde_json.specs.Data.{Data, Members, no_members, member, put, depth, members_depth}
 use Rattle.serde_json.specs.Find.{get_member}
 use Rattle.serde_json.proofs.Views.{get_member-put, get_member-put_other}
-use Rattle.bcs_registry_formats.specs.Container.{Field, Entries}
-use Rattle.bcs_registry_formats.specs.WellFormed.{are_distinct}
-use Rattle.bcs_value_spec.proofs.Equivalence.{bytes-refl}
-use Rattle.bcs_value_tree.specs.Tree.{Trees, no_trees, tree}
+use Rattle.bcs_registry_model.specs.Container.{Field, Entries}
+use Rattle.bcs_registry_model.specs.WellFormed.{are_distinct}
+use Rattle.bcs_value_model.proofs.Equivalence.{bytes-refl}
+use Rattle.bcs_value_model.specs.Tree.{Trees, no_trees, tree}
 use Rattle.bcs_json_spec.specs.JsonContent.{of}
 use Rattle.bcs_json_spec.specs.Look.{without}
 use Rattle.bcs_json_spec.specs.Shown.{shown, shown_fields}

@@ -6,8 +6,8 @@ use Rattle.std.specs.List.{list_all, list_any, AllByRecursion}
 use Rattle.std.specs.List.Sorted.{IsStrictlySortedBy}
 use Rattle.std.specs.Map.{keys_of}
 use Rattle.std.specs.Ordering.{nat_cmp}
-use Rattle.bcs_registry_formats.specs.Container.{Choice, Container, unit_struct, newtype_struct, tuple_struct, field_struct, enumeration, Entries}
-use Rattle.bcs_registry_formats.specs.Ranges.{IsInRange, IsOrderly}
+use Rattle.bcs_registry_model.specs.Container.{Choice, Container, unit_struct, newtype_struct, tuple_struct, field_struct, enumeration, Entries}
+use Rattle.bcs_registry_model.specs.Ranges.{IsInRange, IsOrderly}
 use Rattle.bcs_json_spec.specs.JsonContent.{JsonContent, one_of, json_content}
 
 abbrev pub numbers_differ : List Choice → Bool

@@ -3,11 +3,11 @@ use Rattle.std.proofs.Common.{true≢false, ◌≡◌, ◌∙◌, ◌≢◌, inl
 use Rattle.std.proofs.lemmas.Bool.Decides.{Decides-eqb}
 use Rattle.std.proofs.lemmas.Slice.Eq.{bytes_eq-Decides}
 use Rattle.serde_json.specs.Data.{Data, null, string, array, object, Items, no_items, item, no_members, member}
-use Rattle.bcs_registry_formats.specs.Container.{Entries}
-use Rattle.bcs_registry_formats.specs.Shape as shape
-use Rattle.bcs_registry_formats.specs.Shape.{Shape, Shapes}
-use Rattle.bcs_value_tree.specs.Tree as tree
-use Rattle.bcs_value_tree.specs.Tree.{Tree, Trees, no_trees, tree, count, trees_depth}
+use Rattle.bcs_registry_model.specs.Container.{Entries}
+use Rattle.bcs_registry_model.specs.Shape as shape
+use Rattle.bcs_registry_model.specs.Shape.{Shape, Shapes}
+use Rattle.bcs_value_model.specs.Tree as tree
+use Rattle.bcs_value_model.specs.Tree.{Tree, Trees, no_trees, tree, count, trees_depth}
 use Rattle.bcs_json_spec.specs.Bytes.{is_byte}
 use Rattle.bcs_json_spec.specs.Look.{item_count, shape_count}
 use Rattle.bcs_json_spec.specs.Reading.{Read, follow, read_option, read_seq, read_array, sized, read_tuple, read_map, read_all, read_pairs, read_byte_text}

@@ -2,10 +2,10 @@
 use Rattle.std.proofs.Common.{◌≡◌, ℕ, List, [], ◌∷◌, codes, Some, None, true, refl}
 use Rattle.std.specs.Int.{w8}
 use Rattle.serde_json.specs.Data.{Data, unsigned as whole, null, boolean, number, array, object, no_items, item, no_members, member}
-use Rattle.bcs_registry_formats.specs.Container as container
-use Rattle.bcs_registry_formats.specs.Container.{Entries, newtype, newtype_struct}
-use Rattle.bcs_registry_formats.specs.Shape as shape
-use Rattle.bcs_registry_formats.specs.Shape.{Shape}
+use Rattle.bcs_registry_model.specs.Container as container
+use Rattle.bcs_registry_model.specs.Container.{Entries, newtype, newtype_struct}
+use Rattle.bcs_registry_model.specs.Shape as shape
+use Rattle.bcs_registry_model.specs.Shape.{Shape}
 use Rattle.bcs_json_spec.specs.JsonContent.{JsonContent, of, fields, one_of}
 use Rattle.bcs_json_spec.specs.Place as place
 use Rattle.bcs_json_spec.specs.Place.{Step, Part, part, parts, value, entry, IsGood, IsPlaceAmong, IsPlaceOf}

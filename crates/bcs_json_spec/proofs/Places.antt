@@ -1,8 +1,8 @@
 -- The place among parts: there is at most one, and it is found part by part.
 use Rattle.std.proofs.Common.{◌≡◌, ◌∙◌, List, [], ◌∷◌, ◌++◌, All, Contains, refl, ap, sym, subst, arith}
 use Rattle.std.proofs.lemmas.List.Elements.{All-nil, All-cons, All-head, All-tail, All-contains, Contains-append_right}
-use Rattle.bcs_registry_formats.specs.Container.{Entries}
-use Rattle.bcs_registry_formats.specs.Grows.{IsFirst}
+use Rattle.bcs_registry_model.specs.Container.{Entries}
+use Rattle.bcs_registry_model.specs.Grows.{IsFirst}
 use Rattle.bcs_json_spec.specs.Laws.{OnePlace}
 use Rattle.bcs_json_spec.specs.Place.{Step, Part, parts, IsGood, IsPlaceAmong}
 

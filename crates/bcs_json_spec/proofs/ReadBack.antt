@@ -10,14 +10,14 @@ use Rattle.hex.proofs.HexLemmas.{decode_of-encode_lower}
 use Rattle.serde_json.specs.Data.{Data, number, string, array, Members}
 use Rattle.serde_json.specs.Find.{of_integer}
 use Rattle.serde_json.proofs.Views.{get_member-put}
-use Rattle.bcs_registry_formats.specs.Container as container
-use Rattle.bcs_registry_formats.specs.Container.{Field, Payload, newtype, tuple, Choice, Entries, Content, choice_numbered, content_at, choice_at, payload_shape, field_shapes, choice_called}
-use Rattle.bcs_registry_formats.specs.Shape as shape
-use Rattle.bcs_registry_formats.specs.Shape.{Shape, Shapes, no_shapes, shape}
-use Rattle.bcs_registry_formats.specs.WellFormed.{IsWellFormed}
-use Rattle.bcs_value_spec.specs.Fits.{fits, all_fit, each_fits, pairs_fit, are_bytes}
-use Rattle.bcs_value_tree.specs.Tree as tree
-use Rattle.bcs_value_tree.specs.Tree.{Tree, Trees, no_trees, tree, Pairs, no_pairs, pair, count}
+use Rattle.bcs_registry_model.specs.Container as container
+use Rattle.bcs_registry_model.specs.Container.{Field, Payload, newtype, tuple, Choice, Entries, Content, choice_numbered, content_at, choice_at, payload_shape, field_shapes, choice_called}
+use Rattle.bcs_registry_model.specs.Shape as shape
+use Rattle.bcs_registry_model.specs.Shape.{Shape, Shapes, no_shapes, shape}
+use Rattle.bcs_registry_model.specs.WellFormed.{IsWellFormed}
+use Rattle.bcs_value_model.specs.Fits.{fits, all_fit, each_fits, pairs_fit, are_bytes}
+use Rattle.bcs_value_model.specs.Tree as tree
+use Rattle.bcs_value_model.specs.Tree.{Tree, Trees, no_trees, tree, Pairs, no_pairs, pair, count}
 use Rattle.bcs_json_spec.specs.Bytes.{ByteTextSpells, is_byte, byte_trees, trees_bytes}
 use Rattle.bcs_json_spec.specs.JsonContent.{JsonContent, of, fields, one_of, json_content_at, payload_content, unnamed}
 use Rattle.bcs_json_spec.specs.Look.{IfStringOrArray, IfThere}

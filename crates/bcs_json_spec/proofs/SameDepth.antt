@@ -6,15 +6,15 @@ use Rattle.std.proofs.lemmas.Bool.{false≢true, or_cases}
 use Rattle.hex.specs.Hex.{encode_lower}
 use Rattle.serde_json.specs.Data.{Data, number, unsigned as whole, string, array, Items, no_items, item, Members, put, depth, items_depth, members_depth}
 use Rattle.serde_json.specs.Find.{get_member, of_integer}
-use Rattle.bcs_registry_formats.specs.Container as container
-use Rattle.bcs_registry_formats.specs.Container.{Field, Payload, newtype, tuple, Choice, Entries, choice_numbered}
-use Rattle.bcs_registry_formats.specs.Shape as shape
-use Rattle.bcs_registry_formats.specs.Shape.{Shape, Shapes, no_shapes, shape}
-use Rattle.bcs_registry_formats.specs.WellFormed.{IsWellFormed}
-use Rattle.bcs_value_spec.proofs.Equivalence.{nat-same}
-use Rattle.bcs_value_spec.specs.Same.{same, all_same, is_within, has_pair, all_pairs}
-use Rattle.bcs_value_tree.specs.Tree as tree
-use Rattle.bcs_value_tree.specs.Tree.{Tree, Trees, no_trees, tree, Pairs, no_pairs, pair}
+use Rattle.bcs_registry_model.specs.Container as container
+use Rattle.bcs_registry_model.specs.Container.{Field, Payload, newtype, tuple, Choice, Entries, choice_numbered}
+use Rattle.bcs_registry_model.specs.Shape as shape
+use Rattle.bcs_registry_model.specs.Shape.{Shape, Shapes, no_shapes, shape}
+use Rattle.bcs_registry_model.specs.WellFormed.{IsWellFormed}
+use Rattle.bcs_value_model.proofs.Equivalence.{nat-same}
+use Rattle.bcs_value_model.specs.Same.{same, all_same, is_within, has_pair, all_pairs}
+use Rattle.bcs_value_model.specs.Tree as tree
+use Rattle.bcs_value_model.specs.Tree.{Tree, Trees, no_trees, tree, Pairs, no_pairs, pair}
 use Rattle.bcs_json_spec.specs.Bytes.{is_byte, trees_bytes}
 use Rattle.bcs_json_spec.specs.JsonContent.{JsonContent, of, fields, one_of, json_content_at, payload_content}
 use Rattle.bcs_json_spec.specs.Laws.{ShownIsReadBack}

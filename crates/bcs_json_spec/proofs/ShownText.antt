@@ -18,15 +18,15 @@ use Rattle.json.proofs.Printed.Utf8.{IsUtf8-are_ascii}
 use Rattle.serde_json.specs.Data.{Data, number, unsigned as whole, string, Members, no_members, member, put}
 use Rattle.serde_json.specs.Find.{of_integer}
 use Rattle.bcs_num.specs.Le.{holds_signed, holds_unsigned}
-use Rattle.bcs_registry_formats.specs.Container as container
-use Rattle.bcs_registry_formats.specs.Container.{Choice, Entries, Field, Payload, choice_numbered, content_at, field_shapes, newtype, payload_shape, tuple}
-use Rattle.bcs_registry_formats.specs.Shape as shape
-use Rattle.bcs_registry_formats.specs.Shape.{Shape, Shapes, no_shapes, shape}
-use Rattle.bcs_registry_text.specs.Shown.{single}
-use Rattle.bcs_registry_text.proofs.RisingMembers.{NamesRise, names_put, names_of, sorted_inserted}
-use Rattle.bcs_value_spec.specs.Fits.{all_fit, are_bytes, each_fits, fits, pairs_fit}
-use Rattle.bcs_value_tree.specs.Tree as tree
-use Rattle.bcs_value_tree.specs.Tree.{Pairs, Tree, Trees, count, no_pairs, no_trees, pair, tree}
+use Rattle.bcs_registry_model.specs.Container as container
+use Rattle.bcs_registry_model.specs.Container.{Choice, Entries, Field, Payload, choice_numbered, content_at, field_shapes, newtype, payload_shape, tuple}
+use Rattle.bcs_registry_model.specs.Shape as shape
+use Rattle.bcs_registry_model.specs.Shape.{Shape, Shapes, no_shapes, shape}
+use Rattle.bcs_registry_json.specs.Shown.{single}
+use Rattle.bcs_registry_json.proofs.RisingMembers.{NamesRise, names_put, names_of, sorted_inserted}
+use Rattle.bcs_value_model.specs.Fits.{all_fit, are_bytes, each_fits, fits, pairs_fit}
+use Rattle.bcs_value_model.specs.Tree as tree
+use Rattle.bcs_value_model.specs.Tree.{Pairs, Tree, Trees, count, no_pairs, no_trees, pair, tree}
 use Rattle.bcs_json_spec.specs.Bytes.{is_byte, trees_bytes}
 use Rattle.bcs_json_spec.specs.JsonContent.{JsonContent, fields, json_content_at, of, one_of, payload_content, unnamed}
 use Rattle.bcs_json_spec.specs.Shown.{is_wide, shown, shown_all, shown_choice, shown_each, shown_fields, shown_pairs}

@@ -6,9 +6,9 @@ use Rattle.std.proofs.lemmas.List.Elements.{All-nil, All-cons, All-head, All-tai
 use Rattle.serde_json.specs.Data.{Data, array, object, Items, no_items, Members, no_members, depth, items_depth, members_depth}
 use Rattle.serde_json.specs.Data as json
 use Rattle.serde_json.specs.Find.{get_member}
-use Rattle.bcs_registry_formats.specs.Shape as shape
-use Rattle.bcs_registry_formats.specs.Shape.{Shape, Shapes, no_shapes, shape}
-use Rattle.bcs_registry_formats.specs.Container.{Field, Choice, Entries, choice_called}
+use Rattle.bcs_registry_model.specs.Shape as shape
+use Rattle.bcs_registry_model.specs.Shape.{Shape, Shapes, no_shapes, shape}
+use Rattle.bcs_registry_model.specs.Container.{Field, Choice, Entries, choice_called}
 use Rattle.bcs_json_spec.specs.JsonContent.{JsonContent, of, fields, one_of, nothing, json_content_at, payload_content}
 use Rattle.bcs_json_spec.specs.Laws.{SomePlace}
 use Rattle.bcs_json_spec.specs.Look.{item_count, shape_count, without}

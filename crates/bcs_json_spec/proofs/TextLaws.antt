@@ -1,14 +1,14 @@
 -- What texts denote, and that it is not refused.
 use Rattle.std.proofs.Common.{◌≡◌, ◌∙◌, ℕ, ◌≤◌, List, Some, sym, subst, arith}
 use Rattle.serde_json.specs.Data.{Data, depth}
-use Rattle.bcs_registry_formats.specs.Container.{Entries}
-use Rattle.bcs_json_text.specs.Json.{IsJson}
-use Rattle.bcs_registry_formats.specs.Shape.{Shape}
-use Rattle.bcs_value_spec.specs.Limits.{Bounds}
-use Rattle.bcs_value_tree.specs.Tree as tree
-use Rattle.bcs_value_tree.specs.Tree.{Tree}
+use Rattle.bcs_registry_model.specs.Container.{Entries}
+use Rattle.bcs_registry_json.specs.Json.{IsJson}
+use Rattle.bcs_registry_model.specs.Shape.{Shape}
+use Rattle.bcs_value_model.specs.Limits.{Bounds}
+use Rattle.bcs_value_model.specs.Tree as tree
+use Rattle.bcs_value_model.specs.Tree.{Tree}
 use Rattle.bcs_encode_spec.specs.Refused.{LengthsHold}
-use Rattle.bcs_value_spec.specs.Same.{HasDistinctKeys}
+use Rattle.bcs_value_model.specs.Same.{HasDistinctKeys}
 use Rattle.bcs_json_spec.specs.JsonContent.{of}
 use Rattle.bcs_json_spec.specs.Laws.{DenotesOnce, DenotedIsNotRefused}
 use Rattle.bcs_json_spec.specs.Refuses.{Refuses}

@@ -1,12 +1,12 @@
 -- What a text that spells a value is answered by: the value that it denotes, or the encoder's reason.
 use Rattle.std.proofs.Common.{◌≡◌, ◌≢◌, ℕ, List, Ok, Err, refl, arith}
 use Rattle.serde_json.specs.Data.{Data}
-use Rattle.bcs_registry_formats.specs.Container.{Entries}
-use Rattle.bcs_registry_formats.specs.Ranges.{IsOrderly}
-use Rattle.bcs_registry_formats.specs.Shape.{Shape}
-use Rattle.bcs_value_spec.proofs.Loosening.{strictly_then_loosely}
-use Rattle.bcs_value_spec.specs.Limits.{Bounds}
-use Rattle.bcs_value_tree.specs.Tree.{Tree}
+use Rattle.bcs_registry_model.specs.Container.{Entries}
+use Rattle.bcs_registry_model.specs.Ranges.{IsOrderly}
+use Rattle.bcs_registry_model.specs.Shape.{Shape}
+use Rattle.bcs_value_model.proofs.Loosening.{strictly_then_loosely}
+use Rattle.bcs_value_model.specs.Limits.{Bounds}
+use Rattle.bcs_value_model.specs.Tree.{Tree}
 use Rattle.bcs_encode_spec.specs.Refused as encode
 use Rattle.bcs_encode_spec.specs.Sound.{IsSound}
 use Rattle.bcs_encode_spec.specs.declared.fault.EncodeFault.{EncodeFault}

@@ -11,12 +11,12 @@ use Rattle.std.specs.Ordering.{match_ordering}
 use Rattle.serde_json.specs.Data.{Data, Members, no_members, member, put}
 use Rattle.serde_json.specs.Find.{get_member}
 use Rattle.serde_json.proofs.Views.{get_member-put, get_member-put_other}
-use Rattle.bcs_registry_formats.specs.Container as container
-use Rattle.bcs_registry_formats.specs.Container.{Choice, Container, Entries, Field, Payload, container_at, enumeration, field_struct, newtype_struct, tuple_struct, unit_struct}
-use Rattle.bcs_registry_formats.specs.Ranges.{IsInRange}
-use Rattle.bcs_registry_text.specs.Shown.{shown_choices, shown_container, shown_containers, shown_fields, shown_payload, single}
-use Rattle.bcs_registry_text.specs.Text.{WritesRegistry}
-use Rattle.bcs_registry_text.proofs.Choices.{texts_differ}
+use Rattle.bcs_registry_model.specs.Container as container
+use Rattle.bcs_registry_model.specs.Container.{Choice, Container, Entries, Field, Payload, container_at, enumeration, field_struct, newtype_struct, tuple_struct, unit_struct}
+use Rattle.bcs_registry_model.specs.Ranges.{IsInRange}
+use Rattle.bcs_registry_json.specs.Shown.{shown_choices, shown_container, shown_containers, shown_fields, shown_payload, single}
+use Rattle.bcs_registry_json.specs.Text.{WritesRegistry}
+use Rattle.bcs_registry_json.proofs.Choices.{texts_differ}
 use Rattle.bcs_json_spec.specs.JsonContent.{JsonContent, fields, json_content, json_content_at, nothing, one_of, payload_content}
 use Rattle.bcs_json_spec.specs.Look.{without}
 use Rattle.bcs_json_spec.proofs.Fitting.{and_left, and_right}

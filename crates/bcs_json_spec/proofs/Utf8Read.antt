@@ -14,7 +14,7 @@ use Rattle.json.specs.Token.{Token}
 use Rattle.json.specs.Word.{after_number, ends_word, head, is_operator, is_space, literal, number_before, word}
 use Rattle.serde_json.specs.Data.{Data, number, string, array, object, Items, no_items, item, Members, no_members, member, put}
 use Rattle.serde_json.specs.Read.{max_depth, number_of, of_items, of_json, of_members}
-use Rattle.bcs_json_text.specs.Json.{IsJson}
+use Rattle.bcs_registry_json.specs.Json.{IsJson}
 use Rattle.bcs_json_spec.proofs.Utf8Contents.{content_utf8, utf8_after}
 
 -- ---- tokens

@@ -22,8 +22,8 @@ use Rattle.serde_json.specs.Read.{max_depth, number_of, of_items, of_json, of_me
 use Rattle.serde_json.specs.Written.{comma_if, compact_text, items_outline, items_text, members_outline, members_text, number_text, outline}
 use Rattle.serde_json.proofs.Numbers.{number_of-decimal, number_of-negative}
 use Rattle.serde_json.proofs.Texts.{print-outline}
-use Rattle.bcs_json_text.specs.Json.{IsJson}
-use Rattle.bcs_registry_text.proofs.RisingMembers.{NamesRise, names_of}
+use Rattle.bcs_registry_json.specs.Json.{IsJson}
+use Rattle.bcs_registry_json.proofs.RisingMembers.{NamesRise, names_of}
 
 -- ---- what can be written
 

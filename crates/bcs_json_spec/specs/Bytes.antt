@@ -2,8 +2,8 @@
 use Rattle.std.specs.Prelude.{◌≡◌, ℕ, List, [], ◌∷◌, Bool, true, false, Ok}
 use Rattle.std.specs.Int.{w8}
 use Rattle.hex.specs.Hex.{decode_of}
-use Rattle.bcs_registry_formats.specs.Shape.{Shape, unsigned as unsigned_shape}
-use Rattle.bcs_value_tree.specs.Tree.{unsigned, Trees, no_trees, tree}
+use Rattle.bcs_registry_model.specs.Shape.{Shape, unsigned as unsigned_shape}
+use Rattle.bcs_value_model.specs.Tree.{unsigned, Trees, no_trees, tree}
 
 -- an even number of hexadecimal digits of either case, two for each byte
 abbrev pub IsHexOf : List ℕ → List ℕ → Type 0

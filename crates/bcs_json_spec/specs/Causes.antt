@@ -1,6 +1,6 @@
 -- What a fault of reading a text, or of encoding what it spells, is called as a fault of JSON.
-use Rattle.bcs_json_text.specs.declared.json_text.TextFault.{TextFault}
-use Rattle.bcs_json_text.specs.declared.json_text.TextFault.TheVariants as text
+use Rattle.bcs_registry_json.specs.declared.json_reading.TextFault.{TextFault}
+use Rattle.bcs_registry_json.specs.declared.json_reading.TextFault.TheVariants as text
 use Rattle.bcs_encode_spec.specs.declared.fault.EncodeFault.{EncodeFault}
 use Rattle.bcs_encode_spec.specs.declared.fault.EncodeFault.TheVariants as encode
 use Rattle.bcs_json_spec.specs.declared.json_fault.JsonFault.{JsonFault}

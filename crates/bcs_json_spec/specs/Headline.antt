@@ -1,11 +1,11 @@
 -- What the calls over texts and bytes answer: a normal text, a text's bytes beside another's, the text of bytes.
 use Rattle.std.specs.Prelude.{◌≡◌, ◌↔◌, ℕ, List, length, Bool, IsTrue}
-use Rattle.bcs_registry_formats.specs.Container.{Entries}
-use Rattle.bcs_registry_formats.specs.Container as container
-use Rattle.bcs_registry_formats.specs.Shape.{Shape}
-use Rattle.bcs_value_spec.specs.Limits.{Bounds}
-use Rattle.bcs_value_spec.specs.Same.{Same}
-use Rattle.bcs_value_tree.specs.Tree.{Tree}
+use Rattle.bcs_registry_model.specs.Container.{Entries}
+use Rattle.bcs_registry_model.specs.Container as container
+use Rattle.bcs_registry_model.specs.Shape.{Shape}
+use Rattle.bcs_value_model.specs.Limits.{Bounds}
+use Rattle.bcs_value_model.specs.Same.{Same}
+use Rattle.bcs_value_model.specs.Tree.{Tree}
 use Rattle.bcs_encode_spec.specs.Encodes.{IsForm, Encodes}
 use Rattle.bcs_decode_spec.specs.Accepting.{Accepts}
 use Rattle.bcs_json_spec.specs.Texts.{Denotes, IsTextOf}

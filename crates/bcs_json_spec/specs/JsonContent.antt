@@ -1,9 +1,9 @@
 -- What stands at a place in JSON: as `Content`, but fields have their names, and variants are found by theirs.
 use Rattle.std.specs.Prelude.{ℕ, List}
 use Rattle.std.specs.Option.{option_map_or}
-use Rattle.bcs_registry_formats.specs.Shape.{Shape, unit as unit_shape, tuple as tuple_shape}
-use Rattle.bcs_registry_formats.specs.Container as container
-use Rattle.bcs_registry_formats.specs.Container.{Field, Payload, newtype, tuple, Choice, Container, unit_struct, newtype_struct, tuple_struct, field_struct, enumeration, Entries, container_at, Content, field_shapes}
+use Rattle.bcs_registry_model.specs.Shape.{Shape, unit as unit_shape, tuple as tuple_shape}
+use Rattle.bcs_registry_model.specs.Container as container
+use Rattle.bcs_registry_model.specs.Container.{Field, Payload, newtype, tuple, Choice, Container, unit_struct, newtype_struct, tuple_struct, field_struct, enumeration, Entries, container_at, Content, field_shapes}
 
 -- a value of a format, fields, one of the variants, or nothing
 pub data JsonContent : Type 0 where

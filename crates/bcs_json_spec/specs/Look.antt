@@ -1,7 +1,7 @@
 -- Looking at JSON: its kind and its parts.
 use Rattle.std.specs.Prelude.{ℕ, suc, List, Option, Some, None, cond}
 use Rattle.std.specs.Str.{bytes_eq}
-use Rattle.bcs_registry_formats.specs.Shape.{Shapes, no_shapes, shape}
+use Rattle.bcs_registry_model.specs.Shape.{Shapes, no_shapes, shape}
 use Rattle.serde_json.specs.Data.{Data, null, string, array, object, Items, no_items, item, Members, no_members, member}
 
 abbrev pub IsNull : Data → Type 0

@@ -2,7 +2,7 @@
 
 use crate::json_fault::JsonFault;
 use bcs_encode_spec::EncodeFault;
-use bcs_json_text::TextFault;
+use bcs_registry_json::TextFault;
 
 impl From<TextFault> for JsonFault {
     ghost use Rattle.std.specs.Prelude.{◌≡◌};

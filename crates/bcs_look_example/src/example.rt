@@ -1,8 +1,8 @@
 //! Examples as values.
 ghost use Rattle.std.specs.Prelude.{IfOk};
-ghost use Rattle.bcs_registry_formats.specs.Container.{of};
-ghost use Rattle.bcs_registry_formats.specs.View.{shape_of};
-ghost use Rattle.bcs_value_tree.specs.View.{tree_of};
+ghost use Rattle.bcs_registry_model.specs.Container.{of};
+ghost use Rattle.bcs_registry_model.specs.View.{shape_of};
+ghost use Rattle.bcs_value_model.specs.View.{tree_of};
 ghost use Rattle.bcs_encode_spec.specs.Canonical.{IsCanonical};
 ghost use Rattle.bcs_encode_spec.specs.Sound.{IsSound};
 

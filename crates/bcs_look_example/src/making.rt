@@ -10,7 +10,7 @@ use crate::weighing::part_nodes;
 use crate::wish::{ExampleForm, Wish};
 use bcs_registry::{Container, Format, Registry, VariantFormat};
 use bcs_value::{Limits, Value};
-use bcs_value_tree::slot::{wrap_named, wrap_variant};
+use bcs_value_model::slot::{wrap_named, wrap_variant};
 use std::alloc::Global;
 
 /// The nodes of a container and of the variant in it, without those of what the variant carries.

@@ -1,7 +1,7 @@
 //! Examples as texts.
 ghost use Rattle.std.specs.Prelude.{IfOk, string_bytes};
-ghost use Rattle.bcs_registry_formats.specs.View.{shape_of};
-ghost use Rattle.bcs_value_tree.specs.Tree.{Tree};
+ghost use Rattle.bcs_registry_model.specs.View.{shape_of};
+ghost use Rattle.bcs_value_model.specs.Tree.{Tree};
 ghost use Rattle.bcs_json_spec.specs.Texts.{Denotes};
 
 use crate::example::wished_example;
@@ -9,8 +9,8 @@ use crate::fault::ExampleTextFault;
 use crate::wish::Wish;
 use bcs_json_printer::nesting::shown_nests_within;
 use bcs_json_printer::texts::show;
-use bcs_json_text::NESTING_LIMIT;
 use bcs_registry::{Format, Registry};
+use bcs_registry_json::NESTING_LIMIT;
 use bcs_value::Limits;
 use std::alloc::Global;
 

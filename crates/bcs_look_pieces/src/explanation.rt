@@ -1,13 +1,13 @@
 //! What is printed of bytes.
 ghost use Rattle.std.specs.Prelude.{IfOk};
-ghost use Rattle.bcs_registry_formats.specs.View.{shape_of};
-ghost use Rattle.bcs_registry_formats.specs.WellFormed.{Admits};
+ghost use Rattle.bcs_registry_model.specs.View.{shape_of};
+ghost use Rattle.bcs_registry_model.specs.WellFormed.{Admits};
 ghost use Rattle.bcs_look_pieces.specs.EndsAt.{EndsAt};
 
 use crate::stopping::stop_of;
 use crate::table::Table;
-use bcs_explain::Stop;
-use bcs_explain_columns::style::Style;
+use bcs_look_text::style::Style;
+use bcs_pieces::Stop;
 use bcs_registry::{Format, Registry};
 use bcs_value::Limits;
 use std::alloc::{AllocError, Global};

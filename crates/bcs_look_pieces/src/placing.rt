@@ -1,13 +1,13 @@
 //! Where bytes stop being a value, in a line.
 ghost use Rattle.std.specs.Prelude.{◌≡◌, ⊤, IfOk, IfSome, None, Some};
-ghost use Rattle.bcs_registry_formats.specs.View.{shape_of};
-ghost use Rattle.bcs_registry_formats.specs.WellFormed.{Admits};
+ghost use Rattle.bcs_registry_model.specs.View.{shape_of};
+ghost use Rattle.bcs_registry_model.specs.WellFormed.{Admits};
 ghost use Rattle.bcs_decode_spec.specs.declared.stop.Stop as declared;
 ghost use Rattle.bcs_look_pieces.specs.EndsAt.{EndsAt};
 
 use crate::halt::Halt;
 use crate::stopping::stop_of;
-use bcs_explain::{Listener, Meaning, Reason, Trail, Wanted};
+use bcs_pieces::{Listener, Meaning, Reason, Trail, Wanted};
 use bcs_registry::{Format, Registry};
 use bcs_value::Limits;
 use std::alloc::{AllocError, Global};

@@ -1,9 +1,9 @@
 //! The way to a piece: in names, as the word PATH, and as a branch of a tree. A trail leads from the last step up, and going
 //! up in a loop takes no stack; so a way is put back to front, and then turned.
 
-use bcs_explain::{Step, Trail};
-use bcs_explain_columns::columns::{put_blanks, put_decimal, put_hex};
-use bcs_explain_columns::escaping::put_escaped;
+use bcs_look_text::columns::{put_blanks, put_decimal, put_hex};
+use bcs_look_text::escaping::put_escaped;
+use bcs_pieces::{Step, Trail};
 use std::alloc::AllocError;
 
 #[derive(Clone, Copy)]

@@ -5,8 +5,8 @@ use crate::damage::put_damage;
 use crate::halt::Halt;
 use crate::lines::put_lines;
 use crate::objects::{put_end_object, put_piece_object, put_stop_object};
-use bcs_explain::{Listener, Meaning, Stop, Trail, Wanted};
-use bcs_explain_columns::style::{Form, Style};
+use bcs_look_text::style::{Form, Style};
+use bcs_pieces::{Listener, Meaning, Stop, Trail, Wanted};
 use std::alloc::{AllocError, Global};
 
 /// What is printed of the pieces that were told of so far.

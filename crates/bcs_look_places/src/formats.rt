@@ -2,8 +2,8 @@
 
 use crate::names::Name;
 use bcs_registry::{Container, Format, Registry, RegistryFault};
-use bcs_registry_text::format_text::format_from;
-use bcs_registry_text::json_text::registry_json;
+use bcs_registry_json::format_text::format_from;
+use bcs_registry_json::json_text::registry_json;
 use std::alloc::Global;
 use std::collections::BTreeMap;
 

@@ -1,7 +1,7 @@
 //! A step of PATH that is none.
 
 use crate::names::Name;
-use bcs_tool_path::{BadStep, first_bad_step};
+use bcs_decode_parts::{BadStep, first_bad_step};
 use std::alloc::{AllocError, Global};
 
 /// The first step of PATH that is none, its text as it stands, and what would be one. The first step is 1. `None`: the

@@ -5,8 +5,8 @@ use crate::formats::first_unknown;
 use crate::names::Name;
 use crate::owners::{Owner, Slot};
 use bcs_registry::{Container, Format, Named, RegistryFault, VariantFormat};
-use bcs_registry_formats::levels::has_few_levels;
-use bcs_registry_text::one_by_one::containers_one_by_one;
+use bcs_registry_json::one_by_one::containers_one_by_one;
+use bcs_registry_model::levels::has_few_levels;
 use std::alloc::{AllocError, Global};
 use std::collections::{BTreeMap, BTreeSet};
 

@@ -5,7 +5,7 @@ use crate::shape_parts::Part;
 use bcs_json::JsonStep;
 use bcs_num::{Width, parse_unsigned};
 use bcs_registry::RegistryFault;
-use bcs_registry_text::json_text::registry_json;
+use bcs_registry_json::json_text::registry_json;
 use serde_json::{Map, Value};
 use std::alloc::{AllocError, Global};
 

@@ -15,8 +15,8 @@ use Rattle.json.specs.Token.{Token, bad, boolean, null, number}
 use Rattle.json.specs.Word.{after_digits, after_exponent, after_fraction, after_minus, after_number, after_sign, after_whole, ends_word, literal, number_before, word}
 use Rattle.json.proofs.Printed.Utf8.{IsUtf8-are_ascii}
 use Rattle.serde_json.specs.Read.{max_depth, of_json, read}
-use Rattle.bcs_registry_formats.specs.Container.{Entries}
-use Rattle.bcs_registry_text.specs.Text.{WritesRegistry}
+use Rattle.bcs_registry_model.specs.Container.{Entries}
+use Rattle.bcs_registry_json.specs.Text.{WritesRegistry}
 
 abbrev pub ended : List ℕ → List ℕ
 ended t = t ++ 10 ∷ []

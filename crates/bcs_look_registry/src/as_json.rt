@@ -4,7 +4,7 @@ ghost use Rattle.bcs_look_registry.specs.Shows.{WritesSome};
 
 use crate::lines::Selection;
 use bcs_registry::Registry;
-use bcs_registry_text::printing::registry_value;
+use bcs_registry_json::printing::registry_value;
 use std::alloc::{AllocError, Global};
 use std::collections::BTreeSet;
 

@@ -2,8 +2,8 @@
 
 use crate::formats::{put_format, put_row};
 use crate::names::put_name;
-use bcs_explain_columns::columns::{put_blanks, put_decimal};
-use bcs_registry_formats::{Container, Format, Named, VariantFormat};
+use bcs_look_text::columns::{put_blanks, put_decimal};
+use bcs_registry_model::{Container, Format, Named, VariantFormat};
 use std::alloc::AllocError;
 use std::collections::BTreeMap;
 

@@ -1,8 +1,8 @@
 //! What two registries differ in, and lines of it.
 
-use bcs_explain_columns::columns::put_decimal;
-use bcs_explain_columns::escaping::put_escaped;
-use bcs_registry_formats::{Container, GrowthFault, Named, VariantFormat};
+use bcs_look_text::columns::put_decimal;
+use bcs_look_text::escaping::put_escaped;
+use bcs_registry_model::{Container, GrowthFault, Named, VariantFormat};
 use std::alloc::{AllocError, Global};
 
 /// Something under a container's name that two registries don't have alike.

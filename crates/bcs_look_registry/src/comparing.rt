@@ -1,10 +1,8 @@
 //! The differences of two registries.
 
 use crate::change::{Change, Difference};
-use bcs_registry_formats::equality::{
-    are_same_fields, are_same_formats, is_same_format, is_same_payload,
-};
-use bcs_registry_formats::{Container, Named, VariantFormat};
+use bcs_registry_model::equality::{are_same_fields, are_same_formats, is_same_format, is_same_payload};
+use bcs_registry_model::{Container, Named, VariantFormat};
 use std::alloc::{AllocError, Global};
 use std::collections::{BTreeMap, BTreeSet};
 

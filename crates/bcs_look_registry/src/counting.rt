@@ -2,7 +2,7 @@
 
 use crate::sizes::Sizes;
 use bcs_num::put_uleb;
-use bcs_registry_formats::{Container, Format, Named, VariantFormat};
+use bcs_registry_model::{Container, Format, Named, VariantFormat};
 use std::collections::BTreeMap;
 
 /// The sizes of what stands in the container.

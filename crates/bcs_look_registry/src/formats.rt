@@ -1,8 +1,8 @@
 //! Formats in short.
 
 use crate::names::put_name;
-use bcs_explain_columns::columns::put_decimal;
-use bcs_registry_formats::Format;
+use bcs_look_text::columns::put_decimal;
+use bcs_registry_model::Format;
 use std::alloc::AllocError;
 
 /// Appends a format in short: the registry's word or the container's name, `F?` for an option, `[F]` for a list,

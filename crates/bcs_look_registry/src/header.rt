@@ -2,8 +2,8 @@
 
 use crate::names::put_name;
 use crate::sizes::Sizes;
-use bcs_explain_columns::columns::put_decimal;
-use bcs_registry_formats::Container;
+use bcs_look_text::columns::put_decimal;
+use bcs_registry_model::Container;
 use std::alloc::AllocError;
 
 /// Appends the line of a container as a whole: its name, its kind, its sizes where they are told, and that no other

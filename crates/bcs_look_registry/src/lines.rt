@@ -4,7 +4,7 @@ use crate::block::put_container;
 use crate::header::put_header;
 use crate::sizes::Sizes;
 use crate::uses::used_by_others;
-use bcs_registry_formats::Container;
+use bcs_registry_model::Container;
 use std::alloc::{AllocError, Global};
 use std::collections::{BTreeMap, BTreeSet};
 

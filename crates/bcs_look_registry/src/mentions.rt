@@ -1,6 +1,6 @@
 //! The names in formats.
 
-use bcs_registry_formats::{Container, Format, Named, VariantFormat};
+use bcs_registry_model::{Container, Format, Named, VariantFormat};
 use std::alloc::{AllocError, Global};
 use std::collections::BTreeMap;
 

@@ -3,7 +3,7 @@
 use crate::counting::inner_sizes;
 use crate::mentions::{Mentions, names_in};
 use crate::sizes::Sizes;
-use bcs_registry_formats::Container;
+use bcs_registry_model::Container;
 use std::alloc::{AllocError, Global};
 use std::collections::BTreeMap;
 

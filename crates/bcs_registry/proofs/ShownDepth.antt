@@ -8,12 +8,12 @@ use Rattle.std.specs.List.{list_all, flat_map}
 use Rattle.std.specs.Ordering.{nat_cmp, match_ordering}
 use Rattle.serde_json.specs.Data.{Data, Members, no_members, member, put, depth, items_depth, members_depth}
 use Rattle.serde_json.specs.Read.{max_depth}
-use Rattle.bcs_registry_formats.specs.Container.{Field, Payload, Choice, Container, Entries, unit_struct, newtype_struct, tuple_struct, field_struct, enumeration}
-use Rattle.bcs_registry_formats.specs.Container as container
-use Rattle.bcs_registry_formats.specs.Shape.{Shape, unit, truth, unsigned, signed, unsupported, float32, float64, character, text, bytes, name, option, seq, map as map_of, tuple, array, Shapes, no_shapes, shape}
+use Rattle.bcs_registry_model.specs.Container.{Field, Payload, Choice, Container, Entries, unit_struct, newtype_struct, tuple_struct, field_struct, enumeration}
+use Rattle.bcs_registry_model.specs.Container as container
+use Rattle.bcs_registry_model.specs.Shape.{Shape, unit, truth, unsigned, signed, unsupported, float32, float64, character, text, bytes, name, option, seq, map as map_of, tuple, array, Shapes, no_shapes, shape}
 use Rattle.std.specs.Int.{w8, w16, w32, w64, w128}
-use Rattle.bcs_registry_text.specs.Shown.{single, shown_format, shown_formats, shown_fields, shown_payload, shown_choices, shown_container, shown_containers, shown}
-use Rattle.bcs_registry_formats.specs.WellFormed.{IsWellFormed, has_few_levels, levels, shapes_levels, level_limit, formats, container_formats, payload_formats, shape_list, levels_hold, names_differ, names_known}
+use Rattle.bcs_registry_json.specs.Shown.{single, shown_format, shown_formats, shown_fields, shown_payload, shown_choices, shown_container, shown_containers, shown}
+use Rattle.bcs_registry_model.specs.WellFormed.{IsWellFormed, has_few_levels, levels, shapes_levels, level_limit, formats, container_formats, payload_formats, shape_list, levels_hold, names_differ, names_known}
 
 mutual
   depth-format : (s : Shape) → depth (shown_format s) ≤ 2 * levels s + 1

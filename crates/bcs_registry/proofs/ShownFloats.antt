@@ -6,11 +6,11 @@ use Rattle.std.specs.Fmt.{decimal}
 use Rattle.std.specs.Ordering.{nat_cmp, match_ordering}
 use Rattle.serde_json.specs.Data.{Data, Members, no_members, member, put}
 use Rattle.serde_json.specs.Written.{has_float, items_have_float, members_have_float}
-use Rattle.bcs_registry_formats.specs.Container.{Field, Payload, Choice, Container, Entries, unit_struct, newtype_struct, tuple_struct, field_struct, enumeration}
-use Rattle.bcs_registry_formats.specs.Container as container
-use Rattle.bcs_registry_formats.specs.Shape.{Shape, unit, truth, unsigned, signed, unsupported, float32, float64, character, text, bytes, name, option, seq, map as map_of, tuple, array, Shapes, no_shapes, shape}
+use Rattle.bcs_registry_model.specs.Container.{Field, Payload, Choice, Container, Entries, unit_struct, newtype_struct, tuple_struct, field_struct, enumeration}
+use Rattle.bcs_registry_model.specs.Container as container
+use Rattle.bcs_registry_model.specs.Shape.{Shape, unit, truth, unsigned, signed, unsupported, float32, float64, character, text, bytes, name, option, seq, map as map_of, tuple, array, Shapes, no_shapes, shape}
 use Rattle.std.specs.Int.{w8, w16, w32, w64, w128}
-use Rattle.bcs_registry_text.specs.Shown.{single, shown_format, shown_formats, shown_fields, shown_payload, shown_choices, shown_container, shown_containers, shown}
+use Rattle.bcs_registry_json.specs.Shown.{single, shown_format, shown_formats, shown_fields, shown_payload, shown_choices, shown_container, shown_containers, shown}
 
 no_float-put_at : (o : Ordering) (k l : List ℕ) (d e : Data) (ms : Members) → has_float d ≡ false → members_have_float (member l e ms) ≡ false → members_have_float (put k d ms) ≡ false
     → members_have_float (match_ordering o (member k d (member l e ms)) (member l d ms) (member l e (put k d ms))) ≡ false

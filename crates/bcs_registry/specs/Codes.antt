@@ -3,7 +3,7 @@ use Rattle.std.specs.Prelude.{◌≡◌, ℕ, zero, suc, List, [], ◌∷◌, re
 use Rattle.std.specs.Int.{Width, w8, w16, w32, w64, w128}
 use Rattle.std.proofs.Common.{sym, ap, ◌∙◌}
 use base.Stored.{Coded, Gv, gnil, gnum, gcons, num}
-use Rattle.bcs_registry_formats.specs.Shape.{Unsupported, float32, float64, character, Shape, Shapes, unit, truth, unsigned, signed, unsupported, text, bytes, name, option, seq, map, tuple, array, no_shapes, shape}
+use Rattle.bcs_registry_model.specs.Shape.{Unsupported, float32, float64, character, Shape, Shapes, unit, truth, unsigned, signed, unsupported, text, bytes, name, option, seq, map, tuple, array, no_shapes, shape}
 
 abbrev word : List ℕ → Gv
 word [] = gnil

@@ -1,14 +1,14 @@
 //! Which formats may be used with a registry.
 ghost use Rattle.std.specs.Prelude.{◌≡◌, OnOk, IfErr};
-ghost use Rattle.bcs_registry_formats.specs.Breaks.{FormatBreaks};
-ghost use Rattle.bcs_registry_formats.specs.Ranges.{IsOrderly};
-ghost use Rattle.bcs_registry_formats.specs.View.{shape_of};
-ghost use Rattle.bcs_registry_formats.specs.WellFormed.{admits, Admits};
+ghost use Rattle.bcs_registry_model.specs.Breaks.{FormatBreaks};
+ghost use Rattle.bcs_registry_model.specs.Ranges.{IsOrderly};
+ghost use Rattle.bcs_registry_model.specs.View.{shape_of};
+ghost use Rattle.bcs_registry_model.specs.WellFormed.{admits, Admits};
 
 use crate::registry::Registry;
-use bcs_registry_formats::known::is_known;
-use bcs_registry_formats::levels::has_few_levels;
-use bcs_registry_formats::{Format, RegistryFault};
+use bcs_registry_model::known::is_known;
+use bcs_registry_model::levels::has_few_levels;
+use bcs_registry_model::{Format, RegistryFault};
 
 impl Registry {
     /// Whether the format may be used with this registry: it has at most 32 levels, and each

@@ -1,15 +1,15 @@
 //! Whether containers make a registry.
 ghost use Rattle.std.specs.Prelude.{◌≡◌, ◌≢◌, ◌↔◌, IfOk, IfErr, IsErrOf};
-ghost use Rattle.bcs_registry_formats.specs.Breaks.{Breaks};
-ghost use Rattle.bcs_registry_formats.specs.Ranges.{IsOrderly};
-ghost use Rattle.bcs_registry_formats.specs.View.{entries_of};
-ghost use Rattle.bcs_registry_formats.specs.WellFormed.{IsWellFormed};
+ghost use Rattle.bcs_registry_model.specs.Breaks.{Breaks};
+ghost use Rattle.bcs_registry_model.specs.Ranges.{IsOrderly};
+ghost use Rattle.bcs_registry_model.specs.View.{entries_of};
+ghost use Rattle.bcs_registry_model.specs.WellFormed.{IsWellFormed};
 
 use crate::registry::Registry;
-use bcs_registry_formats::distinct::have_distinct_names;
-use bcs_registry_formats::naming::numbers_by_name;
-use bcs_registry_formats::rule::{Rule, all_keep};
-use bcs_registry_formats::{Container, RegistryFault};
+use bcs_registry_model::distinct::have_distinct_names;
+use bcs_registry_model::naming::numbers_by_name;
+use bcs_registry_model::rule::{Rule, all_keep};
+use bcs_registry_model::{Container, RegistryFault};
 use std::alloc::Global;
 use std::collections::BTreeMap;
 

@@ -1,12 +1,12 @@
 //! Whether a registry grew to another.
 ghost use Rattle.std.specs.Prelude.{◌↔◌, All, IsOk, IsErrOf};
-ghost use Rattle.bcs_registry_formats.specs.Grows.{Grows, IsFirstGrowthFault};
-ghost use Rattle.bcs_registry_formats.specs.Order.{NamesRise};
-ghost use Rattle.bcs_registry_formats.specs.Ranges.{IsOrderly, NumbersRise};
+ghost use Rattle.bcs_registry_model.specs.Grows.{Grows, IsFirstGrowthFault};
+ghost use Rattle.bcs_registry_model.specs.Order.{NamesRise};
+ghost use Rattle.bcs_registry_model.specs.Ranges.{IsOrderly, NumbersRise};
 
 use crate::registry::Registry;
-use bcs_registry_formats::GrowthFault;
-use bcs_registry_formats::growth::containers_grow;
+use bcs_registry_model::GrowthFault;
+use bcs_registry_model::growth::containers_grow;
 
 impl Registry {
     /// Whether `newer` is this registry grown: each container stands in it unchanged, but that an

@@ -4,11 +4,9 @@
 mod admitting;
 mod checking;
 mod growing;
+pub mod laws;
 mod reading;
 mod registry;
 
-pub use bcs_registry_formats::{
-    Container, Format, GrowthFault, Named, RegistryFault, VariantFormat,
-};
-pub use bcs_registry_spec::laws;
+pub use bcs_registry_model::{Container, Format, GrowthFault, Named, RegistryFault, VariantFormat};
 pub use registry::Registry;

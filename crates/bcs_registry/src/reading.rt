@@ -1,22 +1,22 @@
 //! Registries and formats from JSON texts.
 ghost use Rattle.std.specs.Prelude.{◌≡◌, ◌≢◌, IfErr, IfOk};
 ghost use Rattle.serde_json.specs.View.{view};
-ghost use Rattle.bcs_registry_spec.specs.Faults.{IsLeastFault, IsLeastFormatFault};
-ghost use Rattle.bcs_registry_formats.specs.Ranges.{IsOrderly};
-ghost use Rattle.bcs_registry_text.specs.Parts.{IsLeastFaultBy};
-ghost use Rattle.bcs_registry_text.specs.Shaped.{is_format, is_registry};
-ghost use Rattle.bcs_registry_text.specs.Text.{IsFormatText, IsRegistryText, WritesFormat, WritesRegistry};
-ghost use Rattle.bcs_registry_formats.specs.View.{entries_of, shape_of};
-ghost use Rattle.bcs_registry_formats.specs.WellFormed.{Admits, IsWellFormed};
+ghost use Rattle.bcs_registry.specs.Faults.{IsLeastFault, IsLeastFormatFault};
+ghost use Rattle.bcs_registry_model.specs.Ranges.{IsOrderly};
+ghost use Rattle.bcs_registry_json.specs.Parts.{IsLeastFaultBy};
+ghost use Rattle.bcs_registry_json.specs.Shaped.{is_format, is_registry};
+ghost use Rattle.bcs_registry_json.specs.Text.{IsFormatText, IsRegistryText, WritesFormat, WritesRegistry};
+ghost use Rattle.bcs_registry_model.specs.View.{entries_of, shape_of};
+ghost use Rattle.bcs_registry_model.specs.WellFormed.{Admits, IsWellFormed};
 
 use crate::checking::checked;
 use crate::registry::Registry;
-use bcs_registry_formats::{Container, Format, RegistryFault};
-use bcs_registry_text::container_text::containers_from;
-use bcs_registry_text::format_text::format_from;
-use bcs_registry_text::json_text::registry_json;
-use bcs_registry_text::one_by_one::containers_one_by_one;
-use bcs_registry_text::shaped::{is_format_shaped, is_registry_shaped};
+use bcs_registry_json::container_text::containers_from;
+use bcs_registry_json::format_text::format_from;
+use bcs_registry_json::json_text::registry_json;
+use bcs_registry_json::one_by_one::containers_one_by_one;
+use bcs_registry_json::shaped::{is_format_shaped, is_registry_shaped};
+use bcs_registry_model::{Container, Format, RegistryFault};
 use serde_json::Value;
 use std::alloc::Global;
 use std::collections::BTreeMap;

@@ -1,16 +1,16 @@
 //! Registries: containers by name.
 ghost use Rattle.std.specs.Prelude.{◌≡◌, option_map, length, string_bytes, IfOk};
-ghost use Rattle.bcs_registry_formats.specs.Container.{Entries, container_at, variant_number};
-ghost use Rattle.bcs_registry_formats.specs.Ranges.{IsOrderly};
-ghost use Rattle.bcs_registry_text.specs.Shown.{shown};
-ghost use Rattle.bcs_registry_text.specs.Text.{WritesRegistry};
-ghost use Rattle.bcs_registry_formats.specs.View.{container_of, entries_of};
-ghost use Rattle.bcs_registry_formats.specs.WellFormed.{IsWellFormed};
-ghost use Rattle.bcs_registry_formats.specs.Names.{FindsNumbers};
+ghost use Rattle.bcs_registry_model.specs.Container.{Entries, container_at, variant_number};
+ghost use Rattle.bcs_registry_model.specs.Ranges.{IsOrderly};
+ghost use Rattle.bcs_registry_json.specs.Shown.{shown};
+ghost use Rattle.bcs_registry_json.specs.Text.{WritesRegistry};
+ghost use Rattle.bcs_registry_model.specs.View.{container_of, entries_of};
+ghost use Rattle.bcs_registry_model.specs.WellFormed.{IsWellFormed};
+ghost use Rattle.bcs_registry_model.specs.Names.{FindsNumbers};
 ghost use Rattle.serde_json.specs.Written.{compact_text};
 
-use bcs_registry_formats::{Container, VariantNumbers};
-use bcs_registry_text::printing::registry_value;
+use bcs_registry_json::printing::registry_value;
+use bcs_registry_model::{Container, VariantNumbers};
 use std::alloc::{AllocError, Global};
 use std::collections::BTreeMap;
 use std::marker::Model;
@@ -26,11 +26,11 @@ pub struct Registry {
 }
 
 impl Model for Registry {
-    ghost use Rattle.bcs_registry_formats.specs.Container.{Entries};
-    ghost use Rattle.bcs_registry_formats.specs.Ranges.{IsOrderly};
-    ghost use Rattle.bcs_registry_formats.specs.View.{entries_of};
-    ghost use Rattle.bcs_registry_formats.specs.WellFormed.{IsWellFormed};
-    ghost use Rattle.bcs_registry_formats.specs.Names.{FindsNumbers};
+    ghost use Rattle.bcs_registry_model.specs.Container.{Entries};
+    ghost use Rattle.bcs_registry_model.specs.Ranges.{IsOrderly};
+    ghost use Rattle.bcs_registry_model.specs.View.{entries_of};
+    ghost use Rattle.bcs_registry_model.specs.WellFormed.{IsWellFormed};
+    ghost use Rattle.bcs_registry_model.specs.Names.{FindsNumbers};
     ghost use Rattle.std.specs.Coded.{codes};
     ghost use Rattle.bcs_registry.specs.Codes.{shape_coded, shapes_coded};
 

@@ -6,11 +6,11 @@ use Rattle.std.proofs.Math.Seq.{take-append-add}
 use Rattle.std.proofs.lemmas.List.{take-append-le}
 use Rattle.bcs_io.specs.Taking.{Took, Lost}
 use Rattle.bcs_io.proofs.TakingLemmas.{Lost-then, Took-then}
-use Rattle.bcs_tool_line.specs.declared.job.Job.{Job}
-use Rattle.bcs_tool_line.specs.declared.line_fault.LineFault.{LineFault}
-use Rattle.bcs_tool_line.specs.declared.line_fault.LineFault.TheVariants.{Usage, Help, OutOfMemory}
-use Rattle.bcs_tool_files.specs.declared.work.Report.{Report}
-use Rattle.bcs_tool_files.specs.declared.work.Work.{Work}
+use Rattle.bcs_tool_command_line.specs.declared.job.Job.{Job}
+use Rattle.bcs_tool_command_line.specs.declared.line_fault.LineFault.{LineFault}
+use Rattle.bcs_tool_command_line.specs.declared.line_fault.LineFault.TheVariants.{Usage, Help, OutOfMemory}
+use Rattle.bcs_tool_command_line.specs.declared.work.Report.{Report}
+use Rattle.bcs_tool_command_line.specs.declared.work.Work.{Work}
 use Rattle.bcs_tool.specs.Pairs.{EndsPairs, IsReportOf, PairRuns}
 use Rattle.bcs_tool.specs.Running.{IsAnswered, IsFailed, PutFront, Runs}
 use Rattle.bcs_tool.specs.declared.pair_interruption.PairInterruption.{PairInterruption}

@@ -5,10 +5,10 @@ use Rattle.std.specs.List.{All}
 use Rattle.std.specs.Io.KnownBytes.{Consumes, IsAtEnd}
 use Rattle.std.proofs.lemmas.List.Elements.{All-head, All-tail}
 use Rattle.std.proofs.lemmas.List.{take-append-le}
-use Rattle.bcs_io_lines.specs.Laws.{ended}
-use Rattle.bcs_io_lines.specs.Lines.{HasNoLineFeed, lines_of, onto}
-use Rattle.bcs_io_lines.proofs.LineLemmas.{lines_of-last, lines_of-line, no_feed_first, no_feed_rest}
-use Rattle.bcs_tool_files.specs.Files.{IsContent, size_limit}
+use Rattle.bcs_io.specs.Laws.{ended}
+use Rattle.bcs_io.specs.Lines.{HasNoLineFeed, lines_of, onto}
+use Rattle.bcs_io.proofs.LineLemmas.{lines_of-last, lines_of-line, no_feed_first, no_feed_rest}
+use Rattle.bcs_tool_command_line.specs.Files.{IsContent, size_limit}
 use Rattle.bcs_tool.specs.Lines.{StandBefore}
 use Rattle.bcs_tool.specs.Pairs.{AreAll, IsPast}
 use Rattle.bcs_tool.specs.Running.{AreFirst, IsLongBehind}

@@ -3,10 +3,10 @@ use Rattle.std.proofs.Common.{◌≡◌, ◌≢◌, ◌<◌, ◌+◌, ◌^◌, �
 use Rattle.std.specs.Prelude.{IfSome}
 use Rattle.bcs_io.specs.Taking as sink
 use Rattle.bcs_io.proofs.TakingLemmas as taking
-use Rattle.bcs_io_lines.specs.Held.{Held}
-use Rattle.bcs_io_lines.specs.Lines.{lines_of}
-use Rattle.bcs_io_lines.specs.declared.next_fault.NextFault.{NextFault}
-use Rattle.bcs_io_lines.specs.declared.next_fault.NextFault.TheVariants as next_fault
+use Rattle.bcs_io.specs.Held.{Held}
+use Rattle.bcs_io.specs.Lines.{lines_of}
+use Rattle.bcs_io.specs.declared.next_fault.NextFault.{NextFault}
+use Rattle.bcs_io.specs.declared.next_fault.NextFault.TheVariants as next_fault
 use Rattle.bcs_tool_answers.specs.Answers.{line_of}
 use Rattle.bcs_tool_answers.specs.Judging.{ReadsInput}
 use Rattle.bcs_tool_answers.specs.PairAnswers.{AnswersPair, AnswersPairs}
@@ -14,8 +14,8 @@ use Rattle.bcs_tool_answers.specs.PairAnswers as pairs
 use Rattle.bcs_tool_answers.specs.declared.ending.Ending.{Ending}
 use Rattle.bcs_tool_answers.specs.declared.ending.Ending.TheVariants.{Together, FirstEnds, SecondEnds}
 use Rattle.bcs_tool_answers.proofs.PairAnswerLemmas.{as_many_pairs, one_alone, pairs_then}
-use Rattle.bcs_tool_files.specs.declared.taking.TakeFault.{TakeFault}
-use Rattle.bcs_tool_files.specs.declared.work.Work.{Work}
+use Rattle.bcs_tool_command_line.specs.declared.taking.TakeFault.{TakeFault}
+use Rattle.bcs_tool_command_line.specs.declared.work.Work.{Work}
 use Rattle.bcs_tool.specs.Lines.{IsTally}
 use Rattle.bcs_tool.specs.PairLines.{AllPaired, ArePairsSoFar, EndsBy, EndsPaired, FailsNext, HasEnded, PutsPair, ReadsBoth, ReadsOn, StopsPair, broken_at, last_output, last_statuses}
 use Rattle.bcs_tool.specs.Pairs.{AnswersBehind, AreAll, FailsPairsAt, Gave, GaveLine, IsLongAt, PutPairPart, PutPairs}

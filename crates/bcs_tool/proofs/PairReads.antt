@@ -1,6 +1,6 @@
 -- Which lines two files have next, by which of them has one.
 use Rattle.std.proofs.Common.{ℕ, Bool, true, false, List, Option}
-use Rattle.bcs_io_lines.specs.Held.{Held}
+use Rattle.bcs_io.specs.Held.{Held}
 use Rattle.bcs_tool.specs.PairLines.{HasNext, ReadsBoth, next_of}
 
 module _ {F S : Type 0} (former : F → Option (List ℕ)) (former_stopped : F → Bool) (former_allowance : F → ℕ)

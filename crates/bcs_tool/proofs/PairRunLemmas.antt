@@ -2,7 +2,7 @@
 use Rattle.std.proofs.Common.{◌≡◌, ◌++◌, ◌∙◌, ℕ, Bool, List, [], Option, Err, Ok, ap, arith, refl, subst, sym}
 use Rattle.bcs_io.proofs.GivingLemmas as giving
 use Rattle.bcs_io.proofs.TakingLemmas as taking
-use Rattle.bcs_io_lines.specs.Lines.{lines_of}
+use Rattle.bcs_io.specs.Lines.{lines_of}
 use Rattle.bcs_tool_answers.specs.Judging.{ReadsInput}
 use Rattle.bcs_tool_answers.specs.LineAnswers.{summary, tally_text}
 use Rattle.bcs_tool_answers.specs.PairAnswers.{lacking_text, pairs_summary}
@@ -11,10 +11,10 @@ use Rattle.bcs_tool_answers.specs.Places.{IsAnswer, Places}
 use Rattle.bcs_tool_answers.specs.declared.answer.Answer.{Answer}
 use Rattle.bcs_tool_answers.proofs.AnswerLemmas.{status_below}
 use Rattle.bcs_tool_answers.proofs.PairAnswerLemmas.{greatest_pair_below}
-use Rattle.bcs_tool_files.specs.FaultPlaces.{TellsPlace}
-use Rattle.bcs_tool_files.specs.declared.taking.TakeFault.TheVariants.{OutOfMemory}
-use Rattle.bcs_tool_files.specs.declared.work.Report.{Report}
-use Rattle.bcs_tool_files.specs.declared.work.Work.{Work}
+use Rattle.bcs_tool_command_line.specs.FaultPlaces.{TellsPlace}
+use Rattle.bcs_tool_command_line.specs.declared.taking.TakeFault.TheVariants.{OutOfMemory}
+use Rattle.bcs_tool_command_line.specs.declared.work.Report.{Report}
+use Rattle.bcs_tool_command_line.specs.declared.work.Work.{Work}
 use Rattle.bcs_tool.specs.PairLines.{AllPaired}
 use Rattle.bcs_tool.specs.Pairs.{AreCompared, EndsPairs, PutPairs, RespondsPairs, compared, refused, refused_alone}
 use Rattle.bcs_tool.specs.Running.{PutsAnswer}

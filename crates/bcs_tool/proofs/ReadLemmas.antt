@@ -4,12 +4,12 @@ use Rattle.std.specs.Prelude.{IfSome}
 use Rattle.std.proofs.lemmas.List.Elements.{All-nil, All-push}
 use Rattle.bcs_io.specs.Giving as source
 use Rattle.bcs_io.proofs.GivingLemmas as giving
-use Rattle.bcs_io_lines.specs.Advancing.{HasNoLine, IsLastLine, IsTooLong, TakesLine}
-use Rattle.bcs_io_lines.specs.Held.{Held}
-use Rattle.bcs_io_lines.specs.Lines.{HasNoLineFeed, before_block, line_feeds, lines_of}
-use Rattle.bcs_io_lines.proofs.Ahead.{short_ahead}
-use Rattle.bcs_io_lines.proofs.FeedLemmas.{feeds_append, feeds_before_block, feeds_none}
-use Rattle.bcs_tool_files.specs.Files.{IsContent, size_limit}
+use Rattle.bcs_io.specs.Advancing.{HasNoLine, IsLastLine, IsTooLong, TakesLine}
+use Rattle.bcs_io.specs.Held.{Held}
+use Rattle.bcs_io.specs.Lines.{HasNoLineFeed, before_block, line_feeds, lines_of}
+use Rattle.bcs_io.proofs.Ahead.{short_ahead}
+use Rattle.bcs_io.proofs.FeedLemmas.{feeds_append, feeds_before_block, feeds_none}
+use Rattle.bcs_tool_command_line.specs.Files.{IsContent, size_limit}
 use Rattle.bcs_tool.specs.Lines.{AreRead, StandBefore}
 use Rattle.bcs_tool.specs.PairLines.{ReadsOn}
 use Rattle.bcs_tool.specs.Pairs.{AreAll, GaveLine}

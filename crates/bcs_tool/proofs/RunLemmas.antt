@@ -5,7 +5,7 @@ use Rattle.std.specs.Io.KnownBytes.{Consumes, IsAtEnd}
 use Rattle.bcs_io.specs.Giving as source
 use Rattle.bcs_io.proofs.GivingLemmas as giving
 use Rattle.bcs_io.proofs.TakingLemmas as taking
-use Rattle.bcs_io_lines.specs.Lines.{lines_of}
+use Rattle.bcs_io.specs.Lines.{lines_of}
 use Rattle.bcs_tool_answers.specs.Judging.{ReadsInput}
 use Rattle.bcs_tool_answers.specs.LineAnswers.{none, summary, tally_text}
 use Rattle.bcs_tool_answers.specs.Places.{IsAnswer, Places}
@@ -14,12 +14,12 @@ use Rattle.bcs_tool_answers.specs.declared.answer.Answer.{Answer}
 use Rattle.bcs_tool_answers.specs.declared.judging.Asked.{Asked}
 use Rattle.bcs_tool_answers.proofs.AnswerLemmas.{status_below}
 use Rattle.bcs_tool_answers.proofs.LineAnswerLemmas.{greatest_below}
-use Rattle.bcs_tool_files.specs.FaultPlaces.{TellsPlace}
-use Rattle.bcs_tool_files.specs.Files.{IsContent, size_limit}
-use Rattle.bcs_tool_files.specs.declared.taking.TakeFault.{TakeFault}
-use Rattle.bcs_tool_files.specs.declared.taking.TakeFault.TheVariants as take_fault
-use Rattle.bcs_tool_files.specs.declared.work.Report.{Report}
-use Rattle.bcs_tool_files.specs.declared.work.Work.{Work}
+use Rattle.bcs_tool_command_line.specs.FaultPlaces.{TellsPlace}
+use Rattle.bcs_tool_command_line.specs.Files.{IsContent, size_limit}
+use Rattle.bcs_tool_command_line.specs.declared.taking.TakeFault.{TakeFault}
+use Rattle.bcs_tool_command_line.specs.declared.taking.TakeFault.TheVariants as take_fault
+use Rattle.bcs_tool_command_line.specs.declared.work.Report.{Report}
+use Rattle.bcs_tool_command_line.specs.declared.work.Work.{Work}
 use Rattle.bcs_tool.specs.Lines.{AllAnswered, IsTally}
 use Rattle.bcs_tool.specs.Running.{AreFirst, Ends, FailsAt, HasLines, IsAnswered, IsUnhurt, PutBefore, PutsAnswer, ReadsNoFurther, Responds, by_line, once}
 use Rattle.bcs_tool.specs.declared.interruption.Interruption.{Interruption}

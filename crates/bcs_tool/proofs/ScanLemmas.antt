@@ -6,9 +6,9 @@ use Rattle.bcs_decode_spec.specs.Accepting.{Accepts}
 use Rattle.bcs_decode_spec.specs.declared.decode_fault.DecodeFault.{DecodeFault}
 use Rattle.bcs_decode_spec.specs.declared.decode_fault.DecodeFault.TheVariants as decode_fault
 use Rattle.bcs_decode_spec.specs.declared.stop.Stop.{Stop}
-use Rattle.bcs_registry_formats.specs.Container.{Entries}
-use Rattle.bcs_registry_formats.specs.Shape.{Shape}
-use Rattle.bcs_registry_formats.specs.View.{shape_of}
+use Rattle.bcs_registry_model.specs.Container.{Entries}
+use Rattle.bcs_registry_model.specs.Shape.{Shape}
+use Rattle.bcs_registry_model.specs.View.{shape_of}
 use Rattle.bcs_tool_answers.specs.Answers.{Answers, IsAsked, count_line, scan_stopped, scanned, stop_line}
 use Rattle.bcs_tool_answers.specs.Input.{Gives}
 use Rattle.bcs_tool_answers.specs.Judging.{Asks, is_scan, is_unlimited}
@@ -18,12 +18,12 @@ use Rattle.bcs_tool_answers.specs.Places.{Prints}
 use Rattle.bcs_tool_answers.specs.Preparing.{IsAskedBy}
 use Rattle.bcs_tool_answers.specs.declared.answer.Answer.{Answer}
 use Rattle.bcs_tool_answers.specs.declared.judging.Asked.{Asked}
-use Rattle.bcs_tool_files.specs.declared.taking.TakeFault.TheVariants as take_fault
-use Rattle.bcs_tool_files.specs.declared.work.Report.{Report}
-use Rattle.bcs_tool_files.specs.declared.work.Work.{Work}
-use Rattle.bcs_tool_line.specs.declared.command.Command.{Command}
-use Rattle.bcs_tool_line.specs.declared.command.Command.TheVariants as command
-use Rattle.bcs_tool_line.specs.declared.command.Command.TheVariants.{Scan}
+use Rattle.bcs_tool_command_line.specs.declared.taking.TakeFault.TheVariants as take_fault
+use Rattle.bcs_tool_command_line.specs.declared.work.Report.{Report}
+use Rattle.bcs_tool_command_line.specs.declared.work.Work.{Work}
+use Rattle.bcs_tool_command_line.specs.declared.command.Command.{Command}
+use Rattle.bcs_tool_command_line.specs.declared.command.Command.TheVariants as command
+use Rattle.bcs_tool_command_line.specs.declared.command.Command.TheVariants.{Scan}
 use Rattle.bcs_tool.specs.Running.{Ends, FailsAt, HasLines, IfTold, PutsAnswer, Responds, Streams, once}
 use Rattle.bcs_tool.specs.Scanning.{AnswersScan, FaultOfScan, IsScanned, RefusesScan, Scans}
 use Rattle.bcs_tool.specs.declared.interruption.Interruption.{Interruption}

@@ -5,18 +5,18 @@ use Rattle.bcs_io.specs.Giving as source
 use Rattle.bcs_io.specs.Taking as sink
 use Rattle.bcs_io.proofs.GivingLemmas as giving
 use Rattle.bcs_io.proofs.TakingLemmas as taking
-use Rattle.bcs_io_lines.specs.Advancing.{FailsInLine, HasNoLine, IsLastLine, IsTooLong, RunsOut, TakesLine}
-use Rattle.bcs_io_lines.specs.Held.{Held}
-use Rattle.bcs_io_lines.specs.Lines.{HasNoLineFeed, before_block, line_feeds}
-use Rattle.bcs_io_lines.proofs.Ahead.{block_behind, short_ahead}
-use Rattle.bcs_io_lines.specs.declared.next_fault.NextFault.{NextFault}
-use Rattle.bcs_io_lines.specs.declared.next_fault.NextFault.TheVariants as next_fault
+use Rattle.bcs_io.specs.Advancing.{FailsInLine, HasNoLine, IsLastLine, IsTooLong, RunsOut, TakesLine}
+use Rattle.bcs_io.specs.Held.{Held}
+use Rattle.bcs_io.specs.Lines.{HasNoLineFeed, before_block, line_feeds}
+use Rattle.bcs_io.proofs.Ahead.{block_behind, short_ahead}
+use Rattle.bcs_io.specs.declared.next_fault.NextFault.{NextFault}
+use Rattle.bcs_io.specs.declared.next_fault.NextFault.TheVariants as next_fault
 use Rattle.bcs_tool_answers.specs.Answers.{Answers}
 use Rattle.bcs_tool_answers.specs.LineAnswers.{AnswersAll, none}
 use Rattle.bcs_tool_answers.proofs.LineAnswerLemmas.{answers_snoc, as_many}
-use Rattle.bcs_tool_files.specs.Files.{size_limit}
-use Rattle.bcs_tool_files.specs.declared.taking.TakeFault.{TakeFault}
-use Rattle.bcs_tool_files.specs.declared.work.Work.{Work}
+use Rattle.bcs_tool_command_line.specs.Files.{size_limit}
+use Rattle.bcs_tool_command_line.specs.declared.taking.TakeFault.{TakeFault}
+use Rattle.bcs_tool_command_line.specs.declared.work.Work.{Work}
 use Rattle.bcs_tool.specs.Lines.{AllAnswered, IsSoFar, IsTally}
 use Rattle.bcs_tool.specs.Running.{FailsAt, HasLines, IsLongBehind, IsTooLarge, IsUnhurt, PutBefore, PutFront, PutPart, PutsLine, ReadsNoFurther, StopsInLine, of_next}
 use Rattle.bcs_tool.specs.declared.run_fault.RunFault.{RunFault}

@@ -5,18 +5,18 @@ use Rattle.bcs_io.specs.ReadSource.{allowance_of, failed, reader_of}
 use Rattle.bcs_io.specs.Taking as sink
 use Rattle.bcs_io.specs.declared.read_source.ReadSource.{ReadSource}
 use Rattle.bcs_tool_answers.specs.Answers.{line_of}
-use Rattle.bcs_tool_files.specs.FaultPlaces.{TellsPlace, file_place, file_text, origin_text}
-use Rattle.bcs_tool_files.specs.Files.{ComparesLines, IsFaultOfFiles, IsWorkOf, NamesForWork, NamesNoFile, fault_of, file_note}
-use Rattle.bcs_tool_files.specs.declared.open_cause.OpenCause.{OpenCause}
-use Rattle.bcs_tool_files.specs.declared.origin.Origin.TheVariants.{StandardInput}
-use Rattle.bcs_tool_files.specs.declared.taking.TakeFault.TheVariants as taking
-use Rattle.bcs_tool_files.specs.declared.unread_file.UnreadFile.{UnreadFile}
-use Rattle.bcs_tool_files.specs.declared.unread_file.UnreadFile.TheVariants.{Unopened, Untaken}
-use Rattle.bcs_tool_files.specs.declared.work.Report.{Report}
-use Rattle.bcs_tool_files.specs.declared.work.Work.{Work}
-use Rattle.bcs_tool_line.specs.declared.job.Job.{Job}
-use Rattle.bcs_tool_line.specs.declared.line_fault.LineFault.{LineFault}
-use Rattle.bcs_tool_line.specs.declared.line_fault.LineFault.TheVariants.{Usage, Help, OutOfMemory}
+use Rattle.bcs_tool_command_line.specs.FaultPlaces.{TellsPlace, file_place, file_text, origin_text}
+use Rattle.bcs_tool_command_line.specs.Files.{ComparesLines, IsFaultOfFiles, IsWorkOf, NamesForWork, NamesNoFile, fault_of, file_note}
+use Rattle.bcs_tool_command_line.specs.declared.open_cause.OpenCause.{OpenCause}
+use Rattle.bcs_tool_command_line.specs.declared.origin.Origin.TheVariants.{StandardInput}
+use Rattle.bcs_tool_command_line.specs.declared.taking.TakeFault.TheVariants as taking
+use Rattle.bcs_tool_command_line.specs.declared.unread_file.UnreadFile.{UnreadFile}
+use Rattle.bcs_tool_command_line.specs.declared.unread_file.UnreadFile.TheVariants.{Unopened, Untaken}
+use Rattle.bcs_tool_command_line.specs.declared.work.Report.{Report}
+use Rattle.bcs_tool_command_line.specs.declared.work.Work.{Work}
+use Rattle.bcs_tool_command_line.specs.declared.job.Job.{Job}
+use Rattle.bcs_tool_command_line.specs.declared.line_fault.LineFault.{LineFault}
+use Rattle.bcs_tool_command_line.specs.declared.line_fault.LineFault.TheVariants.{Usage, Help, OutOfMemory}
 use Rattle.bcs_tool.specs.Pairs.{PairRuns}
 use Rattle.bcs_tool.specs.Running.{PutFront, Runs}
 

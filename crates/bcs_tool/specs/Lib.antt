@@ -11,8 +11,8 @@ pub use Rattle.bcs_tool_answers.specs.AnswerLaws
 pub use Rattle.bcs_tool_answers.specs.LineAnswers
 pub use Rattle.bcs_tool_answers.specs.PairAnswers
 pub use Rattle.bcs_tool_answers.specs.Places
-pub use Rattle.bcs_tool_files.specs.Files
-pub use Rattle.bcs_tool_path.specs.Path
-pub use Rattle.bcs_tool_line.specs.Jobs
-pub use Rattle.bcs_tool_line.specs.LineFaults
-pub use Rattle.bcs_tool_words.specs.CommandLine
+pub use Rattle.bcs_tool_command_line.specs.Files
+pub use Rattle.bcs_decode_parts.specs.Path
+pub use Rattle.bcs_tool_command_line.specs.Jobs
+pub use Rattle.bcs_tool_command_line.specs.LineFaults
+pub use Rattle.bcs_tool_command_line.specs.CommandLine

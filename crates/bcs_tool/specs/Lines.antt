@@ -2,10 +2,10 @@
 use Rattle.std.specs.Prelude.{◌≡◌, ◌+◌, ◌<◌, ◌≤◌, ◌++◌, ℕ, List, Bool, All, Option, Some, None, Result, Ok, Err, length}
 use Rattle.bcs_io.specs.Giving as source
 use Rattle.bcs_io.specs.Taking as sink
-use Rattle.bcs_io_lines.specs.Lines.{HasNoLineFeed, block_size, line_feeds, lines_of}
+use Rattle.bcs_io.specs.Lines.{HasNoLineFeed, block_size, line_feeds, lines_of}
 use Rattle.bcs_tool_answers.specs.LineAnswers.{AnswersAll, count_of, greatest}
-use Rattle.bcs_tool_files.specs.Files.{IsContent}
-use Rattle.bcs_tool_files.specs.declared.work.Work.{Work}
+use Rattle.bcs_tool_command_line.specs.Files.{IsContent}
+use Rattle.bcs_tool_command_line.specs.declared.work.Work.{Work}
 use Rattle.bcs_tool.specs.Running.{FailsAt}
 use Rattle.bcs_tool.specs.declared.interruption.Interruption.{Interruption}
 use Rattle.bcs_tool.specs.declared.tally.Tally.{Tally}

@@ -1,18 +1,18 @@
 -- What is known of a comparison of two files, between two pairs of lines.
 use Rattle.std.specs.Prelude.{◌≡◌, ◌≢◌, ◌⊎◌, ◌++◌, ℕ, List, [], ◌∷◌, Bool, true, false, Option, Result, Ok, Err, codes}
 use Rattle.bcs_io.specs.Taking as sink
-use Rattle.bcs_io_lines.specs.Advancing.{FailsInLine, HasNoLine, IsTooLong, RunsOut, TakesLine}
-use Rattle.bcs_io_lines.specs.Held.{Held}
-use Rattle.bcs_io_lines.specs.Lines.{lines_of}
-use Rattle.bcs_io_lines.specs.declared.next_fault.NextFault.{NextFault}
-use Rattle.bcs_io_lines.specs.declared.next_fault.NextFault.TheVariants as next_fault
+use Rattle.bcs_io.specs.Advancing.{FailsInLine, HasNoLine, IsTooLong, RunsOut, TakesLine}
+use Rattle.bcs_io.specs.Held.{Held}
+use Rattle.bcs_io.specs.Lines.{lines_of}
+use Rattle.bcs_io.specs.declared.next_fault.NextFault.{NextFault}
+use Rattle.bcs_io.specs.declared.next_fault.NextFault.TheVariants as next_fault
 use Rattle.bcs_tool_answers.specs.Answers.{line_of}
 use Rattle.bcs_tool_answers.specs.PairAnswers.{AnswersPair, AnswersPairs}
 use Rattle.bcs_tool_answers.specs.declared.ending.Ending.{Ending}
 use Rattle.bcs_tool_answers.specs.declared.ending.Ending.TheVariants.{Together, FirstEnds, SecondEnds}
-use Rattle.bcs_tool_files.specs.Files.{IsContent, size_limit}
-use Rattle.bcs_tool_files.specs.declared.taking.TakeFault.TheVariants.{OutOfMemory}
-use Rattle.bcs_tool_files.specs.declared.work.Work.{Work}
+use Rattle.bcs_tool_command_line.specs.Files.{IsContent, size_limit}
+use Rattle.bcs_tool_command_line.specs.declared.taking.TakeFault.TheVariants.{OutOfMemory}
+use Rattle.bcs_tool_command_line.specs.declared.work.Work.{Work}
 use Rattle.bcs_tool.specs.Lines.{AreRead, IsTally}
 use Rattle.bcs_tool.specs.Pairs.{FailsPairsAt}
 use Rattle.bcs_tool.specs.Running.{PutFront, of_next}

@@ -5,21 +5,21 @@ use Rattle.bcs_decode.specs.Whole.{FrontGone}
 use Rattle.bcs_decode_spec.specs.Exact.{AreBytes}
 use Rattle.bcs_io.specs.Giving as source
 use Rattle.bcs_io.specs.Taking as sink
-use Rattle.bcs_io_lines.specs.Lines.{before_block, line_feeds, lines_of}
-use Rattle.bcs_io_lines.specs.declared.next_fault.NextFault.{NextFault}
-use Rattle.bcs_io_lines.specs.declared.next_fault.NextFault.TheVariants as next
+use Rattle.bcs_io.specs.Lines.{before_block, line_feeds, lines_of}
+use Rattle.bcs_io.specs.declared.next_fault.NextFault.{NextFault}
+use Rattle.bcs_io.specs.declared.next_fault.NextFault.TheVariants as next
 use Rattle.bcs_tool_answers.specs.Answers.{Answers}
 use Rattle.bcs_tool_answers.specs.Judging.{ReadsInput, is_unlimited}
 use Rattle.bcs_tool_answers.specs.LineAnswers.{AnswersAll, greatest, summary}
 use Rattle.bcs_tool_answers.specs.Places.{Places}
 use Rattle.bcs_tool_answers.specs.declared.answer.Answer.{Answer}
-use Rattle.bcs_tool_files.specs.FaultPlaces.{TellsPlace, origin_text, output_text, take_place}
-use Rattle.bcs_tool_files.specs.Files.{IsContent, size_limit, take_note}
-use Rattle.bcs_tool_files.specs.declared.origin.Origin.TheVariants.{StandardInput}
-use Rattle.bcs_tool_files.specs.declared.taking.TakeFault.TheVariants.{Read, TooLarge, OutOfMemory}
-use Rattle.bcs_tool_files.specs.declared.work.Outcome.{Outcome}
-use Rattle.bcs_tool_files.specs.declared.work.Report.{Report}
-use Rattle.bcs_tool_files.specs.declared.work.Work.{Work}
+use Rattle.bcs_tool_command_line.specs.FaultPlaces.{TellsPlace, origin_text, output_text, take_place}
+use Rattle.bcs_tool_command_line.specs.Files.{IsContent, size_limit, take_note}
+use Rattle.bcs_tool_command_line.specs.declared.origin.Origin.TheVariants.{StandardInput}
+use Rattle.bcs_tool_command_line.specs.declared.taking.TakeFault.TheVariants.{Read, TooLarge, OutOfMemory}
+use Rattle.bcs_tool_command_line.specs.declared.work.Outcome.{Outcome}
+use Rattle.bcs_tool_command_line.specs.declared.work.Report.{Report}
+use Rattle.bcs_tool_command_line.specs.declared.work.Work.{Work}
 use Rattle.bcs_tool.specs.declared.interruption.Interruption.{Interruption}
 use Rattle.bcs_tool.specs.declared.run_fault.RunFault.{RunFault}
 use Rattle.bcs_tool.specs.declared.run_fault.RunFault.TheVariants.{Take, Write}

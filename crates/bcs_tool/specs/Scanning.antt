@@ -1,17 +1,17 @@
 -- What is answered of bytes that are judged as they come.
 use Rattle.std.specs.Prelude.{◌≡◌, ◌<◌, ℕ, List, [], Bool, true, false, Option, Result, Ok, Err}
-use Rattle.bcs_registry_formats.specs.Container.{Entries}
-use Rattle.bcs_registry_formats.specs.Shape.{Shape}
-use Rattle.bcs_value_spec.specs.Limits.{Bounds}
+use Rattle.bcs_registry_model.specs.Container.{Entries}
+use Rattle.bcs_registry_model.specs.Shape.{Shape}
+use Rattle.bcs_value_model.specs.Limits.{Bounds}
 use Rattle.bcs_decode.specs.Whole.{FrontGone}
-use Rattle.bcs_decode_source_scan.specs.Scanned.{ScansAll, ScansFrom}
+use Rattle.bcs_decode.specs.Scanned.{ScansAll, ScansFrom}
 use Rattle.bcs_decode_spec.specs.declared.decode_fault.DecodeFault.{DecodeFault}
 use Rattle.bcs_decode_spec.specs.declared.decode_fault.DecodeFault.TheVariants as decode_fault
 use Rattle.bcs_tool_answers.specs.Answers.{Answers, stop_line}
 use Rattle.bcs_tool_answers.specs.Places.{Prints}
 use Rattle.bcs_tool_answers.specs.declared.answer.Answer.{Answer}
-use Rattle.bcs_tool_files.specs.declared.taking.TakeFault.TheVariants.{OutOfMemory, Read, TooLarge}
-use Rattle.bcs_tool_files.specs.declared.work.Work.{Work}
+use Rattle.bcs_tool_command_line.specs.declared.taking.TakeFault.TheVariants.{OutOfMemory, Read, TooLarge}
+use Rattle.bcs_tool_command_line.specs.declared.work.Work.{Work}
 use Rattle.bcs_tool.specs.Running.{IfTold}
 use Rattle.bcs_tool.specs.declared.interruption.Interruption.{Interruption}
 use Rattle.bcs_tool.specs.declared.run_fault.RunFault.{RunFault}

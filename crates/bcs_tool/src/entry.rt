@@ -1,18 +1,17 @@
 //! The program, as the system starts it.
 ghost use Rattle.std.specs.Prelude.{◌≡◌, ◌⊎◌, ◌<◌, IfErr, IfOk};
 ghost use Rattle.std.specs.Process.{exit_status};
-ghost use Rattle.bcs_tool_words.specs.CommandLine.{texts_of};
-ghost use Rattle.bcs_tool_line.specs.Jobs.{IsJobOf};
-ghost use Rattle.bcs_tool_line.specs.LineFaults.{IsFaultOf};
-ghost use Rattle.bcs_tool_line.specs.TakenWords.{TakesWords};
+ghost use Rattle.bcs_tool_command_line.specs.CommandLine.{texts_of};
+ghost use Rattle.bcs_tool_command_line.specs.Jobs.{IsJobOf};
+ghost use Rattle.bcs_tool_command_line.specs.LineFaults.{IsFaultOf};
+ghost use Rattle.bcs_tool_command_line.specs.TakenWords.{TakesWords};
 ghost use Rattle.bcs_tool.specs.Endings.{IsWordsFault, Performs, TellsFault, TellsReport};
 
 use crate::responding::respond;
 use crate::telling::tell_fault;
 use bcs_decode::{ByteSource, ReadSource};
 use bcs_encode::{ByteSink, WriteSink};
-use bcs_tool_files::Report;
-use bcs_tool_line::{Job, LineFault};
+use bcs_tool_command_line::{Job, LineFault, Report};
 use std::env;
 use std::env::Env;
 use std::io::ErrorKind;

@@ -3,7 +3,7 @@ ghost use Rattle.std.specs.Prelude.{◌≡◌, ◌≤◌, length, true};
 ghost use Rattle.bcs_tool.specs.Lines.{EndsLines};
 ghost use Rattle.bcs_tool.specs.Running.{Ends, PutsLine};
 ghost use Rattle.bcs_tool_answers.specs.Preparing.{IsAskedBy};
-ghost use Rattle.bcs_tool_files.specs.Files.{size_limit};
+ghost use Rattle.bcs_tool_command_line.specs.Files.{size_limit};
 
 use crate::interruption::Interruption;
 use crate::run_fault::RunFault;
@@ -11,11 +11,10 @@ use crate::run_places::place_of_tally;
 use crate::tally::Tally;
 use bcs_decode::ByteSource;
 use bcs_encode::ByteSink;
-use bcs_io::put_all;
-use bcs_io_lines::LineBuffer;
+use bcs_io::{LineBuffer, put_all};
 use bcs_tool_answers::{Asked, answer_values};
-use bcs_tool_files::limits::SIZE_LIMIT;
-use bcs_tool_files::{Outcome, Report, TakeFault, Work};
+use bcs_tool_command_line::limits::SIZE_LIMIT;
+use bcs_tool_command_line::{Outcome, Report, TakeFault, Work};
 use std::alloc::Global;
 
 /// Puts the answer to each line of the input, and tells how many have which status.

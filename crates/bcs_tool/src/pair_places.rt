@@ -5,13 +5,13 @@ ghost use Rattle.bcs_tool.specs.Pairs.{side_text};
 ghost use Rattle.bcs_tool.specs.Running.{run_place};
 ghost use Rattle.bcs_tool_answers.specs.LineAnswers.{tally_text};
 ghost use Rattle.bcs_tool_answers.specs.PairAnswers.{lacking_text};
-ghost use Rattle.bcs_tool_files.specs.FaultPlaces.{TellsPlace, origin_text};
+ghost use Rattle.bcs_tool_command_line.specs.FaultPlaces.{TellsPlace, origin_text};
 
 use crate::pair_interruption::{PairInterruption, Side};
 use crate::pair_lines::Compared;
 use crate::run_places::{place_of_interruption, put_count, tally_line};
 use bcs_tool_answers::Ending;
-use bcs_tool_files::{Origin, Work};
+use bcs_tool_command_line::{Origin, Work};
 use std::alloc::{AllocError, Global};
 
 /// Which stream is at fault, and at which line. It is empty at a quiet job, and where no memory is left for it.

@@ -6,9 +6,9 @@ use crate::interruption::Interruption;
 use crate::pair_interruption::{PairInterruption, Side};
 use crate::run_fault::RunFault;
 use bcs_decode::ByteSource;
-use bcs_io_lines::LineBuffer;
+use bcs_io::LineBuffer;
 use bcs_tool_answers::Ending;
-use bcs_tool_files::limits::SIZE_LIMIT;
+use bcs_tool_command_line::limits::SIZE_LIMIT;
 
 /// What two files have next.
 #[derive(Clone, Copy, Debug, Drop, PartialEq, Eq)]

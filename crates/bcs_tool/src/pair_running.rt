@@ -2,7 +2,7 @@
 ghost use Rattle.std.specs.Prelude.{◌≡◌};
 ghost use Rattle.bcs_tool.specs.Pairs.{EndsPairs, IsReportOf};
 ghost use Rattle.bcs_tool_answers.specs.Judging.{ReadsInput};
-ghost use Rattle.bcs_tool_files.specs.FaultPlaces.{origin_text};
+ghost use Rattle.bcs_tool_command_line.specs.FaultPlaces.{origin_text};
 
 use crate::pair_interruption::PairInterruption;
 use crate::pair_lines::compare_lines;
@@ -12,7 +12,7 @@ use crate::running::failed;
 use bcs_decode::ByteSource;
 use bcs_encode::ByteSink;
 use bcs_tool_answers::{Prepared, prepare};
-use bcs_tool_files::{Origin, Outcome, Report, Work};
+use bcs_tool_command_line::{Origin, Outcome, Report, Work};
 use std::alloc::Global;
 
 /// Puts the answer to each pair of lines of two files: whether they have the same value. It is put before the next pair is

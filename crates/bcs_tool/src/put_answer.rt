@@ -6,7 +6,7 @@ use crate::run_fault::RunFault;
 use bcs_encode::ByteSink;
 use bcs_io::put_all;
 use bcs_tool_answers::Answer;
-use bcs_tool_files::{Outcome, Report};
+use bcs_tool_command_line::{Outcome, Report};
 
 /// Puts an answer, and hands on its status and its place.
 pub fn put_answer<K: ByteSink>(answer: Answer, out: &mut K) -> Result<Report, Interruption>

@@ -1,9 +1,9 @@
 //! A command line, its input, and what the standard output and the standard error are told.
 ghost use Rattle.std.specs.Prelude.{◌≡◌, ◌⊎◌, ◌<◌};
-ghost use Rattle.bcs_tool_words.specs.CommandLine.{texts_of};
-ghost use Rattle.bcs_tool_line.specs.Jobs.{IsJobOf};
-ghost use Rattle.bcs_tool_line.specs.LineFaults.{IsFaultOf};
-ghost use Rattle.bcs_tool_line.specs.TakenWords.{TakesWords};
+ghost use Rattle.bcs_tool_command_line.specs.CommandLine.{texts_of};
+ghost use Rattle.bcs_tool_command_line.specs.Jobs.{IsJobOf};
+ghost use Rattle.bcs_tool_command_line.specs.LineFaults.{IsFaultOf};
+ghost use Rattle.bcs_tool_command_line.specs.TakenWords.{TakesWords};
 ghost use Rattle.bcs_tool.specs.Endings.{IsUnopened, Performs, PerformsOne, PerformsPairs, TellsFault, TellsReport};
 
 use crate::pair_running::{report_of_pairs, run_pairs};
@@ -11,10 +11,7 @@ use crate::running::{failed, run_from};
 use crate::telling::{tell_fault, tell_report};
 use bcs_decode::{ByteSource, ReadSource};
 use bcs_encode::ByteSink;
-use bcs_tool_files::{
-    FileFault, Inputs, OpenCause, Origin, Report, UnreadFile, Work, place_of_file, read_work,
-};
-use bcs_tool_line::{Job, LineFault, line};
+use bcs_tool_command_line::{FileFault, Inputs, Job, LineFault, OpenCause, Origin, Report, UnreadFile, Work, line, place_of_file, read_work};
 use std::alloc::Global;
 use std::env::Env;
 use std::fs::File;

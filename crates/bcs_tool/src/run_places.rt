@@ -3,12 +3,12 @@ ghost use Rattle.std.specs.Prelude.{◌≡◌, ◌++◌, IfOk, OnOk};
 ghost use Rattle.std.specs.Fmt.{decimal};
 ghost use Rattle.bcs_tool.specs.Running.{run_place, stream_text};
 ghost use Rattle.bcs_tool_answers.specs.LineAnswers.{tally_text};
-ghost use Rattle.bcs_tool_files.specs.FaultPlaces.{TellsPlace, origin_text};
+ghost use Rattle.bcs_tool_command_line.specs.FaultPlaces.{TellsPlace, origin_text};
 
 use crate::interruption::Interruption;
 use crate::run_fault::RunFault;
 use crate::tally::Tally;
-use bcs_tool_files::{Origin, Work, input_line, output_line};
+use bcs_tool_command_line::{Origin, Work, input_line, output_line};
 use std::alloc::{AllocError, Global};
 
 /// Which stream is at fault, and at which line, where lines are answered. It is empty at a quiet job, and where no memory

@@ -3,7 +3,7 @@ ghost use Rattle.std.specs.Prelude.{◌≡◌, false};
 ghost use Rattle.bcs_tool.specs.Running.{Ends, EndsWith, Runs};
 ghost use Rattle.bcs_tool_answers.specs.Judging.{ReadsInput};
 ghost use Rattle.bcs_tool_answers.specs.Preparing.{IsAskedBy};
-ghost use Rattle.bcs_tool_files.specs.FaultPlaces.{origin_text};
+ghost use Rattle.bcs_tool_command_line.specs.FaultPlaces.{origin_text};
 
 use crate::interruption::Interruption;
 use crate::line_running::run_lines;
@@ -13,8 +13,8 @@ use crate::scan_running::run_scan;
 use bcs_decode::ByteSource;
 use bcs_encode::ByteSink;
 use bcs_tool_answers::{Asked, Prepared, answer_values, is_unlimited, prepare};
-use bcs_tool_files::limits::SIZE_LIMIT;
-use bcs_tool_files::{Origin, Outcome, Report, Work, take_all};
+use bcs_tool_command_line::limits::SIZE_LIMIT;
+use bcs_tool_command_line::{Origin, Outcome, Report, Work, take_all};
 use std::alloc::Global;
 
 /// Puts the answer to a job and its input; or, where the job is for lines, the answer to each line of it. A whole answer is

@@ -1,18 +1,17 @@
 //! Bytes that are judged as they come, of which none is held but those of open keys.
 ghost use Rattle.std.specs.Prelude.{◌≡◌, ◌↔◌, true, IsErrOf};
-ghost use Rattle.bcs_registry_formats.specs.View.{shape_of};
-ghost use Rattle.bcs_registry_formats.specs.WellFormed.{Admits};
+ghost use Rattle.bcs_registry_model.specs.View.{shape_of};
+ghost use Rattle.bcs_registry_model.specs.WellFormed.{Admits};
 ghost use Rattle.bcs_tool.specs.Running.{Ends, Streams};
 ghost use Rattle.bcs_tool.specs.Scanning.{AnswersScan, RefusesScan, Scans};
 ghost use Rattle.bcs_tool_answers.specs.Preparing.{IsAskedBy};
 
 use crate::interruption::Interruption;
 use crate::put_answer::put_answer;
-use bcs_decode::{ByteSource, DecodeFault};
-use bcs_decode_source_scan::{scan_all, scan_from};
+use bcs_decode::{ByteSource, DecodeFault, scan_all, scan_from};
 use bcs_encode::ByteSink;
 use bcs_tool_answers::{Answer, Asked, counted, stopped};
-use bcs_tool_files::{Report, TakeFault, Work};
+use bcs_tool_command_line::{Report, TakeFault, Work};
 use std::alloc::Global;
 
 /// Puts how many bytes the value has that the input gives, or where they stop being one. Where they stand in the value is

@@ -5,8 +5,7 @@ ghost use Rattle.bcs_tool.specs.Endings.{Told, TellsFault, TellsReport};
 
 use bcs_encode::ByteSink;
 use bcs_io::put_all;
-use bcs_tool_files::Report;
-use bcs_tool_line::LineFault;
+use bcs_tool_command_line::{LineFault, Report};
 
 /// Tells why the words are no job, or what they ask for, and gives the status.
 pub fn tell_fault<O: ByteSink, E: ByteSink>(fault: &LineFault, out: &mut O, errors: &mut E) -> u8

@@ -1,10 +1,10 @@
 -- An answer of an equal status and equal output, and what is asked of an input.
 use Rattle.std.proofs.Common.{◌≡◌, ◌≢◌, ◌≤◌, ◌<◌, ◌⊎◌, Err, IfSome, List, Ok, Option, Some, arith, inl, inr, length, subst, sym, true, ℕ}
-use Rattle.bcs_registry_formats.specs.Container.{Entries}
-use Rattle.bcs_registry_formats.specs.Shape.{Shape}
-use Rattle.bcs_registry_formats.specs.View.{shape_of}
-use Rattle.bcs_value_tree.specs.Tree.{Tree}
-use Rattle.bcs_value_spec.specs.Limits.{Bounds}
+use Rattle.bcs_registry_model.specs.Container.{Entries}
+use Rattle.bcs_registry_model.specs.Shape.{Shape}
+use Rattle.bcs_registry_model.specs.View.{shape_of}
+use Rattle.bcs_value_model.specs.Tree.{Tree}
+use Rattle.bcs_value_model.specs.Limits.{Bounds}
 use Rattle.bcs_decode_spec.specs.Accepting.{Accepts}
 use Rattle.bcs_decode_spec.specs.Stopping.{StopsAll}
 use Rattle.bcs_decode_spec.specs.declared.stop.Stop.{Stop}
@@ -29,10 +29,10 @@ use Rattle.bcs_tool_answers.specs.declared.answer.Answer.{Answer}
 use Rattle.bcs_tool_answers.specs.declared.job_fault.JobFault.{JobFault}
 use Rattle.bcs_tool_answers.specs.declared.job_fault.JobFault.TheVariants.{BadPath, Growth, Registry}
 use Rattle.bcs_tool_answers.specs.declared.judging.Asked.{Asked}
-use Rattle.bcs_tool_files.specs.Files.{size_limit}
-use Rattle.bcs_tool_files.specs.declared.work.Work.{Work}
-use Rattle.bcs_tool_line.specs.declared.command.Command.{Command}
-use Rattle.bcs_tool_line.specs.declared.command.Command.TheVariants.{Check, Grows, Show, Example, Encode, Decode, Explain, Normalise, Same, Part, Scan}
+use Rattle.bcs_tool_command_line.specs.Files.{size_limit}
+use Rattle.bcs_tool_command_line.specs.declared.work.Work.{Work}
+use Rattle.bcs_tool_command_line.specs.declared.command.Command.{Command}
+use Rattle.bcs_tool_command_line.specs.declared.command.Command.TheVariants.{Check, Grows, Show, Example, Encode, Decode, Explain, Normalise, Same, Part, Scan}
 
 places_of : {work : Work} {input place : List ℕ} → Tells work place → Places work input place
 places_of (inl none) = nothing none

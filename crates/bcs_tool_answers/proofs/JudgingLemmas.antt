@@ -2,9 +2,9 @@
 use Rattle.std.proofs.Common.{◌≡◌, ◌≢◌, ◌∙◌, Result, IfErr, ap, sym, subst}
 use Rattle.std.specs.Result.{IsErrAnd}
 use Rattle.std.proofs.lemmas.Result.{err_from_is_err_and}
-use Rattle.bcs_registry_formats.specs.declared.fault.RegistryFault.{RegistryFault}
-use Rattle.bcs_registry_formats.specs.declared.fault.RegistryFault.TheVariants.{OutOfMemory}
-use Rattle.bcs_registry_formats.specs.declared.growth_fault.GrowthFault.{GrowthFault}
+use Rattle.bcs_registry_model.specs.declared.fault.RegistryFault.{RegistryFault}
+use Rattle.bcs_registry_model.specs.declared.fault.RegistryFault.TheVariants.{OutOfMemory}
+use Rattle.bcs_registry_model.specs.declared.growth_fault.GrowthFault.{GrowthFault}
 use Rattle.bcs_tool_answers.specs.declared.job_fault.JobFault.{JobFault}
 use Rattle.bcs_tool_answers.specs.declared.job_fault.JobFault.TheVariants.{Registry, Growth}
 

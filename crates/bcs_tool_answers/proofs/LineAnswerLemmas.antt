@@ -4,7 +4,7 @@ use Rattle.bcs_tool_answers.specs.Answers.{Answers}
 use Rattle.bcs_tool_answers.specs.LineAnswers.{AnswersAll, count_of, greatest}
 use Rattle.bcs_tool_answers.specs.LineAnswers as all
 use Rattle.bcs_tool_answers.proofs.AnswerLemmas.{status_below}
-use Rattle.bcs_tool_files.specs.declared.work.Work.{Work}
+use Rattle.bcs_tool_command_line.specs.declared.work.Work.{Work}
 
 -- the line's answer stands behind those of the lines before it
 pub answers_snoc : (work : Work) (lines : List (List ℕ)) (statuses outputs line : List ℕ) (status : ℕ) (output : List ℕ)

@@ -1,18 +1,18 @@
 -- A job has at most one answer to an input.
 use Rattle.std.proofs.Common.{◌≡◌, ◌∙◌, ◌⊎◌, ◌++◌, inl, inr, ℕ, List, codes, length, string_bytes, ap, refl, sym, subst}
-use Rattle.bcs_registry_formats.specs.Container.{Entries}
-use Rattle.bcs_registry_formats.specs.Grows.{Grows}
-use Rattle.bcs_registry_formats.specs.Ranges.{IsOrderly}
-use Rattle.bcs_registry_formats.specs.Shape.{Shape}
+use Rattle.bcs_registry_model.specs.Container.{Entries}
+use Rattle.bcs_registry_model.specs.Grows.{Grows}
+use Rattle.bcs_registry_model.specs.Ranges.{IsOrderly}
+use Rattle.bcs_registry_model.specs.Shape.{Shape}
 use Rattle.bcs_encode_spec.specs.Plain.{plain}
 use Rattle.bcs_decode_parts.specs.Parts.{Step}
-use Rattle.bcs_registry_spec.proofs.OneText.{same_registry}
-use Rattle.bcs_tool_path.specs.Path.{SpellsPath}
-use Rattle.bcs_tool_path.proofs.Parts.{one_path}
-use Rattle.bcs_tool_files.specs.declared.work.Work.{Work}
-use Rattle.bcs_tool_line.specs.declared.command.Command.{Command}
-use Rattle.bcs_tool_line.specs.declared.command.Command.TheVariants.{Check, Encode, Decode, Normalise}
-use Rattle.bcs_tool_line.specs.declared.command.Command.TheVariants as command
+use Rattle.bcs_registry.proofs.OneText.{same_registry}
+use Rattle.bcs_decode_parts.specs.Path.{SpellsPath}
+use Rattle.bcs_decode_parts.proofs.Parts.{one_path}
+use Rattle.bcs_tool_command_line.specs.declared.work.Work.{Work}
+use Rattle.bcs_tool_command_line.specs.declared.command.Command.{Command}
+use Rattle.bcs_tool_command_line.specs.declared.command.Command.TheVariants.{Check, Encode, Decode, Normalise}
+use Rattle.bcs_tool_command_line.specs.declared.command.Command.TheVariants as command
 use Rattle.bcs_tool_answers.specs.AnswerLaws.{IsExact, OneAnswer}
 use Rattle.bcs_json_spec.specs.FaultNames.{json_fault_name}
 use Rattle.bcs_tool_answers.specs.Answers.{Answers, AnswersTexts, IsAsked, Lists, count_line, line_of, lists, printed, printed_none, refusal_line, stop_line}

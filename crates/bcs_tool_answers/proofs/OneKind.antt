@@ -2,12 +2,12 @@
 use Rattle.std.proofs.Common.{◌≡◌, ◌<◌, ◌∙◌, ◌⊎◌, inl, inr, ℕ, List, Bool, true, false, Some, None, Ok, codes, length, ap, ap₂, arith, sym, subst}
 use Rattle.serde_json.specs.Data.{depth}
 use Rattle.serde_json.specs.Written.{compact_text}
-use Rattle.bcs_registry_formats.specs.Container.{Entries}
-use Rattle.bcs_registry_formats.specs.Container as container
-use Rattle.bcs_registry_formats.specs.Ranges.{IsOrderly}
-use Rattle.bcs_registry_formats.specs.Shape.{Shape}
-use Rattle.bcs_value_spec.proofs.Equivalence.{same-refl}
-use Rattle.bcs_value_tree.specs.Tree.{Tree}
+use Rattle.bcs_registry_model.specs.Container.{Entries}
+use Rattle.bcs_registry_model.specs.Container as container
+use Rattle.bcs_registry_model.specs.Ranges.{IsOrderly}
+use Rattle.bcs_registry_model.specs.Shape.{Shape}
+use Rattle.bcs_value_model.proofs.Equivalence.{same-refl}
+use Rattle.bcs_value_model.specs.Tree.{Tree}
 use Rattle.bcs_encode_spec.proofs.FormLaws.{bytes_decide_same, forms_same}
 use Rattle.bcs_encode_spec.specs.Encodes.{Encodes, IsForm}
 use Rattle.bcs_encode_spec.specs.Plain.{plain}
@@ -22,7 +22,7 @@ use Rattle.bcs_json_spec.specs.Shown.{shown}
 use Rattle.bcs_json_spec.specs.Texts.{nesting_limit}
 use Rattle.bcs_json_spec.proofs.Lowest.{shown_is_lowest}
 use Rattle.bcs_json_spec.proofs.TextLaws.{denotes_once}
-use Rattle.bcs_tool_files.specs.declared.work.Work.{Work}
+use Rattle.bcs_tool_command_line.specs.declared.work.Work.{Work}
 use Rattle.bcs_tool_answers.proofs.OnePair.{Agrees, Refused, not_both, one_refused}
 use Rattle.bcs_tool_answers.proofs.ScanAnswers.{Scans, not_scanned, one_count, one_scan_stop}
 use Rattle.bcs_tool_answers.specs.Answers.{ScanStops, count_line, line_of, printed, printed_none, refusal_line, stop_line}

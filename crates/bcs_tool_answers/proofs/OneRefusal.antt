@@ -3,21 +3,21 @@ use Rattle.std.proofs.Common.{◌≡◌, ◌∙◌, inl, inr, ℕ, List, Option,
 use Rattle.std.specs.Prelude.{is_some}
 use Rattle.std.specs.Result.{result_err}
 use Rattle.std.proofs.lemmas.Bool.{true≢false}
-use Rattle.bcs_registry_formats.specs.Container.{Entries, container_at}
-use Rattle.bcs_registry_formats.specs.Growing.{growth_fault}
-use Rattle.bcs_registry_formats.specs.Grows.{Grows, IsFirstGrowthFault}
-use Rattle.bcs_registry_formats.specs.Shape.{Shape}
-use Rattle.bcs_registry_formats.specs.declared.fault.RegistryFault.{RegistryFault}
-use Rattle.bcs_registry_formats.specs.declared.growth_fault.GrowthFault.{GrowthFault}
-use Rattle.bcs_registry_formats.proofs.FirstFaults.{fault_exactly, ok_exactly}
-use Rattle.bcs_registry_spec.specs.Faults.{IsLeastFault}
-use Rattle.bcs_registry_spec.proofs.OneFault.{one_fault, one_format_fault}
-use Rattle.bcs_registry_spec.proofs.OneText.{same_format, same_registry}
+use Rattle.bcs_registry_model.specs.Container.{Entries, container_at}
+use Rattle.bcs_registry_model.specs.Growing.{growth_fault}
+use Rattle.bcs_registry_model.specs.Grows.{Grows, IsFirstGrowthFault}
+use Rattle.bcs_registry_model.specs.Shape.{Shape}
+use Rattle.bcs_registry_model.specs.declared.fault.RegistryFault.{RegistryFault}
+use Rattle.bcs_registry_model.specs.declared.growth_fault.GrowthFault.{GrowthFault}
+use Rattle.bcs_registry_model.proofs.FirstFaults.{fault_exactly, ok_exactly}
+use Rattle.bcs_registry.specs.Faults.{IsLeastFault}
+use Rattle.bcs_registry.proofs.OneFault.{one_fault, one_format_fault}
+use Rattle.bcs_registry.proofs.OneText.{same_format, same_registry}
 use Rattle.bcs_decode_parts.specs.Parts.{Step}
-use Rattle.bcs_tool_path.specs.Path.{SpellsPath}
-use Rattle.bcs_tool_files.specs.declared.work.Work.{Work}
-use Rattle.bcs_tool_line.specs.declared.command.Command.{Command}
-use Rattle.bcs_tool_line.specs.declared.command.Command.TheVariants as command
+use Rattle.bcs_decode_parts.specs.Path.{SpellsPath}
+use Rattle.bcs_tool_command_line.specs.declared.work.Work.{Work}
+use Rattle.bcs_tool_command_line.specs.declared.command.Command.{Command}
+use Rattle.bcs_tool_command_line.specs.declared.command.Command.TheVariants as command
 use Rattle.bcs_tool_answers.specs.AnswerLaws.{IsExact}
 use Rattle.bcs_tool_answers.specs.Answers.{lists}
 use Rattle.bcs_tool_answers.specs.Judging.{IsFormat, IsPath, IsRegistry, ReadsInput, RefusesAt, RefusesCheck, RefusesEarly, RefusesFormat, RefusesFormatted, RefusesGrowth, RefusesPart, is_json_word, works_on_values}

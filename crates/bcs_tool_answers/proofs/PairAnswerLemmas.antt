@@ -6,7 +6,7 @@ use Rattle.bcs_tool_answers.specs.PairAnswers as pairs
 use Rattle.bcs_tool_answers.specs.declared.ending.Ending.{Ending}
 use Rattle.bcs_tool_answers.specs.declared.ending.Ending.TheVariants.{Together}
 use Rattle.bcs_tool_answers.proofs.AnswerLemmas.{pair_below}
-use Rattle.bcs_tool_files.specs.declared.work.Work.{Work}
+use Rattle.bcs_tool_command_line.specs.declared.work.Work.{Work}
 
 module _ (work : Work) where
   -- what is answered behind pairs stands behind their answers

@@ -1,19 +1,19 @@
 -- The answers to a part, by what `part` hands out.
 use Rattle.std.proofs.Common.{◌≡◌, ℕ, List, Option, Some, None, refl, string_bytes, sym, subst}
-use Rattle.bcs_registry_formats.specs.Container.{Entries, of}
-use Rattle.bcs_registry_formats.specs.Shape.{Shape}
-use Rattle.bcs_value_tree.specs.Tree.{Tree}
+use Rattle.bcs_registry_model.specs.Container.{Entries, of}
+use Rattle.bcs_registry_model.specs.Shape.{Shape}
+use Rattle.bcs_value_model.specs.Tree.{Tree}
 use Rattle.bcs_decode_spec.specs.Accepting.{Accepts}
 use Rattle.bcs_decode_parts.specs.Parts.{Step, Part, part_at}
 use Rattle.bcs_decode_parts.specs.Steps.{GivesPart}
 use Rattle.bcs_decode_parts.specs.declared.part.Part as handed
-use Rattle.bcs_tool_path.specs.Path.{SpellsPath}
+use Rattle.bcs_decode_parts.specs.Path.{SpellsPath}
 use Rattle.bcs_tool_answers.specs.Answers.{Answers, IsAsked, found, nowhere, printed, printed_none}
 use Rattle.bcs_tool_answers.specs.Input.{Gives}
 use Rattle.bcs_tool_answers.specs.Judging.{IsPath}
-use Rattle.bcs_tool_files.specs.declared.work.Work.{Work}
-use Rattle.bcs_tool_line.specs.declared.command.Command.{Command}
-use Rattle.bcs_tool_line.specs.declared.command.Command.TheVariants as command
+use Rattle.bcs_tool_command_line.specs.declared.work.Work.{Work}
+use Rattle.bcs_tool_command_line.specs.declared.command.Command.{Command}
+use Rattle.bcs_tool_command_line.specs.declared.command.Command.TheVariants as command
 
 -- the steps of the job's PATH, which are these too
 pub spells : (k : Command) (word : List ℕ) (path steps : List Step) → k ≡ command.Part → steps ≡ path → IsPath k word path → SpellsPath word steps

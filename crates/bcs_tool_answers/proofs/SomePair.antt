@@ -1,11 +1,11 @@
 -- Two texts have an answer.
 use Rattle.std.proofs.Common.{◌⊎◌, inl, inr, ℕ, List, Bool, true, false, bytes_eq}
 use Rattle.std.proofs.lemmas.Slice.Eq.{bytes_eq-Decides}
-use Rattle.bcs_registry_formats.specs.Container.{Entries}
-use Rattle.bcs_registry_formats.specs.Ranges.{IsOrderly}
-use Rattle.bcs_registry_formats.specs.Shape.{Shape}
-use Rattle.bcs_value_tree.specs.Tree.{Tree}
-use Rattle.bcs_value_spec.specs.Limits.{Bounds}
+use Rattle.bcs_registry_model.specs.Container.{Entries}
+use Rattle.bcs_registry_model.specs.Ranges.{IsOrderly}
+use Rattle.bcs_registry_model.specs.Shape.{Shape}
+use Rattle.bcs_value_model.specs.Tree.{Tree}
+use Rattle.bcs_value_model.specs.Limits.{Bounds}
 use Rattle.bcs_json.proofs.Outcomes.{compares}
 use Rattle.bcs_json_spec.specs.Headline.{Compares}
 use Rattle.bcs_json_spec.specs.Texts.{Denotes, RefusesText}

@@ -2,20 +2,20 @@
 use Rattle.std.proofs.Common.{◌≡◌, ◌∙◌, ◌⊎◌, inl, inr, ℕ, List, Option, Some, None, Ok, Err, Bool, true, false, refl, ap, string_bytes, sym}
 use Rattle.std.specs.Prelude.{is_some}
 use Rattle.std.proofs.lemmas.Option.{none-some}
-use Rattle.bcs_registry_formats.specs.Container.{Container, Entries, container_at}
-use Rattle.bcs_registry_formats.specs.Growing.{growth_fault}
-use Rattle.bcs_registry_formats.specs.Grows.{Grows, IsFirstGrowthFault}
-use Rattle.bcs_registry_formats.specs.Shape.{Shape, name}
-use Rattle.bcs_registry_formats.specs.declared.fault.RegistryFault.{RegistryFault}
-use Rattle.bcs_registry_formats.specs.declared.fault.RegistryFault.TheVariants.{UnknownName}
-use Rattle.bcs_registry_formats.specs.declared.growth_fault.GrowthFault.{GrowthFault}
-use Rattle.bcs_registry_formats.proofs.FirstFaults.{fault_exactly, ok_exactly}
-use Rattle.bcs_registry_spec.specs.Faults.{IsLeastFault}
-use Rattle.bcs_registry_spec.proofs.OrFault.{format_or_fault, registry_or_fault}
+use Rattle.bcs_registry_model.specs.Container.{Container, Entries, container_at}
+use Rattle.bcs_registry_model.specs.Growing.{growth_fault}
+use Rattle.bcs_registry_model.specs.Grows.{Grows, IsFirstGrowthFault}
+use Rattle.bcs_registry_model.specs.Shape.{Shape, name}
+use Rattle.bcs_registry_model.specs.declared.fault.RegistryFault.{RegistryFault}
+use Rattle.bcs_registry_model.specs.declared.fault.RegistryFault.TheVariants.{UnknownName}
+use Rattle.bcs_registry_model.specs.declared.growth_fault.GrowthFault.{GrowthFault}
+use Rattle.bcs_registry_model.proofs.FirstFaults.{fault_exactly, ok_exactly}
+use Rattle.bcs_registry.specs.Faults.{IsLeastFault}
+use Rattle.bcs_registry.proofs.OrFault.{format_or_fault, registry_or_fault}
 use Rattle.bcs_tool_answers.specs.Judging.{IsFormat, IsRegistry, NamesNone, RefusesFormat, RefusesFormatted, is_json_word}
 use Rattle.bcs_tool_answers.specs.declared.job_fault.JobFault.{JobFault}
 use Rattle.bcs_tool_answers.specs.declared.job_fault.JobFault.TheVariants.{Registry}
-use Rattle.bcs_tool_files.specs.declared.work.Work.{Work}
+use Rattle.bcs_tool_command_line.specs.declared.work.Work.{Work}
 
 -- a text is a registry, or has a fault
 pub some_registry : (text : List ℕ) → ((r : Entries) × IsRegistry text r) ⊎ ((e : RegistryFault) × IsLeastFault text e)

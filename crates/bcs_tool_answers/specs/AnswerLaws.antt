@@ -2,15 +2,15 @@
 use Rattle.std.specs.Prelude.{◌≡◌, ◌≤◌, ℕ, List, Bool, false, length}
 use Rattle.std.specs.List.{All}
 use Rattle.bcs_decode_spec.specs.Exact.{AreBytes}
-use Rattle.bcs_io_lines.specs.Lines.{lines_of}
+use Rattle.bcs_io.specs.Lines.{lines_of}
 use Rattle.bcs_tool_answers.specs.Answers.{Answers, IsWithin}
 use Rattle.bcs_tool_answers.specs.Judging.{ReadsInput}
 use Rattle.bcs_tool_answers.specs.LineAnswers.{AnswersLines}
 use Rattle.bcs_tool_answers.specs.PairAnswers.{AnswersFiles}
-use Rattle.bcs_tool_files.specs.Files.{size_limit}
-use Rattle.bcs_tool_files.specs.declared.work.Work.{Work}
-use Rattle.bcs_tool_line.specs.declared.command.Command.{Command}
-use Rattle.bcs_tool_line.specs.declared.command.Command.TheVariants as command
+use Rattle.bcs_tool_command_line.specs.Files.{size_limit}
+use Rattle.bcs_tool_command_line.specs.declared.work.Work.{Work}
+use Rattle.bcs_tool_command_line.specs.declared.command.Command.{Command}
+use Rattle.bcs_tool_command_line.specs.declared.command.Command.TheVariants as command
 
 -- the command's output is promised byte by byte: it isn't for reading, nor is a list asked for that stands before it
 abbrev pub IsExact : Command → Bool → Type 0

@@ -1,23 +1,23 @@
 -- What is judged of a job before its input is read: its registries, then the format, and then the path.
 use Rattle.std.specs.Prelude.{◌≡◌, ◌⊎◌, ◌==◌, ◌||◌, ◌&&◌, ℕ, List, [], ◌∷◌, Option, Some, None, option_map, Bool, true, false, codes, is_some, string_bytes}
-use Rattle.bcs_registry_formats.specs.Container.{Entries, container_at}
-use Rattle.bcs_registry_spec.specs.Faults.{IsLeastFault, IsLeastFormatFault}
-use Rattle.bcs_registry_formats.specs.FaultNames.{growth_fault_name, registry_fault_name}
-use Rattle.bcs_registry_formats.specs.Grows.{IsFirstGrowthFault}
-use Rattle.bcs_registry_formats.specs.Shape.{Shape, name}
-use Rattle.bcs_registry_text.specs.Text.{WritesRegistry, WritesFormat}
-use Rattle.bcs_registry_formats.specs.WellFormed.{IsWellFormed, Admits}
-use Rattle.bcs_registry_formats.specs.declared.fault.RegistryFault.{RegistryFault}
-use Rattle.bcs_registry_formats.specs.declared.fault.RegistryFault.TheVariants.{UnknownName, OutOfMemory}
+use Rattle.bcs_registry_model.specs.Container.{Entries, container_at}
+use Rattle.bcs_registry.specs.Faults.{IsLeastFault, IsLeastFormatFault}
+use Rattle.bcs_registry_model.specs.FaultNames.{growth_fault_name, registry_fault_name}
+use Rattle.bcs_registry_model.specs.Grows.{IsFirstGrowthFault}
+use Rattle.bcs_registry_model.specs.Shape.{Shape, name}
+use Rattle.bcs_registry_json.specs.Text.{WritesRegistry, WritesFormat}
+use Rattle.bcs_registry_model.specs.WellFormed.{IsWellFormed, Admits}
+use Rattle.bcs_registry_model.specs.declared.fault.RegistryFault.{RegistryFault}
+use Rattle.bcs_registry_model.specs.declared.fault.RegistryFault.TheVariants.{UnknownName, OutOfMemory}
 use Rattle.bcs_decode_parts.specs.Parts.{Step}
-use Rattle.bcs_tool_path.specs.Path.{SpellsNoPath, SpellsPath}
-use Rattle.bcs_tool_path.specs.declared.path_fault.PathFault.{PathFault}
-use Rattle.bcs_tool_path.specs.declared.path_fault.PathFault.TheVariants as path
-use Rattle.bcs_tool_line.specs.declared.command.Command.{Command}
-use Rattle.bcs_tool_line.specs.declared.command.Command.TheVariants as command
+use Rattle.bcs_decode_parts.specs.Path.{SpellsNoPath, SpellsPath}
+use Rattle.bcs_decode_parts.specs.declared.path_fault.PathFault.{PathFault}
+use Rattle.bcs_decode_parts.specs.declared.path_fault.PathFault.TheVariants as path
+use Rattle.bcs_tool_command_line.specs.declared.command.Command.{Command}
+use Rattle.bcs_tool_command_line.specs.declared.command.Command.TheVariants as command
 use Rattle.bcs_tool_answers.specs.declared.job_fault.JobFault.{JobFault}
 use Rattle.bcs_tool_answers.specs.declared.job_fault.JobFault.TheVariants as job
-use Rattle.bcs_tool_files.specs.declared.work.Work.{Work}
+use Rattle.bcs_tool_command_line.specs.declared.work.Work.{Work}
 
 -- ---- the names that are printed
 

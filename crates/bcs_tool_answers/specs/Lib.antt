@@ -6,6 +6,6 @@ pub mod PairAnswers
 pub mod AnswerLaws
 pub mod Places
 pub mod Preparing
-pub use Rattle.bcs_io_lines.specs.Lines
-pub use Rattle.bcs_tool_files.specs.Files
-pub use Rattle.bcs_tool_path.specs.Path
+pub use Rattle.bcs_io.specs.Lines
+pub use Rattle.bcs_tool_command_line.specs.Files
+pub use Rattle.bcs_decode_parts.specs.Path

@@ -1,9 +1,9 @@
 -- What the program answers to an input of which each line is an input of its own.
 use Rattle.std.specs.Prelude.{◌≡◌, ◌==◌, ◌++◌, ◌∷◌, [], ℕ, suc, List, codes, if◌then◌else◌, max}
 use Rattle.std.specs.Fmt.{decimal}
-use Rattle.bcs_io_lines.specs.Lines.{lines_of}
+use Rattle.bcs_io.specs.Lines.{lines_of}
 use Rattle.bcs_tool_answers.specs.Answers.{Answers}
-use Rattle.bcs_tool_files.specs.declared.work.Work.{Work}
+use Rattle.bcs_tool_command_line.specs.declared.work.Work.{Work}
 
 -- the answers to these lines in turn: their statuses, and their outputs joined
 pub data AnswersAll (work : Work) : List (List ℕ) → List ℕ → List ℕ → Type 0 where

@@ -1,15 +1,15 @@
 -- What the program answers to two files that are compared line by line.
 use Rattle.std.specs.Prelude.{◌≡◌, ◌++◌, ◌∷◌, [], ℕ, List, codes, length}
 use Rattle.std.specs.Fmt.{decimal}
-use Rattle.bcs_registry_formats.specs.Container.{Entries}
-use Rattle.bcs_registry_formats.specs.Shape.{Shape}
-use Rattle.bcs_io_lines.specs.Lines.{lines_of}
+use Rattle.bcs_registry_model.specs.Container.{Entries}
+use Rattle.bcs_registry_model.specs.Shape.{Shape}
+use Rattle.bcs_io.specs.Lines.{lines_of}
 use Rattle.bcs_tool_answers.specs.Answers.{AnswersTexts, line_of}
 use Rattle.bcs_tool_answers.specs.Judging.{Asks}
 use Rattle.bcs_tool_answers.specs.LineAnswers.{greatest, summary}
 use Rattle.bcs_tool_answers.specs.declared.ending.Ending.{Ending}
 use Rattle.bcs_tool_answers.specs.declared.ending.Ending.TheVariants.{Together, FirstEnds, SecondEnds}
-use Rattle.bcs_tool_files.specs.declared.work.Work.{Work}
+use Rattle.bcs_tool_command_line.specs.declared.work.Work.{Work}
 
 -- the answer of `same` to a line of the first file and the same line of the second
 abbrev pub AnswersPair : Work → List ℕ → List ℕ → ℕ → List ℕ → Type 0

@@ -1,8 +1,8 @@
 -- What the standard error may be told beside the answer to a job and its input: where a refusal stands.
 use Rattle.std.specs.Prelude.{◌≡◌, ◌⊎◌, ◌≤◌, [], ℕ, List, false, length}
 use Rattle.std.specs.List.{All}
-use Rattle.bcs_tool_files.specs.Files.{size_limit}
-use Rattle.bcs_tool_files.specs.declared.work.Work.{Work}
+use Rattle.bcs_tool_command_line.specs.Files.{size_limit}
+use Rattle.bcs_tool_command_line.specs.declared.work.Work.{Work}
 use Rattle.bcs_tool_answers.specs.Answers.{Answers}
 use Rattle.bcs_tool_answers.specs.Input.{Gives}
 use Rattle.bcs_tool_answers.specs.declared.answer.Answer.{Answer}

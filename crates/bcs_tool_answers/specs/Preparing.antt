@@ -1,9 +1,9 @@
 -- What the words of a job come to, before its input is read.
 use Rattle.std.specs.Prelude.{◌≡◌, ℕ, List, string_bytes, true}
-use Rattle.bcs_registry_formats.specs.View.{shape_of}
-use Rattle.bcs_registry_formats.specs.WellFormed.{Admits}
-use Rattle.bcs_tool_path.specs.PathSteps.{all_spelled}
-use Rattle.bcs_tool_files.specs.declared.work.Work.{Work}
+use Rattle.bcs_registry_model.specs.View.{shape_of}
+use Rattle.bcs_registry_model.specs.WellFormed.{Admits}
+use Rattle.bcs_decode_parts.specs.PathSteps.{all_spelled}
+use Rattle.bcs_tool_command_line.specs.declared.work.Work.{Work}
 use Rattle.bcs_tool_answers.specs.Judging.{Asks, IsPath, ReadsInput, works_on_values}
 use Rattle.bcs_tool_answers.specs.Places.{IsAnswer}
 use Rattle.bcs_tool_answers.specs.declared.judging.Asked.{Asked}

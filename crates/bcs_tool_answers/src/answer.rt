@@ -6,8 +6,8 @@ ghost use Rattle.bcs_tool_answers.specs.Answers.{count_line, line_of, printed, p
 ghost use Rattle.bcs_tool_answers.specs.Places.{Prints};
 
 use bcs_decode::Stop;
-use bcs_explain_columns::style::Form;
 use bcs_json::JsonFault;
+use bcs_look_text::style::Form;
 use std::alloc::{AllocError, Global};
 
 /// The program's status, and what it prints.

@@ -1,6 +1,6 @@
 //! The answers to the bytes of a value.
 ghost use Rattle.std.specs.Prelude.{◌≡◌, ◌≢◌, ◌≤◌, codes, length, IfOk};
-ghost use Rattle.bcs_tool_files.specs.Files.{size_limit};
+ghost use Rattle.bcs_tool_command_line.specs.Files.{size_limit};
 ghost use Rattle.bcs_tool_answers.specs.Answers.{TakesBytes, refusal_line};
 ghost use Rattle.bcs_tool_answers.specs.Places.{AnswersBytes, IsAnswer, Prints};
 ghost use Rattle.bcs_tool_answers.specs.Preparing.{IsAskedBy};
@@ -11,11 +11,10 @@ use crate::judging::Asked;
 use crate::scan_answers::{answer_scan, scanned};
 use crate::stop_answers::answer_stop;
 use bcs_decode::part;
+use bcs_decode_parts::steps_of;
 use bcs_json::{FromFault, from_bcs};
 use bcs_look_pieces::explain_text;
-use bcs_tool_files::Work;
-use bcs_tool_line::Command;
-use bcs_tool_path::steps_of;
+use bcs_tool_command_line::{Command, Work};
 use hex::FromHexError;
 use std::alloc::{AllocError, Global};
 

@@ -1,6 +1,6 @@
 //! An example of a format.
 ghost use Rattle.std.specs.Prelude.{◌≡◌, ℕ, List, IfOk};
-ghost use Rattle.bcs_registry_formats.specs.View.{shape_of};
+ghost use Rattle.bcs_registry_model.specs.View.{shape_of};
 ghost use Rattle.bcs_tool_answers.specs.Answers.{AsksExample};
 ghost use Rattle.bcs_tool_answers.specs.Places.{IsAnswer, Prints};
 
@@ -9,8 +9,7 @@ use crate::judging::judge_formatted;
 use crate::refusing::refused_words;
 use bcs_look_example::{ExampleForm, ExampleTextFault, WantedFault, Wish, example_text};
 use bcs_registry::{Format, Registry};
-use bcs_tool_files::Work;
-use bcs_tool_line::Command;
+use bcs_tool_command_line::{Command, Work};
 use std::alloc::{AllocError, Global};
 
 /// The text of the format's example, whatever the input.

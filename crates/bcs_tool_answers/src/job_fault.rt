@@ -1,13 +1,13 @@
 //! Why a job is refused by its words alone.
 ghost use Rattle.std.specs.Prelude.{◌≡◌, ◌≢◌, IfOk};
-ghost use Rattle.bcs_registry_formats.specs.declared.fault.RegistryFault.TheVariants.{OutOfMemory};
+ghost use Rattle.bcs_registry_model.specs.declared.fault.RegistryFault.TheVariants.{OutOfMemory};
 ghost use Rattle.bcs_tool_answers.specs.Answers.{refusal_line};
 ghost use Rattle.bcs_tool_answers.specs.Judging.{job_fault_name};
 ghost use Rattle.bcs_tool_answers.specs.Places.{Prints};
 
 use crate::answer::{Answer, refused};
+use bcs_decode_parts::PathFault;
 use bcs_registry::{GrowthFault, RegistryFault};
-use bcs_tool_path::PathFault;
 use std::alloc::{AllocError, Global};
 use thiserror::Error;
 

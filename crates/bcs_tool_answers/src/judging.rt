@@ -1,20 +1,19 @@
 //! What is judged of a job before its input is read: its registries, then the format, and then the path.
 ghost use Rattle.std.specs.Prelude.{◌≡◌, ◌≢◌, ℕ, length, string_bytes, true, Err, IfOk, IfErr, OnOk};
-ghost use Rattle.bcs_registry_formats.specs.Container.{Entries};
-ghost use Rattle.bcs_registry_formats.specs.Grows.{Grows};
-ghost use Rattle.bcs_registry_formats.specs.Shape as shape;
-ghost use Rattle.bcs_registry_formats.specs.View.{shape_of};
-ghost use Rattle.bcs_registry_formats.specs.WellFormed.{Admits};
-ghost use Rattle.bcs_registry_formats.specs.declared.fault.RegistryFault.TheVariants.{OutOfMemory};
-ghost use Rattle.bcs_tool_path.specs.Path.{SpellsNoPath};
-ghost use Rattle.bcs_tool_path.specs.PathSteps.{all_spelled};
+ghost use Rattle.bcs_registry_model.specs.Container.{Entries};
+ghost use Rattle.bcs_registry_model.specs.Grows.{Grows};
+ghost use Rattle.bcs_registry_model.specs.Shape as shape;
+ghost use Rattle.bcs_registry_model.specs.View.{shape_of};
+ghost use Rattle.bcs_registry_model.specs.WellFormed.{Admits};
+ghost use Rattle.bcs_registry_model.specs.declared.fault.RegistryFault.TheVariants.{OutOfMemory};
+ghost use Rattle.bcs_decode_parts.specs.Path.{SpellsNoPath};
+ghost use Rattle.bcs_decode_parts.specs.PathSteps.{all_spelled};
 ghost use Rattle.bcs_tool_answers.specs.Judging.{Asks, IsFormat, IsPath, IsRegistry, RefusesCheck, RefusesEarly, RefusesFormat, RefusesFormatted, RefusesGrowth, is_json_word, works_on_values};
 
 use crate::job_fault::JobFault;
+use bcs_decode_parts::{PathFault, PathStep, read_path};
 use bcs_registry::{Format, Registry, RegistryFault};
-use bcs_tool_files::Work;
-use bcs_tool_line::Command;
-use bcs_tool_path::{PathFault, PathStep, read_path};
+use bcs_tool_command_line::{Command, Work};
 use std::alloc::{AllocError, Global};
 
 /// How many containers the registry has.

@@ -6,7 +6,7 @@ use crate::answer::Answer;
 use crate::job_fault::JobFault;
 use bcs_look_registry::{difference_lines, differences};
 use bcs_registry::Registry;
-use bcs_tool_files::Work;
+use bcs_tool_command_line::Work;
 use std::alloc::{AllocError, Global};
 
 /// Whether the list stands before the refusal: that of growth alone has one, where it is asked for.

@@ -1,12 +1,12 @@
 //! The answer to two texts.
 ghost use Rattle.std.specs.Prelude.{◌≡◌, [], IfOk};
-ghost use Rattle.bcs_registry_formats.specs.View.{shape_of};
+ghost use Rattle.bcs_registry_model.specs.View.{shape_of};
 ghost use Rattle.bcs_tool_answers.specs.Answers.{AnswersTexts};
 
 use crate::answer::{Answer, refused_text, told};
 use crate::judging::Asked;
 use bcs_json::compare;
-use bcs_tool_files::Work;
+use bcs_tool_command_line::Work;
 use std::alloc::{AllocError, Global};
 
 /// Whether two texts have the same value. Where one of them is refused is not told.

@@ -10,8 +10,7 @@ use crate::judging::{Asked, judge_asked, judge_check, judge_growth};
 use crate::listing::listed;
 use crate::refusing::refused_words;
 use crate::showing::answer_show;
-use bcs_tool_files::Work;
-use bcs_tool_line::Command;
+use bcs_tool_command_line::{Command, Work};
 use std::alloc::{AllocError, Global};
 
 /// A job whose words were judged.

@@ -1,6 +1,6 @@
 //! A job whose own words are refused.
 ghost use Rattle.std.specs.Prelude.{◌≢◌, ℕ, List, IfOk};
-ghost use Rattle.bcs_registry_formats.specs.declared.fault.RegistryFault.TheVariants.{OutOfMemory};
+ghost use Rattle.bcs_registry_model.specs.declared.fault.RegistryFault.TheVariants.{OutOfMemory};
 ghost use Rattle.bcs_tool_answers.specs.Judging.{RefusesEarly};
 ghost use Rattle.bcs_tool_answers.specs.Places.{IsAnswer};
 
@@ -8,7 +8,7 @@ use crate::answer::{Answer, placed};
 use crate::job_fault::JobFault;
 use crate::listing::{has_list, listed};
 use crate::word_places::place_of_words;
-use bcs_tool_files::Work;
+use bcs_tool_command_line::Work;
 use std::alloc::{AllocError, Global};
 
 /// The answer to a job whose words are refused with this fault. Want of memory is no refusal.

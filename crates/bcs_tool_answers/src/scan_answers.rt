@@ -1,9 +1,9 @@
 //! The answers to bytes of which no text is wanted.
 ghost use Rattle.std.specs.Prelude.{◌≡◌, false, length, IfErr, IfOk};
-ghost use Rattle.bcs_registry_formats.specs.View.{shape_of};
-ghost use Rattle.bcs_value_tree.specs.Tree.{Tree};
+ghost use Rattle.bcs_registry_model.specs.View.{shape_of};
+ghost use Rattle.bcs_value_model.specs.Tree.{Tree};
 ghost use Rattle.bcs_decode_spec.specs.Accepting.{Accepts};
-ghost use Rattle.bcs_tool_line.specs.declared.command.Command.TheVariants as command;
+ghost use Rattle.bcs_tool_command_line.specs.declared.command.Command.TheVariants as command;
 ghost use Rattle.bcs_tool_answers.specs.Answers.{ScanStops};
 ghost use Rattle.bcs_tool_answers.specs.Judging.{is_unlimited};
 ghost use Rattle.bcs_tool_answers.specs.Places.{AnswersBytes};
@@ -13,8 +13,7 @@ use crate::answer::{Answer, counted};
 use crate::judging::Asked;
 use crate::stop_answers::answer_stop;
 use bcs_decode::{Reason, Stop, scan};
-use bcs_tool_files::Work;
-use bcs_tool_line::Command;
+use bcs_tool_command_line::{Command, Work};
 use std::alloc::{AllocError, Global};
 
 /// Whether the job's input may have any size, since its bytes are judged as they come.

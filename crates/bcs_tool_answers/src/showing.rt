@@ -1,17 +1,16 @@
 //! A registry for reading.
 ghost use Rattle.std.specs.Prelude.{◌≡◌, ◌≢◌, ◌↔◌, ℕ, List, IfErr, IfOk, true};
-ghost use Rattle.bcs_registry_formats.specs.declared.fault.RegistryFault.TheVariants.{OutOfMemory};
+ghost use Rattle.bcs_registry_model.specs.declared.fault.RegistryFault.TheVariants.{OutOfMemory};
 ghost use Rattle.bcs_tool_answers.specs.Judging.{IsRegistry, NamesNone, RefusesShow, name_of};
 ghost use Rattle.bcs_tool_answers.specs.Places.{IsAnswer};
 
 use crate::answer::{Answer, unplaced};
 use crate::job_fault::JobFault;
 use crate::refusing::refused_words;
-use bcs_explain_columns::style::Form;
 use bcs_look_registry::{RegistryForm, show_registry};
+use bcs_look_text::style::Form;
 use bcs_registry::{Registry, RegistryFault};
-use bcs_tool_files::Work;
-use bcs_tool_line::Command;
+use bcs_tool_command_line::{Command, Work};
 use std::alloc::{AllocError, Global};
 
 /// The registry for reading, or one of its containers with all that it stands on, whatever the input.

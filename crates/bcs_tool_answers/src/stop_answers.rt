@@ -10,7 +10,7 @@ use crate::places::place_of_line;
 use bcs_decode::Stop;
 use bcs_look_pieces::stop_place;
 use bcs_look_places::put_limit;
-use bcs_tool_files::Work;
+use bcs_tool_command_line::Work;
 use std::alloc::{AllocError, Global};
 
 /// The line for bytes that stop being a value, and the place of that.

@@ -5,7 +5,7 @@ use crate::judging::Asked;
 use crate::places::{in_text, place_of_line};
 use bcs_json::{JsonFault, read_value};
 use bcs_look_places::{place_of_text, put_text_limit, whole_line};
-use bcs_tool_files::Work;
+use bcs_tool_command_line::Work;
 use std::alloc::Global;
 
 /// Where this text is refused, which is with this fault. It is empty at a quiet job and at one for lines, and where no

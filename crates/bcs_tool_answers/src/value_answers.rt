@@ -1,6 +1,6 @@
 //! The answers to the input of a job that works on values.
 ghost use Rattle.std.specs.Prelude.{◌≡◌, ◌≤◌, length, IfOk};
-ghost use Rattle.bcs_tool_files.specs.Files.{size_limit};
+ghost use Rattle.bcs_tool_command_line.specs.Files.{size_limit};
 ghost use Rattle.bcs_tool_answers.specs.Places.{IsAnswer};
 ghost use Rattle.bcs_tool_answers.specs.Preparing.{IsAskedBy};
 
@@ -10,8 +10,7 @@ use crate::judging::Asked;
 use crate::pair_answers::answer_pair;
 use crate::text_places::{place_of_pair, place_of_refusal};
 use bcs_json::{normalise, to_bcs};
-use bcs_tool_files::Work;
-use bcs_tool_line::Command;
+use bcs_tool_command_line::{Command, Work};
 use std::alloc::{AllocError, Global};
 
 /// The answer to the input, where the job asks for this format.

@@ -4,14 +4,9 @@ ghost use Rattle.bcs_tool_answers.specs.Places.{Tells};
 use crate::job_fault::JobFault;
 use crate::judging::begins_json;
 use crate::places::{in_text, place_of_line};
-use bcs_look_places::{
-    place_of_container, place_of_format_shape, place_of_growth, place_of_name,
-    place_of_no_format_json, place_of_no_json, place_of_path, place_of_registry_shape,
-    place_of_rule, place_of_word,
-};
+use bcs_look_places::{place_of_container, place_of_format_shape, place_of_growth, place_of_name, place_of_no_format_json, place_of_no_json, place_of_path, place_of_registry_shape, place_of_rule, place_of_word};
 use bcs_registry::{Registry, RegistryFault};
-use bcs_tool_files::Work;
-use bcs_tool_line::Command;
+use bcs_tool_command_line::{Command, Work};
 use std::alloc::Global;
 
 /// Where the job's own words are refused, for this fault. It is empty at a quiet job, where the fault has no place, and

@@ -1,7 +1,8 @@
-pub use Rattle.bcs_value_tree.specs.Tree
-pub use Rattle.bcs_value_tree.specs.View
-pub use Rattle.bcs_value_spec.specs.Fits
-pub use Rattle.bcs_value_spec.specs.Same
-pub use Rattle.bcs_value_spec.specs.Limits
-pub use Rattle.bcs_value_spec.specs.Words
-pub use Rattle.bcs_value_spec.specs.Laws
+pub use Rattle.bcs_value_model.specs.Tree
+pub use Rattle.bcs_value_model.specs.View
+pub use Rattle.bcs_value_model.specs.Fits
+pub use Rattle.bcs_value_model.specs.Same
+pub use Rattle.bcs_value_model.specs.Limits
+pub use Rattle.bcs_value_model.specs.Words
+pub use Rattle.bcs_value_model.specs.Laws
+pub mod Twins

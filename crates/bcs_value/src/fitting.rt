@@ -1,13 +1,15 @@
 //! Whether a value is one of a format.
-ghost use Rattle.std.specs.Prelude.{◌≡◌, false, true};
-ghost use Rattle.bcs_registry_formats.specs.Container.{of};
-ghost use Rattle.bcs_registry_formats.specs.View.{shape_of};
-ghost use Rattle.bcs_value_spec.specs.Fits as spec;
-ghost use Rattle.bcs_value_tree.specs.View.{tree_of};
+ghost use Rattle.std.specs.Prelude.{◌≡◌, false, true, map};
+ghost use Rattle.bcs_registry_model.specs.Container.{of, content, field_shapes, payload_shape};
+ghost use Rattle.bcs_registry_model.specs.Shape.{array};
+ghost use Rattle.bcs_registry_model.specs.View.{container_of, field_of, formats_shapes, payload_of, shape_of};
+ghost use Rattle.bcs_value_model.specs.Fits as spec;
+ghost use Rattle.bcs_value_model.specs.Tree.{items as items_tree};
+ghost use Rattle.bcs_value_model.specs.View.{entries_pairs, items_trees, tree_of};
 
-use bcs_registry::{Format, Registry};
-use bcs_value_measures::fitting::fits;
-use bcs_value_tree::Value;
+use bcs_num::Width;
+use bcs_registry::{Container, Format, Named, Registry, VariantFormat};
+use bcs_value_model::Value;
 
 /// Whether the value is one of the format: each part in its place, each number in its range, and as many parts as the
 /// format says. No value is one of `F32`, `F64` or `CHAR`.
@@ -22,4 +24,159 @@ pub fn fits_loosely(registry: &Registry, format: &Format, value: &Value) -> bool
     ensures { result ≡ spec.fits true registry.now (tree_of value.now) (of (shape_of format.now)) }
 {
     fits(value, registry, format, true)
+}
+
+/// Whether the value is one of the format. Where `loose`, any value stands at `F32`, `F64` and `CHAR`.
+#[cycle(fits)]
+fn fits(value: &Value, registry: &Registry, format: &Format, loose: bool) -> bool
+    ensures { result ≡ spec.fits loose registry.now (tree_of value.now) (of (shape_of format.now)) }
+{
+    match (value, format) {
+        (_, Format::F32 | Format::F64 | Format::Char) => loose,
+        (Value::Unit, Format::Unit) => true,
+        (Value::Bool(_), Format::Bool) => true,
+        (Value::Signed(number), Format::I8) => Width::W1.holds_signed(*number),
+        (Value::Signed(number), Format::I16) => Width::W2.holds_signed(*number),
+        (Value::Signed(number), Format::I32) => Width::W4.holds_signed(*number),
+        (Value::Signed(number), Format::I64) => Width::W8.holds_signed(*number),
+        (Value::Signed(number), Format::I128) => Width::W16.holds_signed(*number),
+        (Value::Unsigned(number), Format::U8) => Width::W1.holds_unsigned(*number),
+        (Value::Unsigned(number), Format::U16) => Width::W2.holds_unsigned(*number),
+        (Value::Unsigned(number), Format::U32) => Width::W4.holds_unsigned(*number),
+        (Value::Unsigned(number), Format::U64) => Width::W8.holds_unsigned(*number),
+        (Value::Unsigned(number), Format::U128) => Width::W16.holds_unsigned(*number),
+        (Value::Text(_), Format::Str) => true,
+        (Value::Bytes(bytes), Format::Bytes) => are_bytes(bytes),
+        (Value::Absent, Format::Opt(_)) => true,
+        (Value::Present(inner), Format::Opt(content)) => fits(inner, registry, content, loose),
+        (Value::Items(items), Format::Seq(element)) => all_fit(items, registry, element, loose),
+        (Value::Items(items), Format::Tuple(formats)) => each_fits(items, registry, formats, loose),
+        (Value::Items(items), Format::TupleArray(element, size)) => array_fits(
+            items, registry, element, *size, loose,
+        ),
+        (Value::Pairs(pairs), Format::Map(key, value)) => pairs_fit(
+            pairs, registry, key, value, loose,
+        ),
+        (Value::Named(inner), Format::TypeName(name)) => match registry.container(name.as_str()) {
+            Some(container) => fills(inner, registry, container, loose),
+            None => false,
+        },
+        _ => false,
+    }
+}
+
+/// Whether these are bytes, as each `u8` is one.
+fn are_bytes(bytes: &[u8]) -> bool
+    ensures { result ≡ spec.are_bytes bytes.now }
+{
+    true
+}
+
+#[cycle(fits)]
+fn fills(value: &Value, registry: &Registry, container: &Container, loose: bool) -> bool
+    ensures { result ≡ spec.fits loose registry.now (tree_of value.now) (content (container_of container.now)) }
+{
+    match (container, value) {
+        (Container::UnitStruct, Value::Unit) => true,
+        (Container::NewTypeStruct(format), _) => fits(value, registry, format, loose),
+        (Container::TupleStruct(formats), Value::Items(items)) => each_fits(
+            items, registry, formats, loose,
+        ),
+        (Container::Struct(fields), Value::Items(items)) => fields_fit(
+            items, registry, fields, loose,
+        ),
+        (Container::Enum(variants), Value::Variant(number, inner)) => {
+            let number = *number;
+            match variants.get(&number) {
+                Some(variant) => pays(inner, registry, &variant.value, loose),
+                None => false,
+            }
+        }
+        _ => false,
+    }
+}
+
+#[cycle(fits)]
+fn pays(value: &Value, registry: &Registry, payload: &VariantFormat, loose: bool) -> bool
+    ensures { result ≡ spec.fits loose registry.now (tree_of value.now) (of (payload_shape (payload_of payload.now))) }
+{
+    match (payload, value) {
+        (VariantFormat::Unit, Value::Unit) => true,
+        (VariantFormat::NewType(format), _) => fits(value, registry, format, loose),
+        (VariantFormat::Tuple(formats), Value::Items(items)) => each_fits(
+            items, registry, formats, loose,
+        ),
+        (VariantFormat::Struct(fields), Value::Items(items)) => fields_fit(
+            items, registry, fields, loose,
+        ),
+        _ => false,
+    }
+}
+
+#[cycle(fits)]
+fn all_fit(items: &[Value], registry: &Registry, format: &Format, loose: bool) -> bool
+    ensures { result ≡ spec.all_fit loose registry.now (items_trees items.now) (shape_of format.now) }
+{
+    for item in items {
+        if !fits(item, registry, format, loose) {
+            return false;
+        }
+    }
+    true
+}
+
+#[cycle(fits)]
+#[tactic(auto, using(bcs_value_model::proofs::FitsByViews::count_items))]
+fn array_fits(items: &[Value], registry: &Registry, format: &Format, size: u64, loose: bool) -> bool
+    ensures { result ≡ spec.fits loose registry.now (items_tree (items_trees items.now)) (of (array (shape_of format.now) size)) }
+{
+    items.len() as u64 == size && all_fit(items, registry, format, loose)
+}
+
+#[cycle(fits)]
+fn each_fits(items: &[Value], registry: &Registry, formats: &[Format], loose: bool) -> bool
+    ensures { result ≡ spec.each_fits loose registry.now (items_trees items.now) (formats_shapes formats.now) }
+{
+    if items.len() != formats.len() {
+        return false;
+    }
+    for (i, item) in items.iter().enumerate() {
+        if !fits(item, registry, &formats[i], loose) {
+            return false;
+        }
+    }
+    true
+}
+
+#[cycle(fits)]
+fn fields_fit(items: &[Value], registry: &Registry, fields: &[Named<Format>], loose: bool) -> bool
+    ensures { result ≡ spec.each_fits loose registry.now (items_trees items.now) (field_shapes (map field_of fields.now)) }
+{
+    if items.len() != fields.len() {
+        return false;
+    }
+    for (i, item) in items.iter().enumerate() {
+        if !fits(item, registry, &fields[i].value, loose) {
+            return false;
+        }
+    }
+    true
+}
+
+#[cycle(fits)]
+fn pairs_fit(
+    pairs: &[(Value, Value)],
+    registry: &Registry,
+    key: &Format,
+    value: &Format,
+    loose: bool,
+) -> bool
+    ensures { result ≡ spec.pairs_fit loose registry.now (entries_pairs pairs.now) (shape_of key.now) (shape_of value.now) }
+{
+    for (k, v) in pairs {
+        if !(fits(k, registry, key, loose) && fits(v, registry, value, loose)) {
+            return false;
+        }
+    }
+    true
 }

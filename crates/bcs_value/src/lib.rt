@@ -7,8 +7,7 @@ mod limits;
 mod nesting;
 mod sameness;
 
-pub use bcs_value_spec::laws;
-pub use bcs_value_tree::{Value, slot};
+pub use bcs_value_model::{Value, laws, slot};
 pub use counting::nodes;
 pub use fitting::{fits_loosely, has_format};
 pub use limits::Limits;

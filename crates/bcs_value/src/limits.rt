@@ -15,7 +15,7 @@ pub struct Limits {
 
 impl Model for Limits {
     ghost use Rattle.std.specs.Prelude.{◌≤◌};
-    ghost use Rattle.bcs_value_spec.specs.Limits.{Bounds};
+    ghost use Rattle.bcs_value_model.specs.Limits.{Bounds};
 
     ghost Value = { Bounds };
 

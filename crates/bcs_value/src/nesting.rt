@@ -1,14 +1,48 @@
-//! How deep a value is.
+//! How deep containers stand in one another.
 ghost use Rattle.std.specs.Prelude.{◌≡◌, min};
-ghost use Rattle.bcs_value_tree.specs.Tree as spec;
-ghost use Rattle.bcs_value_tree.specs.View.{tree_of};
+ghost use Rattle.bcs_value_model.specs.Tree as spec;
+ghost use Rattle.bcs_value_model.specs.View.{entries_pairs, items_trees, tree_of};
 
-use bcs_value_measures::nesting;
-use bcs_value_tree::Value;
+use bcs_value_model::Value;
 
 /// The greatest number of `Named` on one way down, or 18446744073709551615 where it is greater.
+#[cycle(depth)]
 pub fn depth(value: &Value) -> u64
     ensures { result ≡ min (spec.depth (tree_of value.now)) 18446744073709551615 }
 {
-    nesting::depth(value)
+    match value {
+        Value::Present(inner) | Value::Variant(_, inner) => depth(inner),
+        Value::Named(inner) => depth(inner).saturating_add(1),
+        Value::Items(items) => items_depth(items),
+        Value::Pairs(pairs) => pairs_depth(pairs),
+        Value::Unit
+        | Value::Bool(_)
+        | Value::Unsigned(_)
+        | Value::Signed(_)
+        | Value::Text(_)
+        | Value::Bytes(_)
+        | Value::Absent => 0,
+    }
+}
+
+#[cycle(depth)]
+fn items_depth(items: &[Value]) -> u64
+    ensures { result ≡ min (spec.trees_depth (items_trees items.now)) 18446744073709551615 }
+{
+    let mut greatest = 0;
+    for item in items {
+        greatest = depth(item).max(greatest);
+    }
+    greatest
+}
+
+#[cycle(depth)]
+fn pairs_depth(pairs: &[(Value, Value)]) -> u64
+    ensures { result ≡ min (spec.pairs_depth (entries_pairs pairs.now)) 18446744073709551615 }
+{
+    let mut greatest = 0;
+    for (key, value) in pairs {
+        greatest = depth(key).max(depth(value)).max(greatest);
+    }
+    greatest
 }

@@ -1,8 +1,7 @@
 //! The deepest values that there are: 500 containers, in each a variant, a row of fields and 32 levels of a format.
 use crate::building::{items, map, named, present, variant};
 use bcs_decode::pieces::PieceSource;
-use bcs_decode::{decode_all, decode_from, decode_slice, scan};
-use bcs_decode_source_scan::scan_from;
+use bcs_decode::{decode_all, decode_from, decode_slice, scan, scan_from};
 use bcs_encode::{canonicalise, encode, encode_by_entries};
 use bcs_registry::{Format, Registry, RegistryFault};
 use bcs_value::{Limits, Value, depth, has_format, nodes};

@@ -1,6 +1,6 @@
 //! The lines of sources.
 use bcs_io::pieces::{PieceSource, RepeatSource};
-use bcs_io_lines::{LineBuffer, NextFault};
+use bcs_io::{LineBuffer, NextFault};
 use std::alloc::AllocGlobal;
 use std::process::Abort;
 use std::test::Fail;

@@ -1,7 +1,6 @@
 //! Values of sources that are judged, in pieces.
 use bcs_decode::pieces::{PieceSource, RepeatSource};
-use bcs_decode::{ByteSource, DecodeFault, Reason, Stop};
-use bcs_decode_source_scan::{scan_all, scan_from};
+use bcs_decode::{ByteSource, DecodeFault, Reason, Stop, scan_all, scan_from};
 use bcs_registry::{Format, Registry};
 use bcs_value::Limits;
 use std::alloc::{AllocError, AllocGlobal, Global};

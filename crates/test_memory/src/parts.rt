@@ -6,8 +6,8 @@ use crate::row::Row;
 use crate::tally::Tally;
 use crate::told::{Told, bytes_of, made};
 use bcs_decode::{Step, part};
+use bcs_decode_parts::{PathStep, read_path, steps_of};
 use bcs_tool::{Command, Work};
-use bcs_tool_path::{PathStep, read_path, steps_of};
 use std::alloc::{AllocError, Global};
 
 /// Does the job at a row's digits and its path.

@@ -5,7 +5,7 @@ use crate::row_fault::RowFault;
 use crate::setting::Setting;
 use crate::words::{bytes, word_of};
 use bcs_decode::{Part, Stop, part};
-use bcs_tool_path::{PathStep, read_path, steps_of};
+use bcs_decode_parts::{PathStep, read_path, steps_of};
 use std::alloc::Global;
 
 pub(crate) fn answer(alloc: Global, setting: &Setting, words: &[&str]) -> Result<String, RowFault> {

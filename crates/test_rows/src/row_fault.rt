@@ -1,7 +1,7 @@
 //! Why a row has no answer.
 
+use bcs_decode_parts::PathFault;
 use bcs_registry::RegistryFault;
-use bcs_tool_path::PathFault;
 use hex::FromHexError;
 use std::alloc::{AllocError, AllocFailed};
 use thiserror::Error;

@@ -3,12 +3,10 @@
 use crate::row_fault::RowFault;
 use crate::setting::Setting;
 use crate::words::bytes;
-use bcs_look_registry::{
-    RegistryForm, Selection, Sizes, put_format, registry_lines, show_registry, standing,
-};
+use bcs_look_registry::{RegistryForm, Selection, Sizes, put_format, registry_lines, show_registry, standing};
 use bcs_registry::Registry;
-use bcs_registry_text::format_text::format_from;
-use bcs_registry_text::json_text::registry_json;
+use bcs_registry_json::format_text::format_from;
+use bcs_registry_json::json_text::registry_json;
 use std::alloc::Global;
 use std::collections::BTreeMap;
 

@@ -4,18 +4,18 @@ use Rattle.std.proofs.lemmas.List.{drop_more, drop_all, nil_from_length}
 use Rattle.std.proofs.lemmas.Result.{err_from_is_err_and}
 use Rattle.serde_json.specs.Find.{get_member}
 use Rattle.serde_json.specs.View.{view, items_view, members_view}
-use Rattle.bcs_registry_formats.specs.Container.{Choice, field_shapes, payload_shape, choice_called}
-use Rattle.bcs_registry_formats.specs.View.{shape_of, formats_shapes, field_of, payload_of, choice_of}
-use Rattle.bcs_registry_formats.specs.WellFormed.{levels, shapes_levels}
-use Rattle.bcs_value_tree.specs.View.{tree_of, items_trees}
-use Rattle.bcs_value_tree.specs.declared.value.Value.{Value}
+use Rattle.bcs_registry_model.specs.Container.{Choice, field_shapes, payload_shape, choice_called}
+use Rattle.bcs_registry_model.specs.View.{shape_of, formats_shapes, field_of, payload_of, choice_of}
+use Rattle.bcs_registry_model.specs.WellFormed.{levels, shapes_levels}
+use Rattle.bcs_value_model.specs.View.{tree_of, items_trees}
+use Rattle.bcs_value_model.specs.declared.value.Value.{Value}
 use Rattle.bcs_json_spec.specs.Bytes.{is_byte}
 use Rattle.bcs_json_spec.specs.JsonContent.{of}
 use Rattle.bcs_json_spec.specs.Look.{without}
 use Rattle.bcs_json_spec.specs.Place.{value, parts, item_parts, field_parts}
 use Rattle.bcs_json_spec.specs.Reading.{follow, read_data, read_all, read_each, read_pairs, read_fields, read_named, read_tuple}
-use Rattle.bcs_json_reader_steps.specs.Kinds.{option_json, list_json, enum_json}
-use Rattle.bcs_json_reader_steps.proofs.Joined.{joined}
+use Rattle.bcs_json_reader.specs.Kinds.{option_json, list_json, enum_json}
+use Rattle.bcs_json_reader.proofs.Joined.{joined}
 use Rattle.bcs_json_reader.proofs.Counts.{count_formats, items_read, items_fault, tuple_refused, tuple_row, tuple_items, array_other, array_row, array_other_none, array_items}
 use Rattle.bcs_json_reader.proofs.FieldRows.{field_more, fields_done}
 use Rattle.bcs_json_reader.proofs.Formats.{tells_as, option_shape, seq_shape, array_shape, map_shape, levels_here, field_levels_here}

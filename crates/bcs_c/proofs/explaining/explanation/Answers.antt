@@ -1,5 +1,5 @@
 use Rattle.std.proofs.Common.{List, subst, ℕ}
-use Rattle.bcs_registry_formats.specs.View.{shape_of}
+use Rattle.bcs_registry_model.specs.View.{shape_of}
 use Rattle.bcs_c.specs.Asking.{given, refused}
 use Rattle.bcs_c.specs.Explained.{no_memory, put}
 use Rattle.bcs_c.specs.Output.{Puts}

@@ -1,6 +1,6 @@
 use Rattle.std.proofs.Common.{ap}
-use Rattle.bcs_handle.specs.declared.handle.Handle.{Handle}
-use Rattle.bcs_registry_spec.specs.Faults.{IsLeastFault}
+use Rattle.bcs_c.specs.declared.handle.Handle.{Handle}
+use Rattle.bcs_registry.specs.Faults.{IsLeastFault}
 use Rattle.bcs_c.specs.Opened.{opened, refused}
 use Rattle.bcs_c.specs.declared.status.Status.TheVariants.{Registry}
 use Rattle.bcs_c.proofs.Once.{registry_stands}

@@ -1,6 +1,6 @@
 use Rattle.std.proofs.Common.{Option, map, subst}
-use Rattle.bcs_registry_formats.specs.Container.{of}
-use Rattle.bcs_registry_formats.specs.View.{shape_of}
+use Rattle.bcs_registry_model.specs.Container.{of}
+use Rattle.bcs_registry_model.specs.View.{shape_of}
 use Rattle.bcs_decode_parts.specs.Parts.{part_at}
 use Rattle.bcs_decode_parts.specs.Steps.{GivesPart, step_of}
 use Rattle.bcs_decode_parts.specs.declared.part.Part.{Part}

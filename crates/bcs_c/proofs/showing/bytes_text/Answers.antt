@@ -1,5 +1,5 @@
 use Rattle.std.proofs.Common.{Err, List, string_bytes, subst, ℕ}
-use Rattle.bcs_registry_formats.specs.View.{shape_of}
+use Rattle.bcs_registry_model.specs.View.{shape_of}
 use Rattle.bcs_json.specs.Showing.{Shows}
 use Rattle.bcs_json.specs.declared.from_fault.FromFault.{FromFault}
 use Rattle.bcs_c.specs.Asking.{given, refused}

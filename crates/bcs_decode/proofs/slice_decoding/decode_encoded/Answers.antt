@@ -1,7 +1,7 @@
 use Rattle.std.proofs.Common.{ℕ, List, Some, Ok, Err, subst, arith}
 use Rattle.std.proofs.lemmas.List.{get_or_default}
-use Rattle.bcs_registry_formats.specs.View.{shape_of}
-use Rattle.bcs_value_tree.specs.declared.value.Value.{Value}
+use Rattle.bcs_registry_model.specs.View.{shape_of}
+use Rattle.bcs_value_model.specs.declared.value.Value.{Value}
 use Rattle.bcs_decode_spec.specs.Exact.{AreBytes}
 use Rattle.bcs_decode_spec.specs.declared.decode_fault.DecodeFault.{DecodeFault}
 use Rattle.bcs_decode.specs.Whole.{DecodesFrom, DecodesFront}

@@ -1,6 +1,6 @@
 use Rattle.std.proofs.Common.{ℕ, List, Some, Err, ap, subst, arith, rules}
 use Rattle.std.proofs.lemmas.List.{get_or_default}
-use Rattle.bcs_registry_formats.specs.View.{shape_of}
+use Rattle.bcs_registry_model.specs.View.{shape_of}
 use Rattle.bcs_decode_spec.specs.Exact.{AreBytes}
 use Rattle.bcs_decode.specs.Whole.{DecodesFrom}
 use Rattle.bcs_decode.proofs.Slices.{refused_slice}

@@ -1,5 +1,5 @@
 use Rattle.std.proofs.Common.{drop, refl, rules}
-use Rattle.bcs_registry_formats.specs.View.{shape_of}
+use Rattle.bcs_registry_model.specs.View.{shape_of}
 use Rattle.bcs_decode_parts.specs.declared.ahead.Ahead.{Ahead}
 use Rattle.bcs_decode_parts.proofs.Skips.{accepted_stands}
 use Rattle.bcs_decode.proofs.slice_parts.part.Goals as goal

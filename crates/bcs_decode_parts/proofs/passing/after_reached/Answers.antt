@@ -1,6 +1,6 @@
 use Rattle.std.proofs.Common.{ap, subst, map}
-use Rattle.bcs_registry_formats.specs.Container.{Content, payload_shape}
-use Rattle.bcs_registry_formats.specs.View.{choice_of, payload_of}
+use Rattle.bcs_registry_model.specs.Container.{Content, payload_shape}
+use Rattle.bcs_registry_model.specs.View.{choice_of, payload_of}
 use Rattle.bcs_decode_parts.specs.Fronts.{Fronts}
 use Rattle.bcs_decode_parts.specs.Here.{content_of}
 use Rattle.bcs_decode_parts.proofs.HolderSteps.{variant_stands}

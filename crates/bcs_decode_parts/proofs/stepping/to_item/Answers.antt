@@ -1,7 +1,7 @@
 use Rattle.std.proofs.Common.{inl, inr, map, None}
-use Rattle.bcs_registry_formats.specs.Shape.{map as map_shape, name as name_shape, option as option_shape}
-use Rattle.bcs_registry_formats.specs.Container.{of, one_of}
-use Rattle.bcs_registry_formats.specs.View.{shape_of, choice_of}
+use Rattle.bcs_registry_model.specs.Shape.{map as map_shape, name as name_shape, option as option_shape}
+use Rattle.bcs_registry_model.specs.Container.{of, one_of}
+use Rattle.bcs_registry_model.specs.View.{shape_of, choice_of}
 use Rattle.bcs_decode_parts.specs.declared.inside.Inside.TheVariants as inside
 use Rattle.bcs_decode_parts.specs.Here.{content_of}
 use Rattle.bcs_decode_parts.proofs.Nowhere.{opens_as}

@@ -1,6 +1,6 @@
 use Rattle.std.proofs.Common.{subst, sym, Decides, ◌≡◌}
 use Rattle.std.proofs.lemmas.Slice.Eq.{bytes_eq-Decides}
-use Rattle.bcs_registry_formats.specs.View.{shape_of}
+use Rattle.bcs_registry_model.specs.View.{shape_of}
 use Rattle.bcs_json.proofs.Outcomes.{compares}
 use Rattle.bcs_json.proofs.comparing.compare.Goals as goal
 

@@ -1,7 +1,7 @@
 use Rattle.std.proofs.Common.{◌≢◌, map, sym, subst, rules}
 use Rattle.serde_json.specs.View.{view}
-use Rattle.bcs_registry_formats.specs.View.{shape_of}
-use Rattle.bcs_value_tree.specs.View.{tree_of}
+use Rattle.bcs_registry_model.specs.View.{shape_of}
+use Rattle.bcs_value_model.specs.View.{tree_of}
 use Rattle.bcs_json_spec.specs.JsonContent.{of}
 use Rattle.bcs_json_spec.specs.Place.{step_of, value, parts}
 use Rattle.bcs_json_spec.specs.Reading.{Tells, read_data}
@@ -9,7 +9,7 @@ use Rattle.bcs_json_spec.specs.Texts.{IsReadAs, MisspellsAt}
 use Rattle.bcs_json_spec.specs.declared.json_fault.JsonFault.TheVariants.{OutOfMemory}
 use Rattle.bcs_json_spec.proofs.OneAnswer.{misspelled}
 use Rattle.bcs_json_spec.proofs.WalkFaults.{walk_fault}
-use Rattle.bcs_json_reader_steps.specs.Refused.{fault_alone, IsPlaced}
+use Rattle.bcs_json_reader.specs.Refused.{fault_alone, IsPlaced}
 use Rattle.bcs_json.proofs.Outcomes.{told_place, was_ok, was_err}
 use Rattle.bcs_json.proofs.placing.fault_place.Goals as goal
 

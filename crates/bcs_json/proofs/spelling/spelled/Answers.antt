@@ -1,9 +1,9 @@
 use Rattle.std.proofs.Common.{Ok, Err, subst}
 use Rattle.std.proofs.lemmas.Result.{err_from_is_err_and}
 use Rattle.serde_json.specs.View.{view}
-use Rattle.bcs_registry_formats.specs.View.{shape_of}
-use Rattle.bcs_value_tree.specs.View.{tree_of}
-use Rattle.bcs_value_tree.specs.declared.value.Value.{Value}
+use Rattle.bcs_registry_model.specs.View.{shape_of}
+use Rattle.bcs_value_model.specs.View.{tree_of}
+use Rattle.bcs_value_model.specs.declared.value.Value.{Value}
 use Rattle.bcs_json_spec.specs.JsonContent.{of}
 use Rattle.bcs_json_spec.specs.Reading.{Tells, read_data}
 use Rattle.bcs_json.proofs.Outcomes.{told_value, told_fault}

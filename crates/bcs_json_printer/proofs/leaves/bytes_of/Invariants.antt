@@ -1,6 +1,6 @@
 use Rattle.std.proofs.Common.{◌≡◌, ◌++◌, true, drop}
-use Rattle.bcs_value_tree.specs.View.{items_trees}
-use Rattle.bcs_value_spec.specs.Fits.{are_bytes}
+use Rattle.bcs_value_model.specs.View.{items_trees}
+use Rattle.bcs_value_model.specs.Fits.{are_bytes}
 use Rattle.bcs_json_spec.specs.Bytes.{trees_bytes}
 use Rattle.bcs_json_printer.proofs.leaves.bytes_of.Given as goal
 

@@ -2,10 +2,10 @@ use Rattle.std.proofs.Common.{◌∙◌, nat_le, map, Some, sym, ap, arith, rule
 use Rattle.std.proofs.lemmas.Grind.{common_steps}
 use Rattle.std.specs.List.{list_all}
 use Rattle.serde_json.specs.Data.{depth}
-use Rattle.bcs_registry_formats.specs.View.{container_of, choice_of}
-use Rattle.bcs_registry_formats.specs.WellFormed.{are_distinct, container_names}
-use Rattle.bcs_value_tree.specs.View.{tree_of}
-use Rattle.bcs_value_tree.specs.declared.value.Value.{the_lemmas}
+use Rattle.bcs_registry_model.specs.View.{container_of, choice_of}
+use Rattle.bcs_registry_model.specs.WellFormed.{are_distinct, container_names}
+use Rattle.bcs_value_model.specs.View.{tree_of}
+use Rattle.bcs_value_model.specs.declared.value.Value.{the_lemmas}
 use Rattle.bcs_json_spec.specs.JsonContent.{json_content, of}
 use Rattle.bcs_json_spec.specs.Shown.{shown, shown_choice}
 use Rattle.bcs_json_printer.proofs.ShownViews.{at_map, at_enum, at_struct, choice_named, choice-found, choice-missing}

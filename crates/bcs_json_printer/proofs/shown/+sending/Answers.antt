@@ -6,14 +6,14 @@ use Rattle.serde.specs.Event.{Logs, field_key, map_begins, seq_begins}
 use Rattle.serde.specs.declared.name.Case.TheVariants.{AsIs}
 use Rattle.serde_json.specs.Data.{array, null, object}
 use Rattle.serde_json.specs.Events.{SendsItems, SendsMembers, SendsValue}
-use Rattle.bcs_registry_formats.specs.Container.{content, payload_shape, of as at_format}
-use Rattle.bcs_registry_formats.specs.View.{container_of, formats_shapes, payload_of, shape_of}
-use Rattle.bcs_registry_formats.specs.declared.format.Format.{Format}
-use Rattle.bcs_registry_formats.specs.declared.named.Named.{Named}
-use Rattle.bcs_value_spec.specs.Fits.{all_fit, fits}
-use Rattle.bcs_value_tree.specs.Tree.{nodes}
-use Rattle.bcs_value_tree.specs.View.{entries_pairs, items_trees, tree_of}
-use Rattle.bcs_value_tree.specs.declared.value.Value.{Value}
+use Rattle.bcs_registry_model.specs.Container.{content, payload_shape, of as at_format}
+use Rattle.bcs_registry_model.specs.View.{container_of, formats_shapes, payload_of, shape_of}
+use Rattle.bcs_registry_model.specs.declared.format.Format.{Format}
+use Rattle.bcs_registry_model.specs.declared.named.Named.{Named}
+use Rattle.bcs_value_model.specs.Fits.{all_fit, fits}
+use Rattle.bcs_value_model.specs.Tree.{nodes}
+use Rattle.bcs_value_model.specs.View.{entries_pairs, items_trees, tree_of}
+use Rattle.bcs_value_model.specs.declared.value.Value.{Value}
 use Rattle.bcs_json_spec.specs.JsonContent.{json_content, of}
 use Rattle.bcs_json_spec.specs.Shown.{shown, shown_all, shown_choice, shown_each, shown_pairs}
 use Rattle.bcs_json_printer.specs.Places.{placed}

@@ -3,10 +3,10 @@ use Rattle.std.specs.List.{All}
 use Rattle.std.specs.Map.{values_of}
 use Rattle.serde.specs.Event.{Log}
 use Rattle.serde_json.specs.Events.{SendsItems, SendsMembers}
-use Rattle.bcs_registry_formats.specs.View.{formats_shapes, shape_of}
-use Rattle.bcs_value_spec.specs.Fits.{all_fit, each_fits, pairs_fit}
-use Rattle.bcs_value_tree.specs.Tree.{nodes, pairs_nodes, trees_nodes}
-use Rattle.bcs_value_tree.specs.View.{entries_pairs, items_trees, tree_of}
+use Rattle.bcs_registry_model.specs.View.{formats_shapes, shape_of}
+use Rattle.bcs_value_model.specs.Fits.{all_fit, each_fits, pairs_fit}
+use Rattle.bcs_value_model.specs.Tree.{nodes, pairs_nodes, trees_nodes}
+use Rattle.bcs_value_model.specs.View.{entries_pairs, items_trees, tree_of}
 use Rattle.bcs_json_spec.specs.Shown.{shown_all, shown_each, shown_pairs}
 use Rattle.bcs_json_printer.specs.Places.{placed}
 use Rattle.bcs_json_printer.proofs.Places.{shown_at}

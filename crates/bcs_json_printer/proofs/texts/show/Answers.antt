@@ -4,8 +4,8 @@ use Rattle.std.proofs.lemmas.Str.{IsUtf8-string_bytes}
 use Rattle.serde_json.specs.Data.{depth}
 use Rattle.serde_json.specs.Read.{max_depth, read}
 use Rattle.serde_json.specs.Written.{compact_text}
-use Rattle.bcs_registry_formats.specs.View.{shape_of}
-use Rattle.bcs_value_tree.specs.View.{tree_of}
+use Rattle.bcs_registry_model.specs.View.{shape_of}
+use Rattle.bcs_value_model.specs.View.{tree_of}
 use Rattle.bcs_json_spec.specs.JsonContent.{of}
 use Rattle.bcs_json_spec.specs.Shown.{shown}
 use Rattle.bcs_json_spec.specs.Texts.{IsReadAs}

@@ -3,12 +3,12 @@ use Rattle.std.specs.Vec.Iter.{into_iter_items}
 use Rattle.std.proofs.lemmas.List.{nil_from_length}
 use Rattle.std.proofs.lemmas.Result.{err_from_is_err_and}
 use Rattle.serde_json.specs.View.{items_view}
-use Rattle.bcs_registry_formats.specs.Whole.{whole_shape}
-use Rattle.bcs_value_tree.specs.View.{tree_of}
-use Rattle.bcs_value_tree.specs.declared.value.Value.{Value}
+use Rattle.bcs_registry_model.specs.Whole.{whole_shape}
+use Rattle.bcs_value_model.specs.View.{tree_of}
+use Rattle.bcs_value_model.specs.declared.value.Value.{Value}
 use Rattle.bcs_json_spec.specs.JsonContent.{of}
 use Rattle.bcs_json_spec.specs.Reading.{follow, read_data, read_all}
-use Rattle.bcs_json_reader_steps.proofs.Joined.{joined}
+use Rattle.bcs_json_reader.proofs.Joined.{joined}
 use Rattle.bcs_json_reader.proofs.Placed.{told_ok, told_err, placed_on}
 use Rattle.bcs_json_reader.proofs.PlacedRows.{found_more, outside_at, item_placed, item_onward}
 use Rattle.bcs_json_reader.proofs.Rows.{item_more, item_fault, items_done}

@@ -1,6 +1,6 @@
 use Rattle.std.proofs.Common.{string_bytes}
-use Rattle.bcs_registry_formats.specs.View.{shape_of}
-use Rattle.bcs_value_tree.specs.View.{tree_of}
+use Rattle.bcs_registry_model.specs.View.{shape_of}
+use Rattle.bcs_value_model.specs.View.{tree_of}
 use Rattle.bcs_json_spec.proofs.Printed.{shown_denotes}
 use Rattle.bcs_look_example.proofs.text.example_text.Goals as goal
 

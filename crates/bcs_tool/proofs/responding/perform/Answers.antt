@@ -2,8 +2,8 @@ use Rattle.std.proofs.Common.{◌≡◌, ◌∙◌, List, Option, ap, refl, subs
 use Rattle.std.specs.Prelude.{String, string_bytes}
 use Rattle.std.specs.declared.alloc.Global.{Global}
 use Rattle.bcs_tool_answers.proofs.AnswerLemmas.{if_some_holds}
-use Rattle.bcs_tool_files.specs.FaultPlaces.{TellsPlace, file_place}
-use Rattle.bcs_tool_files.specs.Files.{ComparesLines, file_note}
+use Rattle.bcs_tool_command_line.specs.FaultPlaces.{TellsPlace, file_place}
+use Rattle.bcs_tool_command_line.specs.Files.{ComparesLines, file_note}
 use Rattle.bcs_tool.specs.Endings.{PerformsOne, PerformsPairs, lacks_file, over_one, over_pairs}
 use Rattle.bcs_tool.proofs.responding.perform.Goals as goal
 

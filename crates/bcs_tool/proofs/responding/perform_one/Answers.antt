@@ -1,6 +1,6 @@
 use Rattle.std.proofs.Common.{List, refl, subst, ℕ}
 use Rattle.bcs_io.specs.ReadSource.{allowance_of, failed, reader_of}
-use Rattle.bcs_tool_files.specs.FaultPlaces.{file_text}
+use Rattle.bcs_tool_command_line.specs.FaultPlaces.{file_text}
 use Rattle.bcs_tool.specs.Endings.{IsUnopened, over_file, unopened}
 use Rattle.bcs_tool.specs.Running.{Runs}
 use Rattle.bcs_tool.proofs.responding.perform_one.Goals as goal

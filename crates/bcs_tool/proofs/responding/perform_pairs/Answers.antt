@@ -1,5 +1,5 @@
 use Rattle.std.proofs.Common.{List, refl, subst, ℕ}
-use Rattle.bcs_tool_files.specs.FaultPlaces.{file_text}
+use Rattle.bcs_tool_command_line.specs.FaultPlaces.{file_text}
 use Rattle.bcs_tool.specs.Endings.{IsUnopened, pairs_over_file, pairs_over_input, second_unopened}
 use Rattle.bcs_tool.specs.Pairs.{IsReportOf}
 use Rattle.bcs_tool.proofs.responding.perform_pairs.Goals as goal

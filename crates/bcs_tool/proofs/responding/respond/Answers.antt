@@ -1,5 +1,5 @@
 use Rattle.std.proofs.Common.{inl, inr, refl, subst}
-use Rattle.bcs_tool_line.specs.declared.line_fault.LineFault.{LineFault}
+use Rattle.bcs_tool_command_line.specs.declared.line_fault.LineFault.{LineFault}
 use Rattle.bcs_tool.specs.Endings.{TellsFault}
 use Rattle.bcs_tool.proofs.EndingLemmas.{fault_status, report_status}
 use Rattle.bcs_tool.proofs.responding.respond.Goals as goal

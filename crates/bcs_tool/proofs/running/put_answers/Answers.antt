@@ -1,8 +1,8 @@
 use Rattle.std.proofs.Common.{Result, inl, refl, subst}
 use Rattle.bcs_tool_answers.specs.Preparing.{IsPrepared}
 use Rattle.bcs_tool_answers.specs.declared.preparing.Prepared.{Prepared}
-use Rattle.bcs_tool_files.specs.declared.taking.TakeFault.TheVariants.{OutOfMemory}
-use Rattle.bcs_tool_files.specs.declared.work.Report.{Report}
+use Rattle.bcs_tool_command_line.specs.declared.taking.TakeFault.TheVariants.{OutOfMemory}
+use Rattle.bcs_tool_command_line.specs.declared.work.Report.{Report}
 use Rattle.bcs_tool.specs.Running.{Ends}
 use Rattle.bcs_tool.specs.declared.interruption.Interruption.{Interruption}
 use Rattle.bcs_tool.specs.declared.run_fault.RunFault.TheVariants.{Take}

@@ -1,6 +1,6 @@
 use Rattle.std.proofs.Common.{inr, subst, sym, ◌∙◌}
 use Rattle.bcs_tool.specs.Running.{run_place}
-use Rattle.bcs_tool_files.specs.FaultPlaces.{TellsPlace, origin_text}
+use Rattle.bcs_tool_command_line.specs.FaultPlaces.{TellsPlace, origin_text}
 use Rattle.bcs_tool.proofs.running.run_from.Goals as goal
 
 pub returns-in-Err : goal.returns-in-Err

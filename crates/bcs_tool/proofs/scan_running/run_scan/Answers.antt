@@ -1,5 +1,5 @@
 use Rattle.std.proofs.Common.{Result}
-use Rattle.bcs_tool_files.specs.declared.work.Report.{Report}
+use Rattle.bcs_tool_command_line.specs.declared.work.Report.{Report}
 use Rattle.bcs_tool.specs.Running.{Ends}
 use Rattle.bcs_tool.specs.declared.interruption.Interruption.{Interruption}
 use Rattle.bcs_tool.proofs.RunLemmas.{handed_on}

@@ -1,5 +1,5 @@
 use Rattle.std.proofs.Common.{List, inr, refl, rules, subst, sym, ℕ}
-use Rattle.bcs_tool_line.specs.declared.line_fault.LineFault.{LineFault}
+use Rattle.bcs_tool_command_line.specs.declared.line_fault.LineFault.{LineFault}
 use Rattle.bcs_tool.specs.Endings.{TellsFault}
 use Rattle.bcs_tool.specs.Running.{PutFront}
 use Rattle.bcs_tool.proofs.telling.tell_fault.Goals as goal

@@ -1,9 +1,9 @@
 use Rattle.std.proofs.Common.{refl, subst, ℕ}
 use Rattle.std.proofs.lemmas.Result.{IfOk-weaker}
-use Rattle.bcs_registry_formats.specs.View.{shape_of}
+use Rattle.bcs_registry_model.specs.View.{shape_of}
 use Rattle.bcs_decode_spec.specs.Accepting.{Accepts}
 use Rattle.bcs_tool_answers.specs.Answers.{damaged, explained}
-use Rattle.bcs_tool_line.specs.declared.command.Command.TheVariants.{Explain}
+use Rattle.bcs_tool_command_line.specs.declared.command.Command.TheVariants.{Explain}
 use Rattle.bcs_tool_answers.proofs.AnswerLemmas.{is_asked, same_answer}
 use Rattle.bcs_tool_answers.proofs.bytes_answers.answer_explain.Goals as goal
 

@@ -1,10 +1,10 @@
 use Rattle.std.proofs.Common.{◌∙◌, ap, map, string_bytes}
 use Rattle.std.proofs.lemmas.Result.{IfOk-weaker}
-use Rattle.bcs_registry_formats.specs.View.{shape_of}
+use Rattle.bcs_registry_model.specs.View.{shape_of}
 use Rattle.bcs_decode_parts.specs.Steps.{step_of}
-use Rattle.bcs_tool_path.specs.PathSteps.{all_spelled}
+use Rattle.bcs_decode_parts.specs.PathSteps.{all_spelled}
 use Rattle.bcs_tool_answers.specs.Answers.{front_stopped}
-use Rattle.bcs_tool_line.specs.declared.command.Command.TheVariants.{Part}
+use Rattle.bcs_tool_command_line.specs.declared.command.Command.TheVariants.{Part}
 use Rattle.bcs_tool_answers.proofs.AnswerLemmas.{is_asked, placed_answer, same_answer}
 use Rattle.bcs_tool_answers.proofs.PartAnswers.{finds, leads_nowhere, spells}
 use Rattle.bcs_tool_answers.proofs.bytes_answers.answer_part.Goals as goal

@@ -1,5 +1,5 @@
 use Rattle.std.proofs.Common.{inl, inr, subst}
-use Rattle.bcs_registry_spec.specs.Faults.{IsLeastFault}
+use Rattle.bcs_registry.specs.Faults.{IsLeastFault}
 use Rattle.bcs_tool_answers.specs.Judging.{IsRegistry, RefusesFormat, RefusesFormatted}
 use Rattle.bcs_tool_answers.proofs.JudgingLemmas.{refused_by_registry}
 use Rattle.bcs_tool_answers.proofs.judging.judge_formatted.Goals as goal

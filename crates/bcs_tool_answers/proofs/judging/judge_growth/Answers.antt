@@ -1,5 +1,5 @@
 use Rattle.std.proofs.Common.{inr, refl, subst}
-use Rattle.bcs_registry_spec.specs.Faults.{IsLeastFault}
+use Rattle.bcs_registry.specs.Faults.{IsLeastFault}
 use Rattle.bcs_tool_answers.specs.Judging.{IsRegistry, RefusesGrowth}
 use Rattle.bcs_tool_answers.proofs.JudgingLemmas.{refused_by_registry, refused_by_growth}
 use Rattle.bcs_tool_answers.proofs.judging.judge_growth.Goals as goal

@@ -1,6 +1,6 @@
 use Rattle.std.proofs.Common.{Bool, subst}
 use Rattle.std.proofs.lemmas.Result.{IfOk-weaker}
-use Rattle.bcs_registry_formats.specs.View.{shape_of}
+use Rattle.bcs_registry_model.specs.View.{shape_of}
 use Rattle.bcs_json_spec.specs.Headline.{Compares}
 use Rattle.bcs_tool_answers.specs.Answers.{different, equal}
 use Rattle.bcs_tool_answers.proofs.AnswerLemmas.{refused_texts, same_pair}

@@ -1,7 +1,7 @@
 use Rattle.std.proofs.Common.{◌∙◌, inl, refl}
 use Rattle.std.proofs.lemmas.Result.{IfOk-weaker}
 use Rattle.bcs_tool_answers.specs.Answers.{encoded, refused}
-use Rattle.bcs_tool_line.specs.declared.command.Command.TheVariants.{Encode}
+use Rattle.bcs_tool_command_line.specs.declared.command.Command.TheVariants.{Encode}
 use Rattle.bcs_tool_answers.proofs.AnswerLemmas.{is_asked, placed_answer, same_answer, with_place}
 use Rattle.bcs_tool_answers.proofs.value_answers.answer_encode.Goals as goal
 

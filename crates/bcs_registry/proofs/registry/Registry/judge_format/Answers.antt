@@ -1,6 +1,6 @@
 use Rattle.std.proofs.Common.{sym, ◌∙◌}
-use Rattle.bcs_registry_formats.specs.View.{shape_of}
-use Rattle.bcs_registry_formats.proofs.KnownNames.{admits_both, is_known_there}
+use Rattle.bcs_registry_model.specs.View.{shape_of}
+use Rattle.bcs_registry_model.proofs.KnownNames.{admits_both, is_known_there}
 use Rattle.bcs_registry.proofs.registry.Registry.judge_format.Goals as goal
 
 pub returns-then-not-is_known-clause-fault : goal.returns-then-not-is_known-clause-fault

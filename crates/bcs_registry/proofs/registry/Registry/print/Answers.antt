@@ -5,12 +5,12 @@ use Rattle.serde_json.specs.Data.{depth}
 use Rattle.serde_json.specs.Read.{max_depth}
 use Rattle.serde_json.specs.View.{view}
 use Rattle.serde_json.specs.Written.{compact_text, has_float}
-use Rattle.bcs_registry_text.specs.Shown.{shown}
-use Rattle.bcs_registry_text.specs.Text.{IsRegistryText, WritesRegistry}
-use Rattle.bcs_registry_formats.specs.View.{entries_of}
+use Rattle.bcs_registry_json.specs.Shown.{shown}
+use Rattle.bcs_registry_json.specs.Text.{IsRegistryText, WritesRegistry}
+use Rattle.bcs_registry_model.specs.View.{entries_of}
 use Rattle.bcs_registry.proofs.ShownDepth.{depth-shown}
 use Rattle.bcs_registry.proofs.ShownFloats.{no_float-shown}
-use Rattle.bcs_registry_spec.proofs.OneText.{same_registry}
+use Rattle.bcs_registry.proofs.OneText.{same_registry}
 use Rattle.bcs_registry.proofs.registry.Registry.print.Goals as goal
 
 pub returns-clause-text : goal.returns-clause-text

@@ -1,0 +1,112 @@
+-- From what is seen of told bytes to what is promised.
+use Rattle.std.proofs.Common.{◌≡◌, ◌<◌, ℕ, zero, suc, List, [], ◌∷◌, inr, subst, sym, length-drop, length, drop, Option, Some, None, Ok, Err, refl, ap, ap₂, ◌∙◌, arith}
+use Rattle.std.specs.Io.KnownBytes.{Consumes, IsAtEnd}
+use Rattle.bcs_registry_model.specs.Shape.{Shape}
+use Rattle.bcs_registry_model.specs.Container.{Entries}
+use Rattle.bcs_value_model.specs.Limits.{Bounds}
+use Rattle.bcs_decode_spec.specs.declared.reason.Reason.TheVariants.{TrailingBytes}
+use Rattle.bcs_decode_spec.specs.declared.decode_fault.DecodeFault.{DecodeFault}
+use Rattle.bcs_decode_spec.specs.declared.decode_fault.DecodeFault.TheVariants.{Stop, Read, OutOfMemory}
+use Rattle.bcs_decode_spec.specs.Accepting.{Accepts}
+use Rattle.bcs_decode_spec.specs.Reading as Reading
+use Rattle.bcs_decode_spec.specs.Reading.{skip_value}
+use Rattle.bcs_decode_spec.specs.Stopping.{StopsAll}
+use Rattle.bcs_decode_spec.proofs.Encoded.{is_decoded, no_encoding_stops}
+use Rattle.bcs_decode_spec.proofs.Verdicts.{skips_accepts, skips_stops}
+use Rattle.bcs_decode_slice.specs.Passing.{skip}
+use Rattle.bcs_decode_source.specs.declared.at.At.{At}
+use Rattle.bcs_decode_source.specs.Sees.{rest_of, Refuses, Left, Along, GaveFront, Halts}
+use Rattle.bcs_decode_source.proofs.StreamedRows.{Found}
+use Rattle.bcs_decode.specs.Whole.{FrontGone}
+use Rattle.bcs_decode.proofs.Wholes as whole
+use Rattle.bcs_decode.specs.Scanned.{ScansFrom, ScansAll}
+
+some_same : {x y : List ℕ} → Some x ≡ Some y → x ≡ y
+some_same h = cc
+
+drop-suc : (n : ℕ) (b : List ℕ) → drop (suc n) b ≡ drop 1 (drop n b)
+drop-suc zero b = refl
+drop-suc (suc n) [] = refl
+drop-suc (suc n) (x ∷ b) = drop-suc n b
+
+told_rest : (n : ℕ) (b : List ℕ) (d : Option (List ℕ)) → Left b n d → d ≡ Some (drop n b)
+told_rest n b None l = absurd (let e = l.told in cc)
+told_rest n b (Some c) l = ap Some l.is
+
+from_all : (b : List ℕ) (p : At) → p.place ≡ 0 → Left b p.place (Some b)
+from_all b p place = record { told = refl; within = omega arith; is = ap (λ i. drop i b) (sym place) }
+
+gave : (b : List ℕ) (d : Option (List ℕ)) (p : At) → p.place ≡ 0 → GaveFront (Some b) p d → FrontGone b d
+gave b d p place k =
+    let front = k b (from_all b p place) in
+    (front.0, front.2.within, told_rest front.0 b d front.2)
+
+module _ (registry : Entries) (limits : Bounds) (s : Shape) where
+  from_start : (p : At) → p.place ≡ 0 → p.nodes ≡ limits.nodes → (b : List ℕ) (x : Reading.Read (Unit {0})) → skip registry limits.depth s p.place p.nodes b ≡ x → skip_value registry limits s b ≡ x
+  from_start p place nodes b x h = ap₂ (λ (o m : ℕ). skip registry limits.depth s o m b) (sym place) (sym nodes) ∙ h
+
+  pub scanned : (c d : Option (List ℕ)) (p q : At) → p.place ≡ 0 → p.nodes ≡ limits.nodes → Found tt (skip registry limits.depth s) c d p q → Along c p d q → ScansFrom registry limits s c d (Ok q.place)
+  scanned None d p q place nodes h along = tt
+  scanned (Some b) d p q place nodes h along =
+      let l = along.gone b (from_all b p place) in
+      (told_rest q.place b d l, l.within, λ bytes. skips_accepts registry limits s b q.place q.nodes (rest_of d) bytes (from_start p place nodes b _ (h refl).0))
+
+  pub stopped : (c d : Option (List ℕ)) (x : DecodeFault) (p q : At) → p.place ≡ 0 → p.nodes ≡ limits.nodes → Refuses x c p (skip registry limits.depth s) → Halts x c p d q → ScansFrom registry limits s c d (Err x)
+  stopped None d x p q place nodes h k = tt
+  stopped (Some b) d (Stop stop) p q place nodes h k = λ bytes.
+      (let l = k.0 b (from_all b p place) in (
+        skips_stops registry limits s b stop.reason stop.place bytes (from_start p place nodes b _ (h refl)),
+        (q.place, k.1, l.within, told_rest q.place b d l),
+      ))
+  stopped (Some b) d Read p q place nodes h k = gave b d p place k
+  stopped (Some b) d OutOfMemory p q place nodes h k = gave b d p place k
+
+  -- the source had failed before
+  pub lost_at_once : (c : Option (List ℕ)) → ScansFrom registry limits s c c (Err Read)
+  lost_at_once None = tt
+  lost_at_once (Some b) = (0, omega arith, refl)
+
+  pub all_stop : (c d : Option (List ℕ)) (x : DecodeFault) → ScansFrom registry limits s c d (Err x) → ScansAll registry limits s c d (Err x)
+  all_stop None d x h = tt
+  all_stop (Some b) d (Stop stop) h = whole.all_stop registry limits s (Some b) d (Stop stop) h
+  all_stop (Some b) d Read h = h
+  all_stop (Some b) d OutOfMemory h = h
+
+  -- the content ends where the value does
+  all_value : (c d e : Option (List ℕ)) (n : ℕ) → ScansFrom registry limits s c d (Ok n) → Consumes d e [] → IsAtEnd e → ScansAll registry limits s c e (Ok n)
+  all_value None d e n h k at = tt
+  all_value (Some b) None e n h k at = absurd (let w = h.0 in cc)
+  all_value (Some b) (Some x) None n h k at = absurd k
+  all_value (Some b) (Some x) (Some y) n h k at =
+      let left : drop n b ≡ [] = some_same (sym h.0) ∙ k ∙ at in
+      let all : n ≡ length b = omega (arith, h.1, length-drop n b, ap length left) in
+      (ap Some at, all, λ bytes. (let found = h.2 bytes in (found.0, is_decoded registry limits s b found.0 (subst (λ i. Accepts registry limits s b i found.0) all found.1))))
+
+  pub all_by : (c d e : Option (List ℕ)) (n : ℕ) (bs : List ℕ) → length bs ≡ 0 → ScansFrom registry limits s c d (Ok n) → Consumes d e bs → IsAtEnd e → ScansAll registry limits s c e (Ok n)
+  all_by c d e n [] len h k at = all_value c d e n h k at
+  all_by c d e n (x ∷ bs) len h k at = absurd (omega (arith, len))
+
+  -- the source fails there
+  pub all_lost : (c d e : Option (List ℕ)) (n : ℕ) → ScansFrom registry limits s c d (Ok n) → Consumes d e [] → ScansAll registry limits s c e (Err Read)
+  all_lost None d e n h k = tt
+  all_lost (Some b) None e n h k = absurd (let none = h.0 in cc)
+  all_lost (Some b) (Some x) None n h k = absurd k
+  all_lost (Some b) (Some x) (Some y) n h k = (n, h.1, ap Some (sym k) ∙ h.0)
+
+  -- a byte comes after it
+  all_trails : (c d e : Option (List ℕ)) (n x : ℕ) → ScansFrom registry limits s c d (Ok n) → Consumes d e (x ∷ []) → ScansAll registry limits s c e (Err (Stop (record { reason = TrailingBytes; place = n })))
+  all_trails None d e n x h k = tt
+  all_trails (Some b) None e n x h k = λ bytes. absurd (let w = h.0 in cc)
+  all_trails (Some b) (Some z) None n x h k = absurd k
+  all_trails (Some b) (Some z) (Some y) n x h k = λ bytes.
+      (let found = h.2 bytes in
+      let left : drop n b ≡ x ∷ y = some_same (sym h.0) ∙ k in
+      let more : n < length b = omega (arith, h.1, length-drop n b, ap length left) in
+      let next : drop (suc n) b ≡ y = drop-suc n b ∙ ap (drop 1) left in
+      let trailing : StopsAll registry limits s b TrailingBytes n = inr (n, found.0, found.1, more, refl, refl) in
+      (trailing, no_encoding_stops registry limits s b TrailingBytes n trailing, inr (record { reason = refl; value = found.0; accepted = found.1; after = more; gone = ap Some (sym next) })))
+
+  pub trails_by : (c d e : Option (List ℕ)) (n : ℕ) (bs : List ℕ) → length bs ≡ 1 → ScansFrom registry limits s c d (Ok n) → Consumes d e bs → ScansAll registry limits s c e (Err (Stop (record { reason = TrailingBytes; place = n })))
+  trails_by c d e n [] len h k = absurd (omega (arith, len))
+  trails_by c d e n (x ∷ []) len h k = all_trails c d e n x h k
+  trails_by c d e n (x ∷ (y ∷ zs)) len h k = absurd (omega (arith, len))

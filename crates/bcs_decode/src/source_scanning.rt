@@ -1,0 +1,78 @@
+//! Values at the front of sources, judged.
+ghost use Rattle.std.specs.Prelude.{◌≡◌, ◌≢◌, ◌↔◌, true, Err, IsErrOf};
+ghost use Rattle.bcs_registry_model.specs.View.{shape_of};
+ghost use Rattle.bcs_registry_model.specs.WellFormed.{Admits};
+ghost use Rattle.bcs_decode.specs.Reaching.{reaches_no_map};
+ghost use Rattle.bcs_decode.specs.Scanned.{ScansAll, ScansFrom};
+
+use crate::values::value;
+use bcs_decode_source::at::At;
+use bcs_decode_source::reader::Reader;
+use bcs_decode_spec::{DecodeFault, Reason, Stop};
+use bcs_io::ByteSource;
+use bcs_registry::{Format, Registry};
+use bcs_value::Limits;
+use std::alloc::Global;
+
+/// How many bytes the value of the format has that the source gives next, of which it takes exactly these. A refusal is
+/// that of `decode_from`. Memory holds the bytes of open keys, and the last key of each open map; the rest of the value
+/// is gone past, however long it is. So no memory is wanted where the format reaches no map. After a refusal the source
+/// isn't to be read on: it gave a front of its content, which after `Read` and `OutOfMemory` may end anywhere.
+pub fn scan_from<S: ByteSource>(
+    alloc: Global,
+    registry: &Registry,
+    format: &Format,
+    limits: &Limits,
+    source: &mut S,
+) -> Result<u64, DecodeFault>
+    requires { Admits registry.now (shape_of format.now) }
+    ensures told { ScansFrom registry.now limits.now (shape_of format.now) (S.content source.old) (S.content source.new) result }
+    ensures read { IsErrOf result DecodeFault.Read ↔ S.is_failed source.new ≡ true }
+    ensures memory { reaches_no_map registry.now limits.now.depth (shape_of format.now) ≡ true → result ≢ Err DecodeFault.OutOfMemory }
+{
+    if source.failed() {
+        return Err(DecodeFault::Read);
+    }
+    let mut at = At {
+        place: 0,
+        known: 0,
+        nodes: limits.nodes(),
+        is_in_key: false,
+        kept: Vec::new(alloc),
+    };
+    let mut reader = Reader {
+        alloc,
+        registry,
+        source,
+        at: &mut at,
+    };
+    value(&mut reader, format, limits.depth())?;
+    Ok(at.place)
+}
+
+/// How many bytes the value has that all of the source's content is. A byte after the value is taken, and refused as
+/// `TrailingBytes`. The other refusals are those of [`scan_from`](crate::scan_from).
+pub fn scan_all<S: ByteSource>(
+    alloc: Global,
+    registry: &Registry,
+    format: &Format,
+    limits: &Limits,
+    source: &mut S,
+) -> Result<u64, DecodeFault>
+    requires { Admits registry.now (shape_of format.now) }
+    ensures told { ScansAll registry.now limits.now (shape_of format.now) (S.content source.old) (S.content source.new) result }
+    ensures read { IsErrOf result DecodeFault.Read ↔ S.is_failed source.new ≡ true }
+    ensures memory { reaches_no_map registry.now limits.now.depth (shape_of format.now) ≡ true → result ≢ Err DecodeFault.OutOfMemory }
+{
+    match scan_from(alloc, registry, format, limits, source) {
+        Ok(length) => match source.next(&mut [0]) {
+            Ok(0) => Ok(length),
+            Ok(_) => Err(DecodeFault::Stop(Stop {
+                reason: Reason::TrailingBytes,
+                place: length,
+            })),
+            Err(_) => Err(DecodeFault::Read),
+        },
+        Err(fault) => Err(fault),
+    }
+}

@@ -1,0 +1,183 @@
+-- Going past a value, format by format.
+use Rattle.std.proofs.Common.{◌≡◌, ℕ, zero, suc, ◌+◌, ◌<◌, List, length, Result, Ok, Err, refl, ◌∙◌, arith, ◌⊎◌, inl, inr}
+use Rattle.std.proofs.lemmas.Bool.{le-ltb}
+use Rattle.std.specs.Int.{Width, w8, w16, w32, w64, w128, byte_len, from_le_bytes, cast_signed}
+use Rattle.bcs_registry_model.specs.Shape as shape
+use Rattle.bcs_registry_model.specs.Shape.{Shape, Shapes}
+use Rattle.bcs_registry_model.specs.Container.{Entries}
+use Rattle.bcs_registry_model.specs.View.{shape_of}
+use Rattle.bcs_registry_model.specs.declared.format.Format as format
+use Rattle.bcs_registry_model.proofs.FormatViews.{shape-Unit, shape-Bool, shape-Str, shape-Bytes, shape-F32, shape-F64, shape-Char, shape-I8, shape-U8, shape-I16, shape-U16, shape-I32, shape-U32, shape-I64, shape-U64, shape-I128, shape-U128}
+use Rattle.bcs_decode_spec.specs.declared.reason.Reason.TheVariants.{BadBool, TooDeep, Unsupported}
+use Rattle.bcs_decode_spec.specs.Reading.{Read, Parser, follow, chain, give, fail_here, node, length_here, bytes_here, text_here, flag_here, unsigned_here, signed_here, shape_here, value_here}
+use Rattle.bcs_decode_slice.specs.declared.cursor.Cursor.{Cursor}
+use Rattle.bcs_decode_spec.specs.declared.stop.Stop.{Stop}
+use Rattle.bcs_decode_slice.specs.Passing.{Passes, node_here, skip, truth_here, whole_here, counted_here, text_past, bytes_past, unsupported_here, enter_here}
+
+pub enter_none : (d : ℕ) → d ≡ 0 → (p m : ℕ) (b : List ℕ) → enter_here d p m b ≡ Err (TooDeep, p)
+unfolding enter_here fail_here
+enter_none d h p m b = rw h refl
+
+pub enter_more : (d : ℕ) → 0 < d → enter_here d ≡ node_here
+unfolding enter_here
+enter_more zero h = absurd (omega arith)
+enter_more (suc d) h = refl
+
+-- a node, and then what stands there
+pub node_is : {A : Type 0} (f : Parser A) (p m : ℕ) (b : List ℕ) → node f p m b ≡ follow (node_here p m b) (λ _. f)
+unfolding node give
+node_is f p zero b = refl
+node_is f p (suc m) b = refl
+
+-- ---- what has no values inside
+
+-- what is read from the cursor on is read from another on
+pub passes_from : {X A : Type 0} (view : X → A) (r : Result X Stop) (f g : Parser A) (old mid new : Cursor)
+    → f old.place old.nodes old.rest.now ≡ g mid.place mid.nodes mid.rest.now → Passes view r g mid new → Passes view r f old new
+passes_from view (Ok x) f g old mid new e h = e ∙ h
+passes_from view (Err s) f g old mid new e h = e ∙ h
+
+pub passes_here : (r : Result (Unit {0}) Stop) (f g : Parser (Unit {0})) (old new : Cursor) → ((p m : ℕ) (b : List ℕ) → f p m b ≡ g p m b) → Passes (λ x. x) r g old new → Passes (λ x. x) r f old new
+passes_here r f g old new e h = passes_from (λ x. x) r f g old old new (e old.place old.nodes old.rest.now) h
+
+chain_is : {A B : Type 0} (f : Parser A) (k : A → Parser B) (p m : ℕ) (b : List ℕ) → follow (f p m b) k ≡ chain f k p m b
+unfolding chain
+chain_is f k p m b = refl
+
+-- nothing is made of nothing
+pub bare : (r : Read (Unit {0})) → follow r (λ _. give tt) ≡ r
+unfolding give
+bare (Ok x) = refl
+bare (Err e) = refl
+
+pub counted_is : {A : Type 0} (k : ℕ → Parser A) (p m : ℕ) (b : List ℕ) → node (chain length_here k) p m b ≡ chain counted_here k p m b
+unfolding node chain counted_here give
+counted_is k p zero b = refl
+counted_is k p (suc m) b = refl
+
+gone : {A B : Type 0} (r : Read A) (f : A → B) → follow (follow r (λ s. give (f s))) (λ n. give {A = Unit {0}} tt) ≡ follow r (λ _. give tt)
+unfolding give
+gone (Ok x) f = refl
+gone (Err e) f = refl
+
+unsigned_gone : (w : Width) (p m : ℕ) (b : List ℕ) → chain (unsigned_here w) (λ n. give {A = Unit {0}} tt) p m b ≡ follow (bytes_here (byte_len w) p m b) (λ _. give tt)
+unfolding chain unsigned_here
+unsigned_gone w p m b = gone (bytes_here (byte_len w) p m b) (from_le_bytes w)
+
+signed_gone : (w : Width) (p m : ℕ) (b : List ℕ) → chain (signed_here w) (λ n. give {A = Unit {0}} tt) p m b ≡ follow (bytes_here (byte_len w) p m b) (λ _. give tt)
+unfolding chain signed_here
+signed_gone w p m b = gone (bytes_here (byte_len w) p m b) (λ s. cast_signed w (from_le_bytes w s))
+
+-- a node alone is one with no bytes
+nothing_is : (p m : ℕ) (b : List ℕ) → node_here p m b ≡ whole_here 0 p m b
+unfolding whole_here chain node give bytes_here
+nothing_is p zero b = refl
+nothing_is p (suc m) b =
+    let none : p + 0 ≡ p = omega arith in
+    rw (le-ltb (length b) 0 (omega arith), none) refl
+
+module _ (registry : Entries) (d : ℕ) where
+  whole_is : (n : ℕ) (f : Parser (Unit {0})) → ((p m : ℕ) (b : List ℕ) → f p m b ≡ follow (bytes_here n p m b) (λ _. give tt)) → (p m : ℕ) (b : List ℕ) → node f p m b ≡ whole_here n p m b
+  unfolding whole_here chain node give
+  whole_is n f h p zero b = refl
+  whole_is n f h p (suc m) b = h p m b
+
+  unsigned_is : (w : Width) (p m : ℕ) (b : List ℕ) → skip registry d (shape.unsigned w) p m b ≡ whole_here (byte_len w) p m b
+  unfolding value_here shape_here
+  unsigned_is w p m b = whole_is (byte_len w) (chain (unsigned_here w) (λ n. give tt)) (unsigned_gone w) p m b
+
+  signed_is : (w : Width) (p m : ℕ) (b : List ℕ) → skip registry d (shape.signed w) p m b ≡ whole_here (byte_len w) p m b
+  unfolding value_here shape_here
+  signed_is w p m b = whole_is (byte_len w) (chain (signed_here w) (λ n. give tt)) (signed_gone w) p m b
+
+  pub unit_is : (p m : ℕ) (b : List ℕ) → skip registry d shape.unit p m b ≡ node_here p m b
+  unfolding value_here shape_here
+  unit_is p m b = refl
+
+  -- ---- formats without formats inside
+
+  module _ (f : format.Format) (p m : ℕ) (b : List ℕ) where
+    pub past_Unit : f ≡ format.Unit → skip registry d (shape_of f) p m b ≡ node_here p m b
+    past_Unit h = rw (shape-Unit f h) (unit_is p m b)
+
+    pub past_Bool : f ≡ format.Bool → skip registry d (shape_of f) p m b ≡ truth_here p m b
+    unfolding value_here shape_here truth_here
+    past_Bool h = rw (shape-Bool f h) (node_is (chain (flag_here BadBool) (λ _. give tt)) p m b ∙ chain_is node_here _ p m b)
+
+    pub past_Str : f ≡ format.Str → skip registry d (shape_of f) p m b ≡ text_past p m b
+    unfolding value_here shape_here text_past
+    past_Str h = rw (shape-Str f h) (counted_is (λ n. chain (text_here n) (λ s. give tt)) p m b)
+
+    pub past_Bytes : f ≡ format.Bytes → skip registry d (shape_of f) p m b ≡ bytes_past p m b
+    unfolding value_here shape_here bytes_past
+    past_Bytes h = rw (shape-Bytes f h) (counted_is (λ n. chain (bytes_here n) (λ s. give tt)) p m b)
+
+    pub past_F32 : f ≡ format.F32 → skip registry d (shape_of f) p m b ≡ unsupported_here p m b
+    unfolding value_here shape_here unsupported_here
+    past_F32 h = rw (shape-F32 f h) (node_is (fail_here Unsupported) p m b ∙ chain_is node_here _ p m b)
+
+    pub past_F64 : f ≡ format.F64 → skip registry d (shape_of f) p m b ≡ unsupported_here p m b
+    unfolding value_here shape_here unsupported_here
+    past_F64 h = rw (shape-F64 f h) (node_is (fail_here Unsupported) p m b ∙ chain_is node_here _ p m b)
+
+    pub past_Char : f ≡ format.Char → skip registry d (shape_of f) p m b ≡ unsupported_here p m b
+    unfolding value_here shape_here unsupported_here
+    past_Char h = rw (shape-Char f h) (node_is (fail_here Unsupported) p m b ∙ chain_is node_here _ p m b)
+
+    pub past_I8 : f ≡ format.I8 → skip registry d (shape_of f) p m b ≡ whole_here 1 p m b
+    past_I8 h = rw (shape-I8 f h) (signed_is w8 p m b)
+
+    pub past_U8 : f ≡ format.U8 → skip registry d (shape_of f) p m b ≡ whole_here 1 p m b
+    past_U8 h = rw (shape-U8 f h) (unsigned_is w8 p m b)
+
+    pub past_I16 : f ≡ format.I16 → skip registry d (shape_of f) p m b ≡ whole_here 2 p m b
+    past_I16 h = rw (shape-I16 f h) (signed_is w16 p m b)
+
+    pub past_U16 : f ≡ format.U16 → skip registry d (shape_of f) p m b ≡ whole_here 2 p m b
+    past_U16 h = rw (shape-U16 f h) (unsigned_is w16 p m b)
+
+    pub past_I32 : f ≡ format.I32 → skip registry d (shape_of f) p m b ≡ whole_here 4 p m b
+    past_I32 h = rw (shape-I32 f h) (signed_is w32 p m b)
+
+    pub past_U32 : f ≡ format.U32 → skip registry d (shape_of f) p m b ≡ whole_here 4 p m b
+    past_U32 h = rw (shape-U32 f h) (unsigned_is w32 p m b)
+
+    pub past_I64 : f ≡ format.I64 → skip registry d (shape_of f) p m b ≡ whole_here 8 p m b
+    past_I64 h = rw (shape-I64 f h) (signed_is w64 p m b)
+
+    pub past_U64 : f ≡ format.U64 → skip registry d (shape_of f) p m b ≡ whole_here 8 p m b
+    past_U64 h = rw (shape-U64 f h) (unsigned_is w64 p m b)
+
+    pub past_I128 : f ≡ format.I128 → skip registry d (shape_of f) p m b ≡ whole_here 16 p m b
+    past_I128 h = rw (shape-I128 f h) (signed_is w128 p m b)
+
+    pub past_U128 : f ≡ format.U128 → skip registry d (shape_of f) p m b ≡ whole_here 16 p m b
+    past_U128 h = rw (shape-U128 f h) (unsigned_is w128 p m b)
+
+    pub past_Nothing : f ≡ format.Unit → skip registry d (shape_of f) p m b ≡ whole_here 0 p m b
+    past_Nothing h = past_Unit h ∙ nothing_is p m b
+
+    pub past_8 : (f ≡ format.I8) ⊎ (f ≡ format.U8) → skip registry d (shape_of f) p m b ≡ whole_here 1 p m b
+    past_8 (inl h) = past_I8 h
+    past_8 (inr h) = past_U8 h
+
+    pub past_16 : (f ≡ format.I16) ⊎ (f ≡ format.U16) → skip registry d (shape_of f) p m b ≡ whole_here 2 p m b
+    past_16 (inl h) = past_I16 h
+    past_16 (inr h) = past_U16 h
+
+    pub past_32 : (f ≡ format.I32) ⊎ (f ≡ format.U32) → skip registry d (shape_of f) p m b ≡ whole_here 4 p m b
+    past_32 (inl h) = past_I32 h
+    past_32 (inr h) = past_U32 h
+
+    pub past_64 : (f ≡ format.I64) ⊎ (f ≡ format.U64) → skip registry d (shape_of f) p m b ≡ whole_here 8 p m b
+    past_64 (inl h) = past_I64 h
+    past_64 (inr h) = past_U64 h
+
+    pub past_128 : (f ≡ format.I128) ⊎ (f ≡ format.U128) → skip registry d (shape_of f) p m b ≡ whole_here 16 p m b
+    past_128 (inl h) = past_I128 h
+    past_128 (inr h) = past_U128 h
+
+    pub past_float : (f ≡ format.F32) ⊎ ((f ≡ format.F64) ⊎ (f ≡ format.Char)) → skip registry d (shape_of f) p m b ≡ unsupported_here p m b
+    past_float (inl h) = past_F32 h
+    past_float (inr (inl h)) = past_F64 h
+    past_float (inr (inr h)) = past_Char h

@@ -1,0 +1,10 @@
+use Rattle.std.proofs.Common.{arith}
+use Rattle.bcs_registry_model.specs.View.{shape_of}
+use Rattle.bcs_decode_slice.proofs.FixedParts.{fixed_whole}
+use Rattle.bcs_decode_slice.proofs.fixed_size.whole_size.Goals as goal
+
+pub returns : goal.returns
+returns c = (
+  omega arith,
+  λ registry d. fixed_whole registry d (shape_of c.args.format.now) c.in_ok-width.width (λ p m b. c.in_ok-width.ensures.1 registry d p m b),
+)

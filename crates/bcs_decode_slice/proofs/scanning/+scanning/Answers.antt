@@ -1,0 +1,469 @@
+use Rattle.std.proofs.Common.{◌≡◌, ℕ, List, ◌∙◌, ◌-◌, ◌≤◌, suc, [], None, drop, map, ap, sym, arith}
+use Rattle.std.proofs.lemmas.List.{drop_all}
+use Rattle.std.proofs.lemmas.Result.{err_from_is_err_and}
+use Rattle.bcs_registry_model.specs.Shape.{Shape, name as name_shape, tuple as tuple_shape}
+use Rattle.bcs_registry_model.specs.Container.{Entries, Content, of, one_of, nothing, content, field_shapes, payload_shape, content_at, choice_at}
+use Rattle.bcs_registry_model.specs.WellFormed.{levels, shapes_levels}
+use Rattle.bcs_registry_model.specs.View.{shape_of, formats_shapes, field_of, payload_of, choice_of, container_of}
+use Rattle.bcs_registry_model.specs.declared.container.Container.{Container}
+use Rattle.bcs_decode_spec.specs.Reading.{items_here, pairs_here, skipping}
+use Rattle.bcs_decode_slice.specs.Passing.{skip, node_here, truth_here, whole_here, text_past, bytes_past, unsupported_here}
+use Rattle.bcs_decode_slice.proofs.Passings.{past_Unit, past_Bool, past_Str, past_Bytes, past_float, past_8, past_16, past_32, past_64, past_128, unit_is, passes_from, passes_here}
+use Rattle.bcs_decode_slice.proofs.PassingParts.{option_stop, option_some, option_none, seq_stop, seq_on, map_stop, map_on, array_stop, array_on, items_stop, items_on, items_end, pairs_stop_key, pairs_stop_value, pairs_on, pairs_end, each, tuple_stop, tuple_on, each_end, each_stop, each_on, named_stop, named_on, content_past, content_shape, content_nothing, variant_stop, variant_unknown, variant_on}
+use Rattle.bcs_decode_spec.proofs.LookedUp.{content_found, content_missing, choice_found, choice_missing, levels_in, field_levels_in, formats_next, fields_next}
+use Rattle.bcs_decode_slice.proofs.PassingNames.{named_past}
+use Rattle.bcs_registry_model.proofs.Admitted.{content_at-inside, choice_at-inside}
+use Rattle.bcs_decode_slice.proofs.scanning.+scanning.Goals as goal
+
+-- ---- values in a row
+
+pub elements-returns-in_err-value-clause-passes : goal.elements-returns-in_err-value-clause-passes
+elements-returns-in_err-value-clause-passes t c =
+    let p = err_from_is_err_and c.from_residual.result c.from_residual.ensures.1 in
+    rw (p.1, p.2) (c.loop.invariant.whole ∙ items_stop (skip c.args.registry.now c.args.depth (shape_of c.args.element.now)) c.args.count c.loop.counter _ _ _ _ c.loop-test.true c.in_err-value.ensures.passes)
+
+pub elements-loop-preserved : goal.elements-loop-preserved
+elements-loop-preserved t c = record {
+  room = omega (arith, c.loop.invariant.room, c.in_ok-value.ensures.onward.0);
+  onward = (omega (arith, c.loop.invariant.onward.0, c.in_ok-value.ensures.onward.0), omega (arith, c.loop.invariant.onward.1, c.in_ok-value.ensures.onward.1));
+  whole = c.loop.invariant.whole ∙ items_on (skip c.args.registry.now c.args.depth (shape_of c.args.element.now)) c.args.count c.loop.counter _ _ _ _ _ _ c.loop-test.true c.in_ok-value.ensures.passes;
+}
+
+pub elements-returns-clause-passes : goal.elements-returns-clause-passes
+elements-returns-clause-passes t c =
+    c.loop.invariant.whole ∙ items_end (skip c.args.registry.now c.args.depth (shape_of c.args.element.now)) c.args.count c.loop.counter _ _ _ c.loop-test.false
+
+pub elements-returns-then-gone-count-clause-passes : goal.elements-returns-then-gone-count-clause-passes
+elements-returns-then-gone-count-clause-passes t c =
+    c.fixed_row-gone.ensures.whole ∙ items_end (skip c.args.registry.now c.args.depth (shape_of c.args.element.now)) c.args.count c.fixed_row-gone.result _ _ _ (omega (arith, c.if-gone-count.true))
+
+pub elements-returns-in-Some-named_container-clause-passes : goal.elements-returns-in-Some-named_container-clause-passes
+elements-returns-in-Some-named_container-clause-passes t c =
+    let r = c.args.registry.now in
+    let at = c.fixed_row-gone.new.cursor in
+    let n = c.args.count - c.fixed_row-gone.result in
+    let found = c.in-Some-named_container.ensures.found in
+    passes_from (λ x. x) c.containers.result _ (items_here skipping (skip r c.args.depth (name_shape found.0)) n) c.args.cursor.now at c.containers.new.cursor
+    (c.fixed_row-gone.ensures.whole ∙ ap (λ s. items_here skipping (skip r c.args.depth s) n at.place at.nodes at.rest.now) found.1)
+    (c.containers.ensures.passes found.0 found.2)
+
+-- ---- entries
+
+pub entries-returns-in_err-found-clause-passes : goal.entries-returns-in_err-found-clause-passes
+entries-returns-in_err-found-clause-passes t c =
+    let p = err_from_is_err_and c.from_residual.result c.from_residual.ensures.1 in
+    rw (p.1, p.2) (c.loop.invariant.whole ∙ pairs_stop_key _ _ _ c.args.count c.loop.counter _ _ _ _ c.loop-test.true c.in_err-found.ensures.passes)
+
+pub entries-returns-in_err-value-clause-passes : goal.entries-returns-in_err-value-clause-passes
+entries-returns-in_err-value-clause-passes t c =
+    let p = err_from_is_err_and c.from_residual-in_err-value.result c.from_residual-in_err-value.ensures.1 in
+    rw (p.1, p.2) (c.loop.invariant.whole ∙ pairs_stop_value _ _ _ c.args.count c.loop.counter _ _ _ _ _ _ _ _ c.loop-test.true c.in_ok-found.ensures.passes c.in_err-value.ensures.passes)
+
+pub entries-loop-preserved : goal.entries-loop-preserved
+entries-loop-preserved t c =
+    record {
+      room = omega (arith, c.loop.invariant.room, c.in_ok-found.ensures.onward.0, c.in_ok-value.ensures.onward.0);
+      onward = (omega (arith, c.loop.invariant.onward.0, c.in_ok-found.ensures.onward.0, c.in_ok-value.ensures.onward.0), omega (arith, c.loop.invariant.onward.1, c.in_ok-found.ensures.onward.1, c.in_ok-value.ensures.onward.1));
+      whole = c.loop.invariant.whole ∙ pairs_on _ _ _ c.args.count c.loop.counter _ _ _ _ _ _ _ _ _ _ c.loop-test.true c.in_ok-found.ensures.passes c.in_ok-value.ensures.passes;
+    }
+
+pub entries-returns-clause-passes : goal.entries-returns-clause-passes
+entries-returns-clause-passes t c =
+    c.loop.invariant.whole ∙ pairs_end _ _ _ c.args.count c.loop.counter _ _ _ c.loop-test.false
+
+-- ---- names
+
+pub named-returns-in_err-enter-clause-passes : goal.named-returns-in_err-enter-clause-passes
+named-returns-in_err-enter-clause-passes t c =
+    let p = err_from_is_err_and c.from_residual.result c.from_residual.ensures.1 in
+    rw (p.1, p.2) (named_stop c.args.registry.now c.args.name.now _ _ _ c.args.depth _ c.in_err-enter.ensures.passes)
+
+pub named-returns-in_default-clause-passes : goal.named-returns-in_default-clause-passes
+named-returns-in_default-clause-passes t c =
+    let r = c.args.registry.now in
+    let none : content_at c.args.name.now r ≡ nothing = content_missing r c.args.name.now c.container.result c.container.ensures.found c.in_default.is in
+    named_on r c.args.name.now _ _ _ c.args.depth _ _ _ c.in_ok-enter.ensures.positive c.in_ok-enter.ensures.passes
+    ∙ ap (λ (k : Content). content_past r (c.args.depth - 1) k c.enter.new.cursor.place c.enter.new.cursor.nodes c.enter.new.cursor.rest.now) none
+    ∙ content_nothing r (c.args.depth - 1) c.enter.new.cursor.place c.enter.new.cursor.nodes c.enter.new.cursor.rest.now
+
+pub named-content-requires : goal.named-content-requires
+named-content-requires t c = (
+  omega (arith, c.in_ok-enter.ensures.positive),
+  (omega (arith, c.in_ok-enter.ensures.onward.0), ((c.args.name.now, content_found c.args.registry.now c.args.name.now c.container.result c.in-Some.container c.container.ensures.found c.in-Some.is), c.container.ensures.well_formed)),
+)
+
+pub named-returns-clause-passes : goal.named-returns-clause-passes
+named-returns-clause-passes t c =
+    let r = c.args.registry.now in
+    let at = c.enter.new.cursor in
+    passes_from (λ x. x) c.content.result _ (content_past r (c.args.depth - 1) (content (container_of c.in-Some.container.now))) c.args.cursor.now at c.content.new.cursor
+    (named_past r c.args.name.now _ _ _ c.args.depth _ _ _ c.in-Some.container.now c.in_ok-enter.ensures.positive c.in_ok-enter.ensures.passes (content_found r c.args.name.now c.container.result c.in-Some.container c.container.ensures.found c.in-Some.is))
+    c.content.ensures.passes
+
+-- ---- containers in a row
+
+pub containers-returns-in_err-enter-clause-passes : goal.containers-returns-in_err-enter-clause-passes
+containers-returns-in_err-enter-clause-passes t c name is =
+    let p = err_from_is_err_and c.from_residual.result c.from_residual.ensures.1 in
+    let r = c.args.registry.now in
+    rw (p.1, p.2) (c.loop.invariant.whole name is ∙ items_stop (skip r c.args.depth (name_shape name)) c.args.count c.loop.counter _ _ _ _ c.loop-test.true
+    (named_stop r name _ _ _ c.args.depth _ c.in_err-enter.ensures.passes))
+
+pub containers-content-requires : goal.containers-content-requires
+containers-content-requires t c = (
+  omega (arith, c.in_ok-enter.ensures.positive),
+  (omega (arith, c.loop.invariant.room, c.in_ok-enter.ensures.onward.0), (c.requires.found, c.requires.well_formed)),
+)
+
+pub containers-returns-in_err-content-clause-passes : goal.containers-returns-in_err-content-clause-passes
+containers-returns-in_err-content-clause-passes t c name is =
+    let p = err_from_is_err_and c.from_residual-in_err-content.result c.from_residual-in_err-content.ensures.1 in
+    let r = c.args.registry.now in
+    rw (p.1, p.2) (c.loop.invariant.whole name is ∙ items_stop (skip r c.args.depth (name_shape name)) c.args.count c.loop.counter _ _ _ _ c.loop-test.true
+    (named_past r name _ _ _ c.args.depth _ _ _ c.args.container.now c.in_ok-enter.ensures.positive c.in_ok-enter.ensures.passes is ∙ c.in_err-content.ensures.passes))
+
+pub containers-loop-preserved : goal.containers-loop-preserved
+containers-loop-preserved t c =
+    let r = c.args.registry.now in
+    record {
+      room = omega (arith, c.loop.invariant.room, c.in_ok-enter.ensures.onward.0, c.in_ok-content.ensures.onward.0);
+      onward = (omega (arith, c.loop.invariant.onward.0, c.in_ok-enter.ensures.onward.0, c.in_ok-content.ensures.onward.0), omega (arith, c.loop.invariant.onward.1, c.in_ok-enter.ensures.onward.1, c.in_ok-content.ensures.onward.1));
+      whole = λ name is. c.loop.invariant.whole name is ∙ items_on (skip r c.args.depth (name_shape name)) c.args.count c.loop.counter _ _ _ _ _ _ c.loop-test.true
+          (named_past r name _ _ _ c.args.depth _ _ _ c.args.container.now c.in_ok-enter.ensures.positive c.in_ok-enter.ensures.passes is ∙ c.in_ok-content.ensures.passes);
+    }
+
+pub containers-returns-clause-passes : goal.containers-returns-clause-passes
+containers-returns-clause-passes t c name is =
+    c.loop.invariant.whole name is ∙ items_end (skip c.args.registry.now c.args.depth (name_shape name)) c.args.count c.loop.counter _ _ _ c.loop-test.false
+
+-- ---- what stands in containers
+
+content_as : (registry : Entries) (d p m : ℕ) (b : List ℕ) (k j : Container) → k ≡ j → content_past registry d (content (container_of k)) p m b ≡ content_past registry d (content (container_of j)) p m b
+content_as registry d p m b k j is = ap (λ (x : Container). content_past registry d (content (container_of x)) p m b) is
+
+pub content-value-requires : goal.content-value-requires
+content-value-requires t c =
+    let r = c.args.registry.now in
+    let s : Shape = shape_of c.in-NewTypeStruct.format in
+    let is : content_at c.requires.found.0 r ≡ of s = c.requires.found.1 ∙ ap (λ k. content (container_of k)) c.in-NewTypeStruct.is in
+    let low : levels s ≤ 33 = (content_at-inside r c.requires.well_formed c.requires.found.0 s is).1 in
+    (omega (arith, low), c.requires.room)
+
+pub content-tuple-requires : goal.content-tuple-requires
+content-tuple-requires t c =
+    let r = c.args.registry.now in
+    let ss = formats_shapes c.in-TupleStruct.formats.items in
+    let is : content_at c.requires.found.0 r ≡ of (tuple_shape ss) = c.requires.found.1 ∙ ap (λ k. content (container_of k)) c.in-TupleStruct.is in
+    let low : suc (shapes_levels ss) ≤ 33 = (content_at-inside r c.requires.well_formed c.requires.found.0 (tuple_shape ss) is).1 in
+    let same : shapes_levels (formats_shapes c.deref.result.now) ≡ shapes_levels ss = ap (λ fs. shapes_levels (formats_shapes fs)) c.deref.ensures.value in
+    (omega (arith, low, same), c.requires.room)
+
+pub content-structure-requires : goal.content-structure-requires
+content-structure-requires t c =
+    let r = c.args.registry.now in
+    let ss = field_shapes (map field_of c.in-Struct.fields.items) in
+    let is : content_at c.requires.found.0 r ≡ of (tuple_shape ss) = c.requires.found.1 ∙ ap (λ k. content (container_of k)) c.in-Struct.is in
+    let low : suc (shapes_levels ss) ≤ 33 = (content_at-inside r c.requires.well_formed c.requires.found.0 (tuple_shape ss) is).1 in
+    let same : shapes_levels (field_shapes (map field_of c.deref-in-Struct.result.now)) ≡ shapes_levels ss = ap (λ fs. shapes_levels (field_shapes (map field_of fs))) c.deref-in-Struct.ensures.value in
+    (omega (arith, low, same), c.requires.room)
+
+pub content-payload-requires : goal.content-payload-requires
+content-payload-requires t c =
+    let r = c.args.registry.now in
+    let cs = map choice_of c.in-Enum.variants.entries in
+    let s : Shape = payload_shape (payload_of c.in-Some.variant.now.value) in
+    let is : content_at c.requires.found.0 r ≡ one_of cs = c.requires.found.1 ∙ ap (λ k. content (container_of k)) c.in-Enum.is in
+    let at : choice_at c.in_ok-start-in-Enum.number cs ≡ of s = choice_found c.in_ok-start-in-Enum.number c.in-Enum.variants.entries c.in-Some.variant c.get.result c.get.ensures.value c.in-Some.is in
+    let low : levels s ≤ 33 = (choice_at-inside r c.requires.well_formed c.requires.found.0 cs is c.in_ok-start-in-Enum.number s at).1 in
+    (omega (arith, low), omega (arith, c.requires.room, c.in_ok-start-in-Enum.ensures.onward.0))
+
+pub content-returns-in-UnitStruct-clause-passes : goal.content-returns-in-UnitStruct-clause-passes
+content-returns-in-UnitStruct-clause-passes t c =
+    let r = c.args.registry.now in
+    let d = c.args.depth in
+    let at = c.args.cursor.now in
+    passes_from (λ x. x) c.node.result _ node_here c.args.cursor.now at c.node.new.cursor
+    (content_as r d at.place at.nodes at.rest.now c.args.container.now _ c.in-UnitStruct.is
+    ∙ content_shape r d at.place at.nodes at.rest.now _ ∙ unit_is r d at.place at.nodes at.rest.now)
+    c.node.ensures.passes
+
+pub content-returns-in-NewTypeStruct-clause-passes : goal.content-returns-in-NewTypeStruct-clause-passes
+content-returns-in-NewTypeStruct-clause-passes t c =
+    let r = c.args.registry.now in
+    let d = c.args.depth in
+    let at = c.args.cursor.now in
+    let s : Shape = shape_of c.in-NewTypeStruct.format in
+    passes_from (λ x. x) c.value.result _ (skip r d s) c.args.cursor.now at c.value.new.cursor
+    (content_as r d at.place at.nodes at.rest.now c.args.container.now _ c.in-NewTypeStruct.is
+    ∙ content_shape r d at.place at.nodes at.rest.now s)
+    c.value.ensures.passes
+
+pub content-returns-in-TupleStruct-clause-passes : goal.content-returns-in-TupleStruct-clause-passes
+content-returns-in-TupleStruct-clause-passes t c =
+    let r = c.args.registry.now in
+    let d = c.args.depth in
+    let at = c.args.cursor.now in
+    let s : Shape = tuple_shape (formats_shapes c.in-TupleStruct.formats.items) in
+    passes_from (λ x. x) c.tuple.result _ (skip r d (tuple_shape (formats_shapes c.deref.result.now))) c.args.cursor.now at c.tuple.new.cursor
+    (content_as r d at.place at.nodes at.rest.now c.args.container.now _ c.in-TupleStruct.is
+    ∙ content_shape r d at.place at.nodes at.rest.now s
+    ∙ ap (λ fs. skip r d (tuple_shape (formats_shapes fs)) at.place at.nodes at.rest.now) (sym c.deref.ensures.value))
+    c.tuple.ensures.passes
+
+pub content-returns-in-Struct-clause-passes : goal.content-returns-in-Struct-clause-passes
+content-returns-in-Struct-clause-passes t c =
+    let r = c.args.registry.now in
+    let d = c.args.depth in
+    let at = c.args.cursor.now in
+    let s : Shape = tuple_shape (field_shapes (map field_of c.in-Struct.fields.items)) in
+    passes_from (λ x. x) c.structure.result _ (skip r d (tuple_shape (field_shapes (map field_of c.deref-in-Struct.result.now)))) c.args.cursor.now at c.structure.new.cursor
+    (content_as r d at.place at.nodes at.rest.now c.args.container.now _ c.in-Struct.is
+    ∙ content_shape r d at.place at.nodes at.rest.now s
+    ∙ ap (λ fs. skip r d (tuple_shape (field_shapes (map field_of fs))) at.place at.nodes at.rest.now) (sym c.deref-in-Struct.ensures.value))
+    c.structure.ensures.passes
+
+pub content-returns-in_err-start-in-Enum-clause-passes : goal.content-returns-in_err-start-in-Enum-clause-passes
+content-returns-in_err-start-in-Enum-clause-passes t c =
+    let p = err_from_is_err_and c.from_residual.result c.from_residual.ensures.1 in
+    let r = c.args.registry.now in
+    let d = c.args.depth in
+    let at = c.args.cursor.now in
+    rw (p.1, p.2)
+    (content_as r d at.place at.nodes at.rest.now c.args.container.now _ c.in-Enum.is
+    ∙ variant_stop r d at.place at.nodes at.rest.now (map choice_of c.in-Enum.variants.entries) _ c.in_err-start-in-Enum.ensures.passes)
+
+pub content-returns-in-Some-clause-passes : goal.content-returns-in-Some-clause-passes
+content-returns-in-Some-clause-passes t c =
+    let r = c.args.registry.now in
+    let d = c.args.depth in
+    let at = c.args.cursor.now in
+    let cs = map choice_of c.in-Enum.variants.entries in
+    let s : Shape = payload_shape (payload_of c.in-Some.variant.now.value) in
+    let chosen : choice_at c.in_ok-start-in-Enum.number cs ≡ of s = choice_found c.in_ok-start-in-Enum.number c.in-Enum.variants.entries c.in-Some.variant c.get.result c.get.ensures.value c.in-Some.is in
+    passes_from (λ x. x) c.payload.result _ (skip r d s) c.args.cursor.now c.variant_number.new.cursor c.payload.new.cursor
+    (content_as r d at.place at.nodes at.rest.now c.args.container.now _ c.in-Enum.is
+    ∙ variant_on r d at.place at.nodes at.rest.now cs c.in_ok-start-in-Enum.start c.in_ok-start-in-Enum.number _ _ _ s c.in_ok-start-in-Enum.ensures.passes chosen)
+    c.payload.ensures.passes
+
+pub content-returns-in-None-clause-passes : goal.content-returns-in-None-clause-passes
+content-returns-in-None-clause-passes t c =
+    let r = c.args.registry.now in
+    let d = c.args.depth in
+    let at = c.args.cursor.now in
+    let cs = map choice_of c.in-Enum.variants.entries in
+    let none : choice_at c.in_ok-start-in-Enum.number cs ≡ nothing = choice_missing c.in_ok-start-in-Enum.number c.in-Enum.variants.entries c.get.result c.get.ensures.value c.in-None.is in
+    content_as r d at.place at.nodes at.rest.now c.args.container.now _ c.in-Enum.is
+    ∙ variant_unknown r d at.place at.nodes at.rest.now cs c.in_ok-start-in-Enum.start c.in_ok-start-in-Enum.number _ _ _ c.in_ok-start-in-Enum.ensures.passes none
+
+pub payload-returns-in-Unit-clause-passes : goal.payload-returns-in-Unit-clause-passes
+payload-returns-in-Unit-clause-passes t c =
+    passes_here c.node.result _ node_here c.args.cursor.now c.node.new.cursor
+    (λ p m b. ap (λ k. skip c.args.registry.now c.args.depth (payload_shape (payload_of k)) p m b) c.in-Unit.is ∙ unit_is c.args.registry.now c.args.depth p m b)
+    c.node.ensures.passes
+
+-- ---- tuple
+
+pub tuple-value-requires : goal.tuple-value-requires
+tuple-value-requires t c =
+    let l = c.loop-format in
+    let x = c.format-item.result in
+    let low = levels_in c.args.formats.now l.format-index x (omega arith) c.format-item.is in
+    (omega (arith, low), l.invariant.room)
+
+pub tuple-returns-in_err-node-clause-passes : goal.tuple-returns-in_err-node-clause-passes
+tuple-returns-in_err-node-clause-passes t c =
+    let p = err_from_is_err_and c.from_residual.result c.from_residual.ensures.1 in
+    rw (p.1, p.2) (tuple_stop c.args.registry.now c.args.depth _ _ _ (formats_shapes c.args.formats.now) _ c.in_err-node.ensures.passes)
+
+pub tuple-returns-in_err-value-clause-passes : goal.tuple-returns-in_err-value-clause-passes
+tuple-returns-in_err-value-clause-passes t c =
+    let p = err_from_is_err_and c.from_residual-in_err-value.result c.from_residual-in_err-value.ensures.1 in
+    let xs = c.args.formats.now in
+    let l = c.loop-format in
+    let x = c.format-item.result in
+    let next = formats_next xs l.format-index x (omega arith) c.format-item.is in
+    rw (p.1, p.2)
+    (tuple_on c.args.registry.now c.args.depth _ _ _ (formats_shapes xs) _ _ _ c.in_ok-node.ensures.passes ∙ l.invariant.whole
+    ∙ each_stop c.args.registry.now c.args.depth _ _ _ _ _ _ _ next c.in_err-value.ensures.passes)
+
+pub tuple-loop-format-preserved : goal.tuple-loop-format-preserved
+tuple-loop-format-preserved t c =
+    let xs = c.args.formats.now in
+    let l = c.loop-format in
+    let x = c.format-item.result in
+    let next = formats_next xs l.format-index x (omega arith) c.format-item.is in
+    record {
+      room = omega (arith, l.invariant.room, c.in_ok-value.ensures.onward.0);
+      onward = (omega (arith, l.invariant.onward.0, c.in_ok-value.ensures.onward.0), omega (arith, l.invariant.onward.1, c.in_ok-value.ensures.onward.1));
+      whole = l.invariant.whole
+          ∙ each_on c.args.registry.now c.args.depth _ _ _ _ _ _ _ _ _ next c.in_ok-value.ensures.passes;
+    }
+
+pub tuple-returns-clause-passes : goal.tuple-returns-clause-passes
+tuple-returns-clause-passes t c =
+    let xs = c.args.formats.now in
+    let l = c.loop-format in
+    let none : drop l.format-index xs ≡ [] = drop_all l.format-index xs (omega arith) in
+    tuple_on c.args.registry.now c.args.depth _ _ _ (formats_shapes xs) _ _ _ c.in_ok-node.ensures.passes ∙ l.invariant.whole
+    ∙ ap (λ ys. each c.args.registry.now c.args.depth (formats_shapes ys) l.cursor.place l.cursor.nodes l.cursor.rest.now) none ∙ each_end c.args.registry.now c.args.depth _ _ _
+
+-- ---- structure
+
+pub structure-value-requires : goal.structure-value-requires
+structure-value-requires t c =
+    let l = c.loop-field in
+    let x = c.field-item.result in
+    let low = field_levels_in c.args.fields.now l.field-index x (omega arith) c.field-item.is in
+    (omega (arith, low), l.invariant.room)
+
+pub structure-returns-in_err-node-clause-passes : goal.structure-returns-in_err-node-clause-passes
+structure-returns-in_err-node-clause-passes t c =
+    let p = err_from_is_err_and c.from_residual.result c.from_residual.ensures.1 in
+    rw (p.1, p.2) (tuple_stop c.args.registry.now c.args.depth _ _ _ (field_shapes (map field_of c.args.fields.now)) _ c.in_err-node.ensures.passes)
+
+pub structure-returns-in_err-value-clause-passes : goal.structure-returns-in_err-value-clause-passes
+structure-returns-in_err-value-clause-passes t c =
+    let p = err_from_is_err_and c.from_residual-in_err-value.result c.from_residual-in_err-value.ensures.1 in
+    let xs = c.args.fields.now in
+    let l = c.loop-field in
+    let x = c.field-item.result in
+    let next = fields_next xs l.field-index x (omega arith) c.field-item.is in
+    rw (p.1, p.2)
+    (tuple_on c.args.registry.now c.args.depth _ _ _ (field_shapes (map field_of xs)) _ _ _ c.in_ok-node.ensures.passes ∙ l.invariant.whole
+    ∙ each_stop c.args.registry.now c.args.depth _ _ _ _ _ _ _ next c.in_err-value.ensures.passes)
+
+pub structure-loop-field-preserved : goal.structure-loop-field-preserved
+structure-loop-field-preserved t c =
+    let xs = c.args.fields.now in
+    let l = c.loop-field in
+    let x = c.field-item.result in
+    let next = fields_next xs l.field-index x (omega arith) c.field-item.is in
+    record {
+      room = omega (arith, l.invariant.room, c.in_ok-value.ensures.onward.0);
+      onward = (omega (arith, l.invariant.onward.0, c.in_ok-value.ensures.onward.0), omega (arith, l.invariant.onward.1, c.in_ok-value.ensures.onward.1));
+      whole = l.invariant.whole
+          ∙ each_on c.args.registry.now c.args.depth _ _ _ _ _ _ _ _ _ next c.in_ok-value.ensures.passes;
+    }
+
+pub structure-returns-clause-passes : goal.structure-returns-clause-passes
+structure-returns-clause-passes t c =
+    let xs = c.args.fields.now in
+    let l = c.loop-field in
+    let none : drop l.field-index xs ≡ [] = drop_all l.field-index xs (omega arith) in
+    tuple_on c.args.registry.now c.args.depth _ _ _ (field_shapes (map field_of xs)) _ _ _ c.in_ok-node.ensures.passes ∙ l.invariant.whole
+    ∙ ap (λ ys. each c.args.registry.now c.args.depth (field_shapes (map field_of ys)) l.cursor.place l.cursor.nodes l.cursor.rest.now) none ∙ each_end c.args.registry.now c.args.depth _ _ _
+
+-- ---- formats
+
+pub value-returns-in-Unit-clause-passes : goal.value-returns-in-Unit-clause-passes
+value-returns-in-Unit-clause-passes t c =
+    passes_here c.node.result _ (node_here) c.args.cursor.now c.node.new.cursor (λ p m b. past_Unit c.args.registry.now c.args.depth c.args.format.now p m b c.in-Unit.is) c.node.ensures.passes
+
+pub value-returns-in-Bool-clause-passes : goal.value-returns-in-Bool-clause-passes
+value-returns-in-Bool-clause-passes t c =
+    passes_here c.truth.result _ (truth_here) c.args.cursor.now c.truth.new.cursor (λ p m b. past_Bool c.args.registry.now c.args.depth c.args.format.now p m b c.in-Bool.is) c.truth.ensures.passes
+
+pub value-returns-in-Str-clause-passes : goal.value-returns-in-Str-clause-passes
+value-returns-in-Str-clause-passes t c =
+    passes_here c.text_value.result _ (text_past) c.args.cursor.now c.text_value.new.cursor (λ p m b. past_Str c.args.registry.now c.args.depth c.args.format.now p m b c.in-Str.is) c.text_value.ensures.passes
+
+pub value-returns-in-Bytes-clause-passes : goal.value-returns-in-Bytes-clause-passes
+value-returns-in-Bytes-clause-passes t c =
+    passes_here c.bytes_value.result _ (bytes_past) c.args.cursor.now c.bytes_value.new.cursor (λ p m b. past_Bytes c.args.registry.now c.args.depth c.args.format.now p m b c.in-Bytes.is) c.bytes_value.ensures.passes
+
+pub value-returns-in-I8-clause-passes : goal.value-returns-in-I8-clause-passes
+value-returns-in-I8-clause-passes t c =
+    passes_here c.whole-in-I8.result _ (whole_here 1) c.args.cursor.now c.whole-in-I8.new.cursor (λ p m b. past_8 c.args.registry.now c.args.depth c.args.format.now p m b c.in-I8.is) c.whole-in-I8.ensures.passes
+
+pub value-returns-in-I16-clause-passes : goal.value-returns-in-I16-clause-passes
+value-returns-in-I16-clause-passes t c =
+    passes_here c.whole-in-I16.result _ (whole_here 2) c.args.cursor.now c.whole-in-I16.new.cursor (λ p m b. past_16 c.args.registry.now c.args.depth c.args.format.now p m b c.in-I16.is) c.whole-in-I16.ensures.passes
+
+pub value-returns-in-I32-clause-passes : goal.value-returns-in-I32-clause-passes
+value-returns-in-I32-clause-passes t c =
+    passes_here c.whole-in-I32.result _ (whole_here 4) c.args.cursor.now c.whole-in-I32.new.cursor (λ p m b. past_32 c.args.registry.now c.args.depth c.args.format.now p m b c.in-I32.is) c.whole-in-I32.ensures.passes
+
+pub value-returns-in-I64-clause-passes : goal.value-returns-in-I64-clause-passes
+value-returns-in-I64-clause-passes t c =
+    passes_here c.whole-in-I64.result _ (whole_here 8) c.args.cursor.now c.whole-in-I64.new.cursor (λ p m b. past_64 c.args.registry.now c.args.depth c.args.format.now p m b c.in-I64.is) c.whole-in-I64.ensures.passes
+
+pub value-returns-in-I128-clause-passes : goal.value-returns-in-I128-clause-passes
+value-returns-in-I128-clause-passes t c =
+    passes_here c.whole.result _ (whole_here 16) c.args.cursor.now c.whole.new.cursor (λ p m b. past_128 c.args.registry.now c.args.depth c.args.format.now p m b c.in-I128.is) c.whole.ensures.passes
+
+pub value-returns-in-F32-clause-passes : goal.value-returns-in-F32-clause-passes
+value-returns-in-F32-clause-passes t c =
+    passes_here c.unsupported.result _ (unsupported_here) c.args.cursor.now c.unsupported.new.cursor (λ p m b. past_float c.args.registry.now c.args.depth c.args.format.now p m b c.in-F32.is) c.unsupported.ensures.passes
+
+pub value-returns-in_err-option-in-Opt-clause-passes : goal.value-returns-in_err-option-in-Opt-clause-passes
+value-returns-in_err-option-in-Opt-clause-passes t c =
+    let p = err_from_is_err_and c.from_residual.result c.from_residual.ensures.1 in
+    rw (p.1, p.2) (option_stop c.args.registry.now c.args.depth c.args.format.now _ _ _ c.in-Opt.content _ c.in-Opt.is c.in_err-option-in-Opt.ensures.passes)
+
+pub value-returns-then-branch-clause-passes : goal.value-returns-then-branch-clause-passes
+value-returns-then-branch-clause-passes t c =
+    let r = c.args.registry.now in
+    let d = c.args.depth in
+    let at = c.args.cursor.now in
+    let on = c.option.new.cursor in
+    passes_from (λ x. x) c.value.result _ (skip r d (shape_of c.deref.result.now)) at on c.value.new.cursor
+    (option_some r d c.args.format.now at.place at.nodes at.rest.now c.in-Opt.content _ on.place on.nodes on.rest.now c.in-Opt.is c.in_ok-option-in-Opt.ensures.passes c.if-branch.true
+    ∙ ap (λ f. skip r d (shape_of f) on.place on.nodes on.rest.now) (sym c.deref.ensures))
+    c.value.ensures.passes
+
+pub value-returns-else-branch-clause-passes : goal.value-returns-else-branch-clause-passes
+value-returns-else-branch-clause-passes t c =
+    option_none c.args.registry.now c.args.depth c.args.format.now _ _ _ c.in-Opt.content _ _ _ _ c.in-Opt.is c.in_ok-option-in-Opt.ensures.passes c.if-branch.false
+
+pub value-returns-in_err-count-in-Seq-clause-passes : goal.value-returns-in_err-count-in-Seq-clause-passes
+value-returns-in_err-count-in-Seq-clause-passes t c =
+    let p = err_from_is_err_and c.from_residual-in_err-count-in-Seq.result c.from_residual-in_err-count-in-Seq.ensures.1 in
+    rw (p.1, p.2) (seq_stop c.args.registry.now c.args.depth c.args.format.now _ _ _ c.in-Seq.element _ c.in-Seq.is c.in_err-count-in-Seq.ensures.passes)
+
+pub value-returns-in_ok-count-in-Seq-clause-passes : goal.value-returns-in_ok-count-in-Seq-clause-passes
+value-returns-in_ok-count-in-Seq-clause-passes t c =
+    let r = c.args.registry.now in
+    let d = c.args.depth in
+    let at = c.args.cursor.now in
+    let on = c.counted.new.cursor in
+    let n = c.in_ok-count-in-Seq.count in
+    passes_from (λ x. x) c.elements.result _ (items_here skipping (skip r d (shape_of c.deref-in-Seq.result.now)) c.from.result) at on c.elements.new.cursor
+    (seq_on r d c.args.format.now at.place at.nodes at.rest.now c.in-Seq.element n on.place on.nodes on.rest.now c.in-Seq.is c.in_ok-count-in-Seq.ensures.passes
+    ∙ ap (λ f. items_here skipping (skip r d (shape_of f)) n on.place on.nodes on.rest.now) (sym c.deref-in-Seq.ensures)
+    ∙ ap (λ k. items_here skipping (skip r d (shape_of c.deref-in-Seq.result.now)) k on.place on.nodes on.rest.now) (sym c.from.ensures))
+    c.elements.ensures.passes
+
+pub value-returns-in_err-count-in-Map-clause-passes : goal.value-returns-in_err-count-in-Map-clause-passes
+value-returns-in_err-count-in-Map-clause-passes t c =
+    let p = err_from_is_err_and c.from_residual-in_err-count-in-Map.result c.from_residual-in_err-count-in-Map.ensures.1 in
+    rw (p.1, p.2) (map_stop c.args.registry.now c.args.depth c.args.format.now _ _ _ c.in-Map.key c.in-Map.content _ c.in-Map.is c.in_err-count-in-Map.ensures.passes)
+
+pub value-returns-in_ok-count-in-Map-clause-passes : goal.value-returns-in_ok-count-in-Map-clause-passes
+value-returns-in_ok-count-in-Map-clause-passes t c =
+    let r = c.args.registry.now in
+    let d = c.args.depth in
+    let at = c.args.cursor.now in
+    let on = c.counted-in-Map.new.cursor in
+    let n = c.in_ok-count-in-Map.count in
+    passes_from (λ x. x) c.entries.result _ (pairs_here skipping (skip r d (shape_of c.deref-in-Map.result.now)) (skip r d (shape_of c.deref-in-Map-2.result.now)) None n) at on c.entries.new.cursor
+    (map_on r d c.args.format.now at.place at.nodes at.rest.now c.in-Map.key c.in-Map.content n on.place on.nodes on.rest.now c.in-Map.is c.in_ok-count-in-Map.ensures.passes
+    ∙ ap (λ f. pairs_here skipping (skip r d (shape_of f)) (skip r d (shape_of c.in-Map.content.value)) None n on.place on.nodes on.rest.now) (sym c.deref-in-Map.ensures)
+    ∙ ap (λ f. pairs_here skipping (skip r d (shape_of c.deref-in-Map.result.now)) (skip r d (shape_of f)) None n on.place on.nodes on.rest.now) (sym c.deref-in-Map-2.ensures))
+    c.entries.ensures.passes
+
+pub value-returns-in_err-node-in-TupleArray-clause-passes : goal.value-returns-in_err-node-in-TupleArray-clause-passes
+value-returns-in_err-node-in-TupleArray-clause-passes t c =
+    let p = err_from_is_err_and c.from_residual-in_err-node-in-TupleArray.result c.from_residual-in_err-node-in-TupleArray.ensures.1 in
+    rw (p.1, p.2) (array_stop c.args.registry.now c.args.depth c.args.format.now _ _ _ c.in-TupleArray.element c.in-TupleArray.size _ c.in-TupleArray.is c.in_err-node-in-TupleArray.ensures.passes)
+
+pub value-returns-in_ok-node-in-TupleArray-clause-passes : goal.value-returns-in_ok-node-in-TupleArray-clause-passes
+value-returns-in_ok-node-in-TupleArray-clause-passes t c =
+    let r = c.args.registry.now in
+    let d = c.args.depth in
+    let at = c.args.cursor.now in
+    let on = c.node-in-TupleArray.new.cursor in
+    let n = c.in-TupleArray.size in
+    passes_from (λ x. x) c.elements-in-TupleArray.result _ (items_here skipping (skip r d (shape_of c.deref-in-TupleArray.result.now)) n) at on c.elements-in-TupleArray.new.cursor
+    (array_on r d c.args.format.now at.place at.nodes at.rest.now c.in-TupleArray.element n on.place on.nodes on.rest.now c.in-TupleArray.is c.in_ok-node-in-TupleArray.ensures.passes
+    ∙ ap (λ f. items_here skipping (skip r d (shape_of f)) n on.place on.nodes on.rest.now) (sym c.deref-in-TupleArray.ensures))
+    c.elements-in-TupleArray.ensures.passes

@@ -1,0 +1,67 @@
+-- What going past a part of the bytes says of the cursor.
+use Rattle.std.specs.Prelude.{◌≡◌, ℕ, zero, suc, ◌+◌, ◌≤◌, Bool, List, Option, Some, None, length, Result, Ok, Err}
+use Rattle.std.specs.Borrow.{Bor}
+use Rattle.bcs_registry_model.specs.Shape.{Shape}
+use Rattle.bcs_registry_model.specs.Container.{Entries}
+use Rattle.bcs_decode_slice.specs.declared.cursor.Cursor.{Cursor}
+use Rattle.bcs_decode_spec.specs.declared.stop.Stop.{Stop}
+use Rattle.bcs_decode_spec.specs.declared.reason.Reason.TheVariants.{BadBool, BadOption, TooDeep, Unsupported}
+use Rattle.bcs_decode_spec.specs.Reading.{Parser, node, chain, give, fail_here, flag_here, number_here, length_here, bytes_here, text_here, value_here, skipping}
+
+-- what was returned, seen by view, is what the parser reads from the cursor on, and where it ends
+abbrev pub Passes : {X A : Type 0} → (X → A) → Result X Stop → Parser A → Cursor → Cursor → Type 0
+Passes view (Ok x) f old new = f old.place old.nodes old.rest.now ≡ Ok (view x, new.place, new.nodes, new.rest.now)
+Passes view (Err s) f old new = f old.place old.nodes old.rest.now ≡ Err (s.reason, s.place)
+
+-- bytes are only gone past
+abbrev pub Onward : Cursor → Cursor → Type 0
+Onward old new = (new.place + length new.rest.now ≡ old.place + length old.rest.now) × (old.place ≤ new.place)
+
+-- a test that reads nothing
+abbrev pub Judges : Result (Unit {0}) Stop → Parser (Unit {0}) → Type 0
+Judges (Ok u) f = (p m : ℕ) (b : List ℕ) → f p m b ≡ Ok (tt, p, m, b)
+Judges (Err s) f = (p m : ℕ) (b : List ℕ) → f p m b ≡ Err (s.reason, s.place)
+
+abbrev pub key_bytes : Option (Bor (List ℕ)) → Option (List ℕ)
+key_bytes None = None
+key_bytes (Some k) = Some k.now
+
+-- a node begins, and nothing is read
+abbrev pub node_here : Parser (Unit {0})
+node_here = node (give tt)
+
+-- a value of the format is gone past
+abbrev pub skip : Entries → ℕ → Shape → Parser (Unit {0})
+skip registry d s = value_here skipping registry d s
+
+-- ---- what each step goes past
+
+unfoldable pub truth_here : Parser (Unit {0})
+truth_here = chain node_here (λ _. chain (flag_here BadBool) (λ _. give tt))
+
+unfoldable pub whole_here : ℕ → Parser (Unit {0})
+whole_here n = chain node_here (λ _. chain (bytes_here n) (λ _. give tt))
+
+unfoldable pub counted_here : Parser ℕ
+counted_here = chain node_here (λ _. length_here)
+
+unfoldable pub text_past : Parser (Unit {0})
+text_past = chain counted_here (λ n. chain (text_here n) (λ _. give tt))
+
+unfoldable pub bytes_past : Parser (Unit {0})
+bytes_past = chain counted_here (λ n. chain (bytes_here n) (λ _. give tt))
+
+unfoldable pub unsupported_here : Parser (Unit {0})
+unsupported_here = chain node_here (λ _. fail_here Unsupported)
+
+unfoldable pub option_past : Parser Bool
+option_past = chain node_here (λ _. flag_here BadOption)
+
+-- a variant's number, and where it begins
+unfoldable pub variant_past : Parser (ℕ × ℕ)
+variant_past = chain node_here (λ _ start. chain number_here (λ n. give (start, n)) start)
+
+-- a container opens
+unfoldable pub enter_here : ℕ → Parser (Unit {0})
+enter_here zero = fail_here TooDeep
+enter_here (suc d) = node_here

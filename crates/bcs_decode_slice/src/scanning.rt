@@ -1,0 +1,285 @@
+//! Going past values of a format, front to back. `value`, `content` and `next_key` are part of their callers, and
+//! nothing else is, so that each level of a format takes one small frame of the stack.
+ghost use Rattle.std.specs.Prelude.{◌≡◌, ℕ, ◌+◌, ◌<◌, ◌≤◌, ◌^◌, List, None, length, map};
+ghost use Rattle.bcs_registry_model.specs.Container as spec;
+ghost use Rattle.bcs_registry_model.specs.Container.{content_at, field_shapes, payload_shape};
+ghost use Rattle.bcs_registry_model.specs.Shape.{name as name_shape, tuple as tuple_shape};
+ghost use Rattle.bcs_registry_model.specs.View.{shape_of, formats_shapes, field_of, payload_of, container_of};
+ghost use Rattle.bcs_registry_model.specs.WellFormed.{IsWellFormed};
+ghost use Rattle.bcs_decode_spec.specs.Reading.{content_here, items_here, key_here, named_here, pairs_here, skipping};
+ghost use Rattle.bcs_decode_slice.specs.Passing.{Passes, Onward, key_bytes, skip};
+
+use crate::cursor::{Cursor, node};
+use crate::fixed_row::fixed_row;
+use crate::named_container::named_container;
+use crate::shallow::{bytes_value, counted, enter, follows, option, text_value, truth, unsupported, variant_number, whole};
+use crate::whole_row::{whole_row, whole_width};
+use bcs_decode_spec::{Reason, Stop};
+use bcs_registry::{Container, Format, Named, Registry, VariantFormat};
+
+/// Goes past a value of the format, inside which so many containers may open.
+#[cycle(scanning)]
+#[inline(always)]
+pub fn value<'a>(
+    registry: &Registry,
+    format: &Format,
+    depth: u32,
+    cursor: &mut Cursor<'a>,
+) -> Result<(), Stop>
+    requires room { cursor.old.place + length cursor.old.rest.now < 2 ^ 64 }
+    ensures passes { Passes (λ x. x) result (skip registry.now depth (shape_of format.now)) cursor.old cursor.new }
+    ensures onward { Onward cursor.old cursor.new }
+{
+    match format {
+        Format::Unit => node(cursor),
+        Format::Bool => truth(cursor),
+        Format::I8 | Format::U8 => whole(cursor, 1),
+        Format::I16 | Format::U16 => whole(cursor, 2),
+        Format::I32 | Format::U32 => whole(cursor, 4),
+        Format::I64 | Format::U64 => whole(cursor, 8),
+        Format::I128 | Format::U128 => whole(cursor, 16),
+        Format::F32 | Format::F64 | Format::Char => unsupported(cursor),
+        Format::Str => text_value(cursor),
+        Format::Bytes => bytes_value(cursor),
+        Format::TypeName(name) => named(registry, name.as_str(), depth, cursor),
+        Format::Opt(content) => {
+            if option(cursor)? {
+                value(registry, content, depth, cursor)
+            } else {
+                Ok(())
+            }
+        }
+        Format::Seq(element) => {
+            let count = counted(cursor)?;
+            elements(registry, element, u64::from(count), depth, cursor)
+        }
+        Format::Map(key, content) => {
+            let count = counted(cursor)?;
+            entries(registry, key, content, count, depth, cursor)
+        }
+        Format::Tuple(formats) => tuple(registry, formats, depth, cursor),
+        Format::TupleArray(element, size) => {
+            node(cursor)?;
+            elements(registry, element, *size, depth, cursor)
+        }
+    }
+}
+
+/// So many values of one format. Those that all have one size are gone past in one step, and a container is looked up
+/// once.
+#[cycle(scanning)]
+#[inline(never)]
+pub fn elements<'a>(
+    registry: &Registry,
+    element: &Format,
+    count: u64,
+    depth: u32,
+    cursor: &mut Cursor<'a>,
+) -> Result<(), Stop>
+    requires room { cursor.old.place + length cursor.old.rest.now < 2 ^ 64 }
+    ensures passes { Passes (λ x. x) result (items_here skipping (skip registry.now depth (shape_of element.now)) count) cursor.old cursor.new }
+    ensures onward { Onward cursor.old cursor.new }
+{
+    if let Some(width) = whole_width(element) {
+        return whole_row(cursor, width, count);
+    }
+    let gone = fixed_row(registry, element, count, depth, cursor);
+    if gone == count {
+        return Ok(());
+    }
+    if let Some(container) = named_container(registry, element) {
+        return containers(registry, container, count - gone, depth, cursor);
+    }
+    for _ in gone..count {
+        value(registry, element, depth, cursor)?;
+    }
+    Ok(())
+}
+
+/// So many entries, whose keys rise.
+#[cycle(scanning)]
+#[inline(never)]
+fn entries<'a>(
+    registry: &Registry,
+    key: &Format,
+    content: &Format,
+    count: u32,
+    depth: u32,
+    cursor: &mut Cursor<'a>,
+) -> Result<(), Stop>
+    requires room { cursor.old.place + length cursor.old.rest.now < 2 ^ 64 }
+    ensures passes { Passes (λ x. x) result (pairs_here skipping (skip registry.now depth (shape_of key.now)) (skip registry.now depth (shape_of content.now)) None count) cursor.old cursor.new }
+    ensures onward { Onward cursor.old cursor.new }
+{
+    let mut last: Option<&'a [u8]> = None;
+    for _ in 0..count {
+        let found = next_key(registry, key, last, depth, cursor)?;
+        value(registry, content, depth, cursor)?;
+        last = Some(found);
+    }
+    Ok(())
+}
+
+/// A key that may follow the last one, as the bytes that were gone past.
+#[cycle(scanning)]
+#[inline(always)]
+#[tactic(auto, unfolding(bcs_decode_spec::specs::Reading::give, bcs_decode_spec::specs::Reading::key_here))]
+fn next_key<'a>(
+    registry: &Registry,
+    key: &Format,
+    last: Option<&'a [u8]>,
+    depth: u32,
+    cursor: &mut Cursor<'a>,
+) -> Result<&'a [u8], Stop>
+    requires room { cursor.old.place + length cursor.old.rest.now < 2 ^ 64 }
+    ensures passes { Passes (λ x. (tt, x.now)) result (key_here (skip registry.now depth (shape_of key.now)) (key_bytes last.entry)) cursor.old cursor.new }
+    ensures onward { Onward cursor.old cursor.new }
+{
+    let start = cursor.place;
+    let from = cursor.rest;
+    value(registry, key, depth, cursor)?;
+    let (found, _) = from.split_at((cursor.place - start) as usize);
+    follows(last, found, start)?;
+    Ok(found)
+}
+
+/// A value of each format in turn.
+#[cycle(scanning)]
+#[inline(never)]
+pub fn tuple<'a>(
+    registry: &Registry,
+    formats: &[Format],
+    depth: u32,
+    cursor: &mut Cursor<'a>,
+) -> Result<(), Stop>
+    requires room { cursor.old.place + length cursor.old.rest.now < 2 ^ 64 }
+    ensures passes { Passes (λ x. x) result (skip registry.now depth (tuple_shape (formats_shapes formats.now))) cursor.old cursor.new }
+    ensures onward { Onward cursor.old cursor.new }
+{
+    node(cursor)?;
+    for format in formats {
+        value(registry, format, depth, cursor)?;
+    }
+    Ok(())
+}
+
+/// A value of each field's format in turn.
+#[cycle(scanning)]
+#[inline(never)]
+pub fn structure<'a>(
+    registry: &Registry,
+    fields: &[Named<Format>],
+    depth: u32,
+    cursor: &mut Cursor<'a>,
+) -> Result<(), Stop>
+    requires room { cursor.old.place + length cursor.old.rest.now < 2 ^ 64 }
+    ensures passes { Passes (λ x. x) result (skip registry.now depth (tuple_shape (field_shapes (map field_of fields.now)))) cursor.old cursor.new }
+    ensures onward { Onward cursor.old cursor.new }
+{
+    node(cursor)?;
+    for field in fields {
+        value(registry, &field.value, depth, cursor)?;
+    }
+    Ok(())
+}
+
+/// The container of this name, where so many containers may open.
+#[cycle(scanning)]
+#[inline(never)]
+fn named<'a>(
+    registry: &Registry,
+    name: &str,
+    depth: u32,
+    cursor: &mut Cursor<'a>,
+) -> Result<(), Stop>
+    requires room { cursor.old.place + length cursor.old.rest.now < 2 ^ 64 }
+    ensures passes { Passes (λ x. x) result (skip registry.now depth (name_shape name.now)) cursor.old cursor.new }
+    ensures onward { Onward cursor.old cursor.new }
+{
+    enter(cursor, depth)?;
+    let Some(container) = registry.container(name) else {
+        return Err(Stop {
+            reason: Reason::Unsupported,
+            place: cursor.place,
+        });
+    };
+    content(registry, container, depth - 1, cursor)
+}
+
+/// So many values of a container of the registry, whichever its name is.
+#[cycle(scanning)]
+#[inline(never)]
+fn containers<'a>(
+    registry: &Registry,
+    container: &Container,
+    count: u64,
+    depth: u32,
+    cursor: &mut Cursor<'a>,
+) -> Result<(), Stop>
+    requires room { cursor.old.place + length cursor.old.rest.now < 2 ^ 64 }
+    requires found { (name : List ℕ) × (content_at name registry.now ≡ spec.content (container_of container.now)) }
+    requires well_formed { IsWellFormed registry.now }
+    ensures passes { (name : List ℕ) → content_at name registry.now ≡ spec.content (container_of container.now)
+        → Passes (λ x. x) result (items_here skipping (skip registry.now depth (name_shape name)) count) cursor.old cursor.new }
+    ensures onward { Onward cursor.old cursor.new }
+{
+    for _ in 0..count {
+        enter(cursor, depth)?;
+        content(registry, container, depth - 1, cursor)?;
+    }
+    Ok(())
+}
+
+/// What stands in a container of the registry.
+#[cycle(scanning)]
+#[inline(always)]
+fn content<'a>(
+    registry: &Registry,
+    container: &Container,
+    depth: u32,
+    cursor: &mut Cursor<'a>,
+) -> Result<(), Stop>
+    requires room { cursor.old.place + length cursor.old.rest.now < 2 ^ 64 }
+    requires found { (name : List ℕ) × (content_at name registry.now ≡ spec.content (container_of container.now)) }
+    requires well_formed { IsWellFormed registry.now }
+    ensures passes { Passes (λ x. x) result (content_here skipping (named_here skipping registry.now depth) (spec.content (container_of container.now))) cursor.old cursor.new }
+    ensures onward { Onward cursor.old cursor.new }
+{
+    match container {
+        Container::UnitStruct => node(cursor),
+        Container::NewTypeStruct(format) => value(registry, format, depth, cursor),
+        Container::TupleStruct(formats) => tuple(registry, formats, depth, cursor),
+        Container::Struct(fields) => structure(registry, fields, depth, cursor),
+        Container::Enum(variants) => {
+            let (start, number) = variant_number(cursor)?;
+            match variants.get(&number) {
+                Some(variant) => payload(registry, &variant.value, depth, cursor),
+                None => Err(Stop {
+                    reason: Reason::UnknownVariant,
+                    place: start,
+                }),
+            }
+        }
+    }
+}
+
+/// What a variant carries.
+#[cycle(scanning)]
+#[inline(never)]
+pub fn payload<'a>(
+    registry: &Registry,
+    payload: &VariantFormat,
+    depth: u32,
+    cursor: &mut Cursor<'a>,
+) -> Result<(), Stop>
+    requires room { cursor.old.place + length cursor.old.rest.now < 2 ^ 64 }
+    ensures passes { Passes (λ x. x) result (skip registry.now depth (payload_shape (payload_of payload.now))) cursor.old cursor.new }
+    ensures onward { Onward cursor.old cursor.new }
+{
+    match payload {
+        VariantFormat::Unit => node(cursor),
+        VariantFormat::NewType(format) => value(registry, format, depth, cursor),
+        VariantFormat::Tuple(formats) => tuple(registry, formats, depth, cursor),
+        VariantFormat::Struct(fields) => structure(registry, fields, depth, cursor),
+    }
+}

@@ -1,0 +1,149 @@
+//! Going past what has no values inside. No step is part of its caller, whose frame stays small.
+ghost use Rattle.std.specs.Prelude.{◌≡◌, ℕ, ◌+◌, ◌<◌, ◌≤◌, ◌^◌, IfOk, length};
+ghost use Rattle.bcs_decode_spec.specs.Reading.{key_after};
+ghost use Rattle.bcs_decode_slice.specs.Passing.{Passes, Onward, Judges, key_bytes, truth_here, whole_here, counted_here, text_past, bytes_past, unsupported_here, option_past, enter_here, variant_past};
+
+use crate::cursor::{Cursor, bytes, flag, length, node, number, text};
+use bcs_decode_spec::{Reason, Stop};
+use std::cmp::Ordering;
+
+#[inline(never)]
+#[tactic(auto, unfolding(bcs_decode_spec::specs::Reading::chain, bcs_decode_spec::specs::Reading::give, crate::specs::Passing::truth_here))]
+pub fn truth(cursor: &mut Cursor) -> Result<(), Stop>
+    requires room { cursor.old.place + length cursor.old.rest.now < 2 ^ 64 }
+    ensures passes { Passes (λ x. x) result truth_here cursor.old cursor.new }
+    ensures onward { Onward cursor.old cursor.new }
+{
+    node(cursor)?;
+    flag(cursor, Reason::BadBool)?;
+    Ok(())
+}
+
+/// A whole number of so many bytes.
+#[inline(never)]
+#[tactic(auto, unfolding(bcs_decode_spec::specs::Reading::chain, bcs_decode_spec::specs::Reading::give, crate::specs::Passing::whole_here))]
+pub fn whole(cursor: &mut Cursor, count: usize) -> Result<(), Stop>
+    requires room { cursor.old.place + length cursor.old.rest.now < 2 ^ 64 }
+    ensures passes { Passes (λ x. x) result (whole_here count) cursor.old cursor.new }
+    ensures onward { Onward cursor.old cursor.new }
+{
+    node(cursor)?;
+    bytes(cursor, count)?;
+    Ok(())
+}
+
+/// A node with a length.
+#[inline(never)]
+#[tactic(auto, unfolding(bcs_decode_spec::specs::Reading::chain, bcs_decode_spec::specs::Reading::give, crate::specs::Passing::counted_here))]
+pub fn counted(cursor: &mut Cursor) -> Result<u32, Stop>
+    requires room { cursor.old.place + length cursor.old.rest.now < 2 ^ 64 }
+    ensures passes { Passes (λ x. x) result counted_here cursor.old cursor.new }
+    ensures onward { Onward cursor.old cursor.new }
+{
+    node(cursor)?;
+    length(cursor)
+}
+
+#[inline(never)]
+#[tactic(auto, unfolding(bcs_decode_spec::specs::Reading::chain, bcs_decode_spec::specs::Reading::give, crate::specs::Passing::text_past))]
+pub fn text_value(cursor: &mut Cursor) -> Result<(), Stop>
+    requires room { cursor.old.place + length cursor.old.rest.now < 2 ^ 64 }
+    ensures passes { Passes (λ x. x) result text_past cursor.old cursor.new }
+    ensures onward { Onward cursor.old cursor.new }
+{
+    let count = counted(cursor)?;
+    text(cursor, count as usize)?;
+    Ok(())
+}
+
+#[inline(never)]
+#[tactic(auto, unfolding(bcs_decode_spec::specs::Reading::chain, bcs_decode_spec::specs::Reading::give, crate::specs::Passing::bytes_past))]
+pub fn bytes_value(cursor: &mut Cursor) -> Result<(), Stop>
+    requires room { cursor.old.place + length cursor.old.rest.now < 2 ^ 64 }
+    ensures passes { Passes (λ x. x) result bytes_past cursor.old cursor.new }
+    ensures onward { Onward cursor.old cursor.new }
+{
+    let count = counted(cursor)?;
+    bytes(cursor, count as usize)?;
+    Ok(())
+}
+
+#[inline(never)]
+#[tactic(auto, unfolding(bcs_decode_spec::specs::Reading::chain, bcs_decode_spec::specs::Reading::fail_here, crate::specs::Passing::unsupported_here))]
+pub fn unsupported(cursor: &mut Cursor) -> Result<(), Stop>
+    requires room { cursor.old.place + length cursor.old.rest.now < 2 ^ 64 }
+    ensures passes { Passes (λ x. x) result unsupported_here cursor.old cursor.new }
+    ensures onward { Onward cursor.old cursor.new }
+{
+    node(cursor)?;
+    Err(Stop {
+        reason: Reason::Unsupported,
+        place: cursor.place,
+    })
+}
+
+/// Whether an option is present.
+#[inline(never)]
+#[tactic(auto, unfolding(bcs_decode_spec::specs::Reading::chain, bcs_decode_spec::specs::Reading::give, crate::specs::Passing::option_past))]
+pub fn option(cursor: &mut Cursor) -> Result<bool, Stop>
+    requires room { cursor.old.place + length cursor.old.rest.now < 2 ^ 64 }
+    ensures passes { Passes (λ x. x) result option_past cursor.old cursor.new }
+    ensures onward { Onward cursor.old cursor.new }
+{
+    node(cursor)?;
+    flag(cursor, Reason::BadOption)
+}
+
+/// A container opens, where so many may.
+#[inline(never)]
+#[tactic(auto, using(crate::proofs::Passings::enter_none, crate::proofs::Passings::enter_more))]
+pub fn enter(cursor: &mut Cursor, depth: u32) -> Result<(), Stop>
+    requires room { cursor.old.place + length cursor.old.rest.now < 2 ^ 64 }
+    ensures passes { Passes (λ x. x) result (enter_here depth) cursor.old cursor.new }
+    ensures onward { Onward cursor.old cursor.new }
+    ensures positive { IfOk result (λ _. 0 < depth) }
+{
+    if depth == 0 {
+        return Err(Stop {
+            reason: Reason::TooDeep,
+            place: cursor.place,
+        });
+    }
+    node(cursor)
+}
+
+/// A variant's number, and where it begins.
+#[inline(never)]
+#[tactic(auto, unfolding(bcs_decode_spec::specs::Reading::chain, bcs_decode_spec::specs::Reading::give, crate::specs::Passing::variant_past))]
+pub fn variant_number(cursor: &mut Cursor) -> Result<(u64, u32), Stop>
+    requires room { cursor.old.place + length cursor.old.rest.now < 2 ^ 64 }
+    ensures passes { Passes (λ x. x) result variant_past cursor.old cursor.new }
+    ensures onward { Onward cursor.old cursor.new }
+{
+    node(cursor)?;
+    let start = cursor.place;
+    let found = number(cursor)?;
+    Ok((start, found))
+}
+
+/// Whether a key that begins at the place may follow the last one.
+#[inline(never)]
+#[tactic(auto, unfolding(bcs_decode_spec::specs::Reading::key_after, bcs_decode_spec::specs::Reading::give, bcs_decode_spec::specs::Reading::fail))]
+pub fn follows(last: Option<&[u8]>, key: &[u8], start: u64) -> Result<(), Stop>
+    ensures { Judges result (key_after (key_bytes last.entry) key.now start) }
+{
+    let Some(last) = last else {
+        return Ok(());
+    };
+    match last.cmp(key) {
+        Ordering::Less => Ok(()),
+        Ordering::Equal => Err(Stop {
+            reason: Reason::KeyRepeated,
+            place: start,
+        }),
+        Ordering::Greater => Err(Stop {
+            reason: Reason::KeyOrder,
+            place: start,
+        }),
+    }
+}

@@ -1,0 +1,56 @@
+//! Going past a list of whole numbers in one step.
+ghost use Rattle.std.specs.Prelude.{◌≡◌, ℕ, ◌+◌, ◌*◌, ◌<◌, ◌≤◌, ◌^◌, List, IfSome, length};
+ghost use Rattle.bcs_registry_model.specs.Container.{Entries};
+ghost use Rattle.bcs_registry_model.specs.View.{shape_of};
+ghost use Rattle.bcs_decode_spec.specs.Reading.{items_here, skipping};
+ghost use Rattle.bcs_decode_slice.specs.Passing.{Passes, Onward, skip, whole_here};
+
+use crate::cursor::{Cursor, advance, end_of_input};
+use bcs_decode_spec::{Reason, Stop};
+use bcs_registry_model::Format;
+
+/// How many bytes each value of the format has, where any bytes will do.
+#[inline(never)]
+#[tactic(auto, using(crate::proofs::Passings::past_Nothing, crate::proofs::Passings::past_8, crate::proofs::Passings::past_16, crate::proofs::Passings::past_32, crate::proofs::Passings::past_64, crate::proofs::Passings::past_128))]
+pub fn whole_width(format: &Format) -> Option<usize>
+    ensures { IfSome result (λ w. (w ≤ 16) × ((registry : Entries) (d p m : ℕ) (b : List ℕ) → skip registry d (shape_of format.now) p m b ≡ whole_here w p m b)) }
+{
+    match format {
+        Format::Unit => Some(0),
+        Format::I8 | Format::U8 => Some(1),
+        Format::I16 | Format::U16 => Some(2),
+        Format::I32 | Format::U32 => Some(4),
+        Format::I64 | Format::U64 => Some(8),
+        Format::I128 | Format::U128 => Some(16),
+        _ => None,
+    }
+}
+
+/// So many values of so many bytes each.
+#[inline(never)]
+pub fn whole_row(cursor: &mut Cursor, width: usize, count: u64) -> Result<(), Stop>
+    requires room { cursor.old.place + length cursor.old.rest.now < 2 ^ 64 }
+    requires small { width ≤ 16 }
+    ensures passes { Passes (λ x. x) result (items_here skipping (whole_here width) count) cursor.old cursor.new }
+    ensures onward { Onward cursor.old cursor.new }
+{
+    let nodes = u64::from(cursor.nodes);
+    let some = count.min(nodes);
+    let there = if width == 0 {
+        some
+    } else {
+        (cursor.rest.len() / width) as u64
+    };
+    if there < some {
+        return Err(end_of_input(cursor));
+    }
+    if nodes < count {
+        return Err(Stop {
+            reason: Reason::TooManyNodes,
+            place: cursor.place + nodes * width as u64,
+        });
+    }
+    advance(cursor, count as usize * width);
+    cursor.nodes -= count as u32;
+    Ok(())
+}

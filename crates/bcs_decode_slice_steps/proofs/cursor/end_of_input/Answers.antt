@@ -1,8 +1,0 @@
-use Rattle.std.proofs.Common.{rules}
-use Rattle.bcs_decode_slice_steps.proofs.cursor.end_of_input.Goals as goal
-
-pub returns-clause-reason : goal.returns-clause-reason
-returns-clause-reason c = search rules
-
-pub returns-clause-place : goal.returns-clause-place
-returns-clause-place c = search rules

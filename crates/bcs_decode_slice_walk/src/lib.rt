@@ -1,4 +1,0 @@
-//! Going past values in a slice of bytes.
-#![tactic(auto)]
-
-pub mod scanning;

@@ -1,0 +1,173 @@
+-- The parsers of values, as they are read from a source.
+use Rattle.std.proofs.Common.{◌≡◌, ℕ, zero, suc, true, ◌-◌, ◌<◌, List, Option, Some, None, take, Ok, Err, Box, Vec, Global, String, string_bytes, refl, ap, ◌∙◌, arith}
+use Rattle.bcs_registry_model.specs.Shape as shape
+use Rattle.bcs_registry_model.specs.Shape.{Shape, Shapes}
+use Rattle.bcs_registry_model.specs.Container.{Entries, Content, Choice, of, one_of, nothing, content_at, choice_at}
+use Rattle.bcs_registry_model.specs.View.{shape_of, formats_shapes}
+use Rattle.bcs_registry_model.specs.Whole.{whole_shape}
+use Rattle.bcs_registry_model.specs.declared.whole_number.WholeNumber.{WholeNumber}
+use Rattle.bcs_registry_model.specs.declared.whole_number.WholeNumber.TheVariants.{Unsigned, Signed}
+use Rattle.bcs_registry_model.specs.declared.format.Format as format
+use Rattle.bcs_registry_model.proofs.FormatViews.{shape-Opt, shape-Seq, shape-TupleArray, shape-Map, shape-Tuple, shape-TypeName}
+use Rattle.bcs_value_model.specs.Tree as tree
+use Rattle.bcs_value_model.specs.Tree.{Tree}
+use Rattle.bcs_decode_spec.specs.declared.reason.Reason.TheVariants.{TooDeep, Unsupported, UnknownVariant}
+use Rattle.bcs_decode_spec.specs.declared.reason.Reason.{Reason}
+use Rattle.bcs_decode_spec.specs.Reading.{Parser, follow, chain, give, fail, fail_here, content_here, choice_here, variant_here, key_here, key_after, node, value_here, shape_here, option_here, items_here, pairs_here, length_here, named_here, building}
+use Rattle.bcs_decode_source.proofs.Parts.{has_no_parts, IsBare, bare_shape}
+use Rattle.bcs_decode_source.specs.Sees.{node_here, read, leaf_here, unit_leaf, flag_node, option_value, items_value, row_here, pairs_value, each, tuple_value, enter_here, container_value, named_value, content_value, number_node}
+
+pub enter_none : (d p m : ℕ) (b : List ℕ) → d ≡ 0 → enter_here d p m b ≡ fail_here TooDeep p m b
+unfolding enter_here
+enter_none d p m b h = rw h refl
+
+pub enter_more : (d p m : ℕ) (b : List ℕ) → 0 < d → enter_here d p m b ≡ node_here p m b
+unfolding enter_here
+enter_more zero p m b h = absurd (omega arith)
+enter_more (suc d) p m b h = refl
+
+option_is : (f : Parser Tree) (p m : ℕ) (b : List ℕ) → node (option_here building f) p m b ≡ option_value f p m b
+unfolding node option_here option_value flag_node chain give
+option_is f p zero b = refl
+option_is f p (suc m) b = refl
+
+seq_is : (f : Parser Tree) (p m : ℕ) (b : List ℕ) → node (chain length_here (λ n. chain (items_here building f n) (λ ts. give (tree.items ts)))) p m b ≡ items_value f None p m b
+unfolding node items_value row_here chain give
+seq_is f p zero b = refl
+seq_is f p (suc m) b = refl
+
+array_is : (f : Parser Tree) (n p m : ℕ) (b : List ℕ) → node (chain (items_here building f n) (λ ts. give (tree.items ts))) p m b ≡ items_value f (Some n) p m b
+unfolding node items_value row_here chain give
+array_is f n p zero b = refl
+array_is f n p (suc m) b = refl
+
+map_is : (f g : Parser Tree) (p m : ℕ) (b : List ℕ) → node (chain length_here (λ n. chain (pairs_here building f g None n) (λ ps. give (tree.pairs ps)))) p m b ≡ pairs_value f g p m b
+unfolding node pairs_value row_here chain give
+map_is f g p zero b = refl
+map_is f g p (suc m) b = refl
+
+tuple_is : (registry : Entries) (d : ℕ) (ss : Shapes) (p m : ℕ) (b : List ℕ) → node (chain (each registry d ss) (λ ts. give (tree.items ts))) p m b ≡ tuple_value registry d ss p m b
+unfolding node tuple_value chain give
+tuple_is registry d ss p zero b = refl
+tuple_is registry d ss p (suc m) b = refl
+
+pub named_is : (registry : Entries) (d : ℕ) (name : List ℕ) (p m : ℕ) (b : List ℕ) → named_here building registry d name p m b ≡ named_value registry d name p m b
+unfolding named_here container_value enter_here node chain give fail_here
+named_is registry zero name p m b = refl
+named_is registry (suc d) name p zero b = refl
+named_is registry (suc d) name p (suc m) b = let e : suc d - 1 ≡ d = omega arith in rw e refl
+
+enum_is : (registry : Entries) (d : ℕ) (cs : List Choice) (p m : ℕ) (b : List ℕ) → content_value registry d (one_of cs) p m b ≡ follow (number_node p m b) (λ n. chain (choice_here building (named_here building registry d) p (choice_at n cs)) (λ t. give (tree.variant n t)))
+unfolding content_here variant_here number_node node chain give
+enum_is registry d cs p zero b = refl
+enum_is registry d cs p (suc m) b = refl
+
+-- ---- containers
+
+module _ (registry : Entries) (d p m : ℕ) (b : List ℕ) where
+  pub unit_is : read registry d shape.unit p m b ≡ unit_leaf p m b
+  unfolding value_here shape_here
+  unit_is = refl
+
+  pub read_tuple : (ss : Shapes) → read registry d (shape.tuple ss) p m b ≡ tuple_value registry d ss p m b
+  unfolding value_here shape_here
+  read_tuple ss = tuple_is registry d ss p m b
+
+  pub content_shape : (s : shape.Shape) → content_value registry d (of s) p m b ≡ read registry d s p m b
+  unfolding content_here value_here
+  content_shape s = refl
+
+  pub content_nothing : content_value registry d nothing p m b ≡ Err (Unsupported, p)
+  unfolding content_here fail_here
+  content_nothing = refl
+
+  pub enum_stop : (cs : List Choice) (e : Reason) (o : ℕ) → number_node p m b ≡ Err (e, o) → content_value registry d (one_of cs) p m b ≡ Err (e, o)
+  enum_stop cs e o h = enum_is registry d cs p m b ∙ rw h refl
+
+  pub enum_unknown : (cs : List Choice) (n q l : ℕ) (c : List ℕ) → number_node p m b ≡ Ok (n, q, l, c) → choice_at n cs ≡ nothing → content_value registry d (one_of cs) p m b ≡ Err (UnknownVariant, p)
+  unfolding choice_here chain fail
+  enum_unknown cs n q l c h none = enum_is registry d cs p m b ∙ rw (h, none) refl
+
+  pub enum_refused : (cs : List Choice) (n q l : ℕ) (c : List ℕ) (s : shape.Shape) (e : Reason) (o : ℕ) → number_node p m b ≡ Ok (n, q, l, c) → choice_at n cs ≡ of s → read registry d s q l c ≡ Err (e, o) → content_value registry d (one_of cs) p m b ≡ Err (e, o)
+  unfolding choice_here chain value_here
+  enum_refused cs n q l c s e o h is stop = enum_is registry d cs p m b ∙ rw (h, is, stop) refl
+
+  pub enum_on : (cs : List Choice) (n q l : ℕ) (c : List ℕ) (s : shape.Shape) (t : Tree) (i j : ℕ) (r : List ℕ) → number_node p m b ≡ Ok (n, q, l, c) → choice_at n cs ≡ of s → read registry d s q l c ≡ Ok (t, i, j, r) → content_value registry d (one_of cs) p m b ≡ Ok (tree.variant n t, i, j, r)
+  unfolding choice_here chain value_here give
+  enum_on cs n q l c s t i j r h is on = enum_is registry d cs p m b ∙ rw (h, is, on) refl
+
+  -- a name without a container
+  pub container_missing : (q l : ℕ) (c : List ℕ) → enter_here d p m b ≡ Ok (tt, q, l, c) → container_value registry d nothing p m b ≡ Err (Unsupported, q)
+  unfolding container_value chain content_here fail_here
+  container_missing q l c h = rw h refl
+
+  pub container_stop : (k : Content) (e : Reason) (o : ℕ) → enter_here d p m b ≡ Err (e, o) → container_value registry d k p m b ≡ Err (e, o)
+  unfolding container_value chain
+  container_stop k e o h = rw h refl
+
+-- ---- keys
+
+pub key_stop : (f : Parser Tree) (last : Option (List ℕ)) (p m : ℕ) (b : List ℕ) (e : Reason) (o : ℕ) → f p m b ≡ Err (e, o) → key_here f last p m b ≡ Err (e, o)
+unfolding key_here
+key_stop f last p m b e o h = rw h refl
+
+pub key_wrong : (f : Parser Tree) (last : Option (List ℕ)) (p m : ℕ) (b : List ℕ) (t : Tree) (q l : ℕ) (c bytes : List ℕ) (e : Reason) (o : ℕ) → f p m b ≡ Ok (t, q, l, c) → bytes ≡ take (q - p) b
+    → ((i j : ℕ) (r : List ℕ) → key_after last bytes p i j r ≡ Err (e, o)) → key_here f last p m b ≡ Err (e, o)
+unfolding key_here
+key_wrong f last p m b t q l c bytes e o h is wrong = rw (h, ← is, wrong q l c) refl
+
+pub key_right : (f : Parser Tree) (last : Option (List ℕ)) (p m : ℕ) (b : List ℕ) (t : Tree) (q l : ℕ) (c bytes : List ℕ) → f p m b ≡ Ok (t, q, l, c) → bytes ≡ take (q - p) b
+    → ((i j : ℕ) (r : List ℕ) → key_after last bytes p i j r ≡ Ok (tt, i, j, r)) → key_here f last p m b ≡ Ok ((t, bytes), q, l, c)
+unfolding key_here give
+key_right f last p m b t q l c bytes h is right = rw (h, ← is, right q l c) refl
+
+leaf_is : (registry : Entries) (d : ℕ) (s : Shape) → has_no_parts s ≡ true → read registry d s ≡ leaf_here s
+unfolding value_here shape_here
+leaf_is registry d shape.unit h = refl
+leaf_is registry d shape.truth h = refl
+leaf_is registry d (shape.unsigned w) h = refl
+leaf_is registry d (shape.signed w) h = refl
+leaf_is registry d (shape.unsupported u) h = refl
+leaf_is registry d shape.text h = refl
+leaf_is registry d shape.bytes h = refl
+leaf_is registry d _ h = absurd cc
+
+-- a name is read as its container
+pub read_container : (registry : Entries) (d : ℕ) (s : Shape) (name : List ℕ) (c : Content) → s ≡ shape.name name → content_at name registry ≡ c → (p m : ℕ) (b : List ℕ) → read registry d s p m b ≡ container_value registry d c p m b
+unfolding value_here shape_here
+read_container registry d s name c is has p m b = rw is (named_is registry d name p m b) ∙ ap (λ (k : Content). container_value registry d k p m b) has
+
+-- a whole number is read as a leaf
+pub read_whole : (registry : Entries) (d : ℕ) (s : Shape) (n : WholeNumber) → s ≡ whole_shape n → read registry d s ≡ leaf_here (whole_shape n)
+unfolding value_here shape_here
+read_whole registry d s (Unsigned w) h = rw h refl
+read_whole registry d s (Signed w) h = rw h refl
+
+module _ (registry : Entries) (d : ℕ) (f : format.Format) where
+  -- what has no parts is read as a leaf, whatever is registered
+  pub read_leaf : IsBare f → read registry d (shape_of f) ≡ leaf_here (shape_of f)
+  read_leaf h = leaf_is registry d (shape_of f) (bare_shape f h)
+
+  pub read_Opt : (o : Box format.Format Global) → f ≡ format.Opt o → (p m : ℕ) (b : List ℕ) → read registry d (shape_of f) p m b ≡ option_value (read registry d (shape_of o.value)) p m b
+  unfolding value_here shape_here option_value option_here
+  read_Opt o h p m b = rw (shape-Opt f o h) (option_is (read registry d (shape_of o.value)) p m b)
+
+  pub read_Seq : (o : Box format.Format Global) → f ≡ format.Seq o → (p m : ℕ) (b : List ℕ) → read registry d (shape_of f) p m b ≡ items_value (read registry d (shape_of o.value)) None p m b
+  unfolding value_here shape_here
+  read_Seq o h p m b = rw (shape-Seq f o h) (seq_is (read registry d (shape_of o.value)) p m b)
+
+  pub read_TupleArray : (o : Box format.Format Global) (n : ℕ) → f ≡ format.TupleArray o n → (p m : ℕ) (b : List ℕ) → read registry d (shape_of f) p m b ≡ items_value (read registry d (shape_of o.value)) (Some n) p m b
+  unfolding value_here shape_here
+  read_TupleArray o n h p m b = rw (shape-TupleArray f o n h) (array_is (read registry d (shape_of o.value)) n p m b)
+
+  pub read_Map : (k v : Box format.Format Global) → f ≡ format.Map k v → (p m : ℕ) (b : List ℕ) → read registry d (shape_of f) p m b ≡ pairs_value (read registry d (shape_of k.value)) (read registry d (shape_of v.value)) p m b
+  unfolding value_here shape_here
+  read_Map k v h p m b = rw (shape-Map f k v h) (map_is (read registry d (shape_of k.value)) (read registry d (shape_of v.value)) p m b)
+
+  pub read_Tuple : (v : Vec format.Format Global) → f ≡ format.Tuple v → (p m : ℕ) (b : List ℕ) → read registry d (shape_of f) p m b ≡ tuple_value registry d (formats_shapes v.items) p m b
+  unfolding value_here shape_here
+  read_Tuple v h p m b = rw (shape-Tuple f v h) (tuple_is registry d (formats_shapes v.items) p m b)
+
+  pub read_TypeName : (n : String Global) → f ≡ format.TypeName n → (p m : ℕ) (b : List ℕ) → read registry d (shape_of f) p m b ≡ named_value registry d (string_bytes n) p m b
+  unfolding value_here shape_here
+  read_TypeName n h p m b = rw (shape-TypeName f n h) (named_is registry d (string_bytes n) p m b)

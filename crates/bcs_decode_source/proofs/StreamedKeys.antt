@@ -1,0 +1,31 @@
+-- A key that was read from a source, and recorded.
+use Rattle.std.proofs.Common.{◌≡◌, ◌-◌, ℕ, true, List, length, take, drop, Option, Ok, Err, refl, sym, ap, ◌∙◌}
+use Rattle.bcs_value_model.specs.Tree.{Tree}
+use Rattle.bcs_decode_spec.specs.declared.reason.Reason.{Reason}
+use Rattle.bcs_decode_source.specs.declared.at.At.{At}
+use Rattle.bcs_decode_source.specs.declared.keys.Span.{Span}
+use Rattle.bcs_decode_spec.specs.Reading.{Parser, key_here, key_after}
+use Rattle.bcs_decode_source.specs.Kept.{Stands, last_bytes}
+use Rattle.bcs_decode_source.specs.Sees.{is_told, rest_of, Along}
+use Rattle.bcs_decode_source.proofs.Going.{recorded_key}
+use Rattle.bcs_decode_source.proofs.KeptKeys.{last_kept}
+use Rattle.bcs_decode_source.proofs.Streamed.{key_wrong, key_right}
+
+module _ (f : Parser Tree) (last : Option Span) (begun from : ℕ) (c d : Option (List ℕ)) (p v : At) (t : Tree) (told : is_told c ≡ true) (size : from ≡ length p.kept.items) (stands : Stands last begun (length p.kept.items)) (h : Along c (record p { is_in_key = true }) d v) (read : f p.place p.nodes (rest_of c) ≡ Ok (t, v.place, v.nodes, rest_of d)) where
+  bytes_of : drop from v.kept.items ≡ take (v.place - p.place) (rest_of c)
+  bytes_of = ap (λ n. drop n v.kept.items) size ∙ recorded_key c d (record p { is_in_key = true }) v told refl h
+
+  before : last_bytes last p.kept.items ≡ last_bytes last v.kept.items
+  before = sym (last_kept last begun p.kept.items v.kept.items stands h.front)
+
+  pub kept_wrong : (e : Reason) (o : ℕ) → ((i j : ℕ) (r : List ℕ) → key_after (last_bytes last v.kept.items) (drop from v.kept.items) p.place i j r ≡ Err (e, o))
+      → key_here f (last_bytes last p.kept.items) p.place p.nodes (rest_of c) ≡ Err (e, o)
+  kept_wrong e o wrong =
+      key_wrong f (last_bytes last p.kept.items) p.place p.nodes (rest_of c) t v.place v.nodes (rest_of d) (drop from v.kept.items) e o read bytes_of
+      (λ i j r. ap (λ k. key_after k (drop from v.kept.items) p.place i j r) before ∙ wrong i j r)
+
+  pub kept_right : ((i j : ℕ) (r : List ℕ) → key_after (last_bytes last v.kept.items) (drop from v.kept.items) p.place i j r ≡ Ok (tt, i, j, r))
+      → key_here f (last_bytes last p.kept.items) p.place p.nodes (rest_of c) ≡ Ok ((t, drop from v.kept.items), v.place, v.nodes, rest_of d)
+  kept_right right =
+      key_right f (last_bytes last p.kept.items) p.place p.nodes (rest_of c) t v.place v.nodes (rest_of d) (drop from v.kept.items) read bytes_of
+      (λ i j r. ap (λ k. key_after k (drop from v.kept.items) p.place i j r) before ∙ right i j r)

@@ -1,0 +1,5 @@
+use Rattle.std.proofs.Common.{◌-◌}
+use Rattle.bcs_decode_source.proofs.number.+tail.Given as goal
+
+abbrev pub decreases-tail : goal.decreases-tail
+decreases-tail g l = 4 - l.index

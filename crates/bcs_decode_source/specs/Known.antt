@@ -1,0 +1,10 @@
+-- What is known of a container that is read.
+use Rattle.std.specs.Prelude.{◌≡◌, ℕ, List}
+use Rattle.bcs_registry_model.specs.Container.{Entries, Content, content_at}
+use Rattle.bcs_registry_model.specs.WellFormed.{IsWellFormed}
+
+-- a name has this content in a well-formed registry
+pub record IsKnown (registry : Entries) (c : Content) : Type 0 where
+  pub name : List ℕ
+  pub has : content_at name registry ≡ c
+  pub well_formed : IsWellFormed registry

@@ -1,0 +1,5 @@
+pub mod Known
+pub mod Numbers
+pub mod Sees
+pub mod Reads
+pub mod Kept

@@ -1,0 +1,102 @@
+//! The keys of a map that is being read.
+ghost use Rattle.std.specs.Prelude.{◌≡◌, ℕ, ◌≤◌, length, take, drop, false, true, Some, IfOk};
+ghost use Rattle.bcs_decode_spec.specs.Reading.{key_after};
+ghost use Rattle.bcs_decode_source.specs.Kept.{Judges, SamePlace, Stands, last_bytes};
+
+use crate::at::At;
+use bcs_decode_spec::{DecodeFault, Reason, Stop};
+use std::cmp::Ordering;
+
+/// The keys of a map that is being read, among the bytes that are kept.
+#[derive(Drop)]
+pub struct MapKeys {
+    /// How many bytes were kept when the map began.
+    pub begun: usize,
+    /// Where the last key stands.
+    pub last: Option<Span>,
+}
+
+/// A range of the bytes that are kept.
+#[derive(Clone, Copy)]
+pub struct Span {
+    pub from: usize,
+    pub to: usize,
+}
+
+/// Tests that the key that is kept from `from` on may follow the last one, and makes it the last.
+#[inline(never)]
+pub fn follow(at: &mut At, keys: &mut MapKeys, from: usize, start: u64) -> Result<(), DecodeFault>
+    requires stands { Stands keys.old.last keys.old.begun from }
+    requires long { from ≤ length at.old.kept.items }
+    ensures judges { Judges result (key_after (last_bytes keys.old.last at.old.kept.items) (drop from at.old.kept.items) start) start }
+    ensures same { SamePlace at.old at.new }
+    ensures recorded { at.old.is_in_key ≡ true → at.new.kept.items ≡ at.old.kept.items }
+    ensures front { take keys.old.begun at.new.kept.items ≡ take keys.old.begun at.old.kept.items }
+    ensures begun { keys.new.begun ≡ keys.old.begun }
+    ensures stands { IfOk result (λ _. Stands keys.new.last keys.new.begun (length at.new.kept.items)) }
+    ensures last { IfOk result (λ _. last_bytes keys.new.last at.new.kept.items ≡ Some (drop from at.old.kept.items)) }
+{
+    judge(keys, at.kept.as_slice(), from, start)?;
+    settle(at, keys, from);
+    Ok(())
+}
+
+/// Whether the key that is kept from `from` on may follow the last one.
+#[tactic(auto, unfolding(bcs_decode_spec::specs::Reading::key_after, bcs_decode_spec::specs::Reading::give, bcs_decode_spec::specs::Reading::fail))]
+fn judge(keys: &MapKeys, kept: &[u8], from: usize, start: u64) -> Result<(), DecodeFault>
+    requires stands { Stands keys.now.last keys.now.begun from }
+    requires long { from ≤ length kept.now }
+    ensures judges { Judges result (key_after (last_bytes keys.now.last kept.now) (drop from kept.now) start) start }
+{
+    let Some(last) = keys.last else {
+        return Ok(());
+    };
+    match kept[last.from..last.to].cmp(&kept[from..]) {
+        Ordering::Less => Ok(()),
+        Ordering::Equal => Err(DecodeFault::Stop(Stop {
+            reason: Reason::KeyRepeated,
+            place: start,
+        })),
+        Ordering::Greater => Err(DecodeFault::Stop(Stop {
+            reason: Reason::KeyOrder,
+            place: start,
+        })),
+    }
+}
+
+/// Makes the key that is kept from `from` on the last one. Outside keys it is moved to where the map began.
+fn settle(at: &mut At, keys: &mut MapKeys, from: usize)
+    requires stands { Stands keys.old.last keys.old.begun from }
+    requires long { from ≤ length at.old.kept.items }
+    ensures same { SamePlace at.old at.new }
+    ensures recorded { at.old.is_in_key ≡ true → at.new.kept.items ≡ at.old.kept.items }
+    ensures front { take keys.old.begun at.new.kept.items ≡ take keys.old.begun at.old.kept.items }
+    ensures begun { keys.new.begun ≡ keys.old.begun }
+    ensures stands { Stands keys.new.last keys.new.begun (length at.new.kept.items) }
+    ensures last { last_bytes keys.new.last at.new.kept.items ≡ Some (drop from at.old.kept.items) }
+{
+    let to = at.kept.len();
+    if at.is_in_key {
+        keys.last = Some(Span { from, to });
+        return;
+    }
+    let end = keys.begun + (to - from);
+    at.kept.copy_within(from..to, keys.begun);
+    at.kept.truncate(end);
+    keys.last = Some(Span {
+        from: keys.begun,
+        to: end,
+    });
+}
+
+/// Lets the last key of a map go that stands outside keys.
+#[inline(never)]
+pub fn let_go(at: &mut At, keys: &MapKeys)
+    ensures same { SamePlace at.old at.new }
+    ensures recorded { at.old.is_in_key ≡ true → at.new.kept.items ≡ at.old.kept.items }
+    ensures unrecorded { at.old.is_in_key ≡ false → at.new.kept.items ≡ take keys.now.begun at.old.kept.items }
+{
+    if !at.is_in_key {
+        at.kept.truncate(keys.begun);
+    }
+}

@@ -1,0 +1,40 @@
+//! Where containers and variants begin.
+ghost use Rattle.std.specs.Prelude.{◌<◌, IfOk};
+ghost use Rattle.bcs_decode_source.specs.Reads.{IsStill, Ready, Reads};
+ghost use Rattle.bcs_decode_source.specs.Sees.{SparesMemory, enter_here, number_node};
+
+use crate::bytes::begin;
+use crate::number::number;
+use crate::reader::Reader;
+use bcs_decode_spec::{DecodeFault, Reason, Stop};
+use bcs_io::ByteSource;
+
+/// A container is opened.
+#[inline(never)]
+#[tactic(auto, using(crate::proofs::Streamed::enter_none, crate::proofs::Streamed::enter_more), unfolding(bcs_decode_spec::specs::Reading::fail_here))]
+pub fn enter<S: ByteSource>(reader: &mut Reader<'_, S>, depth: u32) -> Result<(), DecodeFault>
+    requires ready { Ready S.is_failed S.allowance reader.old }
+    ensures reads { Reads S.content S.is_failed S.allowance (λ x. x) result reader.old (enter_here depth) reader.new }
+    ensures still { IsStill reader.old reader.new }
+    ensures spares { SparesMemory result reader.old.at.now }
+    ensures positive { IfOk result (λ _. 0 < depth) }
+{
+    if depth == 0 {
+        return Err(DecodeFault::Stop(Stop {
+            reason: Reason::TooDeep,
+            place: reader.at.place,
+        }));
+    }
+    begin(reader)
+}
+
+/// The number of a variant.
+#[inline(never)]
+pub fn variant_number<S: ByteSource>(reader: &mut Reader<'_, S>) -> Result<u32, DecodeFault>
+    requires ready { Ready S.is_failed S.allowance reader.old }
+    ensures reads { Reads S.content S.is_failed S.allowance (λ x. x) result reader.old number_node reader.new }
+    ensures spares { SparesMemory result reader.old.at.now }
+{
+    begin(reader)?;
+    number(reader)
+}

@@ -1,0 +1,117 @@
+//! Lists of whole numbers from a source, in one loop.
+ghost use Rattle.std.specs.Prelude.{◌≡◌, ℕ, ◌*◌, ◌<◌, ◌≤◌, ◌++◌, ◌⊎◌, [], length, map, take, vec_capacity, OnOk, IfSome, None};
+ghost use Rattle.bcs_num.specs.Le.{width_of};
+ghost use Rattle.bcs_registry_model.specs.Whole.{whole_len, whole_shape};
+ghost use Rattle.bcs_value_model.specs.View.{items_trees, tree_of};
+ghost use Rattle.bcs_decode_source.specs.Numbers.{number_of, numbers};
+ghost use Rattle.bcs_decode_source.specs.Reads.{Ready, Reads, room_for};
+ghost use Rattle.bcs_decode_source.specs.Sees.{leaf_here, row_leaf};
+ghost use Rattle.std.specs.Int.{byte_len, from_le_bytes, cast_signed};
+
+use crate::bytes::read_exact;
+use crate::reader::Reader;
+use bcs_decode_spec::{DecodeFault, Reason, Stop};
+use bcs_io::ByteSource;
+use bcs_num::Width;
+use bcs_registry_model::WholeNumber;
+use bcs_value_model::Value;
+use std::alloc::AllocError;
+
+/// How many bytes are taken at a time.
+const BLOCK: usize = 512;
+
+/// So many numbers. They are taken by blocks, of no more numbers than may begin.
+#[inline(never)]
+pub fn push_numbers<S: ByteSource>(
+    reader: &mut Reader<'_, S>,
+    format: WholeNumber,
+    count: u64,
+    found: &mut Vec<Value>,
+) -> Result<(), DecodeFault>
+    requires ready { Ready S.is_failed S.allowance reader.old }
+    requires empty { found.old.items ≡ [] }
+    requires reserved { vec_capacity found.old ≡ room_for reader.old count }
+    ensures reads { Reads S.content S.is_failed S.allowance (λ _. items_trees found.new.items) result reader.old (row_leaf (leaf_here (whole_shape format)) count) reader.new }
+{
+    let mut block = [0u8; BLOCK];
+    let mut done = 0;
+    while done < count {
+        let some = share(format, count - done, reader.at.nodes);
+        if some == 0 {
+            return Err(DecodeFault::Stop(Stop {
+                reason: Reason::TooManyNodes,
+                place: reader.at.place,
+            }));
+        }
+        reader.at.nodes -= some;
+        let size = some as usize * format.byte_len();
+        read_exact(reader, &mut block[..size])?;
+        push_block(format, &block[..size], found)?;
+        done += u64::from(some);
+    }
+    Ok(())
+}
+
+/// How many of so many numbers are in the next block, where so many nodes may begin.
+fn share(format: WholeNumber, left: u64, nodes: u32) -> u32
+    ensures left { result ≤ left }
+    ensures nodes { result ≤ nodes }
+    ensures room { result * whole_len format ≤ 512 }
+    ensures none { result ≡ 0 → (left ≡ 0) ⊎ (nodes ≡ 0) }
+{
+    let room = (BLOCK / format.byte_len()) as u32;
+    left.min(u64::from(nodes.min(room))) as u32
+}
+
+/// Appends the numbers that the bytes hold.
+fn push_block(format: WholeNumber, bytes: &[u8], found: &mut Vec<Value>) -> Result<(), AllocError>
+    ensures { (n : ℕ) → length bytes.now ≡ n * whole_len format
+        → OnOk result (map tree_of found.new.items ≡ map tree_of found.old.items ++ numbers format n bytes.now) }
+{
+    let mut rest = bytes;
+    while let Some(number) = front_number(format, rest) {
+        found.push(number)?;
+        rest = rest.split_at(format.byte_len()).1;
+    }
+    Ok(())
+}
+
+/// The number at the front. `None`: there are fewer bytes than it has.
+#[inline(always)]
+fn front_number(format: WholeNumber, bytes: &[u8]) -> Option<Value>
+    ensures found { IfSome result (λ v. (whole_len format ≤ length bytes.now) × (tree_of v ≡ number_of format (take (whole_len format) bytes.now))) }
+    ensures none { result ≡ None → length bytes.now < whole_len format }
+{
+    match format {
+        WholeNumber::Unsigned(width) => Some(Value::Unsigned(front_unsigned(width, bytes)?)),
+        WholeNumber::Signed(width) => Some(Value::Signed(front_signed(width, bytes)?)),
+    }
+}
+
+#[inline(always)]
+fn front_unsigned(width: Width, bytes: &[u8]) -> Option<u128>
+    ensures found { IfSome result (λ n. (byte_len (width_of width) ≤ length bytes.now) × (n ≡ from_le_bytes (width_of width) (take (byte_len (width_of width)) bytes.now))) }
+    ensures none { result ≡ None → length bytes.now < byte_len (width_of width) }
+{
+    Some(match width {
+        Width::W1 => u128::from(u8::from_le_bytes(*bytes.first_chunk()?)),
+        Width::W2 => u128::from(u16::from_le_bytes(*bytes.first_chunk()?)),
+        Width::W4 => u128::from(u32::from_le_bytes(*bytes.first_chunk()?)),
+        Width::W8 => u128::from(u64::from_le_bytes(*bytes.first_chunk()?)),
+        Width::W16 => u128::from_le_bytes(*bytes.first_chunk()?),
+    })
+}
+
+#[inline(always)]
+fn front_signed(width: Width, bytes: &[u8]) -> Option<i128>
+    ensures found { IfSome result (λ z. (byte_len (width_of width) ≤ length bytes.now) × (z ≡ cast_signed (width_of width) (from_le_bytes (width_of width) (take (byte_len (width_of width)) bytes.now)))) }
+    ensures none { result ≡ None → length bytes.now < byte_len (width_of width) }
+{
+    Some(match width {
+        Width::W1 => i128::from(i8::from_le_bytes(*bytes.first_chunk()?)),
+        Width::W2 => i128::from(i16::from_le_bytes(*bytes.first_chunk()?)),
+        Width::W4 => i128::from(i32::from_le_bytes(*bytes.first_chunk()?)),
+        Width::W8 => i128::from(i64::from_le_bytes(*bytes.first_chunk()?)),
+        Width::W16 => i128::from_le_bytes(*bytes.first_chunk()?),
+    })
+}

@@ -1,0 +1,80 @@
+//! Values from a source, each built in the caller's slot.
+ghost use Rattle.bcs_registry_model.specs.View.{shape_of};
+ghost use Rattle.bcs_value_model.specs.View.{tree_of};
+ghost use Rattle.bcs_decode_source.specs.Sees.{Spares, takes_no_memory, read, option_value};
+ghost use Rattle.bcs_decode_source.specs.Reads.{Ready, Reads};
+
+use crate::containers::named;
+use crate::leaf::leaf;
+use crate::leaves::flag_node;
+use crate::maps::pairs;
+use crate::reader::Reader;
+use crate::rows::{items, tuple};
+use crate::slots::put_absent;
+use bcs_decode_spec::DecodeFault;
+use bcs_io::ByteSource;
+use bcs_registry::Format;
+use bcs_value::Value;
+use bcs_value_model::slot::wrap_present;
+
+/// A value of the format, inside which so many containers may open.
+#[inline(always)]
+#[cycle(streaming)]
+pub fn value<S: ByteSource>(
+    reader: &mut Reader<'_, S>,
+    format: &Format,
+    depth: u32,
+    slot: &mut Value,
+) -> Result<(), DecodeFault>
+    requires ready { Ready S.is_failed S.allowance reader.old }
+    ensures reads { Reads S.content S.is_failed S.allowance (λ _. tree_of slot.new) result reader.old (read reader.old.registry.now depth (shape_of format.now)) reader.new }
+    ensures spares { Spares (takes_no_memory (shape_of format.now)) result reader.old.at.now }
+{
+    match format {
+        Format::TypeName(name) => named(reader, name.as_str(), depth, slot),
+        Format::Opt(part) => option(reader, part, depth, slot),
+        Format::Seq(element) => items(reader, element, None, depth, slot),
+        Format::Map(key, part) => pairs(reader, key, part, depth, slot),
+        Format::Tuple(formats) => tuple(reader, formats, depth, slot),
+        Format::TupleArray(element, size) => { items(reader, element, Some(*size), depth, slot) }
+        Format::Unit
+        | Format::Bool
+        | Format::U8
+        | Format::U16
+        | Format::U32
+        | Format::U64
+        | Format::U128
+        | Format::I8
+        | Format::I16
+        | Format::I32
+        | Format::I64
+        | Format::I128
+        | Format::F32
+        | Format::F64
+        | Format::Char
+        | Format::Str
+        | Format::Bytes => leaf(reader, format, slot),
+    }
+}
+
+/// An option.
+#[inline(never)]
+#[cycle(streaming)]
+#[tactic(auto, unfolding(bcs_decode_spec::specs::Reading::chain, bcs_decode_spec::specs::Reading::give, crate::specs::Sees::option_value))]
+fn option<S: ByteSource>(
+    reader: &mut Reader<'_, S>,
+    part: &Format,
+    depth: u32,
+    slot: &mut Value,
+) -> Result<(), DecodeFault>
+    requires ready { Ready S.is_failed S.allowance reader.old }
+    ensures reads { Reads S.content S.is_failed S.allowance (λ _. tree_of slot.new) result reader.old (option_value (read reader.old.registry.now depth (shape_of part.now))) reader.new }
+{
+    if flag_node(reader)? {
+        value(reader, part, depth, slot)?;
+        wrap_present(reader.alloc, slot)?;
+    } else {
+        put_absent(slot);
+    }
+    Ok(())
+}

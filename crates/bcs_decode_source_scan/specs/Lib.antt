@@ -1,4 +1,0 @@
-pub mod Past
-pub mod Reaching
-pub mod Scanned
-pub mod Texts

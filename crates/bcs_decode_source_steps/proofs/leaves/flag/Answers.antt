@@ -1,9 +1,0 @@
-use Rattle.std.proofs.Common.{arith, rules}
-use Rattle.bcs_decode_spec.specs.Reading.{chain, give, fail}
-use Rattle.bcs_decode_source_steps.proofs.Chains.{flag_is}
-use Rattle.bcs_decode_source_steps.proofs.leaves.flag.Goals as goal
-
-pub returns-in_err-byte-clause-reads : goal.returns-in_err-byte-clause-reads
-unfolding chain give fail
-returns-in_err-byte-clause-reads g c =
-    record { sees = (grind (arith, flag_is)); failed = search rules; room = search rules; goes = search rules; same = search rules }

@@ -1,5 +1,0 @@
-use Rattle.bcs_decode_source_steps.proofs.Readers.{Reads-node-ends, Reads-exit}
-use Rattle.bcs_decode_source_steps.proofs.leaves.put_unit.Goals as goal
-
-pub returns-in_err-begin-clause-reads : goal.returns-in_err-begin-clause-reads
-returns-in_err-begin-clause-reads g c = Reads-exit c.from_residual.ensures.1 (Reads-node-ends _ c.in_err-begin.ensures.reads)

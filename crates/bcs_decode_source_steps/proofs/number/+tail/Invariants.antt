@@ -1,5 +1,0 @@
-use Rattle.std.proofs.Common.{◌-◌}
-use Rattle.bcs_decode_source_steps.proofs.number.+tail.Given as goal
-
-abbrev pub decreases-tail : goal.decreases-tail
-decreases-tail g l = 4 - l.index

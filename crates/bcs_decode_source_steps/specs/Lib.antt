@@ -1,4 +1,0 @@
-pub mod Numbers
-pub mod Sees
-pub mod Reads
-pub mod Kept

@@ -1,4 +1,0 @@
-pub mod Handles
-pub mod RawBoxes
-pub mod RegistrySend
-pub mod Steps

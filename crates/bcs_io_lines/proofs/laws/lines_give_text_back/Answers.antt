@@ -1,5 +1,0 @@
-use Rattle.bcs_io_lines.proofs.LineLemmas.{lines_give_text_back}
-use Rattle.bcs_io_lines.proofs.laws.lines_give_text_back.Goals as goal
-
-pub returns : goal.returns
-returns c = lines_give_text_back

@@ -1,0 +1,70 @@
+-- From what JSON spells, and from nothing that it spells, to what is read of a whole number.
+use Rattle.std.proofs.Common.{◌≡◌, ℕ, ℤ, pos, negsuc, [], ◌<◌, ◌^◌, Ok, Err, Bool, true, false, refl, arith, rules}
+use Rattle.std.proofs.lemmas.Bool.Decides.{Decides-ltb}
+use Rattle.std.specs.Int.{Width, w8, w16, w32, w64, w128}
+use mir.Val.{bits, hbits}
+use Rattle.serde_json.specs.Data.{Data, number, string}
+use Rattle.bcs_num.specs.Le.{IsUnsigned, IsSigned}
+use Rattle.bcs_value_model.specs.Tree.{unsigned, signed}
+use Rattle.bcs_value_model.specs.View.{tree_of}
+use Rattle.bcs_value_model.specs.declared.value.Value as value
+use Rattle.bcs_value_model.specs.declared.value.Value.{the_lemmas}
+use Rattle.bcs_json_spec.specs.Numbers.{SpellsWhole, is_unsigned_of, is_signed_of, whole_refusal}
+use Rattle.bcs_json_spec.specs.Reading.{read_unsigned, read_signed}
+use Rattle.bcs_json_spec.specs.declared.json_fault.JsonFault.TheVariants.{BadNumber}
+use Rattle.bcs_json_spec.proofs.LeafVerdicts.{exact_unsigned, exact_signed}
+
+pub unsigned_told : (w : Width) (j : Data) (m : ℕ) → SpellsWhole j (pos m) → IsUnsigned w m → read_unsigned w j ≡ Ok (unsigned m)
+unsigned_told w j m s h = (exact_unsigned [] 0 w).again j (unsigned m) ((s, (Decides-ltb m (2 ^ bits w)).1 h), omega arith)
+
+unsigned_out : (w : Width) (j : Data) → ((m : ℕ) → SpellsWhole j (pos m) → ¬ IsUnsigned w m) → (z : ℤ) (b : Bool) → is_unsigned_of w z ≡ b → SpellsWhole j z → is_unsigned_of w z ≡ false
+unsigned_out w j none (pos m) true is s = absurd (none m s ((Decides-ltb m (2 ^ bits w)).0 is))
+unsigned_out w j none (pos m) false is s = is
+unsigned_out w j none (negsuc m) b is s = refl
+
+pub unsigned_refused : (w : Width) (j : Data) → ((m : ℕ) → SpellsWhole j (pos m) → ¬ IsUnsigned w m) → read_unsigned w j ≡ Err (whole_refusal j)
+unfolding read_unsigned
+unsigned_refused w (number x) none = (exact_unsigned [] 0 w).errs (number x) BadNumber ((λ z s. unsigned_out w (number x) none z (is_unsigned_of w z) refl s), refl)
+unsigned_refused w (string t) none = (exact_unsigned [] 0 w).errs (string t) BadNumber ((λ z s. unsigned_out w (string t) none z (is_unsigned_of w z) refl s), refl)
+unsigned_refused w _ none = refl
+
+below_half : (w : Width) (z : ℤ) → is_signed_of w z ≡ true → IsSigned w z
+below_half w (pos n) h = record { sfits = (Decides-ltb n (2 ^ hbits w)).0 h }
+below_half w (negsuc n) h = record { sfits = (Decides-ltb n (2 ^ hbits w)).0 h }
+
+half_below : (w : Width) (z : ℤ) → IsSigned w z → is_signed_of w z ≡ true
+half_below w (pos n) h = (Decides-ltb n (2 ^ hbits w)).1 h.sfits
+half_below w (negsuc n) h = (Decides-ltb n (2 ^ hbits w)).1 h.sfits
+
+pub signed_told : (w : Width) (j : Data) (z : ℤ) → SpellsWhole j z → IsSigned w z → read_signed w j ≡ Ok (signed z)
+signed_told w j z s h = (exact_signed [] 0 w).again j (signed z) ((s, half_below w z h), omega arith)
+
+signed_out : (w : Width) (j : Data) → ((z : ℤ) → SpellsWhole j z → ¬ IsSigned w z) → (z : ℤ) (b : Bool) → is_signed_of w z ≡ b → SpellsWhole j z → is_signed_of w z ≡ false
+signed_out w j none z true is s = absurd (none z s (below_half w z is))
+signed_out w j none z false is s = is
+
+pub signed_refused : (w : Width) (j : Data) → ((z : ℤ) → SpellsWhole j z → ¬ IsSigned w z) → read_signed w j ≡ Err (whole_refusal j)
+unfolding read_signed
+signed_refused w (number x) none = (exact_signed [] 0 w).errs (number x) BadNumber ((λ z s. signed_out w (number x) none z (is_signed_of w z) refl s), refl)
+signed_refused w (string t) none = (exact_signed [] 0 w).errs (string t) BadNumber ((λ z s. signed_out w (string t) none z (is_signed_of w z) refl s), refl)
+signed_refused w _ none = refl
+
+-- ---- values
+
+pub tree_unsigned : (n : ℕ) → tree_of (value.Unsigned n) ≡ unsigned n
+tree_unsigned n = search (rules, the_lemmas)
+
+pub tree_signed : (z : ℤ) → tree_of (value.Signed z) ≡ signed z
+tree_signed z = search (rules, the_lemmas)
+
+half_wide : (w : Width) (n : ℕ) → n < 2 ^ hbits w → n < 2 ^ hbits w128
+half_wide w8 n h = omega (arith, h)
+half_wide w16 n h = omega (arith, h)
+half_wide w32 n h = omega (arith, h)
+half_wide w64 n h = omega (arith, h)
+half_wide w128 n h = h
+
+-- a number of a width is one of 128 bits
+pub widen : (w : Width) (z : ℤ) → IsSigned w z → IsSigned w128 z
+widen w (pos n) h = record { sfits = half_wide w n h.sfits }
+widen w (negsuc n) h = record { sfits = half_wide w n h.sfits }

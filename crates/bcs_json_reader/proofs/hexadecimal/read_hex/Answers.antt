@@ -1,0 +1,7 @@
+use Rattle.std.proofs.Common.{rules}
+use Rattle.bcs_json_spec.specs.Reading.{read_hex}
+use Rattle.bcs_json_reader.proofs.hexadecimal.read_hex.Goals as goal
+
+pub returns-in-Err : goal.returns-in-Err
+unfolding read_hex
+returns-in-Err c = search rules

@@ -1,0 +1,29 @@
+-- What a refusal tells: the fault, and the way down to where it is.
+use Rattle.std.specs.Prelude.{◌≢◌, List, [], Option, Some, None, Result, Ok, Err, map, reverse, IfSome, ⊤}
+use Rattle.bcs_registry_model.specs.Container.{Entries}
+use Rattle.bcs_json_spec.specs.Place.{Step, step_of, Part, IsPlaceAmong}
+use Rattle.bcs_json_spec.specs.declared.json_fault.JsonFault.{JsonFault}
+use Rattle.bcs_json_spec.specs.declared.json_fault.JsonFault.TheVariants.{OutOfMemory}
+use Rattle.bcs_json_reader.specs.declared.refusal.Refusal.{Refusal}
+use Rattle.bcs_json_reader.specs.declared.way.Way.{Way}
+use Rattle.bcs_json_reader.specs.declared.way.Way.TheVariants.{Here, Through, Unknown}
+
+-- the steps from the outermost on, if they are known
+abbrev pub steps : Way → Option (List Step)
+steps Here = Some []
+steps (Through inner) = Some (reverse (map step_of inner.items))
+steps Unknown = None
+
+-- what was read, or the fault without the way to it
+abbrev pub fault_alone : {X : Type 0} → Result X Refusal → Result X JsonFault
+fault_alone (Ok x) = Ok x
+fault_alone (Err r) = Err r.fault
+
+abbrev pub way_of : {X : Type 0} → Result X Refusal → Option (List Step)
+way_of (Ok x) = None
+way_of (Err r) = steps r.way
+
+-- where memory didn't run out, a known way leads to the place among these parts
+abbrev pub IsPlaced : {X : Type 0} → Entries → List Part → Result X Refusal → Type 0
+IsPlaced registry ps (Ok x) = ⊤
+IsPlaced registry ps (Err r) = r.fault ≢ OutOfMemory → IfSome (steps r.way) (λ path. IsPlaceAmong registry path ps)

@@ -1,0 +1,71 @@
+//! Arrays, taken apart, so that their items are moved and not copied. Another kind of JSON is refused as a `BadShape`.
+ghost use Rattle.std.specs.Prelude.{◌≡◌, ◌≢◌, length, IfOk, IfErr, OnOk, OnErr, Err};
+ghost use Rattle.serde_json.specs.Data.{Data, Items, item, no_items, array};
+ghost use Rattle.serde_json.specs.View.{view, items_view};
+ghost use Rattle.bcs_value_model.specs.Tree.{Tree, Trees};
+ghost use Rattle.bcs_json_spec.specs.Reading as spec;
+ghost use Rattle.bcs_json_spec.specs.Reading.{Read};
+ghost use Rattle.bcs_json_spec.specs.declared.json_fault.JsonFault.TheVariants.{BadShape};
+
+use bcs_json_spec::JsonFault;
+use serde_json::Value as Json;
+
+/// The items of an array.
+pub fn array_of(json: Json) -> Result<Vec<Json>, JsonFault>
+    ensures ok { IfOk result (λ v. view json ≡ array (items_view v.items)) }
+    ensures other { IfErr result (λ _. (ds : Items) → view json ≢ array ds) }
+    ensures fault { IfErr result (λ e. e ≡ BadShape) }
+{
+    match json {
+        Json::Array(items) => Ok(items),
+        _ => Err(JsonFault::BadShape),
+    }
+}
+
+/// The items of an array of exactly so many.
+pub fn array_of_exactly(json: Json, count: u64) -> Result<Vec<Json>, JsonFault>
+    ensures ok { IfOk result (λ v. view json ≡ array (items_view v.items)) }
+    ensures count { IfOk result (λ v. length v.items ≡ count) }
+    ensures fault { IfErr result (λ e. (r : Items → Read Trees) → spec.read_tuple count r (view json) ≡ Err e) }
+{
+    let items = array_of(json)?;
+    exactly(items.len(), count)?;
+    Ok(items)
+}
+
+/// Sees that there are so many. Another number is refused as a `BadShape`.
+pub fn exactly(found: usize, wanted: u64) -> Result<(), JsonFault>
+    ensures ok { OnOk result (found ≡ wanted) }
+    ensures other { OnErr result (found ≢ wanted) }
+    ensures fault { IfErr result (λ e. e ≡ BadShape) }
+{
+    if found as u64 == wanted {
+        Ok(())
+    } else {
+        Err(JsonFault::BadShape)
+    }
+}
+
+/// The key and the value of a map's entry: the items of an array of exactly two.
+pub fn pair_of(entry: Json) -> Result<(Json, Json), JsonFault>
+    ensures ok { IfOk result (λ p. view entry ≡ array (item (view p.0) (item (view p.1) no_items))) }
+    ensures fault { IfErr result (λ e. (k : Data → Read Tree) (v : Data → Read Tree) → spec.read_pair k v (view entry) ≡ Err e) }
+{
+    two_items(array_of(entry)?)
+}
+
+/// The items, where they are exactly two. Another number is refused as a `BadShape`.
+pub fn two_items(items: Vec<Json>) -> Result<(Json, Json), JsonFault>
+    ensures ok { IfOk result (λ p. items_view items.items ≡ item (view p.0) (item (view p.1) no_items)) }
+    ensures other { IfErr result (λ _. (a : Data) (b : Data) → items_view items.items ≢ item a (item b no_items)) }
+    ensures fault { IfErr result (λ e. e ≡ BadShape) }
+{
+    let mut rest = items.into_iter();
+    let first = rest.next().ok_or(JsonFault::BadShape)?;
+    let second = rest.next().ok_or(JsonFault::BadShape)?;
+    if rest.next().is_none() {
+        Ok((first, second))
+    } else {
+        Err(JsonFault::BadShape)
+    }
+}

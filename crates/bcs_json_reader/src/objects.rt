@@ -1,0 +1,68 @@
+//! Objects, taken apart, so that their members are moved and not copied.
+ghost use Rattle.std.specs.Prelude.{◌≡◌, ◌≢◌, ℕ, List, IfOk, IfErr, OnOk, OnErr, Err, Some, None, string_bytes};
+ghost use Rattle.serde_json.specs.Data.{Data, Members, object, member, no_members};
+ghost use Rattle.serde_json.specs.Find.{get_member};
+ghost use Rattle.serde_json.specs.View.{view, members_view};
+ghost use Rattle.bcs_registry_model.specs.Container.{Field};
+ghost use Rattle.bcs_value_model.specs.Tree.{Tree};
+ghost use Rattle.bcs_json_spec.specs.Look.{without};
+ghost use Rattle.bcs_json_spec.specs.Reading as spec;
+ghost use Rattle.bcs_json_spec.specs.Reading.{Read};
+ghost use Rattle.bcs_json_spec.specs.declared.json_fault.JsonFault.TheVariants.{BadShape, UnknownField, MissingField};
+
+use bcs_json_spec::JsonFault;
+use serde_json::{Map, Value as Json};
+
+/// The members of an object. `BadShape`: another kind of JSON.
+pub fn object_of(json: Json) -> Result<Map<String, Json>, JsonFault>
+    ensures ok { IfOk result (λ ms. view json ≡ object (members_view ms.entries)) }
+    ensures other { IfErr result (λ _. (ms : Members) → view json ≢ object ms) }
+    ensures fault { IfErr result (λ e. (named : List ℕ → Data → Read Tree) (fs : List Field) → spec.read_struct named fs (view json) ≡ Err e) }
+{
+    match json {
+        Json::Object(members) => Ok(members),
+        _ => Err(JsonFault::BadShape),
+    }
+}
+
+/// The one member of an object. `BadShape`: it has none, or more.
+pub fn only_member(members: Map<String, Json>) -> Result<(String, Json), JsonFault>
+    ensures ok { IfOk result (λ p. members_view members.entries ≡ member (string_bytes p.0) (view p.1) no_members) }
+    ensures other { IfErr result (λ _. (k : List ℕ) (d : Data) → members_view members.entries ≢ member k d no_members) }
+    ensures fault { IfErr result (λ e. e ≡ BadShape) }
+{
+    let mut entries = members.into_iter();
+    let first = entries.next().ok_or(JsonFault::BadShape)?;
+    if entries.next().is_none() {
+        Ok(first)
+    } else {
+        Err(JsonFault::BadShape)
+    }
+}
+
+/// The member of a field, which is taken away. `MissingField`: there is none.
+#[tactic(auto, using(crate::proofs::Taken::left_without, crate::proofs::Taken::found_member))]
+pub fn take_field(members: &mut Map<String, Json>, name: &str) -> Result<Json, JsonFault>
+    ensures ok { IfOk result (λ j. get_member name.now (members_view members.old.entries) ≡ Some (view j)) }
+    ensures missing { IfErr result (λ _. get_member name.now (members_view members.old.entries) ≡ None) }
+    ensures fault { IfErr result (λ e. e ≡ MissingField) }
+    ensures left { members_view members.new.entries ≡ without name.now (members_view members.old.entries) }
+{
+    let Some(member) = members.remove(name) else {
+        return Err(JsonFault::MissingField);
+    };
+    Ok(member)
+}
+
+/// Sees that no member is left. `UnknownField`: one is.
+pub fn no_member_left(members: &Map<String, Json>) -> Result<(), JsonFault>
+    ensures ok { OnOk result (members_view members.now.entries ≡ no_members) }
+    ensures left { OnErr result (members_view members.now.entries ≢ no_members) }
+    ensures fault { IfErr result (λ e. e ≡ UnknownField) }
+{
+    if members.is_empty() {
+        Ok(())
+    } else {
+        Err(JsonFault::UnknownField)
+    }
+}

@@ -1,0 +1,119 @@
+//! Why JSON is refused, and where.
+ghost use Rattle.std.specs.Prelude.{◌≡◌, ◌∷◌, Some, IfSome, option_map, string_bytes};
+ghost use Rattle.bcs_json_spec.specs.Place.{item, member};
+ghost use Rattle.bcs_json_reader.specs.Refused.{steps, fault_alone, way_of};
+
+use crate::way::Way;
+use bcs_json_spec::{JsonFault, JsonStep};
+use std::alloc::{AllocError, AllocFailed, Global};
+
+/// Why JSON is refused, and the way down to where it is.
+#[derive(Drop)]
+pub struct Refusal {
+    pub fault: JsonFault,
+    pub way: Way,
+}
+
+/// What was read of an item, seen from its array.
+#[inline(always)]
+pub fn at_item<T: Drop>(
+    alloc: Global,
+    number: usize,
+    read: Result<T, Refusal>,
+) -> Result<T, Refusal>
+    ensures same { fault_alone result ≡ fault_alone read }
+    ensures way { IfSome (way_of result) (λ path. option_map (λ inner. item number ∷ inner) (way_of read) ≡ Some path) }
+{
+    match read {
+        Ok(value) => Ok(value),
+        Err(refusal) => Err(refusal.in_item(alloc, number)),
+    }
+}
+
+/// What was read of a member, seen from its object.
+#[inline(always)]
+pub fn at_member<T: Drop>(alloc: Global, name: &str, read: Result<T, Refusal>) -> Result<T, Refusal>
+    ensures same { fault_alone result ≡ fault_alone read }
+    ensures way { IfSome (way_of result) (λ path. option_map (λ inner. member name.now ∷ inner) (way_of read) ≡ Some path) }
+{
+    match read {
+        Ok(value) => Ok(value),
+        Err(refusal) => Err(refusal.in_member(alloc, name)),
+    }
+}
+
+impl Refusal {
+    #[inline(never)]
+    fn in_item(self, alloc: Global, number: usize) -> Refusal
+        ensures fault { result.fault ≡ self.fault }
+        ensures way { IfSome (steps result.way) (λ path. option_map (λ inner. item number ∷ inner) (steps self.way) ≡ Some path) }
+    {
+        Refusal {
+            fault: self.fault,
+            way: self.way.after(alloc, JsonStep::Item(number as u64)),
+        }
+    }
+
+    #[inline(never)]
+    fn in_member(self, alloc: Global, name: &str) -> Refusal
+        ensures fault { result.fault ≡ self.fault }
+        ensures way { IfSome (steps result.way) (λ path. option_map (λ inner. member name.now ∷ inner) (steps self.way) ≡ Some path) }
+    {
+        match String::from_str(alloc, name) {
+            Ok(name) => Refusal {
+                fault: self.fault,
+                way: self.way.after(alloc, JsonStep::Member(name)),
+            },
+            Err(_) => Refusal {
+                fault: self.fault,
+                way: Way::Unknown,
+            },
+        }
+    }
+}
+
+impl From<JsonFault> for Refusal {
+    ghost use Rattle.std.specs.Prelude.{◌≡◌};
+    ghost use Rattle.bcs_json_reader.specs.declared.way.Way.TheVariants.{Here};
+
+    ghost from_gives = { λ fault refusal. (refusal.fault ≡ fault) × (refusal.way ≡ Here) };
+
+    fn from(fault: JsonFault) -> Self {
+        Refusal {
+            fault,
+            way: Way::Here,
+        }
+    }
+}
+
+impl From<AllocError> for Refusal {
+    ghost use Rattle.std.specs.Prelude.{◌≡◌};
+    ghost use Rattle.bcs_json_spec.specs.declared.json_fault.JsonFault.TheVariants.{OutOfMemory};
+
+    ghost from_gives = { λ _ refusal. refusal.fault ≡ OutOfMemory };
+
+    fn from(_: AllocError) -> Self {
+        Refusal::from(JsonFault::OutOfMemory)
+    }
+}
+
+impl<T: Drop> From<AllocFailed<T>> for Refusal {
+    ghost use Rattle.std.specs.Prelude.{◌≡◌};
+    ghost use Rattle.bcs_json_spec.specs.declared.json_fault.JsonFault.TheVariants.{OutOfMemory};
+
+    ghost from_gives = { λ _ refusal. refusal.fault ≡ OutOfMemory };
+
+    fn from(_: AllocFailed<T>) -> Self {
+        Refusal::from(JsonFault::OutOfMemory)
+    }
+}
+
+impl From<Refusal> for JsonFault {
+    ghost use Rattle.std.specs.Prelude.{◌≡◌};
+
+    ghost from_gives = { λ refusal fault. fault ≡ refusal.fault };
+
+    fn from(refusal: Refusal) -> Self {
+        refusal.fault
+    }
+}

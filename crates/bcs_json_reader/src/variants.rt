@@ -1,0 +1,82 @@
+//! An enum's variants by their names.
+ghost use Rattle.std.specs.Prelude.{◌≡◌, ◌≢◌, IfOk, IfErr, OnOk, OnErr, Some, None, map, option_map, string_bytes};
+ghost use Rattle.bcs_registry_model.specs.Container as container;
+ghost use Rattle.bcs_registry_model.specs.Container.{container_at, enumeration, choice_called};
+ghost use Rattle.bcs_registry_model.specs.Ranges.{IsOrderly};
+ghost use Rattle.bcs_registry_model.specs.View.{choice_of, payload_of};
+ghost use Rattle.bcs_value_model.specs.View.{tree_of};
+ghost use Rattle.bcs_json_spec.specs.Reading as spec;
+ghost use Rattle.bcs_json_spec.specs.Reading.{Tells};
+ghost use Rattle.bcs_json_spec.specs.declared.json_fault.JsonFault.TheVariants.{BadShape, UnknownVariant};
+
+use bcs_json_spec::JsonFault;
+use bcs_registry::{Named, Registry, VariantFormat};
+use bcs_value_model::Value;
+use std::alloc::Global;
+use std::collections::BTreeMap;
+
+/// The variant of this name, with its number, in the enum that stands under `name`. `UnknownVariant`: it has none.
+#[inline(never)]
+pub fn variant_called<'a>(
+    registry: &Registry,
+    name: &str,
+    variants: &'a BTreeMap<u32, Named<VariantFormat>>,
+    word: &str,
+) -> Result<(u32, &'a Named<VariantFormat>), JsonFault>
+    requires stands { container_at name.now registry.now ≡ Some (enumeration (map choice_of variants.now.entries)) }
+    requires orderly { IsOrderly registry.now }
+    ensures ok { IfOk result (λ v. choice_called word.now (map choice_of variants.now.entries) ≡ Some (choice_of (v.0, v.1.now))) }
+    ensures missing { IfErr result (λ _. choice_called word.now (map choice_of variants.now.entries) ≡ None) }
+    ensures fault { IfErr result (λ e. e ≡ UnknownVariant) }
+{
+    find_variant(registry, name, variants, word).ok_or(JsonFault::UnknownVariant)
+}
+
+/// The value of a variant that is named alone, which is a unit variant. `UnknownVariant`: the enum has none of this
+/// name. `BadShape`: it has one that carries something.
+#[inline(never)]
+pub fn read_word(
+    alloc: Global,
+    registry: &Registry,
+    name: &str,
+    variants: &BTreeMap<u32, Named<VariantFormat>>,
+    word: String,
+) -> Result<Value, JsonFault>
+    requires stands { container_at name.now registry.now ≡ Some (enumeration (map choice_of variants.now.entries)) }
+    requires orderly { IsOrderly registry.now }
+    ensures { Tells tree_of result (spec.read_word (choice_called (string_bytes word) (map choice_of variants.now.entries))) }
+{
+    let (number, variant) = variant_called(registry, name, variants, word.as_str())?;
+    without_payload(&variant.value)?;
+    Ok(Value::Variant(number, Box::new(alloc, Value::Unit)?))
+}
+
+// The variant and its number: first the number by the name, then what has this number.
+fn find_variant<'a>(
+    registry: &Registry,
+    name: &str,
+    variants: &'a BTreeMap<u32, Named<VariantFormat>>,
+    word: &str,
+) -> Option<(u32, &'a Named<VariantFormat>)>
+    requires stands { container_at name.now registry.now ≡ Some (enumeration (map choice_of variants.now.entries)) }
+    requires orderly { IsOrderly registry.now }
+    ensures { option_map (λ v. choice_of (v.0, v.1.now)) result ≡ choice_called word.now (map choice_of variants.now.entries) }
+{
+    let number = registry.variant_number(name, word)?;
+    let variant = variants.get(&number)?;
+    Some((number, variant))
+}
+
+// Sees that a variant carries nothing. `BadShape`: it carries something.
+fn without_payload(payload: &VariantFormat) -> Result<(), JsonFault>
+    ensures ok { OnOk result (payload_of payload.now ≡ container.unit) }
+    ensures carries { OnErr result (payload_of payload.now ≢ container.unit) }
+    ensures fault { IfErr result (λ e. e ≡ BadShape) }
+{
+    match payload {
+        VariantFormat::Unit => Ok(()),
+        VariantFormat::NewType(_) | VariantFormat::Tuple(_) | VariantFormat::Struct(_) => {
+            Err(JsonFault::BadShape)
+        }
+    }
+}

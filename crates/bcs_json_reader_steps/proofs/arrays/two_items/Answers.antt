@@ -1,6 +1,0 @@
-use Rattle.std.proofs.Common.{arith}
-use Rattle.std.proofs.lemmas.Grind.{common_steps}
-use Rattle.bcs_json_reader_steps.proofs.arrays.two_items.Goals as goal
-
-pub returns-then-is_none-clause-ok : goal.returns-then-is_none-clause-ok
-returns-then-is_none-clause-ok c = grind (arith, common_steps)

@@ -1,7 +1,0 @@
-use Rattle.std.proofs.Common.{rules}
-use Rattle.bcs_json_spec.specs.Reading.{read_hex}
-use Rattle.bcs_json_reader_steps.proofs.hexadecimal.read_hex.Goals as goal
-
-pub returns-in-Err : goal.returns-in-Err
-unfolding read_hex
-returns-in-Err c = search rules

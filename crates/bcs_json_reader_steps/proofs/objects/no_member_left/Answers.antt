@@ -1,6 +1,0 @@
-use Rattle.std.proofs.Common.{length, true≢false, ap, sym, ◌∙◌}
-use Rattle.bcs_json_reader_steps.proofs.Taken.{some_left}
-use Rattle.bcs_json_reader_steps.proofs.objects.no_member_left.Goals as goal
-
-pub returns-else-is_empty-clause-left : goal.returns-else-is_empty-clause-left
-returns-else-is_empty-clause-left c = some_left c.args.members.now.entries (λ e. true≢false (sym (c.is_empty.ensures.1 (ap length e)) ∙ c.if-is_empty.false))

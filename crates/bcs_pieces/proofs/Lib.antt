@@ -1,0 +1,6 @@
+pub mod Told
+pub mod Passed
+pub mod Chosen
+pub mod Noted
+pub mod Bare
+pub mod EmptyRows

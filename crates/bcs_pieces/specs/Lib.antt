@@ -1,0 +1,12 @@
+pub use Rattle.bcs_decode_spec.specs.Accepting
+pub use Rattle.bcs_decode_spec.specs.Stopping
+pub use Rattle.bcs_pieces_spec.specs.Way
+pub use Rattle.bcs_pieces_spec.specs.Piece
+pub use Rattle.bcs_pieces_spec.specs.Told
+pub use Rattle.bcs_pieces_spec.specs.Held
+pub use Rattle.bcs_pieces_spec.specs.Pieces
+pub use Rattle.bcs_pieces_spec.specs.Stopped
+pub use Rattle.bcs_pieces_spec.specs.Laws
+pub mod Trail
+pub mod Hearing
+pub mod Leaf

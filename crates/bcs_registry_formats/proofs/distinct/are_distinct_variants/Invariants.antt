@@ -1,9 +1,0 @@
-use Rattle.std.proofs.Common.{◌≡◌, map, string_bytes}
-use Rattle.bcs_registry_formats.specs.View.{choice_of}
-use Rattle.bcs_registry_formats.specs.WellFormed.{are_distinct}
-use Rattle.bcs_registry_formats.proofs.DistinctNames.{all_new, has_name}
-use Rattle.bcs_registry_formats.proofs.distinct.are_distinct_variants.Given as goal
-
-abbrev pub invariant-loop-variant : goal.invariant-loop-variant
-invariant-loop-variant l =
-    are_distinct (map (λ c. c.1.0) (map choice_of l.variants.entries)) ≡ all_new (has_name l.seen) (map (λ v. string_bytes v.name) l.variant-iterator)

@@ -1,8 +1,0 @@
-use Rattle.std.proofs.Common.{◌≡◌, map, drop}
-use Rattle.bcs_registry_formats.specs.View.{field_of}
-use Rattle.bcs_registry_formats.specs.WellFormed.{are_distinct}
-use Rattle.bcs_registry_formats.proofs.distinct.differ_pair_by_pair.Given as goal
-
-abbrev pub invariant-loop-i : goal.invariant-loop-i
-invariant-loop-i l =
-    are_distinct (map (λ f. f.0) (map field_of l.fields)) ≡ are_distinct (map (λ f. f.0) (map field_of (drop l.i l.fields)))

@@ -1,9 +1,0 @@
-use Rattle.std.proofs.Common.{◌≡◌}
-use Rattle.std.specs.List.{list_all}
-use Rattle.bcs_registry_formats.specs.View.{entries_of}
-use Rattle.bcs_registry_formats.specs.WellFormed.{are_distinct, names_differ}
-use Rattle.bcs_registry_formats.proofs.Inside.{rows_names}
-use Rattle.bcs_registry_formats.proofs.distinct.have_distinct_names.Given as goal
-
-abbrev pub invariant-loop-container : goal.invariant-loop-container
-invariant-loop-container l = names_differ (entries_of l.containers.entries) ≡ list_all are_distinct (rows_names l.container-iterator)

@@ -1,8 +1,0 @@
-use Rattle.std.proofs.Common.{◌≡◌, map, drop}
-use Rattle.bcs_registry_formats.specs.Equality.{same_fields}
-use Rattle.bcs_registry_formats.specs.View.{field_of}
-use Rattle.bcs_registry_formats.proofs.equality.are_same_fields.Given as goal
-
-abbrev pub invariant-loop-i : goal.invariant-loop-i
-invariant-loop-i l =
-    same_fields (map field_of l.ones) (map field_of l.others) ≡ same_fields (map field_of (drop l.i l.ones)) (map field_of (drop l.i l.others))

@@ -1,7 +1,0 @@
-use Rattle.std.proofs.Common.{◌≡◌}
-use Rattle.bcs_registry_formats.specs.Growing.{growth_fault}
-use Rattle.bcs_registry_formats.specs.View.{entries_of}
-use Rattle.bcs_registry_formats.proofs.growth.containers_grow.Given as goal
-
-abbrev pub invariant-loop-name : goal.invariant-loop-name
-invariant-loop-name l = growth_fault (entries_of l.older.entries) (entries_of l.newer.entries) ≡ growth_fault (entries_of l.name-iterator) (entries_of l.newer.entries)

@@ -1,9 +1,0 @@
-use Rattle.std.proofs.Common.{◌≡◌, map}
-use Rattle.bcs_registry_formats.specs.Growing.{first_fault, choice_fault}
-use Rattle.bcs_registry_formats.specs.View.{choice_of}
-use Rattle.bcs_registry_formats.proofs.growth.variants_grow.Given as goal
-
-abbrev pub invariant-loop-number : goal.invariant-loop-number
-invariant-loop-number l =
-    first_fault (choice_fault (map choice_of l.newer.entries)) (map choice_of l.older.entries)
-    ≡ first_fault (choice_fault (map choice_of l.newer.entries)) (map choice_of l.number-iterator)

@@ -1,9 +1,0 @@
-use Rattle.std.proofs.Common.{◌≡◌, drop}
-use Rattle.bcs_registry_formats.specs.View.{formats_shapes, entries_of}
-use Rattle.bcs_registry_formats.specs.WellFormed as spec
-use Rattle.bcs_registry_formats.proofs.known.+known.Given as goal
-
-abbrev pub invariant-are_known-loop-format : goal.invariant-are_known-loop-format
-invariant-are_known-loop-format l =
-    spec.are_known (entries_of l.containers.entries) (formats_shapes l.formats)
-    ≡ spec.are_known (entries_of l.containers.entries) (formats_shapes (drop l.format-index l.formats))

@@ -1,5 +1,0 @@
-use Rattle.bcs_registry_formats.proofs.Gathering.{AreGathered}
-use Rattle.bcs_registry_formats.proofs.naming.numbers_by_name.Given as goal
-
-abbrev pub invariant-loop-name : goal.invariant-loop-name
-invariant-loop-name l = AreGathered l.containers.entries l.name-iterator l.by_enum

@@ -1,7 +1,0 @@
-use Rattle.std.proofs.Common.{◌≡◌, ℕ, List}
-use Rattle.bcs_registry_formats.proofs.Gathering.{number_among, number_joined}
-use Rattle.bcs_registry_formats.proofs.naming.numbers_of.Given as goal
-
--- what the map has, or else the variants that are left give, is what all give
-abbrev pub invariant-loop-number : goal.invariant-loop-number
-invariant-loop-number l = (word : List ℕ) → number_joined l.numbers l.number-iterator word ≡ number_among word l.variants.entries

@@ -1,0 +1,27 @@
+use Rattle.std.proofs.Common.{◌+◌, ◌*◌, take}
+use Rattle.serde_json.specs.Data.{depth}
+use Rattle.serde_json.specs.View.{view}
+use Rattle.bcs_registry_json.proofs.FormatText.{fits_format}
+use Rattle.bcs_registry_json.proofs.ShownParts.{format_data}
+use Rattle.bcs_registry_json.proofs.Rows.{IsRow}
+use Rattle.bcs_registry_json.proofs.format_text.+format_text.Given as goal
+
+-- a level begins with the object, and then goes on with the part in it
+abbrev pub decreases-format_from : goal.decreases-format_from
+decreases-format_from l = 2 * depth (view l.value.now)
+
+abbrev pub decreases-tagged_format_from : goal.decreases-tagged_format_from
+decreases-tagged_format_from l = 2 * depth (view l.part.now) + 1
+
+abbrev pub decreases-map_from : goal.decreases-map_from
+decreases-map_from l = 2 * depth (view l.value.now)
+
+abbrev pub decreases-tuple_array_from : goal.decreases-tuple_array_from
+decreases-tuple_array_from l = 2 * depth (view l.value.now)
+
+abbrev pub decreases-formats_from : goal.decreases-formats_from
+decreases-formats_from l = 2 * depth (view l.value.now)
+
+-- the elements that were read are the formats so far
+abbrev pub invariant-formats_from-loop-part : goal.invariant-formats_from-loop-part
+invariant-formats_from-loop-part l = IsRow format_data fits_format (take l.part-index l.part-items) l.formats.items

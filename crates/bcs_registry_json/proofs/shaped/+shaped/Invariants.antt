@@ -1,0 +1,21 @@
+use Rattle.std.proofs.Common.{◌≡◌, true, drop}
+use Rattle.serde_json.specs.Data.{depth}
+use Rattle.serde_json.specs.View.{items_view, view}
+use Rattle.bcs_registry_json.specs.Shaped.{are_formats}
+use Rattle.bcs_registry_json.proofs.shaped.+shaped.Given as goal
+
+abbrev pub decreases-is_format_shaped : goal.decreases-is_format_shaped
+decreases-is_format_shaped l = depth (view l.value.now)
+
+abbrev pub decreases-is_map_shaped : goal.decreases-is_map_shaped
+decreases-is_map_shaped l = depth (view l.value.now)
+
+abbrev pub decreases-is_tuple_array_shaped : goal.decreases-is_tuple_array_shaped
+decreases-is_tuple_array_shaped l = depth (view l.value.now)
+
+abbrev pub decreases-is_tuple_shaped : goal.decreases-is_tuple_shaped
+decreases-is_tuple_shaped l = depth (view l.value.now)
+
+-- what is left decides
+abbrev pub invariant-is_tuple_shaped-loop-part : goal.invariant-is_tuple_shaped-loop-part
+invariant-is_tuple_shaped-loop-part l = are_formats true (items_view l.part-items) ≡ are_formats true (items_view (drop l.part-index l.part-items))

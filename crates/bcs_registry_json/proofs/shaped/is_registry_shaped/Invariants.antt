@@ -1,0 +1,8 @@
+use Rattle.std.proofs.Common.{◌≡◌, true}
+use Rattle.serde_json.specs.View.{members_view, view}
+use Rattle.bcs_registry_json.specs.Shaped.{all_containers, is_registry}
+use Rattle.bcs_registry_json.proofs.shaped.is_registry_shaped.Given as goal
+
+-- what is left decides
+abbrev pub invariant-loop-name : goal.invariant-loop-name
+invariant-loop-name l = is_registry true (view l.value) ≡ all_containers true (members_view l._name-iterator)

@@ -1,0 +1,5 @@
+pub mod Shown
+pub mod Text
+pub mod Shaped
+pub mod Parts
+pub mod Json

@@ -1,0 +1,96 @@
+-- Names that are told apart one after another, by the set of those before.
+use Rattle.std.proofs.Common.{◌≡◌, ℕ, ◌+◌, ◌<◌, List, [], ◌∷◌, length, get_or, drop, map, Bor, Bool, true, false, not, ◌&&◌, ◌||◌, cond, refl, sym, ap, ◌∙◌}
+use Rattle.std.specs.List.{list_all, list_any}
+use Rattle.std.specs.Str.{bytes_eq}
+use Rattle.std.specs.Ordering.{is_eq, nat_cmp}
+use Rattle.std.specs.Cmp.Lexicographic.{slice_cmp}
+use Rattle.std.specs.BTreeMap.{is_at}
+use Rattle.std.specs.BTreeSet.{BTreeSet, contains_by, Updates}
+use Rattle.std.proofs.lemmas.List.{drop_more}
+use Rattle.std.proofs.lemmas.Map.Text.{is_eq-slice_cmp}
+use Rattle.bcs_registry_model.specs.WellFormed.{are_distinct}
+
+-- none of the names is among those before, nor equal to one before it
+abbrev pub all_new : (List ℕ → Bool) → List (List ℕ) → Bool
+all_new has [] = true
+all_new has (n ∷ ns) = not (has n) && all_new (λ q. bytes_eq n q || has q) ns
+
+-- the set has the name
+abbrev pub has_name : BTreeSet (Bor (List ℕ)) → List ℕ → Bool
+has_name s q = contains_by (λ k. slice_cmp nat_cmp q k.now) s
+
+all_new-same : (f g : List ℕ → Bool) → ((q : List ℕ) → f q ≡ g q) → (ns : List (List ℕ)) → all_new f ns ≡ all_new g ns
+all_new-same f g h [] = refl
+all_new-same f g h (n ∷ ns) = rw (h n) (ap (λ b. not (g n) && b) (all_new-same (λ q. bytes_eq n q || f q) (λ q. bytes_eq n q || g q) (λ q. ap (λ b. bytes_eq n q || b) (h q)) ns))
+
+none_of_either : (a b c d : Bool) → (not (a || b) && (not c && d)) ≡ (not (a || c) && (not b && d))
+none_of_either true b c d = refl
+none_of_either false true true d = refl
+none_of_either false true false d = refl
+none_of_either false false true d = refl
+none_of_either false false false d = refl
+
+neither : (p has : List ℕ → Bool) (ns : List (List ℕ)) → list_all (λ m. not (p m || has m)) ns ≡ (not (list_any p ns) && list_all (λ m. not (has m)) ns)
+neither p has [] = refl
+neither p has (n ∷ ns) = ap (λ b. not (p n || has n) && b) (neither p has ns) ∙ none_of_either (p n) (has n) (list_any p ns) (list_all (λ m. not (has m)) ns)
+
+shuffled : (a b c d : Bool) → (a && ((b && c) && d)) ≡ ((a && c) && (b && d))
+shuffled false b c d = refl
+shuffled true false true d = refl
+shuffled true false false d = refl
+shuffled true true c d = refl
+
+all_new-is : (has : List ℕ → Bool) (ns : List (List ℕ)) → all_new has ns ≡ (list_all (λ n. not (has n)) ns && are_distinct ns)
+all_new-is has [] = refl
+all_new-is has (n ∷ ns) =
+    ap (λ b. not (has n) && b) (all_new-is (λ q. bytes_eq n q || has q) ns ∙ ap (λ b. b && are_distinct ns) (neither (bytes_eq n) has ns))
+    ∙ shuffled (not (has n)) (not (list_any (bytes_eq n) ns)) (list_all (λ m. not (has m)) ns) (are_distinct ns)
+
+all_pass : (ns : List (List ℕ)) → list_all (λ n. true) ns ≡ true
+all_pass [] = refl
+all_pass (n ∷ ns) = all_pass ns
+
+-- before the first name
+pub are_distinct-from_none : (s : BTreeSet (Bor (List ℕ))) (ns : List (List ℕ)) → s.keys ≡ [] → are_distinct ns ≡ all_new (has_name s) ns
+are_distinct-from_none s ns e =
+    sym (all_new-is (λ q. false) ns ∙ ap (λ b. b && are_distinct ns) (all_pass ns))
+    ∙ all_new-same (λ q. false) (has_name s) (λ q. ap (λ ks. list_any (is_at (λ k. slice_cmp nat_cmp q k.now)) ks) (sym e)) ns
+
+-- a name that the set has
+pub all_new-repeated : (s : BTreeSet (Bor (List ℕ))) (n : List ℕ) (ns : List (List ℕ)) → has_name s n ≡ true → all_new (has_name s) (n ∷ ns) ≡ false
+all_new-repeated s n ns h = rw h refl
+
+as_key : List ℕ → Bor (List ℕ)
+as_key n = record { ref_ptr = (0, 0); now = n }
+
+cond-or : (a b c : Bool) → a ≡ c → cond a true b ≡ (c || b)
+cond-or true b c e = rw (sym e) refl
+cond-or false b c e = rw (sym e) refl
+
+-- a name that is put into the set
+pub all_new-inserted : (s t : BTreeSet (Bor (List ℕ))) (k : Bor (List ℕ)) (ns : List (List ℕ)) → has_name s k.now ≡ false → Updates (λ x y. slice_cmp nat_cmp x.now y.now) s t k true → all_new (has_name s) (k.now ∷ ns) ≡ all_new (has_name t) ns
+unfolding as_key
+all_new-inserted s t k ns h u =
+    rw h (sym (all_new-same (has_name t) (λ q. bytes_eq k.now q || has_name s q) (λ q. u.0 (as_key q) ∙ cond-or (is_eq (slice_cmp nat_cmp k.now q)) (has_name s q) (bytes_eq k.now q) (is_eq-slice_cmp k.now q)) ns))
+
+not-true : (b c : Bool) → b ≡ true → b ≡ not c → c ≡ false
+not-true b true e h = sym e ∙ h
+not-true b false e h = refl
+
+-- one more name of a row is put into the set
+pub all_new-step : {A : Type 0} (name : A → List ℕ) (xs : List A) (i : ℕ) (x : A) (s t : BTreeSet (Bor (List ℕ))) (k : Bor (List ℕ)) (b : Bool) → i < length xs → x ≡ get_or xs i x → k.now ≡ name x
+    → b ≡ true → b ≡ not (has_name s k.now) → Updates (λ x y. slice_cmp nat_cmp x.now y.now) s t k true
+    → all_new (has_name s) (map name (drop i xs)) ≡ all_new (has_name t) (map name (drop (i + 1) xs))
+all_new-step name xs i x s t k b h e n is new u =
+    ap (λ zs. all_new (has_name s) (map name zs)) (drop_more xs i x h)
+    ∙ ap (λ m. all_new (has_name s) (m ∷ map name (drop (i + 1) xs))) (ap name (sym e) ∙ sym n)
+    ∙ all_new-inserted s t k (map name (drop (i + 1) xs)) (not-true b (has_name s k.now) is new) u
+
+-- the same of a row that is gone through by an iterator
+pub all_new-next : {A : Type 0} (name : A → List ℕ) (xs ys : List A) (x : A) (s t : BTreeSet (Bor (List ℕ))) (k : Bor (List ℕ)) (b : Bool) → xs ≡ x ∷ ys → k.now ≡ name x
+    → b ≡ true → b ≡ not (has_name s k.now) → Updates (λ x y. slice_cmp nat_cmp x.now y.now) s t k true
+    → all_new (has_name s) (map name xs) ≡ all_new (has_name t) (map name ys)
+all_new-next name xs ys x s t k b e n is new u =
+    ap (λ zs. all_new (has_name s) (map name zs)) e
+    ∙ ap (λ m. all_new (has_name s) (m ∷ map name ys)) (sym n)
+    ∙ all_new-inserted s t k (map name ys) (not-true b (has_name s k.now) is new) u

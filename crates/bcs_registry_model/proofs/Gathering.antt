@@ -1,0 +1,192 @@
+-- Numbers by name, as they are gathered from an enum's variants and from a registry's enums.
+use Rattle.std.proofs.Common.{◌≡◌, ℕ, List, [], ◌∷◌, map, String, Global, Option, Some, None, is_some, Bool, true, false, cond, string_bytes, Less, refl, sym, ap, subst, ◌∙◌}
+use Rattle.std.specs.BTreeMap.{BTreeMap, Updates, get_by_text}
+use Rattle.std.specs.List.{AllByRecursion}
+use Rattle.std.specs.List.Sorted.{IsStrictlySortedBy}
+use Rattle.std.specs.Map.{keys_of}
+use Rattle.std.specs.Option.{option_or, option_map_or}
+use Rattle.std.specs.Ordering.{is_eq}
+use Rattle.std.specs.Str.{bytes_eq}
+use Rattle.std.specs.String.{string_cmp}
+use Rattle.std.proofs.lemmas.Bool.{true≢false, false≢true}
+use Rattle.std.proofs.lemmas.Cmp.{nat_list_eq_equiv}
+use Rattle.std.proofs.lemmas.Map.Text.{btree_map_updates_text, is_eq-slice_cmp}
+use Rattle.std.proofs.lemmas.Slice.Eq.{bytes_eq-Decides}
+use Rattle.bcs_registry_model.specs.Container.{enumeration, container_at, number_called, variant_number}
+use Rattle.bcs_registry_model.specs.View.{choice_of, container_of, entries_of}
+use Rattle.bcs_registry_model.specs.declared.container.Container as declared
+use Rattle.bcs_registry_model.specs.declared.container.Container.TheVariants.{UnitStruct, NewTypeStruct, TupleStruct, Struct, Enum}
+use Rattle.bcs_registry_model.specs.declared.named.Named.{Named}
+use Rattle.bcs_registry_model.specs.declared.variant_format.VariantFormat.{VariantFormat}
+use Rattle.bcs_registry_model.proofs.Lookup.{map-cond}
+use Rattle.bcs_registry_model.proofs.Rising.{Stored, Variant}
+
+map_or-cond : {A B : Type 0} (f : A → B) (d : B) (b : Bool) (x : A) (o : Option A) → option_map_or f (cond b (Some x) o) d ≡ cond b (f x) (option_map_or f o d)
+map_or-cond f d true x o = refl
+map_or-cond f d false x o = refl
+
+or_none : {A : Type 0} (o : Option A) → option_or o None ≡ o
+or_none None = refl
+or_none (Some x) = refl
+
+or_kept : {A : Type 0} (o p q : Option A) → is_some o ≡ true → option_or o p ≡ option_or o q
+or_kept None p q h = absurd (false≢true h)
+or_kept (Some x) p q h = refl
+
+is_none : {A : Type 0} (o : Option A) → is_some o ≡ false → o ≡ None
+is_none None h = refl
+is_none (Some x) h = absurd (true≢false h)
+
+-- ---- the variants of an enum
+
+abbrev pub Numbers : Type 0
+Numbers = BTreeMap (String Global) ℕ
+
+-- the number of the variant of this name among these
+abbrev pub number_among : List ℕ → List Variant → Option ℕ
+number_among word vs = number_called word (enumeration (map choice_of vs))
+
+-- what the map has under the name, or else the variants that are left
+abbrev pub number_joined : Numbers → List Variant → List ℕ → Option ℕ
+number_joined m vs word = option_or (get_by_text m word) (number_among word vs)
+
+among_first : (word : List ℕ) (v : Variant) (vs : List Variant) → number_among word (v ∷ vs) ≡ cond (bytes_eq (string_bytes v.1.name) word) (Some v.0) (number_among word vs)
+among_first word v vs = map-cond (λ c. c.0) (bytes_eq (string_bytes v.1.name) word) (choice_of v) _
+
+joined_first : (m : Numbers) (xs ys : List Variant) (v : Variant) (name : List ℕ) → xs ≡ v ∷ ys → name ≡ string_bytes v.1.name → (word : List ℕ)
+    → number_joined m xs word ≡ option_or (get_by_text m word) (cond (bytes_eq name word) (Some v.0) (number_among word ys))
+joined_first m xs ys v name e named word =
+    ap (λ zs. number_joined m zs word) e
+    ∙ ap (option_or (get_by_text m word)) (among_first word v ys ∙ ap (λ s. cond (bytes_eq s word) (Some v.0) (number_among word ys)) (sym named))
+
+put_new : (f : List ℕ → Option ℕ) (name word : List ℕ) (n : ℕ) (o : Option ℕ) (b : Bool) → (b ≡ true → name ≡ word) → f name ≡ None → option_or (f word) (cond b (Some n) o) ≡ option_or (cond b (Some n) (f word)) o
+put_new f name word n o true same none = ap (λ p. option_or p (Some n)) (ap f (sym (same refl)) ∙ none)
+put_new f name word n o false same none = refl
+
+passed : (f : List ℕ → Option ℕ) (name word : List ℕ) (n : ℕ) (o : Option ℕ) (b : Bool) → (b ≡ true → name ≡ word) → is_some (f name) ≡ true → option_or (f word) (cond b (Some n) o) ≡ option_or (f word) o
+passed f name word n o true same some = or_kept (f word) (Some n) o (ap (λ s. is_some (f s)) (sym (same refl)) ∙ some)
+passed f name word n o false same some = refl
+
+-- a variant whose name is new is put into the map
+pub variant_put : (m m' : Numbers) (xs ys : List Variant) (v : Variant) (s : List ℕ) (k : String Global) (b : Bool) → xs ≡ v ∷ ys → s ≡ string_bytes v.1.name → string_bytes k ≡ string_bytes v.1.name
+    → b ≡ is_some (get_by_text m s) → b ≡ false → Updates string_cmp m m' k (Some v.0) → (word : List ℕ) → number_joined m xs word ≡ number_joined m' ys word
+variant_put m m' xs ys v s k b e same named test new u word =
+    let none : get_by_text m (string_bytes k) ≡ None = ap (get_by_text m) (named ∙ sym same) ∙ is_none _ (sym test ∙ new) in
+    joined_first m xs ys v (string_bytes k) e named word
+    ∙ put_new (get_by_text m) (string_bytes k) word v.0 (number_among word ys) (bytes_eq (string_bytes k) word) (bytes_eq-Decides (string_bytes k) word).0 none
+    ∙ ap (λ o. option_or o (number_among word ys)) (sym (btree_map_updates_text (string_bytes k) m m' (Some v.0) u word))
+
+-- one whose name the map has is passed
+pub variant_passed : (m : Numbers) (xs ys : List Variant) (v : Variant) (s : List ℕ) (b : Bool) → xs ≡ v ∷ ys → s ≡ string_bytes v.1.name
+    → b ≡ is_some (get_by_text m s) → b ≡ true → (word : List ℕ) → number_joined m xs word ≡ number_joined m ys word
+variant_passed m xs ys v s b e same test old word =
+    joined_first m xs ys v s e same word
+    ∙ passed (get_by_text m) s word v.0 (number_among word ys) (bytes_eq s word) (bytes_eq-Decides s word).0 (sym test ∙ old)
+
+-- ---- the enums of a registry
+
+abbrev pub NumbersByEnum : Type 0
+NumbersByEnum = BTreeMap (String Global) Numbers
+
+abbrev pub found_under : NumbersByEnum → List ℕ → List ℕ → Option ℕ
+found_under m name word = option_map_or (λ n. get_by_text n word) (get_by_text m name) None
+
+-- the map has what the containers give that aren't left, and no name of one that is left
+pub record AreGathered (all left : List Stored) (m : NumbersByEnum) : Type 0 where
+  pub rise : IsStrictlySortedBy string_cmp (keys_of left)
+  pub new : AllByRecursion (λ k. get_by_text m (string_bytes k) ≡ None) (keys_of left)
+  pub joined : (name word : List ℕ) → option_or (found_under m name word) (variant_number name word (entries_of left)) ≡ variant_number name word (entries_of all)
+
+unlike : (k l : String Global) → string_cmp k l ≡ Less → bytes_eq (string_bytes k) (string_bytes l) ≡ false
+unlike k l h = sym (is_eq-slice_cmp (string_bytes k) (string_bytes l)) ∙ ap is_eq h
+
+none_above : (k : String Global) (es : List Stored) → AllByRecursion (λ l. string_cmp k l ≡ Less) (keys_of es) → container_at (string_bytes k) (entries_of es) ≡ None
+none_above k [] h = refl
+none_above k (e ∷ es) h = rw (unlike k e.0 h.0) (none_above k es h.1)
+
+number_first : (name word : List ℕ) (e : Stored) (es : List Stored) → variant_number name word (entries_of (e ∷ es))
+    ≡ cond (bytes_eq name (string_bytes e.0)) (number_called word (container_of e.1)) (variant_number name word (entries_of es))
+number_first name word e es = map_or-cond (number_called word) None (bytes_eq name (string_bytes e.0)) (container_of e.1) _
+
+still_new : (m m' : NumbersByEnum) (name k : String Global) (ns : Numbers) → string_bytes k ≡ string_bytes name → Updates string_cmp m m' k (Some ns)
+    → (es : List Stored) → AllByRecursion (λ l. string_cmp name l ≡ Less) (keys_of es) → AllByRecursion (λ l. get_by_text m (string_bytes l) ≡ None) (keys_of es)
+    → AllByRecursion (λ l. get_by_text m' (string_bytes l) ≡ None) (keys_of es)
+still_new m m' name k ns named u [] above new = tt
+still_new m m' name k ns named u (e ∷ es) above new =
+    let apart : bytes_eq (string_bytes k) (string_bytes e.0) ≡ false = ap (λ s. bytes_eq s (string_bytes e.0)) named ∙ unlike name e.0 above.0 in (
+      btree_map_updates_text (string_bytes k) m m' (Some ns) u (string_bytes e.0) ∙ ap (λ b. cond b (Some ns) (get_by_text m (string_bytes e.0))) apart ∙ new.0,
+      still_new m m' name k ns named u es above.1 new.1,
+    )
+
+no_number_above : (name : String Global) (word : List ℕ) (es : List Stored) → AllByRecursion (λ l. string_cmp name l ≡ Less) (keys_of es) → variant_number (string_bytes name) word (entries_of es) ≡ None
+no_number_above name word es h = ap (λ o. option_map_or (number_called word) o None) (none_above name es h)
+
+put_enum : (f g : List ℕ → Option ℕ) (name q : List ℕ) (p : Option ℕ) (b : Bool) → (b ≡ true → name ≡ q) → f name ≡ None → g name ≡ None → option_or (f q) (cond b p (g q)) ≡ option_or (cond b p (f q)) (g q)
+put_enum f g name q p true same new none = ap (λ o. option_or o p) (ap f (sym (same refl)) ∙ new) ∙ sym (ap (option_or p) (ap g (sym (same refl)) ∙ none) ∙ or_none p)
+put_enum f g name q p false same new none = refl
+
+pass_other : (g : List ℕ → Option ℕ) (name q : List ℕ) (b : Bool) → (b ≡ true → name ≡ q) → g name ≡ None → cond b None (g q) ≡ g q
+pass_other g name q true same none = sym (ap g (sym (same refl)) ∙ none)
+pass_other g name q false same none = refl
+
+-- the first number again, tested the other way round
+number_first_by : (name : List ℕ) (e : Stored) (es : List Stored) → name ≡ string_bytes e.0 → (q word : List ℕ)
+    → variant_number q word (entries_of (e ∷ es)) ≡ cond (bytes_eq name q) (number_called word (container_of e.1)) (variant_number q word (entries_of es))
+number_first_by name e es named q word =
+    number_first q word e es
+    ∙ ap (λ b. cond b (number_called word (container_of e.1)) (variant_number q word (entries_of es))) (ap (bytes_eq q) (sym named) ∙ nat_list_eq_equiv.symm q name)
+
+found_after : (m m' : NumbersByEnum) (k : String Global) (ns : Numbers) → Updates string_cmp m m' k (Some ns) → (q word : List ℕ)
+    → found_under m' q word ≡ cond (bytes_eq (string_bytes k) q) (get_by_text ns word) (found_under m q word)
+found_after m m' k ns u q word =
+    ap (λ o. option_map_or (λ n. get_by_text n word) o None) (btree_map_updates_text (string_bytes k) m m' (Some ns) u q)
+    ∙ map_or-cond (λ n. get_by_text n word) None (bytes_eq (string_bytes k) q) ns (get_by_text m q)
+
+-- an enum's numbers are put into the map
+pub enum_put : (all xs ys : List Stored) (m m' : NumbersByEnum) (e : Stored) (k : String Global) (ns : Numbers) → xs ≡ e ∷ ys → string_bytes k ≡ string_bytes e.0
+    → ((word : List ℕ) → get_by_text ns word ≡ number_called word (container_of e.1)) → Updates string_cmp m m' k (Some ns) → AreGathered all xs m → AreGathered all ys m'
+unfolding IsStrictlySortedBy
+enum_put all xs ys m m' e k ns is named gives u gathered =
+    let h = subst (λ zs. AreGathered all zs m) is gathered in
+    let left = λ (q word : List ℕ). variant_number q word (entries_of ys) in
+    let new : get_by_text m (string_bytes k) ≡ None = ap (get_by_text m) named ∙ h.new.0 in
+    record {
+      rise = h.rise.1;
+      new = still_new m m' e.0 k ns named u ys h.rise.0 h.new.1;
+      joined = λ q word.
+          ap (λ o. option_or o (left q word)) (found_after m m' k ns u q word ∙ ap (λ o. cond (bytes_eq (string_bytes k) q) o (found_under m q word)) (gives word))
+          ∙ sym (ap (option_or (found_under m q word)) (number_first_by (string_bytes k) e ys named q word)
+          ∙ put_enum (λ s. found_under m s word) (λ s. left s word) (string_bytes k) q (number_called word (container_of e.1)) (bytes_eq (string_bytes k) q) (bytes_eq-Decides (string_bytes k) q).0
+          (ap (λ o. option_map_or (λ n. get_by_text n word) o None) new) (ap (λ s. left s word) named ∙ no_number_above e.0 word ys h.rise.0))
+          ∙ h.joined q word;
+    }
+
+-- only an enum has numbers
+pub no_number : (d : declared.Container) → ((vs : BTreeMap ℕ (Named VariantFormat)) → d ≡ Enum vs → ⊥) → (word : List ℕ) → number_called word (container_of d) ≡ None
+no_number UnitStruct h word = refl
+no_number (NewTypeStruct f) h word = refl
+no_number (TupleStruct fs) h word = refl
+no_number (Struct fs) h word = refl
+no_number (Enum vs) h word = absurd (h vs refl)
+
+-- another container is passed
+pub other_passed : (all xs ys : List Stored) (m : NumbersByEnum) (e : Stored) → xs ≡ e ∷ ys → ((word : List ℕ) → number_called word (container_of e.1) ≡ None) → AreGathered all xs m → AreGathered all ys m
+unfolding IsStrictlySortedBy
+other_passed all xs ys m e is none gathered =
+    let h = subst (λ zs. AreGathered all zs m) is gathered in
+    let left = λ (q word : List ℕ). variant_number q word (entries_of ys) in
+    record {
+      rise = h.rise.1;
+      new = h.new.1;
+      joined = λ q word.
+          ap (option_or (found_under m q word))
+          (sym (number_first_by (string_bytes e.0) e ys refl q word ∙ ap (λ o. cond (bytes_eq (string_bytes e.0) q) o (left q word)) (none word)
+          ∙ pass_other (λ s. left s word) (string_bytes e.0) q (bytes_eq (string_bytes e.0) q) (bytes_eq-Decides (string_bytes e.0) q).0 (no_number_above e.0 word ys h.rise.0)))
+          ∙ h.joined q word;
+    }
+
+-- after the last one
+pub all_gathered : (all xs : List Stored) (m : NumbersByEnum) → xs ≡ [] → AreGathered all xs m → (name word : List ℕ) → found_under m name word ≡ variant_number name word (entries_of all)
+all_gathered all xs m is gathered name word =
+    let h = subst (λ zs. AreGathered all zs m) is gathered in
+    sym (or_none (found_under m name word)) ∙ h.joined name word

@@ -1,0 +1,119 @@
+-- What stands in a registry that an older one grew to.
+use Rattle.std.proofs.Common.{◌≡◌, ℕ, List, [], ◌∷◌, Option, Some, None, is_some, Bool, true, false, cond, ◌==◌, All, refl, sym, ap, subst, ◌∙◌}
+use Rattle.std.specs.Map.{lookup}
+use Rattle.std.specs.Option.{option_map_or}
+use Rattle.std.specs.Str.{bytes_eq}
+use Rattle.std.proofs.lemmas.Bool.{false≢true, and_parts, and_from}
+use Rattle.std.proofs.lemmas.Bool.Decides.{Decides-eqb}
+use Rattle.std.proofs.lemmas.List.Elements.{All-head, All-tail}
+use Rattle.std.proofs.lemmas.Option.{none-some, same_Some}
+use Rattle.std.proofs.lemmas.Slice.Eq.{bytes_eq-Decides}
+use Rattle.bcs_registry_model.specs.Shape as shape
+use Rattle.bcs_registry_model.specs.Shape.{Shape, Shapes, no_shapes, shape}
+use Rattle.bcs_registry_model.specs.Container.{Payload, Choice, Container, unit_struct, newtype_struct, tuple_struct, field_struct, enumeration, Entries, Content, of, one_of, nothing, container_at, choice_numbered, content, content_at, choice_at, payload_shape}
+use Rattle.bcs_registry_model.specs.Grows.{HasChoice, GrowsTo, HasContainer, Grows}
+use Rattle.bcs_registry_model.specs.Laws.{GrowthKeepsAdmitting}
+use Rattle.bcs_registry_model.specs.WellFormed.{has_few_levels, is_known, are_known}
+
+-- what is found under a key that passes the test stands in the list, under a key that passes
+found_in : {K X : Type 0} (test : K → Bool) (P : K × X → Type 0) (xs : List (K × X)) (x : X) → All P xs → lookup test xs ≡ Some x → (k : K) × (test k ≡ true) × P (k, x)
+found_in {K = K} test P [] x h found = absurd (none-some x found)
+found_in {K = K} test P (e ∷ xs) x h found = elim (test e.0) as (λ b. test e.0 ≡ b → cond b (Some e.1) (lookup test xs) ≡ Some x → (k : K) × (test k ≡ true) × P (k, x)) [
+  | true ↦ λ passes is. (e.0, passes, subst (λ y. P (e.0, y)) (same_Some e.1 x is) (All-head P e xs h))
+  | false ↦ λ fails rest. found_in test P xs x (All-tail P e xs h) rest
+] refl found
+
+-- a container of the older registry stands in the newer one, where it may have grown
+pub container_at-grows : (older newer : Entries) → Grows older newer → (n : List ℕ) (c : Container) → container_at n older ≡ Some c → (d : Container) × (container_at n newer ≡ Some d) × GrowsTo c d
+container_at-grows older newer grows n c found =
+    let there = found_in (bytes_eq n) (HasContainer newer) older c grows found in
+    let named : n ≡ there.0 = (bytes_eq-Decides n there.0).0 there.1 in
+    (there.2.0, ap (λ m. container_at m newer) named ∙ there.2.1, there.2.2)
+
+-- the newer variants have each of the older ones
+abbrev pub HasChoices : List Choice → List Choice → Type 0
+HasChoices cs ds = (n : ℕ) (v : List ℕ × Payload) → choice_numbered n cs ≡ Some v → choice_numbered n ds ≡ Some v
+
+pub has_choices : (cs ds : List Choice) → All (HasChoice ds) cs → HasChoices cs ds
+has_choices cs ds all n v found =
+    let there = found_in (λ m. m == n) (HasChoice ds) cs v all found in
+    let numbered : there.0 ≡ n = (Decides-eqb there.0 n).0 there.1 in
+    ap (λ m. choice_numbered m ds) (sym numbered) ∙ there.2
+
+-- what stood at a place of the older registry, and what stands there in the newer one
+abbrev pub StaysIn : Content → Content → Type 0
+StaysIn (of s) (of t) = s ≡ t
+StaysIn (one_of cs) (one_of ds) = HasChoices cs ds
+StaysIn nothing d = Unit {0}
+StaysIn _ _ = ⊥
+
+content_stays : (c d : Container) → GrowsTo c d → StaysIn (content c) (content d)
+content_stays unit_struct d h = subst (λ x. StaysIn (content unit_struct) (content x)) h refl
+content_stays (newtype_struct s) d h = subst (λ x. StaysIn (content (newtype_struct s)) (content x)) h refl
+content_stays (tuple_struct ss) d h = subst (λ x. StaysIn (content (tuple_struct ss)) (content x)) h refl
+content_stays (field_struct fs) d h = subst (λ x. StaysIn (content (field_struct fs)) (content x)) h refl
+content_stays (enumeration cs) (enumeration ds) h = has_choices cs ds h
+content_stays (enumeration cs) _ h = absurd cc
+
+looked_up_stays : (o p : Option Container) → ((c : Container) → o ≡ Some c → (d : Container) × (p ≡ Some d) × GrowsTo c d) → StaysIn (option_map_or content o nothing) (option_map_or content p nothing)
+looked_up_stays None p h = tt {0}
+looked_up_stays (Some c) p h =
+    let there = h c refl in
+    subst (λ q. StaysIn (content c) (option_map_or content q nothing)) (sym there.1) (content_stays c there.0 there.2)
+
+-- what stands in a container stays
+pub content_at-grows : (older newer : Entries) → Grows older newer → (n : List ℕ) → StaysIn (content_at n older) (content_at n newer)
+content_at-grows older newer grows n = looked_up_stays (container_at n older) (container_at n newer) (container_at-grows older newer grows n)
+
+paid : List ℕ × Payload → Content
+paid v = of (payload_shape v.1)
+
+chosen_stays : (o p : Option (List ℕ × Payload)) → ((v : List ℕ × Payload) → o ≡ Some v → p ≡ Some v) → StaysIn (option_map_or (λ v. of (payload_shape v.1)) o nothing) (option_map_or (λ v. of (payload_shape v.1)) p nothing)
+chosen_stays None p h = tt {0}
+chosen_stays (Some v) p h = subst (λ q. StaysIn (of (payload_shape v.1)) (option_map_or (λ v. of (payload_shape v.1)) q nothing)) (sym (h v refl)) refl
+
+-- what stands in a variant stays
+pub choice_at-grows : (cs ds : List Choice) → HasChoices cs ds → (n : ℕ) → StaysIn (choice_at n cs) (choice_at n ds)
+choice_at-grows cs ds has n = chosen_stays (choice_numbered n cs) (choice_numbered n ds) (has n)
+
+stays_of : (s : Shape) (d : Content) → StaysIn (of s) d → d ≡ of s
+stays_of s (of t) h = ap of (sym h)
+stays_of s (one_of ds) h = absurd h
+stays_of s nothing h = absurd h
+
+stays_one_of : (cs : List Choice) (d : Content) → StaysIn (one_of cs) d → (ds : List Choice) × (d ≡ one_of ds) × HasChoices cs ds
+stays_one_of cs (one_of ds) h = (ds, refl, h)
+stays_one_of cs (of t) h = absurd h
+stays_one_of cs nothing h = absurd h
+
+-- a format that stands in a container stays the same
+pub content_at-of-grows : (older newer : Entries) → Grows older newer → (n : List ℕ) (s : Shape) → content_at n older ≡ of s → content_at n newer ≡ of s
+content_at-of-grows older newer grows n s h = stays_of s (content_at n newer) (subst (λ c. StaysIn c (content_at n newer)) h (content_at-grows older newer grows n))
+
+-- an enum stays one, and has each of its variants
+pub content_at-one_of-grows : (older newer : Entries) → Grows older newer → (n : List ℕ) (cs : List Choice) → content_at n older ≡ one_of cs
+    → (ds : List Choice) × (content_at n newer ≡ one_of ds) × HasChoices cs ds
+content_at-one_of-grows older newer grows n cs h = stays_one_of cs (content_at n newer) (subst (λ c. StaysIn c (content_at n newer)) h (content_at-grows older newer grows n))
+
+known_stays : (o p : Option Container) → ((c : Container) → o ≡ Some c → (d : Container) × (p ≡ Some d) × GrowsTo c d) → is_some o ≡ true → is_some p ≡ true
+known_stays None p h is = absurd (false≢true is)
+known_stays (Some c) p h is = ap is_some (h c refl).1
+
+module _ (older newer : Entries) (grows : Grows older newer) where
+  mutual
+    pub is_known-grows : (s : Shape) → is_known older s ≡ true → is_known newer s ≡ true
+    is_known-grows (shape.name n) h = known_stays (container_at n older) (container_at n newer) (container_at-grows older newer grows n) h
+    is_known-grows (shape.option s) h = is_known-grows s h
+    is_known-grows (shape.seq s) h = is_known-grows s h
+    is_known-grows (shape.map k v) h = and_from _ _ (is_known-grows k (and_parts _ _ h).0) (is_known-grows v (and_parts (is_known older k) _ h).1)
+    is_known-grows (shape.tuple ss) h = are_known-grows ss h
+    is_known-grows (shape.array s n) h = is_known-grows s h
+    is_known-grows _ h = refl
+
+    pub are_known-grows : (ss : Shapes) → are_known older ss ≡ true → are_known newer ss ≡ true
+    are_known-grows no_shapes h = refl
+    are_known-grows (shape s ss) h = and_from _ _ (is_known-grows s (and_parts _ _ h).0) (are_known-grows ss (and_parts (is_known older s) _ h).1)
+
+pub growth_keeps_admitting_holds : GrowthKeepsAdmitting
+growth_keeps_admitting_holds older newer s grows h =
+    and_from (has_few_levels s) (is_known newer s) (and_parts (has_few_levels s) (is_known older s) h).0 (is_known-grows older newer grows s (and_parts (has_few_levels s) (is_known older s) h).1)

@@ -1,0 +1,51 @@
+-- What a registry's maps keep of their keys, in the mirror: names rise by their bytes, and variants' numbers rise and fit
+-- 32 bits.
+use Rattle.std.proofs.Common.{IsTrue, nat_lt, subst, ◌≡◌, ◌<◌, ◌^◌, ℕ, List, [], ◌∷◌, ◌++◌, String, Global, Less, Ordering, string_bytes, map, refl, sym, ap}
+use Rattle.std.proofs.lemmas.Bool.{lt-ltb}
+use Rattle.std.specs.Cmp.Lexicographic.{slice_cmp}
+use Rattle.std.specs.List.{AllByRecursion, list_all}
+use Rattle.std.specs.List.Sorted.{IsStrictlySortedBy}
+use Rattle.std.specs.Map.{keys_of}
+use Rattle.std.specs.Ordering.{nat_cmp}
+use Rattle.std.specs.String.{string_cmp}
+use Rattle.bcs_registry_model.specs.View.{choice_of, entries_of}
+use Rattle.bcs_registry_model.specs.declared.container.Container as declared
+use Rattle.bcs_registry_model.specs.declared.named.Named.{Named}
+use Rattle.bcs_registry_model.specs.declared.variant_format.VariantFormat.{VariantFormat}
+
+abbrev pub Stored : Type 0
+Stored = String Global × declared.Container
+
+abbrev pub Variant : Type 0
+Variant = ℕ × Named VariantFormat
+
+-- what the map keeps of its numbers, its mirror keeps
+pub keys-choices : (vs : List Variant) → keys_of (map choice_of vs) ≡ keys_of vs
+keys-choices [] = refl
+keys-choices (v ∷ vs) = ap (λ ns. v.0 ∷ ns) (keys-choices vs)
+
+pub all_numbers_fit : (vs : List Variant) → AllByRecursion (λ n. n < 2 ^ 32) (keys_of vs) → IsTrue (list_all (λ c. nat_lt c.0 (2 ^ 32)) (map choice_of vs))
+all_numbers_fit [] bounds = refl
+all_numbers_fit (v ∷ vs) bounds = rw (lt-ltb v.0 (2 ^ 32) bounds.0) (all_numbers_fit vs bounds.1)
+
+bytes_above : (name : String Global) (es : List Stored) → AllByRecursion (λ k. string_cmp name k ≡ Less) (keys_of es) → AllByRecursion (λ k. slice_cmp nat_cmp (string_bytes name) k ≡ Less) (keys_of (entries_of es))
+bytes_above name [] h = h
+bytes_above name (e ∷ es) h = (h.0, bytes_above name es h.1)
+
+pub names_rise : (es : List Stored) → IsStrictlySortedBy string_cmp (keys_of es) → IsStrictlySortedBy (slice_cmp nat_cmp) (keys_of (entries_of es))
+unfolding IsStrictlySortedBy
+names_rise [] h = h
+names_rise (e ∷ es) h = (bytes_above e.0 es h.0, names_rise es h.1)
+
+pub numbers_rise : (vs : List Variant) → IsStrictlySortedBy nat_cmp (keys_of vs) → IsStrictlySortedBy nat_cmp (keys_of (map choice_of vs))
+numbers_rise vs h = subst (λ ns. IsStrictlySortedBy nat_cmp ns) (sym (keys-choices vs)) h
+
+-- one more element
+pub all_push : {X Y : Type 0} (P : Y → Type 0) (f : X → Y) (xs : List X) (x : X) → AllByRecursion P (map f xs) → P (f x) → AllByRecursion P (map f (xs ++ x ∷ []))
+all_push P f [] x h here = (here, tt)
+all_push P f (first ∷ xs) x h here = (h.0, all_push P f xs x h.1 here)
+
+-- a key that is below all later ones is below a certain one
+pub below_later : {K X : Type 0} (R : K → K → Ordering) (k : K) (es : List (K × X)) (e : K × X) (more : List (K × X)) → AllByRecursion (λ l. R k l ≡ Less) (keys_of (es ++ e ∷ more)) → R k e.0 ≡ Less
+below_later R k [] e more h = h.0
+below_later R k (x ∷ es) e more h = below_later R k es e more h.1

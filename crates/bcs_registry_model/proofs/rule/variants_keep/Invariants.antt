@@ -1,0 +1,12 @@
+use Rattle.std.proofs.Common.{◌≡◌, map}
+use Rattle.std.specs.List.{list_all, flat_map}
+use Rattle.bcs_registry_model.specs.Rules.{keeps}
+use Rattle.bcs_registry_model.specs.View.{choice_of, entries_of}
+use Rattle.bcs_registry_model.specs.WellFormed.{payload_formats}
+use Rattle.bcs_registry_model.proofs.Inside.{variants_formats}
+use Rattle.bcs_registry_model.proofs.rule.variants_keep.Given as goal
+
+abbrev pub invariant-loop-variant : goal.invariant-loop-variant
+invariant-loop-variant l =
+    list_all (keeps l.rule (entries_of l.containers.entries)) (flat_map (λ c. payload_formats c.1.1) (map choice_of l.variants.entries))
+    ≡ list_all (keeps l.rule (entries_of l.containers.entries)) (variants_formats l.variant-iterator)

@@ -1,0 +1,18 @@
+-- The formats whose values are whole numbers, by width.
+use Rattle.std.specs.Prelude.{ℕ}
+use Rattle.std.specs.Int.{byte_len}
+use Rattle.bcs_num.specs.Le.{width_of}
+use Rattle.bcs_registry_model.specs.Shape as shape
+use Rattle.bcs_registry_model.specs.Shape.{Shape}
+use Rattle.bcs_registry_model.specs.declared.whole_number.WholeNumber.{WholeNumber}
+use Rattle.bcs_registry_model.specs.declared.whole_number.WholeNumber.TheVariants.{Unsigned, Signed}
+
+-- the format of these numbers
+abbrev pub whole_shape : WholeNumber → Shape
+whole_shape (Unsigned w) = shape.unsigned (width_of w)
+whole_shape (Signed w) = shape.signed (width_of w)
+
+-- how many bytes each of them has
+abbrev pub whole_len : WholeNumber → ℕ
+whole_len (Unsigned w) = byte_len (width_of w)
+whole_len (Signed w) = byte_len (width_of w)

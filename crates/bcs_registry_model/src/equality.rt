@@ -1,0 +1,96 @@
+//! Whether two formats, two rows of fields or two payloads are one.
+ghost use Rattle.std.specs.Prelude.{◌≡◌, map};
+ghost use Rattle.bcs_registry_model.specs.Equality.{same_shape, same_shapes, same_fields, same_payload};
+ghost use Rattle.bcs_registry_model.specs.View.{shape_of, formats_shapes, field_of, payload_of};
+
+use crate::format::Format;
+use crate::named::Named;
+use crate::variant_format::VariantFormat;
+
+/// Whether two formats are one.
+#[cycle(equality)]
+pub fn is_same_format(one: &Format, other: &Format) -> bool
+    ensures { result ≡ same_shape (shape_of one.now) (shape_of other.now) }
+{
+    match (one, other) {
+        (Format::Unit, Format::Unit)
+        | (Format::Bool, Format::Bool)
+        | (Format::I8, Format::I8)
+        | (Format::I16, Format::I16)
+        | (Format::I32, Format::I32)
+        | (Format::I64, Format::I64)
+        | (Format::I128, Format::I128)
+        | (Format::U8, Format::U8)
+        | (Format::U16, Format::U16)
+        | (Format::U32, Format::U32)
+        | (Format::U64, Format::U64)
+        | (Format::U128, Format::U128)
+        | (Format::F32, Format::F32)
+        | (Format::F64, Format::F64)
+        | (Format::Char, Format::Char)
+        | (Format::Str, Format::Str)
+        | (Format::Bytes, Format::Bytes) => true,
+        (Format::TypeName(one), Format::TypeName(other)) => one == other,
+        (Format::Opt(one), Format::Opt(other)) | (Format::Seq(one), Format::Seq(other)) => {
+            is_same_format(one, other)
+        }
+        (Format::Map(key, value), Format::Map(other_key, other_value)) => {
+            is_same_format(key, other_key) && is_same_format(value, other_value)
+        }
+        (Format::Tuple(one), Format::Tuple(other)) => {
+            are_same_formats(one.as_slice(), other.as_slice())
+        }
+        (Format::TupleArray(one, size), Format::TupleArray(other, other_size)) => {
+            size == other_size && is_same_format(one, other)
+        }
+        _ => false,
+    }
+}
+
+/// Whether two rows have the same formats in the same order.
+#[cycle(equality)]
+pub fn are_same_formats(ones: &[Format], others: &[Format]) -> bool
+    ensures { result ≡ same_shapes (formats_shapes ones.now) (formats_shapes others.now) }
+{
+    if ones.len() != others.len() {
+        return false;
+    }
+    for (i, one) in ones.iter().enumerate() {
+        if !is_same_format(one, &others[i]) {
+            return false;
+        }
+    }
+    true
+}
+
+/// Whether two rows have the same fields in the same order, by name and format.
+pub fn are_same_fields(ones: &[Named<Format>], others: &[Named<Format>]) -> bool
+    ensures { result ≡ same_fields (map field_of ones.now) (map field_of others.now) }
+{
+    if ones.len() != others.len() {
+        return false;
+    }
+    for (i, one) in ones.iter().enumerate() {
+        if !(one.name == others[i].name && is_same_format(&one.value, &others[i].value)) {
+            return false;
+        }
+    }
+    true
+}
+
+/// Whether two payloads are one.
+pub fn is_same_payload(one: &VariantFormat, other: &VariantFormat) -> bool
+    ensures { result ≡ same_payload (payload_of one.now) (payload_of other.now) }
+{
+    match (one, other) {
+        (VariantFormat::Unit, VariantFormat::Unit) => true,
+        (VariantFormat::NewType(one), VariantFormat::NewType(other)) => is_same_format(one, other),
+        (VariantFormat::Tuple(ones), VariantFormat::Tuple(others)) => {
+            are_same_formats(ones.as_slice(), others.as_slice())
+        }
+        (VariantFormat::Struct(ones), VariantFormat::Struct(others)) => {
+            are_same_fields(ones.as_slice(), others.as_slice())
+        }
+        _ => false,
+    }
+}

@@ -1,0 +1,46 @@
+//! Finding the numbers of variants by name.
+ghost use Rattle.std.specs.Prelude.{◌≡◌, ℕ, List, IfOk, map};
+ghost use Rattle.std.specs.BTreeMap.{get_by_text};
+ghost use Rattle.bcs_registry_model.specs.Container.{enumeration, number_called};
+ghost use Rattle.bcs_registry_model.specs.View.{choice_of, entries_of};
+ghost use Rattle.bcs_registry_model.specs.Names.{FindsNumbers};
+
+use crate::variant_numbers::VariantNumbers;
+use crate::{Container, Named, VariantFormat};
+use std::alloc::{AllocError, Global};
+use std::collections::BTreeMap;
+
+/// The numbers of the variants of each enum among the containers. Fails only for want of memory.
+pub fn numbers_by_name(
+    alloc: Global,
+    containers: &BTreeMap<String, Container>,
+) -> Result<VariantNumbers, AllocError>
+    ensures { IfOk result (λ n. FindsNumbers n (entries_of containers.now.entries)) }
+{
+    let mut by_enum = BTreeMap::new(alloc);
+    for (name, container) in containers {
+        if let Container::Enum(variants) = container {
+            let numbers = numbers_of(alloc, variants)?;
+            drop(by_enum.insert(name.clone()?, numbers)?);
+        }
+    }
+    Ok(VariantNumbers { by_enum })
+}
+
+/// The numbers of an enum's variants by name. Of variants with one name the first counts.
+fn numbers_of(
+    alloc: Global,
+    variants: &BTreeMap<u32, Named<VariantFormat>>,
+) -> Result<BTreeMap<String, u32>, AllocError>
+    ensures { IfOk result (λ m. (word : List ℕ)
+        → get_by_text m word
+        ≡ number_called word (enumeration (map choice_of variants.now.entries))) }
+{
+    let mut numbers = BTreeMap::new(alloc);
+    for (number, variant) in variants {
+        if !numbers.contains_key(variant.name.as_str()) {
+            drop(numbers.insert(variant.name.clone()?, *number)?);
+        }
+    }
+    Ok(numbers)
+}

@@ -1,6 +1,0 @@
-pub mod Back
-pub mod ShownShape
-pub mod OneText
-pub mod OneFault
-pub mod SomeText
-pub mod OrFault

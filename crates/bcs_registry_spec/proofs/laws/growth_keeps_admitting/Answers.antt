@@ -1,5 +1,0 @@
-use Rattle.bcs_registry_formats.proofs.GrowthLaws.{growth_keeps_admitting_holds}
-use Rattle.bcs_registry_spec.proofs.laws.growth_keeps_admitting.Goals as goal
-
-pub returns : goal.returns
-returns c = growth_keeps_admitting_holds

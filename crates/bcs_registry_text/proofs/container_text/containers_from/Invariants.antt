@@ -1,6 +1,0 @@
-use Rattle.serde_json.specs.View.{view}
-use Rattle.bcs_registry_text.proofs.Containers.{ContainersRead}
-use Rattle.bcs_registry_text.proofs.container_text.containers_from.Given as goal
-
-abbrev pub invariant-loop-name : goal.invariant-loop-name
-invariant-loop-name l = ContainersRead (view l.value) l.name-iterator l.containers.entries

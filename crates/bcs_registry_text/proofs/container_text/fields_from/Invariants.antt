@@ -1,9 +1,0 @@
-use Rattle.std.proofs.Common.{take}
-use Rattle.bcs_registry_text.proofs.ContainerText.{fits_field}
-use Rattle.bcs_registry_text.proofs.ShownParts.{field_data}
-use Rattle.bcs_registry_text.proofs.Rows.{IsRow}
-use Rattle.bcs_registry_text.proofs.container_text.fields_from.Given as goal
-
--- the elements that were read are the fields so far
-abbrev pub invariant-loop-part : goal.invariant-loop-part
-invariant-loop-part l = IsRow field_data fits_field (take l.part-index l.part-items) l.fields.items

@@ -1,6 +1,0 @@
-use Rattle.serde_json.specs.View.{view}
-use Rattle.bcs_registry_text.proofs.Variants.{VariantsRead}
-use Rattle.bcs_registry_text.proofs.container_text.variants_from.Given as goal
-
-abbrev pub invariant-loop-digits : goal.invariant-loop-digits
-invariant-loop-digits l = VariantsRead (view l.value) l.digits-iterator l.variants.entries

@@ -1,7 +1,0 @@
-use Rattle.std.proofs.Common.{◌≡◌, map, take}
-use Rattle.serde_json.specs.View.{view}
-use Rattle.bcs_registry_text.proofs.ShownParts.{field_data}
-use Rattle.bcs_registry_text.proofs.printing.formats.field_values.Given as goal
-
-abbrev pub invariant-loop-field : goal.invariant-loop-field
-invariant-loop-field l = map view l.values.items ≡ map field_data (take l.field-index l.field-items)

@@ -1,8 +1,0 @@
-use Rattle.std.proofs.Common.{◌≡◌, true, drop}
-use Rattle.serde_json.specs.View.{items_view}
-use Rattle.bcs_registry_text.specs.Shaped.{all_fields}
-use Rattle.bcs_registry_text.proofs.shaped.are_fields_shaped.Given as goal
-
--- what is left decides
-abbrev pub invariant-loop-field : goal.invariant-loop-field
-invariant-loop-field l = all_fields true (items_view l.field-items) ≡ all_fields true (items_view (drop l.field-index l.field-items))

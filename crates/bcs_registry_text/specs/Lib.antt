@@ -1,4 +1,0 @@
-pub mod Shown
-pub mod Text
-pub mod Shaped
-pub mod Parts

@@ -1,0 +1,131 @@
+-- Words in which clap finds no fault name one of the commands of `bcs`.
+use Rattle.std.proofs.Common.{◌≡◌, ap, subst, sym, refl, inl, inr, codes, true, false, not, ◌&&◌, Bool, List, [], Option, Some, None, is_some, option_map, ◌∙◌}
+use Rattle.std.specs.Prelude.{IsSomeAnd, option_and_then, Box}
+use Rattle.std.specs.Box.{box_value}
+use Rattle.std.specs.Str.{bytes_eq}
+use Rattle.std.specs.List.{list_any}
+use Rattle.clap.specs.Facts.{explicit_source}
+use Rattle.clap.specs.Takes.{is_given}
+use Rattle.clap.specs.Kinds.{check_kinds, or_else}
+use Rattle.clap.specs.Faults.{built_fault, check_fault, defaults_fault, entered_fault, fault_of, level_fault, settle_fault, walk_fault}
+use Rattle.clap.specs.Simple.{App, HasMatchesOf, Shape, argument_words, built, entered, is_simple, names_of, subcommand_of, subcommand_rows, subcommand_rows_of}
+use Rattle.clap.specs.Matches.{subcommand_name_of}
+use Rattle.clap.specs.declared.parser.matches.ArgMatches.{ArgMatches}
+use Rattle.clap.specs.declared.parser.matches.ArgMatches.TheViews.{out-ArgMatches, out-SubCommand}
+use Rattle.clap.specs.declared.parser.matches.SubCommand.{SubCommand}
+use Rattle.clap.specs.Walk.{Row, Text, finished, nothing_held, settled, stop_after, walk, walk_from}
+use Rattle.bcs_tool_command_line.specs.CommandLine.{bcs_app}
+use Rattle.bcs_tool_command_line.specs.Jobs.{IsJob, IsJobOf, command_named}
+use Rattle.bcs_tool_command_line.specs.declared.command.Command.{Command}
+use Rattle.bcs_tool_command_line.specs.declared.job.Job.{Job}
+use Rattle.bcs_tool_command_line.proofs.Subcommands.{IsAmong, IsEntered, enters, none_left}
+
+wants_one : (s : Shape) (rows : List Row) → s.subcommand_required ≡ true → check_fault s rows false ≡ [] → ⊥
+wants_one s rows needs none =
+    go (s.arg_required_else_help && not (list_any (λ r. explicit_source r.source) rows)) s.subcommand_required needs none
+  where
+    unmet : Bool
+    unmet = not (s.subcommand_negates_reqs && false) && list_any (λ a. a.required && not (is_given a.id rows)) s.rules
+
+    go : (x y : Bool) → y ≡ true → check_kinds x y unmet ≡ [] → ⊥
+    go true y is same = cc
+    go false true is same = cc
+    go false false is same = cc
+
+-- a program that wants a subcommand finds a fault where there is none
+none_is_fault : (a : App) (words : List Text) → a.top.subcommand_required ≡ true → (stop : Option (Text × List Text)) → stop ≡ None
+    → level_fault a.top (names_of a) nothing_held words (is_some (entered a stop)) (entered_fault a stop) ≡ [] → ⊥
+none_is_fault a words needs (Some p) is none = cc
+none_is_fault a words needs None is none =
+    let s = a.top in
+    let end = (walk s.rules (names_of a) nothing_held words).held in
+    let settle = settle_fault s.rules s.args_override_self end in
+    let fill = defaults_fault (settled s.rules end).rows s.rules in
+    let check = check_fault s (finished s.rules end) false in
+    let after_walk = (none_left (walk_fault s (names_of a) (walk_from nothing_held) words) (or_else settle (or_else fill check)) none).1 in
+    wants_one s (finished s.rules end) needs (none_left fill check (none_left settle (or_else fill check) after_walk).1).1
+
+-- the command that a subcommand's name and words lead to
+abbrev pub command_at : Option (Text × List Text) → Bool
+command_at stop = is_some (option_and_then (λ q. command_named q.0) (entered (built bcs_app) stop))
+
+entered_is_command : (name : Text) (rest : List Text) → IsEntered (names_of (built bcs_app)) name → command_at (Some (name, rest)) ≡ true
+entered_is_command name rest h = go h.among
+  where
+    at : (t : Text) → t ≡ name → command_at (Some (t, rest)) ≡ true → command_at (Some (name, rest)) ≡ true
+    at t same here = subst (λ x. command_at (Some (x, rest)) ≡ true) same here
+
+    go : IsAmong (names_of (built bcs_app)) name → command_at (Some (name, rest)) ≡ true
+    go (inl e) = at (codes "check") e refl
+    go (inr (inl e)) = at (codes "grows") e refl
+    go (inr (inr (inl e))) = at (codes "show") e refl
+    go (inr (inr (inr (inl e)))) = at (codes "example") e refl
+    go (inr (inr (inr (inr (inl e))))) = at (codes "encode") e refl
+    go (inr (inr (inr (inr (inr (inl e)))))) = at (codes "decode") e refl
+    go (inr (inr (inr (inr (inr (inr (inl e))))))) = at (codes "explain") e refl
+    go (inr (inr (inr (inr (inr (inr (inr (inl e)))))))) = at (codes "normalise") e refl
+    go (inr (inr (inr (inr (inr (inr (inr (inr (inl e))))))))) = at (codes "same") e refl
+    go (inr (inr (inr (inr (inr (inr (inr (inr (inr (inl e)))))))))) = at (codes "part") e refl
+    go (inr (inr (inr (inr (inr (inr (inr (inr (inr (inr (inl e))))))))))) = at (codes "scan") e refl
+    go (inr (inr (inr (inr (inr (inr (inr (inr (inr (inr (inr (inl e)))))))))))) =
+        let bad : true ≡ false = subst (λ x. bytes_eq x (codes "help") ≡ false) (sym e) h.not_help in absurd cc
+    go (inr (inr (inr (inr (inr (inr (inr (inr (inr (inr (inr (inr e)))))))))))) = absurd e
+
+stop_is_command : (words : List Text) → built_fault (built bcs_app) nothing_held words ≡ []
+    → (stop : Option (Text × List Text)) → stop_after (built bcs_app).top.rules (names_of (built bcs_app)) words ≡ stop → command_at stop ≡ true
+stop_is_command words passes None at = absurd (none_is_fault (built bcs_app) words refl _ at passes)
+stop_is_command words passes (Some p) at =
+    entered_is_command p.0 p.1 (enters (built bcs_app).top (names_of (built bcs_app)) refl words (walk_from nothing_held) p refl (none_left _ _ passes).0 at)
+
+pub names_command : (words : List Text) → fault_of bcs_app words ≡ []
+    → is_some (option_and_then (λ q. command_named q.0) (subcommand_of bcs_app words)) ≡ true
+names_command words passes = stop_is_command (argument_words bcs_app words) passes _ refl
+
+-- ---- the same of a parse
+
+name_of_rows : {Z : Type 0} (sub : Option (Box SubCommand Z))
+    → option_map (λ b. (out-SubCommand (box_value b)).name.now) sub ≡ option_map (λ p. p.0) (subcommand_rows sub)
+name_of_rows None = refl
+name_of_rows (Some b) = refl
+
+is_named : (found : Option (Text × List Row)) (name : Text) → Some name ≡ option_map (λ p. p.0) found
+    → is_some (option_and_then (λ q. command_named q.0) found) ≡ true → command_named name ≡ None → ⊥
+is_named None name e some none = cc
+is_named (Some q) name e some none =
+    let same : name ≡ q.0 = cc in
+    let bad : is_some (command_named name) ≡ true = rw (same) some in
+    let is : false ≡ true = ap is_some (sym none) ∙ bad in cc
+
+-- a parse by the definition that succeeds meets a command's name
+pub met_is_named : (a : App) (words : List Text) (m : ArgMatches) (name : Text) → a ≡ bcs_app → HasMatchesOf a words m
+    → fault_of bcs_app words ≡ [] → Some name ≡ subcommand_name_of m → command_named name ≡ None → ⊥
+met_is_named a words m name same matches passes met none =
+    let found : subcommand_rows_of m ≡ subcommand_of bcs_app words = (subst (λ (b : App). HasMatchesOf b words m) same matches is_simple_bcs).1 in
+    is_named (subcommand_of bcs_app words) name
+    (met ∙ (name_of_rows (out-ArgMatches m).subcommand ∙ ap (option_map (λ p. p.0)) found))
+    (names_command words passes) none
+  where
+    is_simple_bcs : is_simple bcs_app ≡ true
+    is_simple_bcs = refl
+
+-- the job of the subcommand that is met is the one that the words ask for
+is_job : (found : Option (Text × List Row)) (name : Text) (rows : List Row) (command : Command) (job : Job)
+    → Some name ≡ option_map (λ p. p.0) found → Some rows ≡ option_map (λ p. p.1) found → Some command ≡ command_named name
+    → IsJob command rows job → IsSomeAnd found (λ p. IsSomeAnd (command_named p.0) (λ k. IsJob k p.1 job))
+is_job None name rows command job of_name of_rows named h = cc
+is_job (Some p) name rows command job of_name of_rows named h =
+    let same_name : name ≡ p.0 = cc in
+    let same_rows : rows ≡ p.1 = cc in
+    let is : Some command ≡ command_named p.0 = named ∙ ap command_named same_name in
+    subst (λ (o : Option Command). IsSomeAnd o (λ k. IsJob k p.1 job)) is (subst (λ (found : List Row). IsJob command found job) same_rows h)
+
+pub met_job : (a : App) (words : List Text) (m : ArgMatches) (name : Text) (rows : List Row) (command : Command) (job : Job) → a ≡ bcs_app → HasMatchesOf a words m
+    → Some name ≡ subcommand_name_of m → Some rows ≡ option_map (λ p. p.1) (subcommand_rows_of m) → Some command ≡ command_named name
+    → IsJob command rows job → IsJobOf words job
+met_job a words m name rows command job same matches of_name of_rows named h =
+    let found : subcommand_rows_of m ≡ subcommand_of bcs_app words = (subst (λ (b : App). HasMatchesOf b words m) same matches is_simple_bcs).1 in
+    is_job (subcommand_of bcs_app words) name rows command job
+    (of_name ∙ (name_of_rows (out-ArgMatches m).subcommand ∙ ap (option_map (λ p. p.0)) found)) (of_rows ∙ ap (option_map (λ p. p.1)) found) named h
+  where
+    is_simple_bcs : is_simple bcs_app ≡ true
+    is_simple_bcs = refl

@@ -1,0 +1,6 @@
+pub mod CommandNames
+pub mod CommandOptions
+pub mod LimitLemmas
+pub mod LineFaultLemmas
+pub mod Subcommands
+pub mod Values

@@ -1,0 +1,84 @@
+-- What a parse by the definition of `bcs` says of the words.
+use Rattle.std.proofs.Common.{◌≡◌, ◌∙◌, ◌⊎◌, ◌&&◌, [], ◌∷◌, List, Option, Some, None, inl, inr, refl, true, false, true≢false, codes, ap, ap₂, subst, sym}
+use Rattle.std.specs.Prelude.{IsSomeAnd}
+use Rattle.std.specs.Option.{option_map_or}
+use Rattle.clap.specs.Words.{App, HasKind, IsAmong, Kinds, Row, Text, fault_of, is_simple_and_free, kind_of, subcommand_of}
+use Rattle.clap.specs.declared.error.Error.{Error}
+use Rattle.clap.specs.declared.error.kind.ErrorKind.{ErrorKind}
+use Rattle.clap.specs.declared.error.kind.ErrorKind.TheVariants as kind
+use Rattle.clap.proofs.OnLiterals.{clap_on_literals}
+use Rattle.bcs_tool_command_line.specs.CommandLine.{bcs_app}
+use Rattle.bcs_tool_command_line.specs.Jobs.{IsJob, IsJobOf, command_named, is_set}
+use Rattle.bcs_tool_command_line.specs.LineFaults.{IsFaultAmong, IsFaultOf, IsFaultOfKind, TellsJoined}
+use Rattle.bcs_tool_command_line.specs.TakenWords.{TakesWords, joins_raw_and_lines}
+use Rattle.bcs_tool_command_line.specs.declared.command.Command.{Command}
+use Rattle.bcs_tool_command_line.specs.declared.job.Job.{Job}
+use Rattle.bcs_tool_command_line.specs.declared.line_fault.LineFault.{LineFault}
+use Rattle.bcs_tool_command_line.specs.declared.line_fault.LineFault.TheVariants.{Usage, Help, OutOfMemory}
+
+-- clap's contracts are exact for the definition
+pub is_exact : is_simple_and_free bcs_app ≡ true
+unfolding clap_on_literals
+is_exact = refl
+
+-- The definition is not computed where a parse is of a command that equals it.
+pub taken_as : (a : App) (words : List Text) → a ≡ bcs_app
+    → (is_simple_and_free a ≡ true → fault_of a words ≡ []) → fault_of bcs_app words ≡ []
+taken_as a words same h =
+    subst (λ (b : App). fault_of b words ≡ []) same (h (ap is_simple_and_free same ∙ is_exact))
+
+refused_as : (a : App) (words : List Text) (e : Error) → a ≡ bcs_app
+    → (is_simple_and_free a ≡ true → HasKind (fault_of a words) e) → HasKind (fault_of bcs_app words) e
+refused_as a words e same h =
+    subst (λ (b : App). HasKind (fault_of b words) e) same (h (ap is_simple_and_free same ∙ is_exact))
+
+fault_among : (kinds : Kinds) (k : ErrorKind) (f : LineFault)
+    → (k ≡ kind.OutOfMemory) ⊎ IsAmong k kinds → IsFaultOfKind k f → IsFaultAmong kinds f
+fault_among kinds k (Usage text) (inl e) h = absurd (h.1 e)
+fault_among kinds k (Usage text) (inr among) h = (k, among, h.0)
+fault_among kinds k (Help text) (inl e) (inl h) = cc
+fault_among kinds k (Help text) (inl e) (inr h) = cc
+fault_among kinds k (Help text) (inr among) h =
+    (k, among, h)
+fault_among kinds k OutOfMemory a h = tt
+
+-- the fault for an error of a parse is one that clap finds in the words
+pub fault_of_error : (a : App) (words : List Text) (e : Error) (f : LineFault) → a ≡ bcs_app
+    → (is_simple_and_free a ≡ true → HasKind (fault_of a words) e) → IsFaultOfKind (kind_of e) f → IsFaultAmong (fault_of bcs_app words) f
+fault_of_error a words e f same h is = fault_among (fault_of bcs_app words) (kind_of e) f (refused_as a words e same h) is
+
+-- where clap finds no fault, only memory can be wanting
+pub none_is_memory : (kinds : Kinds) (f : LineFault) → IsFaultAmong kinds f → kinds ≡ [] → f ≡ OutOfMemory
+none_is_memory (k ∷ ks) f h e = cc
+none_is_memory [] (Usage text) h e = absurd h.1
+none_is_memory [] (Help text) h e = absurd h.1
+none_is_memory [] OutOfMemory h e = refl
+
+pub memory_alone : (words : List Text) (f : LineFault) → IsFaultOf words f → TakesWords words → f ≡ OutOfMemory
+memory_alone words f (inl h) takes = none_is_memory (fault_of bcs_app words) f h takes.0
+memory_alone words f (inr h) takes = absurd (true≢false (sym h.1 ∙ takes.1))
+
+-- the job of words tells whether they join `--raw` and `--lines`
+found_job_joins : (found : Option (Text × List Row)) (job : Job)
+    → IsSomeAnd found (λ p. IsSomeAnd (command_named p.0) (λ command. IsJob command p.1 job))
+    → (job.raw && job.lines) ≡ option_map_or (λ p. is_set (codes "raw") p.1 && is_set (codes "lines") p.1) found false
+found_job_joins None job h = absurd h
+found_job_joins (Some p) job h = joined_in (command_named p.0) h
+  where
+    joined_in : (o : Option Command) → IsSomeAnd o (λ command. IsJob command p.1 job)
+        → (job.raw && job.lines) ≡ (is_set (codes "raw") p.1 && is_set (codes "lines") p.1)
+    joined_in None h = absurd h
+    joined_in (Some command) h = ap₂ ◌&&◌ h.raw h.lines
+
+job_joins : (words : List Text) (job : Job) → IsJobOf words job → (job.raw && job.lines) ≡ joins_raw_and_lines words
+job_joins words job h = found_job_joins (subcommand_of bcs_app words) job h
+
+pub takes_words : (words : List Text) (job : Job) → IsJobOf words job → fault_of bcs_app words ≡ []
+    → (job.raw && job.lines) ≡ false → TakesWords words
+takes_words words job h none apart = (none, sym (job_joins words job h) ∙ apart)
+
+-- the fault for a job that joins the two
+pub fault_of_joined : (words : List Text) (job : Job) (f : LineFault) → IsJobOf words job → fault_of bcs_app words ≡ []
+    → (job.raw && job.lines) ≡ true → (f ≡ OutOfMemory) ⊎ TellsJoined f → IsFaultOf words f
+fault_of_joined words job f h none both (inl e) = subst (IsFaultOf words) (sym e) (inl tt)
+fault_of_joined words job f h none both (inr tells) = inr (none, sym (job_joins words job h) ∙ both, tells)

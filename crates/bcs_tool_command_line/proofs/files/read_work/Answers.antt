@@ -1,0 +1,21 @@
+use Rattle.std.proofs.Common.{◌≡◌, List, false, inl, inr, refl, rules, subst, ℕ}
+use Rattle.bcs_tool_command_line.specs.Files.{IsTextOf, is_registry_text}
+use Rattle.bcs_tool_command_line.proofs.files.read_work.Goals as goal
+
+-- the text for REG or OLD was read before
+pub returns-in-Err-read_second-clause-fault : goal.returns-in-Err-read_second-clause-fault
+returns-in-Err-read_second-clause-fault g c =
+    let first = subst (λ (word : List ℕ). IsTextOf g.R.File.Read.remaining word c.in-Ok.text.items) c.as_str.ensures.value c.in-Ok.ensures.text in
+    let second = c.in-Err-read_second.ensures in (
+      second.fault,
+      λ other. inr (
+        (c.in-Ok.text.items, first),
+        elim (second.named other) [
+          | inl same ↦ inr (same.0, same.1, refl)
+          | inr grows ↦ inl (grows.0, subst (λ (word : List ℕ). is_registry_text word ≡ false) c.as_str-2.ensures.value grows.1, refl)
+        ],
+      ),
+    )
+
+pub returns-clause-work : goal.returns-clause-work
+returns-clause-work g c = search rules

@@ -1,0 +1,61 @@
+-- Where a fault stands, in a line: `in the file registry.json: No such file or directory`.
+use Rattle.std.specs.Prelude.{◌≡◌, ◌⊎◌, ◌++◌, ℕ, List, [], Bool, false, codes}
+use Rattle.std.specs.declared.io.ErrorKind.{ErrorKind}
+use Rattle.std.specs.declared.io.ErrorKind.TheVariants as kind
+use Rattle.bcs_look_text.specs.Escaped.{escaped}
+use Rattle.bcs_tool_command_line.specs.declared.open_cause.OpenCause.{OpenCause}
+use Rattle.bcs_tool_command_line.specs.declared.open_cause.OpenCause.TheVariants.{Missing, Forbidden, NoFolder, Loop, LongName, BadName, Other}
+use Rattle.bcs_tool_command_line.specs.declared.origin.Origin.{Origin}
+use Rattle.bcs_tool_command_line.specs.declared.origin.Origin.TheVariants.{File, StandardInput}
+use Rattle.bcs_tool_command_line.specs.declared.taking.TakeFault.{TakeFault}
+use Rattle.bcs_tool_command_line.specs.declared.taking.TakeFault.TheVariants.{Read, TooLarge, OutOfMemory}
+use Rattle.bcs_tool_command_line.specs.declared.unread_file.UnreadFile.{UnreadFile}
+use Rattle.bcs_tool_command_line.specs.declared.unread_file.UnreadFile.TheVariants.{Unopened, Untaken}
+
+-- ---- why a file was not opened
+
+abbrev pub cause_of : ErrorKind → OpenCause
+cause_of kind.NotFound = Missing
+cause_of kind.PermissionDenied = Forbidden
+cause_of kind.NotADirectory = NoFolder
+cause_of kind.FilesystemLoop = Loop
+cause_of kind.InvalidFilename = LongName
+cause_of kind.InvalidInput = BadName
+cause_of _ = Other
+
+-- behind the file's name; nothing of what has no word here
+abbrev pub cause_text : OpenCause → List ℕ
+cause_text Missing = codes ": No such file or directory"
+cause_text Forbidden = codes ": Permission denied"
+cause_text NoFolder = codes ": Not a directory"
+cause_text Loop = codes ": Too many levels of symbolic links"
+cause_text LongName = codes ": File name too long"
+cause_text BadName = codes ": Invalid argument"
+cause_text Other = []
+
+-- ---- the line
+
+abbrev pub file_text : List ℕ → List ℕ
+file_text name = codes "in the file " ++ escaped name
+
+abbrev pub origin_text : Origin → List ℕ
+origin_text (File name) = file_text name.now
+origin_text StandardInput = codes "in the standard input"
+
+abbrev pub output_text : List ℕ
+output_text = codes "in the standard output"
+
+-- of a fault in taking what has this text; want of memory has no place
+abbrev pub take_place : TakeFault → List ℕ → List ℕ
+take_place Read text = text
+take_place TooLarge text = text
+take_place OutOfMemory text = []
+
+-- of the file of this name, which was not read
+abbrev pub file_place : UnreadFile → List ℕ → List ℕ
+file_place (Unopened cause) name = file_text name ++ cause_text cause
+file_place (Untaken fault) name = take_place fault (file_text name)
+
+-- what is told of a place: it, if the job isn't quiet; or nothing
+abbrev pub TellsPlace : Bool → List ℕ → List ℕ → Type 0
+TellsPlace quiet text place = (place ≡ []) ⊎ ((quiet ≡ false) × (place ≡ text))

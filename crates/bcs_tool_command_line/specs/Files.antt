@@ -1,0 +1,143 @@
+-- The files that a job names.
+use Rattle.std.specs.Prelude.{◌≡◌, ◌≢◌, ◌⊎◌, ◌≤◌, ◌<◌, ◌==◌, ℕ, List, [], ◌∷◌, Bool, true, false, codes, length, IfSome, Option, Some, None, string_bytes}
+use Rattle.bcs_look_text.specs.declared.style.Paint.TheVariants.{Plain, Colored}
+use Rattle.bcs_look_text.specs.declared.style.Style.{Style}
+use Rattle.bcs_tool_command_line.specs.declared.color.Color.TheVariants.{Always, Never}
+use Rattle.bcs_tool_command_line.specs.declared.command.Command.{Command}
+use Rattle.bcs_tool_command_line.specs.declared.command.Command.TheVariants.{Check, Grows, Show, Example, Encode, Decode, Explain, Normalise, Same, Part, Scan}
+use Rattle.bcs_tool_command_line.specs.declared.file_fault.FileFault.{FileFault}
+use Rattle.bcs_tool_command_line.specs.declared.file_fault.FileFault.TheVariants as fault
+use Rattle.bcs_tool_command_line.specs.declared.file_refusal.FileRefusal.{FileRefusal}
+use Rattle.bcs_tool_command_line.specs.declared.job.Job.{Job}
+use Rattle.bcs_tool_command_line.specs.declared.taking.TakeFault.{TakeFault}
+use Rattle.bcs_tool_command_line.specs.declared.taking.TakeFault.TheVariants.{Read, TooLarge, OutOfMemory}
+use Rattle.bcs_tool_command_line.specs.declared.unread_file.UnreadFile.{UnreadFile}
+use Rattle.bcs_tool_command_line.specs.declared.unread_file.UnreadFile.TheVariants.{Unopened, Untaken}
+use Rattle.bcs_tool_command_line.specs.declared.work.Inputs.{Inputs}
+use Rattle.bcs_tool_command_line.specs.declared.work.Work.{Work}
+
+-- the most bytes of an input, and of a registry's text
+abbrev pub size_limit : ℕ
+size_limit = 268435456
+
+-- what the standard error is told
+abbrev pub take_note : TakeFault → List ℕ
+take_note Read = codes "fault: read"
+take_note TooLarge = codes "fault: too large"
+take_note OutOfMemory = codes "fault: memory"
+
+abbrev pub file_note : FileFault → List ℕ
+file_note fault.Open = codes "fault: open"
+file_note fault.Read = take_note Read
+file_note fault.TooLarge = take_note TooLarge
+file_note fault.OutOfMemory = take_note OutOfMemory
+
+-- the fault of a file that was not read
+abbrev pub fault_of : UnreadFile → FileFault
+fault_of (Unopened cause) = fault.Open
+fault_of (Untaken Read) = fault.Read
+fault_of (Untaken TooLarge) = fault.TooLarge
+fault_of (Untaken OutOfMemory) = fault.OutOfMemory
+
+-- a word for a registry that begins with a brace is its text, and any other names a file
+abbrev pub is_registry_text : List ℕ → Bool
+is_registry_text [] = false
+is_registry_text (c ∷ cs) = c == 123
+
+-- these bytes may be the content: they are it, where it is known
+abbrev pub IsContent : Option (List ℕ) → List ℕ → Type 0
+IsContent None bytes = Unit {0}
+IsContent (Some content) bytes = bytes ≡ content
+
+-- the job compares two files line by line, so that A is an input as B is
+abbrev pub ComparesLines : Job → Type 0
+ComparesLines job = (job.command ≡ Same) × (job.lines ≡ true)
+
+-- the job's registries are texts themselves, and it has no A but one that is an input, so that no file is read for its work
+abbrev pub NamesNoFile : Job → Type 0
+NamesNoFile job = (is_registry_text (string_bytes job.registry) ≡ true) × (job.command ≡ Same → job.lines ≡ true)
+    × (job.command ≡ Grows → is_registry_text (string_bytes job.second) ≡ true)
+
+-- the job's second word names the file that its work needs: that of NEW, or of A
+abbrev pub NamesSecond : Job → List ℕ → Type 0
+NamesSecond job name = ((job.command ≡ Grows) × (is_registry_text name ≡ false) × (name ≡ string_bytes job.second))
+    ⊎ ((job.command ≡ Same) × (job.lines ≡ false) × (name ≡ string_bytes job.second))
+
+-- the files that a run reads itself: A, where its lines are compared, and that of the input
+pub record IsInputsOf (job : Job) (inputs : Inputs) : Type 0 where
+  pub compared : IfSome inputs.first (λ name. ComparesLines job × (name ≡ job.second))
+  pub other : inputs.first ≡ None → ¬ ComparesLines job
+  pub file : inputs.file ≡ job.file
+
+-- pieces are printed in the form that the job says, and in color where it says so; where it says nothing of color, either way
+pub record IsStyleOf (job : Job) (style : Style) : Type 0 where
+  pub form : style.form ≡ job.form
+  pub always : job.color ≡ Always → style.paint ≡ Colored
+  pub never : job.color ≡ Never → style.paint ≡ Plain
+
+-- What files gave. Which file a name opens, no clause of std says: it is known what an opened file gave, and
+-- not which it is.
+module _ {F : Type 0} (remaining : F → Option (List ℕ)) where
+  -- the text is all that an opened file had to give
+  abbrev pub IsFileText : List ℕ → Type 0
+  IsFileText text = (length text ≤ size_limit) × ((file : F) × IsContent (remaining file) text)
+
+  -- an opened file has a byte more than is allowed, where its content is known
+  abbrev pub HasLargeFile : Type 0
+  HasLargeFile = (file : F) × IfSome (remaining file) (λ content. size_limit < length content)
+
+  -- what is known of the files where one of them is at fault
+  abbrev pub IsFaultOfFiles : FileFault → Type 0
+  IsFaultOfFiles fault.Open = Unit {0}
+  IsFaultOfFiles fault.Read = F
+  IsFaultOfFiles fault.TooLarge = HasLargeFile
+  IsFaultOfFiles fault.OutOfMemory = Unit {0}
+
+  -- bytes that were read for a word: the word itself where it is the text, and else those of a file
+  abbrev pub IsTextOf : List ℕ → List ℕ → Type 0
+  IsTextOf word text = (is_registry_text word ≡ true → text ≡ word) × (is_registry_text word ≡ false → IsFileText text)
+
+  -- the job's work needs the file of this name: that of REG or OLD, or, once a text was read for these, that of NEW or of A
+  abbrev pub NamesForWork : Job → List ℕ → Type 0
+  NamesForWork job name = ((is_registry_text name ≡ false) × (name ≡ string_bytes job.registry))
+      ⊎ (((text : List ℕ) × IsTextOf (string_bytes job.registry) text) × NamesSecond job name)
+
+  -- a fault of the job's files, and whose it is, unless memory ran out
+  abbrev pub IsRefusalOf : Job → FileRefusal → Type 0
+  IsRefusalOf job refusal = IsFaultOfFiles (fault_of refusal.reason) × (refusal.reason ≢ Untaken OutOfMemory → NamesForWork job (string_bytes refusal.name))
+
+  -- bytes that were read for A: none where its lines are compared one by one
+  abbrev pub IsFirstText : Bool → List ℕ → Type 0
+  IsFirstText true text = text ≡ []
+  IsFirstText false text = IsFileText text
+
+  -- bytes that were read for the second word of a command, for lines or not: none where the command has none
+  abbrev pub IsSecondOf : Command → Bool → List ℕ → List ℕ → Type 0
+  IsSecondOf Check lines word text = text ≡ []
+  IsSecondOf Grows lines word text = IsTextOf word text
+  IsSecondOf Show lines word text = text ≡ []
+  IsSecondOf Example lines word text = text ≡ []
+  IsSecondOf Encode lines word text = text ≡ []
+  IsSecondOf Decode lines word text = text ≡ []
+  IsSecondOf Explain lines word text = text ≡ []
+  IsSecondOf Normalise lines word text = text ≡ []
+  IsSecondOf Same lines word text = IsFirstText lines text
+  IsSecondOf Part lines word text = text ≡ []
+  IsSecondOf Scan lines word text = text ≡ []
+
+  -- the job's work
+  pub record IsWorkOf (job : Job) (work : Work) : Type 0 where
+    pub command : work.command ≡ job.command
+    pub registry : IsTextOf (string_bytes job.registry) work.registry.items
+    pub second : IsSecondOf job.command job.lines (string_bytes job.second) work.second.items
+    pub format : work.format ≡ job.format
+    pub path : work.path ≡ job.path
+    pub name : work.name ≡ job.name
+    pub raw : work.raw ≡ job.raw
+    pub lines : work.lines ≡ job.lines
+    pub front : work.front ≡ job.front
+    pub list : work.list ≡ job.list
+    pub full : work.full ≡ job.full
+    pub quiet : work.quiet ≡ job.quiet
+    pub style : IsStyleOf job work.style
+    pub limits : work.limits ≡ job.limits

@@ -1,0 +1,83 @@
+-- The job that a command line asks for.
+use Rattle.std.specs.Prelude.{◌≡◌, ◌≤◌, IsSomeAnd, ℕ, List, [], Option, Some, None, Bool, codes, option_map, unwrap_or, if◌then◌else◌, string_bytes}
+use Rattle.std.specs.Str.{bytes_eq}
+use Rattle.std.specs.Str.Parse.{IsNumeral, digits_value, without_leading_plus}
+use Rattle.std.specs.Option.{option_or}
+use Rattle.clap.specs.Words.{Row, Text, first_of, one_of, subcommand_of}
+use Rattle.bcs_value_model.specs.Limits.{Bounds}
+use Rattle.bcs_look_text.specs.declared.style.Form.{Form}
+use Rattle.bcs_look_text.specs.declared.style.Form.TheVariants.{Ways, Paths, Tree, Json}
+use Rattle.bcs_tool_command_line.specs.CommandLine.{bcs_app}
+use Rattle.bcs_tool_command_line.specs.declared.color.Color.{Color}
+use Rattle.bcs_tool_command_line.specs.declared.color.Color.TheVariants.{Auto, Always, Never}
+use Rattle.bcs_tool_command_line.specs.declared.command.Command.{Command}
+use Rattle.bcs_tool_command_line.specs.declared.command.Command.TheVariants.{Check, Grows, Show, Example, Encode, Decode, Explain, Normalise, Same, Part, Scan}
+use Rattle.bcs_tool_command_line.specs.declared.job.Job.{Job}
+
+-- the command of a name
+abbrev pub command_named : Text → Option Command
+command_named name = if bytes_eq name (codes "check") then Some Check
+    else (if bytes_eq name (codes "grows") then Some Grows
+    else (if bytes_eq name (codes "show") then Some Show
+    else (if bytes_eq name (codes "example") then Some Example
+    else (if bytes_eq name (codes "encode") then Some Encode
+    else (if bytes_eq name (codes "decode") then Some Decode
+    else (if bytes_eq name (codes "explain") then Some Explain
+    else (if bytes_eq name (codes "normalise") then Some Normalise
+    else (if bytes_eq name (codes "same") then Some Same
+    else (if bytes_eq name (codes "part") then Some Part
+    else (if bytes_eq name (codes "scan") then Some Scan else None))))))))))
+
+-- the text of a word, which is empty where there is none
+abbrev pub text_or_empty : Option Text → Text
+text_or_empty word = unwrap_or word []
+
+-- clap gives an option without a value the text `true` where it was used, and `false` else
+abbrev pub is_set : Text → List Row → Bool
+is_set name found = bytes_eq (text_or_empty (first_of name found)) (codes "true")
+
+-- how pieces are printed: `--json` goes before `--tree`, and that before `--paths`
+abbrev pub form_of : List Row → Form
+form_of found = if is_set (codes "json") found then Json
+    else (if is_set (codes "tree") found then Tree
+    else (if is_set (codes "paths") found then Paths else Ways))
+
+-- what is said of color: `--no-color` goes before `--color`
+abbrev pub color_of : List Row → Color
+color_of found = if is_set (codes "no-color") found then Never else (if is_set (codes "color") found then Always else Auto)
+
+-- the word writes the number n, of at most `most`, or there is none and n is `most`
+abbrev pub WritesLimit : ℕ → Option Text → ℕ → Type 0
+WritesLimit most None n = n ≡ most
+WritesLimit most (Some word) n = IsNumeral 10 (without_leading_plus word) × (n ≡ digits_value 10 (without_leading_plus word)) × (n ≤ most)
+
+-- the limits that the options write, which are the standard ones where there are none
+abbrev pub WritesLimits : List Row → Bounds → Type 0
+WritesLimits found limits = WritesLimit 500 (one_of (codes "depth") found) limits.depth
+    × WritesLimit 4294967295 (one_of (codes "nodes") found) limits.nodes
+
+-- the job of a command, where clap found these words for its arguments
+pub record IsJob (command : Command) (found : List Row) (job : Job) : Type 0 where
+  pub same_command : job.command ≡ command
+  pub registry : string_bytes job.registry
+      ≡ text_or_empty (option_or (first_of (codes "REG") found) (first_of (codes "OLD") found))
+  pub second : string_bytes job.second ≡ text_or_empty (option_or (first_of (codes "NEW") found) (first_of (codes "A") found))
+  pub format : string_bytes job.format ≡ text_or_empty (first_of (codes "FORMAT") found)
+  pub path : string_bytes job.path ≡ text_or_empty (first_of (codes "PATH") found)
+  pub name : option_map string_bytes job.name ≡ option_or (first_of (codes "NAME") found) (first_of (codes "variant") found)
+  pub file : option_map string_bytes job.file ≡ option_or (first_of (codes "FILE") found) (first_of (codes "B") found)
+  pub raw : job.raw ≡ is_set (codes "raw") found
+  pub lines : job.lines ≡ is_set (codes "lines") found
+  pub front : job.front ≡ is_set (codes "front") found
+  pub list : job.list ≡ is_set (codes "list") found
+  pub full : job.full ≡ is_set (codes "full") found
+  pub quiet : job.quiet ≡ is_set (codes "quiet") found
+  pub form : job.form ≡ form_of found
+  pub color : job.color ≡ color_of found
+  pub limits : WritesLimits found job.limits
+
+-- the job that the words ask for, of which the first is the program's own name: that of the
+-- subcommand that clap finds in them, by its name and its words
+abbrev pub IsJobOf : List Text → Job → Type 0
+IsJobOf words job = IsSomeAnd (subcommand_of bcs_app words) (λ p.
+    IsSomeAnd (command_named p.0) (λ command. IsJob command p.1 job))

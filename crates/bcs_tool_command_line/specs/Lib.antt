@@ -1,0 +1,6 @@
+pub mod Jobs
+pub mod LineFaults
+pub mod TakenWords
+pub mod CommandLine
+pub mod Files
+pub mod FaultPlaces

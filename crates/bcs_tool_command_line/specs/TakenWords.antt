@@ -1,0 +1,15 @@
+-- Which words ask for a job.
+use Rattle.std.specs.Prelude.{◌≡◌, ◌&&◌, List, [], Bool, false, codes}
+use Rattle.std.specs.Option.{option_map_or}
+use Rattle.clap.specs.Words.{Text, fault_of, subcommand_of}
+use Rattle.bcs_tool_command_line.specs.CommandLine.{bcs_app}
+use Rattle.bcs_tool_command_line.specs.Jobs.{is_set}
+
+-- clap finds both `--raw` and `--lines` among the words of the subcommand: bytes as they are have no lines
+abbrev pub joins_raw_and_lines : List Text → Bool
+joins_raw_and_lines words =
+    option_map_or (λ p. is_set (codes "raw") p.1 && is_set (codes "lines") p.1) (subcommand_of bcs_app words) false
+
+-- the words are taken, the program's own name first: clap finds no fault in them, and those two don't stand together
+abbrev pub TakesWords : List Text → Type 0
+TakesWords words = (fault_of bcs_app words ≡ []) × (joins_raw_and_lines words ≡ false)

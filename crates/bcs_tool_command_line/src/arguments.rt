@@ -1,0 +1,109 @@
+//! The job of a command's words, as clap found them.
+ghost use Rattle.std.specs.Prelude.{◌≡◌, ℕ, IfOk, option_map, string_bytes};
+ghost use Rattle.clap.specs.Words.{found_of, one_of, rows_of};
+ghost use Rattle.bcs_value_model.specs.Limits.{Bounds};
+ghost use Rattle.bcs_tool_command_line.specs.Jobs.{IsJob, WritesLimit, WritesLimits, color_of as color_in, form_of as form_in, is_set as is_set_in, text_or_empty};
+
+use crate::color::Color;
+use crate::command::Command;
+use crate::job::Job;
+use bcs_look_text::style::Form;
+use bcs_value::Limits;
+use clap::ArgMatches;
+use std::alloc::{AllocError, Global};
+
+/// The job of a command with the words that were given to it.
+pub fn job_of(alloc: Global, command: Command, given: &ArgMatches<'_>) -> Result<Job, AllocError>
+    requires { (limits : Bounds) × WritesLimits (rows_of (found_of given.now)) limits }
+    ensures { IfOk result (IsJob command (rows_of (found_of given.now))) }
+{
+    Ok(Job {
+        command,
+        registry: text_of(alloc, given.get_str("REG").or(given.get_str("OLD")))?,
+        second: text_of(alloc, given.get_str("NEW").or(given.get_str("A")))?,
+        format: text_of(alloc, given.get_str("FORMAT"))?,
+        path: text_of(alloc, given.get_str("PATH"))?,
+        name: given_name(alloc, given.get_str("NAME").or(given.get_str("variant")))?,
+        file: given_name(alloc, given.get_str("FILE").or(given.get_str("B")))?,
+        raw: is_set(given, "raw"),
+        lines: is_set(given, "lines"),
+        front: is_set(given, "front"),
+        list: is_set(given, "list"),
+        full: is_set(given, "full"),
+        quiet: is_set(given, "quiet"),
+        form: form_of(given),
+        color: color_of(given),
+        limits: limits_of(given),
+    })
+}
+
+// Whether an option without a value was given.
+fn is_set(given: &ArgMatches<'_>, option: &str) -> bool
+    ensures { result ≡ is_set_in option.now (rows_of (found_of given.now)) }
+{
+    given.get_str(option).unwrap_or("") == "true"
+}
+
+// How pieces are printed.
+fn form_of(given: &ArgMatches<'_>) -> Form
+    ensures { result ≡ form_in (rows_of (found_of given.now)) }
+{
+    if is_set(given, "json") {
+        Form::Json
+    } else if is_set(given, "tree") {
+        Form::Tree
+    } else if is_set(given, "paths") {
+        Form::Paths
+    } else {
+        Form::Ways
+    }
+}
+
+// What is said of color.
+fn color_of(given: &ArgMatches<'_>) -> Color
+    ensures { result ≡ color_in (rows_of (found_of given.now)) }
+{
+    if is_set(given, "no-color") {
+        Color::Never
+    } else if is_set(given, "color") {
+        Color::Always
+    } else {
+        Color::Auto
+    }
+}
+
+// The text of a word, which is empty where there is none.
+fn text_of(alloc: Global, word: Option<&str>) -> Result<String, AllocError>
+    ensures { IfOk result (λ s. string_bytes s ≡ text_or_empty (option_map (λ t. t.now) word.entry)) }
+{
+    String::from_str(alloc, word.unwrap_or(""))
+}
+
+// A word that may be left out, as a file's name or a container's.
+fn given_name(alloc: Global, word: Option<&str>) -> Result<Option<String>, AllocError>
+    ensures { IfOk result (λ o. option_map string_bytes o ≡ option_map (λ t. t.now) word.entry) }
+{
+    match word {
+        Some(name) => Ok(Some(String::from_str(alloc, name)?)),
+        None => Ok(None),
+    }
+}
+
+// The limits of the options, and the standard ones where there are none. clap has judged their numbers.
+fn limits_of(given: &ArgMatches<'_>) -> Limits
+    requires { (limits : Bounds) × WritesLimits (rows_of (found_of given.now)) limits }
+    ensures { WritesLimits (rows_of (found_of given.now)) result }
+{
+    let standard = Limits::standard();
+    let depth = number_of(given, "depth", standard.depth());
+    let nodes = number_of(given, "nodes", standard.nodes());
+    Limits::new(depth, nodes).unwrap_or(standard)
+}
+
+// The number of an option, and the standard one where there is none.
+fn number_of(given: &ArgMatches<'_>, option: &str, standard: u32) -> u32
+    requires { (n : ℕ) × WritesLimit standard (one_of option.now (rows_of (found_of given.now))) n }
+    ensures { WritesLimit standard (one_of option.now (rows_of (found_of given.now))) result }
+{
+    given.get_one(option).unwrap_or(standard)
+}

@@ -1,0 +1,82 @@
+//! Where faults stand: the line behind the note.
+ghost use Rattle.std.specs.Prelude.{◌≡◌, ◌++◌, IfOk};
+ghost use Rattle.bcs_tool_command_line.specs.FaultPlaces.{TellsPlace, cause_text, file_place, file_text, origin_text, output_text, take_place};
+
+use crate::open_cause::OpenCause;
+use crate::origin::Origin;
+use crate::taking::TakeFault;
+use crate::unread_file::UnreadFile;
+use bcs_look_text::escaping::put_escaped;
+use std::alloc::{AllocError, Global};
+
+/// The file of this name, which was not read, and why it wasn't opened. It is empty at a quiet job, at want of memory, and
+/// where no memory is left for it.
+pub fn place_of_file(alloc: Global, quiet: bool, unread: UnreadFile, name: &str) -> Vec<u8>
+    ensures { TellsPlace quiet (file_place unread name.now) result.items }
+{
+    if quiet {
+        return Vec::new(alloc);
+    }
+    match unread_line(alloc, unread, name) {
+        Ok(line) => line,
+        Err(AllocError) => Vec::new(alloc),
+    }
+}
+
+/// The input, which was not taken; nothing at want of memory.
+pub fn input_line(
+    alloc: Global,
+    fault: TakeFault,
+    origin: Origin<'_>,
+) -> Result<Vec<u8>, AllocError>
+    ensures { IfOk result (λ line. line.items ≡ take_place fault (origin_text origin.entry)) }
+{
+    match fault {
+        TakeFault::Read | TakeFault::TooLarge => origin_line(alloc, origin),
+        TakeFault::OutOfMemory => Ok(Vec::new(alloc)),
+    }
+}
+
+/// The standard output, which didn't take an answer.
+pub fn output_line(alloc: Global) -> Result<Vec<u8>, AllocError>
+    ensures { IfOk result (λ line. line.items ≡ output_text) }
+{
+    Vec::from_slice(alloc, b"in the standard output")
+}
+
+fn unread_line(alloc: Global, unread: UnreadFile, name: &str) -> Result<Vec<u8>, AllocError>
+    ensures { IfOk result (λ line. line.items ≡ file_place unread name.now) }
+{
+    match unread {
+        UnreadFile::Unopened(cause) => unopened_line(alloc, name, cause),
+        UnreadFile::Untaken(TakeFault::Read | TakeFault::TooLarge) => file_line(alloc, name),
+        UnreadFile::Untaken(TakeFault::OutOfMemory) => Ok(Vec::new(alloc)),
+    }
+}
+
+// The file, and why the system opened none.
+fn unopened_line(alloc: Global, name: &str, cause: OpenCause) -> Result<Vec<u8>, AllocError>
+    ensures { IfOk result (λ line. line.items ≡ file_text name.now ++ cause_text cause) }
+{
+    let mut line = file_line(alloc, name)?;
+    line.extend_from_slice(cause.text().as_bytes())?;
+    Ok(line)
+}
+
+fn origin_line(alloc: Global, origin: Origin<'_>) -> Result<Vec<u8>, AllocError>
+    ensures { IfOk result (λ line. line.items ≡ origin_text origin.entry) }
+{
+    match origin {
+        Origin::File(name) => file_line(alloc, name),
+        Origin::StandardInput => Vec::from_slice(alloc, b"in the standard input"),
+    }
+}
+
+// A name is escaped as in JSON, in ASCII, so that no byte of it reaches a terminal as it is.
+fn file_line(alloc: Global, name: &str) -> Result<Vec<u8>, AllocError>
+    ensures { IfOk result (λ line. line.items ≡ file_text name.now) }
+{
+    let mut line = Vec::from_slice(alloc, b"in the file ")?;
+    put_escaped(name, &mut line)?;
+    Ok(line)
+}

@@ -1,0 +1,53 @@
+//! Why a named file was not read.
+ghost use Rattle.std.specs.Prelude.{◌≡◌};
+ghost use Rattle.bcs_tool_command_line.specs.Files.{file_note};
+
+use crate::taking::TakeFault;
+use crate::unread_file::UnreadFile;
+use thiserror::Error;
+
+/// Why the content of a named file was not read. The message is the variant's name alone, and the variants count from 1.
+#[derive(Clone, Copy, Debug, Drop, PartialEq, Eq, Error)]
+pub enum FileFault {
+    /// The file could not be opened.
+    #[error("Open")]
+    Open = 1,
+    /// The file failed while it was read.
+    #[error("Read")]
+    Read,
+    /// It has more than 268435456 bytes.
+    #[error("TooLarge")]
+    TooLarge,
+    /// Memory ran out.
+    #[error("OutOfMemory")]
+    OutOfMemory,
+}
+
+impl FileFault {
+    /// The line for the standard error.
+    pub fn note(self) -> &'static str
+        ensures { result.now ≡ file_note self }
+    {
+        match self {
+            FileFault::Open => "fault: open",
+            FileFault::Read => "fault: read",
+            FileFault::TooLarge => "fault: too large",
+            FileFault::OutOfMemory => "fault: memory",
+        }
+    }
+}
+
+impl From<UnreadFile> for FileFault {
+    ghost use Rattle.bcs_tool_command_line.specs.Files.{fault_of};
+
+    ghost from_gives = { λ unread result. result ≡ fault_of unread };
+
+    fn from(unread: UnreadFile) -> FileFault {
+        match unread {
+            UnreadFile::Unopened(_) => FileFault::Open,
+            UnreadFile::Untaken(TakeFault::Read) => FileFault::Read,
+            UnreadFile::Untaken(TakeFault::TooLarge) => FileFault::TooLarge,
+            UnreadFile::Untaken(TakeFault::OutOfMemory) => FileFault::OutOfMemory,
+        }
+    }
+}

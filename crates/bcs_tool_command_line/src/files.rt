@@ -1,0 +1,198 @@
+//! The files that a job names.
+ghost use Rattle.std.specs.Prelude.{◌≡◌, ◌≢◌, ◌⊎◌, ◌≤◌, ◌+◌, ℕ, List, None, Err, false, true, length, vec_len, IfErr, IfOk, IfSome, IsOkUnless};
+ghost use Rattle.std.specs.Io.KnownBytes.{IsAtEnd};
+ghost use Rattle.bcs_io.specs.Giving.{Took, Lost};
+ghost use Rattle.bcs_tool_command_line.specs.Files.{size_limit};
+ghost use Rattle.bcs_tool_command_line.specs.Files.{IsFaultOfFiles, IsFileText, IsFirstText, IsInputsOf, IsRefusalOf, IsSecondOf, IsTextOf, IsWorkOf, NamesNoFile, fault_of, is_registry_text};
+
+use crate::file_fault::FileFault;
+use crate::file_refusal::FileRefusal;
+use crate::limits::SIZE_LIMIT;
+use crate::open_cause::OpenCause;
+use crate::styling::style_of;
+use crate::taking::{TakeFault, take_all};
+use crate::unread_file::UnreadFile;
+use crate::work::{Inputs, Work};
+use crate::{Command, Job};
+use bcs_io::{ByteSource, ReadSource};
+use std::alloc::{AllocError, Global};
+use std::env::Env;
+use std::fs::File;
+use std::rt::Files;
+
+/// The content of the file of this name.
+pub fn read_named<R: Files + AllocGlobal>(rt: &R, name: &str) -> Result<Vec<u8>, FileFault>
+    ensures within { IfOk result (λ v. vec_len v ≤ size_limit) }
+    ensures text { IfOk result (λ v. IsFileText R.File.remaining v.items) }
+    ensures fault { IfErr result (IsFaultOfFiles R.File.remaining) }
+{
+    Ok(read_file(rt, name)?)
+}
+
+// The same, with the cause where the file wasn't opened.
+fn read_file<R: Files + AllocGlobal>(rt: &R, name: &str) -> Result<Vec<u8>, UnreadFile>
+    ensures within { IfOk result (λ v. vec_len v ≤ size_limit) }
+    ensures text { IfOk result (λ v. IsFileText R.File.remaining v.items) }
+    ensures fault { IfErr result (λ e. IsFaultOfFiles R.File.remaining (fault_of e)) }
+{
+    match File::open(rt, name) {
+        Ok(file) => Ok(read_opened(rt.alloc(), &mut ReadSource::new(file))?),
+        Err(error) => Err(UnreadFile::Unopened(OpenCause::of(error.kind()))),
+    }
+}
+
+/// The content of a file that is open, of at most 268435456 bytes: what `take_all` takes of it.
+pub fn read_opened<S: ByteSource>(alloc: Global, file: &mut S) -> Result<Vec<u8>, TakeFault>
+    ensures whole { IfOk result (λ v. Took S.content S.is_failed S.allowance file.old file.new v.items
+        × IsAtEnd (S.content file.new) × (S.is_failed file.new ≡ false) × (vec_len v ≤ size_limit)) }
+    ensures read { result ≡ Err TakeFault.Read → (bytes : List ℕ)
+        × Lost S.content S.is_failed S.allowance file.old file.new bytes × (length bytes ≤ size_limit) }
+    ensures too_large { result ≡ Err TakeFault.TooLarge → (bytes : List ℕ)
+        × Took S.content S.is_failed S.allowance file.old file.new bytes × (length bytes ≡ size_limit + 1) }
+    ensures memory { result ≡ Err TakeFault.OutOfMemory → (bytes : List ℕ)
+        × Took S.content S.is_failed S.allowance file.old file.new bytes × (length bytes ≤ size_limit)
+        × (S.is_failed file.new ≡ false) }
+{
+    take_all(alloc, file, SIZE_LIMIT)
+}
+
+/// The work of a job, and the names of its inputs' files. The other files that the job names are read, that of REG or OLD
+/// before that of NEW or A.
+pub fn read_work<R: Files + Env + AllocGlobal>(
+    rt: &R,
+    job: Job,
+) -> Result<(Work, Inputs), FileRefusal>
+    ensures work { IfOk result (λ r. IsWorkOf R.File.remaining job r.0) }
+    ensures inputs { IfOk result (λ r. IsInputsOf job r.1) }
+    ensures fault { IfErr result (IsRefusalOf R.File.remaining job) }
+    ensures good { NamesNoFile job → IfErr result (λ e. e.reason ≡ UnreadFile.Untaken TakeFault.OutOfMemory) }
+{
+    let registry = match read_registry(rt, job.registry.as_str()) {
+        Ok(text) => text,
+        Err(reason) => {
+            return Err(FileRefusal {
+                reason,
+                name: job.registry,
+            });
+        }
+    };
+    let second = match read_second(rt, job.command, job.lines, job.second.as_str()) {
+        Ok(text) => text,
+        Err(reason) => {
+            return Err(FileRefusal {
+                reason,
+                name: job.second,
+            });
+        }
+    };
+    let style = style_of(rt, &job);
+    let work = Work {
+        command: job.command,
+        registry,
+        second,
+        format: job.format,
+        path: job.path,
+        name: job.name,
+        raw: job.raw,
+        lines: job.lines,
+        front: job.front,
+        list: job.list,
+        full: job.full,
+        quiet: job.quiet,
+        style,
+        limits: job.limits,
+    };
+    let inputs = Inputs {
+        first: first_name(job.command, job.lines, job.second),
+        file: job.file,
+    };
+    Ok((work, inputs))
+}
+
+// The name of A, where its lines are compared.
+fn first_name(command: Command, lines: bool, second: String) -> Option<String>
+    ensures compared { IfSome result (λ name. ((command ≡ Command.Same) × (lines ≡ true)) × (name ≡ second)) }
+    ensures other { result ≡ None → ¬ ((command ≡ Command.Same) × (lines ≡ true)) }
+{
+    if command == Command::Same && lines {
+        Some(second)
+    } else {
+        None
+    }
+}
+
+// What a command reads for its second word, for lines or not: a registry, a file, or nothing.
+fn read_second<R: Files + AllocGlobal>(
+    rt: &R,
+    command: Command,
+    lines: bool,
+    word: &str,
+) -> Result<Vec<u8>, UnreadFile>
+    ensures text { IfOk result (λ v. IsSecondOf R.File.remaining command lines word.now v.items) }
+    ensures fault { IfErr result (λ e. IsFaultOfFiles R.File.remaining (fault_of e)) }
+    ensures good { (command ≡ Command.Same → lines ≡ true) → (command ≡ Command.Grows → is_registry_text word.now ≡ true)
+        → IsOkUnless result (UnreadFile.Untaken TakeFault.OutOfMemory) }
+    ensures named { IfErr result (λ e. e ≢ UnreadFile.Untaken TakeFault.OutOfMemory
+        → ((command ≡ Command.Same) × (lines ≡ false)) ⊎ ((command ≡ Command.Grows) × (is_registry_text word.now ≡ false))) }
+{
+    match command {
+        Command::Grows => read_registry(rt, word),
+        Command::Same => read_first(rt, lines, word),
+        Command::Check
+        | Command::Show
+        | Command::Example
+        | Command::Encode
+        | Command::Decode
+        | Command::Explain
+        | Command::Normalise
+        | Command::Part
+        | Command::Scan => Ok(Vec::new(rt.alloc())),
+    }
+}
+
+// The text of A: nothing, where its lines are compared.
+fn read_first<R: Files + AllocGlobal>(
+    rt: &R,
+    lines: bool,
+    name: &str,
+) -> Result<Vec<u8>, UnreadFile>
+    ensures text { IfOk result (λ v. IsFirstText R.File.remaining lines v.items) }
+    ensures fault { IfErr result (λ e. IsFaultOfFiles R.File.remaining (fault_of e)) }
+    ensures good { lines ≡ true → IsOkUnless result (UnreadFile.Untaken TakeFault.OutOfMemory) }
+    ensures named { IfErr result (λ _. lines ≡ false) }
+{
+    if lines {
+        return Ok(Vec::new(rt.alloc()));
+    }
+    read_file(rt, name)
+}
+
+// The text of a registry: the word itself, or the content of the file that it names.
+fn read_registry<R: Files + AllocGlobal>(rt: &R, word: &str) -> Result<Vec<u8>, UnreadFile>
+    ensures text { IfOk result (λ v. IsTextOf R.File.remaining word.now v.items) }
+    ensures fault { IfErr result (λ e. IsFaultOfFiles R.File.remaining (fault_of e)) }
+    ensures good { is_registry_text word.now ≡ true → IsOkUnless result (UnreadFile.Untaken TakeFault.OutOfMemory) }
+    ensures named { IfErr result (λ e. e ≢ UnreadFile.Untaken TakeFault.OutOfMemory → is_registry_text word.now ≡ false) }
+{
+    if is_registry_text(word) {
+        copy(rt.alloc(), word)
+    } else {
+        read_file(rt, word)
+    }
+}
+
+fn is_registry_text(word: &str) -> bool
+    ensures { result ≡ is_registry_text word.now }
+{
+    word.as_bytes().first() == Some(&b'{')
+}
+
+fn copy(alloc: Global, text: &str) -> Result<Vec<u8>, UnreadFile>
+    ensures text { IfOk result (λ v. v.items ≡ text.now) }
+    ensures good { IsOkUnless result (UnreadFile.Untaken TakeFault.OutOfMemory) }
+{
+    match Vec::from_slice(alloc, text.as_bytes()) {
+        Ok(bytes) => Ok(bytes),
+        Err(AllocError) => Err(UnreadFile::Untaken(TakeFault::OutOfMemory)),
+    }
+}

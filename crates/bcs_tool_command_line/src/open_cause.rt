@@ -1,0 +1,56 @@
+//! Why a file was not opened.
+ghost use Rattle.std.specs.Prelude.{◌≡◌};
+ghost use Rattle.bcs_tool_command_line.specs.FaultPlaces.{cause_of, cause_text};
+
+use std::io::ErrorKind;
+
+/// Why the system opened no file, as far as it is told.
+#[derive(Clone, Copy, Debug, Drop, PartialEq, Eq)]
+pub enum OpenCause {
+    /// There is none of this name.
+    Missing,
+    /// The user may not read it, or not look into its folder.
+    Forbidden,
+    /// What stands before a slash of the name is no folder.
+    NoFolder,
+    /// The name leads through too many symbolic links.
+    Loop,
+    /// The name is too long.
+    LongName,
+    /// No file can have this name.
+    BadName,
+    /// Anything else, of which nothing is told.
+    Other,
+}
+
+impl OpenCause {
+    /// The cause of an error of this kind.
+    pub fn of(kind: ErrorKind) -> OpenCause
+        ensures { result ≡ cause_of kind }
+    {
+        match kind {
+            ErrorKind::NotFound => OpenCause::Missing,
+            ErrorKind::PermissionDenied => OpenCause::Forbidden,
+            ErrorKind::NotADirectory => OpenCause::NoFolder,
+            ErrorKind::FilesystemLoop => OpenCause::Loop,
+            ErrorKind::InvalidFilename => OpenCause::LongName,
+            ErrorKind::InvalidInput => OpenCause::BadName,
+            _ => OpenCause::Other,
+        }
+    }
+
+    /// What is told behind the file's name.
+    pub fn text(self) -> &'static str
+        ensures { result.now ≡ cause_text self }
+    {
+        match self {
+            OpenCause::Missing => ": No such file or directory",
+            OpenCause::Forbidden => ": Permission denied",
+            OpenCause::NoFolder => ": Not a directory",
+            OpenCause::Loop => ": Too many levels of symbolic links",
+            OpenCause::LongName => ": File name too long",
+            OpenCause::BadName => ": Invalid argument",
+            OpenCause::Other => "",
+        }
+    }
+}

@@ -1,4 +1,0 @@
-pub mod CommandNames
-pub mod CommandOptions
-pub mod LimitLemmas
-pub mod LineFaultLemmas

@@ -1,5 +1,0 @@
-use Rattle.std.proofs.Common.{rules}
-use Rattle.bcs_tool_line.proofs.command_line.has_joined.Goals as goal
-
-pub returns-then-job : goal.returns-then-job
-returns-then-job c = search rules

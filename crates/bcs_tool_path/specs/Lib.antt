@@ -1,4 +1,0 @@
-pub mod Path
-pub mod PathSteps
-pub mod BadStep
-pub mod PathLaws

@@ -1,0 +1,11 @@
+use Rattle.std.proofs.Common.{◌≡◌, suc, refl, ap, ◌∙◌, arith}
+use Rattle.bcs_value_model.specs.Tree.{nodes, pairs_nodes}
+use Rattle.bcs_value_model.specs.View.{tree_of, entries_pairs}
+use Rattle.bcs_value_model.proofs.Views.{tree_of_pairs}
+use Rattle.bcs_value.proofs.counting.+nodes.Goals as goal
+
+pub nodes-returns-in-Pairs : goal.nodes-returns-in-Pairs
+nodes-returns-in-Pairs t c =
+    let e : nodes (tree_of c.args.value.now) ≡ suc (pairs_nodes (entries_pairs c.deref-in-Pairs.result.now)) =
+    ap nodes (ap tree_of c.in-Pairs.is ∙ tree_of_pairs c.in-Pairs.pairs) ∙ rw c.deref-in-Pairs.ensures.value refl in
+    rw e (grind (arith, c.pairs_nodes.ensures, c.saturating_add-in-Pairs.ensures))

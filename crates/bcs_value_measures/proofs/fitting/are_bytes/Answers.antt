@@ -1,6 +1,0 @@
-use Rattle.std.proofs.Common.{sym}
-use Rattle.bcs_value_spec.proofs.FitsByViews.{bytes_are}
-use Rattle.bcs_value_measures.proofs.fitting.are_bytes.Goals as goal
-
-pub returns : goal.returns
-returns c = sym (bytes_are c.args.bytes.now (λ i. (c.type_inv.bytes i).fits))

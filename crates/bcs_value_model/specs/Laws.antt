@@ -1,0 +1,37 @@
+-- What is promised of sameness, distinct keys and fitting.
+use Rattle.std.specs.Prelude.{◌≡◌, ◌↔◌, Bool, IsTrue}
+use Rattle.bcs_registry_model.specs.Shape.{Shape}
+use Rattle.bcs_registry_model.specs.Container.{Entries, of}
+use Rattle.bcs_registry_model.specs.Grows.{Grows}
+use Rattle.bcs_value_model.specs.Tree.{Tree, Pairs, pairs}
+use Rattle.bcs_value_model.specs.Same.{Same, HasDistinctKeys}
+use Rattle.bcs_value_model.specs.Fits.{fits, Fits, FitsLoosely}
+use Rattle.bcs_value_model.specs.Words.{EachHasMatch, KeysDiffer, PartsHaveDistinctKeys}
+
+abbrev pub SameIsReflexive : Type 0
+SameIsReflexive = (a : Tree) → Same a a
+
+abbrev pub SameIsSymmetric : Type 0
+SameIsSymmetric = (a b : Tree) → Same a b → Same b a
+
+abbrev pub SameIsTransitive : Type 0
+SameIsTransitive = (a b c : Tree) → Same a b → Same b c → Same a c
+
+-- maps are the same if each entry of either has one in the other with the same key and the same value
+abbrev pub SameMaps : Type 0
+SameMaps = (ps qs : Pairs) → Same (pairs ps) (pairs qs) ↔ (EachHasMatch ps qs × EachHasMatch qs ps)
+
+-- a map has distinct keys if keys at two places are not `Same`, and so it is in the maps inside its entries
+abbrev pub MapsWithDistinctKeys : Type 0
+MapsWithDistinctKeys = (ps : Pairs) → HasDistinctKeys (pairs ps) ↔ (KeysDiffer ps × PartsHaveDistinctKeys ps)
+
+abbrev pub FitsStrictlyThenLoosely : Type 0
+FitsStrictlyThenLoosely = (registry : Entries) (s : Shape) (t : Tree) → Fits registry s t → FitsLoosely registry s t
+
+-- trees that are the same have the same formats
+abbrev pub SameHaveSameFormats : Type 0
+SameHaveSameFormats = (loose : Bool) (registry : Entries) (s : Shape) (t u : Tree) → Same t u → fits loose registry t (of s) ≡ fits loose registry u (of s)
+
+-- what fits at a registry fits at one that it grew to
+abbrev pub GrowthKeepsFitting : Type 0
+GrowthKeepsFitting = (loose : Bool) (older newer : Entries) (s : Shape) (t : Tree) → Grows older newer → IsTrue (fits loose older t (of s)) → IsTrue (fits loose newer t (of s))

@@ -1,0 +1,91 @@
+//! Slots. A slot is the caller's place in which a value is built, part by part, where it would else be returned through
+//! each call of a walk: so a level of a deep value needs little of the stack. These calls stand outside the cycles that
+//! walk, and are compiled alone, so that the frames of a walk stay small.
+ghost use Rattle.std.specs.Prelude.{◌≡◌, ◌∷◌, ◌++◌, [], OnErr, OnOk};
+ghost use Rattle.bcs_value_model.specs.Tree.{items, named, pairs, present, unit, variant};
+ghost use Rattle.bcs_value_model.specs.View.{entries_pairs, items_trees, tree_of};
+
+use crate::value::Value;
+use std::alloc::{AllocError, Global};
+use std::mem;
+
+/// Puts an option round the value in the slot. An error comes only for want of memory; the slot then holds `Unit`.
+#[inline(never)]
+pub fn wrap_present(alloc: Global, slot: &mut Value) -> Result<(), AllocError>
+    ensures wrapped { OnOk result (tree_of slot.new ≡ present (tree_of slot.old)) }
+    ensures emptied { OnErr result (tree_of slot.new ≡ unit) }
+{
+    let part = mem::replace(slot, Value::Unit);
+    *slot = Value::Present(Box::new(alloc, part)?);
+    Ok(())
+}
+
+/// Puts a container round the value in the slot. An error comes only for want of memory; the slot then holds `Unit`.
+#[inline(never)]
+pub fn wrap_named(alloc: Global, slot: &mut Value) -> Result<(), AllocError>
+    ensures wrapped { OnOk result (tree_of slot.new ≡ named (tree_of slot.old)) }
+    ensures emptied { OnErr result (tree_of slot.new ≡ unit) }
+{
+    let part = mem::replace(slot, Value::Unit);
+    *slot = Value::Named(Box::new(alloc, part)?);
+    Ok(())
+}
+
+/// Puts a variant round the value in the slot. An error comes only for want of memory; the slot then holds `Unit`.
+#[inline(never)]
+pub fn wrap_variant(alloc: Global, number: u32, slot: &mut Value) -> Result<(), AllocError>
+    ensures wrapped { OnOk result (tree_of slot.new ≡ variant number (tree_of slot.old)) }
+    ensures emptied { OnErr result (tree_of slot.new ≡ unit) }
+{
+    let part = mem::replace(slot, Value::Unit);
+    *slot = Value::Variant(number, Box::new(alloc, part)?);
+    Ok(())
+}
+
+/// Puts the row into the slot.
+#[inline(never)]
+pub fn put_items(slot: &mut Value, found: Vec<Value>)
+    ensures { tree_of slot.new ≡ items (items_trees found.items) }
+{
+    *slot = Value::Items(found);
+}
+
+/// Puts the entries into the slot.
+#[inline(never)]
+pub fn put_pairs(slot: &mut Value, found: Vec<(Value, Value)>)
+    ensures { tree_of slot.new ≡ pairs (entries_pairs found.items) }
+{
+    *slot = Value::Pairs(found);
+}
+
+/// Moves the value from the slot to the end of the row, and leaves `Unit`. An error comes only for want of memory; the
+/// row is then unchanged.
+#[inline(never)]
+pub fn keep(found: &mut Vec<Value>, slot: &mut Value) -> Result<(), AllocError>
+    ensures kept { OnOk result (found.new.items ≡ found.old.items ++ slot.old ∷ []) }
+    ensures unchanged { OnErr result (found.new.items ≡ found.old.items) }
+    ensures emptied { tree_of slot.new ≡ unit }
+{
+    let taken = mem::replace(slot, Value::Unit);
+    found.push(taken)?;
+    Ok(())
+}
+
+/// Moves an entry from two slots to the end of the entries, and leaves `Unit` in both. An error comes only for want of
+/// memory; the entries are then unchanged.
+#[inline(never)]
+pub fn keep_entry(
+    found: &mut Vec<(Value, Value)>,
+    key: &mut Value,
+    slot: &mut Value,
+) -> Result<(), AllocError>
+    ensures kept { OnOk result (found.new.items ≡ found.old.items ++ (key.old, slot.old) ∷ []) }
+    ensures unchanged { OnErr result (found.new.items ≡ found.old.items) }
+    ensures key_emptied { tree_of key.new ≡ unit }
+    ensures emptied { tree_of slot.new ≡ unit }
+{
+    let held = mem::replace(key, Value::Unit);
+    let taken = mem::replace(slot, Value::Unit);
+    found.push((held, taken))?;
+    Ok(())
+}

@@ -1,5 +1,0 @@
-use Rattle.bcs_value_spec.proofs.Growth.{growth_keeps}
-use Rattle.bcs_value_spec.proofs.laws.growth_keeps_fitting.Goals as goal
-
-pub returns : goal.returns
-returns c = growth_keeps

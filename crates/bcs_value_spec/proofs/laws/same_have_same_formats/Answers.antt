@@ -1,5 +1,0 @@
-use Rattle.bcs_value_spec.proofs.SameFormats.{same_formats}
-use Rattle.bcs_value_spec.proofs.laws.same_have_same_formats.Goals as goal
-
-pub returns : goal.returns
-returns c = same_formats

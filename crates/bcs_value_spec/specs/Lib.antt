@@ -1,5 +1,0 @@
-pub mod Fits
-pub mod Same
-pub mod Limits
-pub mod Words
-pub mod Laws

@@ -1,2 +1,0 @@
-pub mod NodeCounts
-pub mod Views
