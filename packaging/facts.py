@@ -36,10 +36,10 @@ class Library(NamedTuple):
 
 
 def version() -> str:
-    source = (ROOT / "crates/bcs_tool_words/src/version.rt").read_text(encoding="utf-8")
+    source = (ROOT / "crates/bcs_tool_command_line/src/version.rt").read_text(encoding="utf-8")
     found = re.search(r'VERSION[^"]*"([0-9.]+)', source)
     if not found:
-        sys.exit("packages: crates/bcs_tool_words/src/version.rt tells no version")
+        sys.exit("packages: crates/bcs_tool_command_line/src/version.rt tells no version")
     return found[1]
 
 

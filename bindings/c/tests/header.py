@@ -94,12 +94,6 @@ def structs_of(code: str) -> dict[str, list[str]]:
     return {f"bcs_{in_capitals(name).lower()}": declared_all(body) for name, body in fields.items()}
 
 
-def handle_of(folder: pathlib.Path) -> list[str]:
-    """The handle has a crate of its own beside this one."""
-    code = re.sub(r"//.*", "", (folder.parent / "bcs_handle/src/handle.rt").read_text(encoding="utf-8"))
-    return structs_of(code)["bcs_handle"]
-
-
 def of_crate(folder: pathlib.Path) -> Interface:
     files = sorted((folder / "src").glob("**/*.rt"))
     if not files:
@@ -110,7 +104,8 @@ def of_crate(folder: pathlib.Path) -> Interface:
     exports = len(re.findall(r"no_mangle|export_name", code))
     if len(exported) != exports:
         sys.exit(f"header: FAILED: of {exports} exports {len(exported)} are of the one form that is known")
-    structs = structs_of(code) | {"bcs_handle": [NAMES_IN_HANDLE[field] for field in handle_of(folder)]}
+    structs = structs_of(code)
+    structs["bcs_handle"] = [NAMES_IN_HANDLE[field] for field in structs["bcs_handle"]]
     others = {OTHER_FAULTS[name]: int(number) for name, number in re.findall(r"\bFault::(\w+) => (\d+)", code)}
     return Interface(
         calls={name: [RESULTS[result], *declared_all(parameters)] for name, parameters, result in exported},
