@@ -20,7 +20,7 @@ use Rattle.bcs_encode_spec.specs.Entries.{Entry, entry_bytes, EntriesRiseFrom, E
 use Rattle.bcs_encode_walk.specs.Writing.{Verdict, chain, length_written, in_order, has_twins, sorted_entries_written, shape_count, written, items_written, each_written, entries_written}
 use Rattle.bcs_encode_walk.specs.Laying.{Ordered, lone_key_at, part, span_entry, span}
 use Rattle.bcs_encode_walk.proofs.EntryArranging.{sorted_written, twins_written}
-use Rattle.bcs_encode_walk.specs.declared.span.Span.{Span}
+use Rattle.bcs_encode_walk.specs.declared.spans.Span.{Span}
 use Rattle.bcs_encode_spec.specs.declared.fault.EncodeFault.{EncodeFault}
 use Rattle.bcs_encode_spec.specs.declared.fault.EncodeFault.TheVariants.{NotOfFormat, RepeatedKey}
 

@@ -1,12 +1,9 @@
 -- What the writing of plain numbers needs of the views.
 use Rattle.std.proofs.Common.{◌≡◌, ℕ, ◌<◌, List, [], ◌∷◌, refl, ap, ◌∙◌, Ok, Err}
-use Rattle.std.specs.Int.{Width, w8}
+use Rattle.std.specs.Int.{w8}
 use Rattle.bcs_num.proofs.LeLaws.{le-w8}
-use Rattle.bcs_num.proofs.UlebLaws.{uleb-low}
 use Rattle.bcs_num.specs.Le.{le}
-use Rattle.bcs_num.specs.Uleb.{uleb}
 use Rattle.bcs_registry_model.specs.Container.{Entries, of}
-use Rattle.bcs_registry_model.specs.Shape as shape
 use Rattle.bcs_registry_model.specs.Shape.{Shape}
 use Rattle.bcs_registry_model.specs.Whole.{whole_shape}
 use Rattle.bcs_registry_model.specs.declared.whole_number.WholeNumber.{WholeNumber}
@@ -19,42 +16,12 @@ use Rattle.bcs_encode_walk.specs.Writing.{Verdict, chain, written, items_written
 pub one_byte : (n : ℕ) → n < 256 → le w8 n ≡ n ∷ []
 one_byte n small = le-w8 n small
 
--- and so is a length below 128
-pub low_number : (n : ℕ) → n < 128 → uleb n ≡ n ∷ []
-low_number n small = uleb-low n small
-
 -- a number looks up no container
-unsigned_anywhere : (r q : Entries) (w : Width) (t : Tree) (b : List ℕ) → written r t (of (shape.unsigned w)) b ≡ written q t (of (shape.unsigned w)) b
-unsigned_anywhere r q w tree.unit b = refl
-unsigned_anywhere r q w (tree.truth t) b = refl
-unsigned_anywhere r q w (tree.unsigned n) b = refl
-unsigned_anywhere r q w (tree.signed z) b = refl
-unsigned_anywhere r q w (tree.text s) b = refl
-unsigned_anywhere r q w (tree.bytes s) b = refl
-unsigned_anywhere r q w tree.absent b = refl
-unsigned_anywhere r q w (tree.present t) b = refl
-unsigned_anywhere r q w (tree.items ts) b = refl
-unsigned_anywhere r q w (tree.variant n t) b = refl
-unsigned_anywhere r q w (tree.pairs ps) b = refl
-unsigned_anywhere r q w (tree.named t) b = refl
-
-signed_anywhere : (r q : Entries) (w : Width) (t : Tree) (b : List ℕ) → written r t (of (shape.signed w)) b ≡ written q t (of (shape.signed w)) b
-signed_anywhere r q w tree.unit b = refl
-signed_anywhere r q w (tree.truth t) b = refl
-signed_anywhere r q w (tree.unsigned n) b = refl
-signed_anywhere r q w (tree.signed z) b = refl
-signed_anywhere r q w (tree.text s) b = refl
-signed_anywhere r q w (tree.bytes s) b = refl
-signed_anywhere r q w tree.absent b = refl
-signed_anywhere r q w (tree.present t) b = refl
-signed_anywhere r q w (tree.items ts) b = refl
-signed_anywhere r q w (tree.variant n t) b = refl
-signed_anywhere r q w (tree.pairs ps) b = refl
-signed_anywhere r q w (tree.named t) b = refl
-
 number_anywhere : (r q : Entries) (n : WholeNumber) (t : Tree) (b : List ℕ) → written r t (of (whole_shape n)) b ≡ written q t (of (whole_shape n)) b
-number_anywhere r q (Unsigned w) t b = unsigned_anywhere r q _ t b
-number_anywhere r q (Signed w) t b = signed_anywhere r q _ t b
+number_anywhere r q (Unsigned w) tree.unit b = refl
+number_anywhere r q (Unsigned w) _ b = refl
+number_anywhere r q (Signed w) tree.unit b = refl
+number_anywhere r q (Signed w) _ b = refl
 
 chain_alike : (v w : Verdict) (f g : List ℕ → Verdict) → v ≡ w → ((b : List ℕ) → f b ≡ g b) → chain v f ≡ chain w g
 chain_alike (Ok b) w f g e same = same b ∙ ap (λ (x : Verdict). chain x g) e

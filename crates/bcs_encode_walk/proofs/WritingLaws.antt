@@ -2,7 +2,7 @@
 use Rattle.std.proofs.Common.{◌≡◌, ℕ, suc, Bool, true, false, not, ◌&&◌, ◌==◌, List, [], ◌∷◌, ◌++◌, refl, sym, ap, subst, ◌∙◌, append_assoc, append-nil, length, inl, inr, Result, Ok, Err}
 use Rattle.std.specs.Prelude.{nat_le}
 use Rattle.std.specs.List.{flat_map}
-use Rattle.std.proofs.lemmas.Bool.{and_parts, and_from, false≢true, false_from_ne_true, eq-eqb}
+use Rattle.std.proofs.lemmas.Bool.{and_left, and_parts, and_from, false≢true, false_from_ne_true, eq-eqb}
 use Rattle.bcs_num.specs.Uleb.{uleb}
 use Rattle.bcs_registry_model.specs.Shape as shape
 use Rattle.bcs_registry_model.specs.Shape.{Shape, Shapes, no_shapes, shape}
@@ -17,7 +17,7 @@ use Rattle.bcs_encode_spec.specs.Plain.{plain, plain_items, plain_each}
 use Rattle.bcs_encode_spec.specs.Entries.{Entry, EntriesOf, entry_bytes, map_bytes}
 use Rattle.bcs_encode_walk.specs.Writing.{Verdict, chain, length_written, in_order, sorted_entries_written, shape_count, written, items_written, each_written, entries_written}
 use Rattle.bcs_encode_spec.specs.declared.fault.EncodeFault.{EncodeFault}
-use Rattle.bcs_encode_spec.specs.declared.fault.EncodeFault.TheVariants.{NotOfFormat, Unsupported, TooDeep, TooManyNodes, TooLong, RepeatedKey, OutOfMemory}
+use Rattle.bcs_encode_spec.specs.declared.fault.EncodeFault.TheVariants.{RepeatedKey}
 use Rattle.bcs_encode_spec.specs.FormOf.{form_of, items_form, each_form}
 use Rattle.bcs_encode_spec.proofs.FormOf.{count-items_form}
 use Rattle.bcs_encode_spec.proofs.Sorting.{form_entries, form_has_bytes, has_bytes_of_form, sorted_entries, twins_repeat}
@@ -27,17 +27,9 @@ use Rattle.bcs_encode_walk.proofs.EntryArranging.{in_order_moves, in_order_rises
 abbrev pub Told : {A : Type 0} → Bool → A → Result A EncodeFault → Type 0
 Told d good (Ok a) = (d ≡ true) × (a ≡ good)
 Told d good (Err RepeatedKey) = d ≡ false
-Told d good (Err NotOfFormat) = ⊥
-Told d good (Err Unsupported) = ⊥
-Told d good (Err TooDeep) = ⊥
-Told d good (Err TooManyNodes) = ⊥
-Told d good (Err TooLong) = ⊥
-Told d good (Err OutOfMemory) = ⊥
+Told d good (Err _) = ⊥
 
-false_left : (a b : Bool) → a ≡ false → (a && b) ≡ false
-false_left a b h = ap (λ (x : Bool). x && b) h
-
-pub and_assoc : (a b c : Bool) → (a && (b && c)) ≡ ((a && b) && c)
+and_assoc : (a b c : Bool) → (a && (b && c)) ≡ ((a && b) && c)
 and_assoc true b c = refl
 and_assoc false b c = refl
 
@@ -46,13 +38,8 @@ pub chain_told : {A B : Type 0} (d e : Bool) (x : A) (y : B) (v : Result A Encod
     → Told d x v → Told e y (rest x) → Told (d && e) y (chain v rest)
 chain_told {B = B} d e x y (Ok a) rest h g =
     subst (λ (z : Bool). Told (z && e) y (rest a)) (sym h.0) (subst (λ z. Told e y (rest z)) (sym h.1) g)
-chain_told d e x y (Err RepeatedKey) rest h g = false_left d e h
-chain_told d e x y (Err NotOfFormat) rest h g = h
-chain_told d e x y (Err Unsupported) rest h g = h
-chain_told d e x y (Err TooDeep) rest h g = h
-chain_told d e x y (Err TooManyNodes) rest h g = h
-chain_told d e x y (Err TooLong) rest h g = h
-chain_told d e x y (Err OutOfMemory) rest h g = h
+chain_told d e x y (Err RepeatedKey) rest h g = and_left d e h
+chain_told d e x y (Err _) rest h g = h
 
 pub told_good : {A : Type 0} (d : Bool) (x y : A) (v : Result A EncodeFault) → x ≡ y → Told d x v → Told d y v
 told_good d x y v e h = subst (λ z. Told d z v) e h
@@ -112,12 +99,7 @@ module _ (registry : Entries) where
       subst (λ (x : List Entry). Told (pairs_distinct ps) (b ++ plain registry (form_of registry (tree.pairs ps) (of (shape.map f g))) (of (shape.map f g))) (sorted_entries_written x (b ++ uleb (pair_count ps))))
       (sym t.1) (forms_told ps f g b h t.0)
   map_told ps f g b (Err RepeatedKey) h t = parts_repeat ps t
-  map_told ps f g b (Err NotOfFormat) h t = t
-  map_told ps f g b (Err Unsupported) h t = t
-  map_told ps f g b (Err TooDeep) h t = t
-  map_told ps f g b (Err TooManyNodes) h t = t
-  map_told ps f g b (Err TooLong) h t = t
-  map_told ps f g b (Err OutOfMemory) h t = t
+  map_told ps f g b (Err _) h t = t
 
   pub each_count : (ts : Trees) (ss : Shapes) → each_fits false registry ts ss ≡ true → count ts ≡ shape_count ss
   each_count no_trees no_shapes h = refl

@@ -21,7 +21,7 @@ use Rattle.bcs_value_model.specs.declared.value.Value.{Value, Items, Pairs, Vari
 use Rattle.bcs_encode_walk.specs.Writing.{Tells, chain, length_written, sorted_entries_written, shape_count, written, items_written, each_written, entries_written}
 use Rattle.bcs_encode_spec.specs.declared.fault.EncodeFault.{EncodeFault}
 use Rattle.bcs_encode_spec.specs.declared.fault.EncodeFault.TheVariants.{NotOfFormat}
-use Rattle.bcs_encode_walk.proofs.WalkViews.{count_items, count_pairs, at_enum, at_map, at_list, at_array, choice-found, choice-missing}
+use Rattle.bcs_value_model.proofs.WalkViews.{count_items, count_pairs, at_enum, at_map, at_list, at_array, choice-found, choice-missing}
 
 pub count_formats : (fs : List Format) → shape_count (formats_shapes fs) ≡ length fs
 count_formats [] = refl
@@ -37,17 +37,7 @@ tells_along {B = B} r v w new e h = subst (λ (x : Result B EncodeFault). Tells 
 
 pub nothing_written : (r : Entries) (t : Tree) (b : List ℕ) → written r t nothing b ≡ Err NotOfFormat
 nothing_written r tree.unit b = refl
-nothing_written r (tree.truth t) b = refl
-nothing_written r (tree.unsigned n) b = refl
-nothing_written r (tree.signed z) b = refl
-nothing_written r (tree.text s) b = refl
-nothing_written r (tree.bytes s) b = refl
-nothing_written r tree.absent b = refl
-nothing_written r (tree.present t) b = refl
-nothing_written r (tree.items ts) b = refl
-nothing_written r (tree.variant n t) b = refl
-nothing_written r (tree.pairs ps) b = refl
-nothing_written r (tree.named t) b = refl
+nothing_written r _ b = refl
 
 -- a list
 pub list_written : (r : Entries) (v : Value) (f : Format) (vs : Vec Value Global) (element : Box Format Global) (n : ℕ) (b : List ℕ)

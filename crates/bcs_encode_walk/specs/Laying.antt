@@ -1,7 +1,11 @@
--- Where the entries of a map stand in a buffer.
+-- The entries of a map: as bytes of their own, and where they stand in a buffer.
 use Rattle.std.specs.Prelude.{ℕ, Bool, true, false, map, ◌&&◌, nat_le, if◌then◌else◌, List, [], length, slice_range}
 use Rattle.bcs_encode_spec.specs.Entries.{Entry, EntriesRise, HasTwins}
-use Rattle.bcs_encode_walk.specs.declared.span.Span.{Span}
+use Rattle.bcs_encode_walk.specs.declared.by_entries.EntryBytes.{EntryBytes}
+use Rattle.bcs_encode_walk.specs.declared.spans.Span.{Span}
+
+abbrev pub entry_of : EntryBytes → Entry
+entry_of e = (e.key.items, e.value.items)
 
 -- the bytes from one place to another, or none where there is no such part
 abbrev pub part : List ℕ → ℕ → ℕ → List ℕ

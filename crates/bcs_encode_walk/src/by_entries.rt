@@ -1,16 +1,19 @@
-//! The plain encoder: each entry of a map has bytes of its own, and they are sorted.
-ghost use Rattle.std.specs.Prelude.{map};
+//! The plain encoder: each entry of a map has bytes of its own, and they are sorted by their keys' bytes.
+ghost use Rattle.std.specs.Prelude.{map, ◌≡◌, ◌++◌, Ok};
 ghost use Rattle.bcs_registry_model.specs.Container.{of, content, field_shapes, payload_shape};
 ghost use Rattle.bcs_registry_model.specs.Shape.{tuple};
 ghost use Rattle.bcs_registry_model.specs.View.{container_of, field_of, formats_shapes, payload_of, shape_of};
 ghost use Rattle.bcs_value_model.specs.Tree.{items as items_tree};
 ghost use Rattle.bcs_value_model.specs.View.{entries_pairs, items_trees, tree_of};
-ghost use Rattle.bcs_encode_walk.specs.EntryView.{entry_of};
+ghost use Rattle.bcs_encode_walk.specs.Laying.{entry_of};
 ghost use Rattle.bcs_encode_walk.specs.Writing as spec;
-ghost use Rattle.bcs_encode_walk.specs.Writing.{Tells};
+ghost use Rattle.bcs_encode_walk.specs.Writing.{Tells, sorted_entries_written, has_twins};
+ghost use Rattle.std.specs.List.{flat_map};
+ghost use Rattle.std.specs.List.Sorted.{IsPermutation, IsSortedByKey};
+ghost use Rattle.std.specs.Ordering.{nat_cmp};
+ghost use Rattle.std.specs.Cmp.Lexicographic.{slice_cmp};
+ghost use Rattle.bcs_encode_spec.specs.Entries.{entry_bytes};
 
-use crate::arranging::push_in_order;
-use crate::entry_bytes::EntryBytes;
 use crate::pushing::{push_byte, push_bytes, push_length, push_number, push_signed, push_unsigned};
 use bcs_encode_spec::EncodeFault;
 use bcs_num::Width;
@@ -151,7 +154,7 @@ fn push_all(
 
 /// Appends the bytes of the elements of a tuple.
 #[cycle(by_entries)]
-#[tactic(auto, using(crate::proofs::WalkViews::count_items, crate::proofs::WritingViews::count_formats))]
+#[tactic(auto, using(bcs_value_model::proofs::WalkViews::count_items, crate::proofs::WritingViews::count_formats))]
 fn push_each(
     items: &[Value],
     alloc: Global,
@@ -172,7 +175,7 @@ fn push_each(
 
 /// Appends the bytes of the fields of a struct.
 #[cycle(by_entries)]
-#[tactic(auto, using(crate::proofs::WalkViews::count_items, crate::proofs::WritingViews::count_fields))]
+#[tactic(auto, using(bcs_value_model::proofs::WalkViews::count_items, crate::proofs::WritingViews::count_fields))]
 fn push_fields(
     items: &[Value],
     alloc: Global,
@@ -214,6 +217,53 @@ fn collect_entries(
             key: key_bytes,
             value: value_bytes,
         })?;
+    }
+    Ok(())
+}
+
+/// The bytes of an entry's key, and those of its value.
+#[derive(Drop)]
+pub struct EntryBytes {
+    pub key: Vec<u8>,
+    pub value: Vec<u8>,
+}
+
+/// Appends the entries by rising keys, or refuses two with one key.
+fn push_in_order(mut entries: Vec<EntryBytes>, out: &mut Vec<u8>) -> Result<(), EncodeFault>
+    ensures { Tells result (sorted_entries_written (map entry_of entries.items) out.old.items) out.new.items }
+{
+    sort_by_keys(&mut entries);
+    if have_equal_neighbours(&entries) {
+        return Err(EncodeFault::RepeatedKey);
+    }
+    push_entries(&entries, out)
+}
+
+fn sort_by_keys(entries: &mut Vec<EntryBytes>)
+    ensures permutation { IsPermutation entries.old.items entries.new.items }
+    ensures sorted { IsSortedByKey (λ e. e.key.items) (slice_cmp nat_cmp) entries.new.items }
+{
+    entries.sort_unstable_by(|a, b| { a.key.as_slice().cmp(b.key.as_slice()) });
+}
+
+/// Whether two entries that stand next to each other have one key.
+fn have_equal_neighbours(entries: &[EntryBytes]) -> bool
+    ensures { result ≡ has_twins (map entry_of entries.now) }
+{
+    for i in 1..entries.len() {
+        if entries[i - 1].key.as_slice() == entries[i].key.as_slice() {
+            return true;
+        }
+    }
+    false
+}
+
+fn push_entries(entries: &[EntryBytes], out: &mut Vec<u8>) -> Result<(), EncodeFault>
+    ensures { Tells result (Ok (out.old.items ++ flat_map entry_bytes (map entry_of entries.now))) out.new.items }
+{
+    for entry in entries {
+        out.extend_from_slice(&entry.key)?;
+        out.extend_from_slice(&entry.value)?;
     }
     Ok(())
 }

@@ -1,6 +1,7 @@
 -- How much is read ahead: the last block at most.
-use Rattle.std.proofs.Common.{◌≡◌, ◌⊎◌, inl, inr, ℕ, zero, suc, ◌+◌, ◌-◌, ◌<◌, ◌≤◌, ◌∙◌, List, [], ◌∷◌, ◌++◌, length, take, drop, refl, sym, ap, subst, arith, length-append, length-drop, length-take-le, true≢false}
+use Rattle.std.proofs.Common.{◌≡◌, inl, inr, ℕ, zero, suc, ◌+◌, ◌-◌, ◌<◌, ◌≤◌, ◌∙◌, List, [], ◌∷◌, ◌++◌, length, take, drop, refl, sym, ap, subst, arith, length-append, length-drop, length-take-le, true≢false}
 use Rattle.std.proofs.Math.Seq.{take-append_seam}
+use Rattle.std.proofs.lemmas.Bool.{cases_lt}
 use Rattle.std.proofs.lemmas.List.{take-append-le}
 use Rattle.bcs_io.specs.Held.{IsFirstLineFeed}
 use Rattle.bcs_io.specs.Lines.{HasNoLineFeed, before_block, block_size}
@@ -32,17 +33,12 @@ feed_inside zero xs ys within plain = absurd (omega (arith, within))
 feed_inside (suc n) [] ys within plain = true≢false (no_feed_first 10 (take n ys) plain)
 feed_inside (suc n) (x ∷ xs) ys within plain = feed_inside n xs ys (omega (arith, within)) (no_feed_rest x (take n (xs ++ 10 ∷ ys)) plain)
 
-pub low_or_high : (n b : ℕ) → (n ≤ b) ⊎ (b < n)
-low_or_high zero b = inl (omega arith)
-low_or_high (suc n) zero = inr (omega arith)
-low_or_high (suc n) (suc b) = elim (low_or_high n b) [ inl low ↦ inl (omega (arith, low)) | inr high ↦ inr (omega (arith, high)) ]
-
 -- behind the first line feed stands less than a block
 pub rest_behind : (rest : List ℕ) (count : ℕ) → IsFirstLineFeed rest count → HasNoLineFeed (before_block rest) → length (drop (count + 1) rest) < block_size
 rest_behind rest count first plain =
-    elim (low_or_high (length rest - block_size) count) [
-      | inl low ↦ omega (arith, low, length-drop (count + 1) rest)
-      | inr high ↦
+    elim (cases_lt count (length rest - block_size)) [
+      | inr low ↦ omega (arith, low, length-drop (count + 1) rest)
+      | inl high ↦
           let front = take count rest in
           let long : length front ≡ count = length-take-le count rest (omega (arith, first.inside)) in
           let n = length rest - block_size in

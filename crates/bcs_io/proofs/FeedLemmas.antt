@@ -1,9 +1,9 @@
 -- How many line feeds bytes have.
 use Rattle.std.proofs.Common.{◌≡◌, inl, inr, ℕ, zero, suc, ◌+◌, ◌-◌, ◌≤◌, ◌==◌, ◌∙◌, if◌then◌else◌, Bool, true, false, List, [], ◌∷◌, ◌++◌, length, take, refl, ap, arith, length-append}
 use Rattle.std.proofs.Math.Seq.{take-append-add}
+use Rattle.std.proofs.lemmas.Bool.{cases_lt}
 use Rattle.std.proofs.lemmas.List.{take-append-le}
 use Rattle.bcs_io.specs.Lines.{HasNoLineFeed, before_block, block_size, line_feeds}
-use Rattle.bcs_io.proofs.Ahead.{low_or_high}
 use Rattle.bcs_io.proofs.LineLemmas.{no_feed_first, no_feed_rest}
 
 pub feeds_none : (xs : List ℕ) → HasNoLineFeed xs → line_feeds xs ≡ 0
@@ -32,9 +32,9 @@ pub feeds_before_block : (front rest : List ℕ) → HasNoLineFeed (before_block
 feeds_before_block front rest plain =
     let n = length (front ++ rest) - block_size in
     let m = length rest - block_size in
-    elim (low_or_high n (length front)) [
-      | inl low ↦ omega (arith, ap line_feeds (take-append-le n front rest low), feeds_take n front)
-      | inr high ↦
+    elim (cases_lt (length front) n) [
+      | inr low ↦ omega (arith, ap line_feeds (take-append-le n front rest low), feeds_take n front)
+      | inl high ↦
           let same : n ≡ length front + m = omega (arith, high, length-append front rest) in
           let parts : take n (front ++ rest) ≡ front ++ take m rest = ap (λ (k : ℕ). take k (front ++ rest)) same ∙ take-append-add front rest m in
           omega (arith, ap line_feeds parts, feeds_append front (take m rest), feeds_none (take m rest) plain)

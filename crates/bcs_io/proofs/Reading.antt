@@ -1,8 +1,8 @@
 -- Blocks that were read one after the other.
-use Rattle.std.proofs.Common.{◌≡◌, ℕ, ◌+◌, ◌<◌, ◌≤◌, Bool, true, List, [], ◌∷◌, ◌++◌, length, take, Option, Result, Ok, Err, nat_lt, refl, sym, ap, subst, ◌∙◌, inl, inr, append_assoc, arith, drop, length-take-le}
-use Rattle.std.proofs.lemmas.List.{append-nil}
+use Rattle.std.proofs.Common.{◌≡◌, ℕ, ◌+◌, ◌<◌, ◌≤◌, Bool, true, List, [], ◌∷◌, ◌++◌, length, take, Option, Result, Ok, Err, nat_lt, sym, ap, subst, ◌∙◌, inl, inr, append_assoc, arith, drop, length-take-le}
+use Rattle.std.proofs.lemmas.List.{append-nil, nil_from_length}
 use Rattle.bcs_io.specs.Giving.{Took}
-use Rattle.bcs_io.proofs.GivingLemmas.{Took-nothing, Took-then}
+use Rattle.bcs_io.proofs.GivingLemmas.{Took-then}
 use Rattle.bcs_io.specs.Advancing.{TakesLine, IsTooLong, RunsOut}
 use Rattle.bcs_io.specs.Blocks.{GivesBlock, ReadsBlock}
 use Rattle.bcs_io.specs.Held.{Held, IsFirstLineFeed}
@@ -10,10 +10,6 @@ use Rattle.bcs_io.specs.Lines.{HasNoLineFeed, before_block, block_size}
 use Rattle.bcs_io.proofs.Ahead.{block_behind, rest_behind}
 use Rattle.bcs_io.specs.declared.next_fault.NextFault.{NextFault}
 use Rattle.bcs_io.specs.declared.next_fault.NextFault.TheVariants.{Read, TooLong, OutOfMemory}
-
-none_long : (xs : List ℕ) → length xs ≡ 0 → xs ≡ []
-none_long [] is = refl
-none_long (x ∷ xs) is = absurd (omega arith)
 
 some_long : (xs : List ℕ) → nat_lt 0 (length xs) ≡ true → xs ≡ [] → ⊥
 some_long [] is e = cc
@@ -26,9 +22,6 @@ module _ {S : Type 0} (content : S → Option (List ℕ)) (is_failed : S → Boo
     pub took : Took content is_failed allowance old new given
     pub rest : after ≡ before ++ given
     pub ahead : HasNoLineFeed (before_block before) → HasNoLineFeed (before_block after)
-
-  pub Reads-nothing : (a : S) (before : List ℕ) → Reads a a before before
-  Reads-nothing a before = record { given = []; took = Took-nothing content is_failed allowance a; rest = sym (append-nil before); ahead = λ before. before }
 
   pub Reads-then : (a b c : S) (before between after : List ℕ) (count : ℕ) → Reads a b before between
       → GivesBlock content is_failed allowance b c between after count → HasNoLineFeed between → Reads a c before after
@@ -88,7 +81,7 @@ module _ {S : Type 0} (content : S → Option (List ℕ)) (is_failed : S → Boo
       → nat_lt 0 (length read.rest) ≡ true → TakesLine content is_failed allowance limit a c before after
   Reads-last limit a b c before between read after count p q none plain within is some =
       let all = Reads-then a b c before.rest between.rest read.rest count p q plain in
-      let same : read.rest ≡ between.rest = q.rest ∙ ap (λ (l : List ℕ). between.rest ++ l) (none_long q.given (q.many ∙ none)) ∙ append-nil between.rest in
+      let same : read.rest ≡ between.rest = q.rest ∙ ap (λ (l : List ℕ). between.rest ++ l) (nil_from_length q.given (q.many ∙ none)) ∙ append-nil between.rest in
       let line : after.line ≡ read.rest = ap (λ (h : Held). h.line) is in
       record {
         given = all.given;

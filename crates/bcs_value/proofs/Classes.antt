@@ -1,11 +1,12 @@
 -- How many entries of a map differ: where one map is within another, and as many of both differ, the other is within the one.
-use Rattle.std.proofs.Common.{◌≡◌, ℕ, List, [], ◌∷◌, length, suc, ◌≤◌, Bool, true, false, true≢false, cond, ◌⊎◌, ◌&&◌, ◌||◌, refl, sym, ap, ◌∙◌, inl, inr, arith}
-use Rattle.std.proofs.lemmas.Bool.{and_parts, and_from, or_cases, or_left, or_right}
+use Rattle.std.proofs.Common.{◌≡◌, ℕ, List, length, suc, ◌≤◌, Bool, true, false, true≢false, cond, ◌&&◌, ◌||◌, refl, sym, ap, ◌∙◌, inl, inr, arith}
+use Rattle.std.proofs.lemmas.Bool.{cases_Bool, and_parts, and_from, or_cases, or_parts, or_left, or_right}
 use Rattle.bcs_value_model.specs.Tree.{Tree, Pairs, no_pairs, pair, pair_count}
 use Rattle.bcs_value_model.specs.Same.{same, is_within, has_pair, all_pairs}
 use Rattle.bcs_value.specs.Twins.{has_twins}
 use Rattle.bcs_value_model.specs.View.{entries_pairs}
 use Rattle.bcs_value_model.specs.declared.value.Value.{Value}
+use Rattle.bcs_value_model.proofs.WalkViews.{count_pairs}
 use Rattle.bcs_value_model.proofs.Equivalence.{same-refl, same-sym, same-trans, covers}
 
 abbrev twins : Tree → Tree → Tree → Tree → Bool
@@ -47,16 +48,8 @@ abbrev without : Tree → Tree → Pairs → Pairs
 without k v no_pairs = no_pairs
 without k v (pair l w qs) = cond (twins k v l w) (without k v qs) (pair l w (without k v qs))
 
-either : (b : Bool) → (b ≡ true) ⊎ (b ≡ false)
-either true = inl refl
-either false = inr refl
-
-or_none : (x y : Bool) → (x || y) ≡ false → (x ≡ false) × (y ≡ false)
-or_none true y h = absurd (true≢false h)
-or_none false y h = (refl, h)
-
 not-twins : (k v l w : Tree) → twins k v l w ≡ false → twins l w k v ≡ false
-not-twins k v l w h = elim (either (twins l w k v)) [
+not-twins k v l w h = elim (cases_Bool (twins l w k v)) [
   | inl t ↦ absurd (true≢false (sym (twins-sym l w k v t) ∙ h))
   | inr n ↦ n
 ]
@@ -76,9 +69,9 @@ without-other k v l w qs h = ap (λ b. cond b (without k v qs) (pair l w (withou
 -- what is no twin stays
 kept : (qs : Pairs) (k v l w : Tree) → twins k v l w ≡ false → has_pair (without k v qs) l w ≡ has_pair qs l w
 kept no_pairs k v l w n = refl
-kept (pair m x qs) k v l w n = elim (either (twins k v m x)) [
+kept (pair m x qs) k v l w n = elim (cases_Bool (twins k v m x)) [
   | inl t ↦
-      (let other : twins m x l w ≡ false = elim (either (twins m x l w)) [
+      (let other : twins m x l w ≡ false = elim (cases_Bool (twins m x l w)) [
         | inl y ↦ absurd (true≢false (sym (twins-trans k v m x l w t y) ∙ n))
         | inr z ↦ z
       ] in
@@ -89,14 +82,14 @@ kept (pair m x qs) k v l w n = elim (either (twins k v m x)) [
 unchanged : (qs : Pairs) (k v : Tree) → has_pair qs k v ≡ false → without k v qs ≡ qs
 unchanged no_pairs k v h = refl
 unchanged (pair m x qs) k v h =
-    let p = or_none (twins m x k v) (has_pair qs k v) h in
+    let p = or_parts (twins m x k v) (has_pair qs k v) h in
     without-other k v m x qs (not-twins m x k v p.0) ∙ ap (pair m x) (unchanged qs k v p.1)
 
 -- an entry's twins are one class
 counted : (qs : Pairs) (k v : Tree) → has_pair qs k v ≡ true → classes qs ≡ suc (classes (without k v qs))
 counted no_pairs k v h = absurd (true≢false (sym h))
-counted (pair m x qs) k v h = elim (either (twins k v m x)) [
-  | inl t ↦ elim (either (has_pair qs k v)) [
+counted (pair m x qs) k v h = elim (cases_Bool (twins k v m x)) [
+  | inl t ↦ elim (cases_Bool (has_pair qs k v)) [
     | inl y ↦ classes-twin m x qs (had qs k v m x t y) ∙ counted qs k v y ∙ ap (λ r. suc (classes r)) (sym (without-twin k v m x qs t))
     | inr n ↦ classes-new m x qs (had_not qs k v m x t n) ∙ ap (λ r. suc (classes r)) (sym (unchanged qs k v n)) ∙ ap (λ r. suc (classes r)) (sym (without-twin k v m x qs t))
   ]
@@ -105,7 +98,7 @@ counted (pair m x qs) k v h = elim (either (twins k v m x)) [
         | inl t ↦ absurd (true≢false (sym (twins-sym m x k v t) ∙ f))
         | inr more ↦ more
       ] in
-      elim (either (has_pair qs m x)) [
+      elim (cases_Bool (has_pair qs m x)) [
         | inl z ↦ classes-twin m x qs z ∙ counted qs k v y ∙ ap suc (sym (classes-twin m x (without k v qs) (kept qs k v m x f ∙ z)) ∙ ap classes (sym (without-other k v m x qs f)))
         | inr z ↦ classes-new m x qs z ∙ ap suc (counted qs k v y) ∙ ap suc (sym (classes-new m x (without k v qs) (kept qs k v m x f ∙ z)) ∙ ap classes (sym (without-other k v m x qs f)))
       ])
@@ -115,7 +108,7 @@ narrowed : (ps qs : Pairs) (k v : Tree) → has_pair ps k v ≡ false → all_pa
 narrowed no_pairs qs k v n h = refl
 narrowed (pair l w ps) qs k v n h =
     let p = and_parts (has_pair qs l w) (all_pairs (has_pair qs) ps) h in
-    let q = or_none (twins l w k v) (has_pair ps k v) n in
+    let q = or_parts (twins l w k v) (has_pair ps k v) n in
     and_from _ _ (kept qs k v l w (not-twins l w k v q.0) ∙ p.0) (narrowed ps qs k v q.1 p.1)
 
 widened : (k v : Tree) (ps rs : Pairs) → all_pairs (has_pair ps) rs ≡ true → all_pairs (has_pair (pair k v ps)) rs ≡ true
@@ -126,7 +119,7 @@ widened k v ps (pair l w rs) h =
 
 back : (qs : Pairs) (k v : Tree) (ps : Pairs) → all_pairs (has_pair ps) (without k v qs) ≡ true → all_pairs (has_pair (pair k v ps)) qs ≡ true
 back no_pairs k v ps h = refl
-back (pair m x qs) k v ps h = elim (either (twins k v m x)) [
+back (pair m x qs) k v ps h = elim (cases_Bool (twins k v m x)) [
   | inl t ↦ and_from _ _ (or_left _ _ t) (back qs k v ps (ap (all_pairs (has_pair ps)) (sym (without-twin k v m x qs t)) ∙ h))
   | inr f ↦
       (let p = and_parts (has_pair ps m x) (all_pairs (has_pair ps) (without k v qs)) (ap (all_pairs (has_pair ps)) (sym (without-other k v m x qs f)) ∙ h) in
@@ -137,7 +130,7 @@ fewer : (ps qs : Pairs) → all_pairs (has_pair qs) ps ≡ true → classes ps �
 fewer no_pairs qs h = omega arith
 fewer (pair k v ps) qs h =
     let p = and_parts (has_pair qs k v) (all_pairs (has_pair qs) ps) h in
-    elim (either (has_pair ps k v)) [
+    elim (cases_Bool (has_pair ps k v)) [
       | inl y ↦ omega (arith, classes-twin k v ps y, fewer ps qs p.1)
       | inr n ↦ omega (arith, classes-new k v ps n, counted qs k v p.0, fewer ps (without k v qs) (narrowed ps qs k v n p.1))
     ]
@@ -149,7 +142,7 @@ within_back no_pairs (pair m x qs) h e =
     absurd (omega (arith, e, f))
 within_back (pair k v ps) qs h e =
     let p = and_parts (has_pair qs k v) (all_pairs (has_pair qs) ps) h in
-    elim (either (has_pair ps k v)) [
+    elim (cases_Bool (has_pair ps k v)) [
       | inl y ↦ widened k v ps qs (within_back ps qs p.1 (sym (classes-twin k v ps y) ∙ e))
       | inr n ↦
           (let f : classes ps ≡ classes (without k v qs) = omega (arith, e, classes-new k v ps n, counted qs k v p.0) in
@@ -158,7 +151,7 @@ within_back (pair k v ps) qs h e =
 
 few : (ps : Pairs) → classes ps ≤ pair_count ps
 few no_pairs = omega arith
-few (pair k v ps) = elim (either (has_pair ps k v)) [
+few (pair k v ps) = elim (cases_Bool (has_pair ps k v)) [
   | inl y ↦ omega (arith, classes-twin k v ps y, few ps)
   | inr n ↦ omega (arith, classes-new k v ps n, few ps)
 ]
@@ -166,12 +159,8 @@ few (pair k v ps) = elim (either (has_pair ps k v)) [
 all_differ : (ps : Pairs) → has_twins ps ≡ false → classes ps ≡ pair_count ps
 all_differ no_pairs h = refl
 all_differ (pair k v ps) h =
-    let p = or_none (has_pair ps k v) (has_twins ps) h in
+    let p = or_parts (has_pair ps k v) (has_twins ps) h in
     classes-new k v ps p.0 ∙ ap suc (all_differ ps p.1)
-
-count_entries : (ps : List (Value × Value)) → pair_count (entries_pairs ps) ≡ length ps
-count_entries [] = refl
-count_entries (p ∷ ps) = omega (arith, count_entries ps)
 
 -- a map without twins that is within another with no more entries
 pub within_full : (xs ys : List (Value × Value)) → length xs ≡ length ys → has_twins (entries_pairs xs) ≡ false → is_within (entries_pairs xs) (entries_pairs ys) ≡ true
@@ -180,4 +169,4 @@ within_full xs ys e n h =
     let w = covers (entries_pairs xs) (entries_pairs ys) ∙ h in
     let f = fewer (entries_pairs xs) (entries_pairs ys) w in
     within_back (entries_pairs xs) (entries_pairs ys) w
-    (omega (arith, e, f, few (entries_pairs ys), all_differ (entries_pairs xs) n, count_entries xs, count_entries ys))
+    (omega (arith, e, f, few (entries_pairs ys), all_differ (entries_pairs xs) n, count_pairs xs, count_pairs ys))

@@ -1,17 +1,18 @@
 -- What `same` needs of the views: lists of unlike length, and pairs one after another.
 use Rattle.std.proofs.Common.{◌≡◌, ℕ, ◌+◌, ◌<◌, List, [], ◌∷◌, length, drop, get_or, Vec, Global, true, false, ◌&&◌, refl, ap, ◌∙◌, subst, arith}
+use Rattle.std.proofs.lemmas.Bool.{and_right}
 use Rattle.std.proofs.lemmas.List.{drop_more}
 use Rattle.bcs_value_model.specs.Same.{same, all_same, any_pair, all_pairs, is_within, has_pair}
 use Rattle.bcs_value_model.specs.View.{tree_of, items_trees, entries_pairs}
 use Rattle.bcs_value_model.specs.declared.value.Value.{Value, Pairs}
-use Rattle.bcs_value_model.proofs.Views.{and_false, tree_of_pairs}
+use Rattle.bcs_value_model.proofs.Views.{tree_of_pairs}
 
 pub all_same-unlike : (xs ys : List Value) → (length xs ≡ length ys → ⊥) → all_same (items_trees xs) (items_trees ys) ≡ false
 all_same-unlike [] [] h = absurd (h refl)
 all_same-unlike [] (y ∷ ys) h = refl
 all_same-unlike (x ∷ xs) [] h = refl
 all_same-unlike (x ∷ xs) (y ∷ ys) h =
-    ap (λ b. same (tree_of x) (tree_of y) && b) (all_same-unlike xs ys (λ e. h (omega (arith, e)))) ∙ and_false (same (tree_of x) (tree_of y))
+    and_right (same (tree_of x) (tree_of y)) _ (all_same-unlike xs ys (λ e. h (omega (arith, e))))
 
 pub is_within-step : (xs ys : List (Value × Value)) (i : ℕ) (p : Value × Value) → i < length xs → p ≡ get_or xs i p
     → any_pair (λ k v. same (tree_of p.0) k && same (tree_of p.1) v) (entries_pairs ys) ≡ true

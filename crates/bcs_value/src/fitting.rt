@@ -126,7 +126,7 @@ fn all_fit(items: &[Value], registry: &Registry, format: &Format, loose: bool) -
 }
 
 #[cycle(fits)]
-#[tactic(auto, using(bcs_value_model::proofs::FitsByViews::count_items))]
+#[tactic(auto, using(bcs_value_model::proofs::WalkViews::count_items))]
 fn array_fits(items: &[Value], registry: &Registry, format: &Format, size: u64, loose: bool) -> bool
     ensures { result ≡ spec.fits loose registry.now (items_tree (items_trees items.now)) (of (array (shape_of format.now) size)) }
 {

@@ -1,6 +1,6 @@
-pub mod NodeCounts
 pub mod Views
 pub mod FitsByViews
+pub mod WalkViews
 pub mod Equivalence
 pub mod MapsInWords
 pub mod Loosening

@@ -1,5 +1,5 @@
 -- What a value is seen as, shape by shape.
-use Rattle.std.proofs.Common.{◌≡◌, ℕ, ℤ, String, string_bytes, Vec, Box, Global, Bool, true, false, ◌&&◌, refl, rules}
+use Rattle.std.proofs.Common.{◌≡◌, ℕ, ℤ, String, string_bytes, Vec, Box, Global, rules}
 use Rattle.bcs_value_model.specs.Tree.{unsigned, signed, text, bytes, present, items, variant, pairs}
 use Rattle.bcs_value_model.specs.View.{tree_of, items_trees, entries_pairs}
 use Rattle.bcs_value_model.specs.declared.value.Value.{Value, Unsigned, Signed, Text, Bytes, Present, Items, Pairs, Variant, the_lemmas}
@@ -27,7 +27,3 @@ tree_of_variant n inner = search (rules, the_lemmas)
 
 pub tree_of_pairs : (ps : Vec (Value × Value) Global) → tree_of (Pairs ps) ≡ pairs (entries_pairs ps.items)
 tree_of_pairs ps = search (rules, the_lemmas)
-
-pub and_false : (b : Bool) → (b && false) ≡ false
-and_false true = refl
-and_false false = refl

@@ -2,7 +2,7 @@ use Rattle.std.proofs.Common.{◌≡◌, map, drop}
 use Rattle.bcs_registry_model.specs.Container.{field_shapes}
 use Rattle.bcs_registry_model.specs.View.{field_of, formats_shapes, shape_of}
 use Rattle.bcs_value_model.specs.View.{entries_pairs, items_trees}
-use Rattle.bcs_encode_walk.specs.EntryView.{entry_of}
+use Rattle.bcs_encode_walk.specs.Laying.{entry_of}
 use Rattle.bcs_encode_walk.specs.Writing.{items_written, each_written, entries_written}
 use Rattle.bcs_encode_walk.proofs.by_entries.+by_entries.Given as goal
 

@@ -1,5 +1,0 @@
-use Rattle.std.proofs.Common.{rules}
-use Rattle.bcs_io.proofs.pieces.piece_source.PieceSourceByteSource.failed.Goals as goal
-
-pub returns : goal.returns
-returns c = search rules
