@@ -10,7 +10,7 @@ use thiserror::Error;
 #[error("{}", self.name())]
 pub enum RegistryFault {
     /// `serde_json` doesn't read the text.
-    NotJson,
+    NotJson = 1,
     /// The JSON hasn't the shape of a registry, or of a format.
     BadShape,
     /// An enum number isn't plain decimal from 0 to 4294967295, or a `SIZE` isn't a whole number from 0 to

@@ -10,6 +10,7 @@ pub mod growth;
 mod growth_fault;
 pub mod known;
 pub mod levels;
+pub mod mentions;
 mod named;
 pub mod naming;
 mod out_of_memory;
