@@ -1,7 +1,10 @@
 //! The containers that an example may open.
 
-use crate::part::{Part, payload_part};
-use bcs_registry::{Container, Format, Named, Registry};
+use crate::part::Part;
+use bcs_registry::{Container, Registry};
+use bcs_registry_model::mentions::{
+    Mentions, names_in, push_field_names, push_names, push_row_names,
+};
 use std::alloc::{AllocError, Global};
 use std::collections::BTreeSet;
 
@@ -36,10 +39,13 @@ pub(crate) fn needed_containers<'r>(
         in_order: Vec::new(alloc),
         seen: BTreeSet::new(alloc),
     };
-    note_part(part, &mut needed)?;
+    note_names(&names_in_part(alloc, part)?, &mut needed)?;
     for place in 0..registry.len() {
         match needed.in_order.get(place) {
-            Some(entry) => note_container(entry.container, &mut needed)?,
+            Some(entry) => {
+                let names = names_in(alloc, entry.container, Mentions::Needed)?;
+                note_names(&names, &mut needed)?;
+            }
             None => break,
         }
     }
@@ -54,80 +60,27 @@ struct Needed<'r> {
     seen: BTreeSet<&'r str>,
 }
 
-fn note_name<'r>(name: &'r str, needed: &mut Needed<'r>) -> Result<(), AllocError> {
-    if needed.seen.insert(name)?
-        && let Some(container) = needed.registry.container(name)
-    {
-        needed.in_order.push(Entry { name, container })?;
-    }
-    Ok(())
-}
-
-#[cycle(noting)]
-fn note_format<'r>(format: &'r Format, needed: &mut Needed<'r>) -> Result<(), AllocError> {
-    match format {
-        Format::TypeName(name) => note_name(name.as_str(), needed),
-        Format::Tuple(formats) => note_row(formats, needed),
-        Format::TupleArray(element, _) => note_format(element, needed),
-        Format::Unit
-        | Format::Bool
-        | Format::I8
-        | Format::I16
-        | Format::I32
-        | Format::I64
-        | Format::I128
-        | Format::U8
-        | Format::U16
-        | Format::U32
-        | Format::U64
-        | Format::U128
-        | Format::F32
-        | Format::F64
-        | Format::Char
-        | Format::Str
-        | Format::Bytes
-        | Format::Opt(_)
-        | Format::Seq(_)
-        | Format::Map(_, _) => Ok(()),
-    }
-}
-
-#[cycle(noting)]
-fn note_row<'r>(formats: &'r [Format], needed: &mut Needed<'r>) -> Result<(), AllocError> {
-    for format in formats {
-        note_format(format, needed)?;
-    }
-    Ok(())
-}
-
-fn note_fields<'r>(fields: &'r [Named<Format>], needed: &mut Needed<'r>) -> Result<(), AllocError> {
-    for field in fields {
-        note_format(&field.value, needed)?;
-    }
-    Ok(())
-}
-
-fn note_part<'r>(part: Part<'r>, needed: &mut Needed<'r>) -> Result<(), AllocError> {
-    match part {
-        Part::Nothing => Ok(()),
-        Part::Format(format) => note_format(format, needed),
-        Part::Row(formats) => note_row(formats, needed),
-        Part::Fields(fields) => note_fields(fields, needed),
-    }
-}
-
-// Any of an enum's variants may be the one that is taken.
-fn note_container<'r>(container: &'r Container, needed: &mut Needed<'r>) -> Result<(), AllocError> {
-    match container {
-        Container::UnitStruct => {}
-        Container::NewTypeStruct(format) => note_format(format, needed)?,
-        Container::TupleStruct(formats) => note_row(formats, needed)?,
-        Container::Struct(fields) => note_fields(fields, needed)?,
-        Container::Enum(variants) => {
-            for (_, variant) in variants {
-                note_part(payload_part(&variant.value), needed)?;
-            }
+fn note_names<'r>(names: &[&'r str], needed: &mut Needed<'r>) -> Result<(), AllocError> {
+    for name in names {
+        if needed.seen.insert(*name)?
+            && let Some(container) = needed.registry.container(*name)
+        {
+            needed.in_order.push(Entry {
+                name: *name,
+                container,
+            })?;
         }
     }
     Ok(())
+}
+
+fn names_in_part<'r>(alloc: Global, part: Part<'r>) -> Result<Vec<&'r str>, AllocError> {
+    let mut names = Vec::new(alloc);
+    match part {
+        Part::Nothing => {}
+        Part::Format(format) => push_names(format, Mentions::Needed, &mut names)?,
+        Part::Row(formats) => push_row_names(formats, Mentions::Needed, &mut names)?,
+        Part::Fields(fields) => push_field_names(fields, Mentions::Needed, &mut names)?,
+    }
+    Ok(names)
 }

@@ -1,11 +1,11 @@
 //! A format, or NAME of `show`, that names no container.
 
 use crate::names::Name;
-use bcs_registry::{Container, Format, Registry, RegistryFault};
+use bcs_registry::{Registry, RegistryFault};
 use bcs_registry_json::format_text::format_from;
 use bcs_registry_json::json_text::registry_json;
+use bcs_registry_model::known::first_unknown;
 use std::alloc::Global;
-use std::collections::BTreeMap;
 
 /// That no container of a registry has the word FORMAT for its name. `None`: one has. It may be meant as a format
 /// without a name, such as `U64`, so the line says how that is written.
@@ -55,41 +55,4 @@ pub fn place_of_name(
     let name = Name::of(name);
     let line = format!(in alloc; "at FORMAT: UnknownName: no container is called {name}")?;
     Ok(Some(line.into_bytes()))
-}
-
-/// The first name in the format, as it is read, that none of the containers has.
-#[cycle(unknown)]
-pub(crate) fn first_unknown<'a>(
-    format: &'a Format,
-    containers: &BTreeMap<String, Container>,
-) -> Option<&'a str> {
-    match format {
-        Format::TypeName(name) => if containers.contains_key(name.as_str()) {
-            None
-        } else {
-            Some(name.as_str())
-        },
-        Format::Opt(inner) | Format::Seq(inner) | Format::TupleArray(inner, _) => {
-            first_unknown(inner, containers)
-        }
-        Format::Map(key, value) => match first_unknown(key, containers) {
-            Some(name) => Some(name),
-            None => first_unknown(value, containers),
-        },
-        Format::Tuple(formats) => first_unknown_among(formats.as_slice(), containers),
-        _ => None,
-    }
-}
-
-#[cycle(unknown)]
-fn first_unknown_among<'a>(
-    formats: &'a [Format],
-    containers: &BTreeMap<String, Container>,
-) -> Option<&'a str> {
-    for format in formats {
-        if let Some(name) = first_unknown(format, containers) {
-            return Some(name);
-        }
-    }
-    None
 }

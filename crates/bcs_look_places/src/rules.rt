@@ -1,11 +1,11 @@
 //! Where a registry breaks a rule.
 
 use crate::content::Content;
-use crate::formats::first_unknown;
 use crate::names::Name;
 use crate::owners::{Owner, Slot};
 use bcs_registry::{Container, Format, Named, RegistryFault, VariantFormat};
 use bcs_registry_json::one_by_one::containers_one_by_one;
+use bcs_registry_model::known::first_unknown;
 use bcs_registry_model::levels::has_few_levels;
 use std::alloc::{AllocError, Global};
 use std::collections::{BTreeMap, BTreeSet};

@@ -1,7 +1,7 @@
 //! The differences of two registries.
 
 use crate::change::{Change, Difference};
-use bcs_registry_model::equality::{are_same_fields, are_same_formats, is_same_format, is_same_payload};
+use bcs_registry_model::equality::{is_same_struct, is_same_variant};
 use bcs_registry_model::{Container, Named, VariantFormat};
 use std::alloc::{AllocError, Global};
 use std::collections::{BTreeMap, BTreeSet};
@@ -24,7 +24,7 @@ pub fn differences<'a>(
                 push_variant_changes(alloc, container, older, newer, &mut found)?;
                 continue;
             }
-            (Some(older), Some(newer)) if is_same_container(older, newer) => continue,
+            (Some(older), Some(newer)) if is_same_struct(older, newer) => continue,
             (Some(older), Some(newer)) => Change::Changed { older, newer },
             (Some(older), None) => Change::Missing { older },
             (None, Some(newer)) => Change::ContainerAdded { newer },
@@ -72,23 +72,4 @@ fn keys_of_both<'a, K: Ord, V>(
         let _ = keys.insert(key)?;
     }
     Ok(keys)
-}
-
-/// Whether two containers, which aren't both enums, are one.
-fn is_same_container(one: &Container, other: &Container) -> bool {
-    match (one, other) {
-        (Container::UnitStruct, Container::UnitStruct) => true,
-        (Container::NewTypeStruct(one), Container::NewTypeStruct(other)) => {
-            is_same_format(one, other)
-        }
-        (Container::TupleStruct(one), Container::TupleStruct(other)) => {
-            are_same_formats(one, other)
-        }
-        (Container::Struct(one), Container::Struct(other)) => are_same_fields(one, other),
-        _ => false,
-    }
-}
-
-fn is_same_variant(one: &Named<VariantFormat>, other: &Named<VariantFormat>) -> bool {
-    one.name == other.name && is_same_payload(&one.value, &other.value)
 }

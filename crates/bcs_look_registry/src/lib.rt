@@ -9,7 +9,6 @@ mod counting;
 mod formats;
 mod header;
 mod lines;
-mod mentions;
 mod names;
 mod rounds;
 mod show;

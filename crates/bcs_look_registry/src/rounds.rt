@@ -1,9 +1,9 @@
 //! The sizes of containers, counted in rounds.
 
 use crate::counting::inner_sizes;
-use crate::mentions::{Mentions, names_in};
 use crate::sizes::Sizes;
 use bcs_registry_model::Container;
+use bcs_registry_model::mentions::{Mentions, names_in};
 use std::alloc::{AllocError, Global};
 use std::collections::BTreeMap;
 

@@ -1,7 +1,7 @@
 //! Which containers use which.
 
-use crate::mentions::{Mentions, names_in};
 use bcs_registry_model::Container;
+use bcs_registry_model::mentions::{Mentions, names_in};
 use std::alloc::{AllocError, Global};
 use std::collections::{BTreeMap, BTreeSet};
 

@@ -147,15 +147,6 @@ no_minus n small minus =
     let first = digit_at (decimal n) 0 numeral.0.1 numeral.0.0 in
     omega (arith, first.0, minus)
 
--- each signed number has a text of its own
-pub signed_decimal_injective : (w : int.Width) (y z : ℤ) → IsSigned w y → IsSigned w z → signed_decimal y ≡ signed_decimal z → y ≡ z
-signed_decimal_injective w (pos m) (pos n) h g e = ap pos (decimal_injective m n (omega (arith, h.sfits, half_le w)) (omega (arith, g.sfits, half_le w)) e)
-signed_decimal_injective w (pos m) (negsuc n) h g e = absurd (no_minus m (omega (arith, h.sfits, half_le w)) (ap (λ (x : List ℕ). get_or x 0 0) e))
-signed_decimal_injective w (negsuc m) (pos n) h g e = absurd (no_minus n (omega (arith, g.sfits, half_le w)) (ap (λ (x : List ℕ). get_or x 0 0) (sym e)))
-signed_decimal_injective w (negsuc m) (negsuc n) h g e =
-    let same = decimal_injective (suc m) (suc n) (omega (arith, h.sfits, half_le w)) (omega (arith, g.sfits, half_le w)) (ap (drop 1) e) in
-    ap negsuc (omega (arith, same))
-
 -- a text that begins with `-` is that of a number below 0, -(k + 1), and the bytes after it are digits
 pub minus_text : (w : int.Width) (z : ℤ) (text bytes : List ℕ) → IsSigned w z → get_or text 0 0 ≡ 45 → text ≡ signed_decimal z → bytes ≡ text
     → (k : ℕ) × (z ≡ negsuc k) × (k < 2 ^ 127) × (k < 2 ^ hbits w) × (take (length bytes - 1) (drop 1 bytes) ≡ decimal (suc k))

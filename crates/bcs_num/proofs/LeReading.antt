@@ -1,6 +1,7 @@
 -- What the calls on little-endian numbers read and write, by std's words.
 use Rattle.std.proofs.Common.{◌≡◌, ℕ, zero, suc, ◌+◌, ◌-◌, ◌*◌, ◌/◌, ◌%◌, ◌^◌, ◌<◌, ◌≤◌, ℤ, List, [], ◌∷◌, ◌++◌, length, take, get_or, refl, sym, ap, subst, ◌∙◌, arith, length-take, Result, Ok, Err}
 use Rattle.std.specs.Prelude.{IfOk, IsErrOf, ◌↔◌}
+use Rattle.std.specs.Result.{result_map_both}
 use Rattle.bcs_num.specs.declared.fault.NumFault.{NumFault}
 use Rattle.bcs_num.specs.declared.fault.NumFault.TheVariants.{EndOfInput}
 use Rattle.std.specs.Int as int
@@ -12,7 +13,7 @@ use Rattle.std.proofs.lemmas.Int.{to_z-of_z, of_z-to_z}
 use Rattle.std.proofs.lemmas.List.{take_at}
 use Rattle.std.proofs.lemmas.List.Elements.{All-head, All-tail, All-same, All-take}
 use Rattle.bcs_num.specs.Le.{IsUnsigned, IsSigned, low_bytes, le, le_signed}
-use Rattle.bcs_num.proofs.LeLaws.{width_bytes, length-le, le_injective, le_signed_injective, to_le_bytes-le}
+use Rattle.bcs_num.proofs.LeLaws.{width_bytes, cast_in_range, length-le, le_injective, le_signed_injective, to_le_bytes-le}
 
 -- the number that bytes write, the lowest first
 number_of : List ℕ → ℕ
@@ -112,24 +113,25 @@ SignedVerdict w bytes r = record {
   ended : IsErrOf r EndOfInput ↔ (length bytes < byte_len w);
 }
 
+-- what `take_le` takes, by two's complement
+pub signed_verdict : (w : int.Width) (bytes : List ℕ) (r : Result ℕ NumFault) (s : Result ℤ NumFault) → Verdict w bytes r → s ≡ result_map_both (cast_signed w) (λ e. e) r → SignedVerdict w bytes s
+signed_verdict w bytes (Ok n) s v is =
+    let back : cast_unsigned w (cast_signed w n) ≡ n = of_z-to_z w n v.found.0 in
+    let bytes_are : take (byte_len w) bytes ≡ le_signed w (cast_signed w n) = v.found.1 ∙ ap (le w) (sym back) in
+    rw is (record {
+      found = (sfits_to_z (Fits-of_lt v.found.0), bytes_are);
+      only = λ z fits is2. ap (λ (x : ℤ). Ok x) (le_signed_injective w (cast_signed w n) z (sfits_to_z (Fits-of_lt v.found.0)) fits (sym bytes_are ∙ is2));
+      ended = (λ e. absurd cc, λ short. absurd (let e = v.ended.1 short in cc));
+    })
+signed_verdict w bytes (Err e) s v is = rw is (record {
+  found = tt;
+  only = λ z fits is2. absurd (let no = v.only (cast_unsigned w z) (cast_in_range w z fits) is2 in cc);
+  ended = (λ same. v.ended.0 (let is : e ≡ EndOfInput = cc in ap Err is), λ short. let same = v.ended.1 short in let is : e ≡ EndOfInput = cc in ap Err is);
+})
+
 pub signed_taken : (w : int.Width) (bytes xs : List ℕ) (z : ℤ) → byte_len w ≤ length bytes → All (λ byte. byte < 256) bytes → xs ≡ take (byte_len w) bytes → z ≡ cast_signed w (from_le_bytes w xs) → SignedVerdict w bytes (Ok z)
 signed_taken w bytes xs z enough byte front is =
-    let number = number_read w bytes xs (from_le_bytes w xs) enough byte front refl in
-    let fits : IsSigned w z = subst (IsSigned w) (sym is) (sfits_to_z (Fits-of_lt number.0)) in
-    let back : cast_unsigned w z ≡ from_le_bytes w xs = ap (cast_unsigned w) is ∙ of_z-to_z w (from_le_bytes w xs) number.0 in
-    let bytes_are : take (byte_len w) bytes ≡ le_signed w z = number.1 ∙ ap (le w) (sym back) in
-    record {
-      found = (fits, bytes_are);
-      only = λ y fits2 is2. ap (λ (x : ℤ). Ok x) (le_signed_injective w z y fits fits2 (sym bytes_are ∙ is2));
-      ended = (λ e. absurd cc, λ short. absurd (omega arith));
-    }
-
-pub signed_not_taken : (w : int.Width) (bytes : List ℕ) (r : Result ℤ NumFault) → length bytes < byte_len w → r ≡ Err EndOfInput → SignedVerdict w bytes r
-signed_not_taken w bytes r short is = rw is (record {
-  found = tt;
-  only = λ z fits is2. absurd (omega (arith, ap length is2, length-le w (cast_unsigned w z), length-take (byte_len w) bytes));
-  ended = (λ e. short, λ _. refl);
-})
+    signed_verdict w bytes (Ok (from_le_bytes w xs)) (Ok z) (taken w bytes xs (from_le_bytes w xs) enough byte front refl) (ap (λ (x : ℤ). Ok x) is)
 
 -- a cast to a narrower width keeps a number that fits it
 pub cast_kept : (w : int.Width) (z : ℤ) → IsSigned w128 z → IsSigned w z → cast_unsigned w (cast_signed w (cast_unsigned w (cast_signed w128 (cast_unsigned w128 z)))) ≡ cast_unsigned w z

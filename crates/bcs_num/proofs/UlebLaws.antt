@@ -1,8 +1,6 @@
 -- Laws of ULEB128. Nothing but the first two looks into `uleb`.
-use Rattle.std.proofs.Common.{◌≡◌, ℕ, zero, suc, ◌+◌, ◌/◌, ◌%◌, ◌<◌, ◌≤◌, List, [], ◌∷◌, ◌++◌, length, refl, sym, ap, ◌∙◌, arith, inl, inr}
-use Rattle.std.specs.List.{All}
+use Rattle.std.proofs.Common.{◌≡◌, ℕ, zero, suc, ◌+◌, ◌/◌, ◌%◌, ◌<◌, ◌≤◌, List, [], ◌∷◌, ◌++◌, refl, sym, ap, ◌∙◌, arith, inl, inr}
 use Rattle.std.proofs.lemmas.Bool.{cases_lt, le-ltb, lt-ltb}
-use Rattle.std.proofs.lemmas.List.Elements.{All-nil, All-cons}
 use Rattle.bcs_num.specs.Uleb.{groups, uleb}
 
 groups_low : (k n : ℕ) → n < 128 → groups k n ≡ n ∷ []
@@ -43,17 +41,6 @@ uleb_by_groups P one more n = within n n (omega arith)
       | inl low ↦ one n low
       | inr high ↦ more n high (within k (n / 128) (omega arith))
     ]
-
-pub length-uleb_pos : (n : ℕ) → 0 < length (uleb n)
-length-uleb_pos n = elim (cases_lt n 128) [
-  | inl low ↦ rw (uleb-low n low) (omega arith)
-  | inr high ↦ rw (uleb-more n high) (omega arith)
-]
-
-pub All-uleb : (n : ℕ) → All (λ byte. byte < 256) (uleb n)
-All-uleb = uleb_by_groups (λ n. All (λ byte. byte < 256) (uleb n))
-    (λ n low. rw (uleb-low n low) (All-cons (λ byte. byte < 256) n [] (omega arith) (All-nil (λ byte. byte < 256))))
-    (λ n high rest. rw (uleb-more n high) (All-cons (λ byte. byte < 256) (128 + n % 128) (uleb (n / 128)) (omega arith) rest))
 
 -- ---- no number's bytes begin another's
 

@@ -7,11 +7,11 @@ use thiserror::Error;
 pub enum NumFault {
     /// The bytes end within the number.
     #[error("EndOfInput")]
-    EndOfInput,
+    EndOfInput = 1,
     /// The last byte of a ULEB128 number is `00` after another byte, so that a shorter form exists.
     #[error("LongForm")]
-    LongForm,
+    LongForm = 4,
     /// A ULEB128 number above 4294967295.
     #[error("NumberTooLarge")]
-    NumberTooLarge,
+    NumberTooLarge = 5,
 }

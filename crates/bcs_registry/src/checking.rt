@@ -7,8 +7,8 @@ ghost use Rattle.bcs_registry_model.specs.WellFormed.{IsWellFormed};
 
 use crate::registry::Registry;
 use bcs_registry_model::distinct::have_distinct_names;
-use bcs_registry_model::naming::numbers_by_name;
 use bcs_registry_model::rule::{Rule, all_keep};
+use bcs_registry_model::variant_numbers::numbers_by_name;
 use bcs_registry_model::{Container, RegistryFault};
 use std::alloc::Global;
 use std::collections::BTreeMap;

@@ -56,10 +56,6 @@ are_distinct-from_none s ns e =
     sym (all_new-is (λ q. false) ns ∙ ap (λ b. b && are_distinct ns) (all_pass ns))
     ∙ all_new-same (λ q. false) (has_name s) (λ q. ap (λ ks. list_any (is_at (λ k. slice_cmp nat_cmp q k.now)) ks) (sym e)) ns
 
--- a name that the set has
-pub all_new-repeated : (s : BTreeSet (Bor (List ℕ))) (n : List ℕ) (ns : List (List ℕ)) → has_name s n ≡ true → all_new (has_name s) (n ∷ ns) ≡ false
-all_new-repeated s n ns h = rw h refl
-
 as_key : List ℕ → Bor (List ℕ)
 as_key n = record { ref_ptr = (0, 0); now = n }
 

@@ -1,16 +1,16 @@
 -- The first fault that the program finds is the first fault, and no fault means that the registry grows.
-use Rattle.std.proofs.Common.{◌≡◌, ◌≢◌, ◌↔◌, ℕ, List, [], ◌∷◌, ◌++◌, Option, Some, None, is_some, Result, Ok, Err, Bool, true, false, cond, All, refl, sym, ap, subst, ◌∙◌}
+use Rattle.std.proofs.Common.{◌≡◌, ◌≢◌, ◌↔◌, ℕ, List, [], ◌∷◌, ◌++◌, Option, Some, None, is_some, Result, Ok, Err, Bool, true, false, All, refl, sym, ap, subst, ◌∙◌}
 use Rattle.std.specs.Option.{option_or, option_map_or}
 use Rattle.std.specs.Result.{result_err, IsOk, IsErrOf}
-use Rattle.std.proofs.lemmas.Bool.{false≢true, true≢false, and_parts, and_from}
+use Rattle.std.proofs.lemmas.Bool.{false≢true, true≢false}
 use Rattle.std.proofs.lemmas.List.Elements.{All-nil, All-cons, All-head, All-tail}
-use Rattle.std.proofs.lemmas.Slice.Eq.{bytes_eq-Decides}
 use Rattle.bcs_registry_model.specs.Container.{Payload, Choice, Container, unit_struct, newtype_struct, tuple_struct, field_struct, enumeration, Entries, container_at, choice_numbered}
-use Rattle.bcs_registry_model.specs.Growing.{first_fault, same_variant, choice_fault, changed_unless, container_fault, entry_fault, growth_fault}
+use Rattle.bcs_registry_model.specs.Equality.{same_variant, same_struct}
+use Rattle.bcs_registry_model.specs.Growing.{first_fault, fault_unless, choice_fault, container_fault, entry_fault, growth_fault}
 use Rattle.bcs_registry_model.specs.Grows.{IsFirst, HasChoice, LacksChoice, GrowsTo, BreaksTo, HasContainer, LacksContainer, Grows, IsFirstGrowthFault}
 use Rattle.bcs_registry_model.specs.declared.growth_fault.GrowthFault.{GrowthFault}
 use Rattle.bcs_registry_model.specs.declared.growth_fault.GrowthFault.TheVariants.{Missing, Changed, VariantMissing, VariantChanged}
-use Rattle.bcs_registry_model.proofs.Sameness.{same_shape-true, same_shapes-true, same_fields-true, same_payload-true, same_shape-refl, same_shapes-refl, same_fields-refl, same_payload-refl}
+use Rattle.bcs_registry_model.proofs.Sameness.{same_variant-true, same_struct-true, same_shape-refl, same_shapes-refl, same_fields-refl, same_variant-refl}
 
 some≢none : {A : Type 0} (x : A) → Some x ≡ None → ⊥
 some≢none x h = true≢false (ap is_some h)
@@ -59,52 +59,40 @@ module _ {X : Type 0} (fault : X → Option GrowthFault) where
 
 -- ---- variants
 
-same_variant-true : (v w : List ℕ × Payload) → same_variant v w ≡ true → v ≡ w
-same_variant-true v w h =
-    let named : v.0 ≡ w.0 = (bytes_eq-Decides v.0 w.0).0 (and_parts _ _ h).0 in
-    let paid : v.1 ≡ w.1 = same_payload-true v.1 w.1 (and_parts _ _ h).1 in
-    ap (λ n. (n, v.1)) named ∙ ap (λ p. (w.0, p)) paid
+unless-none : (e : GrowthFault) (b : Bool) → fault_unless e b ≡ None → b ≡ true
+unless-none e true h = refl
+unless-none e false h = absurd (some≢none e h)
 
-same_variant-refl : (v : List ℕ × Payload) → same_variant v v ≡ true
-same_variant-refl v = and_from _ _ ((bytes_eq-Decides v.0 v.0).1 refl) (same_payload-refl v.1)
+unless-unlike : (e : GrowthFault) (b : Bool) → (b ≡ true → ⊥) → fault_unless e b ≡ Some e
+unless-unlike e true h = absurd (h refl)
+unless-unlike e false h = refl
 
-abbrev compared : Bool → Option GrowthFault
-compared same = cond same None (Some VariantChanged)
+unless-some : (e g : GrowthFault) (b : Bool) → fault_unless e b ≡ Some g → (b ≡ false) × (e ≡ g)
+unless-some e g true h = absurd (some≢none g (sym h))
+unless-some e g false h = (refl, cc)
 
 abbrev found : List ℕ × Payload → Option (List ℕ × Payload) → Option GrowthFault
-found v o = option_map_or (λ w. compared (same_variant v w)) o (Some VariantMissing)
-
-compared-none : (b : Bool) → compared b ≡ None → b ≡ true
-compared-none true h = refl
-compared-none false h = absurd (some≢none VariantChanged h)
-
-compared-unlike : (b : Bool) → (b ≡ true → ⊥) → compared b ≡ Some VariantChanged
-compared-unlike true h = absurd (h refl)
-compared-unlike false h = refl
-
-compared-some : (b : Bool) (e : GrowthFault) → compared b ≡ Some e → (b ≡ false) × (VariantChanged ≡ e)
-compared-some true e h = absurd (some≢none e (sym h))
-compared-some false e h = (refl, cc)
+found v o = option_map_or (λ w. fault_unless VariantChanged (same_variant v w)) o (Some VariantMissing)
 
 found-none : (v : List ℕ × Payload) (o : Option (List ℕ × Payload)) → found v o ≡ None → o ≡ Some v
 found-none v None h = absurd (some≢none VariantMissing h)
-found-none v (Some w) h = ap Some (sym (same_variant-true v w (compared-none (same_variant v w) h)))
+found-none v (Some w) h = ap Some (sym (same_variant-true v w (unless-none VariantChanged (same_variant v w) h)))
 
 none-found : (v : List ℕ × Payload) (o : Option (List ℕ × Payload)) → o ≡ Some v → found v o ≡ None
-none-found v o h = ap (found v) h ∙ ap compared (same_variant-refl v)
+none-found v o h = ap (found v) h ∙ ap (fault_unless VariantChanged) (same_variant-refl v)
 
 found-missing : (v : List ℕ × Payload) (o : Option (List ℕ × Payload)) → found v o ≡ Some VariantMissing → o ≡ None
 found-missing v None h = refl
-found-missing v (Some w) h = let e = (compared-some (same_variant v w) VariantMissing h).1 in absurd cc
+found-missing v (Some w) h = let e = (unless-some VariantChanged VariantMissing (same_variant v w) h).1 in absurd cc
 
 found-changed : (v : List ℕ × Payload) (o : Option (List ℕ × Payload)) → found v o ≡ Some VariantChanged → (w : List ℕ × Payload) × (o ≡ Some w) × (w ≢ v)
 found-changed v None h = absurd cc
 found-changed v (Some w) h =
-    (w, refl, λ e. true≢false (sym (ap (same_variant v) e ∙ same_variant-refl v) ∙ (compared-some (same_variant v w) VariantChanged h).0))
+    (w, refl, λ e. true≢false (sym (ap (same_variant v) e ∙ same_variant-refl v) ∙ (unless-some VariantChanged VariantChanged (same_variant v w) h).0))
 
 found-other : (v : List ℕ × Payload) (o : Option (List ℕ × Payload)) (e : GrowthFault) → (VariantMissing ≡ e → ⊥) → (VariantChanged ≡ e → ⊥) → found v o ≡ Some e → ⊥
 found-other v None e m c h = m cc
-found-other v (Some w) e m c h = c (compared-some (same_variant v w) e h).1
+found-other v (Some w) e m c h = c (unless-some VariantChanged e (same_variant v w) h).1
 
 has_choice-from_none : (ds : List Choice) (c : Choice) → choice_fault ds c ≡ None → HasChoice ds c
 has_choice-from_none ds c h = found-none c.1 (choice_numbered c.0 ds) h
@@ -121,65 +109,34 @@ lacks_choice-from_some ds Changed c h = found-other c.1 (choice_numbered c.0 ds)
 some-from_lacks_choice : (ds : List Choice) (e : GrowthFault) (c : Choice) → LacksChoice ds e c → choice_fault ds c ≡ Some e
 some-from_lacks_choice ds VariantMissing c h = ap (found c.1) h
 some-from_lacks_choice ds VariantChanged c h =
-    ap (found c.1) h.1 ∙ compared-unlike (same_variant c.1 h.0) (λ e. h.2 (sym (same_variant-true c.1 h.0 e)))
+    ap (found c.1) h.1 ∙ unless-unlike VariantChanged (same_variant c.1 h.0) (λ e. h.2 (sym (same_variant-true c.1 h.0 e)))
 some-from_lacks_choice ds Missing c h = absurd h
 some-from_lacks_choice ds Changed c h = absurd h
 
 -- ---- containers
 
-unless-none : (b : Bool) → changed_unless b ≡ None → b ≡ true
-unless-none true h = refl
-unless-none false h = absurd (some≢none Changed h)
-
-unless-unlike : (b : Bool) → (b ≡ true → ⊥) → changed_unless b ≡ Some Changed
-unless-unlike true h = absurd (h refl)
-unless-unlike false h = refl
-
-unless-some : (b : Bool) (e : GrowthFault) → changed_unless b ≡ Some e → Changed ≡ e
-unless-some true e h = absurd (some≢none e (sym h))
-unless-some false e h = cc
-
 grows_to-from_none : (c d : Container) → container_fault c d ≡ None → GrowsTo c d
-grows_to-from_none unit_struct unit_struct h = refl
-grows_to-from_none (newtype_struct s) (newtype_struct t) h = ap newtype_struct (same_shape-true s t (unless-none _ h))
-grows_to-from_none (tuple_struct ss) (tuple_struct ts) h = ap tuple_struct (same_shapes-true ss ts (unless-none _ h))
-grows_to-from_none (field_struct fs) (field_struct gs) h = ap field_struct (same_fields-true fs gs (unless-none _ h))
 grows_to-from_none (enumeration cs) (enumeration ds) h = good-from_none (choice_fault ds) (HasChoice ds) (has_choice-from_none ds) cs h
-grows_to-from_none _ _ h = absurd (some≢none Changed h)
+grows_to-from_none c d h = same_struct-true c d (unless-none Changed (same_struct c d) h)
 
 none-from_grows_to : (c d : Container) → GrowsTo c d → container_fault c d ≡ None
-none-from_grows_to unit_struct unit_struct h = refl
-none-from_grows_to (newtype_struct s) (newtype_struct t) h = ap (container_fault (newtype_struct s)) (sym h) ∙ ap changed_unless (same_shape-refl s)
-none-from_grows_to (tuple_struct ss) (tuple_struct ts) h = ap (container_fault (tuple_struct ss)) (sym h) ∙ ap changed_unless (same_shapes-refl ss)
-none-from_grows_to (field_struct fs) (field_struct gs) h = ap (container_fault (field_struct fs)) (sym h) ∙ ap changed_unless (same_fields-refl fs)
+none-from_grows_to unit_struct d h = ap (container_fault unit_struct) (sym h)
+none-from_grows_to (newtype_struct s) d h = ap (container_fault (newtype_struct s)) (sym h) ∙ ap (fault_unless Changed) (same_shape-refl s)
+none-from_grows_to (tuple_struct ss) d h = ap (container_fault (tuple_struct ss)) (sym h) ∙ ap (fault_unless Changed) (same_shapes-refl ss)
+none-from_grows_to (field_struct fs) d h = ap (container_fault (field_struct fs)) (sym h) ∙ ap (fault_unless Changed) (same_fields-refl fs)
 none-from_grows_to (enumeration cs) (enumeration ds) h = none-from_good (choice_fault ds) (HasChoice ds) (none-from_has_choice ds) cs h
-none-from_grows_to _ _ h = absurd cc
-
--- a container that is unchanged beside itself, and another beside which it has the fault e
-unlike-from_some : (c d : Container) (e : GrowthFault) → container_fault c c ≡ None → container_fault c d ≡ Some e → c ≢ d
-unlike-from_some c d e self h q = some≢none e (sym h ∙ ap (container_fault c) (sym q) ∙ self)
+none-from_grows_to (enumeration cs) _ h = absurd cc
 
 breaks_to-from_some : (e : GrowthFault) (c d : Container) → container_fault c d ≡ Some e → BreaksTo e c d
-breaks_to-from_some e unit_struct unit_struct h = absurd (some≢none e (sym h))
-breaks_to-from_some e (newtype_struct s) (newtype_struct t) h =
-    subst (λ g. BreaksTo g (newtype_struct s) (newtype_struct t)) (unless-some _ e h) (unlike-from_some (newtype_struct s) (newtype_struct t) e (ap changed_unless (same_shape-refl s)) h)
-breaks_to-from_some e (tuple_struct ss) (tuple_struct ts) h =
-    subst (λ g. BreaksTo g (tuple_struct ss) (tuple_struct ts)) (unless-some _ e h) (unlike-from_some (tuple_struct ss) (tuple_struct ts) e (ap changed_unless (same_shapes-refl ss)) h)
-breaks_to-from_some e (field_struct fs) (field_struct gs) h =
-    subst (λ g. BreaksTo g (field_struct fs) (field_struct gs)) (unless-some _ e h) (unlike-from_some (field_struct fs) (field_struct gs) e (ap changed_unless (same_fields-refl fs)) h)
 breaks_to-from_some e (enumeration cs) (enumeration ds) h =
     first-from_some (choice_fault ds) (HasChoice ds) (LacksChoice ds e) e (has_choice-from_none ds) (lacks_choice-from_some ds e) cs h
-breaks_to-from_some Changed _ _ h = λ q. absurd cc
-breaks_to-from_some _ _ _ h = absurd cc
+breaks_to-from_some e c d h =
+    subst (λ g. BreaksTo g c d) (unless-some Changed e (same_struct c d) h).1 (λ q. some≢none e (sym h ∙ none-from_grows_to c d q))
 
 some-from_breaks_to : (e : GrowthFault) (c d : Container) → BreaksTo e c d → container_fault c d ≡ Some e
 some-from_breaks_to e (enumeration cs) (enumeration ds) h =
     some-from_first (choice_fault ds) (HasChoice ds) (LacksChoice ds e) e (none-from_has_choice ds) (some-from_lacks_choice ds e) cs h
-some-from_breaks_to Changed unit_struct unit_struct h = absurd (h refl)
-some-from_breaks_to Changed (newtype_struct s) (newtype_struct t) h = unless-unlike _ (λ b. h (ap newtype_struct (same_shape-true s t b)))
-some-from_breaks_to Changed (tuple_struct ss) (tuple_struct ts) h = unless-unlike _ (λ b. h (ap tuple_struct (same_shapes-true ss ts b)))
-some-from_breaks_to Changed (field_struct fs) (field_struct gs) h = unless-unlike _ (λ b. h (ap field_struct (same_fields-true fs gs b)))
-some-from_breaks_to Changed _ _ h = refl
+some-from_breaks_to Changed c d h = unless-unlike Changed (same_struct c d) (λ same. h (same_struct-true c d same))
 some-from_breaks_to _ _ _ h = absurd h
 
 none_missing : (c d : Container) → BreaksTo Missing c d → ⊥

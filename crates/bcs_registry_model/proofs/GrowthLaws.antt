@@ -65,9 +65,6 @@ looked_up_stays (Some c) p h =
 pub content_at-grows : (older newer : Entries) → Grows older newer → (n : List ℕ) → StaysIn (content_at n older) (content_at n newer)
 content_at-grows older newer grows n = looked_up_stays (container_at n older) (container_at n newer) (container_at-grows older newer grows n)
 
-paid : List ℕ × Payload → Content
-paid v = of (payload_shape v.1)
-
 chosen_stays : (o p : Option (List ℕ × Payload)) → ((v : List ℕ × Payload) → o ≡ Some v → p ≡ Some v) → StaysIn (option_map_or (λ v. of (payload_shape v.1)) o nothing) (option_map_or (λ v. of (payload_shape v.1)) p nothing)
 chosen_stays None p h = tt {0}
 chosen_stays (Some v) p h = subst (λ q. StaysIn (of (payload_shape v.1)) (option_map_or (λ v. of (payload_shape v.1)) q nothing)) (sym (h v refl)) refl
@@ -75,25 +72,6 @@ chosen_stays (Some v) p h = subst (λ q. StaysIn (of (payload_shape v.1)) (optio
 -- what stands in a variant stays
 pub choice_at-grows : (cs ds : List Choice) → HasChoices cs ds → (n : ℕ) → StaysIn (choice_at n cs) (choice_at n ds)
 choice_at-grows cs ds has n = chosen_stays (choice_numbered n cs) (choice_numbered n ds) (has n)
-
-stays_of : (s : Shape) (d : Content) → StaysIn (of s) d → d ≡ of s
-stays_of s (of t) h = ap of (sym h)
-stays_of s (one_of ds) h = absurd h
-stays_of s nothing h = absurd h
-
-stays_one_of : (cs : List Choice) (d : Content) → StaysIn (one_of cs) d → (ds : List Choice) × (d ≡ one_of ds) × HasChoices cs ds
-stays_one_of cs (one_of ds) h = (ds, refl, h)
-stays_one_of cs (of t) h = absurd h
-stays_one_of cs nothing h = absurd h
-
--- a format that stands in a container stays the same
-pub content_at-of-grows : (older newer : Entries) → Grows older newer → (n : List ℕ) (s : Shape) → content_at n older ≡ of s → content_at n newer ≡ of s
-content_at-of-grows older newer grows n s h = stays_of s (content_at n newer) (subst (λ c. StaysIn c (content_at n newer)) h (content_at-grows older newer grows n))
-
--- an enum stays one, and has each of its variants
-pub content_at-one_of-grows : (older newer : Entries) → Grows older newer → (n : List ℕ) (cs : List Choice) → content_at n older ≡ one_of cs
-    → (ds : List Choice) × (content_at n newer ≡ one_of ds) × HasChoices cs ds
-content_at-one_of-grows older newer grows n cs h = stays_one_of cs (content_at n newer) (subst (λ c. StaysIn c (content_at n newer)) h (content_at-grows older newer grows n))
 
 known_stays : (o p : Option Container) → ((c : Container) → o ≡ Some c → (d : Container) × (p ≡ Some d) × GrowsTo c d) → is_some o ≡ true → is_some p ≡ true
 known_stays None p h is = absurd (false≢true is)

@@ -1,5 +1,5 @@
 -- The tests of equality answer equality.
-use Rattle.std.proofs.Common.{◌≡◌, List, [], ◌∷◌, length, map, true, false, ◌&&◌, ◌==◌, refl, ap, ◌∙◌, arith}
+use Rattle.std.proofs.Common.{◌≡◌, ℕ, List, [], ◌∷◌, length, map, true, false, ◌&&◌, ◌==◌, refl, ap, ◌∙◌, arith}
 use Rattle.std.specs.Int.{Width, w8, w16, w32, w64, w128}
 use Rattle.std.specs.Str.{bytes_eq}
 use Rattle.std.proofs.Math.Bool.{and-false}
@@ -9,8 +9,8 @@ use Rattle.std.proofs.lemmas.Slice.Eq.{bytes_eq-Decides}
 use Rattle.bcs_registry_model.specs.Shape as shape
 use Rattle.bcs_registry_model.specs.Shape.{Unsupported, float32, float64, character, Shape, Shapes, no_shapes, shape}
 use Rattle.bcs_registry_model.specs.Container as container
-use Rattle.bcs_registry_model.specs.Container.{Field, Payload}
-use Rattle.bcs_registry_model.specs.Equality.{same_width, same_unsupported, same_shape, same_shapes, same_fields, same_payload}
+use Rattle.bcs_registry_model.specs.Container.{Field, Payload, Container}
+use Rattle.bcs_registry_model.specs.Equality.{same_width, same_unsupported, same_shape, same_shapes, same_fields, same_payload, same_variant, same_struct}
 use Rattle.bcs_registry_model.specs.View.{shape_of, formats_shapes, field_of}
 use Rattle.bcs_registry_model.specs.declared.format.Format.{Format}
 use Rattle.bcs_registry_model.specs.declared.named.Named.{Named}
@@ -49,7 +49,7 @@ same_unsupported-true character character h = refl
 same_unsupported-true _ _ h = absurd (false≢true h)
 
 mutual
-  pub same_shape-true : (s t : Shape) → same_shape s t ≡ true → s ≡ t
+  same_shape-true : (s t : Shape) → same_shape s t ≡ true → s ≡ t
   same_shape-true shape.unit shape.unit h = refl
   same_shape-true shape.truth shape.truth h = refl
   same_shape-true (shape.unsigned v) (shape.unsigned w) h = ap shape.unsigned (same_width-true v w h)
@@ -67,14 +67,14 @@ mutual
       ap (λ k. shape.array s k) ((Decides-eqb m n).0 (and_parts _ _ h).0) ∙ ap (λ u. shape.array u n) (same_shape-true s t (and_parts (m == n) _ h).1)
   same_shape-true _ _ h = absurd (false≢true h)
 
-  pub same_shapes-true : (ss ts : Shapes) → same_shapes ss ts ≡ true → ss ≡ ts
+  same_shapes-true : (ss ts : Shapes) → same_shapes ss ts ≡ true → ss ≡ ts
   same_shapes-true no_shapes no_shapes h = refl
   same_shapes-true (shape s ss) (shape t ts) h =
       ap (λ u. shape u ss) (same_shape-true s t (and_parts _ _ h).0) ∙ ap (λ us. shape t us) (same_shapes-true ss ts (and_parts (same_shape s t) _ h).1)
   same_shapes-true no_shapes (shape t ts) h = absurd (false≢true h)
   same_shapes-true (shape s ss) no_shapes h = absurd (false≢true h)
 
-pub same_fields-true : (fs gs : List Field) → same_fields fs gs ≡ true → fs ≡ gs
+same_fields-true : (fs gs : List Field) → same_fields fs gs ≡ true → fs ≡ gs
 same_fields-true [] [] h = refl
 same_fields-true (f ∷ fs) (g ∷ gs) h =
     let both = (and_parts _ _ h).0 in
@@ -85,12 +85,25 @@ same_fields-true (f ∷ fs) (g ∷ gs) h =
 same_fields-true [] (g ∷ gs) h = absurd (false≢true h)
 same_fields-true (f ∷ fs) [] h = absurd (false≢true h)
 
-pub same_payload-true : (p q : Payload) → same_payload p q ≡ true → p ≡ q
+same_payload-true : (p q : Payload) → same_payload p q ≡ true → p ≡ q
 same_payload-true container.unit container.unit h = refl
 same_payload-true (container.newtype s) (container.newtype t) h = ap container.newtype (same_shape-true s t h)
 same_payload-true (container.tuple ss) (container.tuple ts) h = ap container.tuple (same_shapes-true ss ts h)
 same_payload-true (container.fields fs) (container.fields gs) h = ap container.fields (same_fields-true fs gs h)
 same_payload-true _ _ h = absurd (false≢true h)
+
+pub same_variant-true : (v w : List ℕ × Payload) → same_variant v w ≡ true → v ≡ w
+same_variant-true v w h =
+    let named : v.0 ≡ w.0 = (bytes_eq-Decides v.0 w.0).0 (and_parts _ _ h).0 in
+    let paid : v.1 ≡ w.1 = same_payload-true v.1 w.1 (and_parts _ _ h).1 in
+    ap (λ n. (n, v.1)) named ∙ ap (λ p. (w.0, p)) paid
+
+pub same_struct-true : (c d : Container) → same_struct c d ≡ true → c ≡ d
+same_struct-true container.unit_struct container.unit_struct h = refl
+same_struct-true (container.newtype_struct s) (container.newtype_struct t) h = ap container.newtype_struct (same_shape-true s t h)
+same_struct-true (container.tuple_struct ss) (container.tuple_struct ts) h = ap container.tuple_struct (same_shapes-true ss ts h)
+same_struct-true (container.field_struct fs) (container.field_struct gs) h = ap container.field_struct (same_fields-true fs gs h)
+same_struct-true _ _ h = absurd (false≢true h)
 
 -- ---- what is equal passes
 
@@ -130,8 +143,11 @@ pub same_fields-refl : (fs : List Field) → same_fields fs fs ≡ true
 same_fields-refl [] = refl
 same_fields-refl (f ∷ fs) = and_from _ _ (and_from _ _ ((bytes_eq-Decides f.0 f.0).1 refl) (same_shape-refl f.1)) (same_fields-refl fs)
 
-pub same_payload-refl : (p : Payload) → same_payload p p ≡ true
+same_payload-refl : (p : Payload) → same_payload p p ≡ true
 same_payload-refl container.unit = refl
 same_payload-refl (container.newtype s) = same_shape-refl s
 same_payload-refl (container.tuple ss) = same_shapes-refl ss
 same_payload-refl (container.fields fs) = same_fields-refl fs
+
+pub same_variant-refl : (v : List ℕ × Payload) → same_variant v v ≡ true
+same_variant-refl v = and_from _ _ ((bytes_eq-Decides v.0 v.0).1 refl) (same_payload-refl v.1)

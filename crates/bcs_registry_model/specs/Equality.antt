@@ -1,12 +1,12 @@
--- Whether two formats, two rows of fields or two payloads are one, as a test.
-use Rattle.std.specs.Prelude.{List, [], ◌∷◌, Bool, true, false, ◌&&◌, ◌==◌}
+-- Whether two formats, two rows of fields, two variants or two structs are one, as a test.
+use Rattle.std.specs.Prelude.{ℕ, List, [], ◌∷◌, Bool, true, false, ◌&&◌, ◌==◌}
 use Rattle.std.specs.Int.{Width}
 use Rattle.std.specs.Str.{bytes_eq}
 use mir.Val.{bits}
 use Rattle.bcs_registry_model.specs.Shape as shape
 use Rattle.bcs_registry_model.specs.Shape.{Unsupported, float32, float64, character, Shape, Shapes, no_shapes, shape}
 use Rattle.bcs_registry_model.specs.Container as container
-use Rattle.bcs_registry_model.specs.Container.{Field, Payload}
+use Rattle.bcs_registry_model.specs.Container.{Field, Payload, Container}
 
 abbrev pub same_width : Width → Width → Bool
 same_width v w = bits v == bits w
@@ -52,3 +52,15 @@ same_payload (container.newtype s) (container.newtype t) = same_shape s t
 same_payload (container.tuple ss) (container.tuple ts) = same_shapes ss ts
 same_payload (container.fields fs) (container.fields gs) = same_fields fs gs
 same_payload _ _ = false
+
+-- by name and payload
+abbrev pub same_variant : List ℕ × Payload → List ℕ × Payload → Bool
+same_variant v w = bytes_eq v.0 w.0 && same_payload v.1 w.1
+
+-- both are structs, of whichever kind, and one
+abbrev pub same_struct : Container → Container → Bool
+same_struct container.unit_struct container.unit_struct = true
+same_struct (container.newtype_struct s) (container.newtype_struct t) = same_shape s t
+same_struct (container.tuple_struct ss) (container.tuple_struct ts) = same_shapes ss ts
+same_struct (container.field_struct fs) (container.field_struct gs) = same_fields fs gs
+same_struct _ _ = false

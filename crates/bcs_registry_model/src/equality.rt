@@ -1,15 +1,60 @@
-//! Whether two formats, two rows of fields or two payloads are one.
-ghost use Rattle.std.specs.Prelude.{◌≡◌, map};
-ghost use Rattle.bcs_registry_model.specs.Equality.{same_shape, same_shapes, same_fields, same_payload};
-ghost use Rattle.bcs_registry_model.specs.View.{shape_of, formats_shapes, field_of, payload_of};
+//! Whether two variants or two structs are one, and the formats in them.
+ghost use Rattle.std.specs.Prelude.{◌≡◌, map, string_bytes};
+ghost use Rattle.bcs_registry_model.specs.Equality.{same_shape, same_shapes, same_fields, same_payload, same_variant, same_struct};
+ghost use Rattle.bcs_registry_model.specs.View.{shape_of, formats_shapes, field_of, payload_of, container_of};
 
+use crate::container::Container;
 use crate::format::Format;
 use crate::named::Named;
 use crate::variant_format::VariantFormat;
 
-/// Whether two formats are one.
+/// Whether both containers are structs, of whichever kind, and one.
+pub fn is_same_struct(one: &Container, other: &Container) -> bool
+    ensures { result ≡ same_struct (container_of one.now) (container_of other.now) }
+{
+    match (one, other) {
+        (Container::UnitStruct, Container::UnitStruct) => true,
+        (Container::NewTypeStruct(one), Container::NewTypeStruct(other)) => {
+            is_same_format(one, other)
+        }
+        (Container::TupleStruct(ones), Container::TupleStruct(others)) => {
+            are_same_formats(ones.as_slice(), others.as_slice())
+        }
+        (Container::Struct(ones), Container::Struct(others)) => {
+            are_same_fields(ones.as_slice(), others.as_slice())
+        }
+        _ => false,
+    }
+}
+
+/// Whether two variants have one name and one payload.
+pub fn is_same_variant(one: &Named<VariantFormat>, other: &Named<VariantFormat>) -> bool
+    ensures { result ≡ same_variant (string_bytes one.now.name, payload_of one.now.value)
+        (string_bytes other.now.name, payload_of other.now.value) }
+{
+    one.name == other.name && is_same_payload(&one.value, &other.value)
+}
+
+// Whether two payloads are one.
+fn is_same_payload(one: &VariantFormat, other: &VariantFormat) -> bool
+    ensures { result ≡ same_payload (payload_of one.now) (payload_of other.now) }
+{
+    match (one, other) {
+        (VariantFormat::Unit, VariantFormat::Unit) => true,
+        (VariantFormat::NewType(one), VariantFormat::NewType(other)) => is_same_format(one, other),
+        (VariantFormat::Tuple(ones), VariantFormat::Tuple(others)) => {
+            are_same_formats(ones.as_slice(), others.as_slice())
+        }
+        (VariantFormat::Struct(ones), VariantFormat::Struct(others)) => {
+            are_same_fields(ones.as_slice(), others.as_slice())
+        }
+        _ => false,
+    }
+}
+
+// Whether two formats are one.
 #[cycle(equality)]
-pub fn is_same_format(one: &Format, other: &Format) -> bool
+fn is_same_format(one: &Format, other: &Format) -> bool
     ensures { result ≡ same_shape (shape_of one.now) (shape_of other.now) }
 {
     match (one, other) {
@@ -47,9 +92,9 @@ pub fn is_same_format(one: &Format, other: &Format) -> bool
     }
 }
 
-/// Whether two rows have the same formats in the same order.
+// Whether two rows have the same formats in the same order.
 #[cycle(equality)]
-pub fn are_same_formats(ones: &[Format], others: &[Format]) -> bool
+fn are_same_formats(ones: &[Format], others: &[Format]) -> bool
     ensures { result ≡ same_shapes (formats_shapes ones.now) (formats_shapes others.now) }
 {
     if ones.len() != others.len() {
@@ -63,8 +108,8 @@ pub fn are_same_formats(ones: &[Format], others: &[Format]) -> bool
     true
 }
 
-/// Whether two rows have the same fields in the same order, by name and format.
-pub fn are_same_fields(ones: &[Named<Format>], others: &[Named<Format>]) -> bool
+// Whether two rows have the same fields in the same order, by name and format.
+fn are_same_fields(ones: &[Named<Format>], others: &[Named<Format>]) -> bool
     ensures { result ≡ same_fields (map field_of ones.now) (map field_of others.now) }
 {
     if ones.len() != others.len() {
@@ -76,21 +121,4 @@ pub fn are_same_fields(ones: &[Named<Format>], others: &[Named<Format>]) -> bool
         }
     }
     true
-}
-
-/// Whether two payloads are one.
-pub fn is_same_payload(one: &VariantFormat, other: &VariantFormat) -> bool
-    ensures { result ≡ same_payload (payload_of one.now) (payload_of other.now) }
-{
-    match (one, other) {
-        (VariantFormat::Unit, VariantFormat::Unit) => true,
-        (VariantFormat::NewType(one), VariantFormat::NewType(other)) => is_same_format(one, other),
-        (VariantFormat::Tuple(ones), VariantFormat::Tuple(others)) => {
-            are_same_formats(ones.as_slice(), others.as_slice())
-        }
-        (VariantFormat::Struct(ones), VariantFormat::Struct(others)) => {
-            are_same_fields(ones.as_slice(), others.as_slice())
-        }
-        _ => false,
-    }
 }

@@ -2,6 +2,7 @@
 ghost use Rattle.std.specs.Prelude.{◌≡◌};
 ghost use Rattle.bcs_registry_model.specs.FaultNames.{registry_fault_name};
 
+use std::alloc::{AllocError, AllocFailed};
 use thiserror::Error;
 
 /// Why a text is refused: the first of these whose fault stands anywhere in it. The message is the variant's name
@@ -10,7 +11,7 @@ use thiserror::Error;
 #[error("{}", self.name())]
 pub enum RegistryFault {
     /// `serde_json` doesn't read the text.
-    NotJson,
+    NotJson = 1,
     /// The JSON hasn't the shape of a registry, or of a format.
     BadShape,
     /// An enum number isn't plain decimal from 0 to 4294967295, or a `SIZE` isn't a whole number from 0 to
@@ -40,5 +41,25 @@ impl RegistryFault {
             RegistryFault::UnknownName => "UnknownName",
             RegistryFault::OutOfMemory => "OutOfMemory",
         }
+    }
+}
+
+impl From<AllocError> for RegistryFault {
+    ghost use Rattle.bcs_registry_model.specs.declared.fault.RegistryFault.TheVariants.{OutOfMemory};
+
+    ghost from_gives = { λ _ fault. fault ≡ OutOfMemory };
+
+    fn from(_: AllocError) -> RegistryFault {
+        RegistryFault::OutOfMemory
+    }
+}
+
+impl<T: Drop> From<AllocFailed<T>> for RegistryFault {
+    ghost use Rattle.bcs_registry_model.specs.declared.fault.RegistryFault.TheVariants.{OutOfMemory};
+
+    ghost from_gives = { λ _ fault. fault ≡ OutOfMemory };
+
+    fn from(_: AllocFailed<T>) -> RegistryFault {
+        RegistryFault::OutOfMemory
     }
 }

@@ -10,7 +10,7 @@ use thiserror::Error;
 #[error("{}", self.name())]
 pub enum GrowthFault {
     /// The newer registry has no container of this name.
-    Missing,
+    Missing = 1,
     /// The newer container differs, and they aren't both enums.
     Changed,
     /// Of two enums the newer one hasn't this number, the first faulty one upwards.

@@ -1,5 +1,5 @@
 //! Whether the names in formats are known.
-ghost use Rattle.std.specs.Prelude.{◌≡◌};
+ghost use Rattle.std.specs.Prelude.{◌≡◌, is_none};
 ghost use Rattle.bcs_registry_model.specs.View.{shape_of, formats_shapes, entries_of};
 ghost use Rattle.bcs_registry_model.specs.WellFormed as spec;
 
@@ -8,30 +8,51 @@ use crate::format::Format;
 use std::collections::BTreeMap;
 
 /// Whether each `TypeName` in the format is a name of the map.
-#[cycle(known)]
 pub fn is_known(format: &Format, containers: &BTreeMap<String, Container>) -> bool
     ensures { result ≡ spec.is_known (entries_of containers.now.entries) (shape_of format.now) }
 {
+    first_unknown(format, containers).is_none()
+}
+
+/// The first name in the format, as it is read, that is no name of the map.
+#[cycle(known)]
+pub fn first_unknown<'a>(
+    format: &'a Format,
+    containers: &BTreeMap<String, Container>,
+) -> Option<&'a str>
+    ensures { is_none result
+        ≡ spec.is_known (entries_of containers.now.entries) (shape_of format.now) }
+{
     match format {
-        Format::TypeName(name) => containers.contains_key(name.as_str()),
+        Format::TypeName(name) => if containers.contains_key(name.as_str()) {
+            None
+        } else {
+            Some(name.as_str())
+        },
         Format::Opt(inner) | Format::Seq(inner) | Format::TupleArray(inner, _) => {
-            is_known(inner, containers)
+            first_unknown(inner, containers)
         }
-        Format::Map(key, value) => is_known(key, containers) && is_known(value, containers),
-        Format::Tuple(formats) => are_known(formats.as_slice(), containers),
-        _ => true,
+        Format::Map(key, value) => match first_unknown(key, containers) {
+            Some(name) => Some(name),
+            None => first_unknown(value, containers),
+        },
+        Format::Tuple(formats) => first_unknown_among(formats.as_slice(), containers),
+        _ => None,
     }
 }
 
 #[cycle(known)]
-fn are_known(formats: &[Format], containers: &BTreeMap<String, Container>) -> bool
-    ensures { result ≡ spec.are_known (entries_of containers.now.entries)
-        (formats_shapes formats.now) }
+fn first_unknown_among<'a>(
+    formats: &'a [Format],
+    containers: &BTreeMap<String, Container>,
+) -> Option<&'a str>
+    ensures { is_none result
+        ≡ spec.are_known (entries_of containers.now.entries) (formats_shapes formats.now) }
 {
     for format in formats {
-        if !is_known(format, containers) {
-            return false;
+        if let Some(name) = first_unknown(format, containers) {
+            return Some(name);
         }
     }
-    true
+    None
 }

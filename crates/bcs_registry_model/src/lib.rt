@@ -10,12 +10,11 @@ pub mod growth;
 mod growth_fault;
 pub mod known;
 pub mod levels;
+pub mod mentions;
 mod named;
-pub mod naming;
-mod out_of_memory;
 pub mod rule;
 mod variant_format;
-mod variant_numbers;
+pub mod variant_numbers;
 mod whole_number;
 
 pub use container::Container;

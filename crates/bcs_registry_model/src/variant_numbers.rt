@@ -1,13 +1,20 @@
 //! The numbers of a registry's variants by name.
-ghost use Rattle.std.specs.Prelude.{◌≡◌};
-ghost use Rattle.bcs_registry_model.specs.Names.{number_found};
+ghost use Rattle.std.specs.Prelude.{◌≡◌, ℕ, List, IfOk, map};
+ghost use Rattle.std.specs.BTreeMap.{get_by_text};
+ghost use Rattle.bcs_registry_model.specs.Container.{enumeration, number_called};
+ghost use Rattle.bcs_registry_model.specs.Names.{number_found, FindsNumbers};
+ghost use Rattle.bcs_registry_model.specs.View.{choice_of, entries_of};
 
+use crate::container::Container;
+use crate::named::Named;
+use crate::variant_format::VariantFormat;
+use std::alloc::{AllocError, Global};
 use std::collections::BTreeMap;
 
 /// The numbers of variants, by the name of the enum and that of the variant. What is no enum has no entry.
 #[derive(Drop)]
 pub struct VariantNumbers {
-    pub(crate) by_enum: BTreeMap<String, BTreeMap<String, u32>>,
+    by_enum: BTreeMap<String, BTreeMap<String, u32>>,
 }
 
 impl VariantNumbers {
@@ -17,4 +24,39 @@ impl VariantNumbers {
     {
         self.by_enum.get(container)?.get(variant).copied()
     }
+}
+
+/// The numbers of the variants of each enum among the containers. Fails only for want of memory.
+pub fn numbers_by_name(
+    alloc: Global,
+    containers: &BTreeMap<String, Container>,
+) -> Result<VariantNumbers, AllocError>
+    ensures { IfOk result (λ n. FindsNumbers n (entries_of containers.now.entries)) }
+{
+    let mut by_enum = BTreeMap::new(alloc);
+    for (name, container) in containers {
+        if let Container::Enum(variants) = container {
+            let numbers = numbers_of(alloc, variants)?;
+            drop(by_enum.insert(name.clone()?, numbers)?);
+        }
+    }
+    Ok(VariantNumbers { by_enum })
+}
+
+/// The numbers of an enum's variants by name. Of variants with one name the first counts.
+fn numbers_of(
+    alloc: Global,
+    variants: &BTreeMap<u32, Named<VariantFormat>>,
+) -> Result<BTreeMap<String, u32>, AllocError>
+    ensures { IfOk result (λ m. (word : List ℕ)
+        → get_by_text m word
+        ≡ number_called word (enumeration (map choice_of variants.now.entries))) }
+{
+    let mut numbers = BTreeMap::new(alloc);
+    for (number, variant) in variants {
+        if !numbers.contains_key(variant.name.as_str()) {
+            drop(numbers.insert(variant.name.clone()?, *number)?);
+        }
+    }
+    Ok(numbers)
 }

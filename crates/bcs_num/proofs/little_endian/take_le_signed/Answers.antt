@@ -1,56 +1,13 @@
-use Rattle.std.proofs.Common.{◌<◌, ◌∙◌, rules}
-use Rattle.std.specs.Int.{w8, w16, w32, w64, w128}
+use Rattle.std.proofs.Common.{Ok, Err, ap, ◌∙◌, rules}
+use Rattle.std.specs.Int.{w128}
 use Rattle.std.proofs.lemmas.Int.{to_z-of_z}
-use Rattle.std.proofs.lemmas.List.Elements.{All-from_get_or}
-use Rattle.bcs_num.proofs.LeReading.{signed_taken, signed_not_taken, widening_kept}
+use Rattle.bcs_num.specs.Le.{width_of}
+use Rattle.bcs_num.proofs.LeReading.{signed_verdict}
 use Rattle.bcs_num.proofs.little_endian.take_le_signed.Goals as goal
 
-pub returns-in_err-front-in-W1 : goal.returns-in_err-front-in-W1
-returns-in_err-front-in-W1 c = rw c.in-W1.is (signed_not_taken w8 c.args.bytes.now c.from_residual.result c.in_err-front-in-W1.ensures.ended.1 (search rules))
+pub returns-in_err-n : goal.returns-in_err-n
+returns-in_err-n c = signed_verdict (width_of c.args.width) c.args.bytes.now (Err c.in_err-n.field-0.0) c.from_residual.result c.in_err-n.ensures (search rules)
 
-pub returns-in_ok-front-in-W1 : goal.returns-in_ok-front-in-W1
-returns-in_ok-front-in-W1 c =
-    rw c.in-W1.is (signed_taken w8 c.args.bytes.now c.in_ok-front-in-W1.field-0 _ c.in_ok-front-in-W1.ensures.found.0
-    (All-from_get_or (λ b. b < 256) c.args.bytes.now 0 (λ i _. (c.type_inv.bytes i).fits))
-    c.in_ok-front-in-W1.ensures.found.1
-    (widening_kept w8 c.from_le_bytes.result _ _ (record { sfits = c.from.type_inv }) (record { sfits = c.from_le_bytes.type_inv }) c.from.ensures c.from_le_bytes.ensures))
-
-pub returns-in_err-front-in-W2 : goal.returns-in_err-front-in-W2
-returns-in_err-front-in-W2 c = rw c.in-W2.is (signed_not_taken w16 c.args.bytes.now c.from_residual-in_err-front-in-W2.result c.in_err-front-in-W2.ensures.ended.1 (search rules))
-
-pub returns-in_ok-front-in-W2 : goal.returns-in_ok-front-in-W2
-returns-in_ok-front-in-W2 c =
-    rw c.in-W2.is (signed_taken w16 c.args.bytes.now c.in_ok-front-in-W2.field-0 _ c.in_ok-front-in-W2.ensures.found.0
-    (All-from_get_or (λ b. b < 256) c.args.bytes.now 0 (λ i _. (c.type_inv.bytes i).fits))
-    c.in_ok-front-in-W2.ensures.found.1
-    (widening_kept w16 c.from_le_bytes-in-W2.result _ _ (record { sfits = c.from-in-W2.type_inv }) (record { sfits = c.from_le_bytes-in-W2.type_inv }) c.from-in-W2.ensures c.from_le_bytes-in-W2.ensures))
-
-pub returns-in_err-front-in-W4 : goal.returns-in_err-front-in-W4
-returns-in_err-front-in-W4 c = rw c.in-W4.is (signed_not_taken w32 c.args.bytes.now c.from_residual-in_err-front-in-W4.result c.in_err-front-in-W4.ensures.ended.1 (search rules))
-
-pub returns-in_ok-front-in-W4 : goal.returns-in_ok-front-in-W4
-returns-in_ok-front-in-W4 c =
-    rw c.in-W4.is (signed_taken w32 c.args.bytes.now c.in_ok-front-in-W4.field-0 _ c.in_ok-front-in-W4.ensures.found.0
-    (All-from_get_or (λ b. b < 256) c.args.bytes.now 0 (λ i _. (c.type_inv.bytes i).fits))
-    c.in_ok-front-in-W4.ensures.found.1
-    (widening_kept w32 c.from_le_bytes-in-W4.result _ _ (record { sfits = c.from-in-W4.type_inv }) (record { sfits = c.from_le_bytes-in-W4.type_inv }) c.from-in-W4.ensures c.from_le_bytes-in-W4.ensures))
-
-pub returns-in_err-front-in-W8 : goal.returns-in_err-front-in-W8
-returns-in_err-front-in-W8 c = rw c.in-W8.is (signed_not_taken w64 c.args.bytes.now c.from_residual-in_err-front-in-W8.result c.in_err-front-in-W8.ensures.ended.1 (search rules))
-
-pub returns-in_ok-front-in-W8 : goal.returns-in_ok-front-in-W8
-returns-in_ok-front-in-W8 c =
-    rw c.in-W8.is (signed_taken w64 c.args.bytes.now c.in_ok-front-in-W8.field-0 _ c.in_ok-front-in-W8.ensures.found.0
-    (All-from_get_or (λ b. b < 256) c.args.bytes.now 0 (λ i _. (c.type_inv.bytes i).fits))
-    c.in_ok-front-in-W8.ensures.found.1
-    (widening_kept w64 c.from_le_bytes-in-W8.result _ _ (record { sfits = c.from-in-W8.type_inv }) (record { sfits = c.from_le_bytes-in-W8.type_inv }) c.from-in-W8.ensures c.from_le_bytes-in-W8.ensures))
-
-pub returns-in_err-front-in-W16 : goal.returns-in_err-front-in-W16
-returns-in_err-front-in-W16 c = rw c.in-W16.is (signed_not_taken w128 c.args.bytes.now c.from_residual-in_err-front-in-W16.result c.in_err-front-in-W16.ensures.ended.1 (search rules))
-
-pub returns-in_ok-front-in-W16 : goal.returns-in_ok-front-in-W16
-returns-in_ok-front-in-W16 c =
-    rw c.in-W16.is (signed_taken w128 c.args.bytes.now c.in_ok-front-in-W16.field-0 _ c.in_ok-front-in-W16.ensures.found.0
-    (All-from_get_or (λ b. b < 256) c.args.bytes.now 0 (λ i _. (c.type_inv.bytes i).fits))
-    c.in_ok-front-in-W16.ensures.found.1
-    (to_z-of_z w128 _ (record { sfits = c.from_le_bytes-in-W16.type_inv }) ∙ c.from_le_bytes-in-W16.ensures))
+pub returns : goal.returns
+returns c =
+    signed_verdict (width_of c.args.width) c.args.bytes.now (Ok c.in_ok-n.n) (Ok _) c.in_ok-n.ensures (ap Ok (to_z-of_z w128 c.signed.result (record { sfits = c.signed.type_inv }) ∙ c.signed.ensures))

@@ -3,7 +3,7 @@ use Rattle.bcs_registry_model.specs.View.{formats_shapes, entries_of}
 use Rattle.bcs_registry_model.specs.WellFormed as spec
 use Rattle.bcs_registry_model.proofs.known.+known.Given as goal
 
-abbrev pub invariant-are_known-loop-format : goal.invariant-are_known-loop-format
-invariant-are_known-loop-format l =
+abbrev pub invariant-first_unknown_among-loop-format : goal.invariant-first_unknown_among-loop-format
+invariant-first_unknown_among-loop-format l =
     spec.are_known (entries_of l.containers.entries) (formats_shapes l.formats)
     ≡ spec.are_known (entries_of l.containers.entries) (formats_shapes (drop l.format-index l.formats))

@@ -1,6 +1,6 @@
 use Rattle.std.proofs.Common.{◌≡◌, ℕ, List}
 use Rattle.bcs_registry_model.proofs.Gathering.{number_among, number_joined}
-use Rattle.bcs_registry_model.proofs.naming.numbers_of.Given as goal
+use Rattle.bcs_registry_model.proofs.variant_numbers.numbers_of.Given as goal
 
 -- what the map has, or else the variants that are left give, is what all give
 abbrev pub invariant-loop-number : goal.invariant-loop-number

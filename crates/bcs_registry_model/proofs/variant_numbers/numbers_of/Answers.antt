@@ -1,7 +1,7 @@
 use Rattle.std.proofs.Common.{◌∙◌, sym}
 use Rattle.bcs_registry_model.proofs.Rising.{Variant}
 use Rattle.bcs_registry_model.proofs.Gathering.{variant_put, variant_passed}
-use Rattle.bcs_registry_model.proofs.naming.numbers_of.Goals as goal
+use Rattle.bcs_registry_model.proofs.variant_numbers.numbers_of.Goals as goal
 
 pub loop-number-preserved-then-not-contains_key : goal.loop-number-preserved-then-not-contains_key
 loop-number-preserved-then-not-contains_key c = λ word.

@@ -1,20 +1,22 @@
 //! The names in formats.
 
-use bcs_registry_model::{Container, Format, Named, VariantFormat};
+use crate::{Container, Format, Named, VariantFormat};
 use std::alloc::{AllocError, Global};
 use std::collections::BTreeMap;
 
 /// Which names in formats are told.
 #[derive(Clone, Copy)]
-pub(crate) enum Mentions {
+pub enum Mentions {
     /// Each.
     All,
     /// Those outside lists and maps. A list may be empty and has no most, so its sizes rest on no others.
     Unlisted,
+    /// Those outside options, lists and maps, without which there is no value.
+    Needed,
 }
 
 /// The names in the container's formats, as they are read.
-pub(crate) fn names_in<'a>(
+pub fn names_in<'a>(
     alloc: Global,
     container: &'a Container,
     told: Mentions,
@@ -46,7 +48,8 @@ fn push_variant_names<'a>(
     Ok(())
 }
 
-fn push_field_names<'a>(
+/// Adds the names in the formats of fields.
+pub fn push_field_names<'a>(
     fields: &'a [Named<Format>],
     told: Mentions,
     names: &mut Vec<&'a str>,
@@ -57,8 +60,9 @@ fn push_field_names<'a>(
     Ok(())
 }
 
+/// Adds the names in formats that stand in a row.
 #[cycle(mentions)]
-fn push_row_names<'a>(
+pub fn push_row_names<'a>(
     formats: &'a [Format],
     told: Mentions,
     names: &mut Vec<&'a str>,
@@ -69,17 +73,19 @@ fn push_row_names<'a>(
     Ok(())
 }
 
+/// Adds the names in the format.
 #[cycle(mentions)]
-fn push_names<'a>(
+pub fn push_names<'a>(
     format: &'a Format,
     told: Mentions,
     names: &mut Vec<&'a str>,
 ) -> Result<(), AllocError> {
     match (format, told) {
         (Format::TypeName(name), _) => Ok(names.push(name.as_str())?),
-        (Format::Opt(inner) | Format::TupleArray(inner, _), _) => push_names(inner, told, names),
         (Format::Tuple(formats), _) => push_row_names(formats, told, names),
-        (Format::Seq(inner), Mentions::All) => push_names(inner, told, names),
+        (Format::TupleArray(inner, _), _)
+        | (Format::Opt(inner), Mentions::All | Mentions::Unlisted)
+        | (Format::Seq(inner), Mentions::All) => push_names(inner, told, names),
         (Format::Map(key, value), Mentions::All) => {
             push_names(key, told, names)?;
             push_names(value, told, names)

@@ -3,7 +3,7 @@ use Rattle.bcs_registry_model.specs.Container.{number_called}
 use Rattle.bcs_registry_model.specs.View.{container_of}
 use Rattle.bcs_registry_model.proofs.Rising.{Stored}
 use Rattle.bcs_registry_model.proofs.Gathering.{enum_put, no_number, other_passed, all_gathered}
-use Rattle.bcs_registry_model.proofs.naming.numbers_by_name.Goals as goal
+use Rattle.bcs_registry_model.proofs.variant_numbers.numbers_by_name.Goals as goal
 
 pub loop-name-preserved-in-Enum : goal.loop-name-preserved-in-Enum
 loop-name-preserved-in-Enum c =
