@@ -208,6 +208,24 @@ maps::each_entry-returns-in_err-value g t c =
       };
     }
 
+pub maps::each_entry-returns-in_err-keep_entry : goal.maps::each_entry-returns-in_err-keep_entry
+maps::each_entry-returns-in_err-keep_entry g t c =
+    let key = c.in_ok-next_key.ensures.reads in
+    let read = c.in_ok-value.ensures.reads in
+    record {
+      reads = Reads-exit c.from_residual-in_err-keep_entry.ensures.1 (record {
+        sees = tt;
+        failed = read.failed;
+        room = read.room;
+        goes = λ b l. (
+          c.value.new.reader.at.now.place,
+          (let first = c.loop.invariant.goes.later in let then_key = key.goes.later in let then_value = read.goes.later in omega arith),
+          read.goes.gone b (key.goes.gone b (c.loop.invariant.goes.gone b l)),
+        );
+        same = IsSame-then (IsSame-then c.loop.invariant.same key.same) read.same;
+      });
+    }
+
 pub maps::each_entry-loop-preserved : goal.maps::each_entry-loop-preserved
 maps::each_entry-loop-preserved g t c =
     let n = length c.args.reader.now.at.now.kept.items in
