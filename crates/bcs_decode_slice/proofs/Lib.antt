@@ -1,7 +1,7 @@
 pub mod Passings
 pub mod Steps
+pub mod NoParts
 pub mod PassingParts
-pub mod PassingNames
 pub mod WholeRows
 pub mod Reaching
 pub mod FixedParts

@@ -1,21 +1,20 @@
 -- Going past a value with values inside, part by part.
-use Rattle.std.proofs.Common.{◌≡◌, ℕ, zero, suc, ◌+◌, ◌-◌, ◌<◌, ◌≤◌, List, Option, Some, None, Bool, true, false, if◌then◌else◌, Box, Global, Ok, Err, refl, ap, ◌∙◌, arith}
+use Rattle.std.proofs.Common.{◌≡◌, ℕ, zero, suc, ◌+◌, ◌-◌, ◌<◌, ◌≤◌, List, Option, Some, None, Bool, true, false, if◌then◌else◌, Ok, Err, refl, ap, ◌∙◌, arith}
 use Rattle.bcs_registry_model.specs.Shape as shape
 use Rattle.bcs_registry_model.specs.Shape.{Shape, Shapes}
-use Rattle.bcs_registry_model.specs.Container.{Entries, Choice, Content, of, one_of, nothing, content_at, choice_at}
-use Rattle.bcs_registry_model.specs.View.{shape_of}
-use Rattle.bcs_registry_model.specs.declared.format.Format as format
-use Rattle.bcs_registry_model.proofs.FormatViews.{shape-Opt, shape-Seq, shape-Map, shape-TupleArray}
+use Rattle.bcs_registry_model.specs.Container.{Entries, Choice, Content, of, one_of, nothing, content, content_at, choice_at}
+use Rattle.bcs_registry_model.specs.View.{container_of}
+use Rattle.bcs_registry_model.specs.declared.container.Container as declared
 use Rattle.bcs_decode_spec.specs.declared.reason.Reason.{Reason}
-use Rattle.bcs_decode_spec.specs.declared.reason.Reason.TheVariants.{Unsupported, UnknownVariant}
-use Rattle.bcs_decode_spec.specs.Reading.{Read, Parser, follow, chain, give, fail, fail_here, node, number_here, length_here, key_here, items_here, pairs_here, option_here, shape_here, each_here, choice_here, variant_here, content_here, named_here, value_here, skipping}
-use Rattle.bcs_decode_slice.specs.Passing.{node_here, skip, counted_here, option_past, variant_past, enter_here}
+use Rattle.bcs_decode_spec.specs.declared.reason.Reason.TheVariants.{BadOption, Unsupported, UnknownVariant}
+use Rattle.bcs_decode_spec.specs.Reading.{Read, Parser, Making, follow, chain, give, fail, fail_here, node, number_here, length_here, key_here, items_here, pairs_here, option_here, shape_here, each_here, choice_here, variant_here, content_here, named_here, value_here, skipping}
+use Rattle.bcs_decode_slice.specs.Passing.{node_here, skip, counted_here, flag_past, variant_past, enter_here}
 use Rattle.bcs_decode_slice.proofs.Passings.{node_is, bare, counted_is}
 
 -- ---- options, lists, arrays and maps
 
-node_option : (g : Parser (Unit {0})) (p m : ℕ) (b : List ℕ) → node (option_here skipping g) p m b ≡ follow (option_past p m b) (λ some. if some then chain g (λ _. give tt) else give tt)
-unfolding node option_here option_past chain give
+node_option : (g : Parser (Unit {0})) (p m : ℕ) (b : List ℕ) → node (option_here skipping g) p m b ≡ follow (flag_past BadOption p m b) (λ some. if some then chain g (λ _. give tt) else give tt)
+unfolding node option_here flag_past chain give
 node_option g p zero b = refl
 node_option g p (suc m) b = refl
 
@@ -43,44 +42,46 @@ node_then g p m b q l c h = node_is (chain g (λ _. give tt)) p m b ∙ ap (λ (
 node_stop : {A : Type 0} (g : Parser A) (p m : ℕ) (b : List ℕ) (e : Reason × ℕ) → node_here p m b ≡ Err e → node g p m b ≡ Err e
 node_stop g p m b e h = node_is g p m b ∙ ap (λ (r : Read (Unit {0})). follow r (λ _. g)) h
 
-module _ (registry : Entries) (d : ℕ) (f : format.Format) (p m : ℕ) (b : List ℕ) where
-  option_is : (o : Box format.Format Global) → f ≡ format.Opt o → skip registry d (shape_of f) p m b ≡ follow (option_past p m b) (λ some. if some then chain (skip registry d (shape_of o.value)) (λ _. give tt) else give tt)
-  unfolding value_here shape_here
-  option_is o h = rw (shape-Opt f o h) (node_option (skip registry d (shape_of o.value)) p m b)
+module _ (registry : Entries) (d p m : ℕ) (b : List ℕ) where
+  module _ (s : Shape) where
+    option_is : skip registry d (shape.option s) p m b ≡ follow (flag_past BadOption p m b) (λ some. if some then chain (skip registry d s) (λ _. give tt) else give tt)
+    unfolding value_here shape_here
+    option_is = node_option (skip registry d s) p m b
 
-  pub option_stop : (o : Box format.Format Global) (e : Reason × ℕ) → f ≡ format.Opt o → option_past p m b ≡ Err e → skip registry d (shape_of f) p m b ≡ Err e
-  option_stop o e h g = option_is o h ∙ rw g refl
+    pub option_stop : (e : Reason × ℕ) → flag_past BadOption p m b ≡ Err e → skip registry d (shape.option s) p m b ≡ Err e
+    option_stop e h = option_is ∙ rw h refl
 
-  pub option_some : (o : Box format.Format Global) (some : Bool) (q l : ℕ) (c : List ℕ) → f ≡ format.Opt o → option_past p m b ≡ Ok (some, q, l, c) → some ≡ true → skip registry d (shape_of f) p m b ≡ skip registry d (shape_of o.value) q l c
-  option_some o some q l c h g is = option_is o h ∙ rw (g, is) (chained_bare (skip registry d (shape_of o.value)) q l c)
+    pub option_some : (some : Bool) (q l : ℕ) (c : List ℕ) → flag_past BadOption p m b ≡ Ok (some, q, l, c) → some ≡ true → skip registry d (shape.option s) p m b ≡ skip registry d s q l c
+    option_some some q l c h is = option_is ∙ rw (h, is) (chained_bare (skip registry d s) q l c)
 
-  pub option_none : (o : Box format.Format Global) (some : Bool) (q l : ℕ) (c : List ℕ) → f ≡ format.Opt o → option_past p m b ≡ Ok (some, q, l, c) → some ≡ false → skip registry d (shape_of f) p m b ≡ Ok (tt, q, l, c)
-  unfolding give
-  option_none o some q l c h g is = option_is o h ∙ rw (g, is) refl
+    pub option_none : (some : Bool) (q l : ℕ) (c : List ℕ) → flag_past BadOption p m b ≡ Ok (some, q, l, c) → some ≡ false → skip registry d (shape.option s) p m b ≡ Ok (tt, q, l, c)
+    unfolding give
+    option_none some q l c h is = option_is ∙ rw (h, is) refl
 
-  pub seq_stop : (o : Box format.Format Global) (e : Reason × ℕ) → f ≡ format.Seq o → counted_here p m b ≡ Err e → skip registry d (shape_of f) p m b ≡ Err e
-  unfolding value_here shape_here
-  seq_stop o e h g = rw (shape-Seq f o h) (node_uncounted (λ n. chain (items_here skipping (skip registry d (shape_of o.value)) n) (λ ts. give tt)) p m b e g)
+    pub list_stop : (e : Reason × ℕ) → counted_here p m b ≡ Err e → skip registry d (shape.seq s) p m b ≡ Err e
+    unfolding value_here shape_here
+    list_stop e h = node_uncounted (λ n. chain (items_here skipping (skip registry d s) n) (λ _. give tt)) p m b e h
 
-  pub seq_on : (o : Box format.Format Global) (n q l : ℕ) (c : List ℕ) → f ≡ format.Seq o → counted_here p m b ≡ Ok (n, q, l, c) → skip registry d (shape_of f) p m b ≡ items_here skipping (skip registry d (shape_of o.value)) n q l c
-  unfolding value_here shape_here
-  seq_on o n q l c h g = rw (shape-Seq f o h) (node_counted (items_here skipping (skip registry d (shape_of o.value))) p m b n q l c g)
+    pub list_on : (n q l : ℕ) (c : List ℕ) → counted_here p m b ≡ Ok (n, q, l, c) → skip registry d (shape.seq s) p m b ≡ items_here skipping (skip registry d s) n q l c
+    unfolding value_here shape_here
+    list_on n q l c h = node_counted (items_here skipping (skip registry d s)) p m b n q l c h
 
-  pub map_stop : (k v : Box format.Format Global) (e : Reason × ℕ) → f ≡ format.Map k v → counted_here p m b ≡ Err e → skip registry d (shape_of f) p m b ≡ Err e
-  unfolding value_here shape_here
-  map_stop k v e h g = rw (shape-Map f k v h) (node_uncounted (λ n. chain (pairs_here skipping (skip registry d (shape_of k.value)) (skip registry d (shape_of v.value)) None n) (λ ts. give tt)) p m b e g)
+    pub array_stop : (n : ℕ) (e : Reason × ℕ) → node_here p m b ≡ Err e → skip registry d (shape.array s n) p m b ≡ Err e
+    unfolding value_here shape_here
+    array_stop n e h = node_stop (chain (items_here skipping (skip registry d s) n) (λ _. give tt)) p m b e h
 
-  pub map_on : (k v : Box format.Format Global) (n q l : ℕ) (c : List ℕ) → f ≡ format.Map k v → counted_here p m b ≡ Ok (n, q, l, c) → skip registry d (shape_of f) p m b ≡ pairs_here skipping (skip registry d (shape_of k.value)) (skip registry d (shape_of v.value)) None n q l c
-  unfolding value_here shape_here
-  map_on k v n q l c h g = rw (shape-Map f k v h) (node_counted (pairs_here skipping (skip registry d (shape_of k.value)) (skip registry d (shape_of v.value)) None) p m b n q l c g)
+    pub array_on : (n q l : ℕ) (c : List ℕ) → node_here p m b ≡ Ok (tt, q, l, c) → skip registry d (shape.array s n) p m b ≡ items_here skipping (skip registry d s) n q l c
+    unfolding value_here shape_here
+    array_on n q l c h = node_then (items_here skipping (skip registry d s) n) p m b q l c h
 
-  pub array_stop : (o : Box format.Format Global) (n : ℕ) (e : Reason × ℕ) → f ≡ format.TupleArray o n → node_here p m b ≡ Err e → skip registry d (shape_of f) p m b ≡ Err e
-  unfolding value_here shape_here
-  array_stop o n e h g = rw (shape-TupleArray f o n h) (node_stop (chain (items_here skipping (skip registry d (shape_of o.value)) n) (λ ts. give tt)) p m b e g)
+  module _ (k v : Shape) where
+    pub map_stop : (e : Reason × ℕ) → counted_here p m b ≡ Err e → skip registry d (shape.map k v) p m b ≡ Err e
+    unfolding value_here shape_here
+    map_stop e h = node_uncounted (λ n. chain (pairs_here skipping (skip registry d k) (skip registry d v) None n) (λ _. give tt)) p m b e h
 
-  pub array_on : (o : Box format.Format Global) (n q l : ℕ) (c : List ℕ) → f ≡ format.TupleArray o n → node_here p m b ≡ Ok (tt, q, l, c) → skip registry d (shape_of f) p m b ≡ items_here skipping (skip registry d (shape_of o.value)) n q l c
-  unfolding value_here shape_here
-  array_on o n q l c h g = rw (shape-TupleArray f o n h) (node_then (items_here skipping (skip registry d (shape_of o.value)) n) p m b q l c g)
+    pub map_on : (n q l : ℕ) (c : List ℕ) → counted_here p m b ≡ Ok (n, q, l, c) → skip registry d (shape.map k v) p m b ≡ pairs_here skipping (skip registry d k) (skip registry d v) None n q l c
+    unfolding value_here shape_here
+    map_on n q l c h = node_counted (pairs_here skipping (skip registry d k) (skip registry d v) None) p m b n q l c h
 
 -- ---- values in a row
 
@@ -122,6 +123,21 @@ module _ (f g : Parser (Unit {0})) (last : Option (List ℕ)) (n i p m : ℕ) (b
       → pairs_here skipping f g last (n - i) p m b ≡ pairs_here skipping f g (Some key) (n - (i + 1)) r k d
   unfolding chain
   pairs_on key q l c r k d lt h j = rw (pairs_step lt, h, j) (bare (pairs_here skipping f g (Some key) (n - (i + 1)) r k d))
+
+-- one parser of values is another
+module _ {V : Type 0} {R : Type 0} {E : Type 0} (make : Making V R E) (f g : Parser V) where
+  tail_same : (n : ℕ) → ((p m : ℕ) (b : List ℕ) → items_here make f n p m b ≡ items_here make g n p m b)
+      → (r : Read V) → follow r (λ t. chain (items_here make f n) (λ ts. give (make.item t ts))) ≡ follow r (λ t. chain (items_here make g n) (λ ts. give (make.item t ts)))
+  unfolding chain
+  tail_same n same (Ok x) = ap (λ r. follow r (λ ts. give (make.item x.0 ts))) (same x.1 x.2 x.3)
+  tail_same n same (Err e) = refl
+
+  pub items_same : ((p m : ℕ) (b : List ℕ) → f p m b ≡ g p m b) → (n p m : ℕ) (b : List ℕ) → items_here make f n p m b ≡ items_here make g n p m b
+  unfolding items_here chain
+  items_same same zero p m b = refl
+  items_same same (suc n) p m b =
+      ap (λ r. follow r (λ t. chain (items_here make f n) (λ ts. give (make.item t ts)))) (same p m b)
+      ∙ tail_same n (λ q l c. items_same same n q l c) (g p m b)
 
 -- ---- tuples
 
@@ -165,6 +181,13 @@ module _ (registry : Entries) (name : List ℕ) (p m : ℕ) (b : List ℕ) where
   unfolding value_here shape_here named_here enter_here
   named_on zero q l c lt h = absurd (omega arith)
   named_on (suc d) q l c lt h = let k : suc d - 1 ≡ d = omega arith in rw k (node_then (content_past registry d (content_at name registry)) p m b q l c h)
+
+-- a container that opens and is found: what stands in it comes next
+pub named_past : (registry : Entries) (name : List ℕ) (p m : ℕ) (b : List ℕ) (d q l : ℕ) (c : List ℕ) (k : declared.Container)
+    → 0 < d → enter_here d p m b ≡ Ok (tt, q, l, c) → content_at name registry ≡ content (container_of k)
+    → skip registry d (shape.name name) p m b ≡ content_past registry (d - 1) (content (container_of k)) q l c
+named_past registry name p m b d q l c k lt h is =
+    named_on registry name p m b d q l c lt h ∙ ap (λ (y : Content). content_past registry (d - 1) y q l c) is
 
 -- ---- variants
 

@@ -3,7 +3,6 @@ use Rattle.std.proofs.Common.{◌≡◌, ℕ, zero, suc, ◌+◌, ◌<◌, List,
 use Rattle.std.proofs.lemmas.Bool.{le-ltb}
 use Rattle.std.specs.Int.{Width, w8, w16, w32, w64, w128, byte_len, from_le_bytes, cast_signed}
 use Rattle.bcs_registry_model.specs.Shape as shape
-use Rattle.bcs_registry_model.specs.Shape.{Shape, Shapes}
 use Rattle.bcs_registry_model.specs.Container.{Entries}
 use Rattle.bcs_registry_model.specs.View.{shape_of}
 use Rattle.bcs_registry_model.specs.declared.format.Format as format
@@ -55,18 +54,18 @@ unfolding node chain counted_here give
 counted_is k p zero b = refl
 counted_is k p (suc m) b = refl
 
-gone : {A B : Type 0} (r : Read A) (f : A → B) → follow (follow r (λ s. give (f s))) (λ n. give {A = Unit {0}} tt) ≡ follow r (λ _. give tt)
+pub dropped : {A B : Type 0} (r : Read A) (f : A → B) → follow (follow r (λ s. give (f s))) (λ n. give {A = Unit {0}} tt) ≡ follow r (λ _. give tt)
 unfolding give
-gone (Ok x) f = refl
-gone (Err e) f = refl
+dropped (Ok x) f = refl
+dropped (Err e) f = refl
 
 unsigned_gone : (w : Width) (p m : ℕ) (b : List ℕ) → chain (unsigned_here w) (λ n. give {A = Unit {0}} tt) p m b ≡ follow (bytes_here (byte_len w) p m b) (λ _. give tt)
 unfolding chain unsigned_here
-unsigned_gone w p m b = gone (bytes_here (byte_len w) p m b) (from_le_bytes w)
+unsigned_gone w p m b = dropped (bytes_here (byte_len w) p m b) (from_le_bytes w)
 
 signed_gone : (w : Width) (p m : ℕ) (b : List ℕ) → chain (signed_here w) (λ n. give {A = Unit {0}} tt) p m b ≡ follow (bytes_here (byte_len w) p m b) (λ _. give tt)
 unfolding chain signed_here
-signed_gone w p m b = gone (bytes_here (byte_len w) p m b) (λ s. cast_signed w (from_le_bytes w s))
+signed_gone w p m b = dropped (bytes_here (byte_len w) p m b) (λ s. cast_signed w (from_le_bytes w s))
 
 -- a node alone is one with no bytes
 nothing_is : (p m : ℕ) (b : List ℕ) → node_here p m b ≡ whole_here 0 p m b
@@ -82,7 +81,7 @@ module _ (registry : Entries) (d : ℕ) where
   whole_is n f h p zero b = refl
   whole_is n f h p (suc m) b = h p m b
 
-  unsigned_is : (w : Width) (p m : ℕ) (b : List ℕ) → skip registry d (shape.unsigned w) p m b ≡ whole_here (byte_len w) p m b
+  pub unsigned_is : (w : Width) (p m : ℕ) (b : List ℕ) → skip registry d (shape.unsigned w) p m b ≡ whole_here (byte_len w) p m b
   unfolding value_here shape_here
   unsigned_is w p m b = whole_is (byte_len w) (chain (unsigned_here w) (λ n. give tt)) (unsigned_gone w) p m b
 

@@ -5,7 +5,8 @@ use Rattle.bcs_registry_model.specs.Shape.{Shape}
 use Rattle.bcs_registry_model.specs.Container.{Entries}
 use Rattle.bcs_decode_slice.specs.declared.cursor.Cursor.{Cursor}
 use Rattle.bcs_decode_spec.specs.declared.stop.Stop.{Stop}
-use Rattle.bcs_decode_spec.specs.declared.reason.Reason.TheVariants.{BadBool, BadOption, TooDeep, Unsupported}
+use Rattle.bcs_decode_spec.specs.declared.reason.Reason.{Reason}
+use Rattle.bcs_decode_spec.specs.declared.reason.Reason.TheVariants.{BadBool, TooDeep, Unsupported}
 use Rattle.bcs_decode_spec.specs.Reading.{Parser, node, chain, give, fail_here, flag_here, number_here, length_here, bytes_here, text_here, value_here, skipping}
 
 -- what was returned, seen by view, is what the parser reads from the cursor on, and where it ends
@@ -54,8 +55,9 @@ bytes_past = chain counted_here (λ n. chain (bytes_here n) (λ _. give tt))
 unfoldable pub unsupported_here : Parser (Unit {0})
 unsupported_here = chain node_here (λ _. fail_here Unsupported)
 
-unfoldable pub option_past : Parser Bool
-option_past = chain node_here (λ _. flag_here BadOption)
+-- a byte that is 00 or 01, or a stop for this reason
+unfoldable pub flag_past : Reason → Parser Bool
+flag_past bad = chain node_here (λ _. flag_here bad)
 
 -- a variant's number, and where it begins
 unfoldable pub variant_past : Parser (ℕ × ℕ)

@@ -11,8 +11,11 @@ ghost use Rattle.bcs_decode_slice.specs.Passing.{Passes, Onward, key_bytes, skip
 
 use crate::cursor::{Cursor, node};
 use crate::fixed_row::fixed_row;
+use crate::key_order::follows;
 use crate::named_container::named_container;
-use crate::shallow::{bytes_value, counted, enter, follows, option, text_value, truth, unsupported, variant_number, whole};
+use crate::shallow::{
+    bytes_value, counted, enter, flag_value, text_value, truth, unsupported, variant_number, whole,
+};
 use crate::whole_row::{whole_row, whole_width};
 use bcs_decode_spec::{Reason, Stop};
 use bcs_registry::{Container, Format, Named, Registry, VariantFormat};
@@ -43,7 +46,7 @@ pub fn value<'a>(
         Format::Bytes => bytes_value(cursor),
         Format::TypeName(name) => named(registry, name.as_str(), depth, cursor),
         Format::Opt(content) => {
-            if option(cursor)? {
+            if flag_value(cursor, Reason::BadOption)? {
                 value(registry, content, depth, cursor)
             } else {
                 Ok(())

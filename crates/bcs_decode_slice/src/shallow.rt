@@ -1,11 +1,9 @@
 //! Going past what has no values inside. No step is part of its caller, whose frame stays small.
 ghost use Rattle.std.specs.Prelude.{◌≡◌, ℕ, ◌+◌, ◌<◌, ◌≤◌, ◌^◌, IfOk, length};
-ghost use Rattle.bcs_decode_spec.specs.Reading.{key_after};
-ghost use Rattle.bcs_decode_slice.specs.Passing.{Passes, Onward, Judges, key_bytes, truth_here, whole_here, counted_here, text_past, bytes_past, unsupported_here, option_past, enter_here, variant_past};
+ghost use Rattle.bcs_decode_slice.specs.Passing.{Passes, Onward, truth_here, whole_here, counted_here, text_past, bytes_past, unsupported_here, flag_past, enter_here, variant_past};
 
 use crate::cursor::{Cursor, bytes, flag, length, node, number, text};
 use bcs_decode_spec::{Reason, Stop};
-use std::cmp::Ordering;
 
 #[inline(never)]
 #[tactic(auto, unfolding(bcs_decode_spec::specs::Reading::chain, bcs_decode_spec::specs::Reading::give, crate::specs::Passing::truth_here))]
@@ -82,16 +80,16 @@ pub fn unsupported(cursor: &mut Cursor) -> Result<(), Stop>
     })
 }
 
-/// Whether an option is present.
+/// A node, and a byte that is `00` or `01`.
 #[inline(never)]
-#[tactic(auto, unfolding(bcs_decode_spec::specs::Reading::chain, bcs_decode_spec::specs::Reading::give, crate::specs::Passing::option_past))]
-pub fn option(cursor: &mut Cursor) -> Result<bool, Stop>
+#[tactic(auto, unfolding(bcs_decode_spec::specs::Reading::chain, bcs_decode_spec::specs::Reading::give, crate::specs::Passing::flag_past))]
+pub fn flag_value(cursor: &mut Cursor, bad: Reason) -> Result<bool, Stop>
     requires room { cursor.old.place + length cursor.old.rest.now < 2 ^ 64 }
-    ensures passes { Passes (λ x. x) result option_past cursor.old cursor.new }
+    ensures passes { Passes (λ x. x) result (flag_past bad) cursor.old cursor.new }
     ensures onward { Onward cursor.old cursor.new }
 {
     node(cursor)?;
-    flag(cursor, Reason::BadOption)
+    flag(cursor, bad)
 }
 
 /// A container opens, where so many may.
@@ -124,26 +122,4 @@ pub fn variant_number(cursor: &mut Cursor) -> Result<(u64, u32), Stop>
     let start = cursor.place;
     let found = number(cursor)?;
     Ok((start, found))
-}
-
-/// Whether a key that begins at the place may follow the last one.
-#[inline(never)]
-#[tactic(auto, unfolding(bcs_decode_spec::specs::Reading::key_after, bcs_decode_spec::specs::Reading::give, bcs_decode_spec::specs::Reading::fail))]
-pub fn follows(last: Option<&[u8]>, key: &[u8], start: u64) -> Result<(), Stop>
-    ensures { Judges result (key_after (key_bytes last.entry) key.now start) }
-{
-    let Some(last) = last else {
-        return Ok(());
-    };
-    match last.cmp(key) {
-        Ordering::Less => Ok(()),
-        Ordering::Equal => Err(Stop {
-            reason: Reason::KeyRepeated,
-            place: start,
-        }),
-        Ordering::Greater => Err(Stop {
-            reason: Reason::KeyOrder,
-            place: start,
-        }),
-    }
 }

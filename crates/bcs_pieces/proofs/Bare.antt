@@ -1,61 +1,28 @@
 -- Values without values inside.
-use Rattle.std.proofs.Common.{◌≡◌, ℕ, zero, suc, List, [], ◌∷◌, Bool, true, false, ◌⊎◌, inl, inr, Ok, Err, refl, sym, ap, ◌∙◌}
+use Rattle.std.proofs.Common.{◌≡◌, ℕ, zero, suc, List, [], ◌∷◌, true, ◌⊎◌, inl, inr, Ok, Err, refl, sym, ap}
 use Rattle.std.specs.Int.{w8, byte_len, from_le_bytes, cast_signed}
 use Rattle.bcs_registry_model.specs.Shape as shape
 use Rattle.bcs_registry_model.specs.Shape.{Shape}
 use Rattle.bcs_registry_model.specs.Container.{Entries}
 use Rattle.bcs_registry_model.specs.View.{shape_of}
 use Rattle.bcs_registry_model.specs.declared.format.Format as format
-use Rattle.bcs_registry_model.proofs.FormatViews.{shape-Unit, shape-Bool, shape-U8, shape-U16, shape-U32, shape-U64, shape-U128, shape-I8, shape-I16, shape-I32, shape-I64, shape-I128, shape-F32, shape-F64, shape-Char, shape-Str, shape-Bytes}
-use Rattle.bcs_decode_spec.specs.Reading.{Read, Parser, items_here, skipping, follow, chain, give, node, bytes_here, unsigned_here, signed_here, shape_here, value_here}
-use Rattle.bcs_decode_slice.specs.Passing.{skip, whole_here, counted_here, text_past, bytes_past, unsupported_here}
+use Rattle.bcs_registry_model.proofs.FormatViews.{shape-F32, shape-F64, shape-Char}
+use Rattle.bcs_decode_spec.specs.Reading.{Read, items_here, skipping, follow, chain, give, node, bytes_here, unsigned_here, signed_here, shape_here, value_here}
+use Rattle.bcs_decode_slice.specs.Passing.{skip, whole_here, flag_past, counted_here, text_past, bytes_past, unsupported_here}
+use Rattle.bcs_decode_slice.proofs.NoParts.{has_no_parts, IsBare, bare_shape}
+use Rattle.bcs_decode_slice.proofs.Passings.{dropped, unsigned_is}
+use Rattle.bcs_decode_slice.proofs.PassingParts.{items_same}
 use Rattle.bcs_pieces_spec.specs.Way.{Way}
 use Rattle.bcs_pieces_spec.specs.Piece as pieces
-use Rattle.bcs_pieces_spec.specs.Piece.{Piece, Meaning}
+use Rattle.bcs_pieces_spec.specs.Piece.{Meaning}
 use Rattle.bcs_pieces_spec.specs.Told as wanted
 use Rattle.bcs_pieces_spec.specs.Told.{Wanted, halt}
 use Rattle.bcs_pieces_spec.specs.Pieces.{is_octet}
 use Rattle.bcs_pieces_spec.specs.Telling.{tell, tell_shape, silent, halting, begun, note, noting, noting_then, going}
-use Rattle.bcs_pieces.specs.Leaf.{flag_node, bytes_node, gone, needing, leaf_past, leaf_told}
-
-abbrev pub has_no_parts : Shape → Bool
-has_no_parts (shape.name n) = false
-has_no_parts (shape.option s) = false
-has_no_parts (shape.seq s) = false
-has_no_parts (shape.map k v) = false
-has_no_parts (shape.tuple ss) = false
-has_no_parts (shape.array s n) = false
-has_no_parts _ = true
-
-abbrev pub IsBare : format.Format → Type 0
-IsBare f = (f ≡ format.Unit) ⊎ ((f ≡ format.Bool) ⊎ ((f ≡ format.U8) ⊎ ((f ≡ format.U16) ⊎ ((f ≡ format.U32) ⊎ ((f ≡ format.U64) ⊎ ((f ≡ format.U128) ⊎ ((f ≡ format.I8) ⊎ ((f ≡ format.I16) ⊎ ((f ≡ format.I32) ⊎ ((f ≡ format.I64) ⊎ ((f ≡ format.I128) ⊎ ((f ≡ format.F32) ⊎ ((f ≡ format.F64) ⊎ ((f ≡ format.Char) ⊎ ((f ≡ format.Str) ⊎ (f ≡ format.Bytes))))))))))))))))
-
-pub bare_shape : (f : format.Format) → IsBare f → has_no_parts (shape_of f) ≡ true
-bare_shape f (inl h) = rw (shape-Unit f h) refl
-bare_shape f (inr (inl h)) = rw (shape-Bool f h) refl
-bare_shape f (inr (inr (inl h))) = rw (shape-U8 f h) refl
-bare_shape f (inr (inr (inr (inl h)))) = rw (shape-U16 f h) refl
-bare_shape f (inr (inr (inr (inr (inl h))))) = rw (shape-U32 f h) refl
-bare_shape f (inr (inr (inr (inr (inr (inl h)))))) = rw (shape-U64 f h) refl
-bare_shape f (inr (inr (inr (inr (inr (inr (inl h))))))) = rw (shape-U128 f h) refl
-bare_shape f (inr (inr (inr (inr (inr (inr (inr (inl h)))))))) = rw (shape-I8 f h) refl
-bare_shape f (inr (inr (inr (inr (inr (inr (inr (inr (inl h))))))))) = rw (shape-I16 f h) refl
-bare_shape f (inr (inr (inr (inr (inr (inr (inr (inr (inr (inl h)))))))))) = rw (shape-I32 f h) refl
-bare_shape f (inr (inr (inr (inr (inr (inr (inr (inr (inr (inr (inl h))))))))))) = rw (shape-I64 f h) refl
-bare_shape f (inr (inr (inr (inr (inr (inr (inr (inr (inr (inr (inr (inl h)))))))))))) = rw (shape-I128 f h) refl
-bare_shape f (inr (inr (inr (inr (inr (inr (inr (inr (inr (inr (inr (inr (inl h))))))))))))) = rw (shape-F32 f h) refl
-bare_shape f (inr (inr (inr (inr (inr (inr (inr (inr (inr (inr (inr (inr (inr (inl h)))))))))))))) = rw (shape-F64 f h) refl
-bare_shape f (inr (inr (inr (inr (inr (inr (inr (inr (inr (inr (inr (inr (inr (inr (inl h))))))))))))))) = rw (shape-Char f h) refl
-bare_shape f (inr (inr (inr (inr (inr (inr (inr (inr (inr (inr (inr (inr (inr (inr (inr (inl h)))))))))))))))) = rw (shape-Str f h) refl
-bare_shape f (inr (inr (inr (inr (inr (inr (inr (inr (inr (inr (inr (inr (inr (inr (inr (inr h)))))))))))))))) = rw (shape-Bytes f h) refl
-
-dropped : {A B : Type 0} (r : Read A) (f : A → B) → follow (follow r (λ s. give (f s))) (λ n. give {A = Unit {0}} tt) ≡ follow r (λ _. give tt)
-unfolding give
-dropped (Ok x) f = refl
-dropped (Err e) f = refl
+use Rattle.bcs_pieces.specs.Leaf.{bytes_node, gone, needing, leaf_past, leaf_told}
 
 shape_past : (registry : Entries) (d : ℕ) (s : Shape) → has_no_parts s ≡ true → (p m : ℕ) (b : List ℕ) → skip registry d s p m b ≡ leaf_past s p m b
-unfolding value_here shape_here gone flag_node bytes_node text_past bytes_past unsupported_here counted_here node chain give unsigned_here signed_here
+unfolding value_here shape_here gone flag_past bytes_node text_past bytes_past unsupported_here counted_here node chain give unsigned_here signed_here
 shape_past registry d shape.unit h p zero b = refl
 shape_past registry d shape.unit h p (suc m) b = refl
 shape_past registry d shape.truth h p zero b = refl
@@ -84,7 +51,7 @@ note_made way mean want p b (Ok x) f = refl
 note_made way mean want p b (Err e) f = refl
 
 shape_told : (registry : Entries) (d : ℕ) (s : Shape) → has_no_parts s ≡ true → (way : Way) (p m : ℕ) (b : List ℕ) → leaf_told s way p m b ≡ tell registry d s way p m b
-unfolding tell tell_shape silent begun halting needing noting noting_then going flag_node bytes_node counted_here chain give node unsigned_here signed_here
+unfolding tell tell_shape silent begun halting needing noting noting_then going flag_past bytes_node counted_here chain give node unsigned_here signed_here
 shape_told registry d shape.unit h way p zero b = refl
 shape_told registry d shape.unit h way p (suc m) b = refl
 shape_told registry d shape.truth h way p zero b = refl
@@ -125,22 +92,6 @@ not_octet : (s : Shape) → is_octet s ≡ true → s ≡ shape.unsigned w8
 not_octet (shape.unsigned w8) h = refl
 not_octet _ h = absurd cc
 
-octet_past : (registry : Entries) (d p m : ℕ) (b : List ℕ) → skip registry d (shape.unsigned w8) p m b ≡ whole_here 1 p m b
-unfolding value_here shape_here whole_here node chain give unsigned_here
-octet_past registry d p zero b = refl
-octet_past registry d p (suc m) b = dropped (bytes_here 1 p m b) (from_le_bytes w8)
-
-row_next : (f g : Parser (Unit {0})) → ((p m : ℕ) (b : List ℕ) → f p m b ≡ g p m b) → (r : Read (Unit {0})) → follow r (λ _. chain f (λ _. give {A = Unit {0}} tt)) ≡ follow r (λ _. chain g (λ _. give {A = Unit {0}} tt))
-unfolding chain
-row_next f g h (Ok x) = ap (λ r. follow r (λ _. give {A = Unit {0}} tt)) (h x.1 x.2 x.3)
-row_next f g h (Err e) = refl
-
-row_as : (f g : Parser (Unit {0})) → ((p m : ℕ) (b : List ℕ) → f p m b ≡ g p m b) → (n p m : ℕ) (b : List ℕ) → items_here skipping f n p m b ≡ items_here skipping g n p m b
-unfolding items_here chain
-row_as f g h zero p m b = refl
-row_as f g h (suc n) p m b =
-    ap (λ r. follow r (λ _. chain (items_here skipping f n) (λ _. give {A = Unit {0}} tt))) (h p m b) ∙ row_next (items_here skipping f n) (items_here skipping g n) (row_as f g h n) (g p m b)
-
 -- so many `U8`, gone past in one step
 pub octets_past : (registry : Entries) (d : ℕ) (s : Shape) → is_octet s ≡ true → (n p m : ℕ) (b : List ℕ) → items_here skipping (whole_here 1) n p m b ≡ items_here skipping (skip registry d s) n p m b
-octets_past registry d s h n p m b = rw (not_octet s h) (row_as (whole_here 1) (skip registry d (shape.unsigned w8)) (λ i l c. sym (octet_past registry d i l c)) n p m b)
+octets_past registry d s h n p m b = rw (not_octet s h) (items_same skipping (whole_here 1) (skip registry d (shape.unsigned w8)) (λ i l c. sym (unsigned_is registry d w8 i l c)) n p m b)

@@ -1,5 +1,4 @@
 pub mod Told
-pub mod Passed
 pub mod Chosen
 pub mod Noted
 pub mod Bare

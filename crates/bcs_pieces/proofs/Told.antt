@@ -6,7 +6,7 @@ use Rattle.bcs_registry_model.specs.Container.{Entries, Field, Choice, choice_nu
 use Rattle.bcs_decode_spec.specs.declared.reason.Reason.{Reason}
 use Rattle.bcs_decode_spec.specs.declared.reason.Reason.TheVariants.{BadOption}
 use Rattle.bcs_decode_spec.specs.Reading.{Read, Parser, follow, chain, give, node, number_here, length_here, flag_here, items_here, skipping, key_here}
-use Rattle.bcs_decode_slice.specs.Passing.{node_here, skip, whole_here, counted_here, variant_past, enter_here}
+use Rattle.bcs_decode_slice.specs.Passing.{node_here, skip, whole_here, flag_past, counted_here, variant_past, enter_here}
 use Rattle.bcs_pieces_spec.specs.Way.{Way, onto, item, field, inner, opening, key, value}
 use Rattle.bcs_pieces_spec.specs.Piece as pieces
 use Rattle.bcs_pieces_spec.specs.Told as wanted
@@ -16,7 +16,6 @@ use Rattle.bcs_pieces_spec.specs.Held.{Held, fields, one_of, held_at}
 use Rattle.bcs_pieces_spec.specs.Pieces.{is_octet}
 use Rattle.bcs_pieces_spec.specs.Telling.{Telling, need, halting, tell_key, after, tell, tell_shape, tell_each, tell_fields, tell_choice, tell_variant, tell_held, tell_named, tell_items, tell_row, tell_pairs, begun, note, noting, noting_then, going, silent}
 use Rattle.bcs_pieces_spec.proofs.Tells.{key_right, key_stopped, key_misplaced}
-use Rattle.bcs_pieces.specs.Leaf.{flag_node}
 use Rattle.bcs_pieces.proofs.Noted.{then_ok, then_err, going_ok, going_err}
 use Rattle.bcs_pieces.proofs.Bare.{octets_past}
 
@@ -90,8 +89,8 @@ module _ (f g : Parser (Unit {0})) (t u : Way → Telling) (way : Way) (last : O
 -- ---- nodes
 
 flag_then : (way : Way) (mean : Bool → Meaning) (want : Wanted) (bad : Reason) (k : Bool → Telling) (p m : ℕ) (b : List ℕ)
-    → noting_then way mean want (flag_node bad) k p m b ≡ begun way want (noting_then way mean want (flag_here bad) k) p m b
-unfolding begun noting_then noting going flag_node chain node give
+    → noting_then way mean want (flag_past bad) k p m b ≡ begun way want (noting_then way mean want (flag_here bad) k) p m b
+unfolding begun noting_then noting going flag_past chain node give
 flag_then way mean want bad k p zero b = refl
 flag_then way mean want bad k p (suc m) b = refl
 
@@ -144,30 +143,30 @@ variant_at registry d way cs p (suc m) b = refl
 -- ---- formats
 
 module _ (registry : Entries) (d : ℕ) (way : Way) (p m : ℕ) (b : List ℕ) where
-  pub told_option_stop : (s : Shape) (e : Reason × ℕ) → flag_node BadOption p m b ≡ Err e
-      → noting way pieces.option wanted.option (flag_node BadOption) p m b ≡ tell registry d (shape.option s) way p m b
+  pub told_option_stop : (s : Shape) (e : Reason × ℕ) → flag_past BadOption p m b ≡ Err e
+      → noting way pieces.option wanted.option (flag_past BadOption) p m b ≡ tell registry d (shape.option s) way p m b
   unfolding tell tell_shape
-  told_option_stop s e g = then_err way pieces.option wanted.option (flag_node BadOption) _ p m b e g ∙ flag_then way pieces.option wanted.option BadOption (λ some. if some then tell_shape registry d (tell_named registry d) s (onto way inner) else silent) p m b
+  told_option_stop s e g = then_err way pieces.option wanted.option (flag_past BadOption) _ p m b e g ∙ flag_then way pieces.option wanted.option BadOption (λ some. if some then tell_shape registry d (tell_named registry d) s (onto way inner) else silent) p m b
 
-  pub told_option_some : (s : Shape) (q l : ℕ) (c : List ℕ) → flag_node BadOption p m b ≡ Ok (true, q, l, c)
-      → noting way pieces.option wanted.option (flag_node BadOption) p m b ++ tell registry d s (onto way inner) q l c ≡ tell registry d (shape.option s) way p m b
+  pub told_option_some : (s : Shape) (q l : ℕ) (c : List ℕ) → flag_past BadOption p m b ≡ Ok (true, q, l, c)
+      → noting way pieces.option wanted.option (flag_past BadOption) p m b ++ tell registry d s (onto way inner) q l c ≡ tell registry d (shape.option s) way p m b
   unfolding tell tell_shape
   told_option_some s q l c g =
-      then_ok way pieces.option wanted.option (flag_node BadOption) (λ some. if some then tell_shape registry d (tell_named registry d) s (onto way inner) else silent) p m b true q l c g ∙ flag_then way pieces.option wanted.option BadOption (λ some. if some then tell_shape registry d (tell_named registry d) s (onto way inner) else silent) p m b
+      then_ok way pieces.option wanted.option (flag_past BadOption) (λ some. if some then tell_shape registry d (tell_named registry d) s (onto way inner) else silent) p m b true q l c g ∙ flag_then way pieces.option wanted.option BadOption (λ some. if some then tell_shape registry d (tell_named registry d) s (onto way inner) else silent) p m b
 
-  pub told_option_none : (s : Shape) (q l : ℕ) (c : List ℕ) → flag_node BadOption p m b ≡ Ok (false, q, l, c)
-      → noting way pieces.option wanted.option (flag_node BadOption) p m b ≡ tell registry d (shape.option s) way p m b
+  pub told_option_none : (s : Shape) (q l : ℕ) (c : List ℕ) → flag_past BadOption p m b ≡ Ok (false, q, l, c)
+      → noting way pieces.option wanted.option (flag_past BadOption) p m b ≡ tell registry d (shape.option s) way p m b
   unfolding tell tell_shape silent
   told_option_none s q l c g =
-      sym (append-nil (noting way pieces.option wanted.option (flag_node BadOption) p m b))
-      ∙ then_ok way pieces.option wanted.option (flag_node BadOption) (λ some. if some then tell_shape registry d (tell_named registry d) s (onto way inner) else silent) p m b false q l c g ∙ flag_then way pieces.option wanted.option BadOption (λ some. if some then tell_shape registry d (tell_named registry d) s (onto way inner) else silent) p m b
+      sym (append-nil (noting way pieces.option wanted.option (flag_past BadOption) p m b))
+      ∙ then_ok way pieces.option wanted.option (flag_past BadOption) (λ some. if some then tell_shape registry d (tell_named registry d) s (onto way inner) else silent) p m b false q l c g ∙ flag_then way pieces.option wanted.option BadOption (λ some. if some then tell_shape registry d (tell_named registry d) s (onto way inner) else silent) p m b
 
-  pub told_option_yes : (s : Shape) (some : Bool) (q l : ℕ) (c : List ℕ) → flag_node BadOption p m b ≡ Ok (some, q, l, c) → some ≡ true
-      → noting way pieces.option wanted.option (flag_node BadOption) p m b ++ tell registry d s (onto way inner) q l c ≡ tell registry d (shape.option s) way p m b
+  pub told_option_yes : (s : Shape) (some : Bool) (q l : ℕ) (c : List ℕ) → flag_past BadOption p m b ≡ Ok (some, q, l, c) → some ≡ true
+      → noting way pieces.option wanted.option (flag_past BadOption) p m b ++ tell registry d s (onto way inner) q l c ≡ tell registry d (shape.option s) way p m b
   told_option_yes s some q l c g is = told_option_some s q l c (g ∙ ap (λ (x : Bool). Ok (x, q, l, c)) is)
 
-  pub told_option_no : (s : Shape) (some : Bool) (q l : ℕ) (c : List ℕ) → flag_node BadOption p m b ≡ Ok (some, q, l, c) → some ≡ false
-      → noting way pieces.option wanted.option (flag_node BadOption) p m b ≡ tell registry d (shape.option s) way p m b
+  pub told_option_no : (s : Shape) (some : Bool) (q l : ℕ) (c : List ℕ) → flag_past BadOption p m b ≡ Ok (some, q, l, c) → some ≡ false
+      → noting way pieces.option wanted.option (flag_past BadOption) p m b ≡ tell registry d (shape.option s) way p m b
   told_option_no s some q l c g is = told_option_none s q l c (g ∙ ap (λ (x : Bool). Ok (x, q, l, c)) is)
 
   pub told_seq_stop : (s : Shape) (e : Reason × ℕ) → counted_here p m b ≡ Err e

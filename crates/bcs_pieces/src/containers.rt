@@ -15,7 +15,9 @@ ghost use Rattle.bcs_pieces_spec.specs.Telling.{tell as told, tell_carried, tell
 
 use crate::leaves::tell;
 use crate::listener::{Listener, Meaning};
-use crate::opening::{enter, node, unknown_name, unknown_variant, variant_number, variant_numbered};
+use crate::opening::{
+    enter, node, unknown_name, unknown_variant, variant_number, variant_numbered,
+};
 use crate::rows::tuple;
 use crate::trail::{Step, Trail, below, to_field};
 use crate::walking::value;

@@ -1,7 +1,7 @@
 //! Telling of what has no values inside. No step stands in the cycle of calls.
 ghost use Rattle.std.specs.Prelude.{◌≡◌, ℕ, ◌+◌, ◌-◌, ◌<◌, ◌≤◌, ◌^◌, IfOk, IfSome, None, length, take};
 ghost use Rattle.bcs_decode_spec.specs.Reading.{bytes_here, items_here, skipping, text_here};
-ghost use Rattle.bcs_decode_slice.specs.Passing.{Passes, Onward, bytes_past, counted_here, text_past, whole_here};
+ghost use Rattle.bcs_decode_slice.specs.Passing.{Passes, Onward, bytes_past, counted_here, flag_past, text_past, whole_here};
 ghost use Rattle.std.specs.Int.{byte_len, from_le_bytes, cast_signed};
 ghost use Rattle.bcs_num.specs.Le.{width_of};
 ghost use Rattle.bcs_pieces_spec.specs.Piece as pieces;
@@ -11,12 +11,12 @@ ghost use Rattle.bcs_pieces.specs.Hearing.{Hears, meaning_of, counted_of};
 ghost use Rattle.bcs_pieces_spec.specs.Told as wanted;
 ghost use Rattle.bcs_pieces_spec.specs.Told.{as_told};
 ghost use Rattle.bcs_pieces_spec.specs.Telling.{noting, noting_then};
-ghost use Rattle.bcs_pieces.specs.Leaf.{bytes_node, flag_node, gone};
+ghost use Rattle.bcs_pieces.specs.Leaf.{bytes_node, gone};
 
 use crate::listener::{Counted, Listener, Meaning, Wanted};
 use crate::trail::Trail;
-use bcs_decode_slice::cursor::{Cursor, bytes, flag, node, text};
-use bcs_decode_slice::shallow;
+use bcs_decode_slice::cursor::{Cursor, bytes, node, text};
+use bcs_decode_slice::shallow::{counted, flag_value};
 use bcs_decode_slice::whole_row::whole_row;
 use bcs_decode_spec::{Reason, Stop};
 use bcs_num::Width;
@@ -41,17 +41,6 @@ pub fn tell<T: Listener>(
     out.hear(start, piece, trail, meaning);
 }
 
-/// A node, and a byte that is `00` or `01`.
-#[tactic(auto, unfolding(bcs_decode_spec::specs::Reading::chain, bcs_decode_spec::specs::Reading::give, crate::specs::Leaf::flag_node))]
-pub fn flag_value(cursor: &mut Cursor, bad: Reason) -> Result<bool, Stop>
-    requires room { cursor.old.place + length cursor.old.rest.now < 2 ^ 64 }
-    ensures passes { Passes (λ x. x) result (flag_node bad) cursor.old cursor.new }
-    ensures onward { Onward cursor.old cursor.new }
-{
-    node(cursor)?;
-    flag(cursor, bad)
-}
-
 /// A node, and so many bytes.
 #[tactic(auto, unfolding(bcs_decode_spec::specs::Reading::chain, bcs_decode_spec::specs::Reading::give, bcs_decode_spec::specs::Reading::bytes_here, crate::specs::Leaf::bytes_node))]
 pub fn bytes_value<'a>(cursor: &mut Cursor<'a>, count: usize) -> Result<&'a [u8], Stop>
@@ -73,10 +62,10 @@ pub fn tell_flag<T: Listener>(
     out: &mut T,
 ) -> Result<bool, Stop>
     requires room { cursor.old.place + length cursor.old.rest.now < 2 ^ 64 }
-    ensures passes { Passes (λ x. x) result (flag_node bad) cursor.old cursor.new }
+    ensures passes { Passes (λ x. x) result (flag_past bad) cursor.old cursor.new }
     ensures onward { Onward cursor.old cursor.new }
     ensures hears { Hears T.heard T.has_lost out.old out.new
-        (noting (way_of trail.now) pieces.option wanted.option (flag_node bad) cursor.old.place cursor.old.nodes cursor.old.rest.now) }
+        (noting (way_of trail.now) pieces.option wanted.option (flag_past bad) cursor.old.place cursor.old.nodes cursor.old.rest.now) }
 {
     let (start, from) = (cursor.place, cursor.rest);
     match flag_value(cursor, bad) {
@@ -98,10 +87,10 @@ pub fn tell_truth<T: Listener>(
     out: &mut T,
 ) -> Result<(), Stop>
     requires room { cursor.old.place + length cursor.old.rest.now < 2 ^ 64 }
-    ensures passes { Passes (λ x. x) result (gone (flag_node Reason.BadBool)) cursor.old cursor.new }
+    ensures passes { Passes (λ x. x) result (gone (flag_past Reason.BadBool)) cursor.old cursor.new }
     ensures onward { Onward cursor.old cursor.new }
     ensures hears { Hears T.heard T.has_lost out.old out.new
-        (noting (way_of trail.now) pieces.truth wanted.truth (flag_node Reason.BadBool) cursor.old.place cursor.old.nodes cursor.old.rest.now) }
+        (noting (way_of trail.now) pieces.truth wanted.truth (flag_past Reason.BadBool) cursor.old.place cursor.old.nodes cursor.old.rest.now) }
 {
     let (start, from) = (cursor.place, cursor.rest);
     match flag_value(cursor, Reason::BadBool) {
@@ -131,7 +120,7 @@ pub fn tell_count<T: Listener>(
         (noting (way_of trail.now) (pieces.counted (counted_of what)) (wanted.count (counted_of what)) counted_here cursor.old.place cursor.old.nodes cursor.old.rest.now) }
 {
     let (start, from) = (cursor.place, cursor.rest);
-    match shallow::counted(cursor) {
+    match counted(cursor) {
         Ok(count) => {
             let meaning = Meaning::Length(what, count);
             tell(start, from, cursor, trail, meaning, out);

@@ -12,8 +12,8 @@ mod rows;
 mod trail;
 mod walking;
 
-pub use listener::{Counted, Listener, Meaning, Wanted};
-pub use trail::{Step, Trail};
 pub use bcs_decode_spec::{Reason, Stop};
 pub use bcs_pieces_spec::laws;
 pub use explaining::explain;
+pub use listener::{Counted, Listener, Meaning, Wanted};
+pub use trail::{Step, Trail};

@@ -15,7 +15,7 @@ ghost use Rattle.bcs_pieces.specs.Hearing.{Hears, wanted_of};
 use crate::listener::{Listener, Wanted};
 use crate::trail::Trail;
 use bcs_decode_slice::cursor::{self, Cursor};
-use bcs_decode_slice::shallow;
+use bcs_decode_slice::{key_order, shallow};
 use bcs_decode_spec::{Reason, Stop};
 use bcs_registry_model::{Named, VariantFormat};
 use std::collections::BTreeMap;
@@ -100,7 +100,7 @@ pub fn follows<T: Listener>(
     ensures judges { Judges result (key_after (key_bytes last.entry) key.now start) }
     ensures hears { Hears T.heard T.has_lost out.old out.new (need (way_of trail.now) wanted.later_key result) }
 {
-    let result = shallow::follows(last, key, start);
+    let result = key_order::follows(last, key, start);
     tell_stop(&result, trail, Wanted::LaterKey, out);
     result
 }

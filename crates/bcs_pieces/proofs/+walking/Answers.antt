@@ -12,11 +12,10 @@ use Rattle.bcs_registry_model.specs.View.{shape_of, formats_shapes, field_of, pa
 use Rattle.bcs_registry_model.specs.declared.format.Format.{Format}
 use Rattle.bcs_decode_spec.specs.declared.reason.Reason.TheVariants.{BadOption}
 use Rattle.bcs_decode_spec.specs.Reading.{items_here, pairs_here, skipping}
-use Rattle.bcs_decode_slice.specs.Passing.{skip, whole_here, key_bytes, node_here}
+use Rattle.bcs_decode_slice.specs.Passing.{skip, whole_here, flag_past, key_bytes, node_here}
 use Rattle.bcs_decode_slice.proofs.Passings.{unit_is, passes_from, passes_here}
-use Rattle.bcs_decode_slice.proofs.PassingParts.{items_stop, items_on, items_end, pairs_stop_key, pairs_stop_value, pairs_on, pairs_end, each, tuple_stop, tuple_on, each_end, each_stop, each_on, named_stop, named_on, content_past, content_shape, content_nothing, variant_stop, variant_unknown, variant_on}
+use Rattle.bcs_decode_slice.proofs.PassingParts.{option_stop, option_some, option_none, list_stop, list_on, map_stop, map_on, array_stop, array_on, items_stop, items_on, items_end, pairs_stop_key, pairs_stop_value, pairs_on, pairs_end, each, tuple_stop, tuple_on, each_end, each_stop, each_on, named_stop, named_on, content_past, content_shape, content_nothing, variant_stop, variant_unknown, variant_on, named_past}
 use Rattle.bcs_decode_spec.proofs.LookedUp.{content_found, content_missing, choice_found, choice_missing, levels_in, field_levels_in, formats_next, fields_next}
-use Rattle.bcs_decode_slice.proofs.PassingNames.{named_past}
 use Rattle.bcs_registry_model.proofs.Admitted.{content_at-inside, choice_at-inside}
 use Rattle.bcs_pieces_spec.specs.Way as ways
 use Rattle.bcs_pieces_spec.specs.Way.{Way, onto, opening}
@@ -30,10 +29,9 @@ use Rattle.bcs_pieces_spec.specs.Held.{Held, held, held_at, carried, nothing}
 use Rattle.bcs_pieces_spec.specs.Pieces.{is_octet}
 use Rattle.bcs_pieces_spec.specs.Telling.{tell as told, tell_carried, tell_row, tell_pairs, tell_held, tell_named, noting}
 use Rattle.bcs_pieces.specs.Trail.{way_of}
-use Rattle.bcs_pieces.specs.Leaf.{flag_node, leaf_past}
+use Rattle.bcs_pieces.specs.Leaf.{leaf_past}
 use Rattle.bcs_pieces.proofs.Noted.{hears_nothing, hears_as, hears_then, needed}
 use Rattle.bcs_pieces.proofs.Told.{told_pairs_end, told_pairs_stop_key, told_pairs_misplaced, told_pairs_stop_value, told_pairs_on, told_octets, told_elements, told_items_end, told_items_stop, told_items_on, told_option_stop, told_option_yes, told_option_no, told_map_stop, told_map_on, told_variant_stop, told_variant_on, told_seq_stop, told_seq_on, told_array_stop, told_array_on, told_tuple_stop, told_tuple_on, told_each_end, told_each_stop, told_each_on, told_fields_none, told_fields_begin, told_fields_end, told_fields_stop, told_fields_on, told_named_stop, told_named_on}
-use Rattle.bcs_pieces.proofs.Passed.{option_stop, option_some, option_none, list_stop, list_on, map_stop, map_on, array_stop, array_on}
 use Rattle.bcs_pieces.proofs.Chosen.{key_err, key_wrong, key_right, held_unit, held_of, carried_unit, carried_of, carried_fields, chosen_told, chosen_none, numbered_found, numbered_missing, held_found, held_missing, held_nothing, named_next}
 use Rattle.bcs_pieces.proofs.Bare.{leaf_past_is, leaf_told_is, octets_past}
 use Rattle.bcs_pieces.proofs.+walking.Goals as goal
@@ -119,7 +117,7 @@ walking::option-returns-then-branch-clause-passes g t c =
 pub walking::option-returns-then-branch-clause-hears : goal.walking::option-returns-then-branch-clause-hears
 walking::option-returns-then-branch-clause-hears g t c =
     hears_as g.T.Listener.heard g.T.Listener.has_lost c.args.out.now c.value.new.out _ _
-    (ap (λ (w : Way). noting (way_of c.args.trail.now) pieces.option wanted.option (flag_node BadOption) c.args.cursor.now.place c.args.cursor.now.nodes c.args.cursor.now.rest.now ++ told c.args.registry.now c.args.depth (shape_of c.args.content.now) w c.tell_flag.new.cursor.place c.tell_flag.new.cursor.nodes c.tell_flag.new.cursor.rest.now) c.below.ensures
+    (ap (λ (w : Way). noting (way_of c.args.trail.now) pieces.option wanted.option (flag_past BadOption) c.args.cursor.now.place c.args.cursor.now.nodes c.args.cursor.now.rest.now ++ told c.args.registry.now c.args.depth (shape_of c.args.content.now) w c.tell_flag.new.cursor.place c.tell_flag.new.cursor.nodes c.tell_flag.new.cursor.rest.now) c.below.ensures
     ∙ told_option_yes c.args.registry.now c.args.depth (way_of c.args.trail.now) c.args.cursor.now.place c.args.cursor.now.nodes c.args.cursor.now.rest.now (shape_of c.args.content.now) _ _ _ _ c.in_ok-tell_flag.ensures.passes c.if-branch.true)
     (hears_then g.T.Listener.heard g.T.Listener.has_lost c.args.out.now c.tell_flag.new.out c.value.new.out _ _ c.in_ok-tell_flag.ensures.hears c.value.ensures.hears)
 

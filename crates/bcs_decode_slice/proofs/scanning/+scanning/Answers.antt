@@ -7,11 +7,11 @@ use Rattle.bcs_registry_model.specs.WellFormed.{levels, shapes_levels}
 use Rattle.bcs_registry_model.specs.View.{shape_of, formats_shapes, field_of, payload_of, choice_of, container_of}
 use Rattle.bcs_registry_model.specs.declared.container.Container.{Container}
 use Rattle.bcs_decode_spec.specs.Reading.{items_here, pairs_here, skipping}
+use Rattle.bcs_registry_model.proofs.FormatViews.{shape-Opt, shape-Seq, shape-Map, shape-TupleArray}
 use Rattle.bcs_decode_slice.specs.Passing.{skip, node_here, truth_here, whole_here, text_past, bytes_past, unsupported_here}
 use Rattle.bcs_decode_slice.proofs.Passings.{past_Unit, past_Bool, past_Str, past_Bytes, past_float, past_8, past_16, past_32, past_64, past_128, unit_is, passes_from, passes_here}
-use Rattle.bcs_decode_slice.proofs.PassingParts.{option_stop, option_some, option_none, seq_stop, seq_on, map_stop, map_on, array_stop, array_on, items_stop, items_on, items_end, pairs_stop_key, pairs_stop_value, pairs_on, pairs_end, each, tuple_stop, tuple_on, each_end, each_stop, each_on, named_stop, named_on, content_past, content_shape, content_nothing, variant_stop, variant_unknown, variant_on}
+use Rattle.bcs_decode_slice.proofs.PassingParts.{option_stop, option_some, option_none, list_stop, list_on, map_stop, map_on, array_stop, array_on, items_stop, items_on, items_end, pairs_stop_key, pairs_stop_value, pairs_on, pairs_end, each, tuple_stop, tuple_on, each_end, each_stop, each_on, named_stop, named_on, content_past, content_shape, content_nothing, variant_stop, variant_unknown, variant_on, named_past}
 use Rattle.bcs_decode_spec.proofs.LookedUp.{content_found, content_missing, choice_found, choice_missing, levels_in, field_levels_in, formats_next, fields_next}
-use Rattle.bcs_decode_slice.proofs.PassingNames.{named_past}
 use Rattle.bcs_registry_model.proofs.Admitted.{content_at-inside, choice_at-inside}
 use Rattle.bcs_decode_slice.proofs.scanning.+scanning.Goals as goal
 
@@ -395,30 +395,31 @@ pub value-returns-in-F32-clause-passes : goal.value-returns-in-F32-clause-passes
 value-returns-in-F32-clause-passes t c =
     passes_here c.unsupported.result _ (unsupported_here) c.args.cursor.now c.unsupported.new.cursor (λ p m b. past_float c.args.registry.now c.args.depth c.args.format.now p m b c.in-F32.is) c.unsupported.ensures.passes
 
-pub value-returns-in_err-option-in-Opt-clause-passes : goal.value-returns-in_err-option-in-Opt-clause-passes
-value-returns-in_err-option-in-Opt-clause-passes t c =
+pub value-returns-in_err-flag_value-in-Opt-clause-passes : goal.value-returns-in_err-flag_value-in-Opt-clause-passes
+value-returns-in_err-flag_value-in-Opt-clause-passes t c =
     let p = err_from_is_err_and c.from_residual.result c.from_residual.ensures.1 in
-    rw (p.1, p.2) (option_stop c.args.registry.now c.args.depth c.args.format.now _ _ _ c.in-Opt.content _ c.in-Opt.is c.in_err-option-in-Opt.ensures.passes)
+    rw (p.1, p.2, shape-Opt c.args.format.now c.in-Opt.content c.in-Opt.is) (option_stop c.args.registry.now c.args.depth _ _ _ (shape_of c.in-Opt.content.value) _ c.in_err-flag_value-in-Opt.ensures.passes)
 
 pub value-returns-then-branch-clause-passes : goal.value-returns-then-branch-clause-passes
 value-returns-then-branch-clause-passes t c =
     let r = c.args.registry.now in
     let d = c.args.depth in
     let at = c.args.cursor.now in
-    let on = c.option.new.cursor in
+    let on = c.flag_value.new.cursor in
     passes_from (λ x. x) c.value.result _ (skip r d (shape_of c.deref.result.now)) at on c.value.new.cursor
-    (option_some r d c.args.format.now at.place at.nodes at.rest.now c.in-Opt.content _ on.place on.nodes on.rest.now c.in-Opt.is c.in_ok-option-in-Opt.ensures.passes c.if-branch.true
+    (ap (λ s. skip r d s at.place at.nodes at.rest.now) (shape-Opt c.args.format.now c.in-Opt.content c.in-Opt.is)
+    ∙ option_some r d at.place at.nodes at.rest.now (shape_of c.in-Opt.content.value) _ on.place on.nodes on.rest.now c.in_ok-flag_value-in-Opt.ensures.passes c.if-branch.true
     ∙ ap (λ f. skip r d (shape_of f) on.place on.nodes on.rest.now) (sym c.deref.ensures))
     c.value.ensures.passes
 
 pub value-returns-else-branch-clause-passes : goal.value-returns-else-branch-clause-passes
 value-returns-else-branch-clause-passes t c =
-    option_none c.args.registry.now c.args.depth c.args.format.now _ _ _ c.in-Opt.content _ _ _ _ c.in-Opt.is c.in_ok-option-in-Opt.ensures.passes c.if-branch.false
+    rw (shape-Opt c.args.format.now c.in-Opt.content c.in-Opt.is) (option_none c.args.registry.now c.args.depth _ _ _ (shape_of c.in-Opt.content.value) _ _ _ _ c.in_ok-flag_value-in-Opt.ensures.passes c.if-branch.false)
 
 pub value-returns-in_err-count-in-Seq-clause-passes : goal.value-returns-in_err-count-in-Seq-clause-passes
 value-returns-in_err-count-in-Seq-clause-passes t c =
     let p = err_from_is_err_and c.from_residual-in_err-count-in-Seq.result c.from_residual-in_err-count-in-Seq.ensures.1 in
-    rw (p.1, p.2) (seq_stop c.args.registry.now c.args.depth c.args.format.now _ _ _ c.in-Seq.element _ c.in-Seq.is c.in_err-count-in-Seq.ensures.passes)
+    rw (p.1, p.2, shape-Seq c.args.format.now c.in-Seq.element c.in-Seq.is) (list_stop c.args.registry.now c.args.depth _ _ _ (shape_of c.in-Seq.element.value) _ c.in_err-count-in-Seq.ensures.passes)
 
 pub value-returns-in_ok-count-in-Seq-clause-passes : goal.value-returns-in_ok-count-in-Seq-clause-passes
 value-returns-in_ok-count-in-Seq-clause-passes t c =
@@ -428,7 +429,8 @@ value-returns-in_ok-count-in-Seq-clause-passes t c =
     let on = c.counted.new.cursor in
     let n = c.in_ok-count-in-Seq.count in
     passes_from (λ x. x) c.elements.result _ (items_here skipping (skip r d (shape_of c.deref-in-Seq.result.now)) c.from.result) at on c.elements.new.cursor
-    (seq_on r d c.args.format.now at.place at.nodes at.rest.now c.in-Seq.element n on.place on.nodes on.rest.now c.in-Seq.is c.in_ok-count-in-Seq.ensures.passes
+    (ap (λ s. skip r d s at.place at.nodes at.rest.now) (shape-Seq c.args.format.now c.in-Seq.element c.in-Seq.is)
+    ∙ list_on r d at.place at.nodes at.rest.now (shape_of c.in-Seq.element.value) n on.place on.nodes on.rest.now c.in_ok-count-in-Seq.ensures.passes
     ∙ ap (λ f. items_here skipping (skip r d (shape_of f)) n on.place on.nodes on.rest.now) (sym c.deref-in-Seq.ensures)
     ∙ ap (λ k. items_here skipping (skip r d (shape_of c.deref-in-Seq.result.now)) k on.place on.nodes on.rest.now) (sym c.from.ensures))
     c.elements.ensures.passes
@@ -436,7 +438,7 @@ value-returns-in_ok-count-in-Seq-clause-passes t c =
 pub value-returns-in_err-count-in-Map-clause-passes : goal.value-returns-in_err-count-in-Map-clause-passes
 value-returns-in_err-count-in-Map-clause-passes t c =
     let p = err_from_is_err_and c.from_residual-in_err-count-in-Map.result c.from_residual-in_err-count-in-Map.ensures.1 in
-    rw (p.1, p.2) (map_stop c.args.registry.now c.args.depth c.args.format.now _ _ _ c.in-Map.key c.in-Map.content _ c.in-Map.is c.in_err-count-in-Map.ensures.passes)
+    rw (p.1, p.2, shape-Map c.args.format.now c.in-Map.key c.in-Map.content c.in-Map.is) (map_stop c.args.registry.now c.args.depth _ _ _ (shape_of c.in-Map.key.value) (shape_of c.in-Map.content.value) _ c.in_err-count-in-Map.ensures.passes)
 
 pub value-returns-in_ok-count-in-Map-clause-passes : goal.value-returns-in_ok-count-in-Map-clause-passes
 value-returns-in_ok-count-in-Map-clause-passes t c =
@@ -446,7 +448,8 @@ value-returns-in_ok-count-in-Map-clause-passes t c =
     let on = c.counted-in-Map.new.cursor in
     let n = c.in_ok-count-in-Map.count in
     passes_from (λ x. x) c.entries.result _ (pairs_here skipping (skip r d (shape_of c.deref-in-Map.result.now)) (skip r d (shape_of c.deref-in-Map-2.result.now)) None n) at on c.entries.new.cursor
-    (map_on r d c.args.format.now at.place at.nodes at.rest.now c.in-Map.key c.in-Map.content n on.place on.nodes on.rest.now c.in-Map.is c.in_ok-count-in-Map.ensures.passes
+    (ap (λ s. skip r d s at.place at.nodes at.rest.now) (shape-Map c.args.format.now c.in-Map.key c.in-Map.content c.in-Map.is)
+    ∙ map_on r d at.place at.nodes at.rest.now (shape_of c.in-Map.key.value) (shape_of c.in-Map.content.value) n on.place on.nodes on.rest.now c.in_ok-count-in-Map.ensures.passes
     ∙ ap (λ f. pairs_here skipping (skip r d (shape_of f)) (skip r d (shape_of c.in-Map.content.value)) None n on.place on.nodes on.rest.now) (sym c.deref-in-Map.ensures)
     ∙ ap (λ f. pairs_here skipping (skip r d (shape_of c.deref-in-Map.result.now)) (skip r d (shape_of f)) None n on.place on.nodes on.rest.now) (sym c.deref-in-Map-2.ensures))
     c.entries.ensures.passes
@@ -454,7 +457,7 @@ value-returns-in_ok-count-in-Map-clause-passes t c =
 pub value-returns-in_err-node-in-TupleArray-clause-passes : goal.value-returns-in_err-node-in-TupleArray-clause-passes
 value-returns-in_err-node-in-TupleArray-clause-passes t c =
     let p = err_from_is_err_and c.from_residual-in_err-node-in-TupleArray.result c.from_residual-in_err-node-in-TupleArray.ensures.1 in
-    rw (p.1, p.2) (array_stop c.args.registry.now c.args.depth c.args.format.now _ _ _ c.in-TupleArray.element c.in-TupleArray.size _ c.in-TupleArray.is c.in_err-node-in-TupleArray.ensures.passes)
+    rw (p.1, p.2, shape-TupleArray c.args.format.now c.in-TupleArray.element c.in-TupleArray.size c.in-TupleArray.is) (array_stop c.args.registry.now c.args.depth _ _ _ (shape_of c.in-TupleArray.element.value) c.in-TupleArray.size _ c.in_err-node-in-TupleArray.ensures.passes)
 
 pub value-returns-in_ok-node-in-TupleArray-clause-passes : goal.value-returns-in_ok-node-in-TupleArray-clause-passes
 value-returns-in_ok-node-in-TupleArray-clause-passes t c =
@@ -464,6 +467,7 @@ value-returns-in_ok-node-in-TupleArray-clause-passes t c =
     let on = c.node-in-TupleArray.new.cursor in
     let n = c.in-TupleArray.size in
     passes_from (λ x. x) c.elements-in-TupleArray.result _ (items_here skipping (skip r d (shape_of c.deref-in-TupleArray.result.now)) n) at on c.elements-in-TupleArray.new.cursor
-    (array_on r d c.args.format.now at.place at.nodes at.rest.now c.in-TupleArray.element n on.place on.nodes on.rest.now c.in-TupleArray.is c.in_ok-node-in-TupleArray.ensures.passes
+    (ap (λ s. skip r d s at.place at.nodes at.rest.now) (shape-TupleArray c.args.format.now c.in-TupleArray.element c.in-TupleArray.size c.in-TupleArray.is)
+    ∙ array_on r d at.place at.nodes at.rest.now (shape_of c.in-TupleArray.element.value) n on.place on.nodes on.rest.now c.in_ok-node-in-TupleArray.ensures.passes
     ∙ ap (λ f. items_here skipping (skip r d (shape_of f)) n on.place on.nodes on.rest.now) (sym c.deref-in-TupleArray.ensures))
     c.elements-in-TupleArray.ensures.passes
