@@ -77,7 +77,7 @@ module _ (registry : Entries) (limits : Bounds) (s : Shape) (text : List ℕ) wh
   told_place d is n depth r tells placed other path known =
       let read : read_data registry limits.depth (of s) d ≡ Err r.fault = subst (λ m. read_data registry m (of s) d ≡ Err r.fault) depth (tells other) in
       let place : IsPlaceOf registry n (value (of s)) d path = subst (λ o. IfSome o (λ way. IsPlaceOf registry n (value (of s)) d way)) known (placed other) in
-      (d, is, ((exact_data registry limits.depth (of s)).err d r.fault read, subst (λ m. IsPlaceOf registry m (value (of s)) d path) depth place))
+      (d, is, ((exact_data registry limits.depth (of s) d).err r.fault read, subst (λ m. IsPlaceOf registry m (value (of s)) d path) depth place))
 
   -- a fault of encoding what is spelled is one of the text
   pub value_fault : IsOrderly registry → (t : Tree) → SpelledBy registry limits s text t → (e : EncodeFault) → (e ≢ encode_fault.OutOfMemory → encode.Refuses registry limits s t e)

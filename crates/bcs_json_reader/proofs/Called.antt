@@ -26,10 +26,6 @@ numbered : (o : Option Choice) (n : ℕ) → Some n ≡ option_map (λ c. c.0) o
 numbered None n h = cc
 numbered (Some c) n h = (c, refl, cc)
 
-missing : (o : Option Choice) → None ≡ option_map (λ c. c.0) o → None ≡ o
-missing None h = refl
-missing (Some c) h = cc
-
 same_choice : (n : ℕ) (c : Choice) (o : Option (Bor (Named VariantFormat))) → c.0 ≡ n → option_map (λ v. (string_bytes v.name, payload_of v.value)) (option_copied o) ≡ Some c.1
     → option_map (λ v. choice_of (n, v.now)) o ≡ Some c
 same_choice n c None is h = cc
@@ -40,10 +36,6 @@ same_choice n c (Some x) is h =
 module _ (registry : Entries) (orderly : IsOrderly registry) (name word : List ℕ) (vs : List (ℕ × Named VariantFormat)) (h : container_at name registry ≡ Some (enumeration (map choice_of vs))) where
   number_is : variant_number name word registry ≡ option_map (λ c. c.0) (choice_called word (map choice_of vs))
   number_is = ap (λ o. option_map_or (number_called word) o None) h
-
-  -- no variant of this name
-  pub none_called : (r : Option ℕ) → r ≡ variant_number name word registry → r ≡ None → None ≡ choice_called word (map choice_of vs)
-  none_called r is none = missing (choice_called word (map choice_of vs)) (sym none ∙ is ∙ number_is)
 
   -- what has the number is the variant of this name
   pub found_called : (r : Option ℕ) (n : ℕ) (o : Option (Bor (Named VariantFormat))) → r ≡ variant_number name word registry → r ≡ Some n → option_copied o ≡ lookup (is_at (nat_cmp n)) vs

@@ -18,7 +18,17 @@ use Rattle.bcs_json_spec.specs.Look.{item_count, shape_count}
 use Rattle.bcs_json_spec.specs.Place.{item_parts, each_parts, array_parts, tuple_parts}
 use Rattle.bcs_json_spec.specs.Reading.{Read, follow, read_all, read_array, read_tuple, read_shape, read_each}
 use Rattle.bcs_json_spec.proofs.Exact.{when_true, when_false}
-use Rattle.bcs_json_reader.proofs.OtherCounts.{count_items}
+
+-- as many items as values of JSON
+count_items : (js : List Json) → item_count (items_view js) ≡ length js
+count_items [] = refl
+count_items (j ∷ js) = ap suc (count_items js)
+
+pub other_items : (n : ℕ) (r : Items → Read Trees) (j : Data) (js : List Json) → j ≡ array (items_view js) → (length js ≡ n → ⊥) → read_tuple n r j ≡ Err BadShape
+other_items n r j js is other =
+    ap (read_tuple n r) is
+    ∙ when_false (item_count (items_view js) == n) (follow (r (items_view js)) (λ ts. Ok (items ts))) (Err BadShape) (Decides-eqb (item_count (items_view js)) n)
+    (λ same. other (sym (count_items js) ∙ same))
 
 pub count_formats : (fs : List Format) → shape_count (formats_shapes fs) ≡ length fs
 count_formats [] = refl

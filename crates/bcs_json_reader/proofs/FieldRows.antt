@@ -1,5 +1,5 @@
 -- The fields of a struct from one on, in the members that are left.
-use Rattle.std.proofs.Common.{◌≡◌, ◌∙◌, ◌++◌, ℕ, List, [], ◌∷◌, Ok, Err, Some, None, map, string_bytes, refl, ap, sym}
+use Rattle.std.proofs.Common.{◌≡◌, ◌∙◌, ◌++◌, ℕ, List, [], ◌∷◌, Ok, Err, Some, map, string_bytes, refl, ap, sym}
 use Rattle.serde_json.specs.Data.{Data, Members, no_members, member}
 use Rattle.serde_json.specs.Find.{get_member}
 use Rattle.bcs_registry_model.specs.View.{shape_of, field_of}
@@ -10,10 +10,8 @@ use Rattle.bcs_value_model.specs.View.{tree_of, items_trees}
 use Rattle.bcs_value_model.specs.declared.value.Value.{Value}
 use Rattle.bcs_json_spec.specs.Look.{without}
 use Rattle.bcs_json_spec.specs.Reading.{Read, follow, read_shape, read_member, read_fields}
-use Rattle.bcs_json_spec.specs.declared.json_fault.JsonFault.{JsonFault}
-use Rattle.bcs_json_spec.specs.declared.json_fault.JsonFault.TheVariants.{UnknownField, MissingField}
-use Rattle.bcs_json_reader.proofs.Joined.{joined, joined-none}
-use Rattle.bcs_json_reader.proofs.Rows.{row_more, row_fault}
+use Rattle.bcs_json_spec.specs.declared.json_fault.JsonFault.TheVariants.{UnknownField}
+use Rattle.bcs_json_reader.proofs.Rows.{joined, joined-none, row_more}
 
 module _ (named : List ℕ → Data → Read Tree) (x : Named Format) (fs gs : List (Named Format)) (here : gs ≡ x ∷ fs) (ms : Members) (vs : List Value) where
   abbrev so_far : List (Named Format) → Read Trees
@@ -28,20 +26,6 @@ module _ (named : List ℕ → Data → Read Tree) (x : Named Format) (fs gs : L
       ∙ row_more vs v (read_member (read_shape named (shape_of x.value)) (get_member (string_bytes x.name) ms)) (read_fields named (map field_of fs) (without (string_bytes x.name) ms))
       (ap (read_member (read_shape named (shape_of x.value))) found ∙ h)
       ∙ ap (λ qs. follow (read_fields named (map field_of fs) qs) (λ ts. Ok (joined (vs ++ v ∷ []) ts))) (sym left)
-
-  -- or refused
-  pub field_fault : (m : Data) (e : JsonFault) → get_member (string_bytes x.name) ms ≡ Some m → read_shape named (shape_of x.value) m ≡ Err e → so_far gs ≡ Err e
-  field_fault m e found h =
-      ap so_far here
-      ∙ row_fault vs (read_member (read_shape named (shape_of x.value)) (get_member (string_bytes x.name) ms)) (read_fields named (map field_of fs) (without (string_bytes x.name) ms)) e
-      (ap (read_member (read_shape named (shape_of x.value))) found ∙ h)
-
-  -- or there was none
-  pub field_missing : get_member (string_bytes x.name) ms ≡ None → so_far gs ≡ Err MissingField
-  field_missing none =
-      ap so_far here
-      ∙ row_fault vs (read_member (read_shape named (shape_of x.value)) (get_member (string_bytes x.name) ms)) (read_fields named (map field_of fs) (without (string_bytes x.name) ms)) MissingField
-      (ap (read_member (read_shape named (shape_of x.value))) none)
 
 -- after all of them no member is left, or one is
 module _ (named : List ℕ → Data → Read Tree) (gs : List (Named Format)) (done : gs ≡ []) (vs : List Value) where

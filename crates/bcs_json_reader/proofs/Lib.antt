@@ -3,14 +3,12 @@ pub mod Counts
 pub mod Rows
 pub mod PairRows
 pub mod FieldRows
-pub mod Names
+pub mod Levels
 pub mod Placed
 pub mod OwnKind
 pub mod PlacedRows
 pub mod Whole
-pub mod Joined
 pub mod Texts
 pub mod Taken
-pub mod OtherCounts
 pub mod Called
 pub mod Ways

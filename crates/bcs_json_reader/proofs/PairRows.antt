@@ -29,14 +29,10 @@ step es e (Err f) = refl
 -- ---- an entry
 
 module _ (k v : Data → Read Tree) (j a b : Data) (two : j ≡ array (item a (item b no_items))) where
-  -- its key is refused
-  pub key_fault : (e : JsonFault) → k a ≡ Err e → read_pair k v j ≡ Err e
-  key_fault e h = ap (read_pair k v) two ∙ ap (λ (x : Read Tree). follow x (λ s. follow (v b) (λ t. Ok (s, t)))) h
-
   key_read : (s : Tree) → k a ≡ Ok s → read_pair k v j ≡ follow {B = Tree × Tree} (v b) (λ t. Ok (s, t))
   key_read s h = ap (read_pair k v) two ∙ ap (λ (x : Read Tree). follow x (λ s. follow (v b) (λ t. Ok (s, t)))) h
 
-  -- or its value
+  -- its value is refused
   pub value_fault : (s : Tree) (e : JsonFault) → k a ≡ Ok s → v b ≡ Err e → read_pair k v j ≡ Err e
   value_fault s e g h = key_read s g ∙ ap (λ (y : Read Tree). follow {B = Tree × Tree} y (λ t. Ok (s, t))) h
 
@@ -53,11 +49,7 @@ module _ (k v : Data → Read Tree) (js : List Json) (es : List (Value × Value)
   abbrev after : List Json → Read (Tree × Tree) → Read Pairs
   after left x = follow (follow x (λ p. follow (read_pairs k v (items_view left)) (λ ps. Ok (pair p.0 p.1 ps)))) (λ ps. Ok (joined_pairs es ps))
 
-  -- the first entry is refused
-  pub pair_fault : (left : List Json) (j : Json) (e : JsonFault) → js ≡ j ∷ left → read_pair k v (view j) ≡ Err e → pairs_from js ≡ Err e
-  pair_fault left j e h f = ap pairs_from h ∙ ap (after left) f
-
-  -- or read
+  -- the first entry is read
   pub pair_more : (left : List Json) (j : Json) (x : Value × Value) → js ≡ j ∷ left → read_pair k v (view j) ≡ Ok (tree_of x.0, tree_of x.1)
       → pairs_from js ≡ follow (read_pairs k v (items_view left)) (λ ps. Ok (joined_pairs (es ++ x ∷ []) ps))
   pair_more left j x h r = ap pairs_from h ∙ ap (after left) r ∙ step es x (read_pairs k v (items_view left))

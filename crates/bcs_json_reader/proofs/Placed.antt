@@ -10,7 +10,7 @@ use Rattle.bcs_json_spec.specs.declared.json_fault.JsonFault.TheVariants.{OutOfM
 use Rattle.bcs_json_spec.proofs.Places.{place-here, place-later}
 use Rattle.bcs_json_reader.specs.Refused.{steps, fault_alone, way_of, IsPlaced}
 use Rattle.bcs_json_reader.specs.declared.refusal.Refusal.{Refusal}
-use Rattle.bcs_json_reader.specs.declared.way.Way.TheVariants.{Here}
+use Rattle.bcs_json_reader.specs.declared.refusal.Way.TheVariants.{Here}
 
 -- what was told stays so, seen from outside
 pub told_ok : {X A : Type 0} (see : X → A) (inner : Result X Refusal) (read : Read A) (v : X) → Ok v ≡ fault_alone inner → Tells see (fault_alone inner) read → read ≡ Ok (see v)
@@ -39,9 +39,6 @@ module _ (registry : Entries) where
 
   pub placed_none : (ps : List Part) (r : Refusal) → r.way ≡ Here → ps ≡ [] → IsWay ps r
   placed_none ps r here none = placed_own ps r here (subst (All (IsGood registry)) (sym none) (All-nil (IsGood registry)))
-
-  pub placed_memory : (ps : List Part) (r : Refusal) → r.fault ≡ OutOfMemory → IsWay ps r
-  placed_memory ps r is other = absurd (other is)
 
   pub way_as : (ps qs : List Part) (r : Refusal) → ps ≡ qs → IsWay qs r → IsWay ps r
   way_as ps qs r same h = subst (λ os. IsWay os r) (sym same) h

@@ -8,7 +8,7 @@ use Rattle.serde_json.specs.Find.{get_member}
 use Rattle.serde_json.specs.View.{view, items_view}
 use Rattle.serde_json.specs.declared.value.Value.{Value as Json}
 use Rattle.bcs_registry_model.specs.Container as container
-use Rattle.bcs_registry_model.specs.Container.{Entries, Field, Payload, Choice, choice_called}
+use Rattle.bcs_registry_model.specs.Container.{Entries, Payload, Choice, choice_called}
 use Rattle.bcs_registry_model.specs.Shape.{Shape}
 use Rattle.bcs_registry_model.specs.View.{shape_of, formats_shapes, field_of}
 use Rattle.bcs_registry_model.specs.declared.format.Format.{Format}

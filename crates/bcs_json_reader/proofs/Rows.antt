@@ -1,16 +1,39 @@
 -- A row of values: what was read so far, before what is still to be read.
-use Rattle.std.proofs.Common.{◌≡◌, ◌∙◌, ◌++◌, ℕ, List, [], ◌∷◌, Ok, Err, refl, ap, sym}
+use Rattle.std.proofs.Common.{◌≡◌, ◌∙◌, ◌++◌, ℕ, suc, List, [], ◌∷◌, length, Ok, Err, refl, ap, sym}
 use Rattle.serde_json.specs.Data.{Data}
 use Rattle.serde_json.specs.View.{view, items_view}
 use Rattle.serde_json.specs.declared.value.Value.{Value as Json}
 use Rattle.bcs_registry_model.specs.View.{shape_of, formats_shapes}
 use Rattle.bcs_registry_model.specs.declared.format.Format.{Format}
-use Rattle.bcs_value_model.specs.Tree.{Tree, Trees, tree}
+use Rattle.bcs_value_model.specs.Tree.{Tree, Trees, no_trees, tree, unsigned, count}
 use Rattle.bcs_value_model.specs.View.{tree_of, items_trees}
 use Rattle.bcs_value_model.specs.declared.value.Value.{Value}
+use Rattle.bcs_json_spec.specs.Bytes.{byte_trees}
 use Rattle.bcs_json_spec.specs.declared.json_fault.JsonFault.{JsonFault}
 use Rattle.bcs_json_spec.specs.Reading.{Read, follow, read_all, read_shape, read_each}
-use Rattle.bcs_json_reader.proofs.Joined.{joined, joined-none, joined-more}
+
+-- what was read, and then these
+abbrev pub joined : List Value → Trees → Trees
+joined [] ts = ts
+joined (v ∷ vs) ts = tree (tree_of v) (joined vs ts)
+
+pub joined-none : (vs : List Value) → joined vs no_trees ≡ items_trees vs
+joined-none [] = refl
+joined-none (v ∷ vs) = ap (tree (tree_of v)) (joined-none vs)
+
+joined-more : (vs : List Value) (v : Value) (ts : Trees) → joined (vs ++ v ∷ []) ts ≡ joined vs (tree (tree_of v) ts)
+joined-more [] v ts = refl
+joined-more (w ∷ vs) v ts = ap (tree (tree_of w)) (joined-more vs v ts)
+
+-- a byte as the next value
+pub byte_more : (vs : List Value) (v : Value) (x : ℕ) (left xs : List ℕ) → left ≡ x ∷ xs → tree_of v ≡ unsigned x
+    → joined vs (byte_trees left) ≡ joined (vs ++ v ∷ []) (byte_trees xs)
+byte_more vs v x left xs h e = ap (λ ys. joined vs (byte_trees ys)) h ∙ ap (λ t. joined vs (tree t (byte_trees xs))) (sym e) ∙ sym (joined-more vs v (byte_trees xs))
+
+-- as many values as bytes
+pub count_bytes : (b : List ℕ) → count (byte_trees b) ≡ length b
+count_bytes [] = refl
+count_bytes (x ∷ b) = ap suc (count_bytes b)
 
 step : (vs : List Value) (v : Value) (rest : Read Trees) → follow (follow rest (λ ts. Ok (tree (tree_of v) ts))) (λ ts. Ok (joined vs ts)) ≡ follow rest (λ ts. Ok (joined (vs ++ v ∷ []) ts))
 step vs v (Ok ts) = ap Ok (sym (joined-more vs v ts))
@@ -58,11 +81,6 @@ module _ (named : List ℕ → Data → Read Tree) (fs : List Format) (js : List
   pub each_more : (f : Format) (gs : List Format) (j : Json) (left : List Json) (v : Value) → fs ≡ f ∷ gs → js ≡ j ∷ left → read_shape named (shape_of f) (view j) ≡ Ok (tree_of v)
       → each_from fs js ≡ follow (read_each named (formats_shapes gs) (items_view left)) (λ ts. Ok (joined (vs ++ v ∷ []) ts))
   each_more f gs j left v g h e = each_is (f ∷ gs) (j ∷ left) g h ∙ row_more vs v (read_shape named (shape_of f) (view j)) (read_each named (formats_shapes gs) (items_view left)) e
-
-  -- or refused
-  pub each_fault : (f : Format) (gs : List Format) (j : Json) (left : List Json) (e : JsonFault) → fs ≡ f ∷ gs → js ≡ j ∷ left → read_shape named (shape_of f) (view j) ≡ Err e
-      → each_from fs js ≡ Err e
-  each_fault f gs j left e g h k = each_is (f ∷ gs) (j ∷ left) g h ∙ row_fault vs (read_shape named (shape_of f) (view j)) (read_each named (formats_shapes gs) (items_view left)) e k
 
   -- or no format is left
   pub each_done : fs ≡ [] → each_from fs js ≡ Ok (items_trees vs)

@@ -16,7 +16,7 @@ use Rattle.bcs_json_spec.specs.declared.json_fault.JsonFault.TheVariants.{BadSha
 use Rattle.bcs_json_spec.specs.Bytes.{byte_trees}
 use Rattle.bcs_json_spec.specs.Reading.{Read, Tells, follow, read_text, sized}
 use Rattle.bcs_json_spec.proofs.Exact.{go_on, when_true, when_false}
-use Rattle.bcs_json_reader.proofs.Joined.{count_bytes}
+use Rattle.bcs_json_reader.proofs.Rows.{count_bytes}
 
 pub view_string : (s : String Global) → view (json.String s) ≡ string (string_bytes s)
 view_string s = search (rules, json_lemmas)

@@ -15,7 +15,7 @@ use Rattle.bcs_json_spec.specs.declared.json_fault.JsonFault.TheVariants.{BadNum
 use Rattle.bcs_json_spec.proofs.LeafVerdicts.{exact_unsigned, exact_signed}
 
 pub unsigned_told : (w : Width) (j : Data) (m : ℕ) → SpellsWhole j (pos m) → IsUnsigned w m → read_unsigned w j ≡ Ok (unsigned m)
-unsigned_told w j m s h = (exact_unsigned [] 0 w).again j (unsigned m) ((s, (Decides-ltb m (2 ^ bits w)).1 h), omega arith)
+unsigned_told w j m s h = (exact_unsigned [] 0 w j).again (unsigned m) ((s, (Decides-ltb m (2 ^ bits w)).1 h), omega arith)
 
 unsigned_out : (w : Width) (j : Data) → ((m : ℕ) → SpellsWhole j (pos m) → ¬ IsUnsigned w m) → (z : ℤ) (b : Bool) → is_unsigned_of w z ≡ b → SpellsWhole j z → is_unsigned_of w z ≡ false
 unsigned_out w j none (pos m) true is s = absurd (none m s ((Decides-ltb m (2 ^ bits w)).0 is))
@@ -24,8 +24,8 @@ unsigned_out w j none (negsuc m) b is s = refl
 
 pub unsigned_refused : (w : Width) (j : Data) → ((m : ℕ) → SpellsWhole j (pos m) → ¬ IsUnsigned w m) → read_unsigned w j ≡ Err (whole_refusal j)
 unfolding read_unsigned
-unsigned_refused w (number x) none = (exact_unsigned [] 0 w).errs (number x) BadNumber ((λ z s. unsigned_out w (number x) none z (is_unsigned_of w z) refl s), refl)
-unsigned_refused w (string t) none = (exact_unsigned [] 0 w).errs (string t) BadNumber ((λ z s. unsigned_out w (string t) none z (is_unsigned_of w z) refl s), refl)
+unsigned_refused w (number x) none = (exact_unsigned [] 0 w (number x)).errs BadNumber ((λ z s. unsigned_out w (number x) none z (is_unsigned_of w z) refl s), refl)
+unsigned_refused w (string t) none = (exact_unsigned [] 0 w (string t)).errs BadNumber ((λ z s. unsigned_out w (string t) none z (is_unsigned_of w z) refl s), refl)
 unsigned_refused w _ none = refl
 
 below_half : (w : Width) (z : ℤ) → is_signed_of w z ≡ true → IsSigned w z
@@ -37,7 +37,7 @@ half_below w (pos n) h = (Decides-ltb n (2 ^ hbits w)).1 h.sfits
 half_below w (negsuc n) h = (Decides-ltb n (2 ^ hbits w)).1 h.sfits
 
 pub signed_told : (w : Width) (j : Data) (z : ℤ) → SpellsWhole j z → IsSigned w z → read_signed w j ≡ Ok (signed z)
-signed_told w j z s h = (exact_signed [] 0 w).again j (signed z) ((s, half_below w z h), omega arith)
+signed_told w j z s h = (exact_signed [] 0 w j).again (signed z) ((s, half_below w z h), omega arith)
 
 signed_out : (w : Width) (j : Data) → ((z : ℤ) → SpellsWhole j z → ¬ IsSigned w z) → (z : ℤ) (b : Bool) → is_signed_of w z ≡ b → SpellsWhole j z → is_signed_of w z ≡ false
 signed_out w j none z true is s = absurd (none z s (below_half w z is))
@@ -45,8 +45,8 @@ signed_out w j none z false is s = is
 
 pub signed_refused : (w : Width) (j : Data) → ((z : ℤ) → SpellsWhole j z → ¬ IsSigned w z) → read_signed w j ≡ Err (whole_refusal j)
 unfolding read_signed
-signed_refused w (number x) none = (exact_signed [] 0 w).errs (number x) BadNumber ((λ z s. signed_out w (number x) none z (is_signed_of w z) refl s), refl)
-signed_refused w (string t) none = (exact_signed [] 0 w).errs (string t) BadNumber ((λ z s. signed_out w (string t) none z (is_signed_of w z) refl s), refl)
+signed_refused w (number x) none = (exact_signed [] 0 w (number x)).errs BadNumber ((λ z s. signed_out w (number x) none z (is_signed_of w z) refl s), refl)
+signed_refused w (string t) none = (exact_signed [] 0 w (string t)).errs BadNumber ((λ z s. signed_out w (string t) none z (is_signed_of w z) refl s), refl)
 signed_refused w _ none = refl
 
 -- ---- values

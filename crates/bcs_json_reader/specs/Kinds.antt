@@ -2,10 +2,10 @@
 use Rattle.std.specs.Prelude.{Option, Some, None, codes, string_bytes}
 use Rattle.serde_json.specs.Data.{Data, null, string, array, object, no_members, member}
 use Rattle.serde_json.specs.View.{view, items_view}
-use Rattle.bcs_json_reader.specs.declared.enums.EnumJson.{EnumJson}
-use Rattle.bcs_json_reader.specs.declared.enums.EnumJson.TheVariants.{Name, Member}
-use Rattle.bcs_json_reader.specs.declared.lists.ListJson.{ListJson}
-use Rattle.bcs_json_reader.specs.declared.lists.ListJson.TheVariants.{Array, Text}
+use Rattle.bcs_json_reader.specs.declared.objects.EnumJson.{EnumJson}
+use Rattle.bcs_json_reader.specs.declared.objects.EnumJson.TheVariants.{Name, Member}
+use Rattle.bcs_json_reader.specs.declared.arrays.ListJson.{ListJson}
+use Rattle.bcs_json_reader.specs.declared.arrays.ListJson.TheVariants.{Array, Text}
 
 -- the JSON of an option with this part, or with none
 abbrev pub option_json : Option Data → Data

@@ -5,8 +5,8 @@ use Rattle.bcs_json_spec.specs.Place.{Step, step_of, Part, IsPlaceAmong}
 use Rattle.bcs_json_spec.specs.declared.json_fault.JsonFault.{JsonFault}
 use Rattle.bcs_json_spec.specs.declared.json_fault.JsonFault.TheVariants.{OutOfMemory}
 use Rattle.bcs_json_reader.specs.declared.refusal.Refusal.{Refusal}
-use Rattle.bcs_json_reader.specs.declared.way.Way.{Way}
-use Rattle.bcs_json_reader.specs.declared.way.Way.TheVariants.{Here, Through, Unknown}
+use Rattle.bcs_json_reader.specs.declared.refusal.Way.{Way}
+use Rattle.bcs_json_reader.specs.declared.refusal.Way.TheVariants.{Here, Through, Unknown}
 
 -- the steps from the outermost on, if they are known
 abbrev pub steps : Way → Option (List Step)

@@ -1,11 +1,12 @@
-//! Arrays, taken apart, so that their items are moved and not copied. Another kind of JSON is refused as a `BadShape`.
-ghost use Rattle.std.specs.Prelude.{◌≡◌, ◌≢◌, length, IfOk, IfErr, OnOk, OnErr, Err};
+//! Arrays, taken apart, so that their items are moved and not copied.
+ghost use Rattle.std.specs.Prelude.{◌≡◌, ◌≢◌, length, IfOk, IfErr, OnOk, OnErr, Err, ℕ, Bool};
 ghost use Rattle.serde_json.specs.Data.{Data, Items, item, no_items, array};
 ghost use Rattle.serde_json.specs.View.{view, items_view};
 ghost use Rattle.bcs_value_model.specs.Tree.{Tree, Trees};
-ghost use Rattle.bcs_json_spec.specs.Reading as spec;
 ghost use Rattle.bcs_json_spec.specs.Reading.{Read};
 ghost use Rattle.bcs_json_spec.specs.declared.json_fault.JsonFault.TheVariants.{BadShape};
+ghost use Rattle.bcs_json_reader.specs.Kinds.{list_json};
+ghost use Rattle.bcs_json_spec.specs.Reading as spec;
 
 use bcs_json_spec::JsonFault;
 use serde_json::Value as Json;
@@ -54,8 +55,8 @@ pub fn pair_of(entry: Json) -> Result<(Json, Json), JsonFault>
     two_items(array_of(entry)?)
 }
 
-/// The items, where they are exactly two. Another number is refused as a `BadShape`.
-pub fn two_items(items: Vec<Json>) -> Result<(Json, Json), JsonFault>
+// The items, where they are exactly two. Another number is refused as a `BadShape`.
+fn two_items(items: Vec<Json>) -> Result<(Json, Json), JsonFault>
     ensures ok { IfOk result (λ p. items_view items.items ≡ item (view p.0) (item (view p.1) no_items)) }
     ensures other { IfErr result (λ _. (a : Data) (b : Data) → items_view items.items ≢ item a (item b no_items)) }
     ensures fault { IfErr result (λ e. e ≡ BadShape) }
@@ -67,5 +68,25 @@ pub fn two_items(items: Vec<Json>) -> Result<(Json, Json), JsonFault>
         Ok((first, second))
     } else {
         Err(JsonFault::BadShape)
+    }
+}
+
+/// JSON where a list or an array stands: the array of its elements, or text.
+#[derive(Drop)]
+pub enum ListJson {
+    Array(Vec<Json>),
+    Text(String),
+}
+
+/// An array, or text. `BadShape`: another kind of JSON.
+pub fn list_of(json: Json) -> Result<ListJson, JsonFault>
+    ensures ok { IfOk result (λ list. view json ≡ list_json list) }
+    ensures fault { IfErr result (λ e. (bytes : Bool) (r : Data → Read Tree) → spec.read_seq bytes r (view json) ≡ Err e) }
+    ensures sized { IfErr result (λ e. (bytes : Bool) (n : ℕ) (r : Data → Read Tree) → spec.read_array bytes n r (view json) ≡ Err e) }
+{
+    match json {
+        Json::Array(items) => Ok(ListJson::Array(items)),
+        Json::String(text) => Ok(ListJson::Text(text)),
+        _ => Err(JsonFault::BadShape),
     }
 }

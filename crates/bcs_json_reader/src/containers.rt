@@ -12,15 +12,12 @@ ghost use Rattle.bcs_json_spec.specs.Reading as spec;
 ghost use Rattle.bcs_json_spec.specs.Reading.{Tells, read_data};
 ghost use Rattle.bcs_json_reader.specs.Refused.{fault_alone, IsPlaced};
 
-use crate::enums::{EnumJson, enum_of};
 use crate::leaves::read_unit;
-use crate::named_container::container_called;
-use crate::objects::object_of;
-use crate::opening::open_container;
+use crate::names::{container_called, open_container, read_word, variant_called};
+use crate::objects::{EnumJson, enum_of, object_of};
 use crate::parts::read_fields;
 use crate::reading::{read, read_tuple};
 use crate::refusal::{Refusal, at_member};
-use crate::variants::{read_word, variant_called};
 use bcs_registry::{Container, Format, Named, Registry, VariantFormat};
 use bcs_value_model::Value;
 use serde_json::Value as Json;

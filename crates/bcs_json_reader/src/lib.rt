@@ -3,19 +3,11 @@
 
 mod arrays;
 mod containers;
-mod enums;
 mod hexadecimal;
-mod leaf;
 mod leaves;
-mod lists;
-mod named_container;
+mod names;
 mod numbers;
 mod objects;
-mod opening;
-mod options;
 mod parts;
 pub mod reading;
 mod refusal;
-mod variants;
-mod way;
-mod whole_number;

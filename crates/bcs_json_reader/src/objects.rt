@@ -1,14 +1,15 @@
-//! Objects, taken apart, so that their members are moved and not copied.
-ghost use Rattle.std.specs.Prelude.{◌≡◌, ◌≢◌, ℕ, List, IfOk, IfErr, OnOk, OnErr, Err, Some, None, string_bytes};
+//! Objects, taken apart, so that their members are moved and not copied; and `null` or a string in their place.
+ghost use Rattle.std.specs.Prelude.{◌≡◌, ◌≢◌, ℕ, List, IfOk, IfErr, OnOk, OnErr, Err, Some, None, string_bytes, option_map};
 ghost use Rattle.serde_json.specs.Data.{Data, Members, object, member, no_members};
 ghost use Rattle.serde_json.specs.Find.{get_member};
 ghost use Rattle.serde_json.specs.View.{view, members_view};
-ghost use Rattle.bcs_registry_model.specs.Container.{Field};
+ghost use Rattle.bcs_registry_model.specs.Container.{Field, Choice};
 ghost use Rattle.bcs_value_model.specs.Tree.{Tree};
 ghost use Rattle.bcs_json_spec.specs.Look.{without};
-ghost use Rattle.bcs_json_spec.specs.Reading as spec;
 ghost use Rattle.bcs_json_spec.specs.Reading.{Read};
 ghost use Rattle.bcs_json_spec.specs.declared.json_fault.JsonFault.TheVariants.{BadShape, UnknownField, MissingField};
+ghost use Rattle.bcs_json_reader.specs.Kinds.{option_json, enum_json};
+ghost use Rattle.bcs_json_spec.specs.Reading as spec;
 
 use bcs_json_spec::JsonFault;
 use serde_json::{Map, Value as Json};
@@ -25,8 +26,8 @@ pub fn object_of(json: Json) -> Result<Map<String, Json>, JsonFault>
     }
 }
 
-/// The one member of an object. `BadShape`: it has none, or more.
-pub fn only_member(members: Map<String, Json>) -> Result<(String, Json), JsonFault>
+// The one member of an object. `BadShape`: it has none, or more.
+fn only_member(members: Map<String, Json>) -> Result<(String, Json), JsonFault>
     ensures ok { IfOk result (λ p. members_view members.entries ≡ member (string_bytes p.0) (view p.1) no_members) }
     ensures other { IfErr result (λ _. (k : List ℕ) (d : Data) → members_view members.entries ≢ member k d no_members) }
     ensures fault { IfErr result (λ e. e ≡ BadShape) }
@@ -64,5 +65,47 @@ pub fn no_member_left(members: &Map<String, Json>) -> Result<(), JsonFault>
         Ok(())
     } else {
         Err(JsonFault::UnknownField)
+    }
+}
+
+/// What an option carries: nothing where `null` stands, else the one member of an object, whose name is `some`.
+/// `BadShape`: other JSON.
+pub fn option_of(json: Json) -> Result<Option<Json>, JsonFault>
+    ensures ok { IfOk result (λ part. view json ≡ option_json (option_map view part)) }
+    ensures fault { IfErr result (λ e. (r : Data → Read Tree) → spec.read_option r (view json) ≡ Err e) }
+{
+    match json {
+        Json::Null => Ok(None),
+        Json::Object(members) => {
+            let (name, part) = only_member(members)?;
+            if name.as_str() == "some" {
+                Ok(Some(part))
+            } else {
+                Err(JsonFault::BadShape)
+            }
+        }
+        _ => Err(JsonFault::BadShape),
+    }
+}
+
+/// JSON where an enum's value stands: a variant's name alone, or with what the variant carries.
+#[derive(Drop)]
+pub enum EnumJson {
+    Name(String),
+    Member(String, Json),
+}
+
+/// A string, or an object of exactly one member. `BadShape`: other JSON.
+pub fn enum_of(json: Json) -> Result<EnumJson, JsonFault>
+    ensures ok { IfOk result (λ choice. view json ≡ enum_json choice) }
+    ensures fault { IfErr result (λ e. (named : List ℕ → Data → Read Tree) (cs : List Choice) → spec.read_enum named cs (view json) ≡ Err e) }
+{
+    match json {
+        Json::String(name) => Ok(EnumJson::Name(name)),
+        Json::Object(members) => {
+            let (name, part) = only_member(members)?;
+            Ok(EnumJson::Member(name, part))
+        }
+        _ => Err(JsonFault::BadShape),
     }
 }

@@ -11,12 +11,11 @@ ghost use Rattle.bcs_json_spec.specs.Reading as spec;
 ghost use Rattle.bcs_json_spec.specs.Reading.{Tells, read_data};
 ghost use Rattle.bcs_json_reader.specs.Refused.{fault_alone, IsPlaced};
 
-use crate::arrays::{array_of, array_of_exactly, exactly};
+use crate::arrays::{ListJson, array_of, array_of_exactly, exactly, list_of};
 use crate::containers::read_named;
 use crate::hexadecimal::{read_byte_array, read_byte_text};
-use crate::leaf::read_leaf;
-use crate::lists::{ListJson, list_of};
-use crate::options::option_of;
+use crate::leaves::read_leaf;
+use crate::objects::option_of;
 use crate::parts::{read_all, read_each, read_pairs};
 use crate::refusal::{Refusal, at_member};
 use bcs_registry::{Format, Registry};

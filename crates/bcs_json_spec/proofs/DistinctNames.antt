@@ -4,7 +4,7 @@ use Rattle.std.proofs.lemmas.List.Folds.{list_all-append}
 use Rattle.std.specs.List.{flat_map, list_all}
 use Rattle.std.specs.Option.{option_map_or}
 use Rattle.bcs_registry_model.specs.Container as container
-use Rattle.bcs_registry_model.specs.Container.{Container, unit_struct, newtype_struct, tuple_struct, field_struct, enumeration, Field, Payload, newtype, tuple, Choice, Entries, container_at, choice_numbered, choice_called}
+use Rattle.bcs_registry_model.specs.Container.{Container, unit_struct, newtype_struct, tuple_struct, field_struct, enumeration, Payload, newtype, tuple, Choice, Entries, container_at, choice_numbered, choice_called}
 use Rattle.bcs_registry_model.specs.WellFormed.{payload_names, container_names, are_distinct, levels_hold, names_differ, IsWellFormed}
 use Rattle.bcs_value_model.proofs.Equivalence.{bytes-refl}
 use Rattle.bcs_json_spec.specs.JsonContent.{JsonContent, fields, one_of, nothing, json_content, json_content_at, payload_content}

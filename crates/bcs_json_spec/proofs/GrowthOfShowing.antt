@@ -8,7 +8,7 @@ use Rattle.bcs_registry_model.specs.Container as container
 use Rattle.bcs_registry_model.specs.Container.{Container, unit_struct, newtype_struct, tuple_struct, field_struct, enumeration, Field, Payload, newtype, tuple, Choice, Entries, container_at, choice_numbered, choice_at, payload_shape, field_shapes}
 use Rattle.bcs_registry_model.specs.Grows.{GrowsTo, Grows}
 use Rattle.bcs_registry_model.specs.Shape as shape
-use Rattle.bcs_registry_model.specs.Shape.{Shape, Shapes, no_shapes, shape}
+use Rattle.bcs_registry_model.specs.Shape.{Shape, Shapes, shape}
 use Rattle.bcs_registry_model.proofs.GrowthLaws.{HasChoices, has_choices, container_at-grows}
 use Rattle.bcs_registry_json.specs.Shown.{single}
 use Rattle.bcs_value_model.specs.Fits.{fits, all_fit, each_fits, pairs_fit}

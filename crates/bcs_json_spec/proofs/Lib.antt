@@ -1,7 +1,6 @@
 pub mod Exact
 pub mod Numbers
 pub mod LeafVerdicts
-pub mod RowVerdicts
 pub mod PartVerdicts
 pub mod Verdict
 pub mod WorkedRows
@@ -26,7 +25,6 @@ pub mod ArraySpelling
 pub mod DistinctVariants
 pub mod GrownContents
 pub mod GrownSpelling
-pub mod WalkFaults
 pub mod OneAnswer
 pub mod Utf8Contents
 pub mod Utf8Read

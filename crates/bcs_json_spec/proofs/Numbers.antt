@@ -12,7 +12,7 @@ use Rattle.bcs_json_spec.specs.Reading.{whole_in, read_whole}
 use Rattle.bcs_json_spec.specs.Refuses.{WholeRefuses}
 use Rattle.bcs_json_spec.specs.declared.json_fault.JsonFault.{JsonFault}
 use Rattle.bcs_json_spec.specs.declared.json_fault.JsonFault.TheVariants.{BadNumber}
-use Rattle.bcs_json_spec.proofs.Exact.{Exact, same_ok, not_both, when_true}
+use Rattle.bcs_json_spec.proofs.Exact.{Exact, is_walk_fault, same_ok, not_both, when_true}
 
 -- of at most 63 digits
 abbrev pub IsSmall : ℤ → Type 0
@@ -103,5 +103,10 @@ module _ (range : ℤ → Bool) (small : (z : ℤ) → range z ≡ true → IsSm
   whole_errs (string t) e h = bad (string t) (whole_of (string t)) refl h.0 ∙ ap Err (sym h.1)
   whole_errs _ e h = ap Err (sym h)
 
-  pub exact_whole : Exact WholeWithin (WholeRefuses range) (read_whole range)
-  exact_whole = record { ok = whole_ok; again = whole_again; err = whole_err; errs = whole_errs }
+  whole_walks : (j : Data) (e : JsonFault) → WholeRefuses range j e → is_walk_fault e ≡ true
+  whole_walks (number n) e h = ap is_walk_fault h.1
+  whole_walks (string t) e h = ap is_walk_fault h.1
+  whole_walks _ e h = ap is_walk_fault h
+
+  pub exact_whole : (j : Data) → Exact (WholeWithin j) (WholeRefuses range j) (read_whole range j)
+  exact_whole j = record { ok = whole_ok j; again = whole_again j; err = whole_err j; errs = whole_errs j; walks = whole_walks j }

@@ -25,11 +25,11 @@ use Rattle.bcs_json_spec.specs.Refuses.{Refuses}
 use Rattle.bcs_json_spec.specs.Spells.{SpellsWithin}
 use Rattle.bcs_json_spec.specs.Texts.{nesting_limit, IsReadAs, Denotes, SpelledBy, Misspells, RefusesText}
 use Rattle.bcs_json_spec.specs.declared.json_fault.JsonFault.{JsonFault}
-use Rattle.bcs_json_spec.specs.declared.json_fault.JsonFault.TheVariants.{NotJson, TooNested, Unsupported, BadShape, BadNumber, BadHex, UnknownField, MissingField, UnknownVariant, TooDeep, TooManyNodes, TooLong, RepeatedKey, OutOfMemory}
+use Rattle.bcs_json_spec.specs.declared.json_fault.JsonFault.TheVariants.{NotJson, TooNested, TooManyNodes, TooLong, RepeatedKey, OutOfMemory}
 use Rattle.bcs_json_spec.proofs.Fitting.{spelled_fits}
 use Rattle.bcs_json_spec.proofs.TextLaws.{same_read}
-use Rattle.bcs_json_spec.proofs.Verdict.{one_tree, one_verdict}
-use Rattle.bcs_json_spec.proofs.WalkFaults.{is_walk_fault, walk_fault}
+use Rattle.bcs_json_spec.proofs.Exact.{is_walk_fault}
+use Rattle.bcs_json_spec.proofs.Verdict.{one_tree, one_verdict, walk_fault}
 
 module _ (registry : Entries) (limits : Bounds) (s : Shape) (text : List ℕ) where
   abbrev Answer : Type 0
@@ -40,18 +40,11 @@ module _ (registry : Entries) (limits : Bounds) (s : Shape) (text : List ℕ) wh
   pub misspelled : (e : JsonFault) → is_walk_fault e ≡ true → Misspells registry limits s text e → RefusesText registry limits s text e
   misspelled NotJson is h = absurd (false≢true is)
   misspelled TooNested is h = absurd (false≢true is)
-  misspelled Unsupported is h = h
-  misspelled BadShape is h = h
-  misspelled BadNumber is h = h
-  misspelled BadHex is h = h
-  misspelled UnknownField is h = h
-  misspelled MissingField is h = h
-  misspelled UnknownVariant is h = h
-  misspelled TooDeep is h = h
   misspelled TooManyNodes is h = absurd (false≢true is)
   misspelled TooLong is h = absurd (false≢true is)
   misspelled RepeatedKey is h = absurd (false≢true is)
   misspelled OutOfMemory is h = absurd (false≢true is)
+  misspelled _ is h = h
 
   -- what is spelled fits and isn't too deep, so that three tests are left
   spelled : IsOrderly registry → (d : Data) → IsReadAs text d → (t : Tree) → SpellsWithin registry limits.depth (of s) d t → Answer
@@ -116,14 +109,7 @@ module _ (registry : Entries) (limits : Bounds) (s : Shape) (text : List ℕ) wh
   reads TooLong h = spells_unsound TooLong h.0 h.1 (inr (inl (h.2, refl)))
   reads RepeatedKey h = spells_unsound RepeatedKey h.0 h.1 (inr (inr (h.2, refl)))
   reads OutOfMemory h = absurd h
-  reads Unsupported h = spells_none Unsupported h
-  reads BadShape h = spells_none BadShape h
-  reads BadNumber h = spells_none BadNumber h
-  reads BadHex h = spells_none BadHex h
-  reads UnknownField h = spells_none UnknownField h
-  reads MissingField h = spells_none MissingField h
-  reads UnknownVariant h = spells_none UnknownVariant h
-  reads TooDeep h = spells_none TooDeep h
+  reads e h = spells_none e h
 
   unsound_once : (t : Tree) (e g : JsonFault) → Unsound t e → Unsound t g → e ≡ g
   unsound_once t e g (inl h) (inl k) = h.1 ∙ sym k.1

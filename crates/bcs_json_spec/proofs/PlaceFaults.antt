@@ -3,7 +3,7 @@ use Rattle.std.proofs.Common.{◌≡◌, ◌≢◌, ◌∙◌, ℕ, zero, suc, L
 use Rattle.std.specs.Option.{option_or, option_map_or}
 use Rattle.std.specs.Result.{result_err}
 use Rattle.std.proofs.lemmas.List.Elements.{All-head, All-tail}
-use Rattle.serde_json.specs.Data.{Data, array, object, string, Items, no_items, Members, no_members}
+use Rattle.serde_json.specs.Data.{Data, array, object, Items, no_items, Members, no_members}
 use Rattle.serde_json.specs.Data as json
 use Rattle.serde_json.specs.Find.{get_member}
 use Rattle.bcs_registry_model.specs.Shape as shape
@@ -192,4 +192,4 @@ module _ (registry : Entries) where
       (p, among (IsGood registry) (Leads registry s path) (parts registry d t j) place, place.faulty.1, alone e path p.left p.target p.json here place.faulty.2)
 
 pub place_is_refused_alone : PlaceIsRefusedAlone
-place_is_refused_alone registry d f j path e h = alone registry e path d (value f) j (ap result_err ((exact_data registry d f).errs j e h.0)) h.1
+place_is_refused_alone registry d f j path e h = alone registry e path d (value f) j (ap result_err ((exact_data registry d f j).errs e h.0)) h.1

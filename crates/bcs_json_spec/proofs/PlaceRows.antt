@@ -8,7 +8,7 @@ use Rattle.bcs_registry_model.specs.Shape as shape
 use Rattle.bcs_registry_model.specs.Shape.{Shape}
 use Rattle.bcs_json_spec.specs.JsonContent.{JsonContent, of, fields, one_of}
 use Rattle.bcs_json_spec.specs.Place as place
-use Rattle.bcs_json_spec.specs.Place.{Step, Part, part, parts, value, entry, IsGood, IsPlaceAmong, IsPlaceOf}
+use Rattle.bcs_json_spec.specs.Place.{Step, part, value, entry, IsPlaceOf}
 use Rattle.bcs_json_spec.specs.Reading.{read_unsigned}
 use Rattle.bcs_json_spec.proofs.Places.{place-none, place-here, place-later}
 

@@ -11,7 +11,7 @@ use Rattle.serde_json.specs.Data.{Data, number, string, array, Members}
 use Rattle.serde_json.specs.Find.{of_integer}
 use Rattle.serde_json.proofs.Views.{get_member-put}
 use Rattle.bcs_registry_model.specs.Container as container
-use Rattle.bcs_registry_model.specs.Container.{Field, Payload, newtype, tuple, Choice, Entries, Content, choice_numbered, content_at, choice_at, payload_shape, field_shapes, choice_called}
+use Rattle.bcs_registry_model.specs.Container.{Field, Payload, newtype, tuple, Choice, Entries, choice_numbered, payload_shape, field_shapes, choice_called}
 use Rattle.bcs_registry_model.specs.Shape as shape
 use Rattle.bcs_registry_model.specs.Shape.{Shape, Shapes, no_shapes, shape}
 use Rattle.bcs_registry_model.specs.WellFormed.{IsWellFormed}

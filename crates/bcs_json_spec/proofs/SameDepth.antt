@@ -7,7 +7,7 @@ use Rattle.hex.specs.Hex.{encode_lower}
 use Rattle.serde_json.specs.Data.{Data, number, unsigned as whole, string, array, Items, no_items, item, Members, put, depth, items_depth, members_depth}
 use Rattle.serde_json.specs.Find.{get_member, of_integer}
 use Rattle.bcs_registry_model.specs.Container as container
-use Rattle.bcs_registry_model.specs.Container.{Field, Payload, newtype, tuple, Choice, Entries, choice_numbered}
+use Rattle.bcs_registry_model.specs.Container.{Field, Payload, newtype, tuple, Entries, choice_numbered}
 use Rattle.bcs_registry_model.specs.Shape as shape
 use Rattle.bcs_registry_model.specs.Shape.{Shape, Shapes, no_shapes, shape}
 use Rattle.bcs_registry_model.specs.WellFormed.{IsWellFormed}

@@ -19,9 +19,9 @@ use Rattle.serde_json.specs.Data.{Data, number, unsigned as whole, string, Membe
 use Rattle.serde_json.specs.Find.{of_integer}
 use Rattle.bcs_num.specs.Le.{holds_signed, holds_unsigned}
 use Rattle.bcs_registry_model.specs.Container as container
-use Rattle.bcs_registry_model.specs.Container.{Choice, Entries, Field, Payload, choice_numbered, content_at, field_shapes, newtype, payload_shape, tuple}
+use Rattle.bcs_registry_model.specs.Container.{Choice, Entries, Field, Payload, choice_numbered, field_shapes, newtype, payload_shape, tuple}
 use Rattle.bcs_registry_model.specs.Shape as shape
-use Rattle.bcs_registry_model.specs.Shape.{Shape, Shapes, no_shapes, shape}
+use Rattle.bcs_registry_model.specs.Shape.{Shape, Shapes, shape}
 use Rattle.bcs_registry_json.specs.Shown.{single}
 use Rattle.bcs_registry_json.proofs.RisingMembers.{NamesRise, names_put, names_of, sorted_inserted}
 use Rattle.bcs_value_model.specs.Fits.{all_fit, are_bytes, each_fits, fits, pairs_fit}

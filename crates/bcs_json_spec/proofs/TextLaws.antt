@@ -15,7 +15,7 @@ use Rattle.bcs_json_spec.specs.Refuses.{Refuses}
 use Rattle.bcs_json_spec.specs.Spells.{Spells}
 use Rattle.bcs_json_spec.specs.Texts.{nesting_limit, Denotes, SpelledBy, Misspells}
 use Rattle.bcs_json_spec.specs.declared.json_fault.JsonFault.{JsonFault}
-use Rattle.bcs_json_spec.specs.declared.json_fault.JsonFault.TheVariants.{NotJson, TooNested, Unsupported, BadShape, BadNumber, BadHex, UnknownField, MissingField, UnknownVariant, TooDeep, TooManyNodes, TooLong, RepeatedKey, OutOfMemory}
+use Rattle.bcs_json_spec.specs.declared.json_fault.JsonFault.TheVariants.{NotJson, TooNested, TooManyNodes, TooLong, RepeatedKey, OutOfMemory}
 use Rattle.bcs_json_spec.proofs.Verdict.{one_tree, one_verdict}
 
 same_some : {A : Type 0} (a b : A) → Some a ≡ Some b → a ≡ b
@@ -49,11 +49,4 @@ denoted_is_not_refused registry limits s text t TooManyNodes g h =
 denoted_is_not_refused registry limits s text t TooLong g h = h.2.3 (subst (LengthsHold registry s) (sym (same_tree registry limits s text t g h.0 h.1)) g.sound.lengths)
 denoted_is_not_refused registry limits s text t RepeatedKey g h = h.2.1 (subst HasDistinctKeys (sym (same_tree registry limits s text t g h.0 h.1)) g.sound.distinct)
 denoted_is_not_refused registry limits s text t OutOfMemory g h = h
-denoted_is_not_refused registry limits s text t Unsupported g h = spelled registry limits s text t g Unsupported h
-denoted_is_not_refused registry limits s text t BadShape g h = spelled registry limits s text t g BadShape h
-denoted_is_not_refused registry limits s text t BadNumber g h = spelled registry limits s text t g BadNumber h
-denoted_is_not_refused registry limits s text t BadHex g h = spelled registry limits s text t g BadHex h
-denoted_is_not_refused registry limits s text t UnknownField g h = spelled registry limits s text t g UnknownField h
-denoted_is_not_refused registry limits s text t MissingField g h = spelled registry limits s text t g MissingField h
-denoted_is_not_refused registry limits s text t UnknownVariant g h = spelled registry limits s text t g UnknownVariant h
-denoted_is_not_refused registry limits s text t TooDeep g h = spelled registry limits s text t g TooDeep h
+denoted_is_not_refused registry limits s text t e g h = spelled registry limits s text t g e h

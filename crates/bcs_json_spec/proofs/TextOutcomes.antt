@@ -8,35 +8,29 @@ use Rattle.bcs_value_model.proofs.Loosening.{strictly_then_loosely}
 use Rattle.bcs_value_model.specs.Limits.{Bounds}
 use Rattle.bcs_value_model.specs.Tree.{Tree}
 use Rattle.bcs_encode_spec.specs.Refused as encode
-use Rattle.bcs_encode_spec.specs.Sound.{IsSound}
 use Rattle.bcs_encode_spec.specs.declared.fault.EncodeFault.{EncodeFault}
 use Rattle.bcs_encode_spec.specs.declared.fault.EncodeFault.TheVariants as fault
 use Rattle.bcs_json_spec.specs.Causes.{fault_of_value}
 use Rattle.bcs_json_spec.specs.declared.json_fault.JsonFault.{JsonFault}
-use Rattle.bcs_json_spec.specs.declared.json_fault.JsonFault.TheVariants.{NotJson, TooNested, Unsupported, BadShape, BadNumber, BadHex, UnknownField, MissingField, UnknownVariant, TooDeep, TooManyNodes, TooLong, RepeatedKey, OutOfMemory}
+use Rattle.bcs_json_spec.specs.declared.json_fault.JsonFault.TheVariants.{Unsupported, TooDeep, TooManyNodes, TooLong, RepeatedKey, OutOfMemory}
 use Rattle.bcs_json_spec.specs.JsonContent.{of}
 use Rattle.bcs_json_spec.specs.Reading.{read_data}
 use Rattle.bcs_json_spec.specs.Texts.{IsReadAs, Denotes, SpelledBy, RefusesText}
 use Rattle.bcs_json_spec.proofs.Fitting.{spelled_fits}
 use Rattle.bcs_json_spec.proofs.OneAnswer.{misspelled}
 use Rattle.bcs_json_spec.proofs.TextLaws.{denoted_is_not_refused}
-use Rattle.bcs_json_spec.proofs.Verdict.{exact_data}
-use Rattle.bcs_json_spec.proofs.WalkFaults.{walk_fault}
+use Rattle.bcs_json_spec.proofs.Verdict.{exact_data, walk_fault}
 
 module _ (registry : Entries) (limits : Bounds) (s : Shape) (text : List ℕ) where
   -- what was read of a text's JSON, it spells
   pub read_is_spelled : (d : Data) → IsReadAs text d → (t : Tree) → read_data registry limits.depth (of s) d ≡ Ok t → SpelledBy registry limits s text t
-  read_is_spelled d is t told = record { read = d; is = is; spells = (exact_data registry limits.depth (of s)).ok d t told }
+  read_is_spelled d is t told = record { read = d; is = is; spells = (exact_data registry limits.depth (of s) d).ok t told }
 
   -- and where the reader stopped, the text is refused
   pub stop_is_refusal : (d : Data) → IsReadAs text d → (e : JsonFault) → read_data registry limits.depth (of s) d ≡ Err e → RefusesText registry limits s text e
   stop_is_refusal d is e told =
-      let refused = (exact_data registry limits.depth (of s)).err d e told in
+      let refused = (exact_data registry limits.depth (of s) d).err e told in
       misspelled registry limits s text e (walk_fault registry limits.depth (of s) d e refused) (d, is, refused)
-
-  -- what is spelled and sound is denoted
-  pub sound_is_denoted : (t : Tree) → SpelledBy registry limits s text t → IsSound registry limits s t → Denotes registry limits s text t
-  sound_is_denoted t spelled sound = record { read = spelled.read; is = spelled.is; spells = spelled.spells.0; sound = sound }
 
   -- what is spelled and refused by the encoder is refused for the same reason
   pub refused_value : IsOrderly registry → (t : Tree) → SpelledBy registry limits s text t → (e : EncodeFault) → encode.Refuses registry limits s t e → RefusesText registry limits s text (fault_of_value e)
@@ -51,16 +45,4 @@ module _ (registry : Entries) (limits : Bounds) (s : Shape) (text : List ℕ) wh
   -- a text that denotes a value is refused for memory alone
   pub memory_alone : (e : JsonFault) → (e ≢ OutOfMemory → RefusesText registry limits s text e) → (t : Tree) → Denotes registry limits s text t → e ≡ OutOfMemory
   memory_alone OutOfMemory h t d = refl
-  memory_alone NotJson h t d = absurd (denoted_is_not_refused registry limits s text t NotJson d (h (λ is. cc)))
-  memory_alone TooNested h t d = absurd (denoted_is_not_refused registry limits s text t TooNested d (h (λ is. cc)))
-  memory_alone Unsupported h t d = absurd (denoted_is_not_refused registry limits s text t Unsupported d (h (λ is. cc)))
-  memory_alone BadShape h t d = absurd (denoted_is_not_refused registry limits s text t BadShape d (h (λ is. cc)))
-  memory_alone BadNumber h t d = absurd (denoted_is_not_refused registry limits s text t BadNumber d (h (λ is. cc)))
-  memory_alone BadHex h t d = absurd (denoted_is_not_refused registry limits s text t BadHex d (h (λ is. cc)))
-  memory_alone UnknownField h t d = absurd (denoted_is_not_refused registry limits s text t UnknownField d (h (λ is. cc)))
-  memory_alone MissingField h t d = absurd (denoted_is_not_refused registry limits s text t MissingField d (h (λ is. cc)))
-  memory_alone UnknownVariant h t d = absurd (denoted_is_not_refused registry limits s text t UnknownVariant d (h (λ is. cc)))
-  memory_alone TooDeep h t d = absurd (denoted_is_not_refused registry limits s text t TooDeep d (h (λ is. cc)))
-  memory_alone TooManyNodes h t d = absurd (denoted_is_not_refused registry limits s text t TooManyNodes d (h (λ is. cc)))
-  memory_alone TooLong h t d = absurd (denoted_is_not_refused registry limits s text t TooLong d (h (λ is. cc)))
-  memory_alone RepeatedKey h t d = absurd (denoted_is_not_refused registry limits s text t RepeatedKey d (h (λ is. cc)))
+  memory_alone e h t d = absurd (denoted_is_not_refused registry limits s text t e d (h (λ is. cc)))

@@ -15,16 +15,15 @@ use Rattle.bcs_json_spec.specs.Look.{without}
 use Rattle.bcs_json_spec.specs.Place.{value, parts, item_parts, field_parts}
 use Rattle.bcs_json_spec.specs.Reading.{follow, read_data, read_all, read_each, read_pairs, read_fields, read_named, read_tuple}
 use Rattle.bcs_json_reader.specs.Kinds.{option_json, list_json, enum_json}
-use Rattle.bcs_json_reader.proofs.Joined.{joined}
+use Rattle.bcs_json_reader.proofs.Rows.{joined, item_more, items_done, each_more, each_done}
 use Rattle.bcs_json_reader.proofs.Counts.{count_formats, items_read, items_fault, tuple_refused, tuple_row, tuple_items, array_other, array_row, array_other_none, array_items}
 use Rattle.bcs_json_reader.proofs.FieldRows.{field_more, fields_done}
 use Rattle.bcs_json_reader.proofs.Formats.{tells_as, option_shape, seq_shape, array_shape, map_shape, levels_here, field_levels_here}
-use Rattle.bcs_json_reader.proofs.Names.{container_found, newtype_levels, tuple_levels, struct_levels, variant_levels}
+use Rattle.bcs_json_reader.proofs.Levels.{container_found, newtype_levels, tuple_levels, struct_levels, variant_levels}
 use Rattle.bcs_json_reader.proofs.OwnKind.{no_array, option_none, seq_none, array_none, map_none, tuple_none, pair_none, struct_none, enum_none}
 use Rattle.bcs_json_reader.proofs.PairRows.{joined_pairs, pair_more, pairs_done}
 use Rattle.bcs_json_reader.proofs.Placed.{told_ok, placed_on, placed_none, placed_as, way_as}
 use Rattle.bcs_json_reader.proofs.PlacedRows.{found_more, outside_at, outside_named, some_placed, payload_placed, item_placed, item_onward, each_placed, each_onward, entry_placed, entry_onward, key_placed, value_placed, field_placed, field_onward, missing_none, each_none}
-use Rattle.bcs_json_reader.proofs.Rows.{item_more, items_done, each_more, each_done}
 use Rattle.bcs_json_reader.proofs.+reading.Goals as goal
 
 -- ---- formats with formats inside

@@ -8,7 +8,7 @@ use Rattle.bcs_json_spec.specs.JsonContent.{of}
 use Rattle.bcs_json_spec.specs.Place.{Step, item_parts, each_parts, entry_parts, field_parts, IsPlaceAmong}
 use Rattle.bcs_json_spec.specs.Reading as spec
 use Rattle.bcs_json_spec.specs.Reading.{follow, read_data}
-use Rattle.bcs_json_reader.proofs.Joined.{joined}
+use Rattle.bcs_json_reader.proofs.Rows.{joined}
 use Rattle.bcs_json_reader.proofs.PairRows.{joined_pairs}
 use Rattle.bcs_json_reader.proofs.+reading.Given as goal
 

@@ -8,7 +8,7 @@ use Rattle.bcs_json_spec.specs.Reading.{Tells, read_data}
 use Rattle.bcs_json_spec.specs.Texts.{IsReadAs, MisspellsAt}
 use Rattle.bcs_json_spec.specs.declared.json_fault.JsonFault.TheVariants.{OutOfMemory}
 use Rattle.bcs_json_spec.proofs.OneAnswer.{misspelled}
-use Rattle.bcs_json_spec.proofs.WalkFaults.{walk_fault}
+use Rattle.bcs_json_spec.proofs.Verdict.{walk_fault}
 use Rattle.bcs_json_reader.specs.Refused.{fault_alone, IsPlaced}
 use Rattle.bcs_json.proofs.Outcomes.{told_place, was_ok, was_err}
 use Rattle.bcs_json.proofs.placing.fault_place.Goals as goal

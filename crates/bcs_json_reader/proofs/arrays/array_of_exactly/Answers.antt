@@ -1,7 +1,7 @@
 use Rattle.std.proofs.Common.{Err, ap, sym, ◌∙◌, arith}
 use Rattle.std.proofs.lemmas.Result.{err_from_is_err_and}
 use Rattle.serde_json.specs.View.{view}
-use Rattle.bcs_json_reader.proofs.OtherCounts.{other_items}
+use Rattle.bcs_json_reader.proofs.Counts.{other_items}
 use Rattle.bcs_json_reader.proofs.arrays.array_of_exactly.Goals as goal
 
 pub returns-in_err-exactly-clause-fault : goal.returns-in_err-exactly-clause-fault

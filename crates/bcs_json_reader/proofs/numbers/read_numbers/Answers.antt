@@ -8,10 +8,9 @@ use Rattle.bcs_value_model.specs.View.{tree_of}
 use Rattle.bcs_value_model.specs.declared.value.Value.{Value}
 use Rattle.bcs_json_spec.specs.JsonContent.{of}
 use Rattle.bcs_json_spec.specs.Reading.{follow, read_data, read_all}
-use Rattle.bcs_json_reader.proofs.Joined.{joined}
+use Rattle.bcs_json_reader.proofs.Rows.{joined, item_more, item_fault, items_done}
 use Rattle.bcs_json_reader.proofs.Placed.{told_ok, told_err, placed_on}
 use Rattle.bcs_json_reader.proofs.PlacedRows.{found_more, outside_at, item_placed, item_onward}
-use Rattle.bcs_json_reader.proofs.Rows.{item_more, item_fault, items_done}
 use Rattle.bcs_json_reader.proofs.numbers.read_numbers.Goals as goal
 
 pub loop-item-preserved : goal.loop-item-preserved

@@ -6,7 +6,7 @@ use Rattle.bcs_registry_model.specs.Whole.{whole_shape}
 use Rattle.bcs_json_spec.specs.JsonContent.{of}
 use Rattle.bcs_json_spec.specs.Place.{Step, item_parts, IsPlaceAmong}
 use Rattle.bcs_json_spec.specs.Reading.{follow, read_all, read_data}
-use Rattle.bcs_json_reader.proofs.Joined.{joined}
+use Rattle.bcs_json_reader.proofs.Rows.{joined}
 use Rattle.bcs_json_reader.proofs.numbers.read_numbers.Given as goal
 
 -- the whole is what was read so far, before what is still to be read, and a place there is one of the whole

@@ -6,7 +6,7 @@ use Rattle.bcs_num.specs.Le.{width_of}
 use Rattle.bcs_value_model.specs.View.{tree_of}
 use Rattle.bcs_value_model.specs.declared.value.Value.{Signed}
 use Rattle.bcs_json_reader.proofs.Whole.{signed_told, tree_signed, widen}
-use Rattle.bcs_json_reader.proofs.leaves.read_signed.Goals as goal
+use Rattle.bcs_json_reader.proofs.numbers.read_signed.Goals as goal
 
 pub returns-clause-reads : goal.returns-clause-reads
 returns-clause-reads c =

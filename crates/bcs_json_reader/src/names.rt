@@ -1,19 +1,32 @@
-//! An enum's variants by their names.
-ghost use Rattle.std.specs.Prelude.{◌≡◌, ◌≢◌, IfOk, IfErr, OnOk, OnErr, Some, None, map, option_map, string_bytes};
-ghost use Rattle.bcs_registry_model.specs.Container as container;
+//! What names stand for: a container of the registry, which may be opened, and a variant of an enum.
+ghost use Rattle.std.specs.Prelude.{◌≡◌, IfOk, IfErr, Some, None, ◌≢◌, OnOk, OnErr, map, option_map, string_bytes, suc};
 ghost use Rattle.bcs_registry_model.specs.Container.{container_at, enumeration, choice_called};
 ghost use Rattle.bcs_registry_model.specs.Ranges.{IsOrderly};
-ghost use Rattle.bcs_registry_model.specs.View.{choice_of, payload_of};
+ghost use Rattle.bcs_registry_model.specs.View.{container_of, choice_of, payload_of};
+ghost use Rattle.bcs_registry_model.specs.WellFormed.{IsWellFormed};
+ghost use Rattle.bcs_json_spec.specs.declared.json_fault.JsonFault.TheVariants.{BadShape, UnknownVariant, TooDeep};
 ghost use Rattle.bcs_value_model.specs.View.{tree_of};
-ghost use Rattle.bcs_json_spec.specs.Reading as spec;
 ghost use Rattle.bcs_json_spec.specs.Reading.{Tells};
-ghost use Rattle.bcs_json_spec.specs.declared.json_fault.JsonFault.TheVariants.{BadShape, UnknownVariant};
+ghost use Rattle.bcs_registry_model.specs.Container as container;
+ghost use Rattle.bcs_json_spec.specs.Reading as spec;
 
 use bcs_json_spec::JsonFault;
-use bcs_registry::{Named, Registry, VariantFormat};
+use bcs_registry::{Container, Named, Registry, VariantFormat};
 use bcs_value_model::Value;
 use std::alloc::Global;
 use std::collections::BTreeMap;
+
+/// The container of this name. `BadShape`: the registry has none.
+#[inline(never)]
+pub fn container_called<'a>(registry: &'a Registry, name: &str) -> Result<&'a Container, JsonFault>
+    ensures ok { IfOk result (λ c. container_at name.now registry.now ≡ Some (container_of c.now)) }
+    ensures missing { IfErr result (λ _. container_at name.now registry.now ≡ None) }
+    ensures fault { IfErr result (λ e. e ≡ BadShape) }
+    ensures well_formed { IsWellFormed registry.now }
+    ensures orderly { IsOrderly registry.now }
+{
+    registry.container(name).ok_or(JsonFault::BadShape)
+}
 
 /// The variant of this name, with its number, in the enum that stands under `name`. `UnknownVariant`: it has none.
 #[inline(never)]
@@ -78,5 +91,18 @@ fn without_payload(payload: &VariantFormat) -> Result<(), JsonFault>
         VariantFormat::NewType(_) | VariantFormat::Tuple(_) | VariantFormat::Struct(_) => {
             Err(JsonFault::BadShape)
         }
+    }
+}
+
+/// How many containers may open inside the next one, where so many may open now. `TooDeep`: none may.
+pub fn open_container(left: u32) -> Result<u32, JsonFault>
+    ensures ok { IfOk result (λ inside. left ≡ suc inside) }
+    ensures deep { IfErr result (λ _. left ≡ 0) }
+    ensures fault { IfErr result (λ e. e ≡ TooDeep) }
+{
+    if left == 0 {
+        Err(JsonFault::TooDeep)
+    } else {
+        Ok(left - 1)
     }
 }

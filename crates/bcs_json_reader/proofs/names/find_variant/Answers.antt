@@ -1,6 +1,6 @@
 use Rattle.std.proofs.Common.{rules}
 use Rattle.bcs_json_reader.proofs.Called.{lacks_called, stands_called}
-use Rattle.bcs_json_reader.proofs.variants.find_variant.Goals as goal
+use Rattle.bcs_json_reader.proofs.names.find_variant.Goals as goal
 
 pub returns-in_err-variant : goal.returns-in_err-variant
 returns-in_err-variant c =

@@ -2,7 +2,7 @@ use Rattle.std.proofs.Common.{Ok, ap, sym, ◌∙◌}
 use Rattle.serde_json.specs.View.{view}
 use Rattle.bcs_num.specs.Le.{width_of}
 use Rattle.bcs_json_reader.proofs.Whole.{unsigned_told, tree_unsigned}
-use Rattle.bcs_json_reader.proofs.leaves.read_unsigned.Goals as goal
+use Rattle.bcs_json_reader.proofs.numbers.read_unsigned.Goals as goal
 
 pub returns-clause-reads : goal.returns-clause-reads
 returns-clause-reads c =

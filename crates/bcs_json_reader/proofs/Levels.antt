@@ -3,7 +3,7 @@ use Rattle.std.proofs.Common.{◌≡◌, ◌∙◌, ℕ, suc, ◌≤◌, List, S
 use Rattle.std.specs.Option.{option_map_or}
 use Rattle.bcs_registry_model.specs.Shape.{Shape, Shapes, tuple as tuple_shape}
 use Rattle.bcs_registry_model.specs.Container as container
-use Rattle.bcs_registry_model.specs.Container.{Field, Choice, Container, newtype_struct, tuple_struct, field_struct, enumeration, Entries, container_at, content, content_at, choice_at, field_shapes, payload_shape, choice_called}
+use Rattle.bcs_registry_model.specs.Container.{Field, Choice, Container, newtype_struct, tuple_struct, field_struct, enumeration, Entries, container_at, content, content_at, field_shapes, payload_shape, choice_called}
 use Rattle.bcs_registry_model.specs.Ranges.{IsOrderly}
 use Rattle.bcs_registry_model.specs.View.{container_of}
 use Rattle.bcs_registry_model.specs.WellFormed.{IsWellFormed, levels, shapes_levels}
