@@ -51,6 +51,9 @@ class Sqlite:
         except UnicodeDecodeError:
             return data
 
+    def registry(self, data):
+        return self.text(data)
+
     def value(self, expression, *arguments):
         try:
             return self.database.execute(f"select {expression}", arguments).fetchone()[0]
@@ -80,6 +83,12 @@ class Postgresql:
         if "\0" in text:
             raise Unsayable
         return text
+
+    def registry(self, data):
+        """What begins with a letter is the name of one there."""
+        if data[:1].isalpha() or data[:1] == b"_":
+            raise Unsayable
+        return self.text(data)
 
     def value(self, expression, *arguments):
         try:
@@ -159,7 +168,7 @@ def answer(calls, words):
     if format[:1] not in (b"{", b'"'):
         raise Unsayable
     rest = [word if call == "explain" and place == 1 else bytes.fromhex(word) for place, word in enumerate(words[4:])]
-    told = getattr(calls, call)(calls.text(registry), calls.text(format), (int(words[3]), int(words[2])), *rest)
+    told = getattr(calls, call)(calls.database.registry(registry), calls.text(format), (int(words[3]), int(words[2])), *rest)
     if told is None:
         return "no", "-", "0", "0", ""
     fault, place, length, output = told

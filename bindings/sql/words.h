@@ -112,9 +112,14 @@ static inline bool is_form(struct piece word, uint32_t *form) {
     return false;
 }
 
-/* How much room there is at first for the pieces of bytes. */
+/* How much room there is at first for the pieces of bytes, which is often enough. */
 static inline size_t room_of_pieces(size_t length) {
     return length < MOST_EXPLAINED / 256 ? 256 * length + 4096 : MOST_EXPLAINED;
+}
+
+/* Whether the pieces of damaged bytes are asked for once more, with as much room as they need. */
+static inline bool is_to_explain_again(bcs_answer answer) {
+    return answer.status == BCS_SHORT && answer.length <= MOST_EXPLAINED;
 }
 
 /* The last line of pieces in BCS_JSON, without its line feed: of damaged bytes it tells where they stop, and why. */
@@ -130,18 +135,21 @@ static inline struct piece last_line(struct piece pieces) {
     return (struct piece){pieces.at + begin, end - begin};
 }
 
-/* The way by names in such a line, as it is written there: what its first member, "name", has between the quotes. */
-static inline struct piece way_of(struct piece line) {
+/* The way by names in such a line: what its first member, "name", has between the quotes, which is ASCII. The escapes of JSON
+   are undone in its place, in pieces that the caller may write to. */
+static inline struct piece way_of(uint8_t *pieces, struct piece line) {
     static const char front[] = "{\"name\":\"";
     const size_t begin = sizeof front - 1;
-    size_t end = begin;
+    uint8_t *const way = pieces + (line.at - pieces) + begin;
+    size_t length = 0;
     if (line.length < begin || memcmp(line.at, front, begin) != 0) {
         return (struct piece){line.at, 0};
     }
-    while (end < line.length && line.at[end] != '"') {
-        end += line.at[end] == '\\' ? 2 : 1;
+    for (size_t place = begin; place < line.length && line.at[place] != '"'; place++) {
+        place += line.at[place] == '\\' && place + 1 < line.length;
+        way[length++] = line.at[place];
     }
-    return (struct piece){line.at + begin, end < line.length ? end - begin : 0};
+    return (struct piece){way, length};
 }
 
 #endif

@@ -90,33 +90,36 @@ static void tell_refusal(sqlite3_context *context, bcs_answer answer, struct pie
 }
 
 /* The pieces of damaged bytes in SQLite's memory, of which `line` is the last, and BCS_DONE. BCS_SHORT where they take too
-   much, and BCS_MEMORY: then there are none, and the line is empty. */
+   much, and BCS_MEMORY: then the line is empty. */
 static uint32_t explain_damage(struct question *question, uint8_t **pieces, struct piece *line) {
-    const size_t room = room_of_pieces(question->input.length);
-    bcs_answer answer;
+    bcs_answer answer = {.status = BCS_SHORT, .length = room_of_pieces(question->input.length)};
     *line = no_way;
-    *pieces = sqlite3_malloc64(room);
-    if (*pieces == NULL) {
-        return BCS_MEMORY;
-    }
+    *pieces = NULL;
     question->form = BCS_JSON;
-    answer = write_pieces(question, *pieces, room);
+    while (is_to_explain_again(answer)) {
+        const size_t room = answer.length;
+        sqlite3_free(*pieces);
+        *pieces = sqlite3_malloc64(room);
+        if (*pieces == NULL) {
+            return BCS_MEMORY;
+        }
+        answer = write_pieces(question, *pieces, room);
+    }
     if (answer.status == BCS_DONE) {
         *line = last_line((struct piece){*pieces, answer.length});
-    } else {
-        sqlite3_free(*pieces);
-        *pieces = NULL;
     }
     return answer.status;
 }
 
 static void refuse(sqlite3_context *context, struct question *question, bcs_answer answer) {
-    struct piece line = no_way;
+    struct piece line, way = no_way;
     uint8_t *pieces = NULL;
-    if (is_stop(answer) && explain_damage(question, &pieces, &line) == BCS_MEMORY) {
-        answer.status = BCS_MEMORY;
+    if (is_stop(answer)) {
+        const uint32_t status = explain_damage(question, &pieces, &line);
+        answer.status = status == BCS_MEMORY ? status : answer.status;
+        way = status == BCS_DONE ? way_of(pieces, line) : no_way;
     }
-    tell_refusal(context, answer, way_of(line));
+    tell_refusal(context, answer, way);
     sqlite3_free(pieces);
 }
 
@@ -427,6 +430,7 @@ static void answer_fault(sqlite3_context *context, struct question *question, bc
         answer_owned(context, A_JSON, pieces, line.length);
         return;
     }
+    sqlite3_free(pieces);
     name_fault(answer.fault, name);
     text = status == BCS_SHORT ? sqlite3_mprintf("{\"place\":%llu,\"refused\":\"%s\"}", (unsigned long long)answer.place, name)
                                : NULL;
