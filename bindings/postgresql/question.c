@@ -24,6 +24,8 @@ check_stack(uint32 depth)
 	{
 		base = set_stack_base();
 		restore_stack_base(base);
+		if (base == NULL)
+			return;				/* a server for a single user doesn't look at its stack, either */
 	}
 	used = Abs(base - &here);
 	if (used + STACK_OF_CALL + (int64) depth * STACK_OF_CONTAINER > (int64) max_stack_depth * 1024)
