@@ -60,20 +60,25 @@ def decode_file(text, format, source, target):
     return lines, refused
 
 
-def main(words):
+def decode_folder(client, text, format, folder, out):
+    """How many files and lines there are, and how many lines are refused."""
     import dask_decode  # this file, as the workers have it
 
-    scheduler, registry, format, folder, out = words
-    text = pathlib.Path(registry).read_text(encoding="utf-8")
     sources = sorted(map(str, pathlib.Path(folder).resolve().glob("*.hex")))
     targets = [str(pathlib.Path(out).resolve() / f"{pathlib.Path(source).stem}.json") for source in sources]
+    decode = functools.partial(dask_decode.decode_file, text, format)
+    counts = client.gather(client.map(decode, sources, targets, pure=False))
+    return len(sources), sum(lines for lines, _ in counts), sum(refused for _, refused in counts)
+
+
+def main(words):
+    scheduler, registry, format, folder, out = words
+    text = pathlib.Path(registry).read_text(encoding="utf-8")
     os.makedirs(out, exist_ok=True)
     with Client(scheduler) as client:
         client.upload_file(__file__)
-        decode = functools.partial(dask_decode.decode_file, text, format)
-        counts = client.gather(client.map(decode, sources, targets, pure=False))
-    lines, refused = (sum(column) for column in zip(*counts))
-    print(f"{len(sources)} files, {lines} lines, {refused} of them refused")
+        files, lines, refused = decode_folder(client, text, format, folder, out)
+    print(f"{files} files, {lines} lines, {refused} of them refused")
     return 2 if refused else 0
 
 
