@@ -1,0 +1,125 @@
+/* The arguments of the functions, as the calls take them. */
+#include "bcs_pg.h"
+
+#include "lib/stringinfo.h"
+#include "mb/pg_wchar.h"
+#include "miscadmin.h"
+#include "tcop/tcopprot.h"
+#include "utils/jsonb.h"
+
+/* How much of the stack a call takes at most, and for each container that is open: 73 kB were measured for reading a registry,
+ * and 12.5 kB for a container with formats of 32 levels, which is the most that there are. */
+#define STACK_OF_CALL (128 * 1024)
+#define STACK_OF_CONTAINER (13 * 1024)
+
+/* A call can't look at how deep the stack is, so it is looked at before, for the deepest value that the limit lets through. */
+static void
+check_stack(uint32 depth)
+{
+	static pg_stack_base_t base = NULL;
+	char		here;
+	int64		used;
+
+	if (base == NULL)
+	{
+		base = set_stack_base();
+		restore_stack_base(base);
+		if (base == NULL)
+			return;				/* a server for a single user doesn't look at its stack, either */
+	}
+	used = Abs(base - &here);
+	if (used + STACK_OF_CALL + (int64) depth * STACK_OF_CONTAINER > (int64) max_stack_depth * 1024)
+		ereport(ERROR,
+				(errcode(ERRCODE_STATEMENT_TOO_COMPLEX),
+				 errmsg("bcs: the depth %u may take more of the stack than there is", depth),
+				 errhint("A smaller depth takes less. The server's limit is max_stack_depth, now %d kB.", max_stack_depth)));
+}
+
+/* An argument that is a text, or bytes, where it stands. */
+struct piece
+argument(FunctionCallInfo fcinfo, int place)
+{
+	struct varlena *value = PG_GETARG_VARLENA_PP(place);
+
+	return (struct piece) {(const uint8_t *) VARDATA_ANY(value), VARSIZE_ANY_EXHDR(value)};
+}
+
+/* A text in UTF-8, where it stands if it is. */
+struct piece
+utf8_of(struct piece text)
+{
+	char	   *changed = pg_server_to_any((const char *) text.at, text.length, PG_UTF8);
+
+	if (changed != (const char *) text.at)
+		text = (struct piece) {(const uint8_t *) changed, strlen(changed)};
+	return text;
+}
+
+/* The JSON of a format. */
+static struct piece
+format_of(struct piece format)
+{
+	char	   *json;
+
+	format = utf8_of(format);
+	if (!is_name(format))
+		return format;
+	json = palloc(FORMAT_ROOM(format.length));
+	return (struct piece) {(const uint8_t *) json, write_format(format, json)};
+}
+
+static Question
+question_of_call(FunctionCallInfo fcinfo, int inputs)
+{
+	const int64 nodes = PG_GETARG_INT64(2 + inputs);
+	const int32 depth = PG_GETARG_INT32(3 + inputs);
+	const struct piece format = format_of(argument(fcinfo, 1));
+
+	if (nodes < 0 || nodes > BCS_NODES || depth < 0 || depth > BCS_DEPTH)
+		ereport(ERROR,
+				(errcode(ERRCODE_INVALID_PARAMETER_VALUE),
+				 errmsg("bcs: nodes are from 0 to 4294967295, and a depth is from 0 to 500")));
+	check_stack(depth);
+	return (Question) {
+		.registry = registry_of_call(fcinfo),
+		.ask = {format.at, format.length, depth, nodes},
+	};
+}
+
+/* Of two inputs the second is a text. */
+Question
+question_of_bytes(FunctionCallInfo fcinfo, int inputs)
+{
+	const struct piece input = argument(fcinfo, 2);
+	const struct piece second = inputs == 2 ? utf8_of(argument(fcinfo, 3)) : input;
+	Question	question = question_of_call(fcinfo, inputs);
+
+	question.input = input;
+	question.second = second;
+	return question;
+}
+
+Question
+question_of_text(FunctionCallInfo fcinfo, int inputs)
+{
+	const struct piece input = utf8_of(argument(fcinfo, 2));
+	const struct piece second = inputs == 2 ? utf8_of(argument(fcinfo, 3)) : input;
+	Question	question = question_of_call(fcinfo, inputs);
+
+	question.input = input;
+	question.second = second;
+	return question;
+}
+
+Question
+question_of_jsonb(FunctionCallInfo fcinfo, int inputs)
+{
+	Jsonb	   *value = PG_GETARG_JSONB_P(2);
+	Question	question = question_of_call(fcinfo, inputs);
+	StringInfoData text;
+
+	initStringInfo(&text);
+	JsonbToCString(&text, &value->root, VARSIZE(value));
+	question.input = utf8_of((struct piece) {(const uint8_t *) text.data, text.len});
+	return question;
+}

@@ -1,0 +1,49 @@
+INSERT INTO bcs_registries VALUES ('payments', payments());
+SELECT bcs_decode('payments', 'Payment', '\x03626f620700000000000000');
+SELECT bcs_decode(name, 'Payment', '\x03626f620700000000000000') FROM bcs_registries;
+SELECT told($$bcs_is('nobody', 'Payment', '\x00')$$);
+-- What is no registry, or is no name, isn't kept.
+INSERT INTO bcs_registries VALUES ('bad', '{"A":{"STRUCT":7}}');
+INSERT INTO bcs_registries VALUES ('other', 'payments');
+INSERT INTO bcs_registries VALUES ('{}', '{}');
+INSERT INTO bcs_registries VALUES ('payments', '{}');
+-- A name has the newest text, also in the transaction that changes it, and after one that is rolled back.
+BEGIN;
+UPDATE bcs_registries SET registry = '{"Payment":{"STRUCT":[{"to":"STR"},{"cents":"U64"}]}}';
+SELECT bcs_decode('payments', 'Payment', '\x03626f620700000000000000');
+SAVEPOINT before;
+DELETE FROM bcs_registries;
+SELECT told($$bcs_is('payments', 'Payment', '\x00')$$);
+ROLLBACK TO before;
+SELECT bcs_decode('payments', 'Payment', '\x03626f620700000000000000');
+ROLLBACK;
+SELECT bcs_decode('payments', 'Payment', '\x03626f620700000000000000');
+-- A statement that was prepared before sees the change.
+PREPARE one AS SELECT bcs_decode_json('payments', 'Payment', $1);
+EXECUTE one('\x03626f620700000000000000');
+UPDATE bcs_registries SET registry = '{"Payment":{"STRUCT":[{"to":"STR"},{"coins":"U64"}]}}';
+EXECUTE one('\x03626f620700000000000000');
+UPDATE bcs_registries SET registry = payments();
+EXECUTE one('\x03626f620700000000000000');
+-- More registries than are kept open, which come from a table.
+INSERT INTO bcs_registries
+    SELECT 'r' || n, format('{"A":{"STRUCT":[{"x%s":"U8"}]}}', n) FROM generate_series(1, 40) AS n;
+SELECT count(*) FROM generate_series(1, 2000) AS turn, LATERAL (SELECT 1 + turn * 7 % 40 AS n) AS which
+    WHERE bcs_decode_json('r' || n, 'A', '\x07')::text = format('{"x%s":7}', n);
+SELECT count(*) FROM generate_series(1, 2000) AS turn, LATERAL (SELECT 1 + turn * 7 % 20 AS n) AS which
+    WHERE bcs_decode_json(format('{"A":{"STRUCT":[{"x%s":"U8"}]}}', n), 'A', '\x07')::text = format('{"x%s":7}', n);
+SELECT count(*) FROM pg_backend_memory_contexts WHERE name = 'bcs registry';
+-- In another schema it is found, too; and with a search path of the user's.
+CREATE SCHEMA elsewhere;
+ALTER EXTENSION bcs SET SCHEMA elsewhere;
+SELECT elsewhere.bcs_is('payments', 'Payment', '\x03626f620700000000000000');
+ALTER EXTENSION bcs SET SCHEMA public;
+-- Anyone may use a registry, and its owner alone changes it.
+CREATE ROLE reader;
+SET ROLE reader;
+SELECT bcs_is('payments', 'Payment', '\x03626f620700000000000000');
+DELETE FROM bcs_registries;
+RESET ROLE;
+DROP ROLE reader;
+TRUNCATE bcs_registries;
+SELECT told($$bcs_is('payments', 'Payment', '\x00')$$);

@@ -1,0 +1,262 @@
+"""What takes more than one session: names that another one changes, calls that are cancelled, want of memory in a backend, and
+memory over many calls; and databases of other encodings. The variables PGHOST and PGUSER say where the server is, and the
+extension isn't in its databases yet."""
+
+import contextlib
+import os
+import pathlib
+import re
+import resource
+import subprocess
+import threading
+import time
+import unittest
+
+import psycopg2
+
+CALLS = int(os.environ.get("CALLS", "1000000"))
+PAYMENTS = '{"Payment":{"STRUCT":[{"to":"STR"},{"amount":"U64"}]}}'
+OTHER = '{"Payment":{"STRUCT":[{"to":"STR"},{"cents":"U64"}]}}'
+PAYMENT = "\\x03626f620700000000000000"
+# A list of 268 million units, which takes gigabytes and many seconds.
+ENDLESS = """select bcs_decode_json('{}', '{"SEQ":"UNIT"}', '\\xffffff7f', 4294967295)"""
+
+
+def connect(database):
+    connection = psycopg2.connect(dbname=database)
+    connection.autocommit = True
+    return connection
+
+
+def value(connection, statement, *arguments):
+    with connection.cursor() as cursor:
+        cursor.execute(statement, arguments)
+        return cursor.fetchone()[0]
+
+
+def run(connection, statement, *arguments):
+    with connection.cursor() as cursor:
+        cursor.execute(statement, arguments)
+
+
+def refusal(connection, statement, *arguments):
+    """The SQLSTATE and the message of the error that a statement ends with."""
+    try:
+        run(connection, statement, *arguments)
+    except psycopg2.Error as fault:
+        return fault.pgcode, fault.diag.message_primary
+    return None
+
+
+def process_memory(pid, name):
+    """A line of the process's status, in bytes."""
+    status = pathlib.Path(f"/proc/{pid}/status").read_text()
+    return int(re.search(rf"^{name}:\s+(\d+) kB$", status, re.MULTILINE)[1]) * 1024
+
+
+@contextlib.contextmanager
+def address_space(pid, length):
+    """For a while the process may have no more."""
+    before = resource.prlimit(pid, resource.RLIMIT_AS)
+    resource.prlimit(pid, resource.RLIMIT_AS, (length, before[1]))
+    try:
+        yield
+    finally:
+        resource.prlimit(pid, resource.RLIMIT_AS, before)
+
+
+class Database(unittest.TestCase):
+    """With a database of its own."""
+
+    name, options = "sessions", ""
+
+    def setUp(self):
+        server = connect("postgres")
+        run(server, f"drop database if exists {self.name}")
+        run(server, f"create database {self.name} {self.options}")
+        server.close()
+        self.session = self.opened()
+        run(self.session, "create extension bcs")
+
+    def opened(self):
+        session = connect(self.name)
+        self.addCleanup(session.close)
+        return session
+
+
+class Names(Database):
+    decoded = f"select bcs_decode_json('payments', 'Payment', '{PAYMENT}')::text"
+
+    def setUp(self):
+        super().setUp()
+        run(self.session, "insert into bcs_registries values ('payments', %s)", PAYMENTS)
+        self.other = self.opened()
+
+    def test_change_by_another_session(self):
+        self.assertEqual(value(self.other, self.decoded), '{"amount":"7","to":"bob"}')
+        run(self.session, "begin")
+        run(self.session, "update bcs_registries set registry = %s", OTHER)
+        self.assertEqual(value(self.session, self.decoded), '{"cents":"7","to":"bob"}')
+        self.assertEqual(value(self.other, self.decoded), '{"amount":"7","to":"bob"}')
+        run(self.session, "commit")
+        self.assertEqual(value(self.other, self.decoded), '{"cents":"7","to":"bob"}')
+
+    def test_older_snapshot(self):
+        """A name has the newest text, as catalogs have, and no older one stays open."""
+        run(self.other, "begin isolation level repeatable read")
+        value(self.other, "select count(*) from bcs_registries")
+        run(self.session, "update bcs_registries set registry = %s", OTHER)
+        self.assertEqual(value(self.other, self.decoded), '{"cents":"7","to":"bob"}')
+        run(self.other, "commit")
+        self.assertEqual(value(self.other, self.decoded), '{"cents":"7","to":"bob"}')
+
+    def test_new_extension(self):
+        value(self.other, self.decoded)
+        run(self.session, "drop extension bcs")
+        run(self.session, "create extension bcs")
+        self.assertEqual(refusal(self.other, self.decoded), ("22023", "bcs: no registry is called payments"))
+
+    def test_dump(self):
+        """With the names, and an index that uses one."""
+        run(self.session, "create table transfers (bytes bytea)")
+        run(self.session, f"insert into transfers values ('{PAYMENT}')")
+        run(self.session, "create index by_name on transfers ((bcs_decode('payments', 'Payment', bytes) ->> 'to'))")
+        dump = subprocess.run(["pg_dump", self.name], check=True, capture_output=True).stdout
+        server = connect("postgres")
+        run(server, "drop database if exists restored")
+        run(server, "create database restored")
+        server.close()
+        words = ["psql", "--quiet", "--no-psqlrc", "--set", "ON_ERROR_STOP=1", "restored"]
+        subprocess.run(words, check=True, input=dump, stdout=subprocess.DEVNULL)
+        restored = connect("restored")
+        self.addCleanup(restored.close)
+        run(restored, "set enable_seqscan = off")
+        found = "select count(*) from transfers where bcs_decode('payments', 'Payment', bytes) ->> 'to' = 'bob'"
+        self.assertEqual(value(restored, found), 1)
+        self.assertEqual(value(restored, self.decoded), '{"amount":"7","to":"bob"}')
+
+
+class Cancelling(Database):
+    def test_timeout(self):
+        run(self.session, "set statement_timeout = 300")
+        start = time.monotonic()
+        self.assertEqual(refusal(self.session, ENDLESS)[0], "57014")
+        self.assertLess(time.monotonic() - start, 20)
+        run(self.session, "set statement_timeout = 0")
+        self.assertIs(value(self.session, "select bcs_is('{}', '\"U8\"', '\\x07')"), True)
+
+    def test_end_of_session(self):
+        """And of no other one, as a crash would have it."""
+        other, pid = self.opened(), value(self.session, "select pg_backend_pid()")
+        told = []
+        call = threading.Thread(target=lambda: told.append(refusal(self.session, ENDLESS)))
+        call.start()
+        time.sleep(0.3)
+        self.assertIs(value(other, "select pg_terminate_backend(%s, 20000)", pid), True)
+        call.join(20)
+        self.assertEqual((len(told), self.session.closed != 0), (1, True))
+        self.assertEqual(value(other, "select 7"), 7)
+
+
+class Memory(Database):
+    def test_want_of_memory(self):
+        """The error tells it, and the session goes on."""
+        pid = value(self.session, "select pg_backend_pid()")
+        with address_space(pid, process_memory(pid, "VmSize") + (64 << 20)):
+            self.assertEqual(refusal(self.session, ENDLESS), ("53200", "out of memory"))
+        self.assertEqual(value(self.session, "select pg_backend_pid()"), pid)
+
+    def test_want_of_memory_anywhere(self):
+        """With any room that is too small a call and the reading of a registry are refused, and with enough they are right."""
+        call = """select length(bcs_encode_json(%s, 'A', '[' || repeat('true,', 299999) || 'true]', 1000000))"""
+        registry = '{"A":{"NEWTYPESTRUCT":{"SEQ":"BOOL"}},"B":{"STRUCT":[%s]}}'
+        fields = ",".join(f'{{"field{number}":"U64"}}' for number in range(20000))
+        pid = value(self.session, "select pg_backend_pid()")
+        refused = 0
+        for number in range(24):
+            with address_space(pid, process_memory(pid, "VmSize") + (number * 3 << 20)):
+                try:
+                    self.assertEqual(value(self.session, call, registry % (fields + " " * number)), 300003)
+                except psycopg2.errors.OutOfMemory:
+                    refused += 1
+        self.assertGreater(refused, 0)
+        self.assertEqual(value(self.session, call, registry % fields), 300003)
+        self.assertEqual(value(self.session, "select pg_backend_pid()"), pid)
+
+    def test_many_calls(self):
+        """Also of refusals, a tenth of them. What the server's compiler of expressions takes isn't looked at."""
+        calls = """do $$ begin
+            perform count(bcs_decode_json(%s, 'Payment', set_byte(%s, 4, n %% 256))) from generate_series(1, %s) as n;
+            for n in 1 .. %s loop
+                begin
+                    perform bcs_decode(%s, 'Payment', substr(%s::bytea, 1, n %% 12));
+                    raise exception 'no error';
+                exception when invalid_binary_representation then
+                end;
+            end loop;
+        end $$"""
+        pid = value(self.session, "select pg_backend_pid()")
+        run(self.session, "set jit = off")
+
+        def spent(count):
+            run(self.session, calls, PAYMENTS, PAYMENT, count * 9 // 10, count // 10, PAYMENTS, PAYMENT)
+            contexts = value(self.session, "select sum(total_bytes)::bigint from pg_backend_memory_contexts")
+            return contexts, process_memory(pid, "RssAnon")
+
+        spent(100000)
+        first, last = spent(100000), spent(CALLS)
+        contexts, process = last[0] - first[0], last[1] - first[1]
+        print(f"sessions: {CALLS} calls, and {contexts} bytes more in contexts, {process} in the process")
+        self.assertLess(max(contexts, process), 1 << 20)
+
+
+class Latin1(Database):
+    name, options = "latin1", "template template0 encoding 'LATIN1' locale 'C'"
+
+    def test_texts(self):
+        self.assertEqual(bytes(value(self.session, "select bcs_encode('{}', '\"STR\"', '\"é\"')")).hex(), "02c3a9")
+        self.assertEqual(bytes(value(self.session, "select bcs_encode_json('{}', '\"STR\"', '\"é\"')")).hex(), "02c3a9")
+        self.assertEqual(value(self.session, "select bcs_decode_json('{}', '\"STR\"', '\\x02c3a9')::text"), '"é"')
+        self.assertEqual(value(self.session, "select bcs_decode('{}', '\"STR\"', '\\x02c3a9') ->> 0"), "é")
+        self.assertEqual(value(self.session, "select bcs_normalise('{}', '\"STR\"', '\"\\u00e9\"')::text"), '"é"')
+        self.assertIs(value(self.session, "select bcs_equal('{}', '\"STR\"', '\"\\u00e9\"', '\"é\"')"), True)
+
+    def test_no_such_character(self):
+        self.assertEqual(refusal(self.session, "select bcs_decode_json('{}', '\"STR\"', '\\x03e282ac')")[0], "22P05")
+        self.assertEqual(refusal(self.session, "select bcs_decode('{}', '\"STR\"', '\\x03e282ac')")[0], "22P05")
+        self.assertEqual(bytes(value(self.session, "select bcs_encode_json('{}', '\"STR\"', '\"\\u20ac\"')")).hex(), "03e282ac")
+
+    def test_names(self):
+        registry = '{"Zürich":{"STRUCT":[{"größe":"BOOL"}]}}'
+        self.assertEqual(value(self.session, "select bcs_decode(%s, 'Zürich', '\\x01')", registry), {"größe": True})
+        told = refusal(self.session, "select bcs_decode(%s, 'Zürich', '\\x02')", registry)
+        self.assertEqual(told[0], "22P03")
+        self.assertEqual(told[1], "bcs: no bytes of the format: BadBool at 0 in .gr\\u00f6\\u00dfe")
+        self.assertEqual(value(self.session, "select bcs_fault(%s, 'Zürich', '\\x02') ->> 'name'", registry), ".gr\\u00f6\\u00dfe")
+        run(self.session, "insert into bcs_registries values ('stadt', %s)", registry)
+        self.assertEqual(value(self.session, "select bcs_decode('stadt', 'Zürich', '\\x01')"), {"größe": True})
+
+
+class EucJp(Database):
+    name, options = "euc_jp", "template template0 encoding 'EUC_JP' locale 'C'"
+
+    def test_texts(self):
+        self.assertEqual(bytes(value(self.session, "select bcs_encode('{}', '\"STR\"', '\"日\"')")).hex(), "03e697a5")
+        self.assertEqual(value(self.session, "select bcs_decode_json('{}', '\"STR\"', '\\x03e697a5')::text"), '"日"')
+
+
+class SqlAscii(Database):
+    """Which holds any bytes: a text that is no UTF-8 is refused."""
+
+    name, options = "sql_ascii", "template template0 encoding 'SQL_ASCII' locale 'C'"
+
+    def test_texts(self):
+        self.session.set_client_encoding("SQL_ASCII")
+        self.assertEqual(bytes(value(self.session, "select bcs_encode_json('{}', '\"STR\"', E'\"\\xc3\\xa9\"')")).hex(), "02c3a9")
+        decoded = "select bcs_decode_json('{}', '\"STR\"', '\\x02c3a9')::text::bytea"
+        self.assertEqual(bytes(value(self.session, decoded)).hex(), "22c3a922")
+        self.assertEqual(refusal(self.session, "select bcs_encode_json('{}', '\"STR\"', E'\"\\xff\"')")[0], "22021")
+
+
+if __name__ == "__main__":
+    unittest.main()

@@ -1,0 +1,194 @@
+"""The driver of SQL: reads lines of calls and answers them, as bindings/README.md says, by statements in a database.
+
+    /usr/bin/python3 bindings/sql/driver.py sqlite EXTENSION
+    /usr/bin/python3 bindings/sql/driver.py postgresql CONNECTION
+
+EXTENSION is the loadable file, and CONNECTION what libpq takes, of a database with the extension `bcs`.
+"""
+
+import json
+import re
+import sys
+
+
+class Unsayable(Exception):
+    """SQL can't hand these bytes over."""
+
+
+class Answered(Exception):
+    """What the driver answers to a call that is refused."""
+
+
+STATUSES = {"no registry": "registry", "no format of the registry": "format", "no path": "path"}
+
+
+def refusal(message):
+    """The answer that is in the words of an error."""
+    if message.startswith("bcs: nodes are from"):
+        return Answered("limits", "-", "0", "0", "")
+    found = re.match(r"bcs: ([a-z ]+): ([A-Za-z0-9]+)(?: at (\d+))?", message)
+    if not found:
+        raise SystemExit(f"driver: {message}")
+    return Answered(STATUSES.get(found[1], "refused"), found[2], found[3] or "0", "0", "")
+
+
+class Sqlite:
+    """What is no Unicode goes as a BLOB."""
+
+    encode, decode = "bcs_encode(?, ?, ?, ?, ?)", "bcs_decode(?, ?, ?, ?, ?)"
+
+    def __init__(self, extension):
+        import sqlite3
+
+        self.error = sqlite3.OperationalError
+        self.database = sqlite3.connect(":memory:")
+        self.database.enable_load_extension(True)
+        self.database.load_extension(extension)
+
+    def text(self, data):
+        try:
+            return data.decode()
+        except UnicodeDecodeError:
+            return data
+
+    def registry(self, data):
+        return self.text(data)
+
+    def value(self, expression, *arguments):
+        try:
+            return self.database.execute(f"select {expression}", arguments).fetchone()[0]
+        except self.error as fault:
+            raise refusal(str(fault)) from None
+
+
+class Postgresql:
+    """A text there is Unicode without the character U+0000."""
+
+    encode, decode = "bcs_encode_json(?, ?, ?, ?, ?)", "bcs_decode_json(?, ?, ?, ?, ?)::text"
+
+    def __init__(self, connection):
+        import psycopg2
+
+        self.error = psycopg2.Error
+        self.database = psycopg2.connect(connection)
+        self.database.autocommit = True
+        self.cursor = self.database.cursor()
+        self.cursor.execute("set max_stack_depth = '7MB'")
+
+    def text(self, data):
+        try:
+            text = data.decode()
+        except UnicodeDecodeError:
+            raise Unsayable from None
+        if "\0" in text:
+            raise Unsayable
+        return text
+
+    def registry(self, data):
+        """What begins with a letter is the name of one there."""
+        if data[:1].isalpha() or data[:1] == b"_":
+            raise Unsayable
+        return self.text(data)
+
+    def value(self, expression, *arguments):
+        try:
+            self.cursor.execute("select " + expression.replace("?", "%s"), arguments)
+            value = self.cursor.fetchone()[0]
+        except self.error as fault:
+            raise refusal(fault.diag.message_primary) from None
+        return bytes(value) if isinstance(value, memoryview) else value
+
+
+class Calls:
+    """The calls in a database. Each answers a fault, a place, a length and an output; None where the answer is no."""
+
+    def __init__(self, database):
+        self.database = database
+
+    def ask(self, expression, registry, format, limits, *words):
+        """Limits stand last in SQL, nodes before the depth."""
+        return self.database.value(expression, registry, format, *words, *limits)
+
+    def text(self, data):
+        return self.database.text(data)
+
+    def written(self, value):
+        data = value.encode() if isinstance(value, str) else value
+        return "-", 0, len(data), data
+
+    def check(self, *question):
+        self.ask("bcs_is(?, ?, ?, ?, ?)", *question, b"")
+        return "-", 0, 0, b""
+
+    def to_bcs(self, *question):
+        return self.written(self.ask(self.database.encode, *question[:3], self.text(question[3])))
+
+    def from_bcs(self, *question):
+        return self.written(self.ask(self.database.decode, *question))
+
+    def normalise(self, *question):
+        expression = "cast(bcs_normalise(?, ?, ?, ?, ?) as text)"
+        return self.written(self.ask(expression, *question[:3], self.text(question[3])))
+
+    def compare(self, *question):
+        texts = [self.text(data) for data in question[3:]]
+        return ("-", 0, 0, b"") if self.ask("bcs_equal(?, ?, ?, ?, ?, ?)", *question[:3], *texts) else None
+
+    def scan(self, *question):
+        return "-", 0, self.ask("bcs_scan(?, ?, ?, ?, ?)", *question), b""
+
+    def part(self, *question):
+        words = question[3], self.text(question[4])
+        data = self.ask("bcs_part(?, ?, ?, ?, ?, ?)", *question[:3], *words)
+        if data is None:
+            return None
+        place = self.ask("bcs_part_place(?, ?, ?, ?, ?, ?)", *question[:3], *words)
+        if not question[3][place:].startswith(data):
+            raise SystemExit("driver: a part isn't at its place")
+        return "-", place, len(data), b""
+
+    def explain(self, *question):
+        """The text, and of damage the fault and its place, which bcs_fault has to tell as the text does."""
+        text = self.ask("bcs_explain(?, ?, ?, ?, ?, ?)", *question)
+        lines = self.ask("bcs_explain(?, ?, ?, ?, ?, ?)", *question[:4], "json").splitlines()
+        last = json.loads(lines[-1])
+        fault = self.ask("cast(bcs_fault(?, ?, ?, ?, ?) as text)", *question[:4])
+        if (json.loads(fault) if fault else None) != (last if "refused" in last else None):
+            raise SystemExit(f"driver: bcs_fault tells {fault}, and bcs_explain {last}")
+        place = last["place"] if "refused" in last else 0
+        return last.get("refused", "-"), place, len(text.encode()), text.encode()
+
+
+def answer(calls, words):
+    """Only rows say `grows` and `fault_name`, and a format that is no JSON is a container's name in SQL."""
+    call, *words = words
+    if call in ("grows", "fault_name"):
+        raise Unsayable
+    registry, format = (bytes.fromhex(word) for word in words[:2])
+    if format[:1] not in (b"{", b'"'):
+        raise Unsayable
+    rest = [word if call == "explain" and place == 1 else bytes.fromhex(word) for place, word in enumerate(words[4:])]
+    told = getattr(calls, call)(calls.database.registry(registry), calls.text(format), (int(words[3]), int(words[2])), *rest)
+    if told is None:
+        return "no", "-", "0", "0", ""
+    fault, place, length, output = told
+    return "done", fault, str(place), str(length), output.hex()
+
+
+def main():
+    kind, where = sys.argv[1:]
+    calls = Calls({"sqlite": Sqlite, "postgresql": Postgresql}[kind](where))
+    for line in sys.stdin:
+        try:
+            told = "\t".join(answer(calls, line.rstrip("\n").split("\t")))
+        except Answered as refused:
+            told = "\t".join(refused.args)
+        except Unsayable:
+            told = "unsayable"
+        except MemoryError:
+            told = "memory\t-\t0\t0\t"
+        print(told, flush=True)
+
+
+if __name__ == "__main__":
+    main()

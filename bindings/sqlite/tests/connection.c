@@ -1,0 +1,257 @@
+/* What the rows don't see: each request for memory refused in turn, memory over many calls, registries that take turns, and
+   indexes. The extension is linked here. An argument says how many calls there are. */
+#include <sqlite3.h>
+#include <stdbool.h>
+#include <stdio.h>
+#include <stdlib.h>
+#include <string.h>
+
+int sqlite3_bcssqlite_init(sqlite3 *database, char **message, const sqlite3_api_routines *api);
+
+#define CHECK(is_so) \
+    do { \
+        if (!(is_so)) { \
+            fprintf(stderr, "%s:%d: %s\n", __FILE__, __LINE__, #is_so); \
+            exit(1); \
+        } \
+    } while (0)
+
+#define TEN(text) text text text text text text text text text text
+
+/* SQLite's own heap, with a request refused. */
+static sqlite3_mem_methods heap;
+static unsigned long requests, refused;
+static bool are_others_refused;
+
+static bool is_refused(void) {
+    requests++;
+    return refused != 0 && (requests == refused || (are_others_refused && requests > refused));
+}
+
+static void *allocate(int length) {
+    return is_refused() ? NULL : heap.xMalloc(length);
+}
+
+static void *grow(void *block, int length) {
+    return is_refused() ? NULL : heap.xRealloc(block, length);
+}
+
+static void take_heap(void) {
+    sqlite3_mem_methods mine;
+    CHECK(sqlite3_config(SQLITE_CONFIG_GETMALLOC, &heap) == SQLITE_OK);
+    mine = heap;
+    mine.xMalloc = allocate;
+    mine.xRealloc = grow;
+    CHECK(sqlite3_config(SQLITE_CONFIG_MALLOC, &mine) == SQLITE_OK);
+}
+
+static sqlite3 *opened(void) {
+    sqlite3 *database;
+    CHECK(sqlite3_open(":memory:", &database) == SQLITE_OK);
+    CHECK(sqlite3_bcssqlite_init(database, NULL, NULL) == SQLITE_OK);
+    return database;
+}
+
+static void closed(sqlite3 *database) {
+    CHECK(sqlite3_close(database) == SQLITE_OK);
+}
+
+static sqlite3_stmt *prepared(sqlite3 *database, const char *sql) {
+    sqlite3_stmt *statement;
+    CHECK(sqlite3_prepare_v2(database, sql, -1, &statement, NULL) == SQLITE_OK);
+    return statement;
+}
+
+/* The first column of the first row. */
+static void is_answered(sqlite3 *database, const char *sql, const char *wanted) {
+    sqlite3_stmt *statement = prepared(database, sql);
+    CHECK(sqlite3_step(statement) == SQLITE_ROW);
+    const char *text = (const char *)sqlite3_column_text(statement, 0);
+    if (strcmp(text != NULL ? text : "null", wanted) != 0) {
+        fprintf(stderr, "%s: %s, and not %s\n", sql, text != NULL ? text : "null", wanted);
+        exit(1);
+    }
+    CHECK(sqlite3_finalize(statement) == SQLITE_OK);
+}
+
+static void is_error(sqlite3 *database, const char *sql, const char *wanted) {
+    sqlite3_stmt *statement = prepared(database, sql);
+    CHECK(sqlite3_step(statement) != SQLITE_ROW);
+    if (strcmp(sqlite3_errmsg(database), wanted) != 0) {
+        fprintf(stderr, "%s: %s, and not %s\n", sql, sqlite3_errmsg(database), wanted);
+        exit(1);
+    }
+    sqlite3_finalize(statement);
+}
+
+#define REGISTRY "'{\"A\":{\"STRUCT\":[{\"x\":\"U8\"},{\"y\":{\"SEQ\":\"STR\"}}]}}'"
+
+/* A statement, and what it answers with memory. */
+static const struct {
+    const char *sql, *answer;
+} questions[] = {
+    {"select hex(bcs_encode(" REGISTRY ",'A','{\"x\":7,\"y\":[\"one\"]}'))", "0701036F6E65"},
+    {"select bcs_decode(" REGISTRY ",'A',x'0701036F6E65')", "{\"x\":7,\"y\":[\"one\"]}"},
+    {"select bcs_normalise(" REGISTRY ",'A','{\"y\":[ \"one\" ],\"x\":\"7\"}')", "{\"x\":7,\"y\":[\"one\"]}"},
+    {"select bcs_equal(" REGISTRY ",'A','{\"y\":[ \"one\" ],\"x\":\"7\"}','{\"x\":7,\"y\":[\"one\"]}')", "1"},
+    {"select hex(bcs_part(" REGISTRY ",'A',x'0701036F6E65','inner/1/0'))", "036F6E65"},
+    {"select bcs_part_place(" REGISTRY ",'A',x'0701036F6E65','inner/1/0')", "2"},
+    {"select bcs_part(" REGISTRY ",'A',x'0701036F6E65','inner/1/1')", "null"},
+    {"select bcs_scan(" REGISTRY ",'A',x'0701036F6E6500')", "6"},
+    {"select bcs_is(" REGISTRY ",'A',x'0701036F6E6500')", "0"},
+    {"select bcs_fault(" REGISTRY ",'A',x'0701036F6E')",
+     "{\"name\":\".y[0]\",\"path\":\"inner/1/0\",\"place\":5,\"refused\":\"EndOfInput\",\"want\":\"3 bytes of STR\"}"},
+    {"select bcs_fault(" REGISTRY ",'A',x'0701036F6E65')", "null"},
+    {"select bcs_explain('{}','\"U8\"',x'07','json')",
+     "{\"bytes\":\"07\",\"kind\":\"unsigned\",\"name\":\".\",\"path\":\".\",\"place\":0,\"value\":\"7\",\"what\":\"U8\"}\n{\"end\":1}\n"},
+    {"select bcs_decode(null,'A',x'07')", "null"},
+};
+#define COUNT(table) (sizeof(table) / sizeof(table)[0])
+
+static void answers(void) {
+    sqlite3 *database = opened();
+    for (size_t row = 0; row < COUNT(questions); row++) {
+        is_answered(database, questions[row].sql, questions[row].answer);
+    }
+    is_answered(database, "select json_group_array(bcs_decode('{}','\"BOOL\"',x'01'))", "[true]");
+    is_error(database, "select bcs_decode(" REGISTRY ",'A',x'0702')", "bcs: no bytes of the format: EndOfInput at 2 in .y[0]");
+    is_error(database, "select bcs_decode('{}','\"U8\"','07')", "bcs: the bytes are no BLOB");
+    is_error(database, "select bcs_is('{}','\"U8\"',x'07',4294967296)",
+             "bcs: nodes are from 0 to 4294967295, and a depth is from 0 to 500");
+    is_error(database, "select bcs_explain('{}','\"U8\"',x'07','xml')", "bcs: a form is ways, paths, tree or json");
+    closed(database);
+}
+
+/* Bytes that announce more than they have, texts that nest deep, and a text with the character U+0000. */
+static void hostile(void) {
+    sqlite3 *database = opened();
+    is_error(database, "select bcs_decode('{}','\"BYTES\"',x'8080808004')", "bcs: no bytes of the format: EndOfInput at 5 in .");
+    is_error(database, "select bcs_decode('{}','{\"SEQ\":\"UNIT\"}',x'ffffffff07')",
+             "bcs: no bytes of the format: TooManyNodes at 5 in [999999]");
+    is_answered(database, "select bcs_is('{}','{\"SEQ\":\"UNIT\"}',x'ffffffff07')", "0");
+    is_error(database, "select bcs_encode('{}','\"U8\"',replace(hex(zeroblob(50000)),'0','[') || replace(hex(zeroblob(50000)),'0',']'))",
+             "bcs: no value of the format: NotJson");
+    is_error(database, "select bcs_encode('{}','\"U8\"',replace(hex(zeroblob(51)),'0','[') || replace(hex(zeroblob(51)),'0',']'))",
+             "bcs: no value of the format: TooNested");
+    is_error(database, "select bcs_decode('{\"L\":{\"NEWTYPESTRUCT\":{\"OPTION\":{\"TYPENAME\":\"L\"}}}}','L',"
+             "cast(replace(hex(zeroblob(50000)),'0',char(1)) as blob))",
+             "bcs: no bytes of the format: TooDeep at 100 in " TEN("??????????"));
+    is_answered(database, "select bcs_decode('{}','\"STR\"',x'03610062')", "\"a\\u0000b\"");
+    is_answered(database, "select hex(bcs_encode('{}','\"STR\"','\"a\\u0000b\"'))", "03610062");
+    is_error(database, "select bcs_encode('{}','\"STR\"',cast(x'226100622200' as text))", "bcs: no value of the format: NotJson");
+    is_error(database, "select bcs_is(x'7b00','\"U8\"',x'07')", "bcs: no registry: NotJson");
+    closed(database);
+}
+
+/* A statement in a connection of its own: true where memory ran out, and else it is answered as with memory. */
+static bool runs_out(size_t row) {
+    sqlite3 *database = NULL;
+    sqlite3_stmt *statement = NULL;
+    int status = sqlite3_open(":memory:", &database);
+    if (status == SQLITE_OK) {
+        status = sqlite3_bcssqlite_init(database, NULL, NULL);
+    }
+    if (status == SQLITE_OK) {
+        status = sqlite3_prepare_v2(database, questions[row].sql, -1, &statement, NULL);
+    }
+    if (status == SQLITE_OK && (status = sqlite3_step(statement)) == SQLITE_ROW) {
+        const char *text = (const char *)sqlite3_column_text(statement, 0);
+        CHECK(strcmp(text != NULL ? text : "null", questions[row].answer) == 0 || sqlite3_errcode(database) == SQLITE_NOMEM);
+    }
+    CHECK(status == SQLITE_ROW || status == SQLITE_NOMEM || status == SQLITE_ERROR);
+    sqlite3_finalize(statement);
+    sqlite3_close(database);
+    return status == SQLITE_NOMEM;
+}
+
+static unsigned long sweep(size_t row) {
+    unsigned long count, told = 0;
+    requests = refused = 0;
+    CHECK(!runs_out(row));
+    count = requests;
+    for (unsigned long number = 1; number <= count; number++) {
+        const sqlite3_int64 before = sqlite3_memory_used();
+        requests = 0;
+        refused = number;
+        told += runs_out(row);
+        refused = 0;
+        CHECK(sqlite3_memory_used() == before);
+    }
+    return told;
+}
+
+static void memory_refused(void) {
+    unsigned long told = 0;
+    for (int others = 0; others < 2; others++) {
+        are_others_refused = others == 1;
+        for (size_t row = 0; row < COUNT(questions); row++) {
+            told += sweep(row);
+        }
+    }
+    CHECK(told > 0);
+    printf("sqlite: %lu requests for memory refused, and told\n", told);
+}
+
+/* Twenty registries take turns on sixteen places, and each answers by its own. */
+static void registries_take_turns(void) {
+    sqlite3 *database = opened();
+    sqlite3_stmt *statement = prepared(database, "select bcs_decode('{\"A' || ?1 || '\":{\"STRUCT\":[{\"x' || ?1 || '\":\"U8\"}]}}','A' || ?1,x'07')");
+    for (int turn = 0; turn < 2000; turn++) {
+        char wanted[40];
+        const int number = turn * 7 % 20;
+        snprintf(wanted, sizeof wanted, "{\"x%d\":7}", number);
+        sqlite3_bind_int(statement, 1, number);
+        CHECK(sqlite3_step(statement) == SQLITE_ROW);
+        CHECK(strcmp((const char *)sqlite3_column_text(statement, 0), wanted) == 0);
+        sqlite3_reset(statement);
+    }
+    sqlite3_finalize(statement);
+    closed(database);
+}
+
+/* In an index on an expression, in a generated column and in a CHECK stand deterministic functions alone. */
+static void indexes(void) {
+    sqlite3 *database = opened();
+    CHECK(sqlite3_exec(database,
+                       "create table t (b blob, v text generated always as (bcs_decode('{}','\"U16\"',b)) virtual);"
+                       "create table c (b blob check (bcs_is('{}','\"U16\"',b)));"
+                       "create index i on t (bcs_decode('{}','\"U16\"',b));"
+                       "insert into t (b) values (x'0700'), (x'0800');",
+                       NULL, NULL, NULL) == SQLITE_OK);
+    is_answered(database, "select hex(b) from t indexed by i where bcs_decode('{}','\"U16\"',b) = '8'", "0800");
+    is_answered(database, "select group_concat(v) from t", "7,8");
+    is_error(database, "insert into c (b) values (x'07')", "CHECK constraint failed: bcs_is('{}','\"U16\"',b)");
+    closed(database);
+}
+
+static void many_calls(long count) {
+    sqlite3 *database = opened();
+    sqlite3_stmt *statement = prepared(database, "select bcs_decode(" REGISTRY ",'A',?1), bcs_fault(" REGISTRY ",'A',?1)");
+    sqlite3_int64 before = 0;
+    for (long number = 0; number < count / 2; number++) {
+        const bool is_damaged = number % 10 == 9;
+        sqlite3_bind_blob(statement, 1, "\x07\x01\x03one", is_damaged ? 5 : 6, SQLITE_STATIC);
+        CHECK((sqlite3_step(statement) == SQLITE_ROW) == !is_damaged);
+        sqlite3_reset(statement);
+        if (number == 1000) {
+            before = sqlite3_memory_used();
+        }
+    }
+    CHECK(count < 4000 || sqlite3_memory_used() <= before + 4096);
+    printf("sqlite: %ld calls, and %lld bytes of memory more than after the first thousands\n", count,
+           (long long)(sqlite3_memory_used() - before));
+    sqlite3_finalize(statement);
+    closed(database);
+    CHECK(sqlite3_memory_used() == 0);
+}
+
+int main(int count, char **words) {
+    take_heap();
+    answers();
+    hostile();
+    registries_take_turns();
+    indexes();
+    many_calls(count > 1 ? atol(words[1]) : 1000000);
+    memory_refused();
+    return 0;
+}
