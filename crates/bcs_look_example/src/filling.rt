@@ -10,7 +10,9 @@ use crate::weighing::{content_of, format_nodes};
 use crate::wish::ExampleForm;
 use bcs_registry::{Format, Named, Registry};
 use bcs_value::Value;
-use bcs_value_model::slot::{keep, keep_entry, put_items, put_pairs, wrap_named, wrap_present, wrap_variant};
+use bcs_value_model::slot::{
+    keep, keep_entry, put_items, put_pairs, wrap_named, wrap_present, wrap_variant,
+};
 use std::alloc::{AllocError, Global};
 
 /// What examples are made by.

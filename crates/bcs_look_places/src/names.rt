@@ -6,8 +6,11 @@ use std::fmt::InlineText;
 // How much of a name stands in a line, in signs of ASCII.
 const LONGEST: usize = 200;
 
+// The signs of a character of two units.
+const PAIR: usize = 12;
+
 /// A name as it stands in a line: escaped as in JSON, in ASCII, so that no byte of it reaches a terminal as it is. Of a
-/// long one the front stands there, and that it is cut.
+/// long one as many whole characters as have room stand there, and that it is cut.
 #[derive(Clone, Copy)]
 pub(crate) struct Name<'a> {
     text: &'a str,
@@ -37,11 +40,14 @@ impl fmt::Display for Name<'_> {
         for unit in self.text.encode_utf16() {
             let escape = escaped(unit);
             let signs = escape.as_str();
-            if signs.len() > room {
-                f.write_str(signs.get(..room).unwrap_or(""))?;
+            let wanted = match unit {
+                0xd800..=0xdbff => PAIR,
+                _ => signs.len(),
+            };
+            if wanted > room {
                 return f.write_str("...(cut)");
             }
-            room -= signs.len();
+            room = room.saturating_sub(signs.len());
             f.write_str(if self.in_pointer {
                 marked(signs)
             } else {

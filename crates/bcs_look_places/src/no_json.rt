@@ -3,8 +3,7 @@
 use serde_json::{Category, Value};
 use std::alloc::Global;
 
-/// Where a registry's text stops being JSON, by the line and the column that `serde_json` tells. `None`: it is JSON, or
-/// memory ran out.
+/// Where a registry's text stops being JSON, by the line and the column that `serde_json` tells.
 pub fn place_of_no_json(alloc: Global, text: &[u8]) -> Option<Vec<u8>> {
     stop_line(alloc, "at", text)
 }

@@ -12,8 +12,7 @@ use bcs_value::Limits;
 use serde_json::Value as Json;
 use std::alloc::Global;
 
-/// Where a JSON text of a value is refused, and what was wanted there. `None`: it isn't refused by the tests that go
-/// through it with the format, or memory ran out.
+/// Where a JSON text of a value is refused by the tests that go through it with the format, and what was wanted there.
 pub fn place_of_text(
     alloc: Global,
     registry: &Registry,

@@ -6,7 +6,7 @@ use bcs_value::Limits;
 use std::alloc::Global;
 
 /// The line for a text that is refused with this fault as a whole. For `NotJson` it has the line and the column that
-/// `serde_json` tells. `None`: the fault has a place in a text, or memory ran out.
+/// `serde_json` tells.
 pub fn whole_line(
     alloc: Global,
     limits: &Limits,

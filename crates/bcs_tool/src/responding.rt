@@ -11,7 +11,10 @@ use crate::running::{failed, run_from};
 use crate::telling::{tell_fault, tell_report};
 use bcs_decode::{ByteSource, ReadSource};
 use bcs_encode::ByteSink;
-use bcs_tool_command_line::{FileFault, Inputs, Job, LineFault, OpenCause, Origin, Report, UnreadFile, Work, line, place_of_file, read_work};
+use bcs_tool_command_line::{
+    FileFault, Inputs, Job, LineFault, OpenCause, Origin, Report, UnreadFile, Work, line,
+    place_of_file, read_work,
+};
 use std::alloc::Global;
 use std::env::Env;
 use std::fs::File;
