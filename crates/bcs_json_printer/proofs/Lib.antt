@@ -1,5 +1,4 @@
 pub mod ShownViews
-pub mod DistinctFields
 pub mod ShownDepths
 pub mod PrintedRows
 pub mod Places

@@ -1,71 +1,44 @@
 -- How deep the members of a struct nest, field by field.
-use Rattle.std.proofs.Common.{◌≡◌, ◌∙◌, ◌<◌, ◌+◌, ℕ, max, nat_le, List, [], ◌∷◌, length, get_or, drop, map, Some, None, Bool, true, false, not, ◌&&◌, ◌||◌, Ordering, Less, Equal, Greater, true≢false, refl, sym, ap, arith}
+use Rattle.std.proofs.Common.{◌≡◌, ◌≤◌, ◌∙◌, ◌<◌, ◌+◌, ℕ, max, nat_le, List, ◌∷◌, length, get_or, drop, map, None, true, ◌&&◌, sym, ap, arith}
+use Rattle.std.proofs.Math.Nat.{max-le}
 use Rattle.std.proofs.lemmas.Bool.{and_parts}
 use Rattle.std.proofs.lemmas.Grind.{common_steps}
-use Rattle.std.proofs.lemmas.Slice.Eq.{bytes_eq-Decides}
-use Rattle.std.specs.Cmp.Lexicographic.{slice_cmp}
-use Rattle.std.specs.List.{list_any}
-use Rattle.std.specs.Ordering.{match_ordering, nat_cmp}
-use Rattle.std.specs.Str.{bytes_eq}
-use Rattle.serde_json.proofs.Views.{get_member-put_other}
-use Rattle.serde_json.specs.Data.{Data, Members, no_members, member, put, depth, members_depth}
+use Rattle.serde_json.specs.Data.{Data, Members, member, put, depth, members_depth}
 use Rattle.serde_json.specs.Find.{get_member}
 use Rattle.bcs_registry_model.specs.Container.{Field, Entries}
 use Rattle.bcs_registry_model.specs.View.{shape_of, field_of}
 use Rattle.bcs_registry_model.specs.WellFormed.{are_distinct}
 use Rattle.bcs_registry_model.specs.declared.format.Format.{Format}
 use Rattle.bcs_registry_model.specs.declared.named.Named.{Named}
-use Rattle.bcs_value_model.specs.Tree.{Tree, Trees, no_trees, tree}
+use Rattle.bcs_value_model.specs.Tree.{Tree, Trees, tree}
 use Rattle.bcs_value_model.specs.View.{tree_of, items_trees}
 use Rattle.bcs_value_model.specs.declared.value.Value.{Value}
 use Rattle.bcs_json_spec.specs.JsonContent.{of}
 use Rattle.bcs_json_spec.specs.Shown.{shown, shown_fields}
+use Rattle.bcs_json_spec.proofs.Lowest.{put_depth}
+use Rattle.bcs_json_spec.proofs.Members.{new_field, put_own_depth, put_others_depth}
 use Rattle.bcs_json_printer.proofs.PrintedRows.{left_at}
 
 abbrev pub names : List Field → List (List ℕ)
 names fs = map (λ f. f.0) fs
 
-put_new_at : (o : Ordering) (k l : List ℕ) (d e : Data) (ms : Members) → match_ordering o (get_member k ms) (Some e) (get_member k ms) ≡ None
-    → (get_member k ms ≡ None → members_depth (put k d ms) ≡ max (depth d) (members_depth ms))
-    → members_depth (match_ordering o (member k d (member l e ms)) (member l d ms) (member l e (put k d ms))) ≡ max (depth d) (max (depth e) (members_depth ms))
-put_new_at Less k l d e ms h rest = refl
-put_new_at Equal k l d e ms h rest = cc
-put_new_at Greater k l d e ms h rest = omega (arith, rest h)
-
 -- a member of a new name nests beside the others
 put_new : (k : List ℕ) (d : Data) (ms : Members) → get_member k ms ≡ None → members_depth (put k d ms) ≡ max (depth d) (members_depth ms)
-put_new k d no_members h = refl
-put_new k d (member l e ms) h = put_new_at (slice_cmp nat_cmp k l) k l d e ms h (put_new k d ms)
+put_new k d ms h =
+    let beside : max (depth d) (members_depth ms) ≤ members_depth (put k d ms) = max-le (put_own_depth k d ms) (put_others_depth k d ms h) in
+    omega (arith, beside, put_depth k d ms)
 
 pub le_zero : (n : ℕ) → true ≡ nat_le 0 n
 le_zero n = grind (arith, common_steps)
 
-not-true : (b : Bool) → not b ≡ true → b ≡ false
-not-true true h = sym h
-not-true false h = refl
-
-neither : (a b : Bool) → (a || b) ≡ false → (a ≡ false) × (b ≡ false)
-neither true b h = absurd (true≢false h)
-neither false b h = (refl, h)
-
 module _ (registry : Entries) where
-  -- a name that no field has is no member's
-  new_name : (ts : Trees) (fs : List Field) (k : List ℕ) → list_any (bytes_eq k) (names fs) ≡ false → get_member k (shown_fields registry ts fs) ≡ None
-  new_name no_trees fs k h = refl
-  new_name (tree t ts) [] k h = refl
-  new_name (tree t ts) (f ∷ fs) k h =
-      let p = neither (bytes_eq k f.0) (list_any (bytes_eq k) (names fs)) h in
-      get_member-put_other k f.0 (shown registry t (of f.1)) (shown_fields registry ts fs) (λ e. true≢false (sym ((bytes_eq-Decides k f.0).1 e) ∙ p.0))
-      ∙ new_name ts fs k p.1
-
   both_within : (a b n : ℕ) → nat_le (max a b) n ≡ (nat_le a n && nat_le b n)
   both_within a b n = grind (arith, common_steps)
 
   first_field : (t : Tree) (ts : Trees) (f : Field) (fs : List Field) (limit : ℕ) → are_distinct (names (f ∷ fs)) ≡ true
       → nat_le (members_depth (shown_fields registry (tree t ts) (f ∷ fs))) limit ≡ (nat_le (depth (shown registry t (of f.1))) limit && nat_le (members_depth (shown_fields registry ts fs)) limit)
   first_field t ts f fs limit h =
-      let new = new_name ts fs f.0 (not-true _ (and_parts (not (list_any (bytes_eq f.0) (names fs))) (are_distinct (names fs)) h).0) in
-      ap (λ n. nat_le n limit) (put_new f.0 (shown registry t (of f.1)) (shown_fields registry ts fs) new) ∙ both_within _ _ _
+      ap (λ n. nat_le n limit) (put_new f.0 (shown registry t (of f.1)) (shown_fields registry ts fs) (new_field registry f ts fs h)) ∙ both_within _ _ _
 
   -- one field of those that are left
   pub field_more : (xs : List Value) (fs : List (Named Format)) (i : ℕ) (x : Value) (f : Named Format) (limit : ℕ) → i < length xs → i < length fs → x ≡ get_or xs i x → f ≡ get_or fs i f

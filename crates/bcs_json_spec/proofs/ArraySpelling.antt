@@ -2,7 +2,7 @@
 use Rattle.std.proofs.Common.{◌≡◌, ℕ, List, [], ◌∷◌, codes, refl}
 use Rattle.std.specs.Int.{w8}
 use Rattle.hex.proofs.OnLiterals.{hex_on_literals}
-use Rattle.serde_json.specs.Data.{Data, number, unsigned, string, array, Items, no_items, item, Members, no_members, member}
+use Rattle.serde_json.specs.Data.{Data, number, unsigned, string, array, Items, no_items, item, Members, no_members}
 use Rattle.serde_json.specs.Find.{get_member}
 use Rattle.bcs_registry_model.specs.Shape as shape
 use Rattle.bcs_registry_model.specs.Shape.{Shape, Shapes, no_shapes, shape}
@@ -47,8 +47,7 @@ module _ (registry : Entries) where
     all_still : (ts : Trees) (s : Shape) (ds : Items) → AllArraySpell registry ts s ds → AllSpell registry ts s ds
     all_still no_trees s no_items w = w
     all_still (tree t ts) s (item d ds) w = (spells_still t (of s) d w.0, all_still ts s ds w.1)
-    all_still no_trees s (item d ds) w = w
-    all_still (tree t ts) s no_items w = w
+    all_still _ _ _ w = absurd w
 
     each_still : (ts : Trees) (ss : Shapes) (ds : Items) → EachArraySpells registry ts ss ds → EachSpells registry ts ss ds
     each_still no_trees no_shapes no_items w = w
@@ -62,16 +61,13 @@ module _ (registry : Entries) where
           (λ a b p. (spells_still l (of k) a p.0, spells_still m (of v) b p.1)) d w.0,
       pairs_still ps k v ds w.1,
     )
-    pairs_still no_pairs k v (item d ds) w = w
-    pairs_still (pair l m ps) k v no_items w = w
+    pairs_still _ _ _ _ w = absurd w
 
     fields_still : (ts : Trees) (fs : List Field) (ms : Members) → FieldsArraySpell registry ts fs ms → FieldsSpell registry ts fs ms
     fields_still no_trees [] no_members w = w
     fields_still (tree t ts) (f ∷ fs) ms w =
         (in_there (ArraySpells registry t (of f.1)) (Spells registry t (of f.1)) (λ d p. spells_still t (of f.1) d p) (get_member f.0 ms) w.0, fields_still ts fs (without f.0 ms) w.1)
-    fields_still no_trees [] (member k d ms) w = w
-    fields_still no_trees (f ∷ fs) ms w = w
-    fields_still (tree t ts) [] ms w = w
+    fields_still _ _ _ w = absurd w
 
 pub array_spelling_still_spells : ArraySpellingStillSpells
 array_spelling_still_spells registry f j t w = spells_still registry t f j w

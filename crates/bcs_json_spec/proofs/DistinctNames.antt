@@ -1,15 +1,14 @@
 -- In a well-formed registry the names of fields differ, and the names of variants do.
-use Rattle.std.proofs.Common.{◌≡◌, ◌∙◌, ℕ, List, [], ◌∷◌, map, Option, Some, Bool, true, false, cond, ◌&&◌, ◌==◌, bytes_eq, refl, sym, subst}
-use Rattle.std.proofs.lemmas.List.Folds.{list_all-append}
+use Rattle.std.proofs.Common.{◌≡◌, ◌∙◌, ℕ, List, [], ◌∷◌, map, Option, Some, None, Bool, true, refl}
 use Rattle.std.specs.List.{flat_map, list_all}
 use Rattle.std.specs.Option.{option_map_or}
 use Rattle.bcs_registry_model.specs.Container as container
 use Rattle.bcs_registry_model.specs.Container.{Container, unit_struct, newtype_struct, tuple_struct, field_struct, enumeration, Payload, newtype, tuple, Choice, Entries, container_at, choice_numbered, choice_called}
-use Rattle.bcs_registry_model.specs.WellFormed.{payload_names, container_names, are_distinct, levels_hold, names_differ, IsWellFormed}
+use Rattle.bcs_registry_model.specs.WellFormed.{payload_names, container_names, are_distinct, IsWellFormed}
 use Rattle.bcs_value_model.proofs.Equivalence.{bytes-refl}
 use Rattle.bcs_json_spec.specs.JsonContent.{JsonContent, fields, one_of, nothing, json_content, json_content_at, payload_content}
-use Rattle.bcs_json_spec.proofs.DistinctVariants.{numbered_called as called_by_name}
-use Rattle.bcs_json_spec.proofs.Fitting.{and_left, and_right}
+use Rattle.bcs_json_spec.proofs.DistinctVariants.{container_distinct, payload_distinct, numbered_called as called_by_name}
+use Rattle.bcs_json_spec.proofs.Fitting.{and_left}
 
 -- the lists of names that must differ where this stands
 abbrev pub names_in : JsonContent → List (List (List ℕ))
@@ -35,36 +34,17 @@ payload_has (container.fields fs) = refl
 
 -- ---- what stands in containers and variants
 
-names_or : (b : Bool) (c : Container) (o : Option Container) → has_names (json_content c) ≡ true → has_names (option_map_or json_content o nothing) ≡ true
-    → has_names (option_map_or json_content (cond b (Some c) o) nothing) ≡ true
-names_or true c o h g = h
-names_or false c o h g = g
-
-at_name : (name : List ℕ) (registry : Entries) → names_differ registry ≡ true → has_names (json_content_at name registry) ≡ true
-at_name name [] h = refl
-at_name name (e ∷ es) h =
-    let parts = sym (list_all-append are_distinct (container_names e.1) (flat_map (λ c. container_names c.1) es)) ∙ h in
-    names_or (bytes_eq name e.0) e.1 (container_at name es) (container_has e.1 ∙ and_left _ _ parts) (at_name name es (and_right (list_all are_distinct (container_names e.1)) _ parts))
+names_at : (o : Option Container) → ((c : Container) → o ≡ Some c → list_all are_distinct (container_names c) ≡ true) → has_names (option_map_or json_content o nothing) ≡ true
+names_at None h = refl
+names_at (Some c) h = container_has c ∙ h c refl
 
 -- in a well-formed registry they differ in each container
 pub well_formed_names : (name : List ℕ) (registry : Entries) → IsWellFormed registry → has_names (json_content_at name registry) ≡ true
-well_formed_names name registry h = at_name name registry (and_right (levels_hold registry) _ (and_left (levels_hold registry && names_differ registry) _ h))
-
-payload_at : (b : Bool) (c : Choice) (o : Option (List ℕ × Payload)) (p : List ℕ × Payload) → cond b (Some c.1) o ≡ Some p → list_all are_distinct (payload_names c.1.1) ≡ true
-    → (o ≡ Some p → has_names (payload_content p.1) ≡ true) → has_names (payload_content p.1) ≡ true
-payload_at true c o p h here later = let same : c.1 ≡ p = cc in subst (λ (x : List ℕ × Payload). has_names (payload_content x.1) ≡ true) same (payload_has c.1.1 ∙ here)
-payload_at false c o p h here later = later h
-
-in_payload : (n : ℕ) (cs : List Choice) (p : List ℕ × Payload) → list_all are_distinct (flat_map (λ c. payload_names c.1.1) cs) ≡ true → choice_numbered n cs ≡ Some p
-    → has_names (payload_content p.1) ≡ true
-in_payload n [] p h found = cc
-in_payload n (c ∷ cs) p h found =
-    let parts = sym (list_all-append are_distinct (payload_names c.1.1) (flat_map (λ d. payload_names d.1.1) cs)) ∙ h in
-    payload_at (c.0 == n) c (choice_numbered n cs) p found (and_left _ _ parts) (in_payload n cs p (and_right (list_all are_distinct (payload_names c.1.1)) _ parts))
+well_formed_names name registry h = names_at (container_at name registry) (container_distinct registry h name)
 
 -- so they do in the payload of each variant
 pub payload_names_differ : (n : ℕ) (cs : List Choice) (p : List ℕ × Payload) → has_names (one_of cs) ≡ true → choice_numbered n cs ≡ Some p → has_names (payload_content p.1) ≡ true
-payload_names_differ n cs p h found = in_payload n cs p (and_right (are_distinct (map (λ c. c.1.0) cs)) _ h) found
+payload_names_differ n cs p h found = payload_has p.1 ∙ payload_distinct cs h n p found
 
 -- ---- a variant by its name
 

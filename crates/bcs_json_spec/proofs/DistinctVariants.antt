@@ -1,48 +1,39 @@
 -- The variants of an enum of a well-formed registry differ in their names: so the one that is found by its number is the one
 -- that is called so.
-use Rattle.std.proofs.Common.{◌≡◌, ◌∙◌, ℕ, List, [], ◌∷◌, map, Option, Some, Bool, true, false, not, ◌&&◌, ◌||◌, ◌==◌, cond, bytes_eq, refl, ap, ap₂, sym}
+use Rattle.std.proofs.Common.{◌≡◌, ◌∙◌, ℕ, List, [], ◌∷◌, map, Some, Bool, true, false, not, ◌&&◌, ◌==◌, cond, bytes_eq, refl, ap, ap₂, sym}
 use Rattle.std.specs.List.{flat_map, list_all, list_any}
-use Rattle.std.proofs.lemmas.Bool.{false≢true, and_parts}
+use Rattle.std.proofs.lemmas.Bool.{false≢true, and_parts, or_right}
 use Rattle.std.proofs.lemmas.Bool.Decides.{Decides-eqb}
-use Rattle.std.proofs.lemmas.List.Folds.{list_all-append}
 use Rattle.std.proofs.lemmas.Option.{none-some, same_Some}
 use Rattle.std.proofs.lemmas.Slice.Eq.{bytes_eq-Decides}
+use Rattle.bcs_registry_model.proofs.Admitted.{list_all-found}
 use Rattle.bcs_registry_model.specs.Container.{Payload, Choice, Container, enumeration, Entries, container_at, choice_numbered, choice_called}
-use Rattle.bcs_registry_model.specs.WellFormed.{container_names, name_lists, payload_names, are_distinct, levels_hold, names_differ, names_known, IsWellFormed}
+use Rattle.bcs_registry_model.specs.WellFormed.{container_names, payload_names, are_distinct, levels_hold, names_differ, names_known, IsWellFormed}
 
 abbrev pub choice_names : List Choice → List (List ℕ)
 choice_names = map (λ c. c.1.0)
 
 -- ---- in a well-formed registry
 
-found_names : (b : Bool) (c d : Container) (o : Option Container) → cond b (Some c) o ≡ Some d → list_all are_distinct (container_names c) ≡ true
-    → (o ≡ Some d → list_all are_distinct (container_names d) ≡ true) → list_all are_distinct (container_names d) ≡ true
-found_names true c d o found here later = ap (λ x. list_all are_distinct (container_names x)) (sym (same_Some c d found)) ∙ here
-found_names false c d o found here later = later found
+pub container_distinct : (registry : Entries) → IsWellFormed registry → (n : List ℕ) (c : Container) → container_at n registry ≡ Some c → list_all are_distinct (container_names c) ≡ true
+container_distinct registry good n c found =
+    let first = (and_parts (levels_hold registry && names_differ registry) (names_known registry) good).0 in
+    list_all-found are_distinct container_names _ registry c (and_parts (levels_hold registry) (names_differ registry) first).1 found
 
-container_distinct : (n : List ℕ) (registry : Entries) (c : Container) → list_all are_distinct (name_lists registry) ≡ true → container_at n registry ≡ Some c
-    → list_all are_distinct (container_names c) ≡ true
-container_distinct n [] c differ found = absurd (none-some c found)
-container_distinct n (e ∷ es) c differ found =
-    let parts = and_parts _ _ (sym (list_all-append are_distinct (container_names e.1) (name_lists es)) ∙ differ) in
-    found_names (bytes_eq n e.0) e.1 c (container_at n es) found parts.0 (container_distinct n es c parts.1)
+pub payload_distinct : (cs : List Choice) → list_all are_distinct (container_names (enumeration cs)) ≡ true → (k : ℕ) (v : List ℕ × Payload) → choice_numbered k cs ≡ Some v
+    → list_all are_distinct (payload_names v.1) ≡ true
+payload_distinct cs h k v found = list_all-found are_distinct (λ w. payload_names w.1) _ cs v (and_parts _ _ h).1 found
 
 pub variants_differ : (registry : Entries) (n : List ℕ) (cs : List Choice) → IsWellFormed registry → container_at n registry ≡ Some (enumeration cs) → are_distinct (choice_names cs) ≡ true
 variants_differ registry n cs good found =
-    let first = (and_parts (levels_hold registry && names_differ registry) (names_known registry) good).0 in
-    let differ = (and_parts (levels_hold registry) (names_differ registry) first).1 in
-    (and_parts (are_distinct (choice_names cs)) (list_all are_distinct (flat_map (λ c. payload_names c.1.1) cs)) (container_distinct n registry (enumeration cs) differ found)).0
+    (and_parts (are_distinct (choice_names cs)) (list_all are_distinct (flat_map (λ c. payload_names c.1.1) cs)) (container_distinct registry good n (enumeration cs) found)).0
 
 -- ---- in an enum
 
 among_names_at : (name : List ℕ) (d : Choice) (ds : List Choice) (n : ℕ) (v : List ℕ × Payload) (b : Bool) → cond b (Some d.1) (choice_numbered n ds) ≡ Some v → bytes_eq name v.0 ≡ true
     → (choice_numbered n ds ≡ Some v → list_any (bytes_eq name) (choice_names ds) ≡ true) → list_any (bytes_eq name) (choice_names (d ∷ ds)) ≡ true
 among_names_at name d ds n v true found is later = rw (ap (λ (w : List ℕ × Payload). bytes_eq name w.0) (same_Some d.1 v found) ∙ is) refl
-among_names_at name d ds n v false found is later = search_later (bytes_eq name d.1.0) (later found)
-  where
-    search_later : (b : Bool) → list_any (bytes_eq name) (choice_names ds) ≡ true → (b || list_any (bytes_eq name) (choice_names ds)) ≡ true
-    search_later true h = refl
-    search_later false h = h
+among_names_at name d ds n v false found is later = or_right (bytes_eq name d.1.0) _ (later found)
 
 -- the name of a variant that is found by its number is among the names
 among_names : (name : List ℕ) (ds : List Choice) (n : ℕ) (v : List ℕ × Payload) → choice_numbered n ds ≡ Some v → bytes_eq name v.0 ≡ true → list_any (bytes_eq name) (choice_names ds) ≡ true

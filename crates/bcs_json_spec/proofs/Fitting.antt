@@ -1,10 +1,12 @@
 -- What JSON spells is a value of the format.
-use Rattle.std.proofs.Common.{◌≡◌, ◌∙◌, ◌⊎◌, inl, inr, ℕ, List, [], ◌∷◌, codes, ◌==◌, ◌&&◌, ◌||◌, ◌<◌, ◌^◌, nat_lt, IsTrue, suc, Option, Some, None, Bool, true, false, not, cond, bytes_eq, refl, ap, sym, subst}
+use Rattle.std.proofs.Common.{◌≡◌, ◌∙◌, ◌⊎◌, inl, inr, ℕ, List, [], ◌∷◌, codes, ◌==◌, ◌&&◌, ◌<◌, ◌^◌, nat_lt, IsTrue, suc, Option, Some, None, Bool, true, false, not, cond, bytes_eq, refl, ap, sym, subst}
 use Rattle.std.specs.Int.{w8}
 use Rattle.std.specs.Str.{is_utf8}
 use Rattle.std.specs.List.{list_all, list_any}
 use Rattle.std.specs.Option.{option_map_or}
+use Rattle.std.proofs.lemmas.Bool.{and_from, or_left, or_right}
 use Rattle.std.proofs.lemmas.Bool.Decides.{Decides-eqb, Decides-ltb}
+use Rattle.std.proofs.lemmas.Option.{same_Some}
 use Rattle.hex.specs.Hex.{IsBytes}
 use Rattle.hex.proofs.HexLemmas.{decode_of-ok}
 use Rattle.serde_json.specs.Data.{Data, string, array, object, Items, no_items, item, Members, no_members, member}
@@ -24,10 +26,6 @@ use Rattle.bcs_json_spec.proofs.Numbering.{numbers_differ, numbers_fit, has_numb
 use Rattle.bcs_json_spec.specs.Spells.{Spells, AllSpell, EachSpells, PairsSpell, FieldsSpell, IsWordOf}
 
 -- ---- both of two tests
-
-pub both : (a b : Bool) → a ≡ true → b ≡ true → (a && b) ≡ true
-both true b h g = g
-both false b h g = h
 
 pub and_left : (a b : Bool) → (a && b) ≡ true → a ≡ true
 and_left true b h = refl
@@ -81,7 +79,7 @@ there P (Some x) w = (x, refl, w)
 
 pub are_bytes_from : (b : List ℕ) → IsBytes b → are_bytes b ≡ true
 are_bytes_from [] small = refl
-are_bytes_from (x ∷ b) small = both _ _ ((Decides-ltb x 256).1 (small 0)) (are_bytes_from b (λ i. small (suc i)))
+are_bytes_from (x ∷ b) small = and_from _ _ ((Decides-ltb x 256).1 (small 0)) (are_bytes_from b (λ i. small (suc i)))
 
 module _ (registry : Entries) where
   byte_fits : (s : Shape) (b : ℕ) → is_byte s ≡ true → b < 256 → fits false registry (tree.unsigned b) (container.of s) ≡ true
@@ -90,7 +88,7 @@ module _ (registry : Entries) where
 
   bytes_fit : (s : Shape) (b : List ℕ) → is_byte s ≡ true → IsBytes b → all_fit false registry (byte_trees b) s ≡ true
   bytes_fit s [] h small = refl
-  bytes_fit s (x ∷ b) h small = both _ _ (byte_fits s x h (small 0)) (bytes_fit s b h (λ i. small (suc i)))
+  bytes_fit s (x ∷ b) h small = and_from _ _ (byte_fits s x h (small 0)) (bytes_fit s b h (λ i. small (suc i)))
 
   text_fits : (s : Shape) (bytes : Bool) (r : List ℕ) (ts : Trees) → is_byte s ≡ bytes → ByteTextSpells bytes r ts → all_fit false registry ts s ≡ true
   text_fits s true r ts h w = ap (λ us. all_fit false registry us s) w.2 ∙ bytes_fit s w.0 h (decode_of-ok r w.0 w.1).3
@@ -134,22 +132,11 @@ numbering_at name [] h = refl
 numbering_at name (e ∷ es) h =
     numbering_or (bytes_eq name e.0) e.1 (container_at name es) (and_left (has_numbering (json_content e.1)) _ h) (numbering_at name es (and_right (has_numbering (json_content e.1)) _ h))
 
-same_some : {A : Type 0} (a b : A) → Some a ≡ Some b → a ≡ b
-same_some a b h = cc
-
-any_here : (a b : Bool) → a ≡ true → (a || b) ≡ true
-any_here true b h = refl
-any_here false b h = cc
-
-any_later : (a b : Bool) → b ≡ true → (a || b) ≡ true
-any_later true b h = refl
-any_later false b h = h
-
 -- the variant that is called so is among those of its number
 among_at : (word : List ℕ) (m : ℕ) (d : Choice) (ds : List Choice) (c : Choice) (b : Bool) → cond b (Some d) (choice_called word ds) ≡ Some c → (m == c.0) ≡ true
     → (choice_called word ds ≡ Some c → list_any (λ x. m == x.0) ds ≡ true) → list_any (λ x. m == x.0) (d ∷ ds) ≡ true
-among_at word m d ds c true g is later = any_here (m == d.0) _ (ap (λ (x : Choice). m == x.0) (same_some d c g) ∙ is)
-among_at word m d ds c false g is later = any_later (m == d.0) _ (later g)
+among_at word m d ds c true g is later = or_left (m == d.0) _ (ap (λ (x : Choice). m == x.0) (same_Some d c g) ∙ is)
+among_at word m d ds c false g is later = or_right (m == d.0) _ (later g)
 
 among : (word : List ℕ) (m : ℕ) (cs : List Choice) (c : Choice) → choice_called word cs ≡ Some c → (m == c.0) ≡ true → list_any (λ x. m == x.0) cs ≡ true
 among word m [] c h is = cc
@@ -165,7 +152,7 @@ other_number d ds c false is differ hit later = later
 
 numbered_at : (word : List ℕ) (d : Choice) (ds : List Choice) (c : Choice) (b : Bool) → cond b (Some d) (choice_called word ds) ≡ Some c → numbers_differ (d ∷ ds) ≡ true
     → (choice_called word ds ≡ Some c → choice_numbered c.0 ds ≡ Some c.1) → choice_numbered c.0 (d ∷ ds) ≡ Some c.1
-numbered_at word d ds c true g differ later = subst (λ (x : Choice). choice_numbered x.0 (d ∷ ds) ≡ Some x.1) (same_some d c g) (own_number d ds)
+numbered_at word d ds c true g differ later = subst (λ (x : Choice). choice_numbered x.0 (d ∷ ds) ≡ Some x.1) (same_Some d c g) (own_number d ds)
 numbered_at word d ds c false g differ later = other_number d ds c (d.0 == c.0) refl (and_left _ _ differ) (among word d.0 ds c g) (later g)
 
 -- the variant that is called so is the one of its number
@@ -175,7 +162,7 @@ called_numbered word (d ∷ ds) c differ h = numbered_at word d ds c (bytes_eq d
 
 fits_at : (word : List ℕ) (d : Choice) (ds : List Choice) (c : Choice) (b : Bool) → cond b (Some d) (choice_called word ds) ≡ Some c → nat_lt d.0 (2 ^ 32) ≡ true
     → (choice_called word ds ≡ Some c → nat_lt c.0 (2 ^ 32) ≡ true) → nat_lt c.0 (2 ^ 32) ≡ true
-fits_at word d ds c true g here later = subst (λ (x : Choice). nat_lt x.0 (2 ^ 32) ≡ true) (same_some d c g) here
+fits_at word d ds c true g here later = subst (λ (x : Choice). nat_lt x.0 (2 ^ 32) ≡ true) (same_Some d c g) here
 fits_at word d ds c false g here later = later g
 
 -- the variant that is called so has a number of 32 bits
@@ -194,7 +181,7 @@ module _ (registry : Entries) (numbering : list_all (λ e. has_numbering (json_c
       → fits false registry t (unnamed (payload_content c.1.1)) ≡ true → fits false registry (tree.variant n t) (container.one_of cs) ≡ true
   in_choice t word cs c n numbered h is w =
       let differ : numbers_differ cs ≡ true = and_left _ _ numbered in
-      both _ _ (subst (λ m. nat_lt m (2 ^ 32) ≡ true) is (called_fits word cs c (and_right (numbers_differ cs) _ numbered) h))
+      and_from _ _ (subst (λ m. nat_lt m (2 ^ 32) ≡ true) is (called_fits word cs c (and_right (numbers_differ cs) _ numbered) h))
       (ap (λ m. fits false registry t (choice_at m cs)) (sym is)
       ∙ ap (fits false registry t) (choice_is c.0 cs c.1 (called_numbered word cs c differ h) ∙ sym (unnamed_payload c.1.1)) ∙ w)
 
@@ -224,7 +211,7 @@ module _ (registry : Entries) (numbering : list_all (λ e. has_numbering (json_c
     fits_tree (tree.present t) (of (shape.option s)) j h w = let x = one (λ k d. (k ≡ codes "some") × Spells registry t (of s) d) j w in fits_tree t (of s) x.1 refl x.2.1
     fits_tree (tree.items ts) (of (shape.seq s)) j h w = fits_list ts s j w (fits_all ts s)
     fits_tree (tree.items ts) (of (shape.tuple ss)) j h w = let x = items_in (EachSpells registry ts ss) j w in fits_each ts ss x.0 x.1
-    fits_tree (tree.items ts) (of (shape.array s n)) j h w = both (count ts == n) _ ((Decides-eqb (count ts) n).1 w.1) (fits_list ts s j w.0 (fits_all ts s))
+    fits_tree (tree.items ts) (of (shape.array s n)) j h w = and_from (count ts == n) _ ((Decides-eqb (count ts) n).1 w.1) (fits_list ts s j w.0 (fits_all ts s))
     fits_tree (tree.items ts) (fields fs) j h w = let x = members_in (FieldsSpell registry ts fs) j w in fits_fields ts fs x.0 x.1
     fits_tree (tree.pairs ps) (of (shape.map k v)) j h w = let x = items_in (PairsSpell registry ps k v) j w in fits_pairs ps k v x.0 x.1
     fits_tree (tree.variant n t) (one_of cs) j h w = elim (word_or_one (λ s. IfThere (IsWordOf n t) (choice_called s cs)) (λ s d. IfThere (Part registry n t d) (choice_called s cs)) j w) [
@@ -237,30 +224,27 @@ module _ (registry : Entries) (numbering : list_all (λ e. has_numbering (json_c
 
     fits_all : (ts : Trees) (s : Shape) (ds : Items) → AllSpell registry ts s ds → all_fit false registry ts s ≡ true
     fits_all no_trees s ds w = refl
-    fits_all (tree t ts) s (item d ds) w = both _ _ (fits_tree t (of s) d refl w.0) (fits_all ts s ds w.1)
+    fits_all (tree t ts) s (item d ds) w = and_from _ _ (fits_tree t (of s) d refl w.0) (fits_all ts s ds w.1)
     fits_all (tree t ts) s no_items w = absurd w
 
     fits_each : (ts : Trees) (ss : Shapes) (ds : Items) → EachSpells registry ts ss ds → each_fits false registry ts ss ≡ true
     fits_each no_trees no_shapes ds w = refl
-    fits_each (tree t ts) (shape s ss) (item d ds) w = both _ _ (fits_tree t (of s) d refl w.0) (fits_each ts ss ds w.1)
-    fits_each (tree t ts) (shape s ss) no_items w = absurd w
-    fits_each no_trees (shape s ss) ds w = absurd w
-    fits_each (tree t ts) no_shapes ds w = absurd w
+    fits_each (tree t ts) (shape s ss) (item d ds) w = and_from _ _ (fits_tree t (of s) d refl w.0) (fits_each ts ss ds w.1)
+    fits_each _ _ _ w = absurd w
 
     fits_pairs : (ps : Pairs) (k v : Shape) (ds : Items) → PairsSpell registry ps k v ds → pairs_fit false registry ps k v ≡ true
     fits_pairs no_pairs k v ds w = refl
     fits_pairs (pair l m ps) k v (item d ds) w =
         let x = two (λ a b. Spells registry l (of k) a × Spells registry m (of v) b) d w.0 in
-        both _ _ (both _ _ (fits_tree l (of k) x.0 refl x.2.0) (fits_tree m (of v) x.1 refl x.2.1)) (fits_pairs ps k v ds w.1)
+        and_from _ _ (and_from _ _ (fits_tree l (of k) x.0 refl x.2.0) (fits_tree m (of v) x.1 refl x.2.1)) (fits_pairs ps k v ds w.1)
     fits_pairs (pair l m ps) k v no_items w = absurd w
 
     fits_fields : (ts : Trees) (fs : List Field) (ms : Members) → FieldsSpell registry ts fs ms → each_fits false registry ts (field_shapes fs) ≡ true
     fits_fields no_trees [] ms w = refl
     fits_fields (tree t ts) (f ∷ fs) ms w =
         let x = there (Spells registry t (of f.1)) (get_member f.0 ms) w.0 in
-        both _ _ (fits_tree t (of f.1) x.0 refl x.2) (fits_fields ts fs (without f.0 ms) w.1)
-    fits_fields no_trees (f ∷ fs) ms w = absurd w
-    fits_fields (tree t ts) [] ms w = absurd w
+        and_from _ _ (fits_tree t (of f.1) x.0 refl x.2) (fits_fields ts fs (without f.0 ms) w.1)
+    fits_fields _ _ _ w = absurd w
 
 pub spelled_fits : SpelledFits
 spelled_fits registry s j t h w = fits_tree registry (orderly_numbering registry h) t (of s) j refl w

@@ -1,6 +1,6 @@
 -- What is spelled at a registry is spelled at one that it grew to.
 use Rattle.std.proofs.Common.{◌≡◌, inl, inr, ℕ, List, [], ◌∷◌, codes, sym, subst}
-use Rattle.serde_json.specs.Data.{Data, Items, no_items, item, Members, no_members, member}
+use Rattle.serde_json.specs.Data.{Data, Items, no_items, item, Members, no_members}
 use Rattle.serde_json.specs.Find.{get_member}
 use Rattle.bcs_registry_model.specs.Shape as shape
 use Rattle.bcs_registry_model.specs.Shape.{Shape, Shapes, no_shapes, shape}
@@ -70,8 +70,7 @@ module _ (older newer : Entries) (good : IsWellFormed newer) (grows : Grows olde
     all_newer : (ts : Trees) (s : Shape) (ds : Items) → AllSpell older ts s ds → AllSpell newer ts s ds
     all_newer no_trees s no_items w = w
     all_newer (tree t ts) s (item d ds) w = (spells_newer t (of s) d w.0, all_newer ts s ds w.1)
-    all_newer no_trees s (item d ds) w = w
-    all_newer (tree t ts) s no_items w = w
+    all_newer _ _ _ w = absurd w
 
     each_newer : (ts : Trees) (ss : Shapes) (ds : Items) → EachSpells older ts ss ds → EachSpells newer ts ss ds
     each_newer no_trees no_shapes no_items w = w
@@ -85,16 +84,13 @@ module _ (older newer : Entries) (good : IsWellFormed newer) (grows : Grows olde
           (λ a b p. (spells_newer l (of k) a p.0, spells_newer m (of v) b p.1)) d w.0,
       pairs_newer ps k v ds w.1,
     )
-    pairs_newer no_pairs k v (item d ds) w = w
-    pairs_newer (pair l m ps) k v no_items w = w
+    pairs_newer _ _ _ _ w = absurd w
 
     fields_newer : (ts : Trees) (fs : List Field) (ms : Members) → FieldsSpell older ts fs ms → FieldsSpell newer ts fs ms
     fields_newer no_trees [] no_members w = w
     fields_newer (tree t ts) (f ∷ fs) ms w =
         (in_there (Spells older t (of f.1)) (Spells newer t (of f.1)) (λ d p. spells_newer t (of f.1) d p) (get_member f.0 ms) w.0, fields_newer ts fs (without f.0 ms) w.1)
-    fields_newer no_trees [] (member k d ms) w = w
-    fields_newer no_trees (f ∷ fs) ms w = w
-    fields_newer (tree t ts) [] ms w = w
+    fields_newer _ _ _ w = absurd w
 
 pub growth_keeps_spelling : GrowthKeepsSpelling
 growth_keeps_spelling older newer f j t good grows w = spells_newer older newer good grows t f j w

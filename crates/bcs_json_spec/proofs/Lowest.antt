@@ -104,7 +104,8 @@ unit_depth show (n, (name, container.fields fs)) e = cc
 each_under : (x d : Data) (xs ds : Items) → depth x ≤ depth d → items_depth xs ≤ items_depth ds → max (depth x) (items_depth xs) ≤ max (depth d) (items_depth ds)
 each_under x d xs ds h g = under (depth x) (items_depth xs) (max (depth d) (items_depth ds)) (omega (arith, h, le-max_left (depth d) (items_depth ds))) (omega (arith, g, le-max_right (depth d) (items_depth ds)))
 
-pair_under : (x y a b : Data) → depth x ≤ depth a → depth y ≤ depth b → depth (array (item x (item y no_items))) ≤ depth (array (item a (item b no_items)))
+-- an entry
+pub pair_under : (x y a b : Data) → depth x ≤ depth a → depth y ≤ depth b → depth (array (item x (item y no_items))) ≤ depth (array (item a (item b no_items)))
 pair_under x y a b h g = omega (arith, each_under x a (item y no_items) (item b no_items) h (each_under y b no_items no_items g (omega arith)))
 
 field_under : (k : List ℕ) (x : Data) (xs : Members) (d : Data) (ms : Members) → depth x ≤ depth d → get_member k ms ≡ Some d → members_depth xs ≤ members_depth (without k ms)
@@ -178,9 +179,7 @@ module _ (registry : Entries) (numbering : list_all (λ e. has_numbering (json_c
     lowest_each : (ts : Trees) (ss : Shapes) (ds : Items) → EachSpells registry ts ss ds → items_depth (shown_each registry ts ss) ≤ items_depth ds
     lowest_each no_trees no_shapes ds w = omega arith
     lowest_each (tree t ts) (shape s ss) (item d ds) w = each_under (shown registry t (of s)) d (shown_each registry ts ss) ds (lowest t (of s) d refl w.0) (lowest_each ts ss ds w.1)
-    lowest_each (tree t ts) (shape s ss) no_items w = absurd w
-    lowest_each no_trees (shape s ss) ds w = absurd w
-    lowest_each (tree t ts) no_shapes ds w = absurd w
+    lowest_each _ _ _ w = absurd w
 
     lowest_pairs : (ps : Pairs) (k v : Shape) (ds : Items) → PairsSpell registry ps k v ds → items_depth (shown_pairs registry ps k v) ≤ items_depth ds
     lowest_pairs no_pairs k v ds w = omega arith
@@ -197,8 +196,7 @@ module _ (registry : Entries) (numbering : list_all (λ e. has_numbering (json_c
     lowest_fields (tree t ts) (f ∷ fs) ms w =
         let x = there (Spells registry t (of f.1)) (get_member f.0 ms) w.0 in
         field_under f.0 (shown registry t (of f.1)) (shown_fields registry ts fs) x.0 ms (lowest t (of f.1) x.0 refl x.2) x.1 (lowest_fields ts fs (without f.0 ms) w.1)
-    lowest_fields no_trees (f ∷ fs) ms w = absurd w
-    lowest_fields (tree t ts) [] ms w = absurd w
+    lowest_fields _ _ _ w = absurd w
 
 pub shown_is_lowest : ShownIsLowest
 shown_is_lowest registry s j t h w = lowest registry (orderly_numbering registry h) t (of s) j refl w

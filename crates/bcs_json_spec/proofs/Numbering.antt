@@ -1,5 +1,6 @@
 -- The numbers of an enum's variants differ and fit 32 bits, since a finite map keeps them.
 use Rattle.std.proofs.Common.{◌≡◌, ◌^◌, ℕ, List, [], ◌∷◌, Bool, true, false, not, ◌&&◌, ◌==◌, nat_lt, Less, Equal, refl, ap}
+use Rattle.std.proofs.lemmas.Bool.{and_from}
 use Rattle.std.proofs.lemmas.Bool.Decides.{Decides-eqb}
 use Rattle.std.specs.Cmp.{nat_cmp_is}
 use Rattle.std.specs.List.{list_all, list_any, AllByRecursion}
@@ -21,10 +22,6 @@ abbrev pub has_numbering : JsonContent → Bool
 has_numbering (one_of cs) = numbers_differ cs && numbers_fit cs
 has_numbering _ = true
 
-both : (a b : Bool) → a ≡ true → b ≡ true → (a && b) ≡ true
-both true b h g = g
-both false b h g = h
-
 not_equal : (n m : ℕ) (b : Bool) → (n == m) ≡ b → nat_cmp n m ≡ Less → b ≡ false
 not_equal n m true is h = cc (nat_cmp_is n m Equal ((Decides-eqb n m).0 is), h)
 not_equal n m false is h = refl
@@ -36,18 +33,18 @@ none_equal n (c ∷ cs) h = rw (not_equal n c.0 (n == c.0) refl h.0) (none_equal
 rising_differ : (cs : List Choice) → IsStrictlySortedBy nat_cmp (keys_of cs) → numbers_differ cs ≡ true
 unfolding IsStrictlySortedBy
 rising_differ [] h = refl
-rising_differ (c ∷ cs) h = both _ _ (ap not (none_equal c.0 cs h.0)) (rising_differ cs h.1)
+rising_differ (c ∷ cs) h = and_from _ _ (ap not (none_equal c.0 cs h.0)) (rising_differ cs h.1)
 
 container_numbering : (c : Container) → IsInRange c → has_numbering (json_content c) ≡ true
 container_numbering unit_struct h = refl
 container_numbering (newtype_struct s) h = refl
 container_numbering (tuple_struct ss) h = refl
 container_numbering (field_struct fs) h = refl
-container_numbering (enumeration cs) h = both _ _ (rising_differ cs h.rise) h.numbers
+container_numbering (enumeration cs) h = and_from _ _ (rising_differ cs h.rise) h.numbers
 
 all_numbering : (registry : Entries) → AllByRecursion (λ e. IsInRange e.1) registry → list_all (λ e. has_numbering (json_content e.1)) registry ≡ true
 all_numbering [] h = refl
-all_numbering (e ∷ es) h = both _ _ (container_numbering e.1 h.0) (all_numbering es h.1)
+all_numbering (e ∷ es) h = and_from _ _ (container_numbering e.1 h.0) (all_numbering es h.1)
 
 pub orderly_numbering : (registry : Entries) → IsOrderly registry → list_all (λ e. has_numbering (json_content e.1)) registry ≡ true
 orderly_numbering registry h = all_numbering registry h.containers

@@ -6,6 +6,7 @@ use Rattle.std.specs.Str.Parse.{AllDigits, digits_value}
 use Rattle.std.proofs.lemmas.Bool.Decides.{Decides-eqb}
 use Rattle.std.proofs.lemmas.Slice.Eq.{bytes_eq-Decides}
 use Rattle.std.proofs.lemmas.Fmt.{decimal_is_IsNumeral_wide}
+use Rattle.std.proofs.lemmas.Option.{same_Some}
 use Rattle.serde_json.specs.Data.{Data, number, string}
 use Rattle.bcs_json_spec.specs.Numbers.{SpellsWhole, negated, worth, whole_of}
 use Rattle.bcs_json_spec.specs.Reading.{whole_in, read_whole}
@@ -38,11 +39,8 @@ whole_some (string t) z small s =
     when_true (bytes_eq t (signed_decimal (worth t))) (Some (worth t)) None (bytes_eq-Decides t (signed_decimal (worth t))) (s ∙ ap signed_decimal (sym value)) ∙ ap Some value
 whole_some _ z small s = absurd s
 
-same_some : {A : Type 0} (a b : A) → Some a ≡ Some b → a ≡ b
-same_some a b h = cc
-
 text_whole : (t : List ℕ) (v z : ℤ) (b : Bool) → Decides b (t ≡ signed_decimal v) → (if b then Some v else None) ≡ Some z → t ≡ signed_decimal z
-text_whole t v z true d h = d.0 refl ∙ ap signed_decimal (same_some v z h)
+text_whole t v z true d h = d.0 refl ∙ ap signed_decimal (same_Some v z h)
 text_whole t v z false d h = cc
 
 pub whole_is : (j : Data) (z : ℤ) → whole_of j ≡ Some z → SpellsWhole j z

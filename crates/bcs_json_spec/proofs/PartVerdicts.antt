@@ -57,8 +57,7 @@ module _ (registry : Entries) (n : ℕ) where
     all_count : (ts : Trees) (ds : Items) → AllSpell registry ts f ds → item_count ds ≡ count ts
     all_count no_trees no_items s = refl
     all_count (tree t ts) (item d ds) s = ap suc (all_count ts ds s.1)
-    all_count no_trees (item d ds) s = absurd s
-    all_count (tree t ts) no_items s = absurd s
+    all_count _ _ s = absurd s
 
     module _ (m : ℕ) where
       array_is : (j : Data) (t : Tree) → Within registry n (shape.array f m) j t

@@ -136,8 +136,7 @@ module _ (registry : Entries) (well : IsWellFormed registry) where
     each_back : (ts : Trees) (ss : Shapes) → each_fits false registry ts ss ≡ true → EachSpells registry ts ss (shown_each registry ts ss)
     each_back no_trees no_shapes h = tt
     each_back (tree t ts) (shape s ss) h = (back t (of s) refl (and_left _ _ h), each_back ts ss (and_right (fits false registry t (container.of s)) _ h))
-    each_back no_trees (shape s ss) h = absurd (false≢true h)
-    each_back (tree t ts) no_shapes h = absurd (false≢true h)
+    each_back _ _ h = absurd (false≢true h)
 
     pairs_back : (ps : Pairs) (k v : Shape) → pairs_fit false registry ps k v ≡ true → PairsSpell registry ps k v (shown_pairs registry ps k v)
     pairs_back no_pairs k v h = tt
@@ -152,8 +151,7 @@ module _ (registry : Entries) (well : IsWellFormed registry) where
     fields_back (tree t ts) (f ∷ fs) names h =
         field_back registry t ts f fs names (back t (of f.1) refl (and_left _ _ h))
         (fields_back ts fs (ap (λ b. b && true) (later_names f fs (and_left _ _ names))) (and_right (fits false registry t (container.of f.1)) _ h))
-    fields_back no_trees (f ∷ fs) names h = absurd (false≢true h)
-    fields_back (tree t ts) [] names h = absurd (false≢true h)
+    fields_back _ _ _ h = absurd (false≢true h)
 
 -- in a well-formed registry what is shown of a value spells it
 pub spelled_back : (registry : Entries) (s : Shape) (t : Tree) → IsWellFormed registry → fits false registry t (container.of s) ≡ true → Spells registry t (of s) (shown registry t (of s))

@@ -21,7 +21,7 @@ use Rattle.bcs_json_spec.specs.Laws.{ShownIsReadBack}
 use Rattle.bcs_json_spec.specs.Shown.{shown, shown_all, shown_each, shown_pairs, shown_fields, shown_choice, is_wide}
 use Rattle.bcs_json_spec.proofs.DistinctNames.{has_names, well_formed_names, payload_names_differ}
 use Rattle.bcs_json_spec.proofs.Fitting.{and_left, and_right}
-use Rattle.bcs_json_spec.proofs.Lowest.{put_depth, shown_is_lowest}
+use Rattle.bcs_json_spec.proofs.Lowest.{pair_under, put_depth, shown_is_lowest}
 use Rattle.bcs_json_spec.proofs.Members.{put_own_depth, put_others_depth, new_field, later_names}
 use Rattle.bcs_json_spec.proofs.ReadBack.{spelled_back}
 
@@ -37,11 +37,6 @@ text_or_array false s r ds es h = omega (arith, h)
 leaf_depth : (b : Bool) (s r : List ℕ) (d e : Data) → depth d ≤ depth e → depth (if b then string s else d) ≤ depth (if b then string r else e)
 leaf_depth true s r d e h = omega arith
 leaf_depth false s r d e h = h
-
-pair_depth : (x y a b : Data) → depth x ≤ depth a → depth y ≤ depth b → depth (array (item x (item y no_items))) ≤ depth (array (item a (item b no_items)))
-pair_depth x y a b h g =
-    let second = both_under (depth y) 0 (depth b) 0 g (omega arith) in
-    omega (arith, both_under (depth x) (max (depth y) 0) (depth a) (max (depth b) 0) h second)
 
 put_under : (k : List ℕ) (x : Data) (xs : Members) (d : Data) (ms : Members) → get_member k ms ≡ None → depth x ≤ depth d → members_depth xs ≤ members_depth ms
     → members_depth (put k x xs) ≤ members_depth (put k d ms)
@@ -75,7 +70,7 @@ module _ (registry : Entries) (well : IsWellFormed registry) where
       let others : ℕ = items_depth (shown_pairs registry ps k v) in
       elim (or_cases (same m l && same x w) (has_pair ps l w) h) [
         | inl here ↦
-            (let low = pair_depth (shown registry l (of k)) (shown registry w (of v)) (shown registry m (of k)) (shown registry x (of v)) (f m (and_left _ _ here)) (g x (and_right (same m l) _ here)) in
+            (let low = pair_under (shown registry l (of k)) (shown registry w (of v)) (shown registry m (of k)) (shown registry x (of v)) (f m (and_left _ _ here)) (g x (and_right (same m l) _ here)) in
             omega (arith, low, le-max_left (depth one) others))
         | inr there ↦ omega (arith, matched k v l w ps f g there, le-max_right (depth one) others)
       ]

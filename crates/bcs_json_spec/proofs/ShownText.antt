@@ -1,4 +1,5 @@
--- What is shown of a value can be written: its compact text is read as just that.
+-- What is shown of a value can be written: its compact text is read as just that. Its names and strings are UTF-8, if P
+-- and where the registry's names are.
 use Rattle.std.proofs.Common.{◌≡◌, ◌∙◌, ℕ, suc, ℤ, pos, negsuc, ◌^◌, ◌<◌, ◌==◌, ◌&&◌, List, [], ◌∷◌, Bool, true, false, cond, if◌then◌else◌, Some, Ok, Ordering, Less, Equal, Greater, IsUtf8, arith, codes, decimal, nat_cmp, nat_lt, refl, ap, sym, subst}
 use Rattle.std.proofs.lemmas.Bool.{false≢true}
 use Rattle.std.proofs.lemmas.Bool.Decides.{Decides-ltb}
@@ -40,30 +41,6 @@ use Rattle.bcs_json_spec.proofs.WrittenBack.{IsWritable, ItemsWritable, MembersW
 digits_utf8 : (n : ℕ) → n < 2 ^ 128 → IsUtf8 (decimal n)
 digits_utf8 n h = IsUtf8-from_ascii (decimal n) (IsAscii-decimal_wide n (omega (arith, h)))
 
--- a number of a width, or its text
-unsigned_writable : (w : Width) (n : ℕ) → holds_unsigned w n ≡ true → IsWritable (if is_wide w then string (decimal n) else number (whole n))
-unsigned_writable w8 n h = let small = (Decides-ltb n (2 ^ 8)).0 h in omega (arith, small)
-unsigned_writable w16 n h = let small = (Decides-ltb n (2 ^ 16)).0 h in omega (arith, small)
-unsigned_writable w32 n h = let small = (Decides-ltb n (2 ^ 32)).0 h in omega (arith, small)
-unsigned_writable w64 n h = let small = (Decides-ltb n (2 ^ 64)).0 h in digits_utf8 n (omega (arith, small))
-unsigned_writable w128 n h = digits_utf8 n ((Decides-ltb n (2 ^ 128)).0 h)
-
-signed_writable : (w : Width) (z : ℤ) → holds_signed w z ≡ true → IsWritable (if is_wide w then string (signed_decimal z) else number (of_integer z))
-signed_writable w8 (pos n) h = let small = (Decides-ltb n (2 ^ 7)).0 h in omega (arith, small)
-signed_writable w8 (negsuc n) h = let small = (Decides-ltb n (2 ^ 7)).0 h in omega (arith, small)
-signed_writable w16 (pos n) h = let small = (Decides-ltb n (2 ^ 15)).0 h in omega (arith, small)
-signed_writable w16 (negsuc n) h = let small = (Decides-ltb n (2 ^ 15)).0 h in omega (arith, small)
-signed_writable w32 (pos n) h = let small = (Decides-ltb n (2 ^ 31)).0 h in omega (arith, small)
-signed_writable w32 (negsuc n) h = let small = (Decides-ltb n (2 ^ 31)).0 h in omega (arith, small)
-signed_writable w64 (pos n) h = let small = (Decides-ltb n (2 ^ 63)).0 h in digits_utf8 n (omega (arith, small))
-signed_writable w64 (negsuc n) h =
-    let small = (Decides-ltb n (2 ^ 63)).0 h in
-    IsUtf8-append (45 ∷ []) (decimal (suc n)) (IsUtf8-are_ascii (45 ∷ []) refl) (digits_utf8 (suc n) (omega (arith, small)))
-signed_writable w128 (pos n) h = let small = (Decides-ltb n (2 ^ 127)).0 h in digits_utf8 n (omega (arith, small))
-signed_writable w128 (negsuc n) h =
-    let small = (Decides-ltb n (2 ^ 127)).0 h in
-    IsUtf8-append (45 ∷ []) (decimal (suc n)) (IsUtf8-are_ascii (45 ∷ []) refl) (digits_utf8 (suc n) (omega (arith, small)))
-
 digit_is_ascii : (c : ℕ) → is_hex_digit c ≡ true → c < 128
 digit_is_ascii c h = grind (arith)
 
@@ -74,107 +51,132 @@ hex_text s b is = IsUtf8-from_ascii s (IsAscii-from_all s (λ k d within. digit_
 hex_utf8 : (b : List ℕ) → are_bytes b ≡ true → IsUtf8 (encode_lower b)
 hex_utf8 b h = hex_text (encode_lower b) b (decode_of-encode_lower b (are_bytes_is b h))
 
--- ---- members
-
-put_either : (r : Ordering) (a b c : Members) → MembersWritable a → MembersWritable b → MembersWritable c → MembersWritable (match_ordering r a b c)
-put_either Less a b c h i j = h
-put_either Equal a b c h i j = i
-put_either Greater a b c h i j = j
-
-put_members : (k : List ℕ) (d : Data) (ms : Members) → IsUtf8 k → IsWritable d → MembersWritable ms → MembersWritable (put k d ms)
-put_members k d no_members name here h = (name, here, tt)
-put_members k d (member l e ms) name here h =
-    put_either (slice_cmp nat_cmp k l) _ _ _ (name, here, h) (h.0, here, h.2) (h.0, h.1, put_members k d ms name here h.2)
-
-put_writable : (k : List ℕ) (d : Data) (ms : Members) → IsUtf8 k → IsWritable d → NamesRise ms × MembersWritable ms → NamesRise (put k d ms) × MembersWritable (put k d ms)
-put_writable k d ms name here h = (
-  subst (λ (ks : List (List ℕ)). IsStrictlySortedBy (slice_cmp nat_cmp) ks) (sym (names_put k d ms)) (sorted_inserted (slice_cmp nat_cmp) nat_list_cmp_total k (names_of ms) h.0),
-  put_members k d ms name here h.1,
-)
-
-no_names : NamesRise no_members × MembersWritable no_members
-unfolding IsStrictlySortedBy
-no_names = (tt, tt)
-
-single_writable : (k : List ℕ) (d : Data) → IsUtf8 k → IsWritable d → IsWritable (single k d)
-single_writable k d name here = put_writable k d no_members name here no_names
-
--- ---- variants
-
--- a variant's name alone, or an object with what it carries
-choice_writable : (show : JsonContent → Data) (name : List ℕ) (p : Payload) → IsUtf8 name → IsWritable (show (payload_content p)) → IsWritable (shown_choice show (Some (name, p)))
-choice_writable show name container.unit h k = h
-choice_writable show name (newtype s) h k = single_writable name (show (of s)) h k
-choice_writable show name (tuple ss) h k = single_writable name (show (of (shape.tuple ss))) h k
-choice_writable show name (container.fields fs) h k = single_writable name (show (fields fs)) h k
-
-module _ (registry : Entries) (t : Tree) (show : JsonContent → Data) (each : (f : JsonContent) → HasNames f → fits false registry t (unnamed f) ≡ true → IsWritable (show f)) where
-  numbered_writable : (n : ℕ) (cs : List Choice) → ChoiceNames cs → fits false registry t (option_map_or (λ c. container.of (payload_shape c.1)) (choice_numbered n cs) container.nothing) ≡ true
-      → IsWritable (shown_choice show (choice_numbered n cs))
-  numbered_writable n [] names h = tt
-  numbered_writable n (c ∷ cs) names h = at (c.0 == n) (numbered_writable n cs names.2) h
-    where
-      at : (b : Bool) → (fits false registry t (option_map_or (λ c. container.of (payload_shape c.1)) (choice_numbered n cs) container.nothing) ≡ true → IsWritable (shown_choice show (choice_numbered n cs)))
-          → fits false registry t (option_map_or (λ c. container.of (payload_shape c.1)) (cond b (Some c.1) (choice_numbered n cs)) container.nothing) ≡ true
-          → IsWritable (shown_choice show (cond b (Some c.1) (choice_numbered n cs)))
-      at true later h =
-          choice_writable show c.1.0 c.1.1 names.0
-          (each (payload_content c.1.1) (payload_names c.1.1 names.1) (ap (fits false registry t) (unnamed_payload c.1.1) ∙ h))
-      at false later h = later h
-
--- ---- trees
-
-either_writable : (b : Bool) (c d : Data) → (b ≡ true → IsWritable c) → IsWritable d → IsWritable (if b then c else d)
-either_writable true c d h k = h refl
-either_writable false c d h k = k
-
 byte_text : (registry : Entries) (s : Shape) (ts : Trees) → all_fit false registry ts s ≡ true → is_byte s ≡ true → IsUtf8 (encode_lower (trees_bytes ts))
 byte_text registry (shape.unsigned w8) ts h is = hex_utf8 (trees_bytes ts) (bytes_again registry ts h).1
 byte_text registry _ ts h is = absurd (false≢true is)
 
-module _ (registry : Entries) (names : EachHasNames registry) where
-  mutual
-    writable : (t : Tree) (f : JsonContent) → HasNames f → fits false registry t (unnamed f) ≡ true → IsWritable (shown registry t f)
-    writable (tree.truth b) (of shape.truth) n h = tt
-    writable (tree.unsigned m) (of (shape.unsigned w)) n h = unsigned_writable w m h
-    writable (tree.signed z) (of (shape.signed w)) n h = signed_writable w z h
-    writable (tree.text s) (of shape.text) n h = IsUtf8-from_is_utf8 s h
-    writable (tree.bytes b) (of shape.bytes) n h = hex_utf8 b h
-    writable (tree.present t) (of (shape.option s)) n h = single_writable (codes "some") (shown registry t (of s)) (IsUtf8-are_ascii (codes "some") refl) (writable t (of s) tt h)
-    writable (tree.items ts) (of (shape.seq s)) n h = either_writable (is_byte s) _ _ (byte_text registry s ts h) (all_writable ts s h)
-    writable (tree.items ts) (of (shape.tuple ss)) n h = each_writable ts ss h
-    writable (tree.items ts) (of (shape.array s k)) n h =
-        let fit = and_right (count ts == k) _ h in
-        either_writable (is_byte s) _ _ (byte_text registry s ts fit) (all_writable ts s fit)
-    writable (tree.items ts) (fields fs) n h = fields_writable ts fs n h
-    writable (tree.pairs ps) (of (shape.map k v)) n h = pairs_writable ps k v h
-    writable (tree.variant m t) (one_of cs) n h = numbered_writable registry t (shown registry t) (writable t) m cs n (and_right (nat_lt m (2 ^ 32)) _ h)
-    writable (tree.named t) (of (shape.name k)) n h =
-        writable t (json_content_at k registry) (content_names k registry names) (ap (fits false registry t) (unnamed_at k registry) ∙ h)
-    writable _ _ n h = tt
+module _ (P : Type 0) where
+  -- a number of a width, or its text
+  unsigned_writable : (w : Width) (n : ℕ) → holds_unsigned w n ≡ true → IsWritable P (if is_wide w then string (decimal n) else number (whole n))
+  unsigned_writable w8 n h = let small = (Decides-ltb n (2 ^ 8)).0 h in omega (arith, small)
+  unsigned_writable w16 n h = let small = (Decides-ltb n (2 ^ 16)).0 h in omega (arith, small)
+  unsigned_writable w32 n h = let small = (Decides-ltb n (2 ^ 32)).0 h in omega (arith, small)
+  unsigned_writable w64 n h = λ p. let small = (Decides-ltb n (2 ^ 64)).0 h in digits_utf8 n (omega (arith, small))
+  unsigned_writable w128 n h = λ p. digits_utf8 n ((Decides-ltb n (2 ^ 128)).0 h)
 
-    all_writable : (ts : Trees) (s : Shape) → all_fit false registry ts s ≡ true → ItemsWritable (shown_all registry ts s)
-    all_writable no_trees s h = tt
-    all_writable (tree t ts) s h = (writable t (of s) tt (and_left _ _ h), all_writable ts s (and_right (fits false registry t (container.of s)) _ h))
+  signed_writable : (w : Width) (z : ℤ) → holds_signed w z ≡ true → IsWritable P (if is_wide w then string (signed_decimal z) else number (of_integer z))
+  signed_writable w8 (pos n) h = let small = (Decides-ltb n (2 ^ 7)).0 h in omega (arith, small)
+  signed_writable w8 (negsuc n) h = let small = (Decides-ltb n (2 ^ 7)).0 h in omega (arith, small)
+  signed_writable w16 (pos n) h = let small = (Decides-ltb n (2 ^ 15)).0 h in omega (arith, small)
+  signed_writable w16 (negsuc n) h = let small = (Decides-ltb n (2 ^ 15)).0 h in omega (arith, small)
+  signed_writable w32 (pos n) h = let small = (Decides-ltb n (2 ^ 31)).0 h in omega (arith, small)
+  signed_writable w32 (negsuc n) h = let small = (Decides-ltb n (2 ^ 31)).0 h in omega (arith, small)
+  signed_writable w64 (pos n) h = λ p. let small = (Decides-ltb n (2 ^ 63)).0 h in digits_utf8 n (omega (arith, small))
+  signed_writable w64 (negsuc n) h = λ p.
+      let small = (Decides-ltb n (2 ^ 63)).0 h in
+      IsUtf8-append (45 ∷ []) (decimal (suc n)) (IsUtf8-are_ascii (45 ∷ []) refl) (digits_utf8 (suc n) (omega (arith, small)))
+  signed_writable w128 (pos n) h = λ p. let small = (Decides-ltb n (2 ^ 127)).0 h in digits_utf8 n (omega (arith, small))
+  signed_writable w128 (negsuc n) h = λ p.
+      let small = (Decides-ltb n (2 ^ 127)).0 h in
+      IsUtf8-append (45 ∷ []) (decimal (suc n)) (IsUtf8-are_ascii (45 ∷ []) refl) (digits_utf8 (suc n) (omega (arith, small)))
 
-    each_writable : (ts : Trees) (ss : Shapes) → each_fits false registry ts ss ≡ true → ItemsWritable (shown_each registry ts ss)
-    each_writable (tree t ts) (shape s ss) h = (writable t (of s) tt (and_left _ _ h), each_writable ts ss (and_right (fits false registry t (container.of s)) _ h))
-    each_writable _ _ h = tt
+  -- ---- members
 
-    pairs_writable : (ps : Pairs) (k v : Shape) → pairs_fit false registry ps k v ≡ true → ItemsWritable (shown_pairs registry ps k v)
-    pairs_writable no_pairs k v h = tt
-    pairs_writable (pair l w ps) k v h =
-        let here = and_left (fits false registry l (container.of k) && fits false registry w (container.of v)) _ h in (
-          (writable l (of k) tt (and_left _ _ here), (writable w (of v) tt (and_right (fits false registry l (container.of k)) _ here), tt)),
-          pairs_writable ps k v (and_right (fits false registry l (container.of k) && fits false registry w (container.of v)) _ h),
-        )
+  put_either : (r : Ordering) (a b c : Members) → MembersWritable P a → MembersWritable P b → MembersWritable P c → MembersWritable P (match_ordering r a b c)
+  put_either Less a b c h i j = h
+  put_either Equal a b c h i j = i
+  put_either Greater a b c h i j = j
 
-    fields_writable : (ts : Trees) (fs : List Field) → FieldNames fs → each_fits false registry ts (field_shapes fs) ≡ true → NamesRise (shown_fields registry ts fs) × MembersWritable (shown_fields registry ts fs)
-    fields_writable (tree t ts) (f ∷ fs) n h =
-        put_writable f.0 (shown registry t (of f.1)) (shown_fields registry ts fs) n.0 (writable t (of f.1) tt (and_left _ _ h))
-        (fields_writable ts fs n.1 (and_right (fits false registry t (container.of f.1)) _ h))
-    fields_writable _ _ n h = no_names
+  put_members : (k : List ℕ) (d : Data) (ms : Members) → (P → IsUtf8 k) → IsWritable P d → MembersWritable P ms → MembersWritable P (put k d ms)
+  put_members k d no_members name here h = (name, here, tt)
+  put_members k d (member l e ms) name here h =
+      put_either (slice_cmp nat_cmp k l) _ _ _ (name, here, h) (h.0, here, h.2) (h.0, h.1, put_members k d ms name here h.2)
 
-  -- what is shown of a value of the format
-  pub shown_writable : (s : Shape) (t : Tree) → fits false registry t (container.of s) ≡ true → IsWritable (shown registry t (of s))
-  shown_writable s t h = writable t (of s) tt h
+  put_writable : (k : List ℕ) (d : Data) (ms : Members) → (P → IsUtf8 k) → IsWritable P d → NamesRise ms × MembersWritable P ms → NamesRise (put k d ms) × MembersWritable P (put k d ms)
+  put_writable k d ms name here h = (
+    subst (λ (ks : List (List ℕ)). IsStrictlySortedBy (slice_cmp nat_cmp) ks) (sym (names_put k d ms)) (sorted_inserted (slice_cmp nat_cmp) nat_list_cmp_total k (names_of ms) h.0),
+    put_members k d ms name here h.1,
+  )
+
+  no_names : NamesRise no_members × MembersWritable P no_members
+  unfolding IsStrictlySortedBy
+  no_names = (tt, tt)
+
+  single_writable : (k : List ℕ) (d : Data) → (P → IsUtf8 k) → IsWritable P d → IsWritable P (single k d)
+  single_writable k d name here = put_writable k d no_members name here no_names
+
+  -- ---- variants
+
+  -- a variant's name alone, or an object with what it carries
+  choice_writable : (show : JsonContent → Data) (name : List ℕ) (q : Payload) → (P → IsUtf8 name) → IsWritable P (show (payload_content q)) → IsWritable P (shown_choice show (Some (name, q)))
+  choice_writable show name container.unit h k = h
+  choice_writable show name (newtype s) h k = single_writable name (show (of s)) h k
+  choice_writable show name (tuple ss) h k = single_writable name (show (of (shape.tuple ss))) h k
+  choice_writable show name (container.fields fs) h k = single_writable name (show (fields fs)) h k
+
+  module _ (registry : Entries) (t : Tree) (show : JsonContent → Data) (each : (f : JsonContent) → (P → HasNames f) → fits false registry t (unnamed f) ≡ true → IsWritable P (show f)) where
+    numbered_writable : (n : ℕ) (cs : List Choice) → (P → ChoiceNames cs) → fits false registry t (option_map_or (λ c. container.of (payload_shape c.1)) (choice_numbered n cs) container.nothing) ≡ true
+        → IsWritable P (shown_choice show (choice_numbered n cs))
+    numbered_writable n [] names h = tt
+    numbered_writable n (c ∷ cs) names h = at (c.0 == n) (numbered_writable n cs (λ p. (names p).2)) h
+      where
+        at : (b : Bool) → (fits false registry t (option_map_or (λ c. container.of (payload_shape c.1)) (choice_numbered n cs) container.nothing) ≡ true → IsWritable P (shown_choice show (choice_numbered n cs)))
+            → fits false registry t (option_map_or (λ c. container.of (payload_shape c.1)) (cond b (Some c.1) (choice_numbered n cs)) container.nothing) ≡ true
+            → IsWritable P (shown_choice show (cond b (Some c.1) (choice_numbered n cs)))
+        at true later h =
+            choice_writable show c.1.0 c.1.1 (λ p. (names p).0)
+            (each (payload_content c.1.1) (λ p. payload_names c.1.1 (names p).1) (ap (fits false registry t) (unnamed_payload c.1.1) ∙ h))
+        at false later h = later h
+
+  -- ---- trees
+
+  either_writable : (b : Bool) (c d : Data) → (b ≡ true → IsWritable P c) → IsWritable P d → IsWritable P (if b then c else d)
+  either_writable true c d h k = h refl
+  either_writable false c d h k = k
+
+  module _ (registry : Entries) (names : P → EachHasNames registry) where
+    mutual
+      writable : (t : Tree) (f : JsonContent) → (P → HasNames f) → fits false registry t (unnamed f) ≡ true → IsWritable P (shown registry t f)
+      writable (tree.truth b) (of shape.truth) n h = tt
+      writable (tree.unsigned m) (of (shape.unsigned w)) n h = unsigned_writable w m h
+      writable (tree.signed z) (of (shape.signed w)) n h = signed_writable w z h
+      writable (tree.text s) (of shape.text) n h = λ p. IsUtf8-from_is_utf8 s h
+      writable (tree.bytes b) (of shape.bytes) n h = λ p. hex_utf8 b h
+      writable (tree.present t) (of (shape.option s)) n h = single_writable (codes "some") (shown registry t (of s)) (λ p. IsUtf8-are_ascii (codes "some") refl) (writable t (of s) (λ p. tt) h)
+      writable (tree.items ts) (of (shape.seq s)) n h = either_writable (is_byte s) _ _ (λ is p. byte_text registry s ts h is) (all_writable ts s h)
+      writable (tree.items ts) (of (shape.tuple ss)) n h = each_writable ts ss h
+      writable (tree.items ts) (of (shape.array s k)) n h =
+          let fit = and_right (count ts == k) _ h in
+          either_writable (is_byte s) _ _ (λ is p. byte_text registry s ts fit is) (all_writable ts s fit)
+      writable (tree.items ts) (fields fs) n h = fields_writable ts fs n h
+      writable (tree.pairs ps) (of (shape.map k v)) n h = pairs_writable ps k v h
+      writable (tree.variant m t) (one_of cs) n h = numbered_writable registry t (shown registry t) (writable t) m cs n (and_right (nat_lt m (2 ^ 32)) _ h)
+      writable (tree.named t) (of (shape.name k)) n h =
+          writable t (json_content_at k registry) (λ p. content_names k registry (names p)) (ap (fits false registry t) (unnamed_at k registry) ∙ h)
+      writable _ _ n h = tt
+
+      all_writable : (ts : Trees) (s : Shape) → all_fit false registry ts s ≡ true → ItemsWritable P (shown_all registry ts s)
+      all_writable no_trees s h = tt
+      all_writable (tree t ts) s h = (writable t (of s) (λ p. tt) (and_left _ _ h), all_writable ts s (and_right (fits false registry t (container.of s)) _ h))
+
+      each_writable : (ts : Trees) (ss : Shapes) → each_fits false registry ts ss ≡ true → ItemsWritable P (shown_each registry ts ss)
+      each_writable (tree t ts) (shape s ss) h = (writable t (of s) (λ p. tt) (and_left _ _ h), each_writable ts ss (and_right (fits false registry t (container.of s)) _ h))
+      each_writable _ _ h = tt
+
+      pairs_writable : (ps : Pairs) (k v : Shape) → pairs_fit false registry ps k v ≡ true → ItemsWritable P (shown_pairs registry ps k v)
+      pairs_writable no_pairs k v h = tt
+      pairs_writable (pair l w ps) k v h =
+          let here = and_left (fits false registry l (container.of k) && fits false registry w (container.of v)) _ h in (
+            (writable l (of k) (λ p. tt) (and_left _ _ here), (writable w (of v) (λ p. tt) (and_right (fits false registry l (container.of k)) _ here), tt)),
+            pairs_writable ps k v (and_right (fits false registry l (container.of k) && fits false registry w (container.of v)) _ h),
+          )
+
+      fields_writable : (ts : Trees) (fs : List Field) → (P → FieldNames fs) → each_fits false registry ts (field_shapes fs) ≡ true → NamesRise (shown_fields registry ts fs) × MembersWritable P (shown_fields registry ts fs)
+      fields_writable (tree t ts) (f ∷ fs) n h =
+          put_writable f.0 (shown registry t (of f.1)) (shown_fields registry ts fs) (λ p. (n p).0) (writable t (of f.1) (λ p. tt) (and_left _ _ h))
+          (fields_writable ts fs (λ p. (n p).1) (and_right (fits false registry t (container.of f.1)) _ h))
+      fields_writable _ _ n h = no_names
+
+    -- what is shown of a value of the format
+    pub shown_writable : (s : Shape) (t : Tree) → fits false registry t (container.of s) ≡ true → IsWritable P (shown registry t (of s))
+    shown_writable s t h = writable t (of s) (λ p. tt) h

@@ -3,6 +3,7 @@ use Rattle.std.proofs.Common.{◌≡◌, ◌∙◌, ℕ, zero, suc, ◌<◌, ◌
 use Rattle.std.proofs.Math.Nat.{le-max_left, le-max_right}
 use Rattle.std.specs.Option.{option_map_or}
 use Rattle.std.proofs.lemmas.List.Elements.{All-nil, All-cons, All-head, All-tail}
+use Rattle.std.proofs.lemmas.Option.{none-some}
 use Rattle.serde_json.specs.Data.{Data, array, object, Items, no_items, Members, no_members, depth, items_depth, members_depth}
 use Rattle.serde_json.specs.Data as json
 use Rattle.serde_json.specs.Find.{get_member}
@@ -15,9 +16,6 @@ use Rattle.bcs_json_spec.specs.Look.{item_count, shape_count, without}
 use Rattle.bcs_json_spec.specs.Place.{Step, item, member, Target, value, entry, Part, part, parts, item_parts, each_parts, entry_parts, field_parts, option_parts, seq_parts, map_parts, tuple_parts, array_parts, struct_parts, enum_parts, pair_parts, named_parts, fault_at, IsPlaceAmong}
 use Rattle.bcs_json_spec.proofs.Lowest.{found_depth, without_depth}
 use Rattle.bcs_json_spec.proofs.Places.{Inside, place-none, place-here, place-later}
-
-some≢none : {A : Type 0} (x : A) → Some x ≡ None → ⊥
-some≢none x h = cc
 
 below_left : (a b : ℕ) {n : ℕ} → max a b < n → a < n
 below_left a b h = omega (arith, le-max_left a b, h)
@@ -136,7 +134,7 @@ module _ (registry : Entries) where
   some_among n inside [] h = ([], place-none registry)
   some_among n inside (p ∷ ps) h = elim (fault_at registry p.left p.target p.json) as (λ o. fault_at registry p.left p.target p.json ≡ o → Place (p ∷ ps)) [
     | None ↦ λ is. let rest = some_among n inside ps (All-tail (IsUnder n) p ps h) in (rest.0, place-later registry rest.0 p ps is rest.1)
-    | Some e ↦ λ is. let here = inside p (All-head (IsUnder n) p ps h) in (p.step ∷ here.0, place-here registry here.0 p ps (λ good. absurd (some≢none e (sym is ∙ good))) here.1)
+    | Some e ↦ λ is. let here = inside p (All-head (IsUnder n) p ps h) in (p.step ∷ here.0, place-here registry here.0 p ps (λ good. absurd (none-some e (sym good ∙ is))) here.1)
   ] refl
 
   some_inside : (n d : ℕ) (t : Target) (j : Data) → depth j < n → Place (parts registry d t j)

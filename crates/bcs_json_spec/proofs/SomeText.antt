@@ -1,4 +1,5 @@
 -- Each value that a text denotes has bytes and a normal text, and each that bytes are has a text, within the nesting.
+use Rattle.std.specs.Prelude.{⊤}
 use Rattle.std.proofs.Common.{◌≤◌, ℕ, List, length, arith, refl}
 use Rattle.serde_json.specs.Data.{depth}
 use Rattle.serde_json.specs.Written.{compact_text}
@@ -35,7 +36,7 @@ module _ (written : List ℕ) (registry : Entries) (limits : Bounds) (s : Shape)
   -- the compact text of what is shown of a sound value denotes it
   pub compact_denotes : (c : Tree) → IsSound registry limits s c → depth (shown registry c (of s)) ≤ nesting_limit → Denotes registry limits s (compact_text (shown registry c (of s))) c
   compact_denotes c sound low =
-      let json = text_is_json (shown registry c (of s)) (shown_writable registry (written_names written registry writes) s c sound.fit) (omega (arith, low)) in
+      let json = text_is_json (shown registry c (of s)) (shown_writable ⊤ registry (λ p. written_names written registry writes) s c sound.fit) (omega (arith, low)) in
       shown_denotes registry limits s well writes.2.orderly c sound (compact_text (shown registry c (of s))) json low
 
   -- what a text denotes has a normal text

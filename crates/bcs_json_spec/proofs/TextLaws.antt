@@ -1,5 +1,6 @@
 -- What texts denote, and that it is not refused.
-use Rattle.std.proofs.Common.{◌≡◌, ◌∙◌, ℕ, ◌≤◌, List, Some, sym, subst, arith}
+use Rattle.std.proofs.Common.{◌≡◌, ◌∙◌, ℕ, ◌≤◌, List, sym, subst, arith}
+use Rattle.std.proofs.lemmas.Option.{same_Some}
 use Rattle.serde_json.specs.Data.{Data, depth}
 use Rattle.bcs_registry_model.specs.Container.{Entries}
 use Rattle.bcs_registry_json.specs.Json.{IsJson}
@@ -18,11 +19,8 @@ use Rattle.bcs_json_spec.specs.declared.json_fault.JsonFault.{JsonFault}
 use Rattle.bcs_json_spec.specs.declared.json_fault.JsonFault.TheVariants.{NotJson, TooNested, TooManyNodes, TooLong, RepeatedKey, OutOfMemory}
 use Rattle.bcs_json_spec.proofs.Verdict.{one_tree, one_verdict}
 
-same_some : {A : Type 0} (a b : A) → Some a ≡ Some b → a ≡ b
-same_some a b h = cc
-
 pub same_read : (text : List ℕ) (d e : Data) → IsJson text d → IsJson text e → d ≡ e
-same_read text d e g h = same_some d e (sym g.1 ∙ h.1)
+same_read text d e g h = same_Some d e (sym g.1 ∙ h.1)
 
 pub denotes_once : DenotesOnce
 denotes_once registry limits s text t u g h =

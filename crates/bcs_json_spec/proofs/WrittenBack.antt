@@ -1,5 +1,7 @@
--- serde_json reads its compact text of a value back as that value.
+-- serde_json reads its compact text of a value back as that value. Where names and strings needn't be UTF-8, P is ⊥.
+use Rattle.std.specs.Prelude.{⊤}
 use Rattle.std.proofs.Common.{◌≡◌, ◌∙◌, ℕ, pos, negsuc, ◌^◌, ◌<◌, ◌≤◌, List, [], ◌∷◌, ◌++◌, Bool, true, false, Some, Ordering, Less, Greater, IsUtf8, append-nil, nat_cmp, arith, option_map, refl, sym, ap}
+use Rattle.std.proofs.lemmas.Bool.{or_from}
 use Rattle.std.proofs.lemmas.Cmp.{nat_list_cmp_total}
 use Rattle.std.proofs.lemmas.Fmt.{IsAscii-decimal, IsAscii-signed}
 use Rattle.std.proofs.lemmas.Str.{IsUtf8-append, IsUtf8-from_ascii}
@@ -19,7 +21,7 @@ use Rattle.json.proofs.Printed.Trees.{ArePrintable-json_tokens, value-json_token
 use Rattle.json.proofs.Printed.Utf8.{IsUtf8-are_ascii, IsUtf8-boolean, IsUtf8-quoted}
 use Rattle.serde_json.specs.Data.{Num, unsigned, negative, float, Data, null, boolean, number, string, array, object, Items, no_items, item, Members, no_members, member, put, depth, items_depth, members_depth}
 use Rattle.serde_json.specs.Read.{max_depth, number_of, of_items, of_json, of_members, read}
-use Rattle.serde_json.specs.Written.{comma_if, compact_text, items_outline, items_text, members_outline, members_text, number_text, outline}
+use Rattle.serde_json.specs.Written.{comma_if, compact_text, has_float, items_have_float, items_outline, items_text, members_have_float, members_outline, members_text, number_text, outline}
 use Rattle.serde_json.proofs.Numbers.{number_of-decimal, number_of-negative}
 use Rattle.serde_json.proofs.Texts.{print-outline}
 use Rattle.bcs_registry_json.specs.Json.{IsJson}
@@ -34,22 +36,23 @@ IsNum (negative (pos n)) = ⊥
 IsNum (negative (negsuc n)) = n < 2 ^ 63
 IsNum (float x) = ⊥
 
-abbrev mutual
-  -- names and strings are UTF-8, numbers are whole ones of 64 bits, and the names of each object rise
-  pub IsWritable : Data → Type 0
-  IsWritable (number n) = IsNum n
-  IsWritable (string s) = IsUtf8 s
-  IsWritable (array ds) = ItemsWritable ds
-  IsWritable (object ms) = NamesRise ms × MembersWritable ms
-  IsWritable _ = Unit {0}
+module _ (P : Type 0) where
+  abbrev mutual
+    -- numbers are whole ones of 64 bits, the names of each object rise, and if P names and strings are UTF-8
+    pub IsWritable : Data → Type 0
+    IsWritable (number n) = IsNum n
+    IsWritable (string s) = P → IsUtf8 s
+    IsWritable (array ds) = ItemsWritable ds
+    IsWritable (object ms) = NamesRise ms × MembersWritable ms
+    IsWritable _ = Unit {0}
 
-  pub ItemsWritable : Items → Type 0
-  ItemsWritable no_items = Unit {0}
-  ItemsWritable (item d ds) = IsWritable d × ItemsWritable ds
+    pub ItemsWritable : Items → Type 0
+    ItemsWritable no_items = Unit {0}
+    ItemsWritable (item d ds) = IsWritable d × ItemsWritable ds
 
-  pub MembersWritable : Members → Type 0
-  MembersWritable no_members = Unit {0}
-  MembersWritable (member k d ms) = IsUtf8 k × IsWritable d × MembersWritable ms
+    pub MembersWritable : Members → Type 0
+    MembersWritable no_members = Unit {0}
+    MembersWritable (member k d ms) = (P → IsUtf8 k) × IsWritable d × MembersWritable ms
 
 -- ---- its tokens
 
@@ -59,31 +62,32 @@ number_is (negative (pos n)) h = absurd h
 number_is (negative (negsuc n)) h = IsNumber-signed_decimal (negsuc n) h
 number_is (float x) h = absurd h
 
-mutual
-  has_numbers : (d : Data) → IsWritable d → HasNumbers (outline d)
-  has_numbers null h = tt
-  has_numbers (boolean b) h = tt
-  has_numbers (number n) h = number_is n h
-  has_numbers (string s) h = tt
-  has_numbers (array ds) h = items_numbers ds h
-  has_numbers (object ms) h = members_numbers ms h.1
+module _ (P : Type 0) where
+  mutual
+    has_numbers : (d : Data) → IsWritable P d → HasNumbers (outline d)
+    has_numbers null h = tt
+    has_numbers (boolean b) h = tt
+    has_numbers (number n) h = number_is n h
+    has_numbers (string s) h = tt
+    has_numbers (array ds) h = items_numbers ds h
+    has_numbers (object ms) h = members_numbers ms h.1
 
-  items_numbers : (ds : Items) → ItemsWritable ds → ItemsHaveNumbers (items_outline ds)
-  items_numbers no_items h = tt
-  items_numbers (item d ds) h = (has_numbers d h.0, items_numbers ds h.1)
+    items_numbers : (ds : Items) → ItemsWritable P ds → ItemsHaveNumbers (items_outline ds)
+    items_numbers no_items h = tt
+    items_numbers (item d ds) h = (has_numbers d h.0, items_numbers ds h.1)
 
-  members_numbers : (ms : Members) → MembersWritable ms → MembersHaveNumbers (members_outline ms)
-  members_numbers no_members h = tt
-  members_numbers (member k d ms) h = (has_numbers d h.1, members_numbers ms h.2)
+    members_numbers : (ms : Members) → MembersWritable P ms → MembersHaveNumbers (members_outline ms)
+    members_numbers no_members h = tt
+    members_numbers (member k d ms) h = (has_numbers d h.1, members_numbers ms h.2)
 
--- the tokens of the text are those of the value
-text_tokens : (d : Data) → IsWritable d → tokens (compact_text d) ≡ json_tokens (outline d)
-text_tokens d h = ap tokens (sym (print-outline d)) ∙ tokens-print (json_tokens (outline d)) (ArePrintable-json_tokens (outline d) (has_numbers d h))
+  -- the tokens of the text are those of the value
+  text_tokens : (d : Data) → IsWritable P d → tokens (compact_text d) ≡ json_tokens (outline d)
+  text_tokens d h = ap tokens (sym (print-outline d)) ∙ tokens-print (json_tokens (outline d)) (ArePrintable-json_tokens (outline d) (has_numbers d h))
 
 -- ---- its depth
 
 mutual
-  pub outline_depth : (d : Data) → tree.depth (outline d) ≤ depth d
+  outline_depth : (d : Data) → tree.depth (outline d) ≤ depth d
   outline_depth null = omega arith
   outline_depth (boolean b) = omega arith
   outline_depth (number n) = omega arith
@@ -105,7 +109,7 @@ abbrev cmp : List ℕ → List ℕ → Ordering
 cmp = slice_cmp nat_cmp
 
 -- the members, put in one after another
-abbrev pub put_all : Members → Members → Members
+abbrev put_all : Members → Members → Members
 put_all no_members found = found
 put_all (member k d ms) found = put_all ms (put k d found)
 
@@ -118,42 +122,62 @@ stays_first l e (member k d ms) found above =
     ∙ stays_first l e ms (put k d found) above.1
 
 -- members whose names rise are the same again
-pub put_again : (ms : Members) → NamesRise ms → put_all ms no_members ≡ ms
+put_again : (ms : Members) → NamesRise ms → put_all ms no_members ≡ ms
 unfolding IsStrictlySortedBy
 put_again no_members h = refl
 put_again (member k d ms) h = stays_first k d ms no_members h.0 ∙ ap (member k d) (put_again ms h.1)
 
 -- ---- its value
 
-pub number_back : (n : Num) → IsNum n → number_of (number_text n) ≡ Some n
+number_back : (n : Num) → IsNum n → number_of (number_text n) ≡ Some n
 number_back (unsigned n) h = number_of-decimal n h
 number_back (negative (pos n)) h = absurd h
 number_back (negative (negsuc n)) h = number_of-negative n h
 number_back (float x) h = absurd h
 
-mutual
-  value_back : (d : Data) → IsWritable d → of_json (outline d) ≡ Some d
-  value_back null h = refl
-  value_back (boolean b) h = refl
-  value_back (number n) h = ap (option_map number) (number_back n h)
-  value_back (string s) h = refl
-  value_back (array ds) h = ap (option_map array) (items_back ds h)
-  value_back (object ms) h = ap (option_map object) (members_back ms no_members h.1 ∙ ap Some (put_again ms h.0))
+module _ (P : Type 0) where
+  mutual
+    value_back : (d : Data) → IsWritable P d → of_json (outline d) ≡ Some d
+    value_back null h = refl
+    value_back (boolean b) h = refl
+    value_back (number n) h = ap (option_map number) (number_back n h)
+    value_back (string s) h = refl
+    value_back (array ds) h = ap (option_map array) (items_back ds h)
+    value_back (object ms) h = ap (option_map object) (members_back ms no_members h.1 ∙ ap Some (put_again ms h.0))
 
-  items_back : (ds : Items) → ItemsWritable ds → of_items (items_outline ds) ≡ Some ds
-  items_back no_items h = refl
-  items_back (item d ds) h =
-      ap (option_and_then (λ e. option_map (item e) (of_items (items_outline ds)))) (value_back d h.0) ∙ ap (option_map (item d)) (items_back ds h.1)
+    items_back : (ds : Items) → ItemsWritable P ds → of_items (items_outline ds) ≡ Some ds
+    items_back no_items h = refl
+    items_back (item d ds) h =
+        ap (option_and_then (λ e. option_map (item e) (of_items (items_outline ds)))) (value_back d h.0) ∙ ap (option_map (item d)) (items_back ds h.1)
 
-  members_back : (ms found : Members) → MembersWritable ms → of_members (members_outline ms) found ≡ Some (put_all ms found)
-  members_back no_members found h = refl
-  members_back (member k d ms) found h =
-      ap (option_and_then (λ e. of_members (members_outline ms) (put k e found))) (value_back d h.1) ∙ members_back ms (put k d found) h.2
+    members_back : (ms found : Members) → MembersWritable P ms → of_members (members_outline ms) found ≡ Some (put_all ms found)
+    members_back no_members found h = refl
+    members_back (member k d ms) found h =
+        ap (option_and_then (λ e. of_members (members_outline ms) (put k e found))) (value_back d h.1) ∙ members_back ms (put k d found) h.2
 
-pub read_back : (d : Data) → IsWritable d → depth d ≤ max_depth → read (compact_text d) ≡ Some d
-read_back d h shallow =
-    let parsed = ap (json.value max_depth) (text_tokens d h ∙ sym (append-nil (json_tokens (outline d)))) ∙ value-json_tokens (outline d) max_depth [] (omega (arith, shallow, outline_depth d)) in
-    ap (λ o. option_and_then of_json (option_and_then (λ p. json.if_last p.0 p.1) o)) parsed ∙ value_back d h
+  pub read_back : (d : Data) → IsWritable P d → depth d ≤ max_depth → read (compact_text d) ≡ Some d
+  read_back d h shallow =
+      let parsed = ap (json.value max_depth) (text_tokens P d h ∙ sym (append-nil (json_tokens (outline d)))) ∙ value-json_tokens (outline d) max_depth [] (omega (arith, shallow, outline_depth d)) in
+      ap (λ o. option_and_then of_json (option_and_then (λ p. json.if_last p.0 p.1) o)) parsed ∙ value_back d h
+
+  mutual
+    pub no_float : (d : Data) → IsWritable P d → has_float d ≡ false
+    no_float null h = refl
+    no_float (boolean b) h = refl
+    no_float (number (unsigned n)) h = refl
+    no_float (number (negative z)) h = refl
+    no_float (number (float x)) h = absurd h
+    no_float (string s) h = refl
+    no_float (array ds) h = items_no_float ds h
+    no_float (object ms) h = members_no_float ms h.1
+
+    items_no_float : (ds : Items) → ItemsWritable P ds → items_have_float ds ≡ false
+    items_no_float no_items h = refl
+    items_no_float (item d ds) h = or_from _ _ (no_float d h.0) (items_no_float ds h.1)
+
+    members_no_float : (ms : Members) → MembersWritable P ms → members_have_float ms ≡ false
+    members_no_float no_members h = refl
+    members_no_float (member k d ms) h = or_from _ _ (no_float d h.1) (members_no_float ms h.2)
 
 -- ---- its bytes
 
@@ -171,24 +195,24 @@ comma_utf8 true text h = one_byte 44 text (IsUtf8-are_ascii (44 ∷ []) refl) h
 comma_utf8 false text h = h
 
 mutual
-  text_utf8 : (d : Data) → IsWritable d → IsUtf8 (compact_text d)
+  text_utf8 : (d : Data) → IsWritable ⊤ d → IsUtf8 (compact_text d)
   text_utf8 null h = IsUtf8-are_ascii (compact_text null) refl
   text_utf8 (boolean b) h = IsUtf8-boolean b
   text_utf8 (number n) h = number_utf8 n h
-  text_utf8 (string s) h = IsUtf8-quoted s h
+  text_utf8 (string s) h = IsUtf8-quoted s (h tt)
   text_utf8 (array ds) h = one_byte 91 (items_text false ds) (IsUtf8-are_ascii (91 ∷ []) refl) (items_utf8 false ds h)
   text_utf8 (object ms) h = one_byte 123 (members_text false ms) (IsUtf8-are_ascii (123 ∷ []) refl) (members_utf8 false ms h.1)
 
-  items_utf8 : (later : Bool) (ds : Items) → ItemsWritable ds → IsUtf8 (items_text later ds)
+  items_utf8 : (later : Bool) (ds : Items) → ItemsWritable ⊤ ds → IsUtf8 (items_text later ds)
   items_utf8 later no_items h = IsUtf8-are_ascii (93 ∷ []) refl
   items_utf8 later (item d ds) h = comma_utf8 later _ (IsUtf8-append (compact_text d) (items_text true ds) (text_utf8 d h.0) (items_utf8 true ds h.1))
 
-  members_utf8 : (later : Bool) (ms : Members) → MembersWritable ms → IsUtf8 (members_text later ms)
+  members_utf8 : (later : Bool) (ms : Members) → MembersWritable ⊤ ms → IsUtf8 (members_text later ms)
   members_utf8 later no_members h = IsUtf8-are_ascii (125 ∷ []) refl
   members_utf8 later (member k d ms) h =
       let rest = IsUtf8-append (compact_text d) (members_text true ms) (text_utf8 d h.1) (members_utf8 true ms h.2) in
-      comma_utf8 later _ (IsUtf8-append (quoted k) _ (IsUtf8-quoted k h.0) (one_byte 58 _ (IsUtf8-are_ascii (58 ∷ []) refl) rest))
+      comma_utf8 later _ (IsUtf8-append (quoted k) _ (IsUtf8-quoted k (h.0 tt)) (one_byte 58 _ (IsUtf8-are_ascii (58 ∷ []) refl) rest))
 
 -- the compact text of what can be written is JSON, and is read as just that
-pub text_is_json : (d : Data) → IsWritable d → depth d ≤ max_depth → IsJson (compact_text d) d
-text_is_json d h shallow = (text_utf8 d h, read_back d h shallow)
+pub text_is_json : (d : Data) → IsWritable ⊤ d → depth d ≤ max_depth → IsJson (compact_text d) d
+text_is_json d h shallow = (text_utf8 d h, read_back ⊤ d h shallow)

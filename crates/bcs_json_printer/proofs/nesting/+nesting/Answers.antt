@@ -9,7 +9,7 @@ use Rattle.bcs_value_model.specs.declared.value.Value.{the_lemmas}
 use Rattle.bcs_json_spec.specs.JsonContent.{json_content, of}
 use Rattle.bcs_json_spec.specs.Shown.{shown, shown_choice}
 use Rattle.bcs_json_printer.proofs.ShownViews.{at_map, at_enum, at_struct, choice_named, choice-found, choice-missing}
-use Rattle.bcs_json_printer.proofs.DistinctFields.{container_distinct, payload_distinct}
+use Rattle.bcs_json_spec.proofs.DistinctVariants.{container_distinct, payload_distinct}
 use Rattle.bcs_json_printer.proofs.ShownDepths.{le_zero, field_more, distinct_more}
 use Rattle.bcs_json_printer.proofs.SentRows.{entry_nodes, part_nodes}
 use Rattle.bcs_json_printer.proofs.nesting.+nesting.Goals as goal

@@ -18,7 +18,8 @@ use Rattle.bcs_json_spec.specs.JsonContent.{json_content, of}
 use Rattle.bcs_json_spec.specs.Shown.{shown, shown_all, shown_choice, shown_each, shown_pairs}
 use Rattle.bcs_json_printer.specs.Places.{placed}
 use Rattle.bcs_json_printer.proofs.ShownViews.{at_enum, at_map, at_option, choice_named, choice-found, choice-missing, payload_fits}
-use Rattle.bcs_json_printer.proofs.PrintedRows.{all_here, bytes_listed, each_here, each_long, fields_long, left_at, pairs_here, shape_of_byte}
+use Rattle.bcs_json_spec.proofs.ReadBack.{bytes_again}
+use Rattle.bcs_json_printer.proofs.PrintedRows.{all_here, each_here, each_long, fields_long, left_at, pairs_here, shape_of_byte}
 use Rattle.bcs_json_printer.proofs.Places.{shown_at, shown_at-is, shown_fields-places}
 use Rattle.bcs_json_printer.proofs.SentRows.{all_len, each_len, entry_nodes, field_fits, next_within, pairs_len, part_nodes, placed_len}
 use Rattle.bcs_json_printer.proofs.shown.+sending.Goals as goal
@@ -68,8 +69,8 @@ pub send_list-send_byte_list-requires : goal.send_list-send_byte_list-requires
 send_list-send_byte_list-requires g t c = record {
   bytes = elim c.match-matches.branch [
     | send_list-in-U8 w ↦
-        bytes_listed c.args.registry.now (items_trees c.args.items.now)
-        (ap (all_fit false c.args.registry.now (items_trees c.args.items.now)) (sym (shape_of_byte c.args.element.now w.in-U8.is)) ∙ c.requires.fits)
+        (bytes_again c.args.registry.now (items_trees c.args.items.now)
+        (ap (all_fit false c.args.registry.now (items_trees c.args.items.now)) (sym (shape_of_byte c.args.element.now w.in-U8.is)) ∙ c.requires.fits)).1
     | send_list-in_default w ↦ cc
   ];
 }
