@@ -1,5 +1,6 @@
 -- What the calls answer, from what the crates below tell.
-use Rattle.std.proofs.Common.{◌≡◌, ◌≢◌, ◌≤◌, ◌↔◌, ℕ, List, Ok, Err, Result, Some, None, IfOk, IfErr, IfSome, Bool, Decides, refl, ap, sym, subst}
+use Rattle.std.proofs.Common.{◌≡◌, ◌≢◌, ◌≤◌, ◌↔◌, ℕ, List, Ok, Err, Result, Some, IfOk, IfErr, IfSome, Bool, Decides, refl, ap, sym, subst}
+use Rattle.std.proofs.lemmas.Option.{none-some, same_Some}
 use Rattle.std.specs.Result.{result_ok, result_err}
 use Rattle.serde_json.specs.Data.{Data, depth}
 use Rattle.bcs_registry_model.specs.Container.{Entries}
@@ -40,20 +41,14 @@ use Rattle.bcs_json_reader.specs.Refused.{steps, IsPlaced}
 use Rattle.bcs_json_reader.specs.declared.refusal.Refusal.{Refusal}
 use Rattle.bcs_json.specs.Printing.{Prints}
 
-some_is : {A : Type 0} (x y : A) → Some x ≡ Some y → x ≡ y
-some_is x y h = cc
-
-some≢none : {A : Type 0} (x : A) → Some x ≡ None → ⊥
-some≢none x h = cc
-
 -- results that were looked at by `ok` and `err`
 pub was_ok : {A E : Type 0} (r : Result A E) (x : A) (P : A → Type 0) → Some x ≡ result_ok r → IfOk r P → P x
-was_ok (Ok y) x P is h = subst P (some_is y x (sym is)) h
-was_ok (Err e) x P is h = absurd (some≢none x is)
+was_ok (Ok y) x P is h = subst P (same_Some y x (sym is)) h
+was_ok (Err e) x P is h = absurd (none-some x (sym is))
 
 pub was_err : {A E : Type 0} (r : Result A E) (e : E) → Some e ≡ result_err r → r ≡ Err e
-was_err (Ok y) e is = absurd (some≢none e is)
-was_err (Err g) e is = ap Err (some_is g e (sym is))
+was_err (Ok y) e is = absurd (none-some e (sym is))
+was_err (Err g) e is = ap Err (same_Some g e (sym is))
 
 module _ (registry : Entries) (limits : Bounds) (s : Shape) (text : List ℕ) where
   -- a text that isn't read is no JSON, unless memory ran out
@@ -83,12 +78,7 @@ module _ (registry : Entries) (limits : Bounds) (s : Shape) (text : List ℕ) wh
   pub value_fault : IsOrderly registry → (t : Tree) → SpelledBy registry limits s text t → (e : EncodeFault) → (e ≢ encode_fault.OutOfMemory → encode.Refuses registry limits s t e)
       → fault_of_value e ≢ OutOfMemory → RefusesText registry limits s text (fault_of_value e)
   value_fault orderly t spelled encode_fault.OutOfMemory h other = absurd (other refl)
-  value_fault orderly t spelled encode_fault.NotOfFormat h other = refused_value registry limits s text orderly t spelled encode_fault.NotOfFormat (h (λ is. cc))
-  value_fault orderly t spelled encode_fault.Unsupported h other = refused_value registry limits s text orderly t spelled encode_fault.Unsupported (h (λ is. cc))
-  value_fault orderly t spelled encode_fault.TooDeep h other = refused_value registry limits s text orderly t spelled encode_fault.TooDeep (h (λ is. cc))
-  value_fault orderly t spelled encode_fault.TooManyNodes h other = refused_value registry limits s text orderly t spelled encode_fault.TooManyNodes (h (λ is. cc))
-  value_fault orderly t spelled encode_fault.TooLong h other = refused_value registry limits s text orderly t spelled encode_fault.TooLong (h (λ is. cc))
-  value_fault orderly t spelled encode_fault.RepeatedKey h other = refused_value registry limits s text orderly t spelled encode_fault.RepeatedKey (h (λ is. cc))
+  value_fault orderly t spelled e h other = refused_value registry limits s text orderly t spelled e (h (λ is. cc))
 
   -- what the bytes of a text are decoded to is the canonical form of what the text denotes
   pub decoded_form : (b : List ℕ) (form : Tree) (has : HasBytes registry limits s text b) → IsDecoded registry limits s b form → IsForm registry (container.of s) has.value form

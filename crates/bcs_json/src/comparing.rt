@@ -1,5 +1,5 @@
 //! Whether two texts denote the same value.
-ghost use Rattle.std.specs.Prelude.{◌≡◌, ◌≢◌, ◌⊎◌, IfErr, IfOk};
+ghost use Rattle.std.specs.Prelude.{◌≢◌, ◌⊎◌, IfErr, IfOk};
 ghost use Rattle.bcs_registry_model.specs.View.{shape_of};
 ghost use Rattle.bcs_json_spec.specs.Headline.{Compares};
 ghost use Rattle.bcs_json_spec.specs.Texts.{Denotes, RefusesText};

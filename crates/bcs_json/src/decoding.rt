@@ -1,5 +1,4 @@
 //! Texts of bytes.
-ghost use Rattle.std.specs.Prelude.{string_bytes};
 ghost use Rattle.bcs_registry_model.specs.View.{shape_of};
 ghost use Rattle.bcs_registry_model.specs.WellFormed.{Admits};
 ghost use Rattle.bcs_json.specs.Showing.{DecodesWhole, Shows};
