@@ -194,10 +194,14 @@ static void leave_connection(void *pointer) {
 
 /* Arguments */
 
-/* The bytes of a BLOB, or the text of anything else, in UTF-8. A pointer to no bytes isn't null. */
-static struct piece piece_of(sqlite3_value *value) {
-    const void *at = sqlite3_value_type(value) == SQLITE_BLOB ? sqlite3_value_blob(value) : sqlite3_value_text(value);
-    return at != NULL ? (struct piece){at, (size_t)sqlite3_value_bytes(value)} : no_way;
+/* Hands over the bytes of a BLOB, or the text of anything else in UTF-8, for which SQLite may have to make room: false where
+   there is none. A pointer to no bytes isn't null. */
+static bool take_piece(sqlite3_value *value, struct piece *piece) {
+    const bool is_blob = sqlite3_value_type(value) == SQLITE_BLOB;
+    const void *at = is_blob ? sqlite3_value_blob(value) : sqlite3_value_text(value);
+    const size_t length = (size_t)sqlite3_value_bytes(value);
+    *piece = at != NULL ? (struct piece){at, length} : no_way;
+    return at != NULL || (is_blob && length == 0);
 }
 
 static bool are_some_null(int count, sqlite3_value **values) {
@@ -238,6 +242,7 @@ static bool take_format(struct question *question, struct piece format) {
 /* Reads the arguments: a registry, a format, as many inputs as `inputs` says, and limits. Where it answers false there is
    nothing more to do: one is null, or what is wrong is told. */
 static bool take_question(sqlite3_context *context, struct question *question, int inputs, int count, sqlite3_value **values) {
+    struct piece registry, format;
     *question = (struct question){.ask = {.depth = STANDARD_DEPTH, .nodes = STANDARD_NODES}};
     if (are_some_null(count, values)) {
         return false;
@@ -247,17 +252,17 @@ static bool take_question(sqlite3_context *context, struct question *question, i
         sqlite3_result_error(context, "bcs: nodes are from 0 to 4294967295, and a depth is from 0 to 500", -1);
         return false;
     }
-    question->registry = registry_of(context, piece_of(values[0]));
-    if (question->registry == NULL) {
-        return false;
-    }
-    if (!take_format(question, piece_of(values[1]))) {
+    if (!take_piece(values[0], &registry) || !take_piece(values[1], &format) || !take_piece(values[2], &question->input) ||
+        !take_piece(values[1 + inputs], &question->second)) {
         sqlite3_result_error_nomem(context);
         return false;
     }
-    question->input = piece_of(values[2]);
-    question->second = piece_of(values[1 + inputs]);
-    return true;
+    question->registry = registry_of(context, registry);
+    if (question->registry != NULL && !take_format(question, format)) {
+        sqlite3_result_error_nomem(context);
+        return false;
+    }
+    return question->registry != NULL;
 }
 
 /* The same of bytes, which are a BLOB, so that nobody hands over their digits. */
