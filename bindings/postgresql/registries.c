@@ -199,12 +199,10 @@ registry_of_call(FunctionCallInfo fcinfo)
 		registry = kept->registry;
 	else
 		registry = registry_of(fcinfo, argument(fcinfo, 0));
-	if (get_fn_expr_arg_stable(fcinfo->flinfo, 0))
-	{
-		if (kept == NULL)
-			kept = fcinfo->flinfo->fn_extra = MemoryContextAlloc(fcinfo->flinfo->fn_mcxt, sizeof *kept);
+	if (kept == NULL && get_fn_expr_arg_stable(fcinfo->flinfo, 0))
+		kept = fcinfo->flinfo->fn_extra = MemoryContextAlloc(fcinfo->flinfo->fn_mcxt, sizeof *kept);
+	if (kept != NULL)
 		*kept = (Kept) {registry, registry->number};
-	}
 	registry->used = ++uses;
 	return registry;
 }

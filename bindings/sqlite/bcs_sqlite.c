@@ -3,44 +3,8 @@
 
    All memory is SQLite's, also that of the proved code, so that the limits of its heap count it. A connection keeps the
    registries that it used last open, by their texts. It is used by one thread at a time, and so is what it keeps. */
-#include <sqlite3ext.h>
+#include "bcs_sqlite.h"
 SQLITE_EXTENSION_INIT1
-
-#include "words.h"
-
-#include "heap.h"
-
-static void *take_block(size_t length) {
-    return sqlite3_malloc64(length);
-}
-
-static void give_block_back(void *block) {
-    sqlite3_free(block);
-}
-
-/* A registry that is open, by its text; none where `text` is null. */
-struct registry {
-    uint8_t *text;
-    size_t length;
-    uint64_t used; /* when it was used last */
-    bcs_handle handle;
-};
-
-/* What a connection keeps: as long as one of its functions is there. */
-struct connection {
-    unsigned functions;
-    uint64_t uses;
-    struct registry open[MOST_OPEN];
-};
-
-/* What a function is asked. */
-struct question {
-    struct registry *registry;
-    bcs_handle_ask ask;
-    char *made; /* the format's JSON, where it was made here */
-    struct piece input, second;
-    uint32_t form; /* of pieces */
-};
 
 /* The calls that write an answer. */
 
@@ -65,217 +29,6 @@ static bcs_answer write_pieces(const struct question *question, uint8_t *out, si
     return bcs_handle_explain(&question->registry->handle, &question->ask, question->form, question->input.at,
                               question->input.length, out, room);
 }
-
-/* Refusals */
-
-static const struct piece no_way = {(const uint8_t *)"", 0};
-
-static void tell_refusal(sqlite3_context *context, bcs_answer answer, struct piece way) {
-    char name[NAME_ROOM], *text;
-    if (answer.status == BCS_MEMORY) {
-        sqlite3_result_error_nomem(context);
-        return;
-    }
-    name_fault(answer.fault, name);
-    text = is_stop(answer) ? sqlite3_mprintf("bcs: %s: %s at %llu%s%.*s", what_is_refused(answer), name,
-                                             (unsigned long long)answer.place, way.length != 0 ? " in " : "",
-                                             (int)way.length, (const char *)way.at)
-                           : sqlite3_mprintf("bcs: %s: %s", what_is_refused(answer), name);
-    if (text == NULL) {
-        sqlite3_result_error_nomem(context);
-        return;
-    }
-    sqlite3_result_error(context, text, -1);
-    sqlite3_free(text);
-}
-
-/* The pieces of damaged bytes in SQLite's memory, of which `line` is the last, and BCS_DONE. BCS_SHORT where they take too
-   much, and BCS_MEMORY: then the line is empty. */
-static uint32_t explain_damage(struct question *question, uint8_t **pieces, struct piece *line) {
-    bcs_answer answer = {.status = BCS_SHORT, .length = room_of_pieces(question->input.length)};
-    *line = no_way;
-    *pieces = NULL;
-    question->form = BCS_JSON;
-    while (is_to_explain_again(answer)) {
-        const size_t room = answer.length;
-        sqlite3_free(*pieces);
-        *pieces = sqlite3_malloc64(room);
-        if (*pieces == NULL) {
-            return BCS_MEMORY;
-        }
-        answer = write_pieces(question, *pieces, room);
-    }
-    if (answer.status == BCS_DONE) {
-        *line = last_line((struct piece){*pieces, answer.length});
-    }
-    return answer.status;
-}
-
-static void refuse(sqlite3_context *context, struct question *question, bcs_answer answer) {
-    struct piece line, way = no_way;
-    uint8_t *pieces = NULL;
-    if (is_stop(answer)) {
-        const uint32_t status = explain_damage(question, &pieces, &line);
-        answer.status = status == BCS_MEMORY ? status : answer.status;
-        way = status == BCS_DONE ? way_of(pieces, line) : no_way;
-    }
-    tell_refusal(context, answer, way);
-    sqlite3_free(pieces);
-}
-
-/* Registries */
-
-static void close_registry(struct registry *registry) {
-    bcs_close(&registry->handle);
-    sqlite3_free(registry->text);
-    *registry = (struct registry){0};
-}
-
-static bool has_text(const struct registry *registry, struct piece text) {
-    return registry->text != NULL && registry->length == text.length && memcmp(registry->text, text.at, text.length) == 0;
-}
-
-/* The place of a registry that is open, or else of one to open: an empty one, or of the one not used for longest. */
-static struct registry *place_of(struct connection *connection, struct piece text) {
-    struct registry *oldest = &connection->open[0];
-    for (size_t number = 0; number < MOST_OPEN; number++) {
-        struct registry *registry = &connection->open[number];
-        if (has_text(registry, text)) {
-            return registry;
-        }
-        if (registry->used < oldest->used) {
-            oldest = registry;
-        }
-    }
-    return oldest;
-}
-
-static bcs_answer open_registry(struct registry *registry, struct piece text) {
-    struct registry opened = {.text = sqlite3_malloc64(text.length + 1), .length = text.length};
-    bcs_answer answer = {.status = BCS_MEMORY};
-    if (opened.text == NULL) {
-        return answer;
-    }
-    memcpy(opened.text, text.at, text.length);
-    answer = bcs_open(&opened.handle, text.at, text.length);
-    if (answer.status != BCS_DONE) {
-        sqlite3_free(opened.text);
-        return answer;
-    }
-    close_registry(registry);
-    *registry = opened;
-    return answer;
-}
-
-/* The registry of a text, opened if it isn't; null where it is refused, which is told. */
-static struct registry *registry_of(sqlite3_context *context, struct piece text) {
-    struct connection *connection = sqlite3_user_data(context);
-    struct registry *registry = place_of(connection, text);
-    if (!has_text(registry, text)) {
-        const bcs_answer answer = open_registry(registry, text);
-        if (answer.status != BCS_DONE) {
-            tell_refusal(context, answer, no_way);
-            return NULL;
-        }
-    }
-    registry->used = ++connection->uses;
-    return registry;
-}
-
-static void leave_connection(void *pointer) {
-    struct connection *connection = pointer;
-    if (--connection->functions == 0) {
-        for (size_t number = 0; number < MOST_OPEN; number++) {
-            close_registry(&connection->open[number]);
-        }
-        sqlite3_free(connection);
-    }
-}
-
-/* Arguments */
-
-/* The bytes of a BLOB, or the text of anything else, in UTF-8. A pointer to no bytes isn't null. */
-static struct piece piece_of(sqlite3_value *value) {
-    const void *at = sqlite3_value_type(value) == SQLITE_BLOB ? sqlite3_value_blob(value) : sqlite3_value_text(value);
-    return at != NULL ? (struct piece){at, (size_t)sqlite3_value_bytes(value)} : no_way;
-}
-
-static bool are_some_null(int count, sqlite3_value **values) {
-    for (int place = 0; place < count; place++) {
-        if (sqlite3_value_type(values[place]) == SQLITE_NULL) {
-            return true;
-        }
-    }
-    return false;
-}
-
-/* A limit, or its standard where the query has none. */
-static bool take_limit(int count, sqlite3_value **values, int place, uint32_t most, uint32_t *limit) {
-    if (place < count) {
-        const sqlite3_int64 number = sqlite3_value_int64(values[place]);
-        if (sqlite3_value_numeric_type(values[place]) != SQLITE_INTEGER || number < 0 || number > most) {
-            return false;
-        }
-        *limit = (uint32_t)number;
-    }
-    return true;
-}
-
-/* Hands the format over as JSON. */
-static bool take_format(struct question *question, struct piece format) {
-    if (is_name(format)) {
-        question->made = sqlite3_malloc64(FORMAT_ROOM(format.length));
-        if (question->made == NULL) {
-            return false;
-        }
-        format = (struct piece){(const uint8_t *)question->made, write_format(format, question->made)};
-    }
-    question->ask.format = format.at;
-    question->ask.format_length = format.length;
-    return true;
-}
-
-/* Reads the arguments: a registry, a format, as many inputs as `inputs` says, and limits. Where it answers false there is
-   nothing more to do: one is null, or what is wrong is told. */
-static bool take_question(sqlite3_context *context, struct question *question, int inputs, int count, sqlite3_value **values) {
-    *question = (struct question){.ask = {.depth = STANDARD_DEPTH, .nodes = STANDARD_NODES}};
-    if (are_some_null(count, values)) {
-        return false;
-    }
-    if (!take_limit(count, values, 2 + inputs, BCS_NODES, &question->ask.nodes) ||
-        !take_limit(count, values, 3 + inputs, BCS_DEPTH, &question->ask.depth)) {
-        sqlite3_result_error(context, "bcs: nodes are from 0 to 4294967295, and a depth is from 0 to 500", -1);
-        return false;
-    }
-    question->registry = registry_of(context, piece_of(values[0]));
-    if (question->registry == NULL) {
-        return false;
-    }
-    if (!take_format(question, piece_of(values[1]))) {
-        sqlite3_result_error_nomem(context);
-        return false;
-    }
-    question->input = piece_of(values[2]);
-    question->second = piece_of(values[1 + inputs]);
-    return true;
-}
-
-/* The same of bytes, which are a BLOB, so that nobody hands over their digits. */
-static bool take_question_of_bytes(sqlite3_context *context, struct question *question, int inputs, int count,
-                                   sqlite3_value **values) {
-    const int type = sqlite3_value_type(values[2]);
-    if (type != SQLITE_BLOB && type != SQLITE_NULL) {
-        sqlite3_result_error(context, "bcs: the bytes are no BLOB", -1);
-        return false;
-    }
-    return take_question(context, question, inputs, count, values);
-}
-
-static void drop_question(struct question *question) {
-    sqlite3_free(question->made);
-}
-
-/* Answers */
 
 /* What a call writes, in memory of SQLite's; null where that ran out. */
 static uint8_t *written(const struct question *question, writing *call, size_t room, bcs_answer *answer) {
@@ -319,10 +72,15 @@ static void answer_written(sqlite3_context *context, struct question *question, 
     }
 }
 
+/* How much room there is at first for a text, which is often enough, and not more than SQLite gives. */
+static size_t room_of_text(size_t length) {
+    return length < (size_t)1 << 28 ? 4 * length + 256 : (size_t)1 << 30;
+}
+
 static void decode(sqlite3_context *context, int count, sqlite3_value **values) {
     struct question question;
     if (take_question_of_bytes(context, &question, 1, count, values)) {
-        answer_written(context, &question, write_text, 4 * question.input.length + 256, A_JSON);
+        answer_written(context, &question, write_text, room_of_text(question.input.length), A_JSON);
         drop_question(&question);
     }
 }
@@ -506,12 +264,11 @@ int sqlite3_bcssqlite_init(sqlite3 *database, char **message, const sqlite3_api_
         *message = sqlite3_mprintf("bcs needs a processor of the level x86-64-v2");
         return SQLITE_ERROR;
     }
-    connection = sqlite3_malloc(sizeof *connection);
+    connection = new_connection();
     if (connection == NULL) {
         return SQLITE_NOMEM;
     }
-    /* It counts as a function here, so that it stays until all of them are there. */
-    *connection = (struct connection){.functions = 1};
+    connection->functions = 1; /* this one, so that it stays until all of them are there */
     status = create_functions(database, connection);
     leave_connection(connection);
     return status;

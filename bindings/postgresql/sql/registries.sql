@@ -33,6 +33,11 @@ SELECT count(*) FROM generate_series(1, 2000) AS turn, LATERAL (SELECT 1 + turn 
 SELECT count(*) FROM generate_series(1, 2000) AS turn, LATERAL (SELECT 1 + turn * 7 % 20 AS n) AS which
     WHERE bcs_decode_json(format('{"A":{"STRUCT":[{"x%s":"U8"}]}}', n), 'A', '\x07')::text = format('{"x%s":7}', n);
 SELECT count(*) FROM pg_backend_memory_contexts WHERE name = 'bcs registry';
+-- One whose text stands apart from its row, since it is long and can't be compressed.
+INSERT INTO bcs_registries
+    SELECT 'long', '{"A":{"STRUCT":[' || string_agg('{"' || md5(n::text) || '":"U8"}', ',' ORDER BY n) || ']}}'
+    FROM generate_series(1, 5000) AS n;
+SELECT bcs_decode('long', 'A', decode(repeat('07', 5000), 'hex')) ->> md5('4999');
 -- In another schema it is found, too; and with a search path of the user's.
 CREATE SCHEMA elsewhere;
 ALTER EXTENSION bcs SET SCHEMA elsewhere;

@@ -45,9 +45,13 @@ static void take_heap(void) {
     CHECK(sqlite3_config(SQLITE_CONFIG_MALLOC, &mine) == SQLITE_OK);
 }
 
+/* The encoding of a database: in another one than UTF-8 SQLite makes room for each text that is handed over. */
+static const char *encoding;
+
 static sqlite3 *opened(void) {
     sqlite3 *database;
     CHECK(sqlite3_open(":memory:", &database) == SQLITE_OK);
+    CHECK(sqlite3_exec(database, encoding, NULL, NULL, NULL) == SQLITE_OK);
     CHECK(sqlite3_bcssqlite_init(database, NULL, NULL) == SQLITE_OK);
     return database;
 }
@@ -105,6 +109,8 @@ static const struct {
     {"select bcs_explain('{}','\"U8\"',x'07','json')",
      "{\"bytes\":\"07\",\"kind\":\"unsigned\",\"name\":\".\",\"path\":\".\",\"place\":0,\"value\":\"7\",\"what\":\"U8\"}\n{\"end\":1}\n"},
     {"select bcs_decode(null,'A',x'07')", "null"},
+    {"select hex(bcs_encode('{}','\"U64\"',7))", "0700000000000000"},
+    {"select bcs_decode(x'7b7d','\"STR\"',x'02c3a9')", "\"\xc3\xa9\""},
 };
 #define COUNT(table) (sizeof(table) / sizeof(table)[0])
 
@@ -148,6 +154,9 @@ static bool runs_out(size_t row) {
     sqlite3 *database = NULL;
     sqlite3_stmt *statement = NULL;
     int status = sqlite3_open(":memory:", &database);
+    if (status == SQLITE_OK) {
+        status = sqlite3_exec(database, encoding, NULL, NULL, NULL);
+    }
     if (status == SQLITE_OK) {
         status = sqlite3_bcssqlite_init(database, NULL, NULL);
     }
@@ -246,12 +255,17 @@ static void many_calls(long count) {
 }
 
 int main(int count, char **words) {
+    static const char *const encodings[] = {"pragma encoding = 'UTF-8'", "pragma encoding = 'UTF-16'"};
     take_heap();
-    answers();
+    for (size_t number = 0; number < COUNT(encodings); number++) {
+        encoding = encodings[number];
+        answers();
+        memory_refused();
+    }
+    encoding = encodings[0];
     hostile();
     registries_take_turns();
     indexes();
     many_calls(count > 1 ? atol(words[1]) : 1000000);
-    memory_refused();
     return 0;
 }
