@@ -1,7 +1,7 @@
 pub mod Once
 pub mod Refusals
 pub mod PartAnswers
-pub mod Handles
+pub mod Holdings
 pub mod RawBoxes
 pub mod RegistrySend
 pub mod Steps

@@ -3,19 +3,18 @@
 use crate::names::Name;
 use crate::owners::Owner;
 use bcs_look_registry::{Change, Difference, differences};
-use bcs_registry::{GrowthFault, Registry, RegistryFault};
+use bcs_registry::{Container, GrowthFault};
 use std::alloc::{AllocError, Global};
+use std::collections::BTreeMap;
 
 /// Where a newer registry hasn't what an older one has, and what it has there: the first difference that is no
 /// addition. `None`: it has all of it.
 pub fn place_of_growth(
     alloc: Global,
-    older: &[u8],
-    newer: &[u8],
-) -> Result<Option<Vec<u8>>, RegistryFault> {
-    let older = Registry::read(alloc, older)?;
-    let newer = Registry::read(alloc, newer)?;
-    for difference in &differences(alloc, older.containers(), newer.containers())? {
+    older: &BTreeMap<String, Container>,
+    newer: &BTreeMap<String, Container>,
+) -> Result<Option<Vec<u8>>, AllocError> {
+    for difference in &differences(alloc, older, newer)? {
         if let Some(fault) = difference.change.fault() {
             let line = growth_line(alloc, difference, fault)?;
             return Ok(Some(line.into_bytes()));

@@ -1,5 +1,5 @@
 -- A comparison of two files, from one pair of lines to the next.
-use Rattle.std.proofs.Common.{◌≡◌, ◌≢◌, ◌<◌, ◌+◌, ◌^◌, ◌++◌, ◌∙◌, inl, inr, ℕ, Bool, true, List, [], ◌∷◌, Err, Ok, Option, Result, arith, codes, length, refl, subst, sym, take}
+use Rattle.std.proofs.Common.{◌≡◌, ◌≢◌, ◌<◌, ◌+◌, ◌^◌, ◌++◌, ◌∙◌, inl, inr, ℕ, Bool, false, true, List, [], ◌∷◌, Err, Ok, Option, Result, arith, codes, length, refl, subst, sym, take}
 use Rattle.std.specs.Prelude.{IfSome}
 use Rattle.bcs_io.specs.Taking as sink
 use Rattle.bcs_io.proofs.TakingLemmas as taking
@@ -18,7 +18,7 @@ use Rattle.bcs_tool_command_line.specs.declared.taking.TakeFault.{TakeFault}
 use Rattle.bcs_tool_command_line.specs.declared.work.Work.{Work}
 use Rattle.bcs_tool.specs.Lines.{IsTally}
 use Rattle.bcs_tool.specs.PairLines.{AllPaired, ArePairsSoFar, EndsBy, EndsPaired, FailsNext, HasEnded, PutsPair, ReadsBoth, ReadsOn, StopsPair, broken_at, last_output, last_statuses}
-use Rattle.bcs_tool.specs.Pairs.{AnswersBehind, AreAll, FailsPairsAt, Gave, GaveLine, IsLongAt, PutPairPart, PutPairs}
+use Rattle.bcs_tool.specs.Pairs.{AnswersBehind, AreAll, BothGaveFew, BrokeInLine, FailsPairsAt, Gave, GaveFew, GaveLine, IsLongAt, PutPairPart, PutPairs}
 use Rattle.bcs_tool.specs.Pairs as behind
 use Rattle.bcs_tool.specs.Running.{AreFirst, IsLongBehind, PutFront}
 use Rattle.bcs_tool.specs.declared.pair_interruption.PairInterruption.{PairInterruption}
@@ -27,7 +27,7 @@ use Rattle.bcs_tool.specs.declared.pair_lines.Compared.{Compared}
 use Rattle.bcs_tool.specs.declared.run_fault.RunFault.{RunFault}
 use Rattle.bcs_tool.specs.declared.run_fault.RunFault.TheVariants.{Take, Write}
 use Rattle.bcs_tool.specs.declared.tally.Tally.{Tally}
-use Rattle.bcs_tool.proofs.ReadLemmas.{MayHave, all_lines, first_behind, first_read, gave, gave_line, line_read, long_behind, none_behind, none_read, room_for_one, some_behind}
+use Rattle.bcs_tool.proofs.ReadLemmas.{MayHave, all_lines, broke_in_line, few_behind, few_given, few_long, few_read, first_behind, first_read, gave, gave_line, line_read, long_behind, none_behind, none_read, room_for_one, some_behind}
 
 module _ {F S K : Type 0} (former : F → Option (List ℕ)) (former_stopped : F → Bool) (former_allowance : F → ℕ)
     (content : S → Option (List ℕ)) (has_stopped : S → Bool) (allowance : S → ℕ) (taken : K → Option (List ℕ)) (is_failed : K → Bool) (work : Work) where
@@ -183,6 +183,31 @@ module _ {F S K : Type 0} (former : F → Option (List ℕ)) (former_stopped : F
     last_behind SecondEnds reads some =
         behind.second_ends one'.line (next_first reads.of_first) (all_lines content has_stopped allowance second x y far.seconds other other' far.second_read reads.of_second)
 
+    -- ---- how far the files were read
+
+    -- the first gave no block more than its next line, or its end, took; and so the second
+    first_few : (has_first : Bool) → ReadsOn former former_stopped former_allowance has_first a b one one' → GaveFew former former_stopped former_allowance first b tally.answered
+    first_few has_first on =
+        subst (λ (n : ℕ). GaveFew former former_stopped former_allowance first b n) first_many
+        (few_behind former former_stopped former_allowance first a b far.firsts one one' far.first_read has_first on)
+
+    second_few : (has_second : Bool) → ReadsOn content has_stopped allowance has_second x y other other' → GaveFew content has_stopped allowance second y tally.answered
+    second_few has_second on =
+        subst (λ (n : ℕ). GaveFew content has_stopped allowance second y n) second_many
+        (few_behind content has_stopped allowance second x y far.seconds other other' far.second_read has_second on)
+
+    few_at_end : (ending : Ending) → HasEnded former former_stopped former_allowance content has_stopped allowance ending a b x y one one' other other'
+        → BothGaveFew former former_stopped former_allowance content has_stopped allowance taken is_failed first b second y tally.answered
+    few_at_end Together reads = (first_few false reads.of_first, second_few false reads.of_second)
+    few_at_end FirstEnds reads = (first_few false reads.of_first, second_few true reads.of_second)
+    few_at_end SecondEnds reads = (first_few true reads.of_first, second_few false reads.of_second)
+
+    -- the second wasn't read again
+    second_few_before : y ≡ x → GaveFew content has_stopped allowance second y tally.answered
+    second_few_before same =
+        subst (λ (s : S). GaveFew content has_stopped allowance second s tally.answered) (sym same)
+        (subst (λ (n : ℕ). GaveFew content has_stopped allowance second x n) second_many (few_read content has_stopped allowance second x far.seconds other.rest far.second_read))
+
     -- the last answer was put, or not
     pub ends_paired : (ending : Ending) (out'' : K) (result : Result Compared PairInterruption)
         → HasEnded former former_stopped former_allowance content has_stopped allowance ending a b x y one one' other other'
@@ -194,7 +219,7 @@ module _ {F S K : Type 0} (former : F → Option (List ℕ)) (former_stopped : F
     ends_paired ending out'' (Err e) reads (is, some, front) =
         let P : PairInterruption → Type 0 = λ i. FailsPairsAt former former_stopped former_allowance content has_stopped allowance taken is_failed work first b second y out out''
         i.side i.interruption.fault i.interruption.answered in
-        subst P (sym is) (part_behind 1 (line_of (codes "different")) out'' (last_behind ending reads some) front)
+        subst P (sym is) (few_at_end ending reads, part_behind 1 (line_of (codes "different")) out'' (last_behind ending reads some) front)
 
     -- ---- faults
 
@@ -211,17 +236,37 @@ module _ {F S K : Type 0} (former : F → Option (List ℕ)) (former_stopped : F
     -- the next line of the first isn't there
     fails_first : (fault : NextFault) → ReadsInput work → FailsNext former former_stopped former_allowance fault a b one one' → y ≡ x
         → EndsPaired former former_stopped former_allowance content has_stopped allowance taken is_failed work first b second y out out' (Err (broken_at First fault tally.answered))
-    fails_first next_fault.Read reads lost same = (reads, lost.lost.after, second_gave same, put_pairs)
+    fails_first next_fault.Read reads lost same = (
+      reads,
+      lost.lost.after,
+      second_gave same,
+      (
+        subst (λ (n : ℕ). BrokeInLine former former_stopped former_allowance first b n) first_many
+            (broke_in_line former former_stopped former_allowance first a b far.firsts one one' far.first_read lost),
+        second_few_before same,
+      ),
+      put_pairs,
+    )
     fails_first next_fault.TooLong reads long same = (
       reads,
       subst (λ (n : ℕ). IfSome (former first) (IsLongBehind n)) first_many
           (long_behind former former_stopped former_allowance first a b far.firsts one one' far.first_read long),
       second_gave same,
+      (
+        subst (λ (n : ℕ). GaveFew former former_stopped former_allowance first b n) first_many
+            (few_long former former_stopped former_allowance first a b far.firsts one one' far.first_read long),
+        second_few_before same,
+      ),
       put_pairs,
     )
     fails_first next_fault.OutOfMemory reads ran same = (
       gave former former_stopped former_allowance first a b far.firsts one one' far.first_read ran.given ran.took,
       second_gave same,
+      (
+        subst (λ (n : ℕ). GaveFew former former_stopped former_allowance first b n) first_many
+            (few_given former former_stopped former_allowance first a b far.firsts one one' far.first_read ran.given ran.took ran.ahead),
+        second_few_before same,
+      ),
       put_pairs,
     )
 
@@ -229,17 +274,37 @@ module _ {F S K : Type 0} (former : F → Option (List ℕ)) (former_stopped : F
     fails_second : (fault : NextFault) (has_first : Bool) → ReadsInput work → ReadsOn former former_stopped former_allowance has_first a b one one'
         → FailsNext content has_stopped allowance fault x y other other'
         → EndsPaired former former_stopped former_allowance content has_stopped allowance taken is_failed work first b second y out out' (Err (broken_at Second fault tally.answered))
-    fails_second next_fault.Read has_first reads on lost = (reads, lost.lost.after, first_gave has_first on, put_pairs)
+    fails_second next_fault.Read has_first reads on lost = (
+      reads,
+      lost.lost.after,
+      first_gave has_first on,
+      (
+        first_few has_first on,
+        subst (λ (n : ℕ). BrokeInLine content has_stopped allowance second y n) second_many
+            (broke_in_line content has_stopped allowance second x y far.seconds other other' far.second_read lost),
+      ),
+      put_pairs,
+    )
     fails_second next_fault.TooLong has_first reads on long = (
       reads,
       subst (λ (n : ℕ). IfSome (content second) (IsLongBehind n)) second_many
           (long_behind content has_stopped allowance second x y far.seconds other other' far.second_read long),
       first_gave has_first on,
+      (
+        first_few has_first on,
+        subst (λ (n : ℕ). GaveFew content has_stopped allowance second y n) second_many
+            (few_long content has_stopped allowance second x y far.seconds other other' far.second_read long),
+      ),
       put_pairs,
     )
     fails_second next_fault.OutOfMemory has_first reads on ran = (
       (first_gave has_first on).gave,
       gave content has_stopped allowance second x y far.seconds other other' far.second_read ran.given ran.took,
+      (
+        first_few has_first on,
+        subst (λ (n : ℕ). GaveFew content has_stopped allowance second y n) second_many
+            (few_given content has_stopped allowance second x y far.seconds other other' far.second_read ran.given ran.took ran.ahead),
+      ),
       put_pairs,
     )
 
@@ -262,7 +327,10 @@ module _ {F S K : Type 0} (former : F → Option (List ℕ)) (former_stopped : F
         subst P (sym puts.0) (
           (first_gave true reads.of_first).gave,
           (gave_line content has_stopped allowance second x y far.seconds other other' far.second_read true reads.of_second).gave,
+          (first_few true reads.of_first, second_few true reads.of_second),
           subst (λ (k : K). PutPairs former former_stopped former_allowance content has_stopped allowance taken is_failed work first second out k tally.answered) (sym puts.1) put_pairs,
         )
-    fails_pair_put out'' Write reads (status, output, answer, front) =
-        part_behind status output out'' (behind.pair one'.line other'.line status output (next_first reads.of_first) (next_second reads.of_second) answer) front
+    fails_pair_put out'' Write reads (status, output, answer, front) = (
+      (first_few true reads.of_first, second_few true reads.of_second),
+      part_behind status output out'' (behind.pair one'.line other'.line status output (next_first reads.of_first) (next_second reads.of_second) answer) front,
+    )

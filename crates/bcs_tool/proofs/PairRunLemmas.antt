@@ -16,12 +16,13 @@ use Rattle.bcs_tool_command_line.specs.declared.taking.TakeFault.TheVariants.{Ou
 use Rattle.bcs_tool_command_line.specs.declared.work.Report.{Report}
 use Rattle.bcs_tool_command_line.specs.declared.work.Work.{Work}
 use Rattle.bcs_tool.specs.PairLines.{AllPaired}
-use Rattle.bcs_tool.specs.Pairs.{AreCompared, EndsPairs, PutPairs, RespondsPairs, compared, refused, refused_alone}
+use Rattle.bcs_tool.specs.Pairs.{AreCompared, BothGaveFew, EndsPairs, PutPairs, RespondsPairs, compared, refused, refused_alone}
 use Rattle.bcs_tool.specs.Running.{PutsAnswer}
 use Rattle.bcs_tool.specs.declared.interruption.Interruption.{Interruption}
 use Rattle.bcs_tool.specs.declared.pair_interruption.Side.TheVariants.{First}
 use Rattle.bcs_tool.specs.declared.pair_lines.Compared.{Compared}
 use Rattle.bcs_tool.specs.declared.run_fault.RunFault.TheVariants.{Take}
+use Rattle.bcs_tool.proofs.ReadLemmas.{few_read, none_read}
 use Rattle.bcs_tool.proofs.RunLemmas.{none_first, some_content, told_counts}
 
 module _ {F S K : Type 0} (former : F → Option (List ℕ)) (former_stopped : F → Bool) (former_allowance : F → ℕ)
@@ -39,10 +40,16 @@ module _ {F S K : Type 0} (former : F → Option (List ℕ)) (former_stopped : F
     put = taking.Took-nothing taken is_failed out;
   }
 
+  none_given : (first : F) (second : S) → BothGaveFew former former_stopped former_allowance content has_stopped allowance taken is_failed first first second second 0
+  none_given first second = (
+    few_read former former_stopped former_allowance first first [] [] (none_read former former_stopped former_allowance first),
+    few_read content has_stopped allowance second second [] [] (none_read content has_stopped allowance second),
+  )
+
   -- memory ran out before a file was read
   pub no_memory_for_pairs : (first : F) (second : S) (out : K) → EndsPairs former former_stopped former_allowance content has_stopped allowance taken is_failed work first first second second out out
       (Err (record { side = First; interruption = record { fault = Take OutOfMemory; answered = 0 } }))
-  no_memory_for_pairs first second out = (([], giving.Took-nothing former former_stopped former_allowance first), ([], giving.Took-nothing content has_stopped allowance second), nothing_put first second out)
+  no_memory_for_pairs first second out = (([], giving.Took-nothing former former_stopped former_allowance first), ([], giving.Took-nothing content has_stopped allowance second), none_given first second, nothing_put first second out)
 
   -- the words are refused, and the one answer was put, or a front of it
   module _ (first : F) (second : S) (out out' : K) (answer : Answer) (none : ¬ ReadsInput work) (is : IsAnswer work [] answer) where
@@ -69,20 +76,23 @@ module _ {F S K : Type 0} (former : F → Option (List ℕ)) (former_stopped : F
         → EndsPairs former former_stopped former_allowance content has_stopped allowance taken is_failed work first first second second out out' (Err (record { side = First; interruption = e }))
     refused_pairs_part e puts =
         let P : Interruption → Type 0 = λ i. EndsPairs former former_stopped former_allowance content has_stopped allowance taken is_failed work first first second second out out' (Err (record { side = First; interruption = i })) in
-        subst P (sym puts.0) (record {
-          firsts = [];
-          seconds = [];
-          statuses = [];
-          before = [];
-          many = refl;
-          answers = pairs.together;
-          status = answer.status;
-          output = answer.output.items;
-          next = refused_alone answer.status answer.output.items none refl is.0;
-          shown = puts.1.0;
-          short = puts.1.1;
-          put = puts.1.2;
-        })
+        subst P (sym puts.0) (
+          none_given first second,
+          record {
+            firsts = [];
+            seconds = [];
+            statuses = [];
+            before = [];
+            many = refl;
+            answers = pairs.together;
+            status = answer.status;
+            output = answer.output.items;
+            next = refused_alone answer.status answer.output.items none refl is.0;
+            shown = puts.1.0;
+            short = puts.1.1;
+            put = puts.1.2;
+          },
+        )
 
   -- all pairs were answered, and how many with which status is told
   pub told_pairs : (first : F) (second : S) (out out' : K) (all : Compared) (report : Report) → ReadsInput work

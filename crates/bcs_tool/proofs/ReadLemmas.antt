@@ -1,18 +1,18 @@
 -- The lines of one input, from one to the next.
-use Rattle.std.proofs.Common.{◌≡◌, ◌⊎◌, ◌≤◌, ◌<◌, ◌+◌, ◌^◌, ◌++◌, ◌∙◌, inl, inr, ℕ, Bool, true, false, List, [], ◌∷◌, Option, ap, append_assoc, append-nil, arith, length, length-append, refl, sym}
+use Rattle.std.proofs.Common.{◌≡◌, ◌⊎◌, ◌≤◌, ◌<◌, ◌+◌, ◌^◌, ◌++◌, ◌∙◌, inl, inr, ℕ, Bool, true, false, List, [], ◌∷◌, Option, ap, append_assoc, append-nil, arith, length, length-append, refl, subst, sym}
 use Rattle.std.specs.Prelude.{IfSome}
 use Rattle.std.proofs.lemmas.List.Elements.{All-nil, All-push}
 use Rattle.bcs_io.specs.Giving as source
 use Rattle.bcs_io.proofs.GivingLemmas as giving
-use Rattle.bcs_io.specs.Advancing.{HasNoLine, IsLastLine, IsTooLong, TakesLine}
+use Rattle.bcs_io.specs.Advancing.{FailsInLine, HasNoLine, IsLastLine, IsTooLong, TakesLine}
 use Rattle.bcs_io.specs.Held.{Held}
 use Rattle.bcs_io.specs.Lines.{HasNoLineFeed, before_block, line_feeds, lines_of}
-use Rattle.bcs_io.proofs.Ahead.{short_ahead}
+use Rattle.bcs_io.proofs.Ahead.{block_behind, short_ahead}
 use Rattle.bcs_io.proofs.FeedLemmas.{feeds_append, feeds_before_block, feeds_none}
 use Rattle.bcs_tool_command_line.specs.Files.{IsContent, size_limit}
 use Rattle.bcs_tool.specs.Lines.{AreRead, StandBefore}
 use Rattle.bcs_tool.specs.PairLines.{ReadsOn}
-use Rattle.bcs_tool.specs.Pairs.{AreAll, GaveLine}
+use Rattle.bcs_tool.specs.Pairs.{AreAll, BrokeInLine, GaveFew, GaveLine}
 use Rattle.bcs_tool.specs.Running.{AreFirst, IsLongBehind}
 use Rattle.bcs_tool.proofs.LineLemmas.{all_within, end_past, stand_all, stand_end, stand_first, stand_last, stand_line, stand_long, stand_nothing, stand_past, stand_some, stand_within}
 
@@ -41,6 +41,13 @@ module _ {S : Type 0} (content : S → Option (List ℕ)) (has_stopped : S → B
 
   pub first_read : (input now : S) (lines : List (List ℕ)) (rest : List ℕ) → AreRead content has_stopped allowance input now lines rest → AreFirst (content input) lines
   first_read input now lines rest read = stand_first (content input) (content now) lines rest read.stand
+
+  pub few_read : (input now : S) (lines : List (List ℕ)) (rest : List ℕ) → AreRead content has_stopped allowance input now lines rest → GaveFew content has_stopped allowance input now (length lines)
+  few_read input now lines rest read = (
+    read.given,
+    read.took,
+    omega (arith, ap (λ (t : List ℕ). line_feeds (before_block t)) read.parts, feeds_before_block read.front rest (short_ahead rest read.ahead), read.few),
+  )
 
   -- a line took a byte at least
   pub line_room : (now later : S) (before after : Held) → TakesLine content has_stopped allowance size_limit now later before after
@@ -127,15 +134,47 @@ module _ {S : Type 0} (content : S → Option (List ℕ)) (has_stopped : S → B
     gave given took = (read.given ++ given, giving.Took-then content has_stopped allowance input now later read.given given read.took took)
 
     -- behind the lines no whole one was given
-    pub gave_none : (given : List ℕ) → HasNoLineFeed (before.rest ++ given) → line_feeds (read.given ++ given) ≤ length lines
+    gave_none : (given : List ℕ) → HasNoLineFeed (before.rest ++ given) → line_feeds (read.given ++ given) ≤ length lines
     gave_none given plain =
         omega (arith, ap line_feeds read.parts, feeds_append read.given given, feeds_append read.front before.rest, feeds_append before.rest given, feeds_none (before.rest ++ given) plain, read.few)
 
+    pub broke_in_line : FailsInLine content has_stopped allowance size_limit now later before after → BrokeInLine content has_stopped allowance input later (length lines)
+    broke_in_line fails = (
+      read.given ++ fails.given,
+      giving.Lost-then content has_stopped allowance input now later read.given fails.given read.took fails.lost,
+      gave_none fails.given fails.plain,
+    )
+
     -- or none before the last block
-    pub gave_few : (given : List ℕ) → HasNoLineFeed (before_block (before.rest ++ given)) → line_feeds (before_block (read.given ++ given)) ≤ length lines
+    gave_few : (given : List ℕ) → HasNoLineFeed (before_block (before.rest ++ given)) → line_feeds (before_block (read.given ++ given)) ≤ length lines
     gave_few given ahead =
         let parts : read.given ++ given ≡ read.front ++ (before.rest ++ given) = ap (λ (t : List ℕ). t ++ given) read.parts ∙ append_assoc read.front before.rest given in
         omega (arith, ap (λ (t : List ℕ). line_feeds (before_block t)) parts, feeds_before_block read.front (before.rest ++ given) ahead, read.few)
+
+    pub few_given : (given : List ℕ) → source.Took content has_stopped allowance now later given → HasNoLineFeed (before_block (before.rest ++ given))
+        → GaveFew content has_stopped allowance input later (length lines)
+    few_given given took ahead = (read.given ++ given, giving.Took-then content has_stopped allowance input now later read.given given read.took took, gave_few given ahead)
+
+    -- the next line was read, and none before the last block stands behind it
+    line_ahead : (takes : TakesLine content has_stopped allowance size_limit now later before after) → HasNoLineFeed (before_block (before.rest ++ takes.given))
+    line_ahead takes = go takes.parts
+      where
+        go : (before.rest ++ takes.given ≡ after.line ++ 10 ∷ after.rest) ⊎ IsLastLine content has_stopped allowance later (before.rest ++ takes.given) after
+            → HasNoLineFeed (before_block (before.rest ++ takes.given))
+        go (inl parts) =
+            subst (λ (t : List ℕ). HasNoLineFeed (before_block t)) (sym parts)
+            (block_behind after.line (10 ∷ after.rest) takes.plain (omega (arith, takes.ahead (short_ahead before.rest read.ahead))))
+        go (inr last) =
+            subst (λ (t : List ℕ). HasNoLineFeed (before_block t)) (append-nil after.line ∙ sym last.line)
+            (block_behind after.line [] takes.plain (omega arith))
+
+    -- and so where no line is left
+    pub few_behind : (has_line : Bool) → ReadsOn content has_stopped allowance has_line now later before after → GaveFew content has_stopped allowance input later (length lines)
+    few_behind true takes = few_given takes.given takes.took (line_ahead takes)
+    few_behind false ends = few_given [] ends.took (subst (λ (t : List ℕ). HasNoLineFeed (before_block (t ++ []))) (sym ends.none_left) refl)
+
+    pub few_long : IsTooLong content has_stopped allowance size_limit now later before after → GaveFew content has_stopped allowance input later (length lines)
+    few_long long = few_given long.given long.took (long.ahead (short_ahead before.rest read.ahead))
 
     -- the next line was given, or none is left
     pub gave_line : (has_line : Bool) → ReadsOn content has_stopped allowance has_line now later before after → GaveLine content has_stopped allowance input later (length lines)

@@ -1,14 +1,11 @@
 -- A run over lines, from one line to the next.
-use Rattle.std.proofs.Common.{◌≡◌, ◌⊎◌, ◌≤◌, ◌<◌, ◌+◌, ◌^◌, ◌++◌, ◌∙◌, inl, inr, ℕ, Bool, List, [], ◌∷◌, Err, Option, append-nil, arith, length, refl, subst, sym, take}
+use Rattle.std.proofs.Common.{◌≡◌, ◌<◌, ◌+◌, ◌^◌, ◌++◌, ◌∙◌, inl, inr, ℕ, Bool, true, List, [], ◌∷◌, Err, Option, arith, length, refl, subst, sym, take}
 use Rattle.std.specs.Prelude.{IfSome}
 use Rattle.bcs_io.specs.Giving as source
 use Rattle.bcs_io.specs.Taking as sink
-use Rattle.bcs_io.proofs.GivingLemmas as giving
 use Rattle.bcs_io.proofs.TakingLemmas as taking
-use Rattle.bcs_io.specs.Advancing.{FailsInLine, HasNoLine, IsLastLine, IsTooLong, RunsOut, TakesLine}
+use Rattle.bcs_io.specs.Advancing.{FailsInLine, HasNoLine, IsTooLong, RunsOut, TakesLine}
 use Rattle.bcs_io.specs.Held.{Held}
-use Rattle.bcs_io.specs.Lines.{HasNoLineFeed, before_block, line_feeds}
-use Rattle.bcs_io.proofs.Ahead.{block_behind, short_ahead}
 use Rattle.bcs_io.specs.declared.next_fault.NextFault.{NextFault}
 use Rattle.bcs_io.specs.declared.next_fault.NextFault.TheVariants as next_fault
 use Rattle.bcs_tool_answers.specs.Answers.{Answers}
@@ -18,11 +15,12 @@ use Rattle.bcs_tool_command_line.specs.Files.{size_limit}
 use Rattle.bcs_tool_command_line.specs.declared.taking.TakeFault.{TakeFault}
 use Rattle.bcs_tool_command_line.specs.declared.work.Work.{Work}
 use Rattle.bcs_tool.specs.Lines.{AllAnswered, IsSoFar, IsTally}
+use Rattle.bcs_tool.specs.Pairs.{BrokeInLine, GaveFew}
 use Rattle.bcs_tool.specs.Running.{FailsAt, HasLines, IsLongBehind, IsTooLarge, IsUnhurt, PutBefore, PutFront, PutPart, PutsLine, ReadsNoFurther, StopsInLine, of_next}
 use Rattle.bcs_tool.specs.declared.run_fault.RunFault.{RunFault}
 use Rattle.bcs_tool.specs.declared.run_fault.RunFault.TheVariants.{Take, Write}
 use Rattle.bcs_tool.specs.declared.tally.Tally.{Tally}
-use Rattle.bcs_tool.proofs.ReadLemmas.{all_read, first_read, gave, gave_few, gave_none, line_read, long_behind, none_read, room_for_one}
+use Rattle.bcs_tool.proofs.ReadLemmas.{all_read, broke_in_line, few_behind, few_given, few_long, first_read, gave, line_read, long_behind, none_read, room_for_one}
 
 module _ {S K : Type 0} (content : S → Option (List ℕ)) (has_stopped : S → Bool) (allowance : S → ℕ)
     (taken : K → Option (List ℕ)) (is_failed : K → Bool) (work : Work) where
@@ -108,35 +106,16 @@ module _ {S K : Type 0} (content : S → Option (List ℕ)) (has_stopped : S →
 
     -- no whole line was given behind those that were answered
     pub stops_in_line : FailsInLine content has_stopped allowance size_limit now later before after → StopsInLine content has_stopped allowance taken is_failed work input later tally.answered
-    stops_in_line fails by_line = (
-      far.read.given ++ fails.given,
-      giving.Lost-then content has_stopped allowance input now later far.read.given fails.given far.read.took fails.lost,
-      subst (λ (n : ℕ). line_feeds (far.read.given ++ fails.given) ≤ n) answered_many
-          (gave_none content has_stopped allowance input now later far.lines before after far.read fails.given fails.plain),
-    )
+    stops_in_line fails by_line =
+        subst (λ (n : ℕ). BrokeInLine content has_stopped allowance input later n) answered_many
+        (broke_in_line content has_stopped allowance input now later far.lines before after far.read fails)
 
     -- or none before the last block
-    no_further : (given : List ℕ) → source.Took content has_stopped allowance now later given → HasNoLineFeed (before_block (before.rest ++ given))
-        → ReadsNoFurther content has_stopped allowance taken is_failed work input later tally.answered
-    no_further given took ahead by_line = (
-      far.read.given ++ given,
-      giving.Took-then content has_stopped allowance input now later far.read.given given far.read.took took,
-      subst (λ (n : ℕ). line_feeds (before_block (far.read.given ++ given)) ≤ n) answered_many
-          (gave_few content has_stopped allowance input now later far.lines before after far.read given ahead),
-    )
+    no_further : GaveFew content has_stopped allowance input later (length far.lines) → ReadsNoFurther content has_stopped allowance taken is_failed work input later tally.answered
+    no_further few by_line = subst (λ (n : ℕ). GaveFew content has_stopped allowance input later n) answered_many few
 
-    -- the next line was read, and none before the last block stands behind it
     no_line_further : TakesLine content has_stopped allowance size_limit now later before after → ReadsNoFurther content has_stopped allowance taken is_failed work input later tally.answered
-    no_line_further takes = no_further takes.given takes.took (go takes.parts)
-      where
-        go : (before.rest ++ takes.given ≡ after.line ++ 10 ∷ after.rest) ⊎ IsLastLine content has_stopped allowance later (before.rest ++ takes.given) after
-            → HasNoLineFeed (before_block (before.rest ++ takes.given))
-        go (inl parts) =
-            subst (λ (t : List ℕ). HasNoLineFeed (before_block t)) (sym parts)
-            (block_behind after.line (10 ∷ after.rest) takes.plain (omega (arith, takes.ahead (short_ahead before.rest far.read.ahead))))
-        go (inr last) =
-            subst (λ (t : List ℕ). HasNoLineFeed (before_block t)) (append-nil after.line ∙ sym last.line)
-            (block_behind after.line [] takes.plain (omega arith))
+    no_line_further takes = no_further (few_behind content has_stopped allowance input now later far.lines before after far.read true takes)
 
     -- a front of the answer to the line was put
     pub put_part : (out'' : K) (status : ℕ) (output : List ℕ) → HasLines work → TakesLine content has_stopped allowance size_limit now later before after
@@ -173,9 +152,9 @@ module _ {S K : Type 0} (content : S → Option (List ℕ)) (has_stopped : S →
             → (fault ≡ next_fault.OutOfMemory → RunsOut content has_stopped allowance now later before)
             → FailsAt content has_stopped allowance taken is_failed work input later out out' (of_next fault) tally.answered
         go next_fault.Read read long memory = (by_line.1, (read refl).lost.after, stops_in_line (read refl), put_before by_line)
-        go next_fault.TooLong read long memory = (by_line.1, too_large by_line (long refl), no_further (long refl).given (long refl).took ((long refl).ahead (short_ahead before.rest far.read.ahead)), put_before by_line)
+        go next_fault.TooLong read long memory = (by_line.1, too_large by_line (long refl), no_further (few_long content has_stopped allowance input now later far.lines before after far.read (long refl)), put_before by_line)
         go next_fault.OutOfMemory read long memory =
-            let ran = memory refl in (unhurt by_line ran.given ran.took, no_further ran.given ran.took ran.ahead, put_before by_line)
+            let ran = memory refl in (unhurt by_line ran.given ran.took, no_further (few_given content has_stopped allowance input now later far.lines before after far.read ran.given ran.took ran.ahead), put_before by_line)
 
     -- the answer to the line was not put
     pub fails_put : (out'' : K) (fault : RunFault) → HasLines work → TakesLine content has_stopped allowance size_limit now later before after

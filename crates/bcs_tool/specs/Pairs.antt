@@ -1,8 +1,8 @@
 -- What comes of two files that are compared line by line: what is put of the answers, and why that isn't all of them.
-use Rattle.std.specs.Prelude.{◌≡◌, ◌⊎◌, ◌<◌, ◌+◌, ◌++◌, ℕ, List, [], ◌∷◌, Bool, true, IfSome, Option, Result, Ok, Err, codes, length, take}
+use Rattle.std.specs.Prelude.{◌≡◌, ◌⊎◌, ◌≤◌, ◌<◌, ◌+◌, ◌++◌, ℕ, List, [], ◌∷◌, Bool, true, IfSome, Option, Result, Ok, Err, codes, length, take}
 use Rattle.bcs_io.specs.Giving as source
 use Rattle.bcs_io.specs.Taking as sink
-use Rattle.bcs_io.specs.Lines.{lines_of}
+use Rattle.bcs_io.specs.Lines.{before_block, line_feeds, lines_of}
 use Rattle.bcs_tool_answers.specs.Answers.{Answers, line_of}
 use Rattle.bcs_tool_answers.specs.Judging.{ReadsInput}
 use Rattle.bcs_tool_answers.specs.LineAnswers.{greatest}
@@ -62,6 +62,15 @@ module _ {S : Type 0} (content : S → Option (List ℕ)) (has_stopped : S → B
     pub within : IfSome (content old) (λ all. ¬ IsLongBehind count all)
     pub past : IfSome (content old) (λ all. IfSome (content new) (IsPast count all))
 
+  -- before the last block that it gave stands no whole line behind so many: no block is asked for before the lines of the
+  -- one before are answered
+  abbrev pub GaveFew : S → S → ℕ → Type 0
+  GaveFew old new count = (given : List ℕ) × source.Took content has_stopped allowance old new given × (line_feeds (before_block given) ≤ count)
+
+  -- it gave no whole line behind so many, and then a call failed
+  abbrev pub BrokeInLine : S → S → ℕ → Type 0
+  BrokeInLine old new count = (given : List ℕ) × source.Lost content has_stopped allowance old new given × (line_feeds given ≤ count)
+
 -- ---- the run
 
 module _ {F S K : Type 0} (former : F → Option (List ℕ)) (former_stopped : F → Bool) (former_allowance : F → ℕ)
@@ -107,16 +116,28 @@ module _ {F S K : Type 0} (former : F → Option (List ℕ)) (former_stopped : F
   IsAtFaultAlone First first first' second second' count = Gave content has_stopped allowance second second'
   IsAtFaultAlone Second first first' second second' count = GaveLine former former_stopped former_allowance first first' count
 
+  -- neither file was read further than to the line behind so many, but for the rest of a block
+  abbrev pub BothGaveFew : F → F → S → S → ℕ → Type 0
+  BothGaveFew first first' second second' count = GaveFew former former_stopped former_allowance first first' count
+      × GaveFew content has_stopped allowance second second' count
+
+  -- nor before the file of this side failed
+  abbrev pub BrokeAt : Side → F → F → S → S → ℕ → Type 0
+  BrokeAt First first first' second second' count = BrokeInLine former former_stopped former_allowance first first' count
+      × GaveFew content has_stopped allowance second second' count
+  BrokeAt Second first first' second second' count = GaveFew former former_stopped former_allowance first first' count
+      × BrokeInLine content has_stopped allowance second second' count
+
   -- the run stopped with this fault, behind so many pairs; a file that failed or has a long line is that of this side, and
   -- A's, where both have
   abbrev pub FailsPairsAt : Work → F → F → S → S → K → K → Side → RunFault → ℕ → Type 0
   FailsPairsAt work first first' second second' out out' side (Take Read) count = ReadsInput work × HasStopped side first' second' × IsAtFaultAlone side first first' second second' count
-      × PutPairs work first second out out' count
+      × BrokeAt side first first' second second' count × PutPairs work first second out out' count
   FailsPairsAt work first first' second second' out out' side (Take TooLarge) count = ReadsInput work × IsLongAt side first second count × IsAtFaultAlone side first first' second second' count
-      × PutPairs work first second out out' count
+      × BothGaveFew first first' second second' count × PutPairs work first second out out' count
   FailsPairsAt work first first' second second' out out' side (Take OutOfMemory) count = Gave former former_stopped former_allowance first first'
-      × Gave content has_stopped allowance second second' × PutPairs work first second out out' count
-  FailsPairsAt work first first' second second' out out' side Write count = PutPairPart work first second out out' count
+      × Gave content has_stopped allowance second second' × BothGaveFew first first' second second' count × PutPairs work first second out out' count
+  FailsPairsAt work first first' second second' out out' side Write count = BothGaveFew first first' second second' count × PutPairPart work first second out out' count
 
   -- the answers to all pairs were put
   pub record AreCompared (work : Work) (first : F) (second : S) (out out' : K) (report : Report) : Type 0 where

@@ -1,5 +1,5 @@
 -- An answer of an equal status and equal output, and what is asked of an input.
-use Rattle.std.proofs.Common.{◌≡◌, ◌≢◌, ◌≤◌, ◌<◌, ◌⊎◌, Err, IfSome, List, Ok, Option, Some, arith, inl, inr, length, subst, sym, true, ℕ}
+use Rattle.std.proofs.Common.{◌≡◌, ◌≢◌, ◌≤◌, ◌<◌, ◌⊎◌, ◌++◌, [], Err, IfSome, List, Ok, Option, Some, arith, inl, inr, length, subst, sym, true, ℕ}
 use Rattle.bcs_registry_model.specs.Container.{Entries}
 use Rattle.bcs_registry_model.specs.Shape.{Shape}
 use Rattle.bcs_registry_model.specs.View.{shape_of}
@@ -38,12 +38,27 @@ places_of : {work : Work} {input place : List ℕ} → Tells work place → Plac
 places_of (inl none) = nothing none
 places_of (inr line) = told line.0 line.1
 
--- an answer of this status and this output, with a place that may be told beside it
+-- an answer of this status and this output, with a place that may be told beside it, behind a list
+pub behind_list : (work : Work) (list input : List ℕ) (s : ℕ) (p : List ℕ) (a : Answer) → a.status ≡ s → a.output.items ≡ p → Tells work a.place.items
+    → Answers work input s (list ++ p) → Answers work input a.status (list ++ a.output.items) × Places work input a.place.items
+behind_list work list input s p a same_status same_output tells is = (
+  subst (λ (n : ℕ). Answers work input n (list ++ a.output.items)) (sym same_status)
+      (subst (λ (bytes : List ℕ). Answers work input s (list ++ bytes)) (sym same_output) is),
+  places_of tells,
+)
+
+-- behind none
 pub placed_answer : (work : Work) (input : List ℕ) (s : ℕ) (p : List ℕ) (a : Answer) → a.status ≡ s → a.output.items ≡ p → Tells work a.place.items
     → Answers work input s p → IsAnswer work input a
-placed_answer work input s p a same_status same_output tells is = (
-  subst (λ (n : ℕ). Answers work input n a.output.items) (sym same_status) (subst (λ (bytes : List ℕ). Answers work input s bytes) (sym same_output) is),
-  places_of tells,
+placed_answer work input s p a same_status same_output tells is = behind_list work [] input s p a same_status same_output tells is
+
+-- with the list
+pub listed_answer : (work : Work) (list input : List ℕ) (verdict a : Answer) → a.status ≡ verdict.status → a.place.items ≡ verdict.place.items
+    → a.output.items ≡ list ++ verdict.output.items
+    → Answers work input verdict.status (list ++ verdict.output.items) × Places work input verdict.place.items → IsAnswer work input a
+listed_answer work list input verdict a same_status same_place same_output is = (
+  subst (λ (n : ℕ). Answers work input n a.output.items) (sym same_status) (subst (λ (bytes : List ℕ). Answers work input verdict.status bytes) (sym same_output) is.0),
+  subst (λ (place : List ℕ). Places work input place) (sym same_place) is.1,
 )
 
 -- what is printed answers, and there is no place

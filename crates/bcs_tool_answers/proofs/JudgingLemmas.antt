@@ -4,16 +4,10 @@ use Rattle.std.specs.Result.{IsErrAnd}
 use Rattle.std.proofs.lemmas.Result.{err_from_is_err_and}
 use Rattle.bcs_registry_model.specs.declared.fault.RegistryFault.{RegistryFault}
 use Rattle.bcs_registry_model.specs.declared.fault.RegistryFault.TheVariants.{OutOfMemory}
-use Rattle.bcs_registry_model.specs.declared.growth_fault.GrowthFault.{GrowthFault}
 use Rattle.bcs_tool_answers.specs.declared.job_fault.JobFault.{JobFault}
-use Rattle.bcs_tool_answers.specs.declared.job_fault.JobFault.TheVariants.{Registry, Growth}
+use Rattle.bcs_tool_answers.specs.declared.job_fault.JobFault.TheVariants.{Registry}
 
 pub refused_by_registry : {T : Type 0} (P : JobFault → Type 0) (r : Result T JobFault) (fault : RegistryFault) → IsErrAnd r (λ e. e ≡ Registry fault)
     → (fault ≢ OutOfMemory → P (Registry fault)) → IfErr r (λ e. e ≢ Registry OutOfMemory → P e)
 refused_by_registry P r fault is why =
     let p = err_from_is_err_and r is in rw p.1 (λ differs. subst P (sym p.2) (why (λ memory. differs (p.2 ∙ ap Registry memory))))
-
-pub refused_by_growth : {T : Type 0} (P : JobFault → Type 0) (r : Result T JobFault) (fault : GrowthFault) → IsErrAnd r (λ e. e ≡ Growth fault)
-    → P (Growth fault) → IfErr r (λ e. e ≢ Registry OutOfMemory → P e)
-refused_by_growth P r fault is why =
-    let p = err_from_is_err_and r is in rw p.1 (λ differs. subst P (sym p.2) why)

@@ -1,11 +1,13 @@
 -- What the words of a job come to, before its input is read.
-use Rattle.std.specs.Prelude.{◌≡◌, ℕ, List, string_bytes, true}
+use Rattle.std.specs.Prelude.{◌≡◌, ◌++◌, ℕ, List, string_bytes, true}
 use Rattle.bcs_registry_model.specs.View.{shape_of}
 use Rattle.bcs_registry_model.specs.WellFormed.{Admits}
 use Rattle.bcs_decode_parts.specs.PathSteps.{all_spelled}
 use Rattle.bcs_tool_command_line.specs.declared.work.Work.{Work}
 use Rattle.bcs_tool_answers.specs.Judging.{Asks, IsPath, ReadsInput, works_on_values}
-use Rattle.bcs_tool_answers.specs.Places.{IsAnswer}
+use Rattle.bcs_tool_answers.specs.Answers.{Answers, Lists}
+use Rattle.bcs_tool_answers.specs.Places.{IsAnswer, Places}
+use Rattle.bcs_tool_answers.specs.declared.answer.Answer.{Answer}
 use Rattle.bcs_tool_answers.specs.declared.judging.Asked.{Asked}
 use Rattle.bcs_tool_answers.specs.declared.preparing.Prepared.{Prepared}
 use Rattle.bcs_tool_answers.specs.declared.preparing.Prepared.TheVariants as prepared
@@ -16,6 +18,11 @@ pub record IsAskedBy (work : Work) (asked : Asked) : Type 0 where
   pub asks : Asks work asked.registry (shape_of asked.format)
   pub admitted : Admits asked.registry (shape_of asked.format)
   pub path : IsPath work.command (string_bytes work.path) (all_spelled asked.path.items)
+
+-- behind any list that may stand before a verdict on growth it answers the job, whatever the input
+abbrev pub IsVerdict : Work → Answer → Type 0
+IsVerdict work a = (list input : List ℕ) → Lists work.list list
+    → Answers work input a.status (list ++ a.output.items) × Places work input a.place.items
 
 -- the job reads no input and has this answer, whatever the input; or it asks for this of its input
 abbrev pub IsPrepared : Work → Prepared → Type 0

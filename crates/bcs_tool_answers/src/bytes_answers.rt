@@ -8,12 +8,12 @@ ghost use Rattle.bcs_tool_answers.specs.Preparing.{IsAskedBy};
 use crate::answer::{Answer, damaged, found, nowhere, refused, shown, unplaced};
 use crate::blanks::without_blanks;
 use crate::judging::Asked;
-use crate::scan_answers::{answer_scan, scanned};
+use crate::scan_answers::answer_scan;
 use crate::stop_answers::answer_stop;
 use bcs_decode::part;
 use bcs_decode_parts::steps_of;
 use bcs_json::{FromFault, from_bcs};
-use bcs_look_pieces::explain_text;
+use bcs_look_pieces::{Explanation, explain_text};
 use bcs_tool_command_line::{Command, Work};
 use hex::FromHexError;
 use std::alloc::{AllocError, Global};
@@ -97,8 +97,7 @@ fn answer_decode(
     }
 }
 
-// The pieces of the value whose bytes these are; where they are none, those before they stop being one. The status is that
-// of a scan of them all.
+// The pieces of the value whose bytes these are; where they are none, those before they stop being one.
 fn answer_explain(
     alloc: Global,
     work: &Work,
@@ -114,10 +113,11 @@ fn answer_explain(
         format,
         ..
     } = asked;
-    let explanation = explain_text(alloc, registry, format, &work.limits, work.style, bytes)?;
-    match scanned(work, asked, bytes, false) {
-        Ok(_) => Ok(unplaced(alloc, 0, explanation.text)),
-        Err(stop) => damaged(alloc, work.style.form, explanation.text, stop),
+    let explained = explain_text(alloc, registry, format, &work.limits, work.style, bytes)?;
+    let Explanation { text, stop } = explained;
+    match stop {
+        None => Ok(unplaced(alloc, 0, text)),
+        Some(stop) => damaged(alloc, work.style.form, text, stop),
     }
 }
 

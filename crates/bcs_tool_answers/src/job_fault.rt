@@ -71,14 +71,3 @@ impl From<PathFault> for JobFault {
         }
     }
 }
-
-impl From<GrowthFault> for JobFault {
-    ghost use Rattle.std.specs.Prelude.{◌≡◌};
-    ghost use Rattle.bcs_tool_answers.specs.declared.job_fault.JobFault.TheVariants.{Growth};
-
-    ghost from_gives = { λ fault result. result ≡ Growth fault };
-
-    fn from(fault: GrowthFault) -> JobFault {
-        JobFault::Growth(fault)
-    }
-}

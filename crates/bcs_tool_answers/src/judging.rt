@@ -1,7 +1,6 @@
 //! What is judged of a job before its input is read: its registries, then the format, and then the path.
-ghost use Rattle.std.specs.Prelude.{◌≡◌, ◌≢◌, ℕ, length, string_bytes, true, Err, IfOk, IfErr, OnOk};
+ghost use Rattle.std.specs.Prelude.{◌≡◌, ◌≢◌, ℕ, length, string_bytes, true, Err, IfOk, IfErr};
 ghost use Rattle.bcs_registry_model.specs.Container.{Entries};
-ghost use Rattle.bcs_registry_model.specs.Grows.{Grows};
 ghost use Rattle.bcs_registry_model.specs.Shape as shape;
 ghost use Rattle.bcs_registry_model.specs.View.{shape_of};
 ghost use Rattle.bcs_registry_model.specs.WellFormed.{Admits};
@@ -26,16 +25,15 @@ pub fn judge_check(alloc: Global, work: &Work) -> Result<usize, JobFault>
     Ok(registry.len())
 }
 
-/// Finds whether the older registry has grown into the newer. A fault of the older comes before one of the newer.
-pub fn judge_growth(alloc: Global, work: &Work) -> Result<(), JobFault>
-    ensures ok { OnOk result ((older : Entries) × (newer : Entries) × IsRegistry work.now.registry.items older
-        × IsRegistry work.now.second.items newer × Grows older newer) }
+/// The older and the newer registry. A fault of the older comes before one of the newer.
+pub fn judge_pair(alloc: Global, work: &Work) -> Result<(Registry, Registry), JobFault>
+    ensures older { IfOk result (λ p. IsRegistry work.now.registry.items p.0) }
+    ensures newer { IfOk result (λ p. IsRegistry work.now.second.items p.1) }
     ensures fault { IfErr result (λ e. e ≢ JobFault.Registry OutOfMemory → RefusesGrowth work.now e) }
 {
     let older = Registry::read(alloc, work.registry.as_slice())?;
     let newer = Registry::read(alloc, work.second.as_slice())?;
-    older.grows(&newer)?;
-    Ok(())
+    Ok((older, newer))
 }
 
 /// Values of which format of a registry a job works on, and which steps into them it takes.

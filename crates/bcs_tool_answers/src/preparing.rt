@@ -4,10 +4,10 @@ ghost use Rattle.bcs_tool_answers.specs.Judging.{works_on_values};
 ghost use Rattle.bcs_tool_answers.specs.Places.{IsAnswer};
 ghost use Rattle.bcs_tool_answers.specs.Preparing.{IsPrepared};
 
-use crate::answer::{Answer, counted, told};
+use crate::answer::{Answer, counted};
 use crate::examples::answer_example;
-use crate::judging::{Asked, judge_asked, judge_check, judge_growth};
-use crate::listing::listed;
+use crate::growing::answer_growth;
+use crate::judging::{Asked, judge_asked, judge_check};
 use crate::refusing::refused_words;
 use crate::showing::answer_show;
 use bcs_tool_command_line::{Command, Work};
@@ -48,17 +48,6 @@ fn answer_check(alloc: Global, work: &Work) -> Result<Answer, AllocError>
 {
     match judge_check(alloc, work) {
         Ok(count) => counted(alloc, count),
-        Err(fault) => refused_words(alloc, work, fault),
-    }
-}
-
-// Whether the older registry has grown into the newer, whatever the input.
-fn answer_growth(alloc: Global, work: &Work) -> Result<Answer, AllocError>
-    requires { work.now.command ≡ Command.Grows }
-    ensures { IfOk result (λ a. (bytes : List ℕ) → IsAnswer work.now bytes a) }
-{
-    match judge_growth(alloc, work) {
-        Ok(()) => listed(alloc, work, work.list, told(alloc, 0, "grows")?),
         Err(fault) => refused_words(alloc, work, fault),
     }
 }

@@ -6,7 +6,6 @@ ghost use Rattle.bcs_tool_answers.specs.Places.{IsAnswer};
 
 use crate::answer::{Answer, placed};
 use crate::job_fault::JobFault;
-use crate::listing::{has_list, listed};
 use crate::word_places::place_of_words;
 use bcs_tool_command_line::Work;
 use std::alloc::{AllocError, Global};
@@ -18,6 +17,5 @@ pub fn refused_words(alloc: Global, work: &Work, fault: JobFault) -> Result<Answ
     ensures answers { IfOk result (λ a. (bytes : List ℕ) → IsAnswer work.now bytes a) }
 {
     let place = place_of_words(alloc, work, fault);
-    let answer = placed(fault.answer(alloc)?, place);
-    listed(alloc, work, has_list(work, fault), answer)
+    Ok(placed(fault.answer(alloc)?, place))
 }

@@ -34,22 +34,22 @@ pub fn answer_scan(
     requires asked { IsAskedBy work.now asked.now }
     ensures { IfOk result (λ a. AnswersBytes work.now bytes.now a) }
 {
-    match scanned(work, asked, bytes, work.front) {
+    match scanned(work, asked, bytes) {
         Ok(count) => counted(alloc, count),
         Err(stop) => answer_stop(alloc, work, asked, bytes, stop),
     }
 }
 
-/// How many bytes the value has: all of these, unless the front alone is asked for. No memory is taken.
-pub fn scanned(work: &Work, asked: &Asked, bytes: &[u8], front: bool) -> Result<usize, Stop>
+// How many bytes the value has: all of these, unless the front alone is asked for.
+fn scanned(work: &Work, asked: &Asked, bytes: &[u8]) -> Result<usize, Stop>
     requires asked { IsAskedBy work.now asked.now }
     ensures found { IfOk result (λ n. ((c : Tree) × Accepts asked.now.registry work.now.limits (shape_of asked.now.format) bytes.now n c)
-        × (front ≡ false → n ≡ length bytes.now)) }
-    ensures stops { IfErr result (λ stop. ScanStops front asked.now.registry work.now.limits (shape_of asked.now.format)
+        × (work.now.front ≡ false → n ≡ length bytes.now)) }
+    ensures stops { IfErr result (λ stop. ScanStops work.now.front asked.now.registry work.now.limits (shape_of asked.now.format)
         bytes.now stop.reason stop.place) }
 {
     let count = scan(&asked.registry, &asked.format, &work.limits, bytes)?;
-    if front || count == bytes.len() {
+    if work.front || count == bytes.len() {
         return Ok(count);
     }
     Err(Stop {

@@ -29,8 +29,8 @@ pub fn answer_stop(
     Ok(placed(answer, place_of_stop(alloc, work, asked, bytes, stop)))
 }
 
-// Where these bytes stop being a value. It is empty at a quiet job and at one for lines, and where no memory is left for
-// it, since the refusal stands without it.
+// Where these bytes stop being a value. It is empty at a quiet job, and where no memory is left for it, since the refusal
+// stands without it.
 fn place_of_stop(alloc: Global, work: &Work, asked: &Asked, bytes: &[u8], stop: Stop) -> Vec<u8>
     requires { IsAskedBy work.now asked.now }
     ensures { Tells work.now result.items }

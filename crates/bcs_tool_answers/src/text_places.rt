@@ -8,8 +8,7 @@ use bcs_look_places::{place_of_text, put_text_limit, whole_line};
 use bcs_tool_command_line::Work;
 use std::alloc::Global;
 
-/// Where this text is refused, which is with this fault. It is empty at a quiet job and at one for lines, and where no
-/// memory is left for it.
+/// Where this text is refused, which is with this fault. It is empty at a quiet job, and where no memory is left for it.
 pub fn place_of_refusal(
     alloc: Global,
     work: &Work,

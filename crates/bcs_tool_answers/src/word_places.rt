@@ -4,10 +4,14 @@ ghost use Rattle.bcs_tool_answers.specs.Places.{Tells};
 use crate::job_fault::JobFault;
 use crate::judging::begins_json;
 use crate::places::{in_text, place_of_line};
-use bcs_look_places::{place_of_container, place_of_format_shape, place_of_growth, place_of_name, place_of_no_format_json, place_of_no_json, place_of_path, place_of_registry_shape, place_of_rule, place_of_word};
+use bcs_look_places::{
+    place_of_container, place_of_format_shape, place_of_growth, place_of_name,
+    place_of_no_format_json, place_of_no_json, place_of_path, place_of_registry_shape,
+    place_of_rule, place_of_word,
+};
 use bcs_registry::{Registry, RegistryFault};
 use bcs_tool_command_line::{Command, Work};
-use std::alloc::Global;
+use std::alloc::{AllocError, Global};
 
 /// Where the job's own words are refused, for this fault. It is empty at a quiet job, where the fault has no place, and
 /// where no memory is left for it.
@@ -23,6 +27,24 @@ pub fn place_of_words(alloc: Global, work: &Work, fault: JobFault) -> Vec<u8>
     }
 }
 
+/// Where the newer registry hasn't what the older one has. It is empty at a quiet job, and where no memory is left for it.
+pub fn place_of_difference(
+    alloc: Global,
+    work: &Work,
+    older: &Registry,
+    newer: &Registry,
+) -> Vec<u8>
+    ensures { Tells work.now result.items }
+{
+    if work.quiet {
+        return Vec::new(alloc);
+    }
+    match place_of_growth(alloc, older.containers(), newer.containers()) {
+        Ok(line) => place_of_line(alloc, line),
+        Err(AllocError) => Vec::new(alloc),
+    }
+}
+
 fn words_line(
     alloc: Global,
     work: &Work,
@@ -30,9 +52,7 @@ fn words_line(
 ) -> Result<Option<Vec<u8>>, RegistryFault> {
     match fault {
         JobFault::Registry(fault) => registry_line(alloc, work, fault),
-        JobFault::Growth(_) => {
-            place_of_growth(alloc, work.registry.as_slice(), work.second.as_slice())
-        }
+        JobFault::Growth(_) => Ok(None),
         JobFault::BadPath => Ok(place_of_path(alloc, work.path.as_str())?),
     }
 }

@@ -8,7 +8,7 @@ use denote.Struct.Struct.{exits_of}
 use Rattle.std.proofs.Crossing.{frees}
 use Rattle.std.proofs.alloc.Global.TheSendSync as allocator
 use Rattle.bcs_c.proofs.RegistrySend.{registry}
-use Rattle.bcs_c.proofs.Handles.{R}
+use Rattle.bcs_c.proofs.Holdings.{R}
 use Rattle.bcs_c.specs.Holding.{holds}
 use Rattle.bcs_c.specs.contracts.handle.Handle.{the_row, the_type}
 
