@@ -1,9 +1,9 @@
-"""Asks the rows of crates/test_rows and of .ci/explain.rows of a driver, and compares its answers.
+"""Asks the rows of crates/test_calls, of .ci/bcs.rows and of .ci/explain.rows of a driver, and compares its answers.
 
     python3 bindings/rows [--without KIND]... DRIVER [WORD]...
 
 A driver is a program that makes the calls of one language. README.md in bindings/ says which lines it reads and writes.
-What a row means stands in crates/test_rows/README.md. Rows that no call can say are counted by their kind.
+What a row means stands in crates/test_calls/README.md and in the head of .ci/bcs.rows. Rows that no call can say are counted by their kind.
 """
 
 import pathlib
@@ -22,14 +22,14 @@ from words import Unsayable, bytes_of, unrolled
 ROOT = pathlib.Path(__file__).resolve().parent.parent.parent
 
 
-def rows_of_tests() -> Iterator[tuple[int, str, str]]:
-    """The number of each row, the row, and the answer that stands behind it."""
-    folder = ROOT / "crates/test_rows"
-    rows, told = ((folder / name).read_text(encoding="utf-8").split("\n") for name in ("stdin", "stdout"))
-    expect(len(rows) == len(told), "stdin and stdout have as many lines")
-    for number, (row, line) in enumerate(zip(rows, told), start=1):
-        if row and not row.startswith("#"):
-            yield number, row, line.removeprefix(row + " -> ")
+def rows_of_tests() -> Iterator[tuple[str, str, str]]:
+    """Where each row stands, the row, and the answer that stands behind it."""
+    for file in ("crates/test_calls/stdout", ".ci/bcs.rows"):
+        lines = (ROOT / file).read_text(encoding="utf-8").split("\n")
+        for number, line in enumerate(lines, start=1):
+            row, arrow, answer = line.partition(" -> ")
+            if arrow and not line.startswith("#"):
+                yield f"{file}, line {number}", row, answer
 
 
 class Tally:
@@ -59,7 +59,7 @@ class Tally:
 def ask_rows(driver: Driver, tally: Tally, without: set[str]) -> None:
     registry = b"{}"
     kinds = {**KINDS, "bcs": job_row, "encode": encode_row}
-    for number, row, wanted in rows_of_tests():
+    for place, row, wanted in rows_of_tests():
         kind, *words = unrolled(row).split("\t")
         if kind == "registry":
             registry = bytes_of(words[0])
@@ -67,7 +67,7 @@ def ask_rows(driver: Driver, tally: Tally, without: set[str]) -> None:
         if asked is None or kind in without:
             tally.unsayable[kind] += 1
             continue
-        tally.judge(kind, f"line {number}: {row}", partial(asked, driver, registry, words, wanted), wanted)
+        tally.judge(kind, f"{place}: {row}", partial(asked, driver, registry, words, wanted), wanted)
 
 
 def ask_pieces(driver: Driver, tally: Tally) -> None:

@@ -4,7 +4,7 @@
     python3 tests/against_native.py COUNT DRIVER [WORD]... -- OTHER-DRIVER [WORD]...
 
 What a driver reads and writes bindings/README.md says. The changes are drawn from the values of examples/ and from
-rows of crates/test_rows, and are the same in each run.
+rows of crates/test_calls, and are the same in each run.
 """
 
 import collections
@@ -39,7 +39,7 @@ def example(registry: str, container: str, name: str) -> Seed:
 def rows() -> list[Seed]:
     """The rows `json` whose answer has the bytes."""
     seeds, registry = [], b"{}"
-    folder = ROOT / "crates/test_rows"
+    folder = ROOT / "crates/test_calls"
     lines = [(folder / name).read_text(encoding="utf-8").split("\n") for name in ("stdin", "stdout")]
     for row, told in zip(*lines):
         kind, *words = row.split("\t")

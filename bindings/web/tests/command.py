@@ -1,5 +1,5 @@
 #!/usr/bin/env python3
-"""Asks the rows `bcs ..` of crates/test_rows of the command, and compares status, output and where a refusal stands.
+"""Asks the rows `bcs ..` of .ci/bcs.rows of the command, and compares status, output and where a refusal stands.
 
     python3 tests/command.py FOLDER
 
@@ -22,7 +22,7 @@ sys.dont_write_bytecode = True
 from jobs import debug  # noqa: E402 (the folder has to be known first)
 from words import bytes_of, unrolled  # noqa: E402
 
-ROWS = HERE.parent.parent.parent / "crates/test_rows"
+ROWS = HERE.parent.parent.parent / ".ci/bcs.rows"
 WITH_INPUT = {"encode", "decode", "explain", "normalise", "same", "part", "scan"}
 BEYOND = {"--lines", "--list", "--color"}
 # Where bytes stop the module tells; where words, registries and texts are refused it doesn't.
@@ -80,9 +80,9 @@ def row_of(number: int, words: list[str], wanted: str) -> Row | None:
 
 
 def rows() -> list[Row | None]:
-    lines = [(ROWS / name).read_text(encoding="utf-8").split("\n") for name in ("stdin", "stdout")]
-    numbered = [(i, row, told[len(row) + len(" -> ") :]) for i, (row, told) in enumerate(zip(*lines), 1)]
-    return [row_of(i, unrolled(row).split("\t")[1:], wanted) for i, row, wanted in numbered if row.startswith("bcs\t")]
+    lines = enumerate(ROWS.read_text(encoding="utf-8").split("\n"), start=1)
+    numbered = [(number, *line.split(" -> ", 1)) for number, line in lines if line.startswith("bcs\t")]
+    return [row_of(number, unrolled(row).split("\t")[1:], wanted) for number, row, wanted in numbered]
 
 
 def is_right(row: Row, status: int, output: bytes, errors: str) -> bool:

@@ -5,10 +5,12 @@ use crate::question::Question;
 use crate::row_fault::RowFault;
 use crate::setting::Setting;
 use crate::value_words::value_of;
-use crate::words::word_of;
+use crate::words::{bytes, call, number, word_of};
 use bcs_decode::decode_slice;
 use bcs_encode::pieces::PieceSink;
-use bcs_encode::{EncodeFault, WriteFault, canonicalise, encode, encode_by_entries, write};
+use bcs_encode::{
+    ByteSink, EncodeFault, WriteFault, canonicalise, encode, encode_by_entries, write,
+};
 use bcs_value::{Value, same};
 use std::alloc::Global;
 
@@ -18,25 +20,84 @@ pub(crate) fn answer(
     question: &str,
     words: &[&str],
 ) -> Result<String, RowFault> {
-    let [format, value, limits @ ..] = words else {
+    let [format, value, more @ ..] = words else {
         return Err(RowFault::NotUnderstood);
     };
-    let asked = Question::read(alloc, &setting.registry, format, limits)?;
-    of_value(alloc, question, &asked, value)
+    let asked = match question {
+        "encode" | "form" => Question::read(alloc, &setting.registry, format, more)?,
+        _ => Question::read(alloc, &setting.registry, format, &[])?,
+    };
+    let value = value_of(alloc, value)?;
+    of_value(alloc, question, &asked, &value, more)
 }
 
 fn of_value(
     alloc: Global,
     question: &str,
     asked: &Question,
-    value: &str,
+    value: &Value,
+    more: &[&str],
 ) -> Result<String, RowFault> {
-    let value = value_of(alloc, value)?;
-    if question == "encode" {
-        encoded(alloc, asked, &value)
-    } else {
-        formed(alloc, asked, &value)
+    match (question, more) {
+        ("encode", _) => encoded(alloc, asked, value),
+        ("form", _) => formed(alloc, asked, value),
+        ("length", []) => length(alloc, asked, value),
+        ("deep", [wanted]) => deep(alloc, asked, value, &bytes(alloc, wanted)?),
+        ("write", [piece, fails]) => written(alloc, asked, value, [piece, fails]),
+        _ => Err(RowFault::NotUnderstood),
     }
+}
+
+// How many bytes the value has by the faster encoder.
+fn length(alloc: Global, question: &Question, value: &Value) -> Result<String, RowFault> {
+    match of_encode(alloc, question, value) {
+        Ok(bytes) => Ok(format!(in alloc; "{} bytes", bytes.len())?),
+        Err(fault) => Ok(format!(in alloc; "{fault}")?),
+    }
+}
+
+// All encoders give these bytes of a value that may be too deep to be walked beside another.
+fn deep(
+    alloc: Global,
+    question: &Question,
+    value: &Value,
+    wanted: &[u8],
+) -> Result<String, RowFault> {
+    for (name, answer) in [
+        ("encode", of_encode(alloc, question, value)),
+        ("encode_by_entries", of_entries(alloc, question, value)),
+        ("canonicalise", of_form(alloc, question, value)),
+    ] {
+        match answer {
+            Ok(bytes) if bytes.as_slice() == wanted => {}
+            _ => return Err(RowFault::Disagreement(name)),
+        }
+    }
+    Ok(format!(in alloc; "{} bytes", wanted.len())?)
+}
+
+// What is written to a sink of eight bytes that takes a piece a call, and fails from a call on.
+fn written(
+    alloc: Global,
+    question: &Question,
+    value: &Value,
+    [piece, fails]: [&str; 2],
+) -> Result<String, RowFault> {
+    let Question {
+        registry,
+        format,
+        limits,
+    } = question;
+    let piece = (number(piece)? as usize).max(1);
+    let mut sink = PieceSink::<8>::new(piece, call(fails)?);
+    let told = match write(alloc, registry, format, limits, value, &mut sink) {
+        Ok(count) => format!(in alloc; "{count}")?,
+        Err(WriteFault::Write { written }) => format!(in alloc; "Write {written}")?,
+        Err(WriteFault::Encode(fault)) => format!(in alloc; "Encode {fault}")?,
+    };
+    let taken = word_of(alloc, sink.taken())?;
+    let failed = if sink.failed() { ", failed" } else { "" };
+    Ok(format!(in alloc; "{told} {taken}{failed}")?)
 }
 
 // The canonical form, by the names that values have in code.

@@ -1,6 +1,6 @@
 //! Rows on which values have which formats.
 
-use crate::question::Question;
+use crate::question::{Question, limits_of};
 use crate::row_fault::RowFault;
 use crate::setting::Setting;
 use crate::value_words::values_of;
@@ -16,6 +16,7 @@ pub(crate) fn answer(
     match (question, words) {
         ("values", [text]) => values(alloc, setting, text),
         ("fits", [format]) => fits(alloc, setting, format),
+        ("limits", numbers) => limits(alloc, numbers),
         _ => Err(RowFault::NotUnderstood),
     }
 }
@@ -58,5 +59,12 @@ fn sign(question: &Question, value: &Value) -> Result<&'static str, RowFault> {
         (false, true) => Ok("~"),
         (false, false) => Ok("-"),
         (true, false) => Err(RowFault::Disagreement("fits_loosely")),
+    }
+}
+
+fn limits(alloc: Global, numbers: &[&str]) -> Result<String, RowFault> {
+    match limits_of(numbers) {
+        Some(limits) => Ok(format!(in alloc; "{} {}", limits.depth(), limits.nodes())?),
+        None => Ok(String::from_str(alloc, "none")?),
     }
 }

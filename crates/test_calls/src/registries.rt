@@ -3,9 +3,10 @@
 use crate::row_fault::RowFault;
 use crate::setting::Setting;
 use crate::words::bytes;
-use bcs_look_registry::{Difference, differences, put_difference};
 use bcs_registry::Registry;
-use std::alloc::{AllocError, Global};
+use bcs_registry_json::format_text::format_from;
+use bcs_registry_json::json_text::registry_json;
+use std::alloc::Global;
 
 pub(crate) fn answer(
     alloc: Global,
@@ -17,8 +18,9 @@ pub(crate) fn answer(
         ("registry", [text]) => registry(alloc, setting, text),
         ("format", [text]) => format_read(alloc, setting, text),
         ("print", [text]) => printed(alloc, text),
+        ("container", [name]) => held(alloc, setting, name),
+        ("admits", [text]) => admitted(alloc, setting, text),
         ("grows", [older, newer]) => grown(alloc, older, newer),
-        ("differences", [older, newer]) => differing(alloc, older, newer),
         _ => Err(RowFault::NotUnderstood),
     }
 }
@@ -41,6 +43,22 @@ fn format_read(alloc: Global, setting: &Setting, text: &str) -> Result<String, R
     }
 }
 
+// The container by the names that it has in code.
+fn held(alloc: Global, setting: &Setting, name: &str) -> Result<String, RowFault> {
+    let registry = Registry::read(alloc, &setting.registry)?;
+    match registry.container(name) {
+        Some(container) => Ok(format!(in alloc; "{container:?}")?),
+        None => Ok(String::from_str(alloc, "none")?),
+    }
+}
+
+// Whether the registry admits the format, which is read without one.
+fn admitted(alloc: Global, setting: &Setting, text: &str) -> Result<String, RowFault> {
+    let registry = Registry::read(alloc, &setting.registry)?;
+    let format = format_from(alloc, &registry_json(alloc, &bytes(alloc, text)?)?)?;
+    Ok(format!(in alloc; "{}", registry.admits(&format))?)
+}
+
 // What the registry prints as.
 fn printed(alloc: Global, text: &str) -> Result<String, RowFault> {
     let registry = Registry::read(alloc, &bytes(alloc, text)?)?;
@@ -55,32 +73,4 @@ fn grown(alloc: Global, older: &str, newer: &str) -> Result<String, RowFault> {
         Ok(()) => Ok(String::from_str(alloc, "grows")?),
         Err(fault) => Ok(format!(in alloc; "{fault}")?),
     }
-}
-
-// All differences of the two. `grows` tells the fault of the first that isn't an addition.
-fn differing(alloc: Global, older: &str, newer: &str) -> Result<String, RowFault> {
-    let older = Registry::read(alloc, older.as_bytes())?;
-    let newer = Registry::read(alloc, newer.as_bytes())?;
-    let found = differences(alloc, older.containers(), newer.containers())?;
-    let fault = found
-        .iter()
-        .find_map(|difference| difference.change.fault());
-    if older.grows(&newer).err() != fault {
-        return Err(RowFault::Disagreement("grows"));
-    }
-    Ok(in_one_line(alloc, &found)?)
-}
-
-fn in_one_line(alloc: Global, found: &[Difference<'_>]) -> Result<String, AllocError> {
-    if found.is_empty() {
-        return String::from_str(alloc, "none");
-    }
-    let mut line = Vec::new(alloc);
-    for (i, difference) in found.iter().enumerate() {
-        if i > 0 {
-            line.extend_from_slice(b"; ")?;
-        }
-        put_difference(difference, &mut line)?;
-    }
-    String::from_utf8_lossy(alloc, &line)
 }

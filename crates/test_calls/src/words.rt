@@ -56,6 +56,14 @@ pub(crate) fn number(word: &str) -> Result<u32, RowFault> {
     }
 }
 
+/// A call that fails, counted from 1: none of the word `-`.
+pub(crate) fn call(word: &str) -> Result<Option<u64>, RowFault> {
+    match word {
+        "-" => Ok(None),
+        _ => Ok(Some(u64::from(number(word)?))),
+    }
+}
+
 /// The bytes that a word stands for: those of the hexadecimal digits behind `0x`, or else its own.
 pub(crate) fn bytes(alloc: Global, word: &str) -> Result<Vec<u8>, RowFault> {
     match word.strip_prefix("0x") {

@@ -3,10 +3,8 @@
 
 mod changes;
 mod encodings;
-mod examples;
 mod jobs;
 mod likeness;
-mod lines;
 mod numbers;
 mod pairs;
 mod parts;
@@ -18,6 +16,8 @@ mod rows;
 mod setting;
 mod shown;
 mod sizes;
+mod sources;
+mod streams;
 mod texts;
 mod value_words;
 mod values;
@@ -35,7 +35,7 @@ fn main(rt: HostRuntime) -> io::Result<()> {
         if line.is_empty() || line.starts_with('#') {
             println!(rt; "{line}")?;
         } else {
-            let answer = rows::answer(rt.alloc(), &mut setting, line.as_str())?;
+            let answer = rows::answer(&rt, &mut setting, line.as_str())?;
             println!(rt; "{line} -> {answer}")?;
         }
     }

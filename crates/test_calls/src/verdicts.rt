@@ -7,7 +7,10 @@ use crate::row_fault::RowFault;
 use crate::setting::Setting;
 use crate::words;
 use bcs_decode::pieces::PieceSource;
-use bcs_decode::{DecodeFault, Reason, Stop, decode_all, decode_from, decode_slice, part, scan};
+use bcs_decode::{
+    DecodeFault, Reason, Stop, decode_all, decode_from, decode_slice, part, scan, scan_all,
+    scan_from,
+};
 use bcs_encode::encode;
 use std::alloc::Global;
 
@@ -23,7 +26,7 @@ pub(crate) fn answer(
     let asked = Question::read(alloc, &setting.registry, format, limits)?;
     let bytes = words::bytes(alloc, bytes)?;
     match question {
-        "verdict" => judged(alloc, verdict(alloc, &asked, &bytes)?),
+        "verdict" | "deepest" => judged(alloc, verdict(alloc, &asked, &bytes)?),
         "scan" => judged(alloc, scanned(&asked, &bytes)?),
         _ => changed(alloc, &asked, &bytes),
     }
@@ -140,6 +143,12 @@ fn agree_in_pieces(
     if !is_of_whole(alloc, question, bytes, piece, verdict) {
         return Err(RowFault::Disagreement("decode_all"));
     }
+    if !is_scanned(alloc, question, bytes, piece, verdict) {
+        return Err(RowFault::Disagreement("scan_from"));
+    }
+    if !is_scanned_whole(alloc, question, bytes, piece, verdict) {
+        return Err(RowFault::Disagreement("scan_all"));
+    }
     Ok(())
 }
 
@@ -175,7 +184,19 @@ fn is_given(source: &PieceSource, bytes: &[u8], front: &[u8]) -> bool {
     bytes.starts_with(front) && source.given() == front.len() as u64
 }
 
-// The whole input is a value exactly if no byte follows, and one that does is taken.
+// What the whole of so many bytes is, by the verdict on their front: a value exactly if no byte follows.
+fn whole_of(verdict: Result<usize, Stop>, len: usize) -> Result<u64, DecodeFault> {
+    match verdict {
+        Ok(length) if length == len => Ok(len as u64),
+        Ok(length) => Err(DecodeFault::Stop(Stop {
+            reason: Reason::TrailingBytes,
+            place: length as u64,
+        })),
+        Err(stop) => Err(DecodeFault::Stop(stop)),
+    }
+}
+
+// One byte behind a value is taken.
 fn is_of_whole(
     alloc: Global,
     question: &Question,
@@ -195,14 +216,59 @@ fn is_of_whole(
     }
     let mut source = PieceSource::new(bytes, piece, None);
     let fault = decode_all(alloc, registry, format, limits, &mut source).err();
-    match verdict {
-        Ok(length) if length == bytes.len() => fault.is_none() && source.given() == length as u64,
-        Ok(length) => {
-            let place = length as u64;
-            let reason = Reason::TrailingBytes;
-            let trailing = DecodeFault::Stop(Stop { reason, place });
-            fault == Some(trailing) && source.given() == place.saturating_add(1)
-        }
-        Err(stop) => fault == Some(DecodeFault::Stop(stop)),
+    let given = match verdict {
+        Ok(length) => (length as u64).saturating_add(1).min(bytes.len() as u64),
+        Err(_) => source.given(),
+    };
+    fault == whole_of(verdict, bytes.len()).err() && source.given() == given
+}
+
+// A source that is judged has the verdict too, and of a value it gives no byte more.
+fn is_scanned(
+    alloc: Global,
+    question: &Question,
+    bytes: &[u8],
+    piece: usize,
+    verdict: Result<usize, Stop>,
+) -> bool
+    requires { 1 ≤ piece }
+{
+    let Question {
+        registry,
+        format,
+        limits,
+    } = question;
+    if !registry.admits(format) {
+        return false;
     }
+    let mut source = PieceSource::new(bytes, piece, None);
+    match (
+        scan_from(alloc, registry, format, limits, &mut source),
+        verdict,
+    ) {
+        (Ok(found), Ok(length)) => found == length as u64 && source.given() == found,
+        (Err(DecodeFault::Stop(found)), Err(stop)) => found == stop,
+        _ => false,
+    }
+}
+
+fn is_scanned_whole(
+    alloc: Global,
+    question: &Question,
+    bytes: &[u8],
+    piece: usize,
+    verdict: Result<usize, Stop>,
+) -> bool
+    requires { 1 ≤ piece }
+{
+    let Question {
+        registry,
+        format,
+        limits,
+    } = question;
+    if !registry.admits(format) {
+        return false;
+    }
+    let mut source = PieceSource::new(bytes, piece, None);
+    scan_all(alloc, registry, format, limits, &mut source) == whole_of(verdict, bytes.len())
 }

@@ -7,7 +7,7 @@ use std::alloc::{AllocError, AllocFailed};
 use thiserror::Error;
 
 /// Why a row has no answer. Its message is printed in place of one.
-#[derive(Clone, Copy, Debug, Drop, PartialEq, Eq, Error)]
+#[derive(Debug, Drop, Error)]
 pub(crate) enum RowFault {
     /// The row's words ask nothing that there is.
     #[error("not understood")]

@@ -1,0 +1,220 @@
+//! Rows on command lines: which jobs they are, and how they end over sources and sinks that fail.
+ghost use Rattle.std.specs.Prelude.{◌≤◌};
+
+use crate::row_fault::RowFault;
+use crate::words::{bytes, call, number, word_of};
+use bcs_decode::pieces::{PieceSource, RepeatSource};
+use bcs_decode::{DecodeFault, Reason, Stop};
+use bcs_encode::pieces::PieceSink;
+use bcs_encode::{EncodeFault, WriteFault};
+use bcs_tool::{
+    ByteSource, FileFault, Interruption, LineFault, OpenCause, PairInterruption, TakeFault,
+    UnreadFile, Work, line, read_work, respond, run, run_pairs, take_all,
+};
+use std::alloc::{AllocError, Global};
+use std::str;
+
+pub(crate) fn answer(rt: &HostRuntime, question: &str, words: &[&str]) -> Result<String, RowFault> {
+    match (question, words) {
+        ("line", words) => job(rt.alloc(), words),
+        ("run", [input, words @ ..]) => ran(rt, input, words),
+        ("ends", [input, piece, reads, puts, tells, words @ ..]) => {
+            ended(rt, [input, piece, reads], [puts, tells], words)
+        }
+        ("endless_job", words) => ended_endless(rt, words),
+        ("pairs_end", [first, second, one, other, puts, words @ ..]) => {
+            paired(rt, [first, second], [one, other, puts], words)
+        }
+        ("take_all", [text, piece, limit, reads]) => {
+            taken(rt.alloc(), [text, piece], number(limit)?, reads)
+        }
+        ("messages", []) => messages(rt.alloc()),
+        _ => Err(RowFault::NotUnderstood),
+    }
+}
+
+// The words of a command line behind the program's name.
+fn words_of(alloc: Global, arguments: &[&str]) -> Result<Vec<String>, AllocError> {
+    let mut words = Vec::new(alloc);
+    words.push(String::from_str(alloc, "bcs")?)?;
+    for argument in arguments {
+        words.push(String::from_str(alloc, argument)?)?;
+    }
+    Ok(words)
+}
+
+fn work_of(rt: &HostRuntime, arguments: &[&str]) -> Result<Work, RowFault> {
+    let words = words_of(rt.alloc(), arguments)?;
+    let Ok(job) = line(rt.alloc(), &words) else {
+        return Err(RowFault::NotUnderstood);
+    };
+    match read_work(rt, job) {
+        Ok((work, _)) => Ok(work),
+        Err(_) => Err(RowFault::NotUnderstood),
+    }
+}
+
+// The job, by the names that it has in code.
+fn job(alloc: Global, words: &[&str]) -> Result<String, RowFault> {
+    match line(alloc, &words_of(alloc, words)?) {
+        Ok(job) => Ok(format!(in alloc; "{job:?}")?),
+        Err(fault) => Ok(format!(in alloc; "{fault}")?),
+    }
+}
+
+// The status of a job over this input, what is put, and the note where there is one.
+fn ran(rt: &HostRuntime, input: &str, words: &[&str]) -> Result<String, RowFault> {
+    let alloc = rt.alloc();
+    let work = work_of(rt, words)?;
+    let bytes = bytes(alloc, input)?;
+    let mut out = PieceSink::<1000>::new(7, None);
+    let outcome = run(
+        alloc,
+        &work,
+        &mut PieceSource::new(&bytes, 3, None),
+        &mut out,
+    );
+    let put = put_text(alloc, out.taken())?;
+    Ok(format!(in alloc; "{} {put}{}", outcome.status, outcome.note)?)
+}
+
+fn put_text(alloc: Global, put: &[u8]) -> Result<String, RowFault> {
+    match str::from_utf8(put) {
+        Ok(text) => Ok(format!(in alloc; "{text:?}")?),
+        Err(_) => word_of(alloc, put),
+    }
+}
+
+// How a command line ends: the status, the output and the standard error, of usage its first word. These fail from calls on.
+fn responded<S: ByteSource>(
+    rt: &HostRuntime,
+    input: &mut S,
+    [puts, tells]: [&str; 2],
+    words: &[&str],
+) -> Result<String, RowFault> {
+    let alloc = rt.alloc();
+    let words = words_of(alloc, words)?;
+    let mut out = PieceSink::<100>::new(100, call(puts)?);
+    let mut errors = PieceSink::<4000>::new(4000, call(tells)?);
+    let status = respond(rt, &words, input, &mut out, &mut errors);
+    let told = if status == 3 {
+        errors.taken().get(..7).unwrap_or_default()
+    } else {
+        errors.taken()
+    };
+    let put = put_text(alloc, out.taken())?;
+    let told = put_text(alloc, told)?;
+    Ok(format!(in alloc; "{status} {put} {told}")?)
+}
+
+// The input gives so many bytes a call. Behind the answer stands whether it has failed.
+fn ended(
+    rt: &HostRuntime,
+    [input, piece, reads]: [&str; 3],
+    fails: [&str; 2],
+    words: &[&str],
+) -> Result<String, RowFault> {
+    let bytes = bytes(rt.alloc(), input)?;
+    let piece = (number(piece)? as usize).max(1);
+    let mut source = PieceSource::new(&bytes, piece, call(reads)?);
+    let told = responded(rt, &mut source, fails, words)?;
+    let failed = if source.failed() { ", read" } else { "" };
+    Ok(format!(in rt.alloc(); "{told}{failed}")?)
+}
+
+// An input of blanks without end, and how many it gave.
+fn ended_endless(rt: &HostRuntime, words: &[&str]) -> Result<String, RowFault> {
+    let mut source = RepeatSource::new(b' ');
+    let told = responded(rt, &mut source, ["-", "-"], words)?;
+    Ok(format!(in rt.alloc(); "{told}, {} given", source.given())?)
+}
+
+// Two files of two bytes a call that are compared line by line: what is put, and the status; or the fault, at which file, and
+// behind how many pairs.
+fn paired(
+    rt: &HostRuntime,
+    [first, second]: [&str; 2],
+    [one, other, puts]: [&str; 3],
+    words: &[&str],
+) -> Result<String, RowFault> {
+    let alloc = rt.alloc();
+    let work = work_of(rt, words)?;
+    let first = bytes(alloc, first)?;
+    let second = bytes(alloc, second)?;
+    let mut one = PieceSource::new(&first, 2, call(one)?);
+    let mut other = PieceSource::new(&second, 2, call(other)?);
+    let mut out = PieceSink::<80>::new(80, call(puts)?);
+    let ended = match run_pairs(alloc, &work, &mut one, &mut other, &mut out) {
+        Ok(report) => format!(in alloc; "{}", report.outcome.status)?,
+        Err(broken) => broken_told(alloc, broken)?,
+    };
+    let put = put_text(alloc, out.taken())?;
+    Ok(format!(in alloc; "{put} {ended}")?)
+}
+
+fn broken_told(alloc: Global, broken: PairInterruption) -> Result<String, AllocError> {
+    let PairInterruption { side, interruption } = broken;
+    let Interruption { fault, answered } = interruption;
+    format!(in alloc; "{} at {side:?} behind {answered}", fault.note())
+}
+
+// The whole of a source, of at most so many bytes, and how many it gave.
+fn taken(
+    alloc: Global,
+    [text, piece]: [&str; 2],
+    limit: u32,
+    reads: &str,
+) -> Result<String, RowFault> {
+    let bytes = bytes(alloc, text)?;
+    let piece = (number(piece)? as usize).max(1);
+    let mut source = PieceSource::new(&bytes, piece, call(reads)?);
+    let told = match take_all(alloc, &mut source, u64::from(limit)) {
+        Ok(whole) if whole == bytes => String::from_str(alloc, "whole")?,
+        Ok(_) => return Err(RowFault::Disagreement("take_all")),
+        Err(fault) => format!(in alloc; "{fault}")?,
+    };
+    Ok(format!(in alloc; "{told}, {} given", source.given())?)
+}
+
+// Faults of files with their numbers, names and notes, and the messages of others.
+fn messages(alloc: Global) -> Result<String, RowFault> {
+    let mut told = String::new(alloc);
+    for fault in [
+        FileFault::Open,
+        FileFault::Read,
+        FileFault::TooLarge,
+        FileFault::OutOfMemory,
+    ] {
+        told.push_str(format!(in alloc; "{} {fault} {}; ", fault as u8, fault.note())?.as_str())?;
+    }
+    for fault in [TakeFault::Read, TakeFault::TooLarge, TakeFault::OutOfMemory] {
+        told.push_str(format!(in alloc; "{} {fault} {}; ", fault as u8, fault.note())?.as_str())?;
+    }
+    told.push_str(format!(in alloc;
+        "{}, {}; ",
+        UnreadFile::Unopened(OpenCause::Missing),
+        UnreadFile::Untaken(TakeFault::Read)
+    )?
+    .as_str())?;
+    let [usage, help] = [
+        LineFault::Usage(String::new(alloc)),
+        LineFault::Help(String::new(alloc)),
+    ];
+    told.push_str(format!(in alloc; "{usage}, {help}, {}; ", LineFault::OutOfMemory)?.as_str())?;
+    told.push_str(coder_messages(alloc)?.as_str())?;
+    Ok(told)
+}
+
+fn coder_messages(alloc: Global) -> Result<String, AllocError> {
+    let encode = WriteFault::Encode(EncodeFault::TooDeep);
+    let write = WriteFault::Write { written: 7 };
+    let stop = DecodeFault::Stop(Stop {
+        reason: Reason::BadBool,
+        place: 1,
+    });
+    format!(in alloc;
+        "{}, {encode}, {write}; {stop}, {}",
+        EncodeFault::TooLong,
+        DecodeFault::Read
+    )
+}

@@ -1,0 +1,67 @@
+//! What a row may ask.
+
+use crate::row_fault::RowFault;
+use crate::setting::Setting;
+use crate::words::unrolled;
+use crate::{
+    encodings, jobs, likeness, numbers, parts, places, registries, shown, sizes, sources, streams,
+    texts, values, verdicts,
+};
+use std::alloc::{AllocError, Global};
+
+/// The answer to a row, or why there is none.
+pub(crate) fn answer(
+    rt: &HostRuntime,
+    setting: &mut Setting,
+    row: &str,
+) -> Result<String, AllocError> {
+    match asked(rt, setting, row) {
+        Ok(answer) => Ok(answer),
+        Err(fault) => format!(in rt.alloc(); "{fault}"),
+    }
+}
+
+// A row is words with a tab between each two. The first says what is asked.
+fn asked(rt: &HostRuntime, setting: &mut Setting, row: &str) -> Result<String, RowFault> {
+    let row = unrolled(rt.alloc(), row)?;
+    let words: Vec<&str> = row.split('\t').collect(rt.alloc())?;
+    match words.as_slice() {
+        [question, words @ ..] => answered(rt, setting, question, words),
+        _ => Err(RowFault::NotUnderstood),
+    }
+}
+
+fn answered(
+    rt: &HostRuntime,
+    setting: &mut Setting,
+    question: &str,
+    words: &[&str],
+) -> Result<String, RowFault> {
+    let alloc = rt.alloc();
+    match question {
+        "uleb" | "take_uleb" | "put" | "take" | "number" => {
+            numbers::answer(alloc, question, words)
+        }
+        "registry" | "format" | "print" | "container" | "admits" | "grows" => {
+            registries::answer(alloc, setting, question, words)
+        }
+        "short" | "lines" => shown::answer(alloc, setting, question, words),
+        "verdict" | "deepest" | "scan" | "changes" => {
+            verdicts::answer(alloc, setting, question, words)
+        }
+        "failing" | "failing_front" | "endless" => sources::answer(alloc, setting, question, words),
+        "part" => parts::answer(alloc, setting, words),
+        "values" | "fits" | "limits" => values::answer(alloc, setting, question, words),
+        "alike" | "size" => likeness::answer(alloc, setting, question, words),
+        "encode" | "form" | "length" | "deep" | "write" => {
+            encodings::answer(alloc, setting, question, words)
+        }
+        "json" | "text" | "same" | "pairs" => texts::answer(alloc, setting, question, words),
+        "place" => places::answer(alloc, setting, words),
+        "sizes" => sizes::answer(alloc, setting, words),
+        "run" | "line" | "ends" | "endless_job" | "pairs_end" | "take_all" | "messages" => {
+            jobs::answer(rt, question, words)
+        }
+        _ => streams::answer(alloc, question, words),
+    }
+}

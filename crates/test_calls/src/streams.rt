@@ -1,0 +1,261 @@
+//! Rows on sources, sinks, and the lines of sources.
+ghost use Rattle.std.specs.Prelude.{◌≤◌, IfOk};
+
+use crate::row_fault::RowFault;
+use crate::words::{bytes, call, number, word_of};
+use bcs_io::pieces::{PieceSink, PieceSource, RepeatSource};
+use bcs_io::{
+    ByteSink, ByteSource, LineBuffer, ReadSource, SliceSource, SourceFailed, WriteSink, put_all,
+};
+use std::alloc::{AllocError, Global};
+use std::io;
+use std::io::{ErrorKind, Read, Write};
+
+pub(crate) fn answer(alloc: Global, question: &str, words: &[&str]) -> Result<String, RowFault> {
+    match (question, words) {
+        ("piece_source", [text, piece, fails, rooms @ ..]) => {
+            of_pieces(alloc, text, [piece, fails], rooms)
+        }
+        ("slice_source", [text, rooms @ ..]) => of_slice(alloc, text, rooms),
+        ("repeat_source", rooms) => of_repeat(alloc, rooms),
+        ("reader", [text, rooms @ ..]) => read(alloc, text, rooms),
+        ("read_source", counts) => of_reader(alloc, counts),
+        ("piece_sink", [piece, fails, pieces @ ..]) => puts(alloc, [piece, fails], pieces),
+        ("put_all", [text, fails]) => put_whole(alloc, text, fails),
+        ("writer", pieces) => write(alloc, pieces),
+        ("write_sink", counts) => of_writer(alloc, counts),
+        ("lines_of", [text, piece, fails, limits @ ..]) => lines(
+            alloc,
+            text,
+            [piece, fails],
+            limits,
+        ),
+        ("endless_line", [limit]) => endless_line(alloc, number(limit)?),
+        _ => Err(RowFault::NotUnderstood),
+    }
+}
+
+// What a call of a source gives, of at most this room: bytes, or a failure, which it tells from then on.
+fn next<S: ByteSource>(alloc: Global, source: &mut S, room: usize) -> Result<String, RowFault> {
+    let mut buffer = [0u8; 300];
+    let Some(room) = buffer.get_mut(..room) else {
+        return Err(RowFault::NotUnderstood);
+    };
+    let given = source.next(room);
+    if given.is_err() != source.failed() {
+        return Err(RowFault::Disagreement("failed"));
+    }
+    match given {
+        Ok(len) => word_of(alloc, &buffer[..len]),
+        Err(SourceFailed) => Ok(String::from_str(alloc, "fails")?),
+    }
+}
+
+fn nexts<S: ByteSource>(alloc: Global, source: &mut S, rooms: &[&str]) -> Result<String, RowFault> {
+    let mut told = String::new(alloc);
+    for room in rooms {
+        let given = next(alloc, source, number(room)? as usize)?;
+        push_word(&mut told, given.as_str())?;
+    }
+    Ok(told)
+}
+
+fn push_word(told: &mut String, word: &str) -> Result<(), AllocError> {
+    if !told.is_empty() {
+        told.push(' ')?;
+    }
+    told.push_str(word)
+}
+
+fn of_pieces(
+    alloc: Global,
+    text: &str,
+    [piece, fails]: [&str; 2],
+    rooms: &[&str],
+) -> Result<String, RowFault> {
+    let bytes = bytes(alloc, text)?;
+    let piece = (number(piece)? as usize).max(1);
+    let mut source = PieceSource::new(&bytes, piece, call(fails)?);
+    let told = nexts(alloc, &mut source, rooms)?;
+    Ok(format!(in alloc; "{told} given {}", source.given())?)
+}
+
+fn of_slice(alloc: Global, text: &str, rooms: &[&str]) -> Result<String, RowFault> {
+    let bytes = bytes(alloc, text)?;
+    let mut source = SliceSource::new(&bytes);
+    let told = nexts(alloc, &mut source, rooms)?;
+    let rest = word_of(alloc, source.rest())?;
+    Ok(format!(in alloc; "{told} rest {rest}")?)
+}
+
+fn of_repeat(alloc: Global, rooms: &[&str]) -> Result<String, RowFault> {
+    let mut source = RepeatSource::new(0xa5);
+    let told = nexts(alloc, &mut source, rooms)?;
+    Ok(format!(in alloc; "{told} given {}", source.given())?)
+}
+
+fn read(alloc: Global, text: &str, rooms: &[&str]) -> Result<String, RowFault> {
+    let bytes = bytes(alloc, text)?;
+    let mut source = ReadSource::new(bytes.as_slice());
+    nexts(alloc, &mut source, rooms)
+}
+
+/// A stream that reads or writes as many bytes a call as it is told, and answers an error where it isn't.
+#[derive(Drop)]
+struct Told {
+    counts: [Option<usize>; 4],
+    calls: usize,
+}
+
+impl Told {
+    fn of(words: &[&str]) -> Told {
+        let mut counts = [None; 4];
+        for (count, word) in counts.iter_mut().zip(words) {
+            *count = word.parse::<usize>().ok();
+        }
+        Told { counts, calls: 0 }
+    }
+
+    fn count(&mut self, len: usize) -> io::Result<usize>
+        ensures { IfOk result (λ n. n ≤ len) }
+    {
+        let count = self.counts.get(self.calls).copied().flatten();
+        self.calls = self.calls.saturating_add(1);
+        match count {
+            Some(count) => Ok(count.min(len)),
+            None => Err(io::Error::from(ErrorKind::Interrupted)),
+        }
+    }
+}
+
+impl Read for Told {
+    fn read(&mut self, buf: &mut [u8]) -> io::Result<usize> {
+        self.count(buf.len())
+    }
+}
+
+impl Write for Told {
+    fn write(&mut self, buf: &[u8]) -> io::Result<usize> {
+        self.count(buf.len())
+    }
+
+    fn flush(&mut self) -> io::Result<()> {
+        Ok(())
+    }
+}
+
+// The source is asked once more than its reader is told, and then with no room.
+fn of_reader(alloc: Global, counts: &[&str]) -> Result<String, RowFault> {
+    let mut reader = Told::of(counts);
+    let mut source = ReadSource::new(&mut reader);
+    let mut told = String::new(alloc);
+    for _ in 0..=counts.len() {
+        push_word(&mut told, next(alloc, &mut source, 4)?.as_str())?;
+    }
+    push_word(&mut told, next(alloc, &mut source, 0)?.as_str())?;
+    Ok(format!(in alloc; "{told} by {}", reader.calls)?)
+}
+
+// How many bytes of a piece a sink takes, or a failure, which it tells from then on.
+fn put<K: ByteSink>(alloc: Global, sink: &mut K, piece: &str) -> Result<String, RowFault> {
+    let taken = sink.put(piece.as_bytes());
+    if taken.is_err() != sink.failed() {
+        return Err(RowFault::Disagreement("failed"));
+    }
+    match taken {
+        Ok(len) => Ok(format!(in alloc; "{len} ")?),
+        Err(_) => Ok(String::from_str(alloc, "fails ")?),
+    }
+}
+
+// A sink with room for four bytes.
+fn puts(alloc: Global, [piece, fails]: [&str; 2], pieces: &[&str]) -> Result<String, RowFault> {
+    let piece = (number(piece)? as usize).max(1);
+    let mut sink = PieceSink::<4>::new(piece, call(fails)?);
+    let mut told = String::new(alloc);
+    for piece in pieces {
+        told.push_str(put(alloc, &mut sink, piece)?.as_str())?;
+    }
+    told.push_str(word_of(alloc, sink.taken())?.as_str())?;
+    Ok(told)
+}
+
+// A byte a call.
+fn put_whole(alloc: Global, text: &str, fails: &str) -> Result<String, RowFault> {
+    let mut sink = PieceSink::<8>::new(1, call(fails)?);
+    let whole = put_all(text.as_bytes(), &mut sink);
+    let taken = word_of(alloc, sink.taken())?;
+    match whole {
+        Ok(()) => Ok(format!(in alloc; "whole {taken}")?),
+        Err(len) => Ok(format!(in alloc; "{len} {taken}")?),
+    }
+}
+
+fn write(alloc: Global, pieces: &[&str]) -> Result<String, RowFault> {
+    let mut bytes = Vec::new(alloc);
+    let mut sink = WriteSink::new(&mut bytes);
+    let mut told = String::new(alloc);
+    for piece in pieces {
+        told.push_str(put(alloc, &mut sink, piece)?.as_str())?;
+    }
+    told.push_str(word_of(alloc, &bytes)?.as_str())?;
+    Ok(told)
+}
+
+// The sink is asked once more than its writer is told, and then with an empty piece.
+fn of_writer(alloc: Global, counts: &[&str]) -> Result<String, RowFault> {
+    let mut writer = Told::of(counts);
+    let mut sink = WriteSink::new(&mut writer);
+    let mut told = String::new(alloc);
+    for _ in 0..=counts.len() {
+        told.push_str(put(alloc, &mut sink, "abc")?.as_str())?;
+    }
+    told.push_str(put(alloc, &mut sink, "")?.as_str())?;
+    Ok(format!(in alloc; "{told}by {}", writer.calls)?)
+}
+
+// What each call answers, which allows a line as many bytes as its word says.
+fn lines(
+    alloc: Global,
+    text: &str,
+    [piece, fails]: [&str; 2],
+    limits: &[&str],
+) -> Result<String, RowFault> {
+    let bytes = bytes(alloc, text)?;
+    let piece = (number(piece)? as usize).max(1);
+    let mut source = PieceSource::new(&bytes, piece, call(fails)?);
+    let mut buffer = LineBuffer::new(alloc);
+    let mut told = String::new(alloc);
+    for limit in limits {
+        let limit = u64::from(number(limit)?);
+        push_word(
+            &mut told,
+            line(alloc, &mut buffer, &mut source, limit)?.as_str(),
+        )?;
+    }
+    Ok(told)
+}
+
+// The next line, of a long one its length where it has but the letter x; that there is none; or the fault.
+fn line<S: ByteSource>(
+    alloc: Global,
+    buffer: &mut LineBuffer,
+    source: &mut S,
+    limit: u64,
+) -> Result<String, RowFault> {
+    match buffer.advance(source, limit) {
+        Ok(true) if buffer.line().len() > 100 && buffer.line().iter().all(|byte| *byte == b'x') => {
+            Ok(format!(in alloc; "{} x", buffer.line().len())?)
+        }
+        Ok(true) => word_of(alloc, buffer.line()),
+        Ok(false) if buffer.line().is_empty() => Ok(String::from_str(alloc, "end")?),
+        Ok(false) => Err(RowFault::Disagreement("line")),
+        Err(fault) => Ok(format!(in alloc; "{fault}")?),
+    }
+}
+
+fn endless_line(alloc: Global, limit: u32) -> Result<String, RowFault> {
+    let mut source = RepeatSource::new(b'x');
+    let mut buffer = LineBuffer::new(alloc);
+    line(alloc, &mut buffer, &mut source, u64::from(limit))
+}
