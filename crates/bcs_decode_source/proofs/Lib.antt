@@ -6,6 +6,5 @@ pub mod Streamed
 pub mod StreamedKeys
 pub mod StreamedRows
 pub mod ValueViews
-pub mod Parts
 pub mod KeptKeys
 pub mod Readers

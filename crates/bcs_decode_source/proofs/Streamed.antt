@@ -1,5 +1,5 @@
 -- The parsers of values, as they are read from a source.
-use Rattle.std.proofs.Common.{◌≡◌, ℕ, zero, suc, true, ◌-◌, ◌<◌, List, Option, Some, None, take, Ok, Err, Box, Vec, Global, String, string_bytes, refl, ap, ◌∙◌, arith}
+use Rattle.std.proofs.Common.{◌≡◌, ℕ, zero, suc, true, ◌-◌, ◌<◌, List, Some, None, Ok, Err, Box, Vec, Global, String, string_bytes, refl, ap, ◌∙◌, arith}
 use Rattle.bcs_registry_model.specs.Shape as shape
 use Rattle.bcs_registry_model.specs.Shape.{Shape, Shapes}
 use Rattle.bcs_registry_model.specs.Container.{Entries, Content, Choice, of, one_of, nothing, content_at, choice_at}
@@ -13,8 +13,8 @@ use Rattle.bcs_value_model.specs.Tree as tree
 use Rattle.bcs_value_model.specs.Tree.{Tree}
 use Rattle.bcs_decode_spec.specs.declared.reason.Reason.TheVariants.{TooDeep, Unsupported, UnknownVariant}
 use Rattle.bcs_decode_spec.specs.declared.reason.Reason.{Reason}
-use Rattle.bcs_decode_spec.specs.Reading.{Parser, follow, chain, give, fail, fail_here, content_here, choice_here, variant_here, key_here, key_after, node, value_here, shape_here, option_here, items_here, pairs_here, length_here, named_here, building}
-use Rattle.bcs_decode_source.proofs.Parts.{has_no_parts, IsBare, bare_shape}
+use Rattle.bcs_decode_spec.specs.Reading.{Parser, follow, chain, give, fail, fail_here, content_here, choice_here, variant_here, node, value_here, shape_here, option_here, items_here, pairs_here, length_here, named_here, building}
+use Rattle.bcs_decode_slice.proofs.NoParts.{has_no_parts, IsBare, bare_shape}
 use Rattle.bcs_decode_source.specs.Sees.{node_here, read, leaf_here, unit_leaf, flag_node, option_value, items_value, row_here, pairs_value, each, tuple_value, enter_here, container_value, named_value, content_value, number_node}
 
 pub enter_none : (d p m : ℕ) (b : List ℕ) → d ≡ 0 → enter_here d p m b ≡ fail_here TooDeep p m b
@@ -105,21 +105,7 @@ module _ (registry : Entries) (d p m : ℕ) (b : List ℕ) where
   unfolding container_value chain
   container_stop k e o h = rw h refl
 
--- ---- keys
-
-pub key_stop : (f : Parser Tree) (last : Option (List ℕ)) (p m : ℕ) (b : List ℕ) (e : Reason) (o : ℕ) → f p m b ≡ Err (e, o) → key_here f last p m b ≡ Err (e, o)
-unfolding key_here
-key_stop f last p m b e o h = rw h refl
-
-pub key_wrong : (f : Parser Tree) (last : Option (List ℕ)) (p m : ℕ) (b : List ℕ) (t : Tree) (q l : ℕ) (c bytes : List ℕ) (e : Reason) (o : ℕ) → f p m b ≡ Ok (t, q, l, c) → bytes ≡ take (q - p) b
-    → ((i j : ℕ) (r : List ℕ) → key_after last bytes p i j r ≡ Err (e, o)) → key_here f last p m b ≡ Err (e, o)
-unfolding key_here
-key_wrong f last p m b t q l c bytes e o h is wrong = rw (h, ← is, wrong q l c) refl
-
-pub key_right : (f : Parser Tree) (last : Option (List ℕ)) (p m : ℕ) (b : List ℕ) (t : Tree) (q l : ℕ) (c bytes : List ℕ) → f p m b ≡ Ok (t, q, l, c) → bytes ≡ take (q - p) b
-    → ((i j : ℕ) (r : List ℕ) → key_after last bytes p i j r ≡ Ok (tt, i, j, r)) → key_here f last p m b ≡ Ok ((t, bytes), q, l, c)
-unfolding key_here give
-key_right f last p m b t q l c bytes h is right = rw (h, ← is, right q l c) refl
+-- ---- formats
 
 leaf_is : (registry : Entries) (d : ℕ) (s : Shape) → has_no_parts s ≡ true → read registry d s ≡ leaf_here s
 unfolding value_here shape_here

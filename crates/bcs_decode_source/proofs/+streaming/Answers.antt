@@ -15,9 +15,9 @@ use Rattle.bcs_decode_source.specs.Sees.{rest_of, number_node, read, option_valu
 use Rattle.bcs_decode_spec.specs.Reading.{key_here, chain, give}
 use Rattle.bcs_decode_source.proofs.Going.{Along-none, Along-then, Along-map, AlongMap-then, AlongMap-value, AlongMap-key, front_length, Halts-then, Halts-after, Refuses-whole, Refuses-judged}
 use Rattle.bcs_decode_source.proofs.KeptKeys.{Stands-begun, Stands-more, last_kept, same_key}
-use Rattle.bcs_decode_source.proofs.StreamedKeys.{kept_wrong, kept_right}
+use Rattle.bcs_decode_source.proofs.StreamedKeys.{key_stop, kept_wrong, kept_right}
 use Rattle.bcs_decode_spec.proofs.LookedUp.{content_found, content_missing, choice_found, choice_missing, levels_in, field_levels_in, formats_next, fields_next}
-use Rattle.bcs_decode_source.proofs.Streamed.{read_leaf, read_whole, read_container, container_missing, container_stop, read_Opt, read_Seq, read_TupleArray, read_Map, read_Tuple, read_TypeName, unit_is, read_tuple, content_shape, enum_stop, enum_unknown, enum_refused, enum_on, key_stop}
+use Rattle.bcs_decode_source.proofs.Streamed.{read_leaf, read_whole, read_container, container_missing, container_stop, read_Opt, read_Seq, read_TupleArray, read_Map, read_Tuple, read_TypeName, unit_is, read_tuple, content_shape, enum_stop, enum_unknown, enum_refused, enum_on}
 use Rattle.bcs_decode_source.proofs.StreamedRows.{items_same, items_none, items_more, items_done, items_refused, each_none, each_more, each_done, each_refused, pairs_none, pairs_more, pairs_done, key_refused, value_refused}
 use Rattle.bcs_registry_model.proofs.Admitted.{content_at-inside, choice_at-inside}
 use Rattle.bcs_decode_source.proofs.Readers.{again, IsSame-then, Reads-as, Reads-then, Reads-put, Onward-none, Onward-then, Onward-done, Onward-ends, Onward-stops, Onward-lacks, Reads-exit}
