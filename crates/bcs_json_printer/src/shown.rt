@@ -13,7 +13,11 @@ ghost use Rattle.bcs_json_spec.specs.JsonContent.{json_content, of, payload_cont
 ghost use Rattle.bcs_json_spec.specs.Shown.{shown, shown_all, shown_choice, shown_each, shown_fields, shown_pairs};
 
 use crate::field_order::sent_places;
-use crate::leaves::{close_map, close_seq, open_map, open_seq, send_byte_list, send_bytes, send_name, send_narrow_signed, send_narrow_unsigned, send_null, send_text, send_truth, send_wide_signed, send_wide_unsigned};
+use crate::leaves::{
+    close_map, close_seq, open_map, open_seq, send_byte_list, send_bytes, send_name,
+    send_narrow_signed, send_narrow_unsigned, send_null, send_text, send_truth, send_wide_signed,
+    send_wide_unsigned,
+};
 use bcs_registry::{Container, Format, Named, Registry, VariantFormat};
 use bcs_value::has_format;
 use bcs_value_model::Value;
