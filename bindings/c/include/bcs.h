@@ -4,13 +4,16 @@
    may run on several threads at once; calls on one open registry take turns. What a call is handed stays the caller's,
    and nothing of it is kept, but for a registry that bcs_open reads into a handle.
 
-   Bytes are handed over as a pointer and a length. A pointer isn't null, even where the length is 0. An output overlaps
+   Bytes are handed over as a pointer and a length. The pointer may be null where the length is 0. An output overlaps
    nothing else that is handed over. */
 #ifndef BCS_H
 #define BCS_H
 
 #include <stddef.h>
 #include <stdint.h>
+
+/* Of this header. */
+#define BCS_VERSION "0.1.0"
 
 #ifdef __cplusplus
 extern "C" {
@@ -116,6 +119,12 @@ enum bcs_form {
     BCS_JSON = 3   /* a JSON object a line */
 };
 
+/* What is told of a refusal. */
+enum bcs_what {
+    BCS_WHERE = 0, /* where it is */
+    BCS_WANTED = 1 /* what was wanted there, or what is wrong with it, in words for people; they may change */
+};
+
 typedef struct bcs_answer {
     uint32_t status; /* enum bcs_status */
     uint32_t fault;  /* enum bcs_fault; 0 where nothing is refused */
@@ -158,6 +167,22 @@ bcs_answer bcs_part(const bcs_ask *ask, const uint8_t *bytes, size_t bytes_lengt
 bcs_answer bcs_explain(const bcs_ask *ask, uint32_t form, const uint8_t *bytes, size_t bytes_length, uint8_t *out,
                        size_t out_length);
 
+/* Where a JSON text is refused: BCS_DONE, or BCS_NO where it is not. With BCS_WHERE it is a JSON Pointer (RFC 6901), in UTF-8
+   and without the escapes of JSON: /payload/args/1; it is empty where the text is refused as a whole. `what` is one of enum
+   bcs_what, and any other number is as BCS_WHERE. Where a call on two texts refuses one, ask for each. */
+bcs_answer bcs_text_place(const bcs_ask *ask, uint32_t what, const uint8_t *text, size_t text_length, uint8_t *out,
+                          size_t out_length);
+
+/* Where bytes stop being a value, all of them: BCS_DONE, or BCS_NO where they are one. With BCS_WHERE it is the way there by
+   names, as bcs_explain has it: .payload::EntryFunction.args[1]. It is printable ASCII. */
+bcs_answer bcs_stop_place(const bcs_ask *ask, uint32_t what, const uint8_t *bytes, size_t bytes_length, uint8_t *out,
+                          size_t out_length);
+
+/* Where the text of a registry is refused: BCS_DONE, or BCS_NO where it is not. With BCS_WHERE it is the place as the program
+   `bcs` prints it: Shape, variant 2 Circle, field side. It is printable ASCII. */
+bcs_answer bcs_registry_place(uint32_t what, const uint8_t *registry, size_t registry_length, uint8_t *out,
+                              size_t out_length);
+
 /* Reads a registry and keeps it in the handle, in the place of one that was open: BCS_DONE. BCS_REGISTRY: it is refused,
    and the handle is as it was. Reading takes longer than most values do, so whoever has many values reads it once. */
 bcs_answer bcs_open(bcs_handle *handle, const uint8_t *registry, size_t registry_length);
@@ -181,9 +206,97 @@ bcs_answer bcs_handle_part(bcs_handle *handle, const bcs_handle_ask *ask, const 
                            const uint8_t *path, size_t path_length);
 bcs_answer bcs_handle_explain(bcs_handle *handle, const bcs_handle_ask *ask, uint32_t form, const uint8_t *bytes,
                               size_t bytes_length, uint8_t *out, size_t out_length);
+bcs_answer bcs_handle_text_place(bcs_handle *handle, const bcs_handle_ask *ask, uint32_t what, const uint8_t *text,
+                                 size_t text_length, uint8_t *out, size_t out_length);
+bcs_answer bcs_handle_stop_place(bcs_handle *handle, const bcs_handle_ask *ask, uint32_t what, const uint8_t *bytes,
+                                 size_t bytes_length, uint8_t *out, size_t out_length);
 
 /* The name of a fault, as the program `bcs` prints it: "BadBool". BCS_NO: no fault has the number. */
 bcs_answer bcs_fault_name(uint32_t fault, uint8_t *out, size_t out_length);
+
+/* ---- Beside the proved calls. libbcs_c.a, for a heap of your own, has no bcs_version; the rest stands here whole. */
+
+/* The version of the library, as BCS_VERSION has that of the header. */
+const char *bcs_version(void);
+
+/* The same name as a text of C, which is always there. Null: no fault has the number. */
+static inline const char *bcs_fault_text(uint32_t fault) {
+    switch (fault) {
+    case BCS_REGISTRY_NOT_JSON:
+    case BCS_TEXT_NOT_JSON: return "NotJson";
+    case BCS_REGISTRY_BAD_SHAPE:
+    case BCS_TEXT_BAD_SHAPE: return "BadShape";
+    case BCS_REGISTRY_BAD_NUMBER:
+    case BCS_TEXT_BAD_NUMBER: return "BadNumber";
+    case BCS_REGISTRY_TOO_NESTED:
+    case BCS_TEXT_TOO_NESTED:
+    case BCS_SHOWN_TOO_NESTED: return "TooNested";
+    case BCS_REGISTRY_REPEATED_NAME: return "RepeatedName";
+    case BCS_REGISTRY_UNKNOWN_NAME: return "UnknownName";
+    case BCS_GROWTH_MISSING: return "Missing";
+    case BCS_GROWTH_CHANGED: return "Changed";
+    case BCS_GROWTH_VARIANT_MISSING: return "VariantMissing";
+    case BCS_GROWTH_VARIANT_CHANGED: return "VariantChanged";
+    case BCS_TEXT_UNSUPPORTED:
+    case BCS_STOP_UNSUPPORTED: return "Unsupported";
+    case BCS_TEXT_BAD_HEX: return "BadHex";
+    case BCS_TEXT_UNKNOWN_FIELD: return "UnknownField";
+    case BCS_TEXT_MISSING_FIELD: return "MissingField";
+    case BCS_TEXT_UNKNOWN_VARIANT:
+    case BCS_STOP_UNKNOWN_VARIANT: return "UnknownVariant";
+    case BCS_TEXT_TOO_DEEP:
+    case BCS_STOP_TOO_DEEP: return "TooDeep";
+    case BCS_TEXT_TOO_MANY_NODES:
+    case BCS_STOP_TOO_MANY_NODES: return "TooManyNodes";
+    case BCS_TEXT_TOO_LONG: return "TooLong";
+    case BCS_TEXT_REPEATED_KEY: return "RepeatedKey";
+    case BCS_STOP_END_OF_INPUT: return "EndOfInput";
+    case BCS_STOP_BAD_BOOL: return "BadBool";
+    case BCS_STOP_BAD_OPTION: return "BadOption";
+    case BCS_STOP_LONG_FORM: return "LongForm";
+    case BCS_STOP_NUMBER_TOO_LARGE: return "NumberTooLarge";
+    case BCS_STOP_LENGTH_TOO_LARGE: return "LengthTooLarge";
+    case BCS_STOP_BAD_UTF8: return "BadUtf8";
+    case BCS_STOP_KEY_ORDER: return "KeyOrder";
+    case BCS_STOP_KEY_REPEATED: return "KeyRepeated";
+    case BCS_STOP_TRAILING_BYTES: return "TrailingBytes";
+    case BCS_PATH_BAD_PATH: return "BadPath";
+    default: return 0;
+    }
+}
+
+/* The JSON text of a format by the program's rule: a word that begins with { or " is one, and any other is a container's
+   name, which is escaped here. It gives how many bytes the text has. Where that is above out_length, so many of them are
+   written, and there is no format yet. */
+static inline size_t bcs_format(const char *word, uint8_t *out, size_t out_length) {
+    const int is_name = word[0] != '{' && word[0] != '"';
+    const char *const parts[3] = {is_name ? "{\"TYPENAME\":\"" : "", word, is_name ? "\"}" : ""};
+    size_t length = 0;
+    for (int part = 0; part < 3; part++) {
+        for (const char *at = parts[part]; *at != 0; at++) {
+            const unsigned char sign = (unsigned char)*at;
+            const int is_escaped = is_name && part == 1 && (sign < 0x20 || sign == '"' || sign == '\\');
+            const char escape[6] = {'\\', 'u', '0', '0', "0123456789abcdef"[sign / 16], "0123456789abcdef"[sign % 16]};
+            for (size_t i = 0; i < (is_escaped ? sizeof escape : 1); i++, length++) {
+                if (length < out_length) {
+                    out[length] = (uint8_t)(is_escaped ? escape[i] : (char)sign);
+                }
+            }
+        }
+    }
+    return length;
+}
+
+/* Whether this processor has what the code needs on x86-64, which is the level x86-64-v2. The loader tests it for the dynamic
+   library. A program that is linked with the static one asks before its first call. */
+static inline int bcs_is_supported(void) {
+#if defined(__x86_64__) && defined(__GNUC__)
+    __builtin_cpu_init();
+    return __builtin_cpu_supports("sse4.2") && __builtin_cpu_supports("popcnt");
+#else
+    return 1;
+#endif
+}
 
 #ifdef __cplusplus
 }

@@ -4,9 +4,10 @@
 
 #include "checks.h"
 
-enum call { CHECKS, GROWS, TO_BCS, FROM_BCS, NORMALISE, COMPARE, SCAN, PART, EXPLAIN, FAULT_NAME };
+enum call { CHECKS, GROWS, TO_BCS, FROM_BCS, NORMALISE, COMPARE, SCAN, PART, EXPLAIN, FAULT_NAME, TEXT_PLACE, STOP_PLACE, REGISTRY_PLACE };
 
-/* What a call is handed. `second` is a second text, a path, or the newer registry, and `number` a form or a fault. */
+/* What a call is handed. `second` is a second text, a path, or the newer registry, and `number` a form, a fault, or
+   what is told of a place. */
 struct job {
     enum call call;
     struct slice registry, format, input, second;
@@ -49,13 +50,19 @@ static inline bcs_answer make(const struct job *job, uint8_t *out, size_t room) 
         return bcs_explain(&ask, job->number, input.at, input.length, out, room);
     case FAULT_NAME:
         return bcs_fault_name(job->number, out, room);
+    case TEXT_PLACE:
+        return bcs_text_place(&ask, job->number, input.at, input.length, out, room);
+    case STOP_PLACE:
+        return bcs_stop_place(&ask, job->number, input.at, input.length, out, room);
+    case REGISTRY_PLACE:
+        return bcs_registry_place(job->number, input.at, input.length, out, room);
     }
     abort();
 }
 
 /* Whether the call is one of those that there are on a handle too. */
 static inline bool is_on_registry(const struct job *job) {
-    return job->call != GROWS && job->call != FAULT_NAME;
+    return job->call != GROWS && job->call != FAULT_NAME && job->call != REGISTRY_PLACE;
 }
 
 /* The same on the registry that is open. */
@@ -79,8 +86,13 @@ static inline bcs_answer make_on(bcs_handle *handle, const struct job *job, uint
         return bcs_handle_part(handle, &ask, input.at, input.length, second.at, second.length);
     case EXPLAIN:
         return bcs_handle_explain(handle, &ask, job->number, input.at, input.length, out, room);
+    case TEXT_PLACE:
+        return bcs_handle_text_place(handle, &ask, job->number, input.at, input.length, out, room);
+    case STOP_PLACE:
+        return bcs_handle_stop_place(handle, &ask, job->number, input.at, input.length, out, room);
     case GROWS:
     case FAULT_NAME:
+    case REGISTRY_PLACE:
         break;
     }
     abort();

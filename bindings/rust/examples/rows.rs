@@ -1,6 +1,6 @@
 //! Makes the calls that are asked for on standard input, a line each, and answers each by a line. `bindings/rows` starts
 //! it, and asks it the rows of the repository's tests.
-use bcs_proved::{Error, Form, Format, Limits, Registry};
+use bcs_proved::{Error, ErrorKind, Form, Format, Limits, Registry};
 use std::io::{self, BufRead, Write};
 
 fn main() -> io::Result<()> {
@@ -75,13 +75,14 @@ impl Told {
 
     /// `registry` is the status where a registry is refused.
     fn error(error: Error, registry: &'static str) -> Told {
-        let status = match error {
-            Error::Registry(_) => registry,
-            Error::Format(_) => "format",
-            Error::Limits => "limits",
-            Error::Growth(_) | Error::Text(_) | Error::Bytes(_) | Error::TooNested => "refused",
-            Error::Path => "path",
-            Error::Memory => "memory",
+        let status = match error.kind() {
+            ErrorKind::Registry(_) => registry,
+            ErrorKind::Format(_) => "format",
+            ErrorKind::Limits => "limits",
+            ErrorKind::Growth(_) | ErrorKind::Text(_) | ErrorKind::Bytes(_) | ErrorKind::TooNested => "refused",
+            ErrorKind::Path => "path",
+            ErrorKind::Memory => "memory",
+            _ => panic!("no status has {error}"),
         };
         Told { status, fault: error.name(), place: error.place().unwrap_or(0), ..Told::default() }
     }
@@ -136,7 +137,7 @@ fn explain(registry: &Registry, format: &Format, input: &[u8], form: &str) -> Re
         "json" => Form::Json,
         _ => panic!("no form is named {form}"),
     };
-    let explanation = registry.explain(format, input, form)?;
+    let explanation = registry.explain_text(format, input, form)?;
     let told = Told::output(explanation.text.into());
     Ok(match explanation.stop {
         Some(stop) => Told { fault: Some(stop.reason.name()), place: stop.place, ..told },

@@ -32,6 +32,6 @@ fn main() -> Result<(), Error> {
         print!("{byte:02x}");
     }
     println!("\n");
-    print!("{}", registry.explain("RawTransaction", &bytes, Form::Ways)?);
+    print!("{}", registry.explain_text("RawTransaction", &bytes, Form::Ways)?);
     Ok(())
 }

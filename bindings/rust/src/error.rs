@@ -2,19 +2,39 @@ use crate::faults::{GrowthFault, Reason, RegistryFault, Stop, TextFault};
 use crate::sys::{self, Answer};
 use std::fmt;
 
-/// Why a call gives no answer.
+/// Why a call gives no answer, and where.
 ///
 /// ```
-/// use bcs_proved::{Error, Format, Reason, Registry, Stop};
+/// use bcs_proved::{Error, ErrorKind, Reason, Registry, Stop, TextFault};
 ///
-/// let error = Registry::read("{}")?.decode(Format::json(r#""BOOL""#), [2]).unwrap_err();
-/// assert_eq!(error, Error::Bytes(Stop { reason: Reason::BadBool, place: 0 }));
-/// assert_eq!(error.name(), Some("BadBool"));
-/// assert_eq!(error.place(), Some(0));
+/// let registry = Registry::read(r#"{"Vote":{"STRUCT":[{"yes":"BOOL"},{"id":"BYTES"}]}}"#)?;
+/// let error = registry.decode("Vote", [2]).unwrap_err();
+/// assert_eq!(error, ErrorKind::Bytes(Stop { reason: Reason::BadBool, place: 0 }));
+/// assert_eq!((error.name(), error.place()), (Some("BadBool"), Some(0)));
+/// assert_eq!((error.pointer(), error.expected()), (Some(".yes"), Some("wanted BOOL")));
+///
+/// let error = registry.encode("Vote", r#"{"yes":true,"id":"0"}"#).unwrap_err();
+/// assert_eq!(error, ErrorKind::Text(TextFault::BadHex));
+/// assert_eq!(error.to_string(), "the text is refused: BadHex at /id: an odd number of digits");
 /// # Ok::<(), Error>(())
 /// ```
+#[derive(Clone, Debug, PartialEq, Eq, Hash)]
+pub struct Error {
+    kind: ErrorKind,
+    told: Option<Box<Told>>,
+}
+
+/// Where something is refused, and what was wanted there, if that is told.
+#[derive(Clone, Debug, PartialEq, Eq, Hash)]
+struct Told {
+    pointer: String,
+    expected: String,
+}
+
+/// Why a call gives no answer.
 #[derive(Clone, Copy, Debug, PartialEq, Eq, Hash)]
-pub enum Error {
+#[non_exhaustive]
+pub enum ErrorKind {
     /// The text isn't a registry.
     Registry(RegistryFault),
     /// The registry has no such format.
@@ -33,39 +53,99 @@ pub enum Error {
     Path,
     /// Memory ran out.
     Memory,
+    /// A type of `serde` has no such value, or its value no JSON: with the feature `serde_json`.
+    Type,
 }
 
 impl Error {
-    /// The fault's name, as the program `bcs` prints it. [`Error::Limits`] and [`Error::Memory`] have none.
+    /// Why.
+    pub const fn kind(&self) -> ErrorKind {
+        self.kind
+    }
+
+    /// The fault's name, as [`ErrorKind::name`] says it.
+    pub const fn name(&self) -> Option<&'static str> {
+        self.kind.name()
+    }
+
+    /// Where bytes stop being a value, in bytes from the front.
+    pub const fn place(&self) -> Option<usize> {
+        self.kind.place()
+    }
+
+    /// Where it is refused: of a text a JSON Pointer (RFC 6901), as `/payload/args/1`, which is empty where the text is
+    /// refused as a whole; of bytes the way to where they stop by names, as `.payload.args[1]`; of a registry its place as
+    /// the program `bcs` prints it. What is refused else has none.
+    pub fn pointer(&self) -> Option<&str> {
+        self.told.as_deref().map(|told| told.pointer.as_str())
+    }
+
+    /// What was wanted there, or what is wrong with it, in words for people, which may change.
+    pub fn expected(&self) -> Option<&str> {
+        self.told.as_deref().map(|told| told.expected.as_str()).filter(|words| !words.is_empty())
+    }
+
+    /// What an answer says that isn't the one asked for.
+    pub(crate) fn of(answer: Answer) -> Error {
+        ErrorKind::of(answer).into()
+    }
+
+    /// The same with where it is, and what was wanted there, which the call tells by these numbers.
+    pub(crate) fn told_by(mut self, call: impl Fn(u32) -> Option<String>) -> Error {
+        let has_place = matches!(self.kind, ErrorKind::Registry(_) | ErrorKind::Text(_) | ErrorKind::Bytes(_));
+        if let Some(pointer) = has_place.then(|| call(sys::WHERE)).flatten() {
+            let expected = call(sys::WANTED).unwrap_or_default();
+            self.told = Some(Box::new(Told { pointer, expected }));
+        }
+        self
+    }
+}
+
+impl ErrorKind {
+    /// The fault's name, as the program `bcs` prints it. Limits, memory and types have none.
     pub const fn name(&self) -> Option<&'static str> {
         match self {
-            Error::Registry(fault) | Error::Format(fault) => Some(fault.name()),
-            Error::Growth(fault) => Some(fault.name()),
-            Error::Text(fault) => Some(fault.name()),
-            Error::Bytes(stop) => Some(stop.reason.name()),
-            Error::TooNested => Some("TooNested"),
-            Error::Path => Some("BadPath"),
-            Error::Limits | Error::Memory => None,
+            ErrorKind::Registry(fault) | ErrorKind::Format(fault) => Some(fault.name()),
+            ErrorKind::Growth(fault) => Some(fault.name()),
+            ErrorKind::Text(fault) => Some(fault.name()),
+            ErrorKind::Bytes(stop) => Some(stop.reason.name()),
+            ErrorKind::TooNested => Some("TooNested"),
+            ErrorKind::Path => Some("BadPath"),
+            ErrorKind::Limits | ErrorKind::Memory | ErrorKind::Type => None,
         }
     }
 
     /// Where bytes stop being a value, in bytes from the front.
     pub const fn place(&self) -> Option<usize> {
         match self {
-            Error::Bytes(stop) => Some(stop.place),
+            ErrorKind::Bytes(stop) => Some(stop.place),
             _ => None,
         }
     }
 
-    /// What an answer says that isn't the one asked for.
-    pub(crate) fn of(answer: Answer) -> Error {
+    /// What is refused.
+    const fn what(&self) -> &'static str {
+        match self {
+            ErrorKind::Registry(_) => "the registry is refused",
+            ErrorKind::Format(_) => "the format is refused",
+            ErrorKind::Limits => "the limits are refused",
+            ErrorKind::Growth(_) => "the registry doesn't grow",
+            ErrorKind::Text(_) => "the text is refused",
+            ErrorKind::Bytes(_) | ErrorKind::TooNested => "the bytes are refused",
+            ErrorKind::Path => "the path is refused",
+            ErrorKind::Memory => "memory ran out",
+            ErrorKind::Type => "the type doesn't fit",
+        }
+    }
+
+    fn of(answer: Answer) -> ErrorKind {
         let told = match answer.status {
-            sys::REGISTRY | sys::NEWER => RegistryFault::of(answer.fault).map(Error::Registry),
-            sys::FORMAT => RegistryFault::of(answer.fault).map(Error::Format),
-            sys::LIMITS => Some(Error::Limits),
+            sys::REGISTRY | sys::NEWER => RegistryFault::of(answer.fault).map(ErrorKind::Registry),
+            sys::FORMAT => RegistryFault::of(answer.fault).map(ErrorKind::Format),
+            sys::LIMITS => Some(ErrorKind::Limits),
             sys::REFUSED => refusal(answer),
-            sys::MEMORY => Some(Error::Memory),
-            sys::PATH => Some(Error::Path),
+            sys::MEMORY => Some(ErrorKind::Memory),
+            sys::PATH => Some(ErrorKind::Path),
             _ => None,
         };
         told.unwrap_or_else(|| panic!("libbcs.a isn't of this crate's version: it answered {answer:?}"))
@@ -73,14 +153,14 @@ impl Error {
 }
 
 /// What an input is refused for.
-fn refusal(answer: Answer) -> Option<Error> {
+fn refusal(answer: Answer) -> Option<ErrorKind> {
     if answer.fault == sys::SHOWN_TOO_NESTED {
-        return Some(Error::TooNested);
+        return Some(ErrorKind::TooNested);
     }
     stop(answer)
-        .map(Error::Bytes)
-        .or_else(|| TextFault::of(answer.fault).map(Error::Text))
-        .or_else(|| GrowthFault::of(answer.fault).map(Error::Growth))
+        .map(ErrorKind::Bytes)
+        .or_else(|| TextFault::of(answer.fault).map(ErrorKind::Text))
+        .or_else(|| GrowthFault::of(answer.fault).map(ErrorKind::Growth))
 }
 
 /// Where bytes stop being a value, if the answer says that they do.
@@ -88,42 +168,87 @@ pub(crate) fn stop(answer: Answer) -> Option<Stop> {
     Some(Stop { reason: Reason::of(answer.fault)?, place: sys::to_place(answer.place) })
 }
 
-impl fmt::Display for Error {
+impl fmt::Display for ErrorKind {
     fn fmt(&self, f: &mut fmt::Formatter<'_>) -> fmt::Result {
+        let what = self.what();
         match self {
-            Error::Registry(fault) => write!(f, "the registry is refused: {fault}"),
-            Error::Format(fault) => write!(f, "the format is refused: {fault}"),
-            Error::Limits => write!(f, "the limits are refused: their depth is above 500"),
-            Error::Growth(fault) => write!(f, "the registry doesn't grow: {fault}"),
-            Error::Text(fault) => write!(f, "the text is refused: {fault}"),
-            Error::Bytes(stop) => write!(f, "the bytes are refused: {stop}"),
-            Error::TooNested => write!(f, "the bytes are refused: TooNested: their text would nest more than 100 deep"),
-            Error::Path => write!(
+            ErrorKind::Registry(fault) | ErrorKind::Format(fault) => write!(f, "{what}: {fault}"),
+            ErrorKind::Limits => write!(f, "{what}: their depth is above 500"),
+            ErrorKind::Growth(fault) => write!(f, "{what}: {fault}"),
+            ErrorKind::Text(fault) => write!(f, "{what}: {fault}"),
+            ErrorKind::Bytes(stop) => write!(f, "{what}: {stop}"),
+            ErrorKind::TooNested => write!(f, "{what}: TooNested: their text would nest more than 100 deep"),
+            ErrorKind::Path => write!(
                 f,
-                "the path is refused: BadPath: a path is . or steps with / between them: \
+                "{what}: BadPath: a path is . or steps with / between them: \
                  a number, inner, or key: and hexadecimal digits"
             ),
-            Error::Memory => write!(f, "memory ran out"),
+            ErrorKind::Memory | ErrorKind::Type => f.write_str(what),
+        }
+    }
+}
+
+/// What is refused, why, where, and what was wanted there.
+impl fmt::Display for Error {
+    fn fmt(&self, f: &mut fmt::Formatter<'_>) -> fmt::Result {
+        let Some(told) = &self.told else {
+            return self.kind.fmt(f);
+        };
+        let Some(name) = self.name() else {
+            return write!(f, "{}: {}", self.kind.what(), told.expected);
+        };
+        let pointer = if told.pointer.is_empty() { "the whole text" } else { &told.pointer };
+        write!(f, "{}: {name} at ", self.kind.what())?;
+        match self.place() {
+            Some(place) => write!(f, "{place}, {pointer}")?,
+            None => f.write_str(pointer)?,
+        }
+        match self.expected() {
+            Some(words) => write!(f, ": {words}"),
+            None => Ok(()),
         }
     }
 }
 
 impl std::error::Error for Error {}
 
+impl std::error::Error for ErrorKind {}
+
+impl From<ErrorKind> for Error {
+    fn from(kind: ErrorKind) -> Error {
+        Error { kind, told: None }
+    }
+}
+
+/// Whether it is of this kind.
+impl PartialEq<ErrorKind> for Error {
+    fn eq(&self, kind: &ErrorKind) -> bool {
+        self.kind == *kind
+    }
+}
+
+#[cfg(feature = "serde_json")]
+impl From<crate::serde_in::Mismatch> for Error {
+    fn from(mismatch: crate::serde_in::Mismatch) -> Error {
+        let told = Told { pointer: String::new(), expected: mismatch.to_string() };
+        Error { kind: ErrorKind::Type, told: Some(Box::new(told)) }
+    }
+}
+
 impl From<GrowthFault> for Error {
     fn from(fault: GrowthFault) -> Error {
-        Error::Growth(fault)
+        ErrorKind::Growth(fault).into()
     }
 }
 
 impl From<TextFault> for Error {
     fn from(fault: TextFault) -> Error {
-        Error::Text(fault)
+        ErrorKind::Text(fault).into()
     }
 }
 
 impl From<Stop> for Error {
     fn from(stop: Stop) -> Error {
-        Error::Bytes(stop)
+        ErrorKind::Bytes(stop).into()
     }
 }

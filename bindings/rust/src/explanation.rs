@@ -1,9 +1,11 @@
 use crate::faults::Stop;
+use crate::json::{Json, members};
 use crate::sys;
 use std::fmt;
 
 /// How bytes are explained.
 #[derive(Clone, Copy, Debug, Default, PartialEq, Eq, Hash)]
+#[non_exhaustive]
 pub enum Form {
     /// A line for each piece: its place, its bytes, what it is, and the way to it by names.
     #[default]
@@ -40,4 +42,68 @@ impl fmt::Display for Explanation {
     fn fmt(&self, f: &mut fmt::Formatter<'_>) -> fmt::Result {
         f.write_str(&self.text)
     }
+}
+
+/// A piece of a value's bytes: a number, a text, a length, the mark of an option, the number of a variant.
+#[derive(Clone, Debug, PartialEq, Eq)]
+#[non_exhaustive]
+pub struct Piece {
+    /// How many bytes come before it.
+    pub place: usize,
+    /// Its bytes.
+    pub bytes: Vec<u8>,
+    /// What kind of piece it is: `truth`, `unsigned`, `signed`, `length`, `text`, `bytes`, `octets`, `option`, `variant`.
+    pub kind: String,
+    /// The format, for a length that of what it counts; `U8` for a list of it; the names of an enum and its variant.
+    pub what: String,
+    /// What it says: a number by its digits, a text as it is, bytes by their digits, `true` or `false`.
+    pub value: String,
+    /// The way to it by names, from the whole value, `.`.
+    pub name: String,
+    /// The path that [`Registry::part`](crate::Registry::part) takes, or `None` where none leads there.
+    pub path: Option<String>,
+}
+
+/// Bytes as the pieces that they are.
+#[derive(Clone, Debug, PartialEq, Eq)]
+#[non_exhaustive]
+pub struct Pieces {
+    /// The pieces, each right behind the one before it.
+    pub pieces: Vec<Piece>,
+    /// Where the bytes stop being a value; `None` where they are one.
+    pub stop: Option<Stop>,
+}
+
+impl Pieces {
+    /// What the library explains as JSON, an object a line: the last tells the end, or the stop.
+    pub(crate) fn of(explanation: &Explanation) -> Pieces {
+        let mut lines: Vec<&str> = explanation.text.lines().collect();
+        lines.pop();
+        let pieces = lines.into_iter().map(|line| Piece::of(line).expect("a line of a piece is its object")).collect();
+        Pieces { pieces, stop: explanation.stop }
+    }
+}
+
+impl Piece {
+    fn of(line: &str) -> Option<Piece> {
+        let members = members(line)?;
+        let text = |name: &str| match &members.iter().find(|member| member.0 == name)?.1 {
+            Json::Text(text) | Json::Number(text) => Some(text.clone()),
+            Json::Truth(truth) => Some(truth.to_string()),
+            Json::Null | Json::Other => None,
+        };
+        Some(Piece {
+            place: text("place")?.parse().ok()?,
+            bytes: bytes_of(&text("bytes")?)?,
+            kind: text("kind")?,
+            what: text("what")?,
+            value: text("value")?,
+            name: text("name")?,
+            path: text("path"),
+        })
+    }
+}
+
+fn bytes_of(digits: &str) -> Option<Vec<u8>> {
+    (0..digits.len()).step_by(2).map(|place| u8::from_str_radix(digits.get(place..place + 2)?, 16).ok()).collect()
 }

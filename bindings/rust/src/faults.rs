@@ -5,6 +5,7 @@ macro_rules! faults {
     ($(#[$about:meta])* $enum:ident { $($fault:ident = $number:literal: $meaning:literal,)* }) => {
         $(#[$about])*
         #[derive(Clone, Copy, Debug, PartialEq, Eq, Hash)]
+        #[non_exhaustive]
         pub enum $enum {
             $(#[doc = $meaning] $fault = $number,)*
         }

@@ -2,13 +2,16 @@ use std::fmt;
 
 /// A format of a registry: what a value is read as.
 ///
-/// Where a call asks for a format, a container's name will do. Any other format is told by its JSON.
+/// Where a call asks for a format, a text will do, which is taken as the program `bcs` takes it: one that begins with `{` or
+/// `"` is a format's JSON, and any other a container's name.
 ///
 /// ```
 /// use bcs_proved::{Format, Registry};
 ///
 /// let registry = Registry::read(r#"{"Wallet":{"NEWTYPESTRUCT":{"SEQ":"U64"}}}"#)?;
 /// assert_eq!(registry.encode("Wallet", "[7]")?, [1, 7, 0, 0, 0, 0, 0, 0, 0]);
+///
+/// assert_eq!(registry.encode("\"U16\"", "7")?, [7, 0]);
 ///
 /// let pair = Format::json(r#"{"TUPLE":["U8",{"TYPENAME":"Wallet"}]}"#);
 /// assert_eq!(registry.encode(&pair, "[9, []]")?, [9, 0]);
@@ -22,7 +25,7 @@ pub struct Format {
 }
 
 impl Format {
-    /// The container of this name.
+    /// The container of this name, whatever it begins with.
     pub fn named(name: &str) -> Format {
         let mut json = String::from(r#"{"TYPENAME":""#);
         for character in name.chars() {
@@ -58,24 +61,24 @@ impl fmt::Debug for Format {
     }
 }
 
-/// The container of this name.
+/// The format that a text which begins with `{` or `"` writes down, or else the container of this name.
 impl From<&str> for Format {
-    fn from(name: &str) -> Format {
-        Format::named(name)
+    fn from(text: &str) -> Format {
+        if text.starts_with(['{', '"']) { Format::json(text) } else { Format::named(text) }
     }
 }
 
-/// The container of this name.
+/// The same of its text.
 impl From<&String> for Format {
-    fn from(name: &String) -> Format {
-        Format::named(name)
+    fn from(text: &String) -> Format {
+        text.as_str().into()
     }
 }
 
-/// The container of this name.
+/// The same of its text.
 impl From<String> for Format {
-    fn from(name: String) -> Format {
-        Format::named(&name)
+    fn from(text: String) -> Format {
+        text.as_str().into()
     }
 }
 

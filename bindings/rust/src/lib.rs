@@ -23,14 +23,19 @@ mod error;
 mod explanation;
 mod faults;
 mod format;
+mod json;
 mod limits;
 mod registry;
+#[cfg(feature = "serde_json")]
+mod serde_in;
+#[cfg(feature = "serde_json")]
+mod serde_out;
 mod sys;
 #[cfg(feature = "serde_json")]
 mod values;
 
-pub use error::Error;
-pub use explanation::{Explanation, Form};
+pub use error::{Error, ErrorKind};
+pub use explanation::{Explanation, Form, Piece, Pieces};
 pub use faults::{GrowthFault, Reason, RegistryFault, Stop, TextFault};
 pub use format::Format;
 pub use limits::Limits;

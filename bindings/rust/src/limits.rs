@@ -8,7 +8,7 @@
 /// ```
 #[derive(Clone, Copy, Debug, PartialEq, Eq, Hash)]
 pub struct Limits {
-    /// How many containers may be open at once. More than 500 is refused, as [`Error::Limits`](crate::Error::Limits).
+    /// How many containers may be open at once. More than 500 is refused, as [`ErrorKind::Limits`](crate::ErrorKind::Limits).
     pub depth: u32,
     /// How many nodes a value may have. Each shape of a value is one: a number, a text, an option, a list, a container, and
     /// a container's row of fields.

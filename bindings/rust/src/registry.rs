@@ -1,6 +1,7 @@
-use crate::error::{Error, stop};
-use crate::explanation::{Explanation, Form};
+use crate::error::{Error, ErrorKind, stop};
+use crate::explanation::{Explanation, Form, Pieces};
 use crate::format::Format;
+use crate::json;
 use crate::limits::Limits;
 use crate::sys::{self, Answer, Open, Question};
 use std::fmt;
@@ -22,28 +23,50 @@ impl Registry {
     /// Reads a registry's JSON text. The limits are the standard ones.
     ///
     /// ```
-    /// use bcs_proved::{Error, Registry, RegistryFault};
+    /// use bcs_proved::{Error, ErrorKind, Registry, RegistryFault};
     ///
     /// Registry::read(r#"{"Receipt":{"STRUCT":[{"number":"U32"}]}}"#)?;
     ///
-    /// let error = Registry::read(r#"{"Receipt":{"NEWTYPESTRUCT":{"TYPENAME":"Payment"}}}"#).unwrap_err();
-    /// assert_eq!(error, Error::Registry(RegistryFault::UnknownName));
+    /// let error = Registry::read(r#"{"Receipt":{"STRUCT":[{"of":{"TYPENAME":"Payment"}}]}}"#).unwrap_err();
+    /// assert_eq!(error, ErrorKind::Registry(RegistryFault::UnknownName));
+    /// assert_eq!(error.pointer(), Some("Receipt, field of"));
+    /// assert_eq!(error.expected(), Some("no container is called Payment"));
     /// # Ok::<(), Error>(())
     /// ```
     pub fn read(text: impl AsRef<[u8]>) -> Result<Registry, Error> {
-        let open = Open::read(text.as_ref()).map_err(Error::of)?;
+        let text = text.as_ref();
+        let refused = |answer| Error::of(answer).told_by(|what| told(|out| sys::registry_place(what, text, out)));
+        let open = Open::read(text).map_err(refused)?;
         Ok(Registry { open: Arc::new(open), limits: Limits::STANDARD })
+    }
+
+    /// The names of its containers, as they stand in its text.
+    ///
+    /// ```
+    /// let registry = bcs_proved::Registry::read(r#"{"Coin":"UNITSTRUCT","Bag":{"NEWTYPESTRUCT":{"SEQ":"U8"}}}"#)?;
+    /// assert_eq!(registry.names(), ["Coin", "Bag"]);
+    /// # Ok::<(), bcs_proved::Error>(())
+    /// ```
+    pub fn names(&self) -> Vec<String> {
+        let text = std::str::from_utf8(self.open.text()).expect("a registry is read from UTF-8");
+        let mut names = Vec::new();
+        for (name, _) in json::members(text).expect("a registry is a JSON object") {
+            if !names.contains(&name) {
+                names.push(name);
+            }
+        }
+        names
     }
 
     /// The same registry with other limits. A call refuses a depth above 500.
     ///
     /// ```
-    /// use bcs_proved::{Error, Limits, Registry, TextFault};
+    /// use bcs_proved::{Error, ErrorKind, Limits, Registry, TextFault};
     ///
     /// let registry = Registry::read(r#"{"Lots":{"NEWTYPESTRUCT":{"SEQ":"U8"}}}"#)?;
     /// let small = registry.with_limits(Limits { nodes: 4, ..Limits::default() });
     /// assert_eq!(small.encode("Lots", "[1,2]")?, [2, 1, 2]);
-    /// assert_eq!(small.encode("Lots", "[1,2,3]"), Err(Error::Text(TextFault::TooManyNodes)));
+    /// assert_eq!(small.encode("Lots", "[1,2,3]").unwrap_err(), ErrorKind::Text(TextFault::TooManyNodes));
     /// # Ok::<(), Error>(())
     /// ```
     #[must_use]
@@ -59,12 +82,12 @@ impl Registry {
     /// Says whether the registry has a format.
     ///
     /// ```
-    /// use bcs_proved::{Error, Format, Registry, RegistryFault};
+    /// use bcs_proved::{Error, ErrorKind, Registry, RegistryFault};
     ///
     /// let registry = Registry::read(r#"{"Coin":"UNITSTRUCT"}"#)?;
     /// registry.check("Coin")?;
-    /// registry.check(Format::json(r#"{"SEQ":{"TYPENAME":"Coin"}}"#))?;
-    /// assert_eq!(registry.check("coin"), Err(Error::Format(RegistryFault::UnknownName)));
+    /// registry.check(r#"{"SEQ":{"TYPENAME":"Coin"}}"#)?;
+    /// assert_eq!(registry.check("coin").unwrap_err(), ErrorKind::Format(RegistryFault::UnknownName));
     /// # Ok::<(), Error>(())
     /// ```
     pub fn check(&self, format: impl Into<Format>) -> Result<(), Error> {
@@ -76,12 +99,12 @@ impl Registry {
     /// variants, and there may be more containers.
     ///
     /// ```
-    /// use bcs_proved::{Error, GrowthFault, Registry};
+    /// use bcs_proved::{Error, ErrorKind, GrowthFault, Registry};
     ///
     /// let older = Registry::read(r#"{"Shape":{"ENUM":{"0":{"Dot":"UNIT"}}}}"#)?;
     /// let newer = Registry::read(r#"{"Shape":{"ENUM":{"0":{"Dot":"UNIT"},"1":{"Line":"UNIT"}}}}"#)?;
     /// older.grows(&newer)?;
-    /// assert_eq!(newer.grows(&older), Err(Error::Growth(GrowthFault::VariantMissing)));
+    /// assert_eq!(newer.grows(&older).unwrap_err(), ErrorKind::Growth(GrowthFault::VariantMissing));
     /// # Ok::<(), Error>(())
     /// ```
     pub fn grows(&self, newer: &Registry) -> Result<(), Error> {
@@ -102,8 +125,8 @@ impl Registry {
         let (format, text) = (format.into(), text.as_ref());
         // Digits and names make most texts longer than their bytes.
         let room = text.len().saturating_add(64);
-        let (bytes, _) = fill(room, |out| self.open.encode(self.question(&format), text, out))?;
-        Ok(bytes)
+        let encoded = fill(room, |out| self.open.encode(self.question(&format), text, out));
+        Ok(encoded.map_err(|error| self.of_text(error, &format, text))?.0)
     }
 
     /// The one normal JSON text of the value whose bytes these are, all of them.
@@ -119,8 +142,8 @@ impl Registry {
     pub fn decode(&self, format: impl Into<Format>, bytes: impl AsRef<[u8]>) -> Result<String, Error> {
         let (format, bytes) = (format.into(), bytes.as_ref());
         let room = bytes.len().saturating_mul(4).saturating_add(256);
-        let (text, _) = fill(room, |out| self.open.decode(self.question(&format), bytes, out))?;
-        Ok(into_text(text))
+        let decoded = fill(room, |out| self.open.decode(self.question(&format), bytes, out));
+        Ok(into_text(decoded.map_err(|error| self.of_bytes(error, &format, bytes))?.0))
     }
 
     /// The one normal JSON text of the value that a JSON text denotes.
@@ -136,8 +159,8 @@ impl Registry {
     pub fn normalise(&self, format: impl Into<Format>, text: impl AsRef<[u8]>) -> Result<String, Error> {
         let (format, text) = (format.into(), text.as_ref());
         let room = text.len().saturating_add(64);
-        let (normal, _) = fill(room, |out| self.open.normalise(self.question(&format), text, out))?;
-        Ok(into_text(normal))
+        let normal = fill(room, |out| self.open.normalise(self.question(&format), text, out));
+        Ok(into_text(normal.map_err(|error| self.of_text(error, &format, text))?.0))
     }
 
     /// Whether two JSON texts denote equal values, which are those with equal bytes.
@@ -157,9 +180,13 @@ impl Registry {
         first: impl AsRef<[u8]>,
         second: impl AsRef<[u8]>,
     ) -> Result<bool, Error> {
-        let format = format.into();
-        let answer = self.open.equal(self.question(&format), first.as_ref(), second.as_ref());
-        Ok(done_unless_no(answer)?.is_some())
+        let (format, first, second) = (format.into(), first.as_ref(), second.as_ref());
+        let answer = self.open.equal(self.question(&format), first, second);
+        let compared = done_unless_no(answer).map_err(|error| {
+            let of_first = self.of_text(error.clone(), &format, first);
+            if of_first.pointer().is_some() { of_first } else { self.of_text(error, &format, second) }
+        });
+        Ok(compared?.is_some())
     }
 
     /// How many bytes the value at the front has. Any may stand behind it.
@@ -172,9 +199,9 @@ impl Registry {
     /// # Ok::<(), bcs_proved::Error>(())
     /// ```
     pub fn scan(&self, format: impl Into<Format>, bytes: impl AsRef<[u8]>) -> Result<usize, Error> {
-        let format = format.into();
-        let answer = done(self.open.scan(self.question(&format), bytes.as_ref()))?;
-        Ok(answer.length)
+        let (format, bytes) = (format.into(), bytes.as_ref());
+        let answer = done(self.open.scan(self.question(&format), bytes));
+        Ok(answer.map_err(|error| self.of_bytes(error, &format, bytes))?.length)
     }
 
     /// The part of the value at the front to which a path leads, or `None` where it leads nowhere.
@@ -201,27 +228,42 @@ impl Registry {
     ) -> Result<Option<Part<'b>>, Error> {
         let (format, bytes) = (format.into(), bytes.as_ref());
         let answer = self.open.part(self.question(&format), bytes, path.as_ref());
-        Ok(done_unless_no(answer)?.map(|answer| {
+        let found = done_unless_no(answer).map_err(|error| self.of_bytes(error, &format, bytes));
+        Ok(found?.map(|answer| {
             let place = sys::to_place(answer.place);
             Part { place, bytes: &bytes[place..place + answer.length] }
         }))
     }
 
-    /// What the bytes are, piece by piece, for people to read. Damage is no error here: the text tells it behind the pieces
-    /// that stand before it.
+    /// What the bytes are, piece by piece. Damage is no error here: it is told beside the pieces that stand before it.
     ///
     /// ```
-    /// use bcs_proved::{Form, Format, Registry};
+    /// use bcs_proved::Registry;
     ///
     /// let registry = Registry::read("{}")?;
-    /// let option = Format::json(r#"{"OPTION":"U8"}"#);
-    /// let explanation = registry.explain(&option, [1, 7], Form::Ways)?;
+    /// let found = registry.explain(r#"{"OPTION":"U8"}"#, [1, 7])?;
+    /// let told: Vec<_> = found.pieces.iter().map(|it| (it.place, it.what.as_str(), it.value.as_str(), it.name.as_str())).collect();
+    /// assert_eq!(told, [(0, "OPTION", "true", "."), (1, "U8", "7", "?")]);
+    /// assert_eq!(found.stop, None);
+    /// # Ok::<(), bcs_proved::Error>(())
+    /// ```
+    pub fn explain(&self, format: impl Into<Format>, bytes: impl AsRef<[u8]>) -> Result<Pieces, Error> {
+        Ok(Pieces::of(&self.explain_text(format, bytes, Form::Json)?))
+    }
+
+    /// The same as a text for people to read, which tells damage behind the pieces that stand before it.
+    ///
+    /// ```
+    /// use bcs_proved::{Form, Registry};
+    ///
+    /// let registry = Registry::read("{}")?;
+    /// let explanation = registry.explain_text(r#"{"OPTION":"U8"}"#, [1, 7], Form::Ways)?;
     /// let lines: Vec<Vec<&str>> = explanation.text.lines().map(|line| line.split_whitespace().collect()).collect();
     /// assert_eq!(lines, [["0", "01", "OPTION", "present", "."].to_vec(), ["1", "07", "U8", "7", "?"].to_vec()]);
     /// assert_eq!(explanation.stop, None);
     /// # Ok::<(), bcs_proved::Error>(())
     /// ```
-    pub fn explain(
+    pub fn explain_text(
         &self,
         format: impl Into<Format>,
         bytes: impl AsRef<[u8]>,
@@ -232,6 +274,16 @@ impl Registry {
         let room = bytes.len().saturating_mul(24).saturating_add(1024);
         let (text, answer) = fill(room, |out| self.open.explain(self.question(&format), form.number(), bytes, out))?;
         Ok(Explanation { text: into_text(text), stop: stop(answer) })
+    }
+
+    /// The error of a text, with where it is refused.
+    fn of_text(&self, error: Error, format: &Format, text: &[u8]) -> Error {
+        error.told_by(|what| told(|out| self.open.text_place(self.question(format), what, text, out)))
+    }
+
+    /// The error of bytes, with the way to where they stop.
+    fn of_bytes(&self, error: Error, format: &Format, bytes: &[u8]) -> Error {
+        error.told_by(|what| told(|out| self.open.stop_place(self.question(format), what, bytes, out)))
     }
 
     fn question<'a>(&self, format: &'a Format) -> Question<'a> {
@@ -268,23 +320,33 @@ fn done_unless_no(answer: Answer) -> Result<Option<Answer>, Error> {
     }
 }
 
-/// Makes a call with an output that has `room`, and once more with as much as it asks for where that is too short.
+/// The output of a call that is done.
 fn fill(room: usize, call: impl Fn(&mut [u8]) -> Answer) -> Result<(Vec<u8>, Answer), Error> {
+    let (out, answer) = put(room, call)?;
+    Ok((out, done(answer)?))
+}
+
+/// Makes a call with an output that has `room`, and once more with as much as it asks for where that is too short.
+fn put(room: usize, call: impl Fn(&mut [u8]) -> Answer) -> Result<(Vec<u8>, Answer), Error> {
     let mut out = Vec::new();
     let mut room = room;
     loop {
         let missing = room.saturating_sub(out.len());
-        out.try_reserve_exact(missing).map_err(|_| Error::Memory)?;
+        out.try_reserve_exact(missing).map_err(|_| ErrorKind::Memory)?;
         out.resize(room, 0);
         let answer = call(&mut out);
-        if answer.status == sys::SHORT {
-            room = answer.length;
-            continue;
+        if answer.status != sys::SHORT {
+            out.truncate(answer.length);
+            return Ok((out, answer));
         }
-        done(answer)?;
-        out.truncate(answer.length);
-        return Ok((out, answer));
+        room = answer.length;
     }
+}
+
+/// What a call tells of a refusal, if it does.
+fn told(call: impl Fn(&mut [u8]) -> Answer) -> Option<String> {
+    let (text, answer) = put(200, call).ok()?;
+    (answer.status == sys::DONE).then(|| into_text(text))
 }
 
 fn into_text(text: Vec<u8>) -> String {

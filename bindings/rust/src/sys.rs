@@ -25,6 +25,10 @@ pub(crate) const PATHS: u32 = 1;
 pub(crate) const TREE: u32 = 2;
 pub(crate) const JSON: u32 = 3;
 
+// What is told of a refusal: `enum bcs_what`.
+pub(crate) const WHERE: u32 = 0;
+pub(crate) const WANTED: u32 = 1;
+
 /// The one fault of `enum bcs_fault` that belongs to no enum of `faults`, beside that of a path, which its status tells.
 pub(crate) const SHOWN_TOO_NESTED: u32 = 501;
 
@@ -106,6 +110,31 @@ unsafe extern "C" {
         form: u32,
         bytes: *const u8,
         bytes_length: usize,
+        out: *mut u8,
+        out_length: usize,
+    ) -> Answer;
+    fn bcs_handle_text_place(
+        handle: &mut Handle,
+        ask: &HandleAsk<'_>,
+        what: u32,
+        text: *const u8,
+        text_length: usize,
+        out: *mut u8,
+        out_length: usize,
+    ) -> Answer;
+    fn bcs_handle_stop_place(
+        handle: &mut Handle,
+        ask: &HandleAsk<'_>,
+        what: u32,
+        bytes: *const u8,
+        bytes_length: usize,
+        out: *mut u8,
+        out_length: usize,
+    ) -> Answer;
+    fn bcs_registry_place(
+        what: u32,
+        registry: *const u8,
+        registry_length: usize,
         out: *mut u8,
         out_length: usize,
     ) -> Answer;
@@ -215,6 +244,25 @@ impl Open {
         })
     }
 
+    pub(crate) fn text_place(&self, question: Question, what: u32, text: &[u8], out: &mut [u8]) -> Answer {
+        // SAFETY: the slices are borrowed for the call, `out` alone for writing.
+        self.with(question, |handle, ask| unsafe {
+            bcs_handle_text_place(handle, ask, what, text.as_ptr(), text.len(), out.as_mut_ptr(), out.len())
+        })
+    }
+
+    pub(crate) fn stop_place(&self, question: Question, what: u32, bytes: &[u8], out: &mut [u8]) -> Answer {
+        // SAFETY: the slices are borrowed for the call, `out` alone for writing.
+        self.with(question, |handle, ask| unsafe {
+            bcs_handle_stop_place(handle, ask, what, bytes.as_ptr(), bytes.len(), out.as_mut_ptr(), out.len())
+        })
+    }
+
+    /// The registry's text.
+    pub(crate) fn text(&self) -> &[u8] {
+        &self.text
+    }
+
     /// Makes a call with a handle that nobody else has.
     fn with(&self, question: Question, call: impl FnOnce(&mut Handle, &HandleAsk) -> Answer) -> Answer {
         let ask = HandleAsk {
@@ -242,6 +290,11 @@ impl Open {
     fn change<T>(&self, by: impl FnOnce(&mut Vec<Handle>) -> T) -> T {
         by(&mut self.free.lock().unwrap_or_else(PoisonError::into_inner))
     }
+}
+
+pub(crate) fn registry_place(what: u32, text: &[u8], out: &mut [u8]) -> Answer {
+    // SAFETY: the slices are borrowed for the call, `out` alone for writing.
+    unsafe { bcs_registry_place(what, text.as_ptr(), text.len(), out.as_mut_ptr(), out.len()) }
 }
 
 /// A place in bytes that are in memory.

@@ -2,6 +2,10 @@
 use crate::error::Error;
 use crate::format::Format;
 use crate::registry::Registry;
+use crate::serde_in::value_of;
+use crate::serde_out::json_of;
+use serde::Serialize;
+use serde::de::DeserializeOwned;
 use serde_json::Value;
 
 /// With the feature `serde_json`.
@@ -35,5 +39,39 @@ impl Registry {
     pub fn decode_value(&self, format: impl Into<Format>, bytes: impl AsRef<[u8]>) -> Result<Value, Error> {
         let text = self.decode(format, bytes)?;
         Ok(serde_json::from_str(&text).expect("a normal text is JSON"))
+    }
+
+    /// The bytes of a value of a type that `serde` knows. A struct is a STRUCT, a newtype a NEWTYPESTRUCT, a tuple struct a
+    /// TUPLESTRUCT, an enum an ENUM by the names of its variants, a `HashMap` or `BTreeMap` a MAP. BYTES are what
+    /// `serde` takes for bytes, as with the crate `serde_bytes`; a `Vec<u8>` is a SEQ of U8.
+    ///
+    /// ```
+    /// use bcs_proved::Registry;
+    /// use serde::{Deserialize, Serialize};
+    ///
+    /// #[derive(Serialize, Deserialize, Debug, PartialEq)]
+    /// struct Payment {
+    ///     to: String,
+    ///     amount: u64,
+    /// }
+    ///
+    /// let registry = Registry::read(r#"{"Payment":{"STRUCT":[{"to":"STR"},{"amount":"U64"}]}}"#)?;
+    /// let payment = Payment { to: "bob".into(), amount: 7 };
+    /// let bytes = registry.to_bytes("Payment", &payment)?;
+    /// assert_eq!(bytes, b"\x03bob\x07\0\0\0\0\0\0\0");
+    /// assert_eq!(registry.from_bytes::<Payment>("Payment", &bytes)?, payment);
+    /// # Ok::<(), bcs_proved::Error>(())
+    /// ```
+    pub fn to_bytes<T: Serialize + ?Sized>(&self, format: impl Into<Format>, value: &T) -> Result<Vec<u8>, Error> {
+        self.encode_value(format, &json_of(value)?)
+    }
+
+    /// The value whose bytes these are, all of them, as a type that `serde` knows.
+    pub fn from_bytes<T: DeserializeOwned>(
+        &self,
+        format: impl Into<Format>,
+        bytes: impl AsRef<[u8]>,
+    ) -> Result<T, Error> {
+        Ok(value_of(self.decode_value(format, bytes)?)?)
     }
 }

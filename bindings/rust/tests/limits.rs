@@ -1,5 +1,5 @@
 //! Limits: of the depth, and of the nodes.
-use bcs_proved::{Error, Form, Format, Limits, Reason, Registry, Stop, TextFault};
+use bcs_proved::{ErrorKind, Form, Format, Limits, Reason, Registry, Stop, TextFault};
 
 mod common;
 use common::plain;
@@ -26,7 +26,7 @@ fn the_standard_limits_are_the_greatest() {
     assert_eq!(plain().limits(), Limits::STANDARD);
     assert_eq!(chains().scan("Chain", chain(500)), Ok(500));
     let stop = Stop { reason: Reason::TooDeep, place: 500 };
-    assert_eq!(chains().scan("Chain", chain(501)), Err(Error::Bytes(stop)));
+    assert_eq!(chains().scan("Chain", chain(501)).unwrap_err(), ErrorKind::Bytes(stop));
 }
 
 #[test]
@@ -34,11 +34,11 @@ fn a_smaller_depth_refuses() {
     let registry = chains().with_limits(Limits { depth: 2, ..Limits::default() });
     let stop = Stop { reason: Reason::TooDeep, place: 2 };
     assert_eq!(registry.decode("Chain", chain(2)).unwrap(), chain_text(2));
-    assert_eq!(registry.decode("Chain", chain(3)), Err(Error::Bytes(stop)));
-    assert_eq!(registry.part("Chain", &chain(3), "."), Err(Error::Bytes(stop)));
-    assert_eq!(registry.explain("Chain", chain(3), Form::Ways).unwrap().stop, Some(stop));
+    assert_eq!(registry.decode("Chain", chain(3)).unwrap_err(), ErrorKind::Bytes(stop));
+    assert_eq!(registry.part("Chain", &chain(3), ".").unwrap_err(), ErrorKind::Bytes(stop));
+    assert_eq!(registry.explain_text("Chain", chain(3), Form::Ways).unwrap().stop, Some(stop));
     assert_eq!(registry.encode("Chain", chain_text(2)).unwrap(), chain(2));
-    assert_eq!(registry.encode("Chain", chain_text(3)), Err(Error::Text(TextFault::TooDeep)));
+    assert_eq!(registry.encode("Chain", chain_text(3)).unwrap_err(), ErrorKind::Text(TextFault::TooDeep));
 }
 
 #[test]
@@ -49,11 +49,11 @@ fn fewer_nodes_refuse() {
     let three = plain().with_limits(Limits { nodes: 3, ..Limits::default() });
     let stop = Stop { reason: Reason::TooManyNodes, place: 3 };
     assert_eq!(four.decode(list, [3, 0, 1, 2]).unwrap(), r#""000102""#);
-    assert_eq!(three.decode(list, [3, 0, 1, 2]), Err(Error::Bytes(stop)));
+    assert_eq!(three.decode(list, [3, 0, 1, 2]).unwrap_err(), ErrorKind::Bytes(stop));
     assert_eq!(four.encode(list, "[0,1,2]").unwrap(), [3, 0, 1, 2]);
-    assert_eq!(three.encode(list, "[0,1,2]"), Err(Error::Text(TextFault::TooManyNodes)));
-    assert_eq!(three.normalise(list, "[0,1,2]"), Err(Error::Text(TextFault::TooManyNodes)));
-    assert_eq!(three.equal(list, "[0,1,2]", "[]"), Err(Error::Text(TextFault::TooManyNodes)));
+    assert_eq!(three.encode(list, "[0,1,2]").unwrap_err(), ErrorKind::Text(TextFault::TooManyNodes));
+    assert_eq!(three.normalise(list, "[0,1,2]").unwrap_err(), ErrorKind::Text(TextFault::TooManyNodes));
+    assert_eq!(three.equal(list, "[0,1,2]", "[]").unwrap_err(), ErrorKind::Text(TextFault::TooManyNodes));
 }
 
 #[test]
@@ -61,14 +61,14 @@ fn a_depth_above_500_is_refused_by_each_call() {
     let unit = &Format::json(r#""UNIT""#);
     for depth in [501, u32::MAX] {
         let registry = plain().with_limits(Limits { depth, ..Limits::default() });
-        assert_eq!(registry.check(unit), Err(Error::Limits));
-        assert_eq!(registry.encode(unit, "null"), Err(Error::Limits));
-        assert_eq!(registry.decode(unit, ""), Err(Error::Limits));
-        assert_eq!(registry.normalise(unit, "null"), Err(Error::Limits));
-        assert_eq!(registry.equal(unit, "null", "null"), Err(Error::Limits));
-        assert_eq!(registry.scan(unit, ""), Err(Error::Limits));
-        assert_eq!(registry.part(unit, "", "."), Err(Error::Limits));
-        assert_eq!(registry.explain(unit, "", Form::Ways), Err(Error::Limits));
+        assert_eq!(registry.check(unit).unwrap_err(), ErrorKind::Limits);
+        assert_eq!(registry.encode(unit, "null").unwrap_err(), ErrorKind::Limits);
+        assert_eq!(registry.decode(unit, "").unwrap_err(), ErrorKind::Limits);
+        assert_eq!(registry.normalise(unit, "null").unwrap_err(), ErrorKind::Limits);
+        assert_eq!(registry.equal(unit, "null", "null").unwrap_err(), ErrorKind::Limits);
+        assert_eq!(registry.scan(unit, "").unwrap_err(), ErrorKind::Limits);
+        assert_eq!(registry.part(unit, "", ".").unwrap_err(), ErrorKind::Limits);
+        assert_eq!(registry.explain_text(unit, "", Form::Ways).unwrap_err(), ErrorKind::Limits);
     }
 }
 

@@ -1,5 +1,5 @@
 //! What is refused, with the fault's name and its place. The faults are those that docs/FORMAT.md tells.
-use bcs_proved::{Error, Form, Format, GrowthFault, Reason, Registry, RegistryFault, Stop, TextFault};
+use bcs_proved::{Error, ErrorKind, Form, Format, GrowthFault, Reason, Registry, RegistryFault, Stop, TextFault};
 
 mod common;
 use common::{bytes, example, example_bytes, example_registry, plain};
@@ -19,9 +19,9 @@ fn registries_are_refused() {
         (r#"{"A":{"NEWTYPESTRUCT":{"TYPENAME":"B"}}}"#, RegistryFault::UnknownName),
     ];
     for (text, fault) in rows {
-        assert_eq!(Registry::read(text).err(), Some(Error::Registry(fault)), "{text}");
+        assert_eq!(Registry::read(text).unwrap_err(), ErrorKind::Registry(fault), "{text}");
     }
-    assert_eq!(Registry::read(b"{\"\xff\":\"UNITSTRUCT\"}").err(), Some(Error::Registry(RegistryFault::NotJson)));
+    assert_eq!(Registry::read(b"{\"\xff\":\"UNITSTRUCT\"}").unwrap_err(), ErrorKind::Registry(RegistryFault::NotJson));
 }
 
 #[test]
@@ -38,15 +38,15 @@ fn formats_are_refused_by_each_call() {
         (Format::json(r#"{"TUPLEARRAY":{"CONTENT":"U8","SIZE":-1}}"#), RegistryFault::BadNumber),
     ];
     for (format, fault) in &rows {
-        let error = Error::Format(*fault);
-        assert_eq!(registry.check(format), Err(error), "{format:?}");
-        assert_eq!(registry.encode(format, "null"), Err(error), "{format:?}");
-        assert_eq!(registry.decode(format, ""), Err(error), "{format:?}");
-        assert_eq!(registry.normalise(format, "null"), Err(error), "{format:?}");
-        assert_eq!(registry.equal(format, "null", "null"), Err(error), "{format:?}");
-        assert_eq!(registry.scan(format, ""), Err(error), "{format:?}");
-        assert_eq!(registry.part(format, "", "."), Err(error), "{format:?}");
-        assert_eq!(registry.explain(format, "", Form::Ways), Err(error), "{format:?}");
+        let error = ErrorKind::Format(*fault);
+        assert_eq!(registry.check(format).unwrap_err(), error, "{format:?}");
+        assert_eq!(registry.encode(format, "null").unwrap_err(), error, "{format:?}");
+        assert_eq!(registry.decode(format, "").unwrap_err(), error, "{format:?}");
+        assert_eq!(registry.normalise(format, "null").unwrap_err(), error, "{format:?}");
+        assert_eq!(registry.equal(format, "null", "null").unwrap_err(), error, "{format:?}");
+        assert_eq!(registry.scan(format, "").unwrap_err(), error, "{format:?}");
+        assert_eq!(registry.part(format, "", ".").unwrap_err(), error, "{format:?}");
+        assert_eq!(registry.explain_text(format, "", Form::Ways).unwrap_err(), error, "{format:?}");
     }
 }
 
@@ -60,7 +60,7 @@ fn growth_is_refused() {
         (r#"{"E":{"ENUM":{"0":{"D":"UNIT"},"300":{"B":{"NEWTYPE":"U8"}}}}}"#, GrowthFault::VariantChanged),
     ];
     for (text, fault) in rows {
-        assert_eq!(older.grows(&Registry::read(text).unwrap()), Err(Error::Growth(fault)), "{text}");
+        assert_eq!(older.grows(&Registry::read(text).unwrap()).unwrap_err(), ErrorKind::Growth(fault), "{text}");
     }
 }
 
@@ -86,17 +86,17 @@ fn texts_are_refused() {
     let registry = Registry::read(r#"{"P":{"STRUCT":[{"x":"U8"}]},"E":{"ENUM":{"0":{"A":"UNIT"}}}}"#).unwrap();
     for (format, text, fault) in rows {
         let format = &Format::json(format);
-        assert_eq!(registry.encode(format, text), Err(Error::Text(fault)), "{text}");
-        assert_eq!(registry.normalise(format, text), Err(Error::Text(fault)), "{text}");
-        assert_eq!(registry.equal(format, text, text), Err(Error::Text(fault)), "{text}");
+        assert_eq!(registry.encode(format, text).unwrap_err(), ErrorKind::Text(fault), "{text}");
+        assert_eq!(registry.normalise(format, text).unwrap_err(), ErrorKind::Text(fault), "{text}");
+        assert_eq!(registry.equal(format, text, text).unwrap_err(), ErrorKind::Text(fault), "{text}");
     }
 }
 
 #[test]
 fn a_fault_of_the_first_text_is_told() {
     let number = &Format::json(r#""U64""#);
-    assert_eq!(plain().equal(number, "null", "x"), Err(Error::Text(TextFault::BadShape)));
-    assert_eq!(plain().equal(number, "7", "x"), Err(Error::Text(TextFault::NotJson)));
+    assert_eq!(plain().equal(number, "null", "x").unwrap_err(), ErrorKind::Text(TextFault::BadShape));
+    assert_eq!(plain().equal(number, "7", "x").unwrap_err(), ErrorKind::Text(TextFault::NotJson));
 }
 
 #[test]
@@ -124,11 +124,11 @@ fn bytes_are_refused_at_a_place() {
             assert_eq!(registry.scan(format, &input), Ok(place), "{digits}");
             input.push(0);
         } else {
-            assert_eq!(registry.scan(format, &input), Err(Error::Bytes(stop)), "{digits}");
-            assert_eq!(registry.part(format, &input, "."), Err(Error::Bytes(stop)), "{digits}");
+            assert_eq!(registry.scan(format, &input).unwrap_err(), ErrorKind::Bytes(stop), "{digits}");
+            assert_eq!(registry.part(format, &input, ".").unwrap_err(), ErrorKind::Bytes(stop), "{digits}");
         }
-        assert_eq!(registry.decode(format, &input), Err(Error::Bytes(stop)), "{digits}");
-        let explanation = registry.explain(format, &input, Form::Ways).unwrap();
+        assert_eq!(registry.decode(format, &input).unwrap_err(), ErrorKind::Bytes(stop), "{digits}");
+        let explanation = registry.explain_text(format, &input, Form::Ways).unwrap();
         assert_eq!(explanation.stop, Some(stop), "{digits}");
         let last_line = explanation.text.lines().last().unwrap();
         assert!(last_line.contains(&format!("! {} at {place}, ", reason.name())), "{last_line}");
@@ -139,9 +139,9 @@ fn bytes_are_refused_at_a_place() {
 fn damaged_transactions_are_refused() {
     let (aptos, sui) = (example_registry("aptos_registry"), example_registry("sui_registry"));
     let text = example("aptos_transfer_damaged.json");
-    assert_eq!(aptos.encode("RawTransaction", text), Err(Error::Text(TextFault::BadHex)));
+    assert_eq!(aptos.encode("RawTransaction", text).unwrap_err(), ErrorKind::Text(TextFault::BadHex));
     let text = example("sui_stake_damaged.json");
-    assert_eq!(sui.encode("TransactionData", text), Err(Error::Text(TextFault::MissingField)));
+    assert_eq!(sui.encode("TransactionData", text).unwrap_err(), ErrorKind::Text(TextFault::MissingField));
 
     let error = aptos.decode("RawTransaction", example_bytes("aptos_transfer_damaged")).unwrap_err();
     assert_eq!((error.name(), error.place()), (Some("LongForm"), Some(73)));
@@ -156,8 +156,8 @@ fn a_text_that_would_nest_too_deep_is_refused() {
     // A link is an object, and one more stands between two: `some`. So 50 links nest 99 deep, and 51 nest 101 deep.
     let chain = |links: usize| [vec![1; links - 1], vec![0]].concat();
     assert!(registry.decode("Chain", chain(50)).is_ok());
-    assert_eq!(registry.decode("Chain", chain(51)), Err(Error::TooNested));
-    assert_eq!(Error::TooNested.name(), Some("TooNested"));
+    assert_eq!(registry.decode("Chain", chain(51)).unwrap_err(), ErrorKind::TooNested);
+    assert_eq!(ErrorKind::TooNested.name(), Some("TooNested"));
     assert_eq!(registry.scan("Chain", chain(51)), Ok(51));
 }
 
@@ -165,28 +165,28 @@ fn a_text_that_would_nest_too_deep_is_refused() {
 fn paths_are_refused() {
     let list = &Format::json(r#"{"SEQ":"U8"}"#);
     for path in ["", "-", "/0", "0/", "01", "key:012", "./0", "some"] {
-        assert_eq!(plain().part(list, &[0], path), Err(Error::Path), "{path}");
+        assert_eq!(plain().part(list, &[0], path).unwrap_err(), ErrorKind::Path, "{path}");
     }
-    assert_eq!(Error::Path.name(), Some("BadPath"));
+    assert_eq!(ErrorKind::Path.name(), Some("BadPath"));
 }
 
 #[test]
 fn errors_say_what_is_wrong() {
     let rows = [
         (
-            Error::Registry(RegistryFault::UnknownName),
+            ErrorKind::Registry(RegistryFault::UnknownName),
             "the registry is refused: UnknownName: a TYPENAME names no container of the registry",
         ),
         (
-            Error::Text(TextFault::BadHex),
+            ErrorKind::Text(TextFault::BadHex),
             "the text is refused: BadHex: a text of bytes isn't an even number of hexadecimal digits",
         ),
         (
-            Error::Bytes(Stop { reason: Reason::BadBool, place: 65 }),
+            ErrorKind::Bytes(Stop { reason: Reason::BadBool, place: 65 }),
             "the bytes are refused: BadBool at 65: a truth value is neither 00 nor 01",
         ),
-        (Error::Limits, "the limits are refused: their depth is above 500"),
-        (Error::Memory, "memory ran out"),
+        (ErrorKind::Limits, "the limits are refused: their depth is above 500"),
+        (ErrorKind::Memory, "memory ran out"),
     ];
     for (error, message) in rows {
         assert_eq!(error.to_string(), message);
@@ -199,7 +199,47 @@ fn faults_turn_into_errors() {
         Err(fault.into())?
     }
     let stop = Stop { reason: Reason::EndOfInput, place: 0 };
-    assert_eq!(Error::from(stop), Error::Bytes(stop));
-    assert_eq!(fail(TextFault::TooLong).unwrap_err().to_string(), Error::Text(TextFault::TooLong).to_string());
-    assert_eq!(fail(GrowthFault::Missing).unwrap_err().to_string(), Error::Growth(GrowthFault::Missing).to_string());
+    assert_eq!(Error::from(stop), ErrorKind::Bytes(stop));
+    assert_eq!(fail(TextFault::TooLong).unwrap_err().to_string(), ErrorKind::Text(TextFault::TooLong).to_string());
+    assert_eq!(
+        fail(GrowthFault::Missing).unwrap_err().to_string(),
+        ErrorKind::Growth(GrowthFault::Missing).to_string()
+    );
+}
+
+/// Where something is refused and what was wanted there, as the program `bcs` says it.
+#[test]
+fn errors_tell_the_place() {
+    let text = r#"{"Point":{"STRUCT":[{"x":"U8"},{"~/":{"SEQ":"BYTES"}}]},"Shape":{"ENUM":{"2":{"Circle":{"NEWTYPE":"U64"}}}}}"#;
+    let registry = Registry::read(text).unwrap();
+    let texts = [
+        ("Point", r#"{"x":1,"~/":["","0"]}"#, "/~0~1/1", "an odd number of digits"),
+        ("Point", r#"{"x":256,"~/":[]}"#, "/x", "wanted a whole number from 0 to 255 (U8)"),
+        ("Point", r#"{"x":1}"#, "", "no member is called ~/"),
+        ("Shape", r#"{"Circle":true}"#, "/Circle", "wanted a whole number from 0 to 18446744073709551615 (U64)"),
+        (r#"{"MAP":{"KEY":"U8","VALUE":"U8"}}"#, "[[1,2],[1,3]]", "", "two keys of a map are equal"),
+        (r#""U8""#, "x", "", "line 1, column 1: serde_json stops reading there"),
+    ];
+    for (format, text, pointer, words) in texts {
+        let error = registry.encode(format, text).unwrap_err();
+        assert_eq!((error.pointer(), error.expected()), (Some(pointer), Some(words)), "{text}");
+        assert_eq!(registry.normalise(format, text).unwrap_err(), error);
+        assert_eq!(registry.equal(format, text, "").unwrap_err(), error);
+        assert!(error.to_string().ends_with(words), "{error}");
+    }
+    let second = registry.equal("Point", r#"{"x":1,"~/":[]}"#, r#"{"x":"","~/":[]}"#).unwrap_err();
+    assert_eq!(second.pointer(), Some("/x"));
+
+    let error = registry.decode("Point", [7, 1, 2, 5]).unwrap_err();
+    assert_eq!(error.to_string(), "the bytes are refused: EndOfInput at 4, .~/[0]: wanted 2 bytes of BYTES");
+    assert_eq!(registry.scan("Point", [7, 1, 2, 5]).unwrap_err(), error);
+    assert_eq!(registry.part("Point", &[7, 1, 2, 5], ".").unwrap_err(), error);
+
+    let error = Registry::read(r#"{"S":{"ENUM":{"x":{"A":"UNIT"}}}}"#).unwrap_err();
+    assert_eq!(error.pointer(), Some("/S/ENUM/x"));
+    assert_eq!(
+        error.to_string(),
+        "the registry is refused: BadNumber at /S/ENUM/x: wanted a plain decimal number below 4294967296"
+    );
+    assert_eq!(Error::from(ErrorKind::Path).pointer(), None);
 }

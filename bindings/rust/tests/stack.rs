@@ -1,5 +1,5 @@
 //! The deepest values on the stacks that README.md tells.
-use bcs_proved::{Error, Limits, Registry};
+use bcs_proved::{ErrorKind, Limits, Registry};
 use std::thread;
 
 /// What one level of a format is, before and behind its part.
@@ -29,7 +29,7 @@ fn judge_on_stack(mebibytes: usize, containers: usize) {
             let registry = chain_of(level).with_limits(Limits { depth: containers as u32, ..Limits::default() });
             let bytes = chain(containers);
             assert_eq!(registry.scan("Chain", &bytes), Ok(bytes.len()), "{level:?}");
-            assert_eq!(registry.decode("Chain", &bytes), Err(Error::TooNested), "{level:?}");
+            assert_eq!(registry.decode("Chain", &bytes).unwrap_err(), ErrorKind::TooNested, "{level:?}");
             let deeper = registry.scan("Chain", chain(containers + 1)).unwrap_err();
             assert_eq!((deeper.name(), deeper.place()), (Some("TooDeep"), Some(bytes.len() + 30)), "{level:?}");
         }

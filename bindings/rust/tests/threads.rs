@@ -17,7 +17,7 @@ fn eight_threads_use_one_registry() {
                 for _ in 0..100 {
                     assert_eq!(&registry.encode("TransactionData", text).unwrap(), hex);
                     assert_eq!(registry.decode("TransactionData", hex).unwrap(), normal.trim_end());
-                    let explanation = registry.explain("TransactionData", damaged, Form::Ways).unwrap();
+                    let explanation = registry.explain_text("TransactionData", damaged, Form::Ways).unwrap();
                     assert_eq!(format!("{explanation}refused: BadBool at 65\n"), *explained);
                     assert_eq!(explanation.stop.unwrap().place, 65);
                 }

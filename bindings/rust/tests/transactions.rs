@@ -40,7 +40,7 @@ fn another_chain_id_is_another_value() {
 #[test]
 fn explanations_are_those_of_the_examples() {
     for (registry, format, name) in TRANSACTIONS {
-        let explanation = example_registry(registry).explain(format, example_bytes(name), Form::Ways).unwrap();
+        let explanation = example_registry(registry).explain_text(format, example_bytes(name), Form::Ways).unwrap();
         assert_eq!(explanation.text, example(&format!("{name}.explained")), "{name}");
         assert_eq!(explanation.stop, None, "{name}");
     }
@@ -53,7 +53,7 @@ fn damage_is_explained() {
         ("sui_registry", "TransactionData", "sui_stake_damaged", Reason::BadBool, 65),
     ];
     for (registry, format, name, reason, place) in damaged {
-        let explanation = example_registry(registry).explain(format, example_bytes(name), Form::Ways).unwrap();
+        let explanation = example_registry(registry).explain_text(format, example_bytes(name), Form::Ways).unwrap();
         // The program prints the refusal behind the explanation.
         let printed = format!("{explanation}refused: {} at {place}\n", reason.name());
         assert_eq!(printed, example(&format!("{name}.explained")), "{name}");

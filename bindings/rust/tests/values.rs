@@ -31,6 +31,11 @@ fn container_names_may_be_any_text() {
     for name in names {
         let text = format!(r#"{{{}:{{"NEWTYPESTRUCT":"U8"}}}}"#, json_string(name));
         let registry = Registry::read(text).unwrap();
+        assert_eq!(registry.encode(Format::named(name), "7").unwrap(), [7], "{name:?}");
+        // (a text that begins so is JSON, as for the program)
+        if name.starts_with(['{', '"']) {
+            continue;
+        }
         assert_eq!(registry.encode(name, "7").unwrap(), [7], "{name:?}");
         let owned = name.to_owned();
         assert_eq!(registry.encode(&owned, "7").unwrap(), [7], "{name:?}");
@@ -62,7 +67,7 @@ fn texts_may_be_larger_than_what_they_come_from() {
     let normal = plain().normalise(&numbers, format!("[{}7]", "7,".repeat(999))).unwrap();
     assert_eq!(normal, format!("[{}\"7\"]", "\"7\",".repeat(999)));
 
-    let explanation = plain().explain(&truths, &input, Form::Ways).unwrap();
+    let explanation = plain().explain_text(&truths, &input, Form::Ways).unwrap();
     assert!(explanation.text.len() > 100 * input.len());
     assert_eq!(explanation.text.lines().count(), 1001);
 }
@@ -73,7 +78,7 @@ fn nothing_is_an_input_too() {
     assert_eq!(plain().encode(unit, "null").unwrap(), b"");
     assert_eq!(plain().decode(unit, "").unwrap(), "null");
     assert_eq!(plain().scan(unit, "").unwrap(), 0);
-    assert_eq!(plain().explain(unit, "", Form::Ways).unwrap().text, "");
+    assert_eq!(plain().explain_text(unit, "", Form::Ways).unwrap().text, "");
     let part = plain().part(unit, "", ".").unwrap().unwrap();
     assert_eq!((part.place, part.bytes), (0, &b""[..]));
 }
@@ -123,10 +128,47 @@ fn each_form_explains() {
         ),
     ];
     for (form, wanted) in rows {
-        let explanation = registry.explain("E", [3, 1, 9], form).unwrap();
+        let explanation = registry.explain_text("E", [3, 1, 9], form).unwrap();
         let lines: Vec<String> =
             explanation.text.lines().map(|line| line.split_whitespace().collect::<Vec<_>>().join(" ")).collect();
         assert_eq!(lines.join(" / "), wanted);
         assert_eq!(explanation.to_string(), explanation.text);
     }
+}
+
+#[test]
+fn pieces_are_told_one_by_one() {
+    let registry = Registry::read(r#"{"E":{"ENUM":{"3":{"A":{"TUPLE":["U8","STR"]}}}}}"#).unwrap();
+    let found = registry.explain("E", [3, 1, 2, b'a', b'"']).unwrap();
+    let told: Vec<_> = found
+        .pieces
+        .iter()
+        .map(|it| {
+            (it.place, it.bytes.as_slice(), it.kind.as_str(), it.what.as_str(), it.value.as_str(), it.name.as_str())
+        })
+        .collect();
+    assert_eq!(told[0], (0, &[3][..], "variant", "E::A", "3", "."));
+    assert_eq!(told[1], (1, &[1][..], "unsigned", "U8", "1", "::A[0]"));
+    assert_eq!(told[3], (3, &b"a\""[..], "text", "STR", "a\"", "::A[1]"));
+    assert_eq!((told.len(), found.stop), (4, None));
+    let stopped = registry.explain("E", [3, 1, 2]).unwrap();
+    assert_eq!((stopped.pieces.len(), stopped.stop.unwrap().place), (3, 3));
+}
+
+#[test]
+fn names_are_those_of_the_containers() {
+    assert!(common::example_registry("aptos_registry").names().iter().any(|name| name == "RawTransaction"));
+    let text = r#" { "a\n\"\u00e9" : "UNITSTRUCT", "B" : {"ENUM":{"0":{"}]\\":"UNIT"}}} } "#;
+    assert_eq!(Registry::read(text).unwrap().names(), ["a\n\"é", "B"]);
+    assert!(Registry::read("{}").unwrap().names().is_empty());
+}
+
+#[test]
+fn formats_are_taken_as_the_program_takes_them() {
+    let registry = Registry::read(r#"{"Id":{"NEWTYPESTRUCT":"U16"}}"#).unwrap();
+    for format in ["Id", r#"{"TYPENAME":"Id"}"#, r#""U16""#] {
+        assert_eq!(registry.encode(format, "7").unwrap(), [7, 0]);
+        assert_eq!(registry.encode(String::from(format), "7").unwrap(), [7, 0]);
+    }
+    assert_eq!(registry.check(Format::named(r#""U16""#)).unwrap_err().name(), Some("UnknownName"));
 }

@@ -5,3 +5,4 @@ pub mod Holdings
 pub mod RawBoxes
 pub mod RegistrySend
 pub mod Steps
+pub mod PointerParts

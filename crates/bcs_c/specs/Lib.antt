@@ -13,3 +13,5 @@ pub mod Parts
 pub mod Explained
 pub mod Named
 pub mod Holding
+pub mod Pointers
+pub mod Places

@@ -15,6 +15,7 @@ ghost use Rattle.bcs_c.specs.Denoted.{AnswersText};
 ghost use Rattle.bcs_c.specs.Explained.{AnswersExplained};
 ghost use Rattle.bcs_c.specs.Opened.{AnswersOpening};
 ghost use Rattle.bcs_c.specs.Parts.{AnswersPart, Finds, IsPath, Steps};
+ghost use Rattle.bcs_c.specs.Places.{AnswersStopPlace, AnswersTextPlace};
 ghost use Rattle.bcs_c.specs.Registries.{IsRegistry};
 ghost use Rattle.bcs_c.specs.Scanned.{AnswersScan};
 ghost use Rattle.bcs_c.specs.Shown.{AnswersBytes};
@@ -27,6 +28,7 @@ use crate::ask::HandleAsk;
 use crate::checking::soundness;
 use crate::explaining::explanation;
 use crate::parts::part_place;
+use crate::places::{place_of_stop, text_place};
 use crate::scanning::value_length;
 use crate::showing::bytes_text;
 use crate::status::Status;
@@ -216,6 +218,50 @@ pub extern "C" fn bcs_handle_explain(
         return Answer::plain(Status::Closed);
     };
     let answer = explanation(alloc, &registry, ask, form, bytes, out);
+    handle.put(registry);
+    answer
+}
+
+/// Where a JSON text is refused, or what was wanted there, at the front of the output.
+#[unsafe(no_mangle)]
+pub extern "C" fn bcs_handle_text_place(
+    alloc: Global,
+    handle: &mut Handle,
+    ask: &HandleAsk,
+    what: u32,
+    text: &[u8],
+    out: &mut [u8],
+) -> Answer
+    ensures answers { Answers (on_handle handle.old.registry ask.now) result (λ r l s. AnswersTextPlace r l s what text.now out.old out.new result) }
+    ensures untouched { result.status ≢ status_number Done → out.new ≡ out.old }
+    ensures kept { handle.new.registry ≡ handle.old.registry }
+{
+    let Some(registry) = handle.take(alloc) else {
+        return Answer::plain(Status::Closed);
+    };
+    let answer = text_place(alloc, &registry, ask, what, text, out);
+    handle.put(registry);
+    answer
+}
+
+/// The way to where bytes stop being a value, or what was wanted there, at the front of the output.
+#[unsafe(no_mangle)]
+pub extern "C" fn bcs_handle_stop_place(
+    alloc: Global,
+    handle: &mut Handle,
+    ask: &HandleAsk,
+    what: u32,
+    bytes: &[u8],
+    out: &mut [u8],
+) -> Answer
+    ensures answers { Answers (on_handle handle.old.registry ask.now) result (λ r l s. AnswersStopPlace r l s bytes.now out.old out.new result) }
+    ensures untouched { result.status ≢ status_number Done → out.new ≡ out.old }
+    ensures kept { handle.new.registry ≡ handle.old.registry }
+{
+    let Some(registry) = handle.take(alloc) else {
+        return Answer::plain(Status::Closed);
+    };
+    let answer = place_of_stop(alloc, &registry, ask, what, bytes, out);
     handle.put(registry);
     answer
 }

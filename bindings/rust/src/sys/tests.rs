@@ -90,6 +90,8 @@ fn numbers_are_those_of_the_header() {
             ("PATHS", sys::PATHS),
             ("TREE", sys::TREE),
             ("JSON", sys::JSON),
+            ("WHERE", sys::WHERE),
+            ("WANTED", sys::WANTED),
             ("FAULT_NONE", 0),
             ("PATH_BAD_PATH", 601),
             ("SHOWN_TOO_NESTED", sys::SHOWN_TOO_NESTED),

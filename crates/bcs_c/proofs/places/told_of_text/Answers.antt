@@ -1,0 +1,21 @@
+use Rattle.std.proofs.Common.{◌∙◌, Err, List, Ok, Result, ap, map, sym, ℕ}
+use Rattle.std.specs.Prelude.{IfOk, IfSome}
+use Rattle.std.specs.Result.{result_ok}
+use Rattle.bcs_json_spec.specs.Place.{step_of}
+use Rattle.bcs_json_spec.specs.declared.json_step.JsonStep.{JsonStep}
+use Rattle.bcs_c.specs.Places.{placed, whole}
+use Rattle.bcs_c.specs.Pointers.{pointer}
+use Rattle.bcs_c.proofs.places.told_of_text.Goals as goal
+
+some_of_ok : {X E : Type 0} (r : Result X E) {P Q : X → Type 0} → IfOk r P → ((x : X) → P x → Q x) → IfSome (result_ok r) Q
+some_of_ok (Ok x) h f = f x h
+some_of_ok (Err e) h f = tt
+
+pub returns-then-has_no_way : goal.returns-then-has_no_way
+returns-then-has_no_way c what refuses = whole c.args.fault refuses (sym c.has_no_way.ensures ∙ c.if-has_no_way.true) c.new.ensures.items
+
+pub returns-in_ok-steps : goal.returns-in_ok-steps
+returns-in_ok-steps c =
+    rw c.ok.ensures.value (some_of_ok c.pointer_of.result c.pointer_of.ensures (λ x is what refuses.
+    placed (map step_of c.in_ok-steps.steps.items) c.in_ok-steps.field-0-0 c.in_ok-steps.ensures.place
+    (is ∙ ap (λ (steps : List JsonStep). pointer (map step_of steps)) c.deref.ensures.value)))

@@ -1,0 +1,7 @@
+use Rattle.std.proofs.Common.{◌≡◌, ◌++◌, drop, flat_map}
+use Rattle.bcs_c.specs.Pointers.{marked, marked_sign}
+use Rattle.bcs_c.proofs.pointers.put_marked.Given as goal
+
+-- what was put so far, before the bytes that are left
+abbrev pub invariant-loop-sign : goal.invariant-loop-sign
+invariant-loop-sign l = l.out.items ++ flat_map marked_sign (drop l.sign-index l.name) ≡ l.initial.out.items ++ marked l.name

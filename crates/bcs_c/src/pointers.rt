@@ -1,0 +1,51 @@
+//! JSON Pointers.
+ghost use Rattle.std.specs.Prelude.{◌≡◌, ◌++◌, IfOk, OnOk, map, string_bytes};
+ghost use Rattle.bcs_json_spec.specs.Place.{step_of};
+ghost use Rattle.bcs_c.specs.Pointers.{marked, marked_sign, pointer, pointer_step};
+
+use bcs_json_spec::JsonStep;
+use bcs_look_text::columns::put_decimal;
+use std::alloc::{AllocError, Global};
+
+/// The steps down to JSON, as a JSON Pointer.
+pub(crate) fn pointer_of(alloc: Global, steps: &[JsonStep]) -> Result<Vec<u8>, AllocError>
+    ensures { IfOk result (λ text. text.items ≡ pointer (map step_of steps.now)) }
+{
+    let mut out = Vec::new(alloc);
+    for step in steps {
+        put_step(step, &mut out)?;
+    }
+    Ok(out)
+}
+
+/// Appends a step.
+fn put_step(step: &JsonStep, out: &mut Vec<u8>) -> Result<(), AllocError>
+    ensures { OnOk result (out.new.items ≡ out.old.items ++ pointer_step (step_of step.now)) }
+{
+    out.push(b'/')?;
+    match step {
+        JsonStep::Item(number) => put_decimal(u128::from(*number), out),
+        JsonStep::Member(name) => put_marked(name.as_bytes(), out),
+    }
+}
+
+/// Appends a name.
+fn put_marked(name: &[u8], out: &mut Vec<u8>) -> Result<(), AllocError>
+    ensures { OnOk result (out.new.items ≡ out.old.items ++ marked name.now) }
+{
+    for sign in name {
+        put_sign(*sign, out)?;
+    }
+    Ok(())
+}
+
+/// Appends a byte of a name.
+fn put_sign(sign: u8, out: &mut Vec<u8>) -> Result<(), AllocError>
+    ensures { OnOk result (out.new.items ≡ out.old.items ++ marked_sign sign) }
+{
+    match sign {
+        b'~' => out.extend_from_slice(b"~0"),
+        b'/' => out.extend_from_slice(b"~1"),
+        _ => out.extend_from_slice(&[sign]),
+    }
+}
