@@ -8,8 +8,9 @@
     {'amount': '7', 'to': 'bob'}
 
 A value is what `json` makes of its JSON: a struct is a dict, a MAP a list of pairs, BYTES a string of hexadecimal digits (or
-`bytes`, where they are handed over), and whole numbers of 64 and 128 bits come as strings of digits. The methods with
-`_text` in their names take and give the JSON text itself.
+`bytes`, where they are handed over), and whole numbers of 64 and 128 bits come as strings of digits. With `native=True`
+they come as `int`, and BYTES and lists of U8 as `bytes`, so that what was encoded comes back. The methods with `_text` in
+their names take and give the JSON text itself.
 
 A format is a container's name, as "Payment"; or a text that begins with `{` or `"`, as '"U8"' or '{"SEQ":"U8"}', or a dict,
 as {"SEQ": "U8"}, which are its JSON.
@@ -26,6 +27,7 @@ import functools
 import json
 import os
 import pathlib
+import re
 import weakref
 from typing import Any, Callable, Mapping, NamedTuple, Optional, TypeVar, Union
 
@@ -53,18 +55,27 @@ Data = Union[bytes, bytearray, memoryview]
 
 class BcsError(Exception):
     """Something is refused. `reason` is the fault's name, as "BadBool"; `place` is where bytes stop being a value, counted
-    from the front, and None where the fault has no place."""
+    from the front, and None where the fault has no place.
+
+    `pointer` says where it is: of a text as a JSON Pointer, as "/payload/args/1", which is empty where the text is refused as
+    a whole; of bytes the way to where they stop, as ".payload.args[1]"; and of a registry its place as `bcs` prints it.
+    `expected` says what was wanted there, in words for people. Each is None where it isn't told."""
 
     what = "refused"
 
-    def __init__(self, reason: str, place: Optional[int] = None) -> None:
+    def __init__(
+        self, reason: str, place: Optional[int] = None, pointer: Optional[str] = None, expected: Optional[str] = None
+    ) -> None:
         self.reason = reason
         self.place = place
-        super().__init__(reason, place)
+        self.pointer = pointer
+        self.expected = expected
+        super().__init__(reason, place, pointer, expected)
 
     def __str__(self) -> str:
-        where = "" if self.place is None else f" at {self.place}"
-        return f"{self.what}: {self.reason}{where}"
+        where = ", ".join([*([] if self.place is None else [str(self.place)]), *([self.pointer] if self.pointer else [])])
+        words = f": {self.expected}" if self.expected else ""
+        return f"{self.what}: {self.reason}{f' at {where}' if where else ''}{words}"
 
 
 class RegistryError(BcsError):
@@ -200,9 +211,16 @@ _CALLS: dict[str, list[Any]] = {
     "bcs_handle_scan": _ASK + _IN,
     "bcs_handle_part": _ASK + _IN + _IN,
     "bcs_handle_explain": _ASK + [ctypes.c_uint32] + _IN + _OUT,
+    "bcs_handle_text_place": _ASK + [ctypes.c_uint32] + _IN + _OUT,
+    "bcs_handle_stop_place": _ASK + [ctypes.c_uint32] + _IN + _OUT,
+    "bcs_registry_place": [ctypes.c_uint32] + _IN + _OUT,
     "bcs_fault_name": [ctypes.c_uint32] + _OUT,
 }
+# enum bcs_what of bcs.h.
+_WHERE, _WANTED = 0, 1
 _Result = TypeVar("_Result")
+# What tells of a refusal where it is, or what was wanted there, by its answer and its output.
+_Told = Callable[[int], "tuple[_Answer, bytes]"]
 
 
 class Library:
@@ -259,8 +277,12 @@ class Library:
             raise KeyError(fault)
         return name.decode()
 
-    def done(self, answer: _Answer, refused: type[BcsError]) -> None:
-        """Raises what the answer refuses: `refused` is of the input."""
+    def registry_place(self, text: bytes) -> _Told:
+        """What tells where a registry's text is refused."""
+        return lambda what: self.put("bcs_registry_place", 200, what, text, len(text))
+
+    def done(self, answer: _Answer, refused: type[BcsError], told: Optional[_Told] = None) -> None:
+        """Raises what the answer refuses: `refused` is of the input, and `told` says where it is."""
         if answer.status == _Status.DONE:
             return
         if answer.status == _Status.MEMORY:
@@ -272,9 +294,15 @@ class Library:
             _Status.PATH: PathError,
             _Status.REFUSED: refused,
         }
-        # Only where bytes stop being a value is there a place: the faults from 401 on, below 501.
-        has_place = 401 <= answer.fault < 501
-        raise errors[answer.status](self.fault_name(answer.fault), answer.place if has_place else None)
+        # Only where bytes stop being a value is there an offset: the faults from 401 on, below 501.
+        place = answer.place if 401 <= answer.fault < 501 else None
+        is_placed = answer.status in (_Status.REGISTRY, _Status.NEWER, _Status.REFUSED)
+        where = [_told_text(*told(what)) for what in (_WHERE, _WANTED)] if told and is_placed else [None, None]
+        raise errors[answer.status](self.fault_name(answer.fault), place, where[0], where[1] or None)
+
+
+def _told_text(answer: _Answer, output: bytes) -> Optional[str]:
+    return output.decode() if answer.status == _Status.DONE else None
 
 
 @functools.lru_cache(maxsize=None)
@@ -296,24 +324,95 @@ def _jsonable(value: Any) -> Any:
     """JSON's readers hold whole numbers of 64 bits, so a wider one goes as the string of its digits."""
     if isinstance(value, int) and not isinstance(value, bool):
         return int(value) if -(2**63) <= value < 2**64 else str(int(value))
-    if isinstance(value, (bytes, bytearray, memoryview)):
-        return _bytes_of(value).hex()
-    if isinstance(value, Mapping):
-        return {name: _jsonable(part) for name, part in value.items()}
     if isinstance(value, (list, tuple)):
         return [_jsonable(part) for part in value]
+    if isinstance(value, Mapping):
+        return {name: _jsonable(part) for name, part in value.items()}
     return value
 
 
+def _of_json(value: Any) -> Any:
+    """What stands in JSON for a value that `json` doesn't know. Of anything else, memoryview raises TypeError."""
+    return dict(value) if isinstance(value, Mapping) else _bytes_of(value).hex()
+
+
+_JSON = json.JSONEncoder(allow_nan=False, check_circular=False, default=_of_json, separators=(",", ":"))
+# A whole number within JSON that may have more than 64 bits, or a part of a string that looks so.
+_WIDE = re.compile(r"[\[:,]-?\d{19}")
+
+
 def _json_of(value: Any) -> bytes:
-    return json.dumps(_jsonable(value), allow_nan=False).encode()
+    text = _JSON.encode(value)
+    if _WIDE.search(text) or isinstance(value, int):
+        text = _JSON.encode(_jsonable(value))
+    return text.encode()
+
+
+@functools.lru_cache(maxsize=1000)
+def _json_of_name(format: str) -> bytes:
+    """A text that begins as JSON does is a format's JSON, and any other a container's name."""
+    return _bytes_of_text(format) if format[:1] in ("{", '"') else _json_of({"TYPENAME": format})
 
 
 def _json_of_format(format: Format) -> bytes:
-    if isinstance(format, Mapping):
-        return _json_of(format)
-    text = _bytes_of_text(format)
-    return text if text[:1] in (b"{", b'"') or isinstance(format, bytes) else _json_of({"TYPENAME": format})
+    if isinstance(format, str):
+        return _json_of_name(format)
+    return _json_of(format) if isinstance(format, Mapping) else _bytes_of(format)
+
+
+_WIDE_NUMBERS = {"U64", "U128", "I64", "I128"}
+
+
+class _Native:
+    """Goes through a format and the JSON of one of its values together, which the library made. JSON nests at most 100 deep,
+    and names that hold one another without nesting take a turn of the loop each."""
+
+    def __init__(self, containers: Mapping[str, Any]) -> None:
+        self._containers = containers
+
+    def value(self, format: Any, found: Any) -> Any:
+        while not isinstance(format, str):
+            ((kind, inner),) = format.items()
+            if kind != "TYPENAME":
+                return self._part(kind, inner, found)
+            container = self._containers[inner]
+            if container == "UNITSTRUCT":
+                return found
+            ((kind, inner),) = container.items()
+            if kind != "NEWTYPESTRUCT":
+                return self._content(kind, inner, found)
+            format = inner
+        if format in _WIDE_NUMBERS:
+            return int(found)
+        return bytes.fromhex(found) if format == "BYTES" else found
+
+    def _part(self, kind: str, inner: Any, found: Any) -> Any:
+        if kind == "OPTION":
+            return None if found is None else {"some": self.value(inner, found["some"])}
+        if kind == "TUPLE":
+            return self._row(inner, found)
+        if kind == "MAP":
+            return [[self.value(inner["KEY"], key), self.value(inner["VALUE"], held)] for key, held in found]
+        element = inner["CONTENT"] if kind == "TUPLEARRAY" else inner
+        return bytes.fromhex(found) if isinstance(found, str) else [self.value(element, part) for part in found]
+
+    def _content(self, kind: str, inner: Any, found: Any) -> Any:
+        if kind == "NEWTYPE":
+            return self.value(inner, found)
+        if kind in ("TUPLESTRUCT", "TUPLE"):
+            return self._row(inner, found)
+        if kind == "STRUCT":
+            return {name: self.value(of, found[name]) for field in inner for name, of in field.items()}
+        return found if isinstance(found, str) else self._variant(inner, found)
+
+    def _variant(self, variants: Mapping[str, Any], found: Any) -> Any:
+        ((name, payload),) = found.items()
+        (carried,) = [variant[name] for variant in variants.values() if name in variant]
+        ((kind, inner),) = carried.items()
+        return {name: self._content(kind, inner, payload)}
+
+    def _row(self, formats: list[Any], found: list[Any]) -> list[Any]:
+        return [self.value(format, part) for format, part in zip(formats, found)]
 
 
 def _close_all(library: Library, free: list[_Handle]) -> None:
@@ -340,7 +439,7 @@ class _Handles:
     def _opened(self) -> _Handle:
         handle = _Handle()
         answer = self._library.ask("bcs_open", handle, self._text, len(self._text))
-        self._library.done(answer, RegistryError)
+        self._library.done(answer, RegistryError, self._library.registry_place(self._text))
         return handle
 
     def _taken(self) -> _Handle:
@@ -375,7 +474,8 @@ class _Handles:
 
 
 class Registry:
-    """A registry, of a JSON text or of what `json` makes of one. Raises RegistryError where it is none.
+    """A registry, of a JSON text, of what `json` makes of one, or of a file that a `pathlib.Path` names. Raises RegistryError
+    where it is none. It is pickled by its text, and so goes to other processes.
 
     `library` is where the dynamic library is, or one that is loaded; without it, it is looked for as `Library` says.
 
@@ -385,15 +485,37 @@ class Registry:
 
     def __init__(
         self,
-        text: Union[Text, Mapping[str, Any]],
+        text: Union[Text, Mapping[str, Any], os.PathLike[str]],
         library: Union[Library, str, os.PathLike[str], None] = None,
     ) -> None:
-        self._text = _json_of(text) if isinstance(text, Mapping) else _bytes_of_text(text)
+        if isinstance(text, os.PathLike):
+            self._text = pathlib.Path(text).read_bytes()
+        else:
+            self._text = _json_of(text) if isinstance(text, Mapping) else _bytes_of_text(text)
         if library is None:
             self._library = _standard_library()
         else:
             self._library = library if isinstance(library, Library) else Library(library)
         self._handles = _Handles(self._library, self._text)
+        self._native: Optional[_Native] = None
+
+    def __reduce__(self) -> tuple[Any, ...]:
+        own = None if self._library is _standard_library() else self._library.path
+        return Registry, (self._text, own)
+
+    def __repr__(self) -> str:
+        count = len(self.names)
+        return f"<bcs_proved.Registry of {count} container{'' if count == 1 else 's'}>"
+
+    @property
+    def names(self) -> list[str]:
+        """The names of its containers."""
+        return list(self._containers)
+
+    @functools.cached_property
+    def _containers(self) -> dict[str, Any]:
+        containers: dict[str, Any] = json.loads(self._text)
+        return containers
 
     def close(self) -> None:
         """Gives the registry's memory back. From then on all methods but `grows` and `growth_fault` raise ValueError."""
@@ -419,7 +541,8 @@ class Registry:
         answer = self._library.ask("bcs_grows", self._text, len(self._text), newer._text, len(newer._text))
         if answer.status == _Status.REFUSED:
             return self._library.fault_name(answer.fault)
-        self._library.done(answer, RegistryError)
+        refused = newer._text if answer.status == _Status.NEWER else self._text
+        self._library.done(answer, RegistryError, self._library.registry_place(refused))
         return None
 
     def encode(self, format: Format, value: Any, limits: Limits = STANDARD_LIMITS) -> bytes:
@@ -430,16 +553,23 @@ class Registry:
         """The bytes of the value that a JSON text denotes. Raises TextError where it denotes none of the format."""
         return self._put_text("bcs_handle_to_bcs", format, text, limits)
 
-    def decode(self, format: Format, data: Data, limits: Limits = STANDARD_LIMITS) -> Any:
-        """The value whose bytes these are. Raises BytesError where they are no value's, or not one's alone."""
-        return json.loads(self.decode_text(format, data, limits))
+    def decode(self, format: Format, data: Data, limits: Limits = STANDARD_LIMITS, *, native: bool = False) -> Any:
+        """The value whose bytes these are. Raises BytesError where they are no value's, or not one's alone.
+
+        With `native`, whole numbers are `int`, and BYTES and lists of U8 `bytes`."""
+        found = json.loads(self.decode_text(format, data, limits))
+        if not native:
+            return found
+        if self._native is None:
+            self._native = _Native(self._containers)
+        return self._native.value(json.loads(_json_of_format(format)), found)
 
     def decode_text(self, format: Format, data: Data, limits: Limits = STANDARD_LIMITS) -> str:
         """The one normal JSON text of the value whose bytes these are. Raises BytesError as `decode` does."""
         data = _bytes_of(data)
         ask = self._ask(format, limits)
         answer, text = self._handles.put("bcs_handle_from_bcs", 4 * len(data) + 100, ask, data, len(data))
-        self._library.done(answer, BytesError)
+        self._library.done(answer, BytesError, self._told("bcs_handle_stop_place", ask, data))
         return text.decode()
 
     def normalise(self, format: Format, value: Any, limits: Limits = STANDARD_LIMITS) -> Any:
@@ -457,27 +587,35 @@ class Registry:
     def equal_text(self, format: Format, first: Text, second: Text, limits: Limits = STANDARD_LIMITS) -> bool:
         """Whether two JSON texts denote equal values. Raises TextError where one denotes none of the format."""
         one, other = _bytes_of_text(first), _bytes_of_text(second)
-        answer = self._handles.ask("bcs_handle_compare", self._ask(format, limits), one, len(one), other, len(other))
+        ask = self._ask(format, limits)
+        answer = self._handles.ask("bcs_handle_compare", ask, one, len(one), other, len(other))
         if answer.status == _Status.NO:
             return False
-        self._library.done(answer, TextError)
+
+        def told(what: int) -> tuple[_Answer, bytes]:
+            of_one = self._told("bcs_handle_text_place", ask, one)(what)
+            return self._told("bcs_handle_text_place", ask, other)(what) if of_one[0].status == _Status.NO else of_one
+
+        self._library.done(answer, TextError, told)
         return True
 
     def scan(self, format: Format, data: Data, limits: Limits = STANDARD_LIMITS) -> int:
         """How many bytes the value at the front has. Raises BytesError where there is none."""
         data = _bytes_of(data)
-        answer = self._handles.ask("bcs_handle_scan", self._ask(format, limits), data, len(data))
-        self._library.done(answer, BytesError)
+        ask = self._ask(format, limits)
+        answer = self._handles.ask("bcs_handle_scan", ask, data, len(data))
+        self._library.done(answer, BytesError, self._told("bcs_handle_stop_place", ask, data))
         return answer.length
 
     def part(self, format: Format, data: Data, path: str, limits: Limits = STANDARD_LIMITS) -> Optional[Part]:
         """The part of the value at the front to which a path leads, or None where it leads nowhere. A path is "." for the
         whole, or steps such as "2/inner/key:0161/0". Raises BytesError, or PathError where the path is none."""
         data, steps = _bytes_of(data), _bytes_of_text(path)
-        answer = self._handles.ask("bcs_handle_part", self._ask(format, limits), data, len(data), steps, len(steps))
+        ask = self._ask(format, limits)
+        answer = self._handles.ask("bcs_handle_part", ask, data, len(data), steps, len(steps))
         if answer.status == _Status.NO:
             return None
-        self._library.done(answer, BytesError)
+        self._library.done(answer, BytesError, self._told("bcs_handle_stop_place", ask, data))
         return Part(answer.place, data[answer.place : answer.place + answer.length])
 
     def explain(self, format: Format, data: Data, limits: Limits = STANDARD_LIMITS) -> list[dict[str, Any]]:
@@ -501,6 +639,11 @@ class Registry:
 
     def _put_text(self, call: str, format: Format, text: Text, limits: Limits) -> bytes:
         text = _bytes_of_text(text)
-        answer, output = self._handles.put(call, 2 * len(text) + 100, self._ask(format, limits), text, len(text))
-        self._library.done(answer, TextError)
+        ask = self._ask(format, limits)
+        answer, output = self._handles.put(call, 2 * len(text) + 100, ask, text, len(text))
+        self._library.done(answer, TextError, self._told("bcs_handle_text_place", ask, text))
         return output
+
+    def _told(self, call: str, ask: _Ask, data: bytes) -> _Told:
+        """What tells where these bytes or this text is refused."""
+        return lambda what: self._handles.put(call, 200, ask, what, data, len(data))

@@ -1,0 +1,70 @@
+"""Where something is refused, and what was wanted there, as the program `bcs` says it."""
+
+import pickle
+import unittest
+from typing import Any, Optional
+
+from bcs_proved import BcsError, BytesError, Registry, RegistryError, TextError
+
+SHAPES = {
+    "Point": {"STRUCT": [{"x": "U8"}, {"~/": {"SEQ": "BYTES"}}]},
+    "Shape": {"ENUM": {"0": {"Dot": "UNIT"}, "2": {"Circle": {"NEWTYPE": "U64"}}}},
+}
+
+
+class Places(unittest.TestCase):
+    def setUp(self) -> None:
+        self.registry = Registry(SHAPES)
+
+    def tells(self, error: type[BcsError], pointer: Optional[str], expected: Optional[str], call: Any, *words: Any) -> BcsError:
+        with self.assertRaises(error) as raised:
+            call(*words)
+        self.assertEqual((raised.exception.pointer, raised.exception.expected), (pointer, expected))
+        return raised.exception
+
+    def test_texts(self) -> None:
+        for format, value, pointer, expected in [
+            ("Point", {"x": 1, "~/": [b"", "0"]}, "/~0~1/1", "an odd number of digits"),
+            ("Point", {"x": 256, "~/": []}, "/x", "wanted a whole number from 0 to 255 (U8)"),
+            ("Point", {"x": 1}, "", "no member is called ~/"),
+            ("Shape", {"Circle": "x"}, "/Circle", "wanted a whole number from 0 to 18446744073709551615 (U64)"),
+            ("Shape", "Disc", "", "no variant is called Disc"),
+            ('"BOOL"', 7, "", "wanted BOOL, true or false"),
+            ({"MAP": {"KEY": "U8", "VALUE": "U8"}}, [[1, 2], [1, 3]], "", "two keys of a map are equal"),
+        ]:
+            refused = self.tells(TextError, pointer, expected, self.registry.encode, format, value)
+            self.assertIn(expected, str(refused))
+            self.tells(TextError, pointer, expected, self.registry.normalise, format, value)
+        told = self.tells(TextError, "", "line 1, column 1: serde_json stops reading there", self.registry.encode_text, '"U8"', "x")
+        self.assertEqual(told.reason, "NotJson")
+
+    def test_a_message(self) -> None:
+        told = self.tells(TextError, "/x", "wanted a whole number from 0 to 255 (U8)", self.registry.encode, "Point", {"x": -1, "~/": []})
+        self.assertEqual(str(told), "no value of the format: BadNumber at /x: wanted a whole number from 0 to 255 (U8)")
+        again = pickle.loads(pickle.dumps(told))
+        self.assertEqual((str(again), again.pointer, again.reason), (str(told), "/x", "BadNumber"))
+
+    def test_two_texts(self) -> None:
+        good, bad = {"x": 1, "~/": []}, {"x": "", "~/": []}
+        wanted = "wanted a whole number from 0 to 255 (U8)"
+        self.tells(TextError, "/x", wanted, self.registry.equal, "Point", good, bad)
+        self.tells(TextError, "/x", wanted, self.registry.equal, "Point", bad, {})
+
+    def test_bytes(self) -> None:
+        damaged = bytes.fromhex("0701020507")
+        told = self.tells(BytesError, ".~/[0]", "wanted 2 bytes of BYTES", self.registry.decode, "Point", damaged[:-2])
+        self.assertEqual(told.place, 3)
+        self.tells(BytesError, ".", "wanted number of a variant", self.registry.scan, "Shape", b"\1")
+        self.tells(BytesError, "[0]", "wanted BOOL", self.registry.part, {"SEQ": "BOOL"}, b"\1\2", ".")
+
+    def test_registries(self) -> None:
+        for text, pointer, expected in [
+            ('{"S":{"ENUM":{"x":{"A":"UNIT"}}}}', "/S/ENUM/x", "wanted a plain decimal number below 4294967296"),
+            ({"S": {"STRUCT": [{"side": {"TYPENAME": "Sid"}}]}}, "S, field side", "no container is called Sid"),
+            ("{", "line 1, column 1", "serde_json stops reading there"),
+        ]:
+            self.tells(RegistryError, pointer, expected, Registry, text)
+
+
+if __name__ == "__main__":
+    unittest.main()
