@@ -6,6 +6,7 @@ import { Lights } from './lights.mjs';
 import { fragmentOf, stateOf } from './link.mjs';
 import { counted, shownName, shownNumber } from './names.mjs';
 import { Pane } from './pane.mjs';
+import { lineAndColumn, rangeAt, rangeOfLine } from './places.mjs';
 import { Questions } from './questions.mjs';
 import { sentenceOn } from './reasons.mjs';
 import { Tree } from './tree.mjs';
@@ -114,7 +115,8 @@ class Page {
     const { answer, refusal } = told;
     const verdict = $('registry-verdict');
     verdict.className = refusal ? 'bad' : 'good';
-    verdict.textContent = refusal ? `refused: ${refusal.reason}` : toldOfContainers(answer);
+    verdict.textContent = refusal ? toldOfRefusal(refusal) : toldOfContainers(answer);
+    this.panes.registry.mark(refusal && rangeOf(this.panes.registry.content, refusal));
     this.#listContainers(answer?.names ?? [], format);
     await this.#answer();
   }
@@ -169,6 +171,7 @@ class Page {
   #tell({ answer, refusal }) {
     const explained = answer?.explained ?? NO_PIECES;
     const fault = refusal ?? answer.refusal;
+    this.panes.text.mark(undefined);
     markStale(this.#side, false);
     markStale(this.#otherSide, fault !== undefined);
     if (!fault) this.#fillOtherSide(answer);
@@ -188,12 +191,32 @@ class Page {
     else pane.content = front;
   }
 
-  #tellFault({ kind, reason, place }, stop) {
+  #tellFault(fault, stop) {
+    const { kind, reason, place } = fault;
     if (kind === 'page' || kind === 'stack' || kind === 'memory') return tellVerdict('bad', 'No answer:', ` ${reason}.`);
     if (kind === 'digits') return tellVerdict('bad', 'No bytes:', ` ${DIGIT_FAULTS[reason]}`);
+    if (kind === 'text') return this.#tellTextFault(fault);
     const where = place === undefined ? '' : ` at byte ${shownNumber(place)}`;
     const wanted = stop ? ` Wanted there: ${shownName(stop.want)}, at ${shownName(stop.name, 400)}.` : '';
     tellVerdict('bad', `Refused${where}: ${reason}.`, ` ${sentenceOn(kind, reason)}${wanted}`);
+  }
+
+  /** Where a text is refused it is marked, and a button takes the cursor there. */
+  #tellTextFault(fault) {
+    const { kind, reason, pointer, expected } = fault;
+    const pane = this.panes.text;
+    const range = pane.isCut ? undefined : rangeOf(pane.content, fault);
+    pane.mark(range);
+    const way = pointer ? ` At ${shownName(pointer, 400)}:` : '';
+    const words = expected === undefined || reason === 'NotJson' ? '' : `${way} ${shownName(expected, 400)}.`;
+    tellVerdict('bad', `Refused${range ? ' at ' : ''}`, `: ${reason}. ${sentenceOn(kind, reason)}${words}`, range && (() => {
+      const { line, column } = lineAndColumn(pane.content, range[0]);
+      const button = document.createElement('button');
+      button.type = 'button';
+      button.textContent = `line ${shownNumber(line)}, column ${shownNumber(column)}`;
+      button.addEventListener('click', () => pane.goToMark());
+      return button;
+    })());
   }
 
   /** The line below the views: what is lit. */
@@ -318,12 +341,24 @@ function jsonOfFormat(format) {
   return /^\s*[{"]/.test(format) ? format.trim() : JSON.stringify({ TYPENAME: format });
 }
 
-function tellVerdict(state, strong, text) {
+function tellVerdict(state, strong, text, ...between) {
   const verdict = $('verdict');
   verdict.className = `verdict ${state}`;
   const told = document.createElement('strong');
   told.textContent = strong;
-  verdict.replaceChildren(told, text);
+  verdict.replaceChildren(told, ...between.filter(Boolean), text);
+}
+
+/** From where to where the JSON goes that is refused, if that is told. */
+function rangeOf(text, { reason, pointer, expected }) {
+  const told = /line (\d+), column (\d+)/.exec(reason === 'NotJson' ? `${pointer} ${expected}` : '');
+  if (told) return rangeOfLine(text, Number(told[1]), Number(told[2]));
+  return reason !== 'NotJson' && pointer?.startsWith('/') ? rangeAt(text, pointer) : undefined;
+}
+
+function toldOfRefusal({ reason, pointer, expected }) {
+  const words = [pointer && `at ${shownName(pointer, 200)}`, expected && shownName(expected, 200)].filter(Boolean);
+  return `refused: ${[reason, ...words].join(', ')}`;
 }
 
 function tellBroken(reason) {

@@ -9,13 +9,19 @@ export class Pane {
   #area;
   #note;
   #held;
+  #marks;
+  #range;
 
   /** `whenChanged` is called where the reader changes the text, and not where the page does. */
   constructor(area, note, whenChanged) {
     this.#area = area;
     this.#note = note;
     this.whenChanged = whenChanged;
+    this.#marks = framed(area);
+    area.addEventListener('input', () => this.mark(undefined));
     area.addEventListener('input', () => whenChanged());
+    area.addEventListener('scroll', () => this.#follow());
+    new ResizeObserver(() => this.#follow()).observe(area);
     area.addEventListener('beforeinput', (event) => this.#takeLongInput(event));
     // (a box that shows a front takes no typing, but a new text in place of the old one)
     area.addEventListener('paste', (event) => this.#takePaste(event));
@@ -45,8 +51,40 @@ export class Pane {
     return this.#area.readOnly;
   }
 
+  /** Marks a range of the text, or none. */
+  mark(range) {
+    const text = this.#area.value;
+    this.#range = range === undefined || range[0] > text.length ? undefined : range;
+    if (this.#range === undefined) return this.#marks.replaceChildren();
+    const [from, to] = this.#range;
+    const mark = document.createElement('mark');
+    // (an empty range, at the end of a text, is marked by a blank)
+    mark.textContent = text.slice(from, to) || ' ';
+    this.#marks.replaceChildren(text.slice(0, from), mark, text.slice(to), '\n');
+    this.#follow();
+  }
+
+  /** Takes the cursor to the mark. */
+  goToMark() {
+    if (this.#range === undefined) return;
+    const [from, to] = this.#range;
+    this.#area.focus();
+    this.#area.setSelectionRange(from, to);
+    const mark = this.#marks.querySelector('mark');
+    this.#area.scrollTop = Math.max(0, mark.offsetTop - this.#area.clientHeight / 3);
+    this.#area.scrollIntoView({ block: 'nearest' });
+  }
+
+  /** The marks lie below the text, as wide and as far scrolled. */
+  #follow() {
+    this.#marks.style.width = `${this.#area.clientWidth}px`;
+    this.#marks.style.height = `${this.#area.clientHeight}px`;
+    this.#marks.scrollTop = this.#area.scrollTop;
+  }
+
   #show(text, length, isCut) {
     const shown = isCut ? text.slice(0, FRONT_SHOWN) : text;
+    this.mark(undefined);
     if (this.#area.value !== shown) this.#area.value = shown;
     this.#area.readOnly = isCut;
     const told = `${counted(length, 'character', 'characters')}, the first ${FRONT_SHOWN} shown; Delete clears`;
@@ -82,4 +120,15 @@ export class Pane {
     this.content = text;
     this.whenChanged();
   }
+}
+
+/** Puts the box into a frame with a layer for marks, which it gives. */
+function framed(area) {
+  const [frame, marks] = [document.createElement('div'), document.createElement('div')];
+  frame.className = 'frame';
+  marks.className = 'marks';
+  marks.setAttribute('aria-hidden', 'true');
+  area.replaceWith(frame);
+  frame.append(marks, area);
+  return marks;
 }

@@ -29,7 +29,10 @@ self.onmessage = async ({ data: { id, question, ...asked } }) => {
 };
 
 function refusalOf(error) {
-  if (error instanceof BcsError) return { kind: error.kind, reason: error.reason, place: error.place };
+  if (error instanceof BcsError) {
+    const { kind, reason, place, pointer, expected } = error;
+    return { kind, reason, place, pointer, expected };
+  }
   return { kind: 'page', reason: error.message };
 }
 

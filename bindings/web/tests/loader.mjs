@@ -3,7 +3,7 @@
 import assert from 'node:assert/strict';
 import { readFileSync } from 'node:fs';
 import test from 'node:test';
-import { BcsError, isSupported, load } from '../bcs.mjs';
+import { BcsError, fromBase64, isSupported, load, toBase64 } from '../bcs.mjs';
 import { bytesOfHex, hexOf } from '../hex.mjs';
 
 const module = await WebAssembly.compile(readFileSync(process.env.BCS_WASM));
@@ -37,11 +37,11 @@ const coded = (registry, format, value, digits, back = value) => {
   assert.deepEqual(registry.decode(format, bytesOfHex(digits)), back);
 };
 
-test('the module imports nothing, and has the calls of the header alone, without those on handles', () => {
+test('the module imports nothing, and has the calls of the header alone', () => {
   assert.ok(isSupported());
   assert.deepEqual(WebAssembly.Module.imports(module), []);
   const header = readFileSync(new URL('../../c/include/bcs.h', import.meta.url), 'utf8');
-  const calls = Array.from(header.matchAll(/^bcs_answer (bcs_\w+)\((?!bcs_handle )/gm), (found) => found[1]);
+  const calls = Array.from(header.matchAll(/^(?:bcs_answer|void) (bcs_\w+)\(/gm), (found) => found[1]);
   const exported = WebAssembly.Module.exports(module).map(({ name }) => name);
   assert.deepEqual(exported.sort(), [...calls, 'memory', 'take_memory', 'give_memory'].sort());
 });
@@ -160,7 +160,7 @@ test('half of a surrogate pair is refused, and not changed', () => {
 });
 
 test('what is no bytes, and no text, is not taken for any', () => {
-  for (const bytes of ['00', [0], new ArrayBuffer(1), undefined, Uint16Array.of(0)]) {
+  for (const bytes of ['00', ['0'], [256], [-1], [0.5], undefined, null, 7, Uint16Array.of(0), new DataView(new ArrayBuffer(1))]) {
     assert.throws(() => none.decode('"U8"', bytes), TypeError);
     assert.throws(() => none.scan('"U8"', bytes), TypeError);
     assert.throws(() => none.explain('"U8"', bytes), TypeError);
@@ -181,6 +181,94 @@ test('what is handed over, and what is handed out, is nobody else’s', () => {
   bytes.fill(0);
   assert.deepEqual(part, { place: 0, bytes: Uint8Array.of(1, 2) });
   assert.deepEqual([hexOf(first), hexOf(second)], ['0100', '0200']);
+});
+
+test('bytes of other kinds are taken, and texts by their bytes', () => {
+  for (const bytes of [[1, 2], Uint8Array.of(1, 2).buffer, Buffer.from([1, 2])]) {
+    assert.equal(none.decode('"U16"', bytes), 513);
+    assert.equal(none.scan('"U16"', bytes), 2);
+    assert.deepEqual(none.part('"U16"', bytes, '.'), { place: 0, bytes: Uint8Array.of(1, 2) });
+    assert.equal(none.explain('"U16"', bytes).length, 2);
+    assert.equal(hexOf(none.encode('"BYTES"', Uint8Array.from(bytes instanceof ArrayBuffer ? new Uint8Array(bytes) : bytes))), '020102');
+  }
+  assert.equal(hexOf(none.encode('"BYTES"', Uint8Array.of(1, 2).buffer)), '020102');
+  assert.equal(hexOf(none.encodeText('"U8"', [0x37])), '07');
+});
+
+test('values as JSON has them', () => {
+  const bytes = shapes.encode('Id', 7n);
+  assert.equal(shapes.decode('Id', bytes, { json: true }), '7');
+  const row = { TUPLE: ['U128', 'BYTES', { MAP: { KEY: 'STR', VALUE: 'U8' } }] };
+  const value = none.decode(row, none.encode(row, [2n ** 100n, Uint8Array.of(1), new Map([['a', 2]])]), { json: true });
+  assert.deepEqual(JSON.parse(JSON.stringify(value)), [(2n ** 100n).toString(), '01', [['a', 2]]]);
+  assert.deepEqual(none.decode('"U64"', none.encode('"U64"', 7), { json: false }), 7n);
+});
+
+test('base64', () => {
+  for (const [bytes, text] of [[[], ''], [[0], 'AA=='], [[251, 255], '+/8='], [[1, 2, 3], 'AQID']]) {
+    assert.equal(toBase64(Uint8Array.from(bytes)), text);
+    assert.deepEqual(fromBase64(text), Uint8Array.from(bytes));
+  }
+  const many = Uint8Array.from({ length: 300_000 }, (_, i) => i % 256);
+  assert.deepEqual(fromBase64(toBase64(many)), many);
+  for (const text of ['A', 'AA', 'AA=', 'AB==', 'A A=', 'AA==\n', '-_8=', undefined, 7]) assert.throws(() => fromBase64(text), TypeError);
+});
+
+const told = (pointer, expected) => (error) => {
+  assert.deepEqual([error.pointer, error.expected], [pointer, expected]);
+  return true;
+};
+
+test('where something is refused, and what was wanted there', () => {
+  const registry = bcs.registry('{"Point":{"STRUCT":[{"x":"U8"},{"~/":{"SEQ":"BYTES"}}]}}');
+  const wanted = 'wanted a whole number from 0 to 255 (U8)';
+  assert.throws(() => registry.encode('Point', { x: 1, '~/': ['', '0'] }), told('/~0~1/1', 'an odd number of digits'));
+  assert.throws(() => registry.encode('Point', { x: 256, '~/': [] }), told('/x', wanted));
+  assert.throws(() => registry.normalise('Point', '{"x":1}'), told('', 'no member is called ~/'));
+  assert.throws(() => registry.equal('Point', '{"x":1,"~/":[]}', '{"x":"","~/":[]}'), told('/x', wanted));
+  assert.throws(() => registry.decode('Point', [7, 1, 2, 5]), told('.~/[0]', 'wanted 2 bytes of BYTES'));
+  assert.throws(() => registry.scan('Point', [7, 1, 2, 5]), told('.~/[0]', 'wanted 2 bytes of BYTES'));
+  assert.throws(() => registry.part('Point', [7, 1, 2, 5], '.'), told('.~/[0]', 'wanted 2 bytes of BYTES'));
+  assert.throws(() => registry.check('Line'), told(undefined, undefined));
+  assert.throws(() => bcs.registry('{"S":{"STRUCT":[{"side":{"TYPENAME":"Sid"}}]}}'), told('S, field side', 'no container is called Sid'));
+  assert.throws(() => bcs.grows('{}', '{"S":7}'), told('/S', 'wanted a container'));
+  assert.throws(() => registry.encode('Point', { x: 256, '~/': [] }), { message: `text refused: BadNumber at /x: ${wanted}` });
+  assert.throws(() => registry.encode('Point', 7), { message: /^text refused: BadShape at the whole text: wanted an object/ });
+  assert.throws(() => registry.decode('Point', []), { message: 'bytes refused: EndOfInput at 0, .x: wanted U8' });
+});
+
+test('a registry is read once, closed, and read again where its instance was let go', () => {
+  const registry = bcs.registry('{"A":{"NEWTYPESTRUCT":"U16"}}');
+  const other = registry.withLimits({ nodes: 1 });
+  assert.equal(hexOf(registry.encode('A', 1)), '0100');
+  // (an instance whose memory grew is let go)
+  assert.equal(none.encodeText('"STR"', `"${'a'.repeat(40 << 20)}"`).length, (40 << 20) + 4);
+  assert.equal(hexOf(registry.encode('A', 2)), '0200');
+  registry.close();
+  for (const closed of [registry, other]) {
+    assert.throws(() => closed.encode('A', 1), /the registry is closed/);
+    assert.throws(() => closed.check('A'), /the registry is closed/);
+  }
+  registry.close();
+  assert.equal(hexOf(none.encodeText('"U8"', '7')), '07');
+});
+
+test('registries that are closed, and those that are collected, give their memory back', async () => {
+  const text = JSON.stringify(Object.fromEntries(Array.from({ length: 300 }, (_, i) => [`S${i}`, { STRUCT: [{ a: 'U8' }] }])));
+  const small = await load(withMostPages(readFileSync(process.env.BCS_WASM), 128));
+  for (let i = 0; i < 300; i++) {
+    const registry = small.registry(text);
+    assert.equal(hexOf(registry.encode('S7', { a: 7 })), '07');
+    registry.close();
+  }
+  if (globalThis.gc === undefined) return;
+  for (let i = 0; i < 300; i++) {
+    assert.equal(hexOf(small.registry(text).encode('S7', { a: 7 })), '07');
+    if (i % 10 === 0) {
+      globalThis.gc();
+      await new Promise((resolve) => setTimeout(resolve, 0));
+    }
+  }
 });
 
 test('growth', () => {

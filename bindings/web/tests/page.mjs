@@ -114,7 +114,15 @@ test('a text that is refused is told, and the other side is marked', async () =>
   const page = await opened();
   await replace(page, 'text', read('aptos_transfer_damaged.json'));
   await page.until(`${verdict}.includes('BadHex')`);
-  assert.match(await page.ask(verdict), /Refused: BadHex\. .*without 0x/);
+  assert.match(await page.ask(verdict), /Refused at line \d+, column \d+: BadHex\. .*without 0x/);
+  assert.match(await page.ask(verdict), /At \/sender: a character that is no hexadecimal digit\.$/);
+  const marked = await page.ask("document.querySelector('#text-side mark').textContent");
+  assert.equal(JSON.parse(marked), JSON.parse(read('aptos_transfer_damaged.json')).sender);
+  // (the cursor goes there, and what is marked is selected)
+  await page.ask("document.querySelector('#verdict button').click()");
+  assert.equal(await page.ask("document.activeElement.id"), 'text');
+  const selected = "(({ value, selectionStart, selectionEnd }) => value.slice(selectionStart, selectionEnd))(document.getElementById('text'))";
+  assert.equal(await page.ask(selected), marked);
   assert.ok(await page.ask("document.getElementById('bytes-side').classList.contains('stale')"));
   assert.ok(await page.ask("document.querySelector('[data-copy=bytes]').disabled"));
   assert.ok(await page.ask("document.querySelector('[data-save=bytes]').disabled"));

@@ -33,7 +33,19 @@ for (const [name, [ask, text]] of Object.entries({ 'a U8': small, 'a transfer of
   console.log(`${time(20, () => new Calls(module).toBcs(ask, text))} to encode ${name} in one of its own`);
 }
 
-const registry = (await load(module)).registry('{}');
+const bcs = await load(module);
+const aptos = bcs.registry(read('aptos_registry.json'));
+const text = read('aptos_transfer.json');
+const bytes = aptos.encodeText('RawTransaction', text);
+const value = aptos.decode('RawTransaction', bytes);
+console.log(`${time(20, () => bcs.registry(read('aptos_registry.json')).close())} to read and open the registry of Aptos, and close it`);
+console.log(`${time(200, () => aptos.encodeText('RawTransaction', text))} to encode the transfer of a text, the registry being open`);
+console.log(`${time(200, () => aptos.encode('RawTransaction', value))} to encode it of a value in JavaScript's types`);
+console.log(`${time(200, () => aptos.decodeText('RawTransaction', bytes))} to decode it as a text`);
+console.log(`${time(200, () => aptos.decode('RawTransaction', bytes))} to decode it as a value`);
+console.log(`${time(200, () => aptos.scan('RawTransaction', bytes))} to scan it`);
+
+const registry = bcs.registry('{}');
 const numbers = JSON.stringify(Array.from({ length: 93_000 }, (_, i) => (i * 2654435761) % 4294967296));
 const texts = { numbers: ['{"SEQ":"U32"}', numbers], bytes: ['"BYTES"', JSON.stringify('c0de'.repeat(250_000))] };
 for (const [name, [format, text]] of Object.entries(texts)) {

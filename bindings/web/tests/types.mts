@@ -1,6 +1,6 @@
 // What the declarations let through, and what they refuse: `tsc` reads this, and nothing runs it.
-import { BcsError, isSupported, load } from '../bcs.mjs';
-import type { End, Piece, Registry, Stop, Value } from '../bcs.mjs';
+import { BcsError, fromBase64, isSupported, load, toBase64 } from '../bcs.mjs';
+import type { End, Json, Piece, Registry, Stop, Value } from '../bcs.mjs';
 
 export async function calls(wasm: Uint8Array): Promise<void> {
   if (!isSupported()) return;
@@ -17,6 +17,10 @@ export async function calls(wasm: Uint8Array): Promise<void> {
   const length: number = registry.scan('A', registry.encodeText('A', '1'));
   const place: number | undefined = registry.part('A', bytes, 'inner/0')?.place;
   registry.check('"U8"');
+  const json: Json = registry.decode('A', [1, 2], { json: true });
+  const back: Value = registry.decode('A', fromBase64(toBase64([1, 2])).buffer as ArrayBuffer, { json: false });
+  console.log(JSON.stringify(json), back);
+  registry.close();
   for (const piece of registry.explain('A', bytes)) tell(piece);
   console.log(name, value, isEqual, length, place, registry.names.length);
 }
@@ -28,7 +32,9 @@ function tell(piece: Piece | End | Stop): void {
 }
 
 export function kindOf(error: unknown): string {
-  return error instanceof BcsError ? `${error.kind} ${error.reason} ${error.place ?? ''}` : '';
+  if (!(error instanceof BcsError)) return '';
+  const words: (string | undefined)[] = [error.pointer, error.expected];
+  return `${error.kind} ${error.reason} ${error.place ?? ''} ${words.join(' ')}`;
 }
 
 export function refused(registry: Registry): void {
