@@ -18,8 +18,11 @@ typedef __SIZE_TYPE__ size_t;
 """
 
 
-def without_includes(header: str) -> str:
-    return re.sub(r"^ *# *include .*\n", "", re.sub(r"/\*.*?\*/", "", header, flags=re.S), flags=re.M)
+def declarations(header: str) -> str:
+    """The header without what it includes, and without the functions that stand in it whole."""
+    header = re.sub(r"/\*.*?\*/", "", header, flags=re.S)
+    header = re.sub(r"^static inline .*?^}\n", "", header, flags=re.S | re.M)
+    return re.sub(r"^ *# *include .*\n", "", header, flags=re.M)
 
 
 def shim(name: str, parameters: str) -> str:
@@ -35,7 +38,7 @@ bcs_answer {name}({parameters}) {{
 
 
 def main(file: str, folder: str) -> None:
-    header = without_includes(pathlib.Path(file).read_text(encoding="utf-8"))
+    header = declarations(pathlib.Path(file).read_text(encoding="utf-8"))
     calls = re.findall(r"^bcs_answer (bcs_\w+)\(([^;]*)\);", header, flags=re.M)
     shims = [shim(name, " ".join(parameters.split())) for name, parameters in calls]
     (pathlib.Path(folder) / "shims.c").write_text(TYPES + header + "".join(shims), encoding="utf-8")
