@@ -10,6 +10,7 @@ tenth of a process of its own as well, by its words, files and streams.
 import concurrent.futures
 import json
 import pathlib
+import re
 import subprocess
 import sys
 import tempfile
@@ -25,8 +26,8 @@ from words import bytes_of, unrolled  # noqa: E402
 ROWS = HERE.parent.parent.parent / ".ci/bcs.rows"
 WITH_INPUT = {"encode", "decode", "explain", "normalise", "same", "part", "scan"}
 BEYOND = {"--lines", "--list", "--color"}
-# Where bytes stop the module tells; where words, registries and texts are refused it doesn't.
-WITH_PLACE = {"decode", "part", "scan"}
+# What the module doesn't tell: where a format and a path are refused, and where growth fails.
+UNTOLD = re.compile(r'^2 "(?:.*\\n)?refused: (?:Missing|Changed|VariantMissing|VariantChanged)\\n"|^2 ".*" at (?:FORMAT|PATH)\b')
 
 
 class Row(NamedTuple):
@@ -65,7 +66,7 @@ def row_of(number: int, words: list[str], wanted: str) -> Row | None:
     registries = 2 if name == "grows" else 1
     words[:registries] = [word if word.startswith("{") else filed(word, f"registry{i}") for i, word in enumerate(words[:registries])]
     if name not in WITH_INPUT:
-        return Row(number, [name, *options, *words], files, "", wanted, False)
+        return Row(number, [name, *options, *words], files, "", wanted, has_place)
     fixed = {"part": 3}.get(name, 2)
     asked, others = words[:fixed], words[fixed:]
     if name == "part" and asked[2] == "0x":
@@ -76,7 +77,7 @@ def row_of(number: int, words: list[str], wanted: str) -> Row | None:
     options = [option for option in options if option != "--ways"]
     limits = [f"{option}={number}" for option, number in zip(("--depth", "--nodes"), others[1:])]
     given = hexadecimal(others[0]) if others else ""
-    return Row(number, [name, *options, *limits, "--", *asked], files, given, wanted, has_place and name in WITH_PLACE)
+    return Row(number, [name, *options, *limits, "--", *asked], files, given, wanted, has_place)
 
 
 def rows() -> list[Row | None]:
@@ -86,14 +87,13 @@ def rows() -> list[Row | None]:
 
 
 def is_right(row: Row, status: int, output: bytes, errors: str) -> bool:
-    """Of a row that tells where bytes stop, that is compared, too, and of others where the module tells nothing."""
+    """Of a row that asks where a refusal is, that line is compared, too, if the module tells it."""
     told = f"{status} {debug(output)}"
-    if errors and not row.has_place:
-        return row.wanted.startswith(told) and errors.startswith("at ")
-    is_stop = " at " in row.wanted.split('"')[1] if row.has_place else False
-    if row.has_place and is_stop:
-        return row.wanted == f"{told} {errors.rstrip()}"
-    return row.wanted == told or row.wanted.startswith(f"{told} ") and not errors
+    if not row.has_place:
+        return row.wanted == told
+    if UNTOLD.match(row.wanted):
+        return row.wanted.startswith(f"{told} ") and not errors
+    return row.wanted == (f"{told} {errors.rstrip()}" if errors else told)
 
 
 def judged(row: Row, status: int, output: bytes, errors: str) -> bool:
