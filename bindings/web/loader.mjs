@@ -6,7 +6,10 @@ import { containersOf, textOf, valueOf } from './values.mjs';
 
 const STANDARD_LIMITS = { depth: 500, nodes: 0xffffffff };
 const KEPT_FORMATS = 100;
+const SHORT_TEXT = 8192;
 const encoder = new TextEncoder();
+// Where the bytes of short texts stand while a call is made, since an array for each takes longer.
+const shortText = new Uint8Array(3 * SHORT_TEXT);
 // (a byte order mark is a character as any other)
 const decoder = new TextDecoder('utf-8', { fatal: true, ignoreBOM: true });
 
@@ -34,7 +37,12 @@ function whereOf(kind, place, pointer) {
 
 /** Makes the calls out of the module's bytes, a `Response` with them, or a compiled module. */
 export async function load(wasm) {
-  if (!isSupported()) throw new Error('this engine has no WebAssembly, or one from before 2021');
+  if (!isSupported()) {
+    throw new Error(
+      'this engine has no WebAssembly with vectors (SIMD), which Chrome and Edge have from 91, Firefox from 89, Safari from ' +
+        '16.4, and Node from 16.4',
+    );
+  }
   try {
     return new Bcs(await compiled(await wasm));
   } catch (error) {
@@ -199,12 +207,12 @@ class Registry {
 
   /** The bytes of a value. */
   encode(format, value) {
-    return this.#ofText(format, encoder.encode(textOf(value)), (calls, ask, text) => calls.toBcs(ask, text)).output;
+    return this.encodeText(format, textOf(value));
   }
 
   /** The bytes of the value that a JSON text denotes. */
   encodeText(format, text) {
-    return this.#ofText(format, bytesOf(text), (calls, ask, text) => calls.toBcs(ask, text)).output;
+    return this.#ofText(format, text, (calls, ask, text) => calls.toBcs(ask, text)).output;
   }
 
   /** The value whose bytes are the whole input; with `json`, as `JSON.parse` makes it of its normal text. */
@@ -220,7 +228,7 @@ class Registry {
 
   /** The one normal JSON text of the value that a JSON text denotes. */
   normalise(format, text) {
-    return decoder.decode(this.#ofText(format, bytesOf(text), (calls, ask, text) => calls.normalise(ask, text)).output);
+    return decoder.decode(this.#ofText(format, text, (calls, ask, text) => calls.normalise(ask, text)).output);
   }
 
   /** Whether two JSON texts denote equal values. */
@@ -263,7 +271,8 @@ class Registry {
     return this.#containers;
   }
 
-  #ofText(format, text, call) {
+  #ofText(format, given, call) {
+    const text = bytesForCall(given);
     const placing = (calls, ask, what) => calls.textPlace(ask, what, text);
     return this.#answer(format, (calls, ask) => call(calls, ask, text), placing);
   }
@@ -275,7 +284,8 @@ class Registry {
   }
 
   #answer(format, call, placing) {
-    const ask = { registry: this.#holder.opened, format: this.#formatOf(format), ...this.#limits };
+    const { depth, nodes } = this.#limits;
+    const ask = { registry: this.#holder.opened, format: this.#formatOf(format), depth, nodes };
     const placed = placing && ((calls, what) => placing(calls, ask, what));
     return this.#bcs.answerOf((calls) => call(calls, ask), placed);
   }
@@ -304,11 +314,16 @@ function textOfFormat(format) {
 
 /** A text as bytes. Half of a surrogate pair is refused, since it would turn into another character. */
 function bytesOf(text) {
-  if (typeof text !== 'string') return bytesOfAny(text);
-  if (!isWellFormed(text)) throw new TypeError('the text has half of a surrogate pair, which UTF-8 has not');
-  return encoder.encode(text);
+  return typeof text === 'string' ? encoder.encode(wellFormed(text)) : bytesOfAny(text);
 }
 
-function isWellFormed(text) {
-  return text.isWellFormed?.() ?? !/\p{Surrogate}/u.test(text);
+/** The same for one call, before any other. */
+function bytesForCall(text) {
+  if (typeof text !== 'string' || text.length > SHORT_TEXT) return bytesOf(text);
+  return shortText.subarray(0, encoder.encodeInto(wellFormed(text), shortText).written);
+}
+
+function wellFormed(text) {
+  if (text.isWellFormed?.() ?? !/\p{Surrogate}/u.test(text)) return text;
+  throw new TypeError('the text has half of a surrogate pair, which UTF-8 has not');
 }

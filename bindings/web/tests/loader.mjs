@@ -53,6 +53,18 @@ test('a module for an engine with wider addresses is refused in words that say s
   await assert.rejects(load(Uint8Array.of(7)), isSupported(64) ? WebAssembly.CompileError : /takes bcs.wasm/);
 });
 
+test('an engine without vectors is told which have them', async () => {
+  const { validate } = WebAssembly;
+  // (the smallest module with a vector has the byte that begins instructions on them)
+  WebAssembly.validate = (bytes) => !bytes.includes(0xfd) && validate(bytes);
+  try {
+    assert.ok(!isSupported());
+    await assert.rejects(load(module), /no WebAssembly with vectors \(SIMD\).*Safari from 16\.4/);
+  } finally {
+    WebAssembly.validate = validate;
+  }
+});
+
 test('texts to bytes, and back', () => {
   assert.equal(hexOf(none.encodeText('"I16"', '-4660')), 'cced');
   assert.equal(hexOf(none.encodeText(MAP, '[["aa",2],["b",1]]')), '0201620102616102');

@@ -370,7 +370,8 @@ test('where there is no WebAssembly, the page says so', async () => {
   await page.send('Page.addScriptToEvaluateOnNewDocument', { source: 'WebAssembly.validate = () => false;' });
   await page.open(address);
   await page.until("!document.getElementById('unsupported').hidden");
-  assert.match(await page.ask("document.getElementById('unsupported').textContent"), /WebAssembly.*since 2021/s);
+  const told = await page.ask("document.getElementById('unsupported').textContent");
+  assert.match(told, /WebAssembly with vectors.*since 2021.*Safari since its version 16\.4/s);
   await isQuiet(page);
 });
 
