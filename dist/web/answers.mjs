@@ -1,12 +1,13 @@
 // What the command answers: a call for each job, and what is printed of its answer.
 import { Interruption } from './calls.mjs';
-import { Fault } from './system.mjs';
+import { Fault, shown } from './system.mjs';
 
 const encoder = new TextEncoder();
+const decoder = new TextDecoder();
 const NONE = new Uint8Array();
 const STANDARD = { depth: 500, nodes: 0xffffffff };
 const UNIT = encoder.encode('"UNIT"');
-const OF_BYTES = new Set(['decode', 'explain', 'part', 'scan']);
+const NAME_MOST = 200;
 
 /** The status, the output, and a line that says where a refusal stands, if one is told. */
 export async function answerTo(job, calls, system) {
@@ -45,18 +46,22 @@ function formatOf(word) {
 
 function check(calls, registry) {
   const answer = calls.check({ registry, format: UNIT, ...STANDARD });
-  if (answer.status !== 'done') return refusal(calls, answer);
+  if (answer.status !== 'done') return refusal(calls, answer, placeInRegistry(calls, registry));
   // (no call tells how many containers there are; the text is JSON, as the call has found)
-  return done(line(`ok ${Object.keys(JSON.parse(new TextDecoder().decode(registry))).length}`));
+  return done(line(`ok ${Object.keys(JSON.parse(decoder.decode(registry))).length}`));
 }
 
 function grows(calls, older, newer) {
   const answer = calls.grows(older, newer);
-  return answer.status === 'done' ? done(line('grows')) : refusal(calls, answer);
+  if (answer.status === 'done') return done(line('grows'));
+  // (no call tells where growth fails)
+  const [name, text] = { registry: ['OLD', older], newer: ['NEW', newer] }[answer.status] ?? [];
+  return refusal(calls, answer, text && ((fault) => `in ${name}, ${placeInRegistry(calls, text)(fault)}`));
 }
 
 function judgedWords(calls, ask, { command, words }) {
   const answer = calls.check(ask);
+  if (answer.status === 'registry') return refusal(calls, answer, placeInRegistry(calls, ask.registry));
   if (answer.status !== 'done') return refusal(calls, answer);
   if (command !== 'part') return undefined;
   const tried = calls.part(ask, NONE, encoder.encode(words.PATH));
@@ -66,19 +71,19 @@ function judgedWords(calls, ask, { command, words }) {
 function valueJob(calls, job, ask, first, input) {
   switch (job.command) {
     case 'encode':
-      return textJob(calls, calls.toBcs(ask, input), ({ output }) => digits(output, job.raw));
+      return textJob(calls, calls.toBcs(ask, input), placeInText(calls, ask, input), ({ output }) => digits(output, job.raw));
     case 'normalise':
-      return textJob(calls, calls.normalise(ask, input), ({ output }) => [output, line('')]);
+      return textJob(calls, calls.normalise(ask, input), placeInText(calls, ask, input), ({ output }) => [output, line('')]);
     case 'same':
-      return textJob(calls, calls.compare(ask, first, input), () => line('equal'));
+      return textJob(calls, calls.compare(ask, first, input), placeInTexts(calls, ask, first, input), () => line('equal'));
   }
   const bytes = job.raw ? input : bytesOfDigits(input);
   return bytes === undefined ? refused('BadHex') : bytesJob(calls, job, ask, bytes);
 }
 
-function textJob(calls, answer, put) {
+function textJob(calls, answer, placing, put) {
   if (answer.status === 'no') return { status: 1, output: line('different') };
-  return answer.status === 'done' ? done(put(answer)) : refusal(calls, answer);
+  return answer.status === 'done' ? done(put(answer)) : refusal(calls, answer, placing);
 }
 
 function bytesJob(calls, job, ask, bytes) {
@@ -86,7 +91,7 @@ function bytesJob(calls, job, ask, bytes) {
     case 'decode':
       return stopJob(calls, ask, bytes, calls.fromBcs(ask, bytes), ({ output }) => [output, line('')]);
     case 'scan':
-      return scan(calls, ask, bytes, job.front);
+      return scan(calls, ask, bytes, job);
     case 'part':
       return part(calls, ask, bytes, job);
     default:
@@ -96,14 +101,16 @@ function bytesJob(calls, job, ask, bytes) {
 
 function stopJob(calls, ask, bytes, answer, put) {
   if (answer.status === 'done') return done(put(answer));
-  return { ...refusal(calls, answer), place: placeOf(calls, ask, bytes) };
+  return refusal(calls, answer, placeInBytes(calls, ask, bytes));
 }
 
-function scan(calls, ask, bytes, isFront) {
+function scan(calls, ask, bytes, { front, raw }) {
   const answer = calls.scan(ask, bytes);
-  const isShort = answer.status === 'done' && answer.length < bytes.length && !isFront;
-  if (isShort) return { ...refused(`TrailingBytes at ${answer.length}`), place: placeOf(calls, ask, bytes) };
-  return stopJob(calls, ask, bytes, answer, ({ length }) => line(`ok ${length}`));
+  const isShort = answer.status === 'done' && answer.length < bytes.length && !front;
+  // (as the program, which doesn't hold raw bytes, it doesn't tell where they stop)
+  const placing = raw ? undefined : placeInBytes(calls, ask, bytes);
+  if (isShort) return refused(`TrailingBytes at ${answer.length}`, placing?.('TrailingBytes'));
+  return answer.status === 'done' ? done(line(`ok ${answer.length}`)) : refusal(calls, answer, placing);
 }
 
 function part(calls, ask, bytes, { words, raw }) {
@@ -121,28 +128,70 @@ function explain(calls, ask, bytes, { json, tree, paths }) {
   return { status, output: form === 'json' ? answer.output : [answer.output, output] };
 }
 
-/** Where bytes stop being a value, and what was wanted there: the last object of their pieces says it. */
-function placeOf(calls, ask, bytes) {
-  const answer = calls.explain(ask, 'json', bytes);
-  if (answer.status !== 'done' || answer.fault === 0) return undefined;
-  const start = answer.output.lastIndexOf(10, answer.output.length - 2) + 1;
-  const { refused, name, want } = JSON.parse(new TextDecoder().decode(answer.output.subarray(start)));
-  const limit = { TooDeep: `; --depth allows ${ask.depth}`, TooManyNodes: `; --nodes allows ${ask.nodes}` }[refused] ?? '';
-  return `at ${name}: ${refused}: wanted ${want}${limit}`;
+/** What tells where a registry is refused for a fault, as the program does. */
+function placeInRegistry(calls, text) {
+  return (fault) => placeLine(fault, (what) => calls.registryPlace(what, text));
 }
 
-function refusal(calls, answer) {
+/** The same of bytes, and with the limit that they are beyond. */
+function placeInBytes(calls, ask, bytes) {
+  const limits = { TooDeep: `; --depth allows ${ask.depth}`, TooManyNodes: `; --nodes allows ${ask.nodes}` };
+  return (fault) => placeLine(fault, (what) => calls.stopPlace(ask, what, bytes), limits[fault]);
+}
+
+function placeInText(calls, ask, text) {
+  const limits = { TooDeep: `; --depth allows ${ask.depth}` };
+  return (fault) => placeLine(fault, (what) => calls.textPlace(ask, what, text), limits[fault], shownPointer);
+}
+
+/** Of two texts it is told which is refused. */
+function placeInTexts(calls, ask, first, second) {
+  return (fault) => {
+    const place = placeInText(calls, ask, first)(fault);
+    return place ? `in A, ${place}` : `in B, ${placeInText(calls, ask, second)(fault)}`;
+  };
+}
+
+/** `at PLACE: FAULT: WORDS`, or `undefined` where the call tells no place. */
+function placeLine(fault, tell, limit = '', shownPlace = (place) => place) {
+  const [where, wanted] = ['where', 'wanted'].map((what) => tell(what));
+  if (where.status !== 'done' || wanted.status !== 'done') return undefined;
+  const [place, words] = [where, wanted].map(({ output }) => decoder.decode(output));
+  // (of what is no JSON text, line and column stand before the words)
+  const [, position, others] = /^(line \d+, column \d+): (.*)$/s.exec(words) ?? [];
+  return position ? `at ${position}: ${fault}: ${others}` : `at ${shownPlace(place)}: ${fault}: ${words}${limit}`;
+}
+
+/** A JSON Pointer in ASCII, of whose names no more than 200 signs are told. */
+function shownPointer(pointer) {
+  return pointer === '' ? 'the whole text' : pointer.split('/').map(shownName).join('/');
+}
+
+function shownName(name) {
+  let [text, room] = ['', NAME_MOST];
+  for (const [sign] of name.matchAll(/~[01]|./gsu)) {
+    const told = shown(sign);
+    room -= sign.startsWith('~') ? 1 : told.length;
+    if (room < 0) return `${text}...(cut)`;
+    text += told;
+  }
+  return text;
+}
+
+/** What is printed of a refusal, and the line that `placing` makes of its fault. */
+function refusal(calls, answer, placing) {
   if (answer.status === 'memory') throw new Fault('memory');
   const isStop = answer.fault >= 400 && answer.fault < 500;
-  return refused(nameOf(calls, answer) + (isStop ? ` at ${answer.place}` : ''));
+  const fault = nameOf(calls, answer);
+  return refused(fault + (isStop ? ` at ${answer.place}` : ''), placing?.(fault));
 }
 
 function nameOf(calls, { fault }) {
-  return new TextDecoder().decode(calls.faultName(fault).output);
+  return decoder.decode(calls.faultName(fault).output);
 }
 
-function refused(why) {
-  return { status: 2, output: line(`refused: ${why}`) };
+function refused(why, place) {
+  return { status: 2, output: line(`refused: ${why}`), place };
 }
 
 function done(output) {

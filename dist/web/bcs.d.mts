@@ -1,7 +1,7 @@
 /** Binary Canonical Serialization by serde-reflection registries. README.md says what is proved, and what is trusted. */
 
 /** A text, as a string or in UTF-8. */
-export type Text = string | Uint8Array;
+export type Text = string | Bytes;
 
 /**
  * A format of a registry: a container's name; a format as an object, as `{ SEQ: 'U8' }`; or its JSON text, which begins with
@@ -36,6 +36,7 @@ export type Value =
   | bigint
   | string
   | Uint8Array
+  | ArrayBuffer
   | Value[]
   | Map<Value, Value>
   | { [name: string]: Value };
@@ -63,12 +64,19 @@ export type Kind =
 
 /** What a call refuses. */
 export class BcsError extends Error {
-  constructor(kind: Kind, reason: string, place?: number);
+  constructor(kind: Kind, reason: string, place?: number, told?: { pointer?: string; expected?: string });
   readonly kind: Kind;
   /** The fault's name, as the program `bcs` prints it: `BadBool`. */
   readonly reason: string;
   /** Where bytes stop being a value, counted from the front. */
   readonly place?: number;
+  /**
+   * Where it is: of a text a JSON Pointer, as `/payload/args/1`, which is empty where the text is refused as a whole; of bytes
+   * the way to where they stop, as `.payload.args[1]`; of a registry its place as the program `bcs` prints it.
+   */
+  readonly pointer?: string;
+  /** What was wanted there, or what is wrong with it, in words for people, which may change. */
+  readonly expected?: string;
 }
 
 /** A piece of a value's bytes. */
@@ -102,11 +110,22 @@ export interface Stop {
   path: string | null;
 }
 
+/** Bytes that are handed over. Numbers are from 0 to 255. */
+export type Bytes = Uint8Array | ArrayBuffer | readonly number[];
+
+/** What `JSON.parse` makes of a text. */
+export type Json = null | boolean | number | string | Json[] | { [name: string]: Json };
+
+/**
+ * A registry is read once, and holds memory of the module until it is closed or collected.
+ */
 export interface Registry {
   /** The names of its containers. */
   readonly names: string[];
   /** The same registry with other limits. */
   withLimits(limits: Limits): Registry;
+  /** Gives the registry's memory back, also of those that `withLimits` made of it. From then on calls throw. */
+  close(): void;
   /** Returns if the format is good. */
   check(format: Format): void;
   /** The bytes of a value. */
@@ -114,21 +133,23 @@ export interface Registry {
   /** The bytes of the value that a JSON text denotes. */
   encodeText(format: Format, text: Text): Uint8Array;
   /** The value whose bytes are the whole input. */
-  decode(format: Format, bytes: Uint8Array): Value;
+  decode(format: Format, bytes: Bytes, options?: { json?: false }): Value;
+  /** The same as `JSON.parse` makes it of its normal text, so that `JSON.stringify` takes it: wide numbers are strings. */
+  decode(format: Format, bytes: Bytes, options: { json: true }): Json;
   /** The normal JSON text of that value. */
-  decodeText(format: Format, bytes: Uint8Array): string;
+  decodeText(format: Format, bytes: Bytes): string;
   /** The one normal JSON text of the value that a JSON text denotes. */
   normalise(format: Format, text: Text): string;
   /** Whether two JSON texts denote equal values. */
   equal(format: Format, first: Text, second: Text): boolean;
   /** How many bytes the value at the front of the input has. */
-  scan(format: Format, bytes: Uint8Array): number;
+  scan(format: Format, bytes: Bytes): number;
   /** The part to which a path leads, and its place; `undefined` where it leads nowhere. */
-  part(format: Format, bytes: Uint8Array, path: Text): { place: number; bytes: Uint8Array } | undefined;
+  part(format: Format, bytes: Bytes, path: Text): { place: number; bytes: Uint8Array } | undefined;
   /** The pieces of the input, and behind them their end, or where they stop being a value. */
-  explain(format: Format, bytes: Uint8Array): (Piece | End | Stop)[];
+  explain(format: Format, bytes: Bytes): (Piece | End | Stop)[];
   /** The same as lines, as the program `bcs explain` prints them. */
-  explainText(format: Format, bytes: Uint8Array, form?: 'ways' | 'paths' | 'tree' | 'json'): string;
+  explainText(format: Format, bytes: Bytes, form?: 'ways' | 'paths' | 'tree' | 'json'): string;
 }
 
 export interface Bcs {
@@ -142,6 +163,12 @@ export interface Bcs {
 
 /** Whether this engine has what `bcs.wasm` needs, or with 64 what `bcs64.wasm` needs. */
 export function isSupported(bits?: 32 | 64): boolean;
+
+/** Bytes by base64 (RFC 4648, section 4), as Sui has them. */
+export function toBase64(bytes: Bytes): string;
+
+/** The bytes of such a text; what is none is a `TypeError`. */
+export function fromBase64(text: string): Uint8Array;
 
 /** Makes the calls out of the module's bytes, a `Response` with them, or a compiled module. */
 export function load(

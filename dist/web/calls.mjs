@@ -1,13 +1,20 @@
 // The calls of bindings/c/include/bcs.h on an instance of the WebAssembly module: what is handed over is put into its
 // memory, and the answer is read from there.
-const STATUSES = ['done', 'short', 'registry', 'format', 'limits', 'refused', 'memory', 'no', 'path', 'newer'];
+const STATUSES = ['done', 'short', 'registry', 'format', 'limits', 'refused', 'memory', 'no', 'path', 'newer', 'closed'];
 const FORMS = ['ways', 'paths', 'tree', 'json'];
-const ASK_SIZE = 40;
+const WHATS = ['where', 'wanted'];
 const ANSWER_SIZE = 24;
+const SLICE_SIZE = 16;
+const LIMITS_SIZE = 8;
+const HANDLE_SIZE = 8;
 // An instance whose memory grew beyond this is let go, so that its memory goes back to the system.
 const KEPT_MEMORY = 32 << 20;
 // The first output for pieces is no longer than this, since how long they are depends on the names.
 const FIRST_PIECES = 16 << 20;
+// The first output for the place of a refusal.
+const FIRST_PLACE = 256;
+// The least room in the memory that is kept for what calls are handed.
+const LEAST_ROOM = 4096;
 
 /** The stack or the memory of the machine didn't suffice, or the engine broke off: no answer of the calls. */
 export class Interruption extends Error {
@@ -17,9 +24,24 @@ export class Interruption extends Error {
   }
 }
 
-/** An instance of the module, and what was put into its memory for the call that runs. */
+/** A registry that is read once for many calls. Where an instance was let go, the next call reads it again. */
+export class Opened {
+  /** In which room it is open, if it is in one, and where its handle stands there. */
+  room;
+  place;
+
+  constructor(text) {
+    this.text = text;
+  }
+}
+
+/** An instance of the module, with a piece of its memory for what a call is handed and what it answers. */
 class Room {
-  #taken = [];
+  id = Symbol('room');
+  #place = 0;
+  #size = 0;
+  #bytes;
+  #view;
 
   constructor(module) {
     this.exports = new WebAssembly.Instance(module, {}).exports;
@@ -30,57 +52,136 @@ class Room {
   }
 
   take(size) {
-    const place = this.exports.take_memory(BigInt(size));
-    if (place === 0n) throw new Interruption('memory');
-    this.#taken.push(place);
+    const place = Number(this.exports.take_memory(BigInt(size)));
+    if (place === 0) throw new Interruption('memory');
     return place;
   }
 
-  /** The two words of a slice: where the bytes stand now, and how many there are. */
-  put(bytes) {
-    const place = this.take(bytes.length);
-    this.bytesAt(place, bytes.length).set(bytes);
-    return [place, BigInt(bytes.length)];
+  give(place) {
+    this.exports.give_memory(BigInt(place));
   }
 
-  putAsk({ registry, format, depth, nodes }) {
-    const words = [...this.put(registry), ...this.put(format)];
-    const place = this.take(ASK_SIZE);
-    const view = this.viewAt(place, ASK_SIZE);
-    words.forEach((word, i) => view.setBigUint64(8 * i, word, true));
-    view.setUint32(32, depth, true);
-    view.setUint32(36, nodes, true);
+  /** A handle in which nothing is open. */
+  takeHandle() {
+    const place = this.take(HANDLE_SIZE);
+    this.#look();
+    this.#bytes.fill(0, place, place + HANDLE_SIZE);
     return place;
   }
 
-  call(name, words) {
-    const place = this.take(ANSWER_SIZE);
-    this.exports[name](place, ...words);
-    const view = this.viewAt(place, ANSWER_SIZE);
+  /**
+   * Makes a call with these words. A number goes as it is, bytes as a slice, and an object is what is asked for: `slices`,
+   * and then the limits. The output, if there is one, has so many bytes.
+   */
+  call(name, parts, outLength) {
+    let size = ANSWER_SIZE + (outLength ?? 0);
+    for (const part of parts) size += sizeOf(part);
+    this.#reserve(size);
+    this.#look();
+    const words = [BigInt(this.#place)];
+    let at = this.#place + ANSWER_SIZE;
+    for (const part of parts) at = this.#put(part, at, words);
+    if (outLength !== undefined) words.push(BigInt(at), BigInt(outLength));
+    this.exports[name](...words);
+    this.#look();
+    const answer = this.#answer();
+    if (outLength !== undefined && answer.status === 'done') answer.output = this.#bytes.slice(at, at + answer.length);
+    return answer;
+  }
+
+  #answer() {
     return {
-      status: STATUSES[view.getUint32(0, true)],
-      fault: view.getUint32(4, true),
-      place: Number(view.getBigUint64(8, true)),
-      length: Number(view.getBigUint64(16, true)),
+      status: STATUSES[this.#view.getUint32(this.#place, true)],
+      fault: this.#view.getUint32(this.#place + 4, true),
+      place: this.#number(this.#place + 8),
+      length: this.#number(this.#place + 16),
+      output: undefined,
     };
   }
 
-  // (Memory that grew is another buffer, so no view outlives a call.)
-  bytesAt(place, length) {
-    return new Uint8Array(this.exports.memory.buffer, Number(place), length);
+  // A number of 64 bits, by halves, since a `BigInt` for each takes longer.
+  #number(at) {
+    return this.#view.getUint32(at, true) + 2 ** 32 * this.#view.getUint32(at + 4, true);
   }
 
-  viewAt(place, length) {
-    return new DataView(this.exports.memory.buffer, Number(place), length);
+  #putNumber(number, at) {
+    this.#view.setUint32(at, number, true);
+    this.#view.setUint32(at + 4, number / 2 ** 32, true);
   }
 
-  giveBack() {
-    for (const place of this.#taken) this.exports.give_memory(place);
-    this.#taken = [];
+  /** Puts a word's bytes there, if it has any, and gives where they end. */
+  #put(part, at, words) {
+    if (typeof part !== 'object') {
+      words.push(part);
+      return at;
+    }
+    words.push(BigInt(at));
+    if (!(part instanceof Uint8Array)) return this.#putAsk(part, at);
+    words.push(BigInt(part.length));
+    this.#bytes.set(part, at);
+    return at + part.length;
+  }
+
+  #putAsk({ slices, depth, nodes }, start) {
+    let at = start;
+    let end = start + slices.length * SLICE_SIZE + LIMITS_SIZE;
+    for (const slice of slices) {
+      this.#putNumber(end, at);
+      this.#putNumber(slice.length, at + 8);
+      this.#bytes.set(slice, end);
+      at += SLICE_SIZE;
+      end += slice.length;
+    }
+    this.#view.setUint32(at, depth, true);
+    this.#view.setUint32(at + 4, nodes, true);
+    return end;
+  }
+
+  #reserve(size) {
+    if (size <= this.#size) return;
+    if (this.#size > 0) this.give(this.#place);
+    this.#size = 0;
+    this.#place = this.take(Math.max(size, LEAST_ROOM));
+    this.#size = Math.max(size, LEAST_ROOM);
+  }
+
+  // (memory that grew is another buffer)
+  #look() {
+    const { buffer } = this.exports.memory;
+    if (this.#bytes?.buffer === buffer) return;
+    this.#bytes = new Uint8Array(buffer);
+    this.#view = new DataView(buffer);
   }
 }
 
-/** The calls. An answer has `status`, `fault` (its number), `place`, `length` and, where there is one, `output`. */
+function sizeOf(part) {
+  if (typeof part !== 'object') return 0;
+  if (part instanceof Uint8Array) return part.length;
+  let size = LIMITS_SIZE;
+  for (const slice of part.slices) size += SLICE_SIZE + slice.length;
+  return size;
+}
+
+/** A call with an output. Where it is too short, the call says how long it has to be, and is made again. */
+function wholeCall(room, name, parts, outLength) {
+  const answer = room.call(name, parts, outLength);
+  return answer.status === 'short' ? room.call(name, parts, answer.length) : answer;
+}
+
+/** Reads the registry into a handle of this room, if it isn't open there. */
+function openIn(room, opened) {
+  if (opened.room === room.id) return { status: 'done', fault: 0, place: 0, length: 0 };
+  const place = room.takeHandle();
+  const answer = room.call('bcs_open', [BigInt(place), opened.text]);
+  if (answer.status === 'done') Object.assign(opened, { room: room.id, place });
+  else room.give(place);
+  return answer;
+}
+
+/**
+ * The calls. What is asked for has `registry`, a text or one that is `Opened`, `format`, `depth` and `nodes`. An answer has
+ * `status`, `fault` (its number), `place`, `length` and, where there is one, `output`.
+ */
 export class Calls {
   #module;
   #room;
@@ -90,58 +191,84 @@ export class Calls {
   }
 
   check(ask) {
-    return this.#run((room) => room.call('bcs_check', [room.putAsk(ask)]));
+    return this.#on('check', ask, []);
   }
 
   grows(older, newer) {
-    return this.#run((room) => room.call('bcs_grows', [...room.put(older), ...room.put(newer)]));
+    return this.#run((room) => room.call('bcs_grows', [older, newer]));
   }
 
   toBcs(ask, text) {
-    return this.#put('bcs_to_bcs', text.length + 64, (room) => [room.putAsk(ask), ...room.put(text)]);
+    return this.#on('to_bcs', ask, [text], text.length + 64);
   }
 
   fromBcs(ask, bytes) {
-    return this.#put('bcs_from_bcs', 3 * bytes.length + 64, (room) => [room.putAsk(ask), ...room.put(bytes)]);
+    return this.#on('from_bcs', ask, [bytes], 3 * bytes.length + 64);
   }
 
   normalise(ask, text) {
-    return this.#put('bcs_normalise', text.length + 64, (room) => [room.putAsk(ask), ...room.put(text)]);
+    return this.#on('normalise', ask, [text], text.length + 64);
   }
 
   compare(ask, first, second) {
-    return this.#run((room) => room.call('bcs_compare', [room.putAsk(ask), ...room.put(first), ...room.put(second)]));
+    return this.#on('compare', ask, [first, second]);
   }
 
   scan(ask, bytes) {
-    return this.#run((room) => room.call('bcs_scan', [room.putAsk(ask), ...room.put(bytes)]));
+    return this.#on('scan', ask, [bytes]);
   }
 
   part(ask, bytes, path) {
-    return this.#run((room) => room.call('bcs_part', [room.putAsk(ask), ...room.put(bytes), ...room.put(path)]));
+    return this.#on('part', ask, [bytes, path]);
   }
 
   explain(ask, form, bytes) {
-    const words = (room) => [room.putAsk(ask), FORMS.indexOf(form), ...room.put(bytes)];
-    return this.#put('bcs_explain', Math.min(64 * bytes.length + 256, FIRST_PIECES), words);
+    return this.#on('explain', ask, [FORMS.indexOf(form), bytes], Math.min(64 * bytes.length + 256, FIRST_PIECES));
+  }
+
+  /** `where` a text is refused, or what was `wanted` there. */
+  textPlace(ask, what, text) {
+    return this.#on('text_place', ask, [WHATS.indexOf(what), text], FIRST_PLACE);
+  }
+
+  /** The same of bytes. */
+  stopPlace(ask, what, bytes) {
+    return this.#on('stop_place', ask, [WHATS.indexOf(what), bytes], FIRST_PLACE);
+  }
+
+  /** The same of a registry's text. */
+  registryPlace(what, text) {
+    return this.#run((room) => wholeCall(room, 'bcs_registry_place', [WHATS.indexOf(what), text], FIRST_PLACE));
   }
 
   faultName(fault) {
-    return this.#put('bcs_fault_name', 32, () => [fault]);
+    return this.#run((room) => wholeCall(room, 'bcs_fault_name', [fault], 32));
   }
 
-  /** A call with an output. Where it is too short, the call says how long it has to be, and is made again. */
-  #put(name, firstLength, wordsIn) {
+  /** Reads a registry, which is open from then on. */
+  open(opened) {
+    return this.#run((room) => openIn(room, opened));
+  }
+
+  /** Gives the memory of a registry back. */
+  close(opened) {
+    if (opened.room === undefined || opened.room !== this.#room?.id) return;
+    this.#run((room) => {
+      room.exports.bcs_close(BigInt(opened.place));
+      room.give(opened.place);
+      opened.room = undefined;
+    });
+  }
+
+  #on(name, { registry, format, depth, nodes }, parts, outLength) {
     return this.#run((room) => {
-      const words = wordsIn(room);
-      let length = firstLength;
-      for (;;) {
-        const place = room.take(length);
-        const answer = room.call(name, [...words, place, BigInt(length)]);
-        if (answer.status === 'done') return { ...answer, output: room.bytesAt(place, answer.length).slice() };
-        if (answer.status !== 'short') return answer;
-        length = answer.length;
+      if (!(registry instanceof Opened)) {
+        return wholeCall(room, `bcs_${name}`, [{ slices: [registry, format], depth, nodes }, ...parts], outLength);
       }
+      const answer = openIn(room, registry);
+      if (answer.status !== 'done') return answer;
+      const words = [BigInt(registry.place), { slices: [format], depth, nodes }, ...parts];
+      return wholeCall(room, `bcs_handle_${name}`, words, outLength);
     });
   }
 
@@ -151,7 +278,6 @@ export class Calls {
       const room = this.#room ?? new Room(this.#module);
       this.#room = undefined;
       const answer = call(room);
-      room.giveBack();
       if (room.size <= KEPT_MEMORY) this.#room = room;
       return answer;
     } catch (error) {

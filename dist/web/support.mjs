@@ -1,8 +1,9 @@
 // Which modules the engine runs.
 
-// By the bits of an address, the smallest module that has what bcs.wasm and bcs64.wasm need: one that fills memory.
+// By the bits of an address, the smallest module that has what bcs.wasm and bcs64.wasm need: one that fills memory and makes a
+// vector, and one with wide addresses, since an engine with those has the others, too.
 const SMALLEST = {
-  32: [1, 4, 1, 0x60, 0, 0, 3, 2, 1, 0, 5, 3, 1, 0, 1, 10, 13, 1, 11, 0, 0x41, 0, 0x41, 0, 0x41, 0, 0xfc, 11, 0, 11],
+  32: [1, 4, 1, 0x60, 0, 0, 3, 2, 1, 0, 5, 3, 1, 0, 1, 10, 18, 1, 16, 0, 0x41, 0, 0x41, 0, 0x41, 0, 0xfc, 11, 0, 0x41, 0, 0xfd, 15, 26, 11],
   64: [5, 3, 1, 4, 1],
 };
 

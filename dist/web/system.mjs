@@ -46,7 +46,7 @@ async function* blocksOf(file) {
 }
 
 /** A name as between the quotes of a JSON string, in ASCII, so that none of its characters moves a terminal. */
-function shown(name) {
+export function shown(name) {
   const escaped = (unit) => `\\u${unit.charCodeAt(0).toString(16).padStart(4, '0')}`;
   return name.replace(/["\\]/g, '\\$&').replace(/[^ -~]/g, escaped);
 }

@@ -26,6 +26,7 @@ function spelled(value) {
 
 function spelledObject(value) {
   if (value instanceof Uint8Array) return hexOf(value);
+  if (value instanceof ArrayBuffer) return hexOf(new Uint8Array(value));
   if (Array.isArray(value) || ArrayBuffer.isView(value)) return Array.from(value, spelled);
   if (value instanceof Map) return Array.from(value, ([key, held]) => [spelled(key), spelled(held)]);
   // (`fromEntries` makes members, also one called __proto__, where an assignment would not)
