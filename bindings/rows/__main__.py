@@ -6,68 +6,33 @@ A driver is a program that makes the calls of one language. README.md in binding
 What a row means stands in crates/test_calls/README.md and in the head of .ci/bcs.rows. Rows that no call can say are counted by their kind.
 """
 
-import pathlib
 import sys
 from collections import Counter
-from collections.abc import Callable, Iterator
 from functools import partial
 
-from driver import Driver, Refused, Wrong, expect
+from driver import Driver
 from jobs import job_row
 from kinds import KINDS
 from pieces import piece_rows, pieces_of
+from places import has_place, place_told_row
+from tests import ROOT, Tally, rows_of_tests
 from values import encode_row
-from words import Unsayable, bytes_of, unrolled
-
-ROOT = pathlib.Path(__file__).resolve().parent.parent.parent
-
-
-def rows_of_tests() -> Iterator[tuple[str, str, str]]:
-    """Where each row stands, the row, and the answer that stands behind it."""
-    for file in ("crates/test_calls/stdout", ".ci/bcs.rows"):
-        lines = (ROOT / file).read_text(encoding="utf-8").split("\n")
-        for number, line in enumerate(lines, start=1):
-            row, arrow, answer = line.partition(" -> ")
-            if arrow and not line.startswith("#"):
-                yield f"{file}, line {number}", row, answer
-
-
-class Tally:
-    """What was asked so far: rows by their kind, and those that can't be said."""
-
-    def __init__(self) -> None:
-        self.covered: Counter[str] = Counter()
-        self.unsayable: Counter[str] = Counter()
-        self.failed = 0
-
-    def judge(self, kind: str, name: str, asked: Callable[[], str], wanted: str) -> None:
-        try:
-            answer = asked()
-        except Unsayable:
-            self.unsayable[kind] += 1
-            return
-        except Refused as fault:
-            answer = str(fault)
-        except Wrong as what:
-            answer = f"disagreement: {what}"
-        self.covered[kind] += 1
-        if answer != wanted:
-            self.failed += 1
-            print(f"rows: FAILED: {name[:300]}\n  wanted {wanted[:300]}\n  answer {answer[:300]}")
 
 
 def ask_rows(driver: Driver, tally: Tally, without: set[str]) -> None:
-    registry = b"{}"
     kinds = {**KINDS, "bcs": job_row, "encode": encode_row}
-    for place, row, wanted in rows_of_tests():
-        kind, *words = unrolled(row).split("\t")
-        if kind == "registry":
-            registry = bytes_of(words[0])
-        asked = kinds.get(kind)
-        if asked is None or kind in without:
-            tally.unsayable[kind] += 1
+    for row in rows_of_tests():
+        asked = kinds.get(row.kind)
+        if asked is None or row.kind in without:
+            tally.unsayable[row.kind] += 1
             continue
-        tally.judge(kind, f"{place}: {row}", partial(asked, driver, registry, words, wanted), wanted)
+        tally.judge(row.kind, row.name, partial(asked, driver, row.registry, row.words, row.wanted), row.wanted)
+
+
+def ask_places(driver: Driver, tally: Tally) -> None:
+    for row in rows_of_tests():
+        if has_place(row.kind, row.words, row.wanted):
+            tally.judge("places", row.name, partial(place_told_row, driver, row.registry, row.words, row.wanted), row.wanted)
 
 
 def ask_pieces(driver: Driver, tally: Tally) -> None:
@@ -89,6 +54,8 @@ def main(words: list[str]) -> int:
         return 3
     driver, tally = Driver(words), Tally()
     ask_rows(driver, tally, without)
+    if "places" not in without:
+        ask_places(driver, tally)
     ask_pieces(driver, tally)
     driver.end()
     print(f"rows: asked: {told_by_kind(tally.covered)}")

@@ -24,8 +24,8 @@ def refusal(fault: object) -> Printed:
 
 
 def job_row(driver: Driver, registry: bytes, words: list[str], wanted: str) -> str:
-    """The status and what is put. No call tells where a refusal stands, so what is behind that isn't compared, nor how
-    many containers a good registry has."""
+    """The status and what is put. What is behind that says where a refusal stands, which is asked in places.py. No call
+    tells how many containers a good registry has, so that isn't compared."""
     name, *words = words[1:] if words[0] == "--where" else words
     try:
         printed = job(driver, name, words)

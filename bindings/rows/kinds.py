@@ -144,7 +144,7 @@ def pairs_row(driver: Driver, registry: bytes, words: list[str], wanted: str) ->
 
 
 def place_row(driver: Driver, registry: bytes, words: list[str], wanted: str) -> str:
-    """No call tells where in a text its fault stands."""
+    """The fault. Where it stands in the text is asked in places.py."""
     if " at " not in wanted:
         raise Unsayable
     answer = Question(driver, registry, words[0].encode(), words[2:]).ask("to_bcs", words[1].encode())

@@ -50,7 +50,7 @@ def joined(text: str) -> str:
 
 
 def without_place(table: str) -> str:
-    """A last line says where a refusal stands, on standard error, which no call tells."""
+    """A last line says where a refusal stands, on standard error."""
     return re.sub(r"\nat .*\n$", "\n", table)
 
 

@@ -160,9 +160,9 @@ class Calls:
 
 
 def answer(calls, words):
-    """Only rows say `grows` and `fault_name`, and a format that is no JSON is a container's name in SQL."""
+    """SQL has no such calls as these, and a format that is no JSON is a container's name there."""
     call, *words = words
-    if call in ("grows", "fault_name"):
+    if call in ("grows", "fault_name", "text_place", "stop_place", "registry_place"):
         raise Unsayable
     registry, format = (bytes.fromhex(word) for word in words[:2])
     if format[:1] not in (b"{", b'"'):

@@ -6,11 +6,14 @@
 #define WORDS 8
 
 /* The words of calls, in the order of enum call. */
-static const char *const call_words[] = {"check",   "grows", "to_bcs", "from_bcs", "normalise",
-                                         "compare", "scan",  "part",   "explain",  "fault_name"};
+static const char *const call_words[] = {"check",      "grows",      "to_bcs",        "from_bcs", "normalise",
+                                         "compare",    "scan",       "part",          "explain",  "fault_name",
+                                         "text_place", "stop_place", "registry_place"};
 static const char *const status_words[] = {"done",    "short",  "registry", "format", "limits",
                                            "refused", "memory", "no",       "path",   "newer",  "closed"};
 static const char *const form_words[] = {"ways", "paths", "tree", "json"};
+static const char *const what_words[] = {"where", "wanted"};
+#define COUNT(words) (sizeof(words) / sizeof *(words))
 
 static void fail(const char *what, const char *word) {
     fprintf(stderr, "driver: %s: %.100s\n", what, word);
@@ -69,13 +72,16 @@ static size_t split(char *line, char *words[WORDS]) {
 }
 
 static struct job job_of(char *words[WORDS], size_t count) {
-    struct job job = {.call = (enum call)number_of(words[0], call_words, 10)};
-    const size_t counts[] = {5, 3, 6, 6, 6, 7, 6, 7, 7, 2};
+    struct job job = {.call = (enum call)number_of(words[0], call_words, COUNT(call_words))};
+    const size_t counts[] = {5, 3, 6, 6, 6, 7, 6, 7, 7, 2, 7, 7, 3};
     if (count != counts[job.call]) {
         fail("not the number of words", words[0]);
     }
     if (job.call == FAULT_NAME) {
         job.number = decimal(words[1]);
+    } else if (job.call == REGISTRY_PLACE) {
+        job.input = bytes_of(words[1]);
+        job.number = (uint32_t)number_of(words[2], what_words, COUNT(what_words));
     } else if (job.call == GROWS) {
         job.input = bytes_of(words[1]);
         job.second = bytes_of(words[2]);
@@ -86,7 +92,9 @@ static struct job job_of(char *words[WORDS], size_t count) {
         job.nodes = decimal(words[4]);
         job.input = count > 5 ? bytes_of(words[5]) : job.format;
         if (job.call == EXPLAIN) {
-            job.number = (uint32_t)number_of(words[6], form_words, 4);
+            job.number = (uint32_t)number_of(words[6], form_words, COUNT(form_words));
+        } else if (job.call == TEXT_PLACE || job.call == STOP_PLACE) {
+            job.number = (uint32_t)number_of(words[6], what_words, COUNT(what_words));
         } else {
             job.second = count > 6 ? bytes_of(words[6]) : job.format;
         }
@@ -141,7 +149,8 @@ static bcs_answer make_whole(enum way way, const struct job *job, uint8_t **out,
 
 static bool has_output(const struct job *job, bcs_answer answer) {
     const bool is_written = job->call == TO_BCS || job->call == FROM_BCS || job->call == NORMALISE ||
-                            job->call == EXPLAIN || job->call == FAULT_NAME;
+                            job->call == EXPLAIN || job->call == FAULT_NAME || job->call == TEXT_PLACE ||
+                            job->call == STOP_PLACE || job->call == REGISTRY_PLACE;
     return is_written && answer.status == BCS_DONE;
 }
 
@@ -153,7 +162,7 @@ static void tell(const struct job *job, bcs_answer answer, const uint8_t *out) {
         CHECK(named.status == BCS_DONE);
         length = named.length;
     }
-    CHECK(answer.status < sizeof status_words / sizeof *status_words && answer.status != BCS_SHORT);
+    CHECK(answer.status < COUNT(status_words) && answer.status != BCS_SHORT);
     printf("%s\t%.*s\t%llu\t%zu\t", status_words[answer.status], (int)length, (const char *)name,
            (unsigned long long)answer.place, answer.length);
     for (size_t place = 0; has_output(job, answer) && place < answer.length; place++) {

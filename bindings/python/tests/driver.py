@@ -4,7 +4,7 @@ import functools
 import json
 import pathlib
 import sys
-from typing import Callable
+from typing import Callable, Optional
 
 sys.path.insert(0, str(pathlib.Path(__file__).resolve().parent.parent))
 
@@ -53,6 +53,39 @@ def explain(registry: Registry, format: bytes, limits: Limits, data: bytes, form
     return Answer("done", end.get("refused", "-"), place, len(text.encode()), text.encode())
 
 
+def refused_by(call: Callable[[], object]) -> Optional[bcs_proved.BcsError]:
+    """What a call raises of its input. What is wrong with what is asked for is raised."""
+    try:
+        call()
+    except (bcs_proved.RegistryError, bcs_proved.TextError, bcs_proved.BytesError) as fault:
+        return fault
+    return None
+
+
+def place(fault: Optional[bcs_proved.BcsError], what: str) -> Answer:
+    told = None if fault is None else fault.pointer if what == "where" else fault.expected
+    return Answer("no") if told is None else output(told.encode())
+
+
+def text_place(registry: Registry, format: bytes, limits: Limits, text: bytes, what: str) -> Answer:
+    """Each call that takes a text tells the same."""
+    encoded = refused_by(lambda: registry.encode_text(format, text, limits))
+    for other in (
+        refused_by(lambda: registry.normalise_text(format, text, limits)),
+        refused_by(lambda: registry.equal_text(format, text, text, limits)),
+    ):
+        assert (other and other.args) == (encoded and encoded.args), f"{other}, {encoded}"
+    return place(encoded, what)
+
+
+def stop_place(registry: Registry, format: bytes, limits: Limits, data: bytes, what: str) -> Answer:
+    """Where the value at the front is refused, `scan` tells the same."""
+    decoded = refused_by(lambda: registry.decode_text(format, data, limits))
+    scanned = refused_by(lambda: registry.scan(format, data, limits))
+    assert scanned is None or (decoded and decoded.args) == scanned.args, f"{decoded}, {scanned}"
+    return place(decoded, what)
+
+
 # What takes a registry, a format, limits and what comes behind them.
 CALLS: dict[str, Callable[..., Answer]] = {
     "check": check,
@@ -63,6 +96,8 @@ CALLS: dict[str, Callable[..., Answer]] = {
     "scan": lambda registry, *words: Answer("done", length=registry.scan(words[0], words[2], words[1])),
     "part": part,
     "explain": explain,
+    "text_place": text_place,
+    "stop_place": stop_place,
 }
 
 
@@ -79,8 +114,11 @@ def grows(older: bytes, newer: bytes) -> Answer:
 def answer(words: list[str]) -> Answer:
     if words[0] == "grows":
         return grows(bytes.fromhex(words[1]), bytes.fromhex(words[2]))
+    if words[0] == "registry_place":
+        return place(refused_by(lambda: Registry(bytes.fromhex(words[1]))), words[2])
     registry = registry_of(bytes.fromhex(words[1]))
-    rest = [word if words[0] == "explain" and place == 1 else bytes.fromhex(word) for place, word in enumerate(words[5:])]
+    has_word = words[0] in ("explain", "text_place", "stop_place")
+    rest = [word if has_word and place == 1 else bytes.fromhex(word) for place, word in enumerate(words[5:])]
     try:
         limits = Limits(int(words[3]), int(words[4]))
     except ValueError:

@@ -18,6 +18,7 @@ fn answer(line: &str) -> String {
     let told = match words.next() {
         "fault_name" => return "unsayable".into(),
         "grows" => grows(words),
+        "registry_place" => place(Registry::read(words.bytes()).err(), words.next()),
         call => ask(call, words).unwrap_or_else(|error| Told::error(error, "registry")),
     };
     let Told { status, fault, place, length, output } = told;
@@ -117,8 +118,41 @@ fn ask(call: &str, mut words: Words) -> Result<Told, Error> {
         "scan" => Told { length: registry.scan(format, input)?, ..Told::done() },
         "part" => part(&registry, format, &input, &words.bytes())?,
         "explain" => explain(&registry, format, &input, words.next())?,
+        "text_place" => text_place(&registry, format, &input, words.next()),
+        "stop_place" => stop_place(&registry, format, &input, words.next()),
         _ => panic!("no call is named {call}"),
     })
+}
+
+/// Each call that takes a text refuses it alike.
+fn text_place(registry: &Registry, format: &Format, text: &[u8], what: &str) -> Told {
+    let refused = registry.encode(format, text).err();
+    assert_eq!(registry.normalise(format, text).err(), refused);
+    assert_eq!(registry.equal(format, text, text).err(), refused);
+    place(refused, what)
+}
+
+/// Where the value at the front is refused, `scan` refuses it alike.
+fn stop_place(registry: &Registry, format: &Format, bytes: &[u8], what: &str) -> Told {
+    let refused = registry.decode(format, bytes).err();
+    if let Err(error) = registry.scan(format, bytes) {
+        assert_eq!(Some(error), refused);
+    }
+    place(refused, what)
+}
+
+/// Where something is refused, or what was wanted there. What is wrong with the format or the limits has no place.
+fn place(refused: Option<Error>, what: &str) -> Told {
+    let Some(error) = refused else {
+        return Told::yes_or_no(false);
+    };
+    let told = match (error.kind(), what) {
+        (ErrorKind::Format(_) | ErrorKind::Limits | ErrorKind::Memory, _) => return Told::error(error, "registry"),
+        (_, "where") => error.pointer(),
+        (_, "wanted") => error.expected(),
+        _ => panic!("nothing is told that is named {what}"),
+    };
+    told.map_or(Told::yes_or_no(false), |words| Told::output(words.into()))
 }
 
 fn part(registry: &Registry, format: &Format, input: &[u8], path: &[u8]) -> Result<Told, Error> {

@@ -1,4 +1,5 @@
 // node tests/driver.mjs bcs.wasm: answers the lines that bindings/rows asks, by the calls of bcs.mjs.
+import assert from 'node:assert/strict';
 import { readFileSync } from 'node:fs';
 import { createInterface } from 'node:readline';
 import { BcsError, load } from '../bcs.mjs';
@@ -25,6 +26,37 @@ function pieces(registry, format, bytes, form) {
   return refused === undefined ? put(text) : { ...put(text), fault: refused, place };
 }
 
+/** What a call refuses of its input. What is wrong with what is asked for is thrown. */
+function refusedBy(call) {
+  try {
+    call();
+  } catch (error) {
+    if (!(error instanceof BcsError) || !['registry', 'text', 'bytes'].includes(error.kind)) throw error;
+    return error;
+  }
+}
+
+function place(refused, what) {
+  const told = what === 'where' ? refused?.pointer : refused?.expected;
+  return told === undefined ? NO : put(told);
+}
+
+/** Each call that takes a text tells the same. */
+function textPlace(registry, format, text, what) {
+  const calls = [() => registry.encodeText(format, text), () => registry.normalise(format, text), () => registry.equal(format, text, text)];
+  const [refused, ...others] = calls.map(refusedBy);
+  for (const other of others) assert.deepEqual({ ...other }, { ...refused });
+  return place(refused, what);
+}
+
+/** Where the value at the front is refused, `scan` tells the same. */
+function stopPlace(registry, format, bytes, what) {
+  const refused = refusedBy(() => registry.decodeText(format, bytes));
+  const scanned = refusedBy(() => registry.scan(format, bytes));
+  if (scanned !== undefined) assert.deepEqual({ ...scanned }, { ...refused });
+  return place(refused, what);
+}
+
 const CALLS = {
   check: (registry, format) => (registry.check(format), DONE),
   to_bcs: (registry, format, text) => put(registry.encodeText(format, text)),
@@ -43,11 +75,13 @@ function answerTo(call, words) {
     const name = bcs.faultName(Number(words[0]));
     return name === undefined ? NO : put(name);
   }
+  if (call === 'registry_place') return place(refusedBy(() => bcs.registry(bytesOfHex(words[0]))), words[1]);
   if (call === 'grows') return bcs.grows(...words.map(bytesOfHex)), DONE;
   const [registryText, formatText, depth, nodes, ...others] = words;
   const registry = bcs.registry(bytesOfHex(registryText)).withLimits({ depth: Number(depth), nodes: Number(nodes) });
   const format = formatOf(decoder.decode(bytesOfHex(formatText)));
-  if (call === 'explain') return pieces(registry, format, bytesOfHex(others[0]), others[1]);
+  const withWord = { explain: pieces, text_place: textPlace, stop_place: stopPlace }[call];
+  if (withWord !== undefined) return withWord(registry, format, bytesOfHex(others[0]), others[1]);
   return CALLS[call](registry, format, ...others.map(bytesOfHex));
 }
 
