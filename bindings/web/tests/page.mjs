@@ -266,6 +266,51 @@ test('names of a hostile registry are text', async () => {
   await isQuiet(page);
 });
 
+const IMAGE = '<img src=x onerror=alert(3)>';
+const SCRIPT = '<script>alert(4)</script>';
+const MARKUP = "document.querySelectorAll('main :is(img, script, b)').length";
+
+/** A refusal is told with these words, in which names of others are text, and what can't be seen an escape. */
+async function isToldAsText(page, id, told) {
+  await page.until(`document.getElementById('${id}').textContent.includes(${JSON.stringify(told)})`);
+  assert.equal(await page.ask(MARKUP), 0);
+}
+
+test('hostile names in the place of a refusal, and in its words, are text', async () => {
+  const page = await opened();
+  await page.ask('window.alert = () => (window.alerted = true)');
+  await page.ask("document.getElementById('registry-box').open = true");
+  const shapes = { [IMAGE]: { ENUM: { 0: { [SCRIPT]: { STRUCT: [{ [`<b>${IMAGE}/`]: 'BOOL' }, { 'a\u202eb': 'BOOL' }] } } } } };
+  await replace(page, 'registry', JSON.stringify(shapes));
+  await page.until("document.getElementById('registry-verdict').textContent === '1 container'");
+  await choose(page, 'container', IMAGE);
+  for (const [value, told] of [
+    [{ [SCRIPT]: { [`<b>${IMAGE}/`]: 7, 'a\u202eb': true } }, `At /<script>alert(4)<~1script>/<b>${IMAGE}~1: wanted BOOL, true or false.`],
+    [{ [SCRIPT]: { 'a\u202eb': true } }, `At /<script>alert(4)<~1script>: no member is called <b>${IMAGE}/.`],
+    [{ [SCRIPT]: { [`<b>${IMAGE}/`]: true, 'a\u202eb': true, [IMAGE]: 0 } }, `no field is called ${IMAGE}.`],
+    [{ [SCRIPT]: { [`<b>${IMAGE}/`]: true, 'a\u202eb': 7 } }, 'At /<script>alert(4)<~1script>/a\\u{202e}b: wanted'],
+    [IMAGE, `no variant is called ${IMAGE}.`],
+    [SCRIPT, `wanted an object with the one member ${SCRIPT}.`],
+  ]) {
+    await replace(page, 'text', JSON.stringify(value));
+    await isToldAsText(page, 'verdict', told);
+  }
+  await replace(page, 'bytes', '0002');
+  await isToldAsText(page, 'verdict', `Wanted there: BOOL, at ::${SCRIPT}.<b>${IMAGE}/.`);
+  await page.until("document.querySelector('#tree .stop')?.textContent.includes('wanted: BOOL')");
+  await isToldAsText(page, 'tree', SCRIPT);
+  for (const [registry, told] of [
+    [{ [IMAGE]: { STRUCT: [{ [SCRIPT]: 'U9' }] } }, `at /${IMAGE}/STRUCT/0/<script>alert(4)<~1script>, wanted a format`],
+    [{ [IMAGE]: { STRUCT: [{ [SCRIPT]: { TYPENAME: `<b>${IMAGE}` } }] } }, `at ${IMAGE}, field ${SCRIPT}, no container is called <b>${IMAGE}`],
+    [{ [SCRIPT]: { STRUCT: [{ [IMAGE]: 'U8' }, { [IMAGE]: 'U8' }] } }, `at ${SCRIPT}, two fields are called ${IMAGE}`],
+  ]) {
+    await replace(page, 'registry', JSON.stringify(registry));
+    await isToldAsText(page, 'registry-verdict', told);
+  }
+  assert.equal(await page.ask('window.alerted'), undefined);
+  await isQuiet(page);
+});
+
 test('a registry with very many or very long names is taken', async () => {
   const page = await opened();
   const told = "document.getElementById('registry-verdict').textContent";
