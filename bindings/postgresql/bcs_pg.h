@@ -39,9 +39,10 @@ extern struct piece argument(FunctionCallInfo fcinfo, int place);
 extern Registry *registry_of_call(FunctionCallInfo fcinfo);
 extern void watch_names(void);
 
-/* refusal.c: raises what an answer refuses. The question is null where there is none yet. And why and where bytes stop, in
- * UTF-8, which is ASCII here. */
+/* refusal.c: raises what an answer refuses of a question, and of the text of a registry, in UTF-8. And why and where bytes stop,
+ * in UTF-8, which is ASCII here. */
 extern pg_attribute_noreturn() void refuse(Question *question, bcs_answer answer);
+extern pg_attribute_noreturn() void refuse_registry(struct piece text, bcs_answer answer);
 extern const char *json_of_stop(Question *question, bcs_answer answer);
 
 #endif

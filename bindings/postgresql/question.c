@@ -120,6 +120,6 @@ question_of_jsonb(FunctionCallInfo fcinfo, int inputs)
 
 	initStringInfo(&text);
 	JsonbToCString(&text, &value->root, VARSIZE(value));
-	question.input = utf8_of((struct piece) {(const uint8_t *) text.data, text.len});
+	question.input = question.second = utf8_of((struct piece) {(const uint8_t *) text.data, text.len});
 	return question;
 }

@@ -140,7 +140,7 @@ open_registry(FunctionCallInfo fcinfo, struct piece text)
 
 	MemoryContextSwitchTo(outer);
 	if (answer.status != BCS_DONE)
-		refuse(NULL, answer);
+		refuse_registry(json, answer);
 	registry.text = (struct piece) {(const uint8_t *) kept, text.length};
 	MemoryContextSetIdentifier(registry.context, kept);
 	MemoryContextSetParent(registry.context, CacheMemoryContext);

@@ -29,7 +29,8 @@ def refusal(message):
     found = re.match(r"bcs: ([a-z ]+): ([A-Za-z0-9]+)(?: at (\d+))?", message)
     if not found:
         raise SystemExit(f"driver: {message}")
-    return Answered(STATUSES.get(found[1], "refused"), found[2], found[3] or "0", "0", "")
+    place = found[3] if found[1] == "no bytes of the format" else None
+    return Answered(STATUSES.get(found[1], "refused"), found[2], place or "0", "0", "")
 
 
 class Sqlite:

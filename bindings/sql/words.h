@@ -11,7 +11,7 @@
 #define STANDARD_NODES 1000000
 #define STANDARD_DEPTH 100
 
-/* How many registries a process or a connection has open at once, and how much text is made for the way to a fault. */
+/* How many registries a process or a connection has open at once, and how much text is made for where a fault is. */
 #define MOST_OPEN 16
 #define MOST_EXPLAINED ((size_t)16 << 20)
 
@@ -117,8 +117,8 @@ static inline size_t room_of_pieces(size_t length) {
     return length < MOST_EXPLAINED / 256 ? 256 * length + 4096 : MOST_EXPLAINED;
 }
 
-/* Whether the pieces of damaged bytes are asked for once more, with as much room as they need. */
-static inline bool is_to_explain_again(bcs_answer answer) {
+/* Whether it is asked for once more what is told of a refusal, with as much room as that needs. */
+static inline bool is_to_ask_again(bcs_answer answer) {
     return answer.status == BCS_SHORT && answer.length <= MOST_EXPLAINED;
 }
 
@@ -135,21 +135,116 @@ static inline struct piece last_line(struct piece pieces) {
     return (struct piece){pieces.at + begin, end - begin};
 }
 
-/* The way by names in such a line: what its first member, "name", has between the quotes, which is ASCII. The escapes of JSON
-   are undone in its place, in pieces that the caller may write to. */
-static inline struct piece way_of(uint8_t *pieces, struct piece line) {
-    static const char front[] = "{\"name\":\"";
-    const size_t begin = sizeof front - 1;
-    uint8_t *const way = pieces + (line.at - pieces) + begin;
-    size_t length = 0;
-    if (line.length < begin || memcmp(line.at, front, begin) != 0) {
-        return (struct piece){line.at, 0};
+/* Whether the library tells where it is refused. */
+static inline bool is_placed(bcs_answer answer) {
+    return answer.status == BCS_REGISTRY || (answer.status == BCS_REFUSED && answer.fault > 300 && answer.fault < 500);
+}
+
+/* What is refused: the text of a registry, bytes, or one of two texts, which are the same where a function has one. */
+struct refused {
+    bcs_answer answer;
+    bcs_handle *handle; /* null for a registry */
+    const bcs_handle_ask *ask;
+    struct piece input, second;
+};
+
+/* How much room there is at first for what is told of a place, which is often enough. */
+#define PLACE_ROOM 500
+
+/* What the library tells of the place of what is refused, where it does: BCS_DONE, BCS_SHORT or BCS_MEMORY. */
+static inline bcs_answer tell_place(const struct refused *refused, uint32_t what, uint8_t *out, size_t room) {
+    const struct piece input = refused->input, second = refused->second;
+    bcs_answer told;
+    if (refused->answer.status == BCS_REGISTRY) {
+        return bcs_registry_place(what, input.at, input.length, out, room);
     }
-    for (size_t place = begin; place < line.length && line.at[place] != '"'; place++) {
-        place += line.at[place] == '\\' && place + 1 < line.length;
-        way[length++] = line.at[place];
+    if (is_stop(refused->answer)) {
+        return bcs_handle_stop_place(refused->handle, refused->ask, what, input.at, input.length, out, room);
     }
-    return (struct piece){way, length};
+    told = bcs_handle_text_place(refused->handle, refused->ask, what, input.at, input.length, out, room);
+    return told.status == BCS_NO
+               ? bcs_handle_text_place(refused->handle, refused->ask, what, second.at, second.length, out, room)
+               : told;
+}
+
+/* The character at the front of UTF-8, and how many bytes it has. */
+static inline size_t character_at(struct piece text, uint32_t *character) {
+    const uint8_t first = text.at[0];
+    const size_t wanted = first < 0x80 ? 1 : first < 0xe0 ? 2 : first < 0xf0 ? 3 : 4;
+    const size_t length = wanted < text.length ? wanted : text.length;
+    *character = wanted == 1 ? first : first & (0x7fu >> wanted);
+    for (size_t place = 1; place < length; place++) {
+        *character = *character << 6 | (text.at[place] & 0x3f);
+    }
+    return length;
+}
+
+#define ESCAPE_ROOM 12
+
+static inline size_t write_unit(uint32_t unit, char *out) {
+    static const char digits[] = "0123456789abcdef";
+    *out++ = '\\';
+    *out++ = 'u';
+    for (int shift = 12; shift >= 0; shift -= 4) {
+        *out++ = digits[unit >> shift & 15];
+    }
+    return 6;
+}
+
+/* A character in printable ASCII, as the program has it, of ESCAPE_ROOM bytes at most. */
+static inline size_t write_character(uint32_t character, char *out) {
+    if (character >= 0x10000) {
+        const size_t length = write_unit(0xd800 + ((character - 0x10000) >> 10), out);
+        return length + write_unit(0xdc00 + (character & 0x3ff), out + length);
+    }
+    if (character < ' ' || character > '~') {
+        return write_unit(character, out);
+    }
+    if (character == '"' || character == '\\') {
+        *out++ = '\\';
+        *out = (char)character;
+        return 2;
+    }
+    *out = (char)character;
+    return 1;
+}
+
+/* Of a name so many signs are told. */
+#define MOST_OF_NAME 200
+
+/* Writes a JSON Pointer in printable ASCII, where names are cut as the program does it, and tells its length. Without an output
+   it tells the length alone. */
+static inline size_t write_pointer(struct piece pointer, char *out) {
+    static const char cut[] = "...(cut)";
+    size_t length = 0, of_name = 0;
+    while (pointer.length > 0) {
+        char escaped[ESCAPE_ROOM];
+        uint32_t character;
+        size_t taken = character_at(pointer, &character);
+        const char *put = escaped;
+        size_t signs = write_character(character, escaped), counted = signs;
+        if (character == '~' && pointer.length > 1) { /* ~0 or ~1, which is one sign of the name */
+            escaped[1] = (char)pointer.at[1];
+            signs = taken = 2;
+        }
+        pointer = (struct piece){pointer.at + taken, pointer.length - taken};
+        if (character == '/') {
+            of_name = 0;
+        } else if (of_name > MOST_OF_NAME) {
+            continue;
+        } else if (of_name + counted > MOST_OF_NAME) {
+            put = cut;
+            signs = sizeof cut - 1;
+            of_name = MOST_OF_NAME + 1;
+        } else {
+            of_name += counted;
+        }
+        if (out != NULL) {
+            memcpy(out + length, put, signs);
+        }
+        length += signs;
+    }
+    return length;
 }
 
 #endif

@@ -30,7 +30,7 @@ struct question {
     uint32_t form; /* of pieces */
 };
 
-static const struct piece no_way = {(const uint8_t *)"", 0};
+static const struct piece no_bytes = {(const uint8_t *)"", 0};
 
 /* registries.c */
 
@@ -52,9 +52,9 @@ void drop_question(struct question *question);
 
 /* refusal.c */
 
-void tell_refusal(sqlite3_context *context, bcs_answer answer, struct piece way);
-/* The same of a question's input, with the way to where bytes stop. */
-void refuse(sqlite3_context *context, struct question *question, bcs_answer answer);
+/* What a call refuses of a question, and the text of a registry: where it is and what was wanted there is told, too. */
+void refuse(sqlite3_context *context, const struct question *question, bcs_answer answer);
+void refuse_registry(sqlite3_context *context, struct piece text, bcs_answer answer);
 uint32_t explain_damage(struct question *question, uint8_t **pieces, struct piece *line);
 
 #endif

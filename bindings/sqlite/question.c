@@ -8,7 +8,7 @@ static bool take_piece(sqlite3_value *value, struct piece *piece) {
     const bool is_blob = sqlite3_value_type(value) == SQLITE_BLOB;
     const void *at = is_blob ? sqlite3_value_blob(value) : sqlite3_value_text(value);
     const size_t length = (size_t)sqlite3_value_bytes(value);
-    *piece = at != NULL ? (struct piece){at, length} : no_way;
+    *piece = at != NULL ? (struct piece){at, length} : no_bytes;
     return at != NULL || (is_blob && length == 0);
 }
 

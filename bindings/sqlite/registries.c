@@ -60,7 +60,7 @@ struct registry *registry_of(sqlite3_context *context, struct piece text) {
     if (!has_text(registry, text)) {
         const bcs_answer answer = open_registry(registry, text);
         if (answer.status != BCS_DONE) {
-            tell_refusal(context, answer, no_way);
+            refuse_registry(context, text, answer);
             return NULL;
         }
     }

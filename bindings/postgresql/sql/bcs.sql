@@ -56,6 +56,17 @@ SELECT told($$bcs_is('{}', '', '\x07')$$);
 SELECT told($$bcs_is('{}', '{"SEQ":"u8"}', '\x07')$$);
 SELECT told($$bcs_part('{}', '"U8"', '\x07', '0x')$$);
 SELECT told($$bcs_explain('{}', '"U8"', '\x07', 'xml')$$);
+-- Where a text or a registry is refused, and as a detail what was wanted there. Names are told in ASCII, also those that would
+-- break the line.
+SELECT bcs_encode_json('{"A":{"STRUCT":[{"a/~":{"SEQ":"BYTES"}}]}}', 'A', '{"a/~":["00","0"]}');
+SELECT bcs_encode('{"A":{"STRUCT":[{"a/~":{"SEQ":"BYTES"}}]}}', 'A', '{"a/~":["00","0"]}');
+SELECT bcs_normalise(payments(), 'Payment', '{"to":"bob"}');
+SELECT bcs_equal('{}', '{"SEQ":"U8"}', '[1]', '[1,256]');
+SELECT bcs_encode_json('{"A":{"STRUCT":[{"\u0000\n\\\"%sé\u20ac\ud83d\ude00":"U8"}]}}', 'A', '{"\u0000\n\\\"%sé\u20ac\ud83d\ude00":true}');
+SELECT bcs_is('{"é":{"STRUCT":[{"x":{"TYPENAME":"\n%s"}}]}}', '"U8"', '\x07');
+SELECT bcs_is('7', '"U8"', '\x07');
+-- A name is cut at 200 signs, and so long a pointer has more room than at first.
+SELECT replace(told(format($$bcs_encode_json('{"A":{"STRUCT":[{"%1$s":"U8"}]}}', 'A', '{"%1$s":true}')$$, repeat('~', 201))), repeat('~0', 200), '..');
 -- The names of containers are any texts.
 SELECT bcs_decode(format('{%s:{"NEWTYPESTRUCT":"U8"}}', to_json(name)), name, '\x07')
     FROM (VALUES ('a"b'), (E'a\\b'), (E'a\nb'), (E'a\x01'), ('é'), (' '), ('[')) AS names (name);

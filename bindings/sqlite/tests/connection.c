@@ -17,6 +17,7 @@ int sqlite3_bcssqlite_init(sqlite3 *database, char **message, const sqlite3_api_
     } while (0)
 
 #define TEN(text) text text text text text text text text text text
+#define TWO_HUNDRED(text) TEN(TEN(text text))
 
 /* SQLite's own heap, with a request refused. */
 static sqlite3_mem_methods heap;
@@ -90,7 +91,12 @@ static void is_error(sqlite3 *database, const char *sql, const char *wanted) {
 
 #define REGISTRY "'{\"A\":{\"STRUCT\":[{\"x\":\"U8\"},{\"y\":{\"SEQ\":\"STR\"}}]}}'"
 
-/* A statement, and what it answers with memory. */
+/* A text of a struct with a field of this name, which is refused at it. */
+#define OF_NAME(name) \
+    "select bcs_encode('{\"A\":{\"STRUCT\":[{\"' || " name " || '\":{\"SEQ\":\"U8\"}}]}}','A'," \
+    "'{\"' || " name " || '\":[true]}')"
+
+/* A statement, and what it answers with memory, or the words of its error. */
 static const struct {
     const char *sql, *answer;
 } questions[] = {
@@ -111,16 +117,28 @@ static const struct {
     {"select bcs_decode(null,'A',x'07')", "null"},
     {"select hex(bcs_encode('{}','\"U64\"',7))", "0700000000000000"},
     {"select bcs_decode(x'7b7d','\"STR\"',x'02c3a9')", "\"\xc3\xa9\""},
+    {"select bcs_encode('{\"A\":{\"STRUCT\":[{\"a/~\":{\"SEQ\":\"BYTES\"}}]}}','A','{\"a/~\":[\"00\",\"0\"]}')",
+     "bcs: no value of the format: BadHex at /a~1~0/1: an odd number of digits"},
+    {"select bcs_equal(" REGISTRY ",'A','{\"x\":7,\"y\":[]}','{\"x\":7}')",
+     "bcs: no value of the format: MissingField: no member is called y"},
+    {"select bcs_decode(" REGISTRY ",'A',x'0702')", "bcs: no bytes of the format: EndOfInput at 2 in .y[0]"},
+    {"select bcs_is('{\"A\":{\"STRUCT\":7}}','\"U8\"',x'07')",
+     "bcs: no registry: BadShape at /A/STRUCT: wanted an array of fields"},
+    {OF_NAME("replace(hex(zeroblob(100)),'0','~') || 'b'"),
+     "bcs: no value of the format: BadShape at /" TWO_HUNDRED("~0") "...(cut)/0: wanted a whole number from 0 to 255 (U8)"},
 };
 #define COUNT(table) (sizeof(table) / sizeof(table)[0])
+
+static bool is_refused_with_memory(size_t row) {
+    return strncmp(questions[row].answer, "bcs: ", 5) == 0;
+}
 
 static void answers(void) {
     sqlite3 *database = opened();
     for (size_t row = 0; row < COUNT(questions); row++) {
-        is_answered(database, questions[row].sql, questions[row].answer);
+        (is_refused_with_memory(row) ? is_error : is_answered)(database, questions[row].sql, questions[row].answer);
     }
     is_answered(database, "select json_group_array(bcs_decode('{}','\"BOOL\"',x'01'))", "[true]");
-    is_error(database, "select bcs_decode(" REGISTRY ",'A',x'0702')", "bcs: no bytes of the format: EndOfInput at 2 in .y[0]");
     is_error(database, "select bcs_decode('{}','\"U8\"','07')", "bcs: the bytes are no BLOB");
     is_error(database, "select bcs_is('{}','\"U8\"',x'07',4294967296)",
              "bcs: nodes are from 0 to 4294967295, and a depth is from 0 to 500");
@@ -136,16 +154,43 @@ static void hostile(void) {
              "bcs: no bytes of the format: TooManyNodes at 5 in [999999]");
     is_answered(database, "select bcs_is('{}','{\"SEQ\":\"UNIT\"}',x'ffffffff07')", "0");
     is_error(database, "select bcs_encode('{}','\"U8\"',replace(hex(zeroblob(50000)),'0','[') || replace(hex(zeroblob(50000)),'0',']'))",
-             "bcs: no value of the format: NotJson");
+             "bcs: no value of the format: NotJson: line 1, column 129: serde_json stops reading there");
     is_error(database, "select bcs_encode('{}','\"U8\"',replace(hex(zeroblob(51)),'0','[') || replace(hex(zeroblob(51)),'0',']'))",
-             "bcs: no value of the format: TooNested");
+             "bcs: no value of the format: TooNested: arrays and objects nest more than 100 deep");
     is_error(database, "select bcs_decode('{\"L\":{\"NEWTYPESTRUCT\":{\"OPTION\":{\"TYPENAME\":\"L\"}}}}','L',"
              "cast(replace(hex(zeroblob(50000)),'0',char(1)) as blob))",
              "bcs: no bytes of the format: TooDeep at 100 in " TEN("??????????"));
     is_answered(database, "select bcs_decode('{}','\"STR\"',x'03610062')", "\"a\\u0000b\"");
     is_answered(database, "select hex(bcs_encode('{}','\"STR\"','\"a\\u0000b\"'))", "03610062");
-    is_error(database, "select bcs_encode('{}','\"STR\"',cast(x'226100622200' as text))", "bcs: no value of the format: NotJson");
-    is_error(database, "select bcs_is(x'7b00','\"U8\"',x'07')", "bcs: no registry: NotJson");
+    is_error(database, "select bcs_encode('{}','\"STR\"',cast(x'226100622200' as text))",
+             "bcs: no value of the format: NotJson: line 1, column 1: serde_json stops reading there");
+    is_error(database, "select bcs_is(x'7b00','\"U8\"',x'07')",
+             "bcs: no registry: NotJson at line 1, column 2: serde_json stops reading there");
+    closed(database);
+}
+
+/* Where a text or a registry is refused, and what was wanted there; names that would break a line or end the text of C. */
+static void places(void) {
+    sqlite3 *database = opened();
+    is_error(database, "select bcs_equal('{}','{\"SEQ\":\"U8\"}','[1]','[1,256]')",
+             "bcs: no value of the format: BadNumber at /1: wanted a whole number from 0 to 255 (U8)");
+    is_error(database, "select bcs_encode('{\"A\":{\"STRUCT\":[{\"\\u0000\\n\\\\\\\"%s\xc3\xa9\\u20ac\\ud83d\\ude00\":\"U8\"}]}}','A',"
+             "'{\"\\u0000\\n\\\\\\\"%s\xc3\xa9\\u20ac\\ud83d\\ude00\":true}')",
+             "bcs: no value of the format: BadShape at /\\u0000\\u000a\\\\\\\"%s\\u00e9\\u20ac\\ud83d\\ude00: "
+             "wanted a whole number from 0 to 255 (U8)");
+    /* Names are cut at 200 signs, of which ~0 is one. */
+    is_error(database, OF_NAME("replace(hex(zeroblob(100)),'0','~')"),
+             "bcs: no value of the format: BadShape at /" TWO_HUNDRED("~0") "/0: wanted a whole number from 0 to 255 (U8)");
+    is_error(database, OF_NAME("replace(hex(zeroblob(98)),'0','b') || '\xc3\xa9' || 'bbb'"),
+             "bcs: no value of the format: BadShape at /" TEN(TEN("b")) TEN("bbbbbbbbb") "bbbbbb" "...(cut)/0: "
+             "wanted a whole number from 0 to 255 (U8)");
+    /* What takes more than 16 MB is left out. */
+    is_error(database, OF_NAME("printf('%.*c',17000000,'b')"),
+             "bcs: no value of the format: BadShape: wanted a whole number from 0 to 255 (U8)");
+    is_error(database, "select bcs_scan('{\"A\":{\"STRUCT\":[{\"' || printf('%.*c',17000000,'b') || '\":\"U8\"}]}}','A',x'')",
+             "bcs: no bytes of the format: EndOfInput at 0");
+    is_error(database, "select bcs_is('{\"\xc3\xa9\":{\"STRUCT\":[{\"x\":{\"TYPENAME\":\"\\n\"}}]}}','\"U8\"',x'07')",
+             "bcs: no registry: UnknownName at \\u00e9, field x: no container is called \\u000a");
     closed(database);
 }
 
@@ -167,7 +212,11 @@ static bool runs_out(size_t row) {
         const char *text = (const char *)sqlite3_column_text(statement, 0);
         CHECK(strcmp(text != NULL ? text : "null", questions[row].answer) == 0 || sqlite3_errcode(database) == SQLITE_NOMEM);
     }
-    CHECK(status == SQLITE_ROW || status == SQLITE_NOMEM || status == SQLITE_ERROR);
+    CHECK(status == (is_refused_with_memory(row) ? SQLITE_ERROR : SQLITE_ROW) || status == SQLITE_NOMEM || statement == NULL);
+    if (status == SQLITE_ERROR && statement != NULL) { /* SQLite forgets the words where it has no room to keep them */
+        const char *words = sqlite3_errmsg(database);
+        CHECK(strcmp(words, questions[row].answer) == 0 || strcmp(words, sqlite3_errstr(SQLITE_ERROR)) == 0);
+    }
     sqlite3_finalize(statement);
     sqlite3_close(database);
     return status == SQLITE_NOMEM;
@@ -264,6 +313,7 @@ int main(int count, char **words) {
     }
     encoding = encodings[0];
     hostile();
+    places();
     registries_take_turns();
     indexes();
     many_calls(count > 1 ? atol(words[1]) : 1000000);
