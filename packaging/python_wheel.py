@@ -53,13 +53,11 @@ def record(files: archives.Files, own_name: str) -> str:
 
 
 def module() -> archives.Files:
-    """The module as a folder, since only a folder can say by py.typed that it has types."""
-    name = project()["name"]
-    return {
-        f"{name}/__init__.py": archives.taken(facts.ROOT / f"bindings/python/{name}.py"),
-        f"{name}/py.typed": archives.text(""),
-        f"{name}/libbcs.so": archives.taken(facts.NATIVE / "libbcs.so"),
-    }
+    """The module's folder, with the library in it."""
+    folder = facts.ROOT / "bindings/python" / project()["name"]
+    paths = [path for path in folder.iterdir() if path.suffix in (".py", ".typed")]
+    files = {path.name: archives.taken(path) for path in [*paths, facts.NATIVE / "libbcs.so"]}
+    return {f"{folder.name}/{name}": file for name, file in files.items()}
 
 
 def make(bill: archives.File) -> dict[str, bytes]:

@@ -8,7 +8,7 @@ import sys
 import tempfile
 import unittest
 
-MODULE = pathlib.Path(__file__).resolve().parent.parent / "bcs_proved.py"
+MODULE = pathlib.Path(__file__).resolve().parent.parent / "bcs_proved"
 LIBRARY = pathlib.Path(os.environ["BCS_LIBRARY"]).resolve()
 SCRIPT = "import bcs_proved; print(bcs_proved.Registry('{}'%s).encode('\"U8\"', 7).hex())"
 
@@ -25,7 +25,7 @@ class Places(unittest.TestCase):
         room = tempfile.TemporaryDirectory()
         self.addCleanup(room.cleanup)
         self.folder = room.name
-        shutil.copy(MODULE, self.folder)
+        shutil.copytree(MODULE, pathlib.Path(self.folder) / MODULE.name)
 
     def test_an_argument(self) -> None:
         self.assertEqual(run(self.folder, f", library={str(LIBRARY)!r}").stdout, "07\n")
@@ -36,7 +36,7 @@ class Places(unittest.TestCase):
         self.assertEqual(run(self.folder, BCS_LIBRARY=str(LIBRARY)).stdout, "07\n")
 
     def test_beside_the_module(self) -> None:
-        shutil.copy(LIBRARY, pathlib.Path(self.folder) / "libbcs.so")
+        shutil.copy(LIBRARY, pathlib.Path(self.folder) / MODULE.name / "libbcs.so")
         self.assertEqual(run(self.folder).stdout, "07\n")
 
     def test_the_system(self) -> None:

@@ -234,7 +234,7 @@ class Library:
         except OSError as fault:
             raise ImportError(
                 f"bcs_proved needs libbcs.so, which bindings/c/build makes, and can't load {self.path}: {fault}. "
-                "Say where it is by the variable BCS_LIBRARY, or put it beside bcs_proved.py"
+                "Say where it is by the variable BCS_LIBRARY, or put it into the module's folder"
             ) from fault
         self.calls = {name: self._call(library, name, parameters) for name, parameters in _CALLS.items()}
 

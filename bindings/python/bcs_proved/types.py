@@ -1,0 +1,228 @@
+"""Types of a registry's values, for mypy and other checkers, as a module of Python:
+
+    python -m bcs_proved.types registry.json > payments.py
+
+REGISTRY is a file, or the registry's JSON, which begins with `{`. Each container is a type: `decode(.., native=True)` gives its
+values, and `encode` takes them. The status is 2 of a registry that is refused, 3 of wrong words, and 4 of a file that can't be
+read; standard error says why.
+"""
+
+from __future__ import annotations
+
+import builtins
+import itertools
+import json
+import keyword
+import os
+import pathlib
+import re
+import sys
+from typing import Any, Iterable, Mapping, Optional
+
+from bcs_proved import Registry, RegistryError, Text
+
+__all__ = ["module_of"]
+
+_HEAD = '''"""Made of a registry by bcs_proved.types: what `decode(.., native=True)` gives, and `encode` takes."""
+
+from __future__ import annotations
+
+from typing import TYPE_CHECKING, Any, Literal, NoReturn, Optional, TypedDict, Union, final
+
+if TYPE_CHECKING:
+    from typing_extensions import TypeAlias
+'''
+# What no type may be called: words of Python, what the module imports, and what is there in each module, since checkers take a
+# name that comes later for that. (The second line has what isn't there in each version of Python.)
+_TAKEN = [
+    *["TYPE_CHECKING", "Any", "Literal", "NoReturn", "Optional", "TypedDict", "Union", "final", "TypeAlias", "annotations"],
+    *["aiter", "anext", "EncodingWarning", "BaseExceptionGroup", "ExceptionGroup", "PythonFinalizationError", "WindowsError"],
+    *["ellipsis", "function", "reveal_type", "reveal_locals", "case", "match", *keyword.kwlist, *dir(builtins)],
+]
+_LEAVES = {"UNIT": "None", "BOOL": "bool", "STR": "str", "BYTES": "bytes", "CHAR": "NoReturn", "F32": "NoReturn", "F64": "NoReturn"}
+_PLAIN = re.compile(r"[A-Za-z][A-Za-z0-9_]*")
+# A field that may stand in the body of a class, where a name that begins with two underscores would become another one.
+_FIELD = re.compile(r"_?[A-Za-z][A-Za-z0-9_]*")
+
+
+def module_of(text: Text) -> str:
+    """The module for a registry, of its JSON. Raises RegistryError where it is none."""
+    with Registry(text):
+        return _Writer(json.loads(text)).text()
+
+
+def _only(thing: Mapping[str, Any]) -> tuple[str, Any]:
+    (member,) = thing.items()
+    return member
+
+
+class _Identifiers:
+    """Hands out identifiers, each once."""
+
+    def __init__(self) -> None:
+        self._taken = set(_TAKEN)
+
+    def of_all(self, names: Iterable[str]) -> dict[str, str]:
+        """One for each name, which is the name itself where that is a good one."""
+        return {name: self.of(name) for name in sorted(names, key=lambda name: (not _PLAIN.fullmatch(name), name))}
+
+    def of(self, text: str) -> str:
+        """One like this text, with a number behind it where that is taken."""
+        wanted = text
+        if not _PLAIN.fullmatch(text):
+            letters = re.sub(r"[^A-Za-z0-9]+", "_", text).strip("_")
+            wanted = letters if letters[:1].isalpha() else f"T{letters}"
+        numbered = itertools.chain([wanted], (f"{wanted}_{number}" for number in itertools.count(2)))
+        found = next(name for name in numbered if name not in self._taken)
+        self._taken.add(found)
+        return found
+
+
+class _Writer:
+    """Writes the types of containers. In expressions that Python evaluates a type's name stands in quotes, since it may come
+    later."""
+
+    def __init__(self, containers: Mapping[str, Any]) -> None:
+        self._containers = containers
+        self._identifiers = _Identifiers()
+        self._names = self._identifiers.of_all(containers)
+        # what options hold, and the type of each
+        self._options: dict[str, str] = {}
+
+    def text(self) -> str:
+        declared = [self._container(name) for name in sorted(self._containers)]
+        options = [self._dict(own, {"some": held}, is_final=True) for held, own in self._options.items()]
+        return "\n\n".join([_HEAD, *declared, *options])
+
+    def _container(self, name: str) -> str:
+        own, container = self._names[name], self._containers[name]
+        note = "" if own == name else f"# The container {ascii(name)}.\n"
+        if self._holds_itself(name):
+            return f"{note}# It has no values, since it holds itself.\n{own}: TypeAlias = NoReturn\n"
+        if container == "UNITSTRUCT":
+            return f"{note}{own}: TypeAlias = None\n"
+        kind, inner = _only(container)
+        if kind == "ENUM":
+            return note + self._enum(own, [_only(inner[number]) for number in sorted(inner, key=int)])
+        if kind == "STRUCT":
+            return note + self._dict(own, self._fields(inner))
+        return f"{note}{own}: TypeAlias = {self._format(inner) if kind == 'NEWTYPESTRUCT' else self._row(inner)}\n"
+
+    def _holds_itself(self, name: str) -> bool:
+        """Whether newtypes hold one another in a circle."""
+        seen: set[str] = set()
+        at: Optional[str] = name
+        while at is not None and at not in seen:
+            seen.add(at)
+            at = self._newtype_of(at)
+        return at is not None
+
+    def _newtype_of(self, name: str) -> Optional[str]:
+        """The container that this one is a newtype of, if it is one of a container."""
+        container = self._containers[name]
+        held = container.get("NEWTYPESTRUCT") if isinstance(container, dict) else None
+        return held.get("TYPENAME") if isinstance(held, dict) else None
+
+    def _enum(self, own: str, variants: list[tuple[str, Any]]) -> str:
+        units = ", ".join(ascii(name) for name, payload in variants if payload == "UNIT")
+        members, types = [f"Literal[{units}]"] if units else [], []
+        for name, payload in variants:
+            if payload != "UNIT":
+                variant = self._identifiers.of(f"{own}_{name}")
+                types += self._variant(variant, name, *_only(payload))
+                members.append(f'"{variant}"')
+        joined = "".join(f"\n    {member}," for member in members)
+        union = members[0] if len(members) == 1 else f"Union[{joined}\n]" if members else "NoReturn"
+        return "\n\n".join([*types, f"{own}: TypeAlias = {union}\n"])
+
+    def _variant(self, own: str, name: str, kind: str, inner: Any) -> list[str]:
+        """The type of an object with the one member, behind that of its fields, if it has any."""
+        if kind != "STRUCT":
+            return [self._dict(own, {name: self._format(inner) if kind == "NEWTYPE" else self._row(inner)}, is_final=True)]
+        fields = self._identifiers.of(f"{own}_Fields")
+        return [self._dict(fields, self._fields(inner)), self._dict(own, {name: f'"{fields}"'}, is_final=True)]
+
+    def _fields(self, fields: list[Mapping[str, Any]]) -> dict[str, str]:
+        return {name: self._format(format) for name, format in map(_only, fields)}
+
+    def _dict(self, own: str, fields: Mapping[str, str], is_final: bool = False) -> str:
+        """A class, where its body can have the names, and none is a word in the type of another field."""
+        words = re.findall(r"\w+", " ".join(fields.values())) if len(fields) > 1 else []
+        if not all(_FIELD.fullmatch(name) and not keyword.iskeyword(name) and name not in words for name in fields):
+            members = "".join(f"\n        {ascii(name)}: {held}," for name, held in fields.items())
+            return f'{own} = TypedDict(\n    "{own}",\n    {{{members}\n    }},\n)\n'
+        # (in the body of a class annotations aren't evaluated)
+        members = "".join(f"    {name}: {held}\n" for name, held in fields.items()).replace('"', "")
+        head = f"@final\nclass {own}(TypedDict):\n" if is_final else f"class {own}(TypedDict):\n"
+        return head + (members or "    pass\n")
+
+    def _format(self, format: Any) -> str:
+        if isinstance(format, str):
+            return _LEAVES.get(format, "int")
+        kind, inner = _only(format)
+        if kind == "TYPENAME":
+            return f'"{self._names[inner]}"'
+        if kind == "OPTION":
+            return f'Optional["{self._option(self._format(inner))}"]'
+        if kind == "MAP":
+            return f"list[{self._row([inner['KEY'], inner['VALUE']])}]"
+        if kind == "TUPLE":
+            return self._row(inner)
+        element = inner["CONTENT"] if kind == "TUPLEARRAY" else inner
+        return "bytes" if element == "U8" else f"list[{self._format(element)}]"
+
+    def _option(self, held: str) -> str:
+        if held not in self._options:
+            self._options[held] = self._identifiers.of(f"Some_{held}")
+        return self._options[held]
+
+    def _row(self, formats: list[Any]) -> str:
+        """A list, since JSON has no others, of what may stand at any place in it. Checkers can't tell which of two lists, or of
+        two dicts, an expression is to be, so there anything may stand."""
+        parts = {self._format(format): format for format in formats}
+        if "NoReturn" in parts:
+            return "NoReturn"
+        if len(parts) == 1:
+            return f"list[{next(iter(parts))}]"
+        kinds = [kind for kind in map(self._kind, parts.values()) if kind]
+        return f"list[Union[{', '.join(parts)}]]" if parts and len(kinds) == len(set(kinds)) else "list[Any]"
+
+    def _kind(self, format: Any) -> str:
+        """Whether a value may be a list or a dict."""
+        while not isinstance(format, str):
+            kind, inner = _only(format)
+            if kind == "OPTION":
+                return "dict"
+            if kind != "TYPENAME":
+                return "" if self._format(format) == "bytes" else "list"
+            container = self._containers[inner]
+            if container == "UNITSTRUCT" or self._holds_itself(inner):
+                return ""
+            kind, format = _only(container)
+            if kind != "NEWTYPESTRUCT":
+                return "list" if kind == "TUPLESTRUCT" else "dict"
+        return ""
+
+
+def main(words: list[str]) -> int:
+    """Prints the module, and gives the status."""
+    if words in (["--help"], ["-h"]):
+        print(__doc__)
+        return 0
+    if len(words) != 1 or words[0].startswith("-"):
+        print("Usage: python -m bcs_proved.types REGISTRY > registry.py", file=sys.stderr)
+        return 3
+    try:
+        text = os.fsencode(words[0]) if words[0].startswith("{") else pathlib.Path(words[0]).read_bytes()
+        print(module_of(text), end="")
+    except OSError as fault:
+        print(f"fault: {fault}", file=sys.stderr)
+        return 4
+    except RegistryError as fault:
+        print(fault, file=sys.stderr)
+        return 2
+    return 0
+
+
+if __name__ == "__main__":
+    sys.exit(main(sys.argv[1:]))

@@ -1,0 +1,210 @@
+"""The types that `bcs_proved.types` writes, judged by mypy: right and wrong values, what random values are decoded to, and the
+README's example; and the command."""
+
+import json
+import os
+import pathlib
+import random
+import runpy
+import shutil
+import subprocess
+import sys
+import tempfile
+import unittest
+from typing import Any, Callable
+
+from bcs_proved import Registry, RegistryError, TextError
+from bcs_proved.types import _Identifiers, module_of
+
+HERE = pathlib.Path(__file__).resolve().parent
+ROOT = HERE.parents[2]
+REGISTRIES = {
+    "aptos": ROOT / "examples/aptos_registry.json",
+    "sui": ROOT / "examples/sui_registry.json",
+    "shapes": ROOT / "bindings/web/tests/shapes.json",
+    "hostile": ROOT / "bindings/rows/hostile_names.json",
+}
+EACH = 3
+TEXTS = ["", "a", '"', "'", "\\", "\n", "\u2028", "名前", "😀", "%s", "{x}", "\0"]
+
+
+class NoValue(Exception):
+    """There is no value of this format, or none within so many containers."""
+
+
+class Values:
+    """Random values of a registry's containers, as `decode` with `native` gives them."""
+
+    def __init__(self, containers: dict[str, Any]) -> None:
+        self._containers = containers
+        self._random = random.Random(12345)
+
+    def value(self, format: Any, deep: int) -> Any:
+        if isinstance(format, str):
+            return self._leaf(format)
+        ((kind, inner),) = format.items()
+        if kind == "TYPENAME":
+            if deep == 0:
+                raise NoValue
+            return self._content(self._containers[inner], deep - 1)
+        if kind == "OPTION":
+            return self._or(None, lambda: {"some": self.value(inner, deep)})
+        if kind == "SEQ":
+            return self._or(b"" if inner == "U8" else [], lambda: self._list(inner, self._random.randrange(3), deep))
+        if kind == "TUPLEARRAY":
+            return self._list(inner["CONTENT"], inner["SIZE"], deep)
+        if kind == "MAP":
+            parts = [inner["KEY"], inner["VALUE"]]
+            return self._or([], lambda: [self._row(parts, deep) for _ in range(self._random.randrange(3))])
+        return self._row(inner, deep)
+
+    def _leaf(self, word: str) -> Any:
+        if word in ("CHAR", "F32", "F64"):
+            raise NoValue
+        if word == "UNIT":
+            return None
+        if word == "BOOL":
+            return self._random.random() < 0.5
+        if word == "STR":
+            return "".join(self._random.choices(TEXTS, k=2))
+        if word == "BYTES":
+            return self._random.randbytes(self._random.randrange(4))
+        bits = int(word[1:])
+        least = -(2 ** (bits - 1)) if word[0] == "I" else 0
+        return self._random.choice([0, 1, least, least + 2**bits - 1, self._random.randrange(least, least + 2**bits)])
+
+    def _list(self, format: Any, length: int, deep: int) -> Any:
+        return self._random.randbytes(length) if format == "U8" else self._row([format] * length, deep)
+
+    def _row(self, formats: list[Any], deep: int) -> list[Any]:
+        return [self.value(format, deep) for format in formats]
+
+    def _or(self, none: Any, make: Callable[[], Any]) -> Any:
+        try:
+            return none if self._random.random() < 0.25 else make()
+        except NoValue:
+            return none
+
+    def _content(self, held: Any, deep: int) -> Any:
+        if held in ("UNITSTRUCT", "UNIT"):
+            return None
+        ((kind, inner),) = held.items()
+        if kind in ("NEWTYPESTRUCT", "NEWTYPE"):
+            return self.value(inner, deep)
+        if kind in ("TUPLESTRUCT", "TUPLE"):
+            return self._row(inner, deep)
+        if kind == "STRUCT":
+            return {name: self.value(format, deep) for field in inner for name, format in field.items()}
+        if not inner:
+            raise NoValue
+        ((name, payload),) = self._random.choice(list(inner.values())).items()
+        return name if payload == "UNIT" else {name: self._content(payload, deep)}
+
+
+def random_values(name: str, containers: dict[str, Any]) -> list[str]:
+    """Lines of Python: what random values of each container are decoded to, with its type."""
+    registry, values = Registry(containers), Values(containers)
+    lines = [f"import {name}"]
+    for container, own in _Identifiers().of_all(containers).items():
+        for _ in range(EACH):
+            try:
+                data = registry.encode({"TYPENAME": container}, values.value({"TYPENAME": container}, 4))
+            except NoValue:
+                continue
+            except TextError as fault:
+                assert fault.reason == "RepeatedKey", fault
+                continue
+            back = registry.decode({"TYPENAME": container}, data, native=True)
+            assert registry.encode({"TYPENAME": container}, back) == data
+            lines.append(f"value{len(lines)}: {name}.{own} = {ascii(back)}")
+    return lines
+
+
+def run(*words: str, folder: str = ".") -> subprocess.CompletedProcess[str]:
+    environment = {**os.environ, "PYTHONPATH": os.pathsep.join([folder, str(HERE.parent)]), "MYPYPATH": str(HERE.parent)}
+    return subprocess.run(words, cwd=folder, env=environment, capture_output=True, text=True, check=False)
+
+
+def types(*words: str) -> subprocess.CompletedProcess[str]:
+    return run(sys.executable, "-m", "bcs_proved.types", *words)
+
+
+class Types(unittest.TestCase):
+    def setUp(self) -> None:
+        room = tempfile.TemporaryDirectory()
+        self.addCleanup(room.cleanup)
+        self.folder = room.name
+
+    def write(self, name: str, text: str) -> None:
+        (pathlib.Path(self.folder) / name).write_text(text, encoding="utf-8")
+
+    def test_mypy(self) -> None:
+        """It takes the modules and right values, and refuses the lines that are marked."""
+        files = ["typed.py", "readme.py"]
+        for name, path in REGISTRIES.items():
+            told = types(str(path))
+            self.assertEqual((told.returncode, told.stderr), (0, ""))
+            self.write(f"{name}.py", told.stdout)
+            self.assertEqual(run(sys.executable, f"{name}.py", folder=self.folder).stderr, "")
+            lines = random_values(name, json.loads(path.read_text(encoding="utf-8")))
+            self.assertGreater(len(lines), 30)
+            self.write(f"values_of_{name}.py", "\n".join(lines) + "\n")
+            files += [f"{name}.py", f"values_of_{name}.py"]
+        shutil.copy(HERE / "typed.py", self.folder)
+        self.readme()
+        options = ["--strict", "--no-error-summary", "--cache-dir", os.devnull]
+        mypy = run("mypy", *options, *files, str(HERE.parent / "bcs_proved"), folder=self.folder)
+        self.write("report", mypy.stdout + mypy.stderr)
+        marked = run(sys.executable, str(ROOT / "bindings/marked_errors.py"), "report", *files, folder=self.folder)
+        self.assertEqual((marked.stdout, marked.stderr), ("24 wrong lines are refused, and no others\n", ""))
+        ran = run(sys.executable, "typed.py", str(ROOT), folder=self.folder)
+        self.assertEqual((ran.returncode, ran.stderr), (0, ""))
+
+    def readme(self) -> None:
+        """Writes the program that the README shows, after the commands before it, and runs it."""
+        section = (HERE.parent / "README.md").read_text(encoding="utf-8").split("## Types of a registry's values")[1]
+        commands, program = (section.split(f"```{kind}\n")[1].split("```")[0] for kind in ("sh", "python"))
+        self.assertEqual(run("bash", "-e", "-c", commands, folder=self.folder).stderr, "")
+        self.write("readme.py", program)
+        ran = run(sys.executable, "readme.py", folder=self.folder)
+        self.assertEqual((ran.stdout, ran.stderr), ("8\n", ""))
+
+    def test_the_command(self) -> None:
+        usage = "Usage: python -m bcs_proved.types REGISTRY > registry.py\n"
+        unknown = '{"A":{"NEWTYPESTRUCT":{"TYPENAME":"B"}}}'
+        cases: list[tuple[int, str, list[str]]] = [
+            (2, "no registry: UnknownName at A: no container is called B\n", [unknown]),
+            (2, "no registry: NotJson at line 1, column 1: serde_json stops reading there\n", ["{"]),
+            (3, usage, []),
+            (3, usage, ["a.json", "b.json"]),
+            (3, usage, ["--other"]),
+            (4, "fault: [Errno 2] No such file or directory: '/none.json'\n", ["/none.json"]),
+        ]
+        for status, text, words in cases:
+            told = types(*words)
+            self.assertEqual((told.returncode, told.stdout, told.stderr), (status, "", text))
+        self.assertIn("python -m bcs_proved.types", types("--help").stdout)
+
+    def test_fields(self) -> None:
+        """The keys of a struct's type are its fields, whatever they are called."""
+        for path in REGISTRIES.values():
+            containers = json.loads(path.read_text(encoding="utf-8"))
+            self.write("module.py", module_of(path.read_bytes()))
+            types = runpy.run_path(str(pathlib.Path(self.folder) / "module.py"))
+            for name, own in _Identifiers().of_all(containers).items():
+                if isinstance(containers[name], dict) and "STRUCT" in containers[name]:
+                    fields = [field for fields in containers[name]["STRUCT"] for field in fields]
+                    self.assertEqual(list(types[own].__annotations__), fields)
+
+    def test_the_call(self) -> None:
+        """The order of a registry's members doesn't matter, and what is none is refused."""
+        text = REGISTRIES["aptos"].read_bytes()
+        reverse = json.dumps(dict(reversed(json.loads(text).items())))
+        self.assertEqual(module_of(reverse), module_of(text))
+        self.assertEqual(types(reverse).stdout, module_of(text))
+        with self.assertRaises(RegistryError):
+            module_of('{"A":"UNIT"}')
+
+
+if __name__ == "__main__":
+    unittest.main()

@@ -1,0 +1,98 @@
+"""Values with the types that `bcs_proved.types` wrote of the registries in examples/. mypy reads this, and it runs. Lines with a
+comment of an error are refused by mypy, with this text, and no others are."""
+
+import pathlib
+import sys
+from typing import Any, Union
+
+import aptos
+import shapes
+import sui
+from bcs_proved import Registry
+
+ROOT = pathlib.Path(sys.argv[1])
+EXAMPLES = ROOT / "examples"
+APTOS = Registry(EXAMPLES / "aptos_registry.json")
+SUI = Registry(EXAMPLES / "sui_registry.json")
+SHAPES = Registry(ROOT / "bindings/web/tests/shapes.json")
+
+
+def bytes_of(name: str) -> bytes:
+    return bytes.fromhex((EXAMPLES / name).read_text(encoding="utf-8"))
+
+
+one = bytes(31) + b"\1"
+coin: aptos.TypeTag = {"Struct": {"address": one, "module": "aptos_coin", "name": "AptosCoin", "type_args": []}}
+call: aptos.EntryFunction = {
+    "module": {"address": one, "name": "coin"},
+    "function": "transfer",
+    "ty_args": [coin],
+    "args": [bytes.fromhex("2d133ddd281bb6205558357cc6ac75661817e9aaeac3afebc32842759cbf7fa9"), bytes.fromhex("8813000000000000")],
+}
+transfer: aptos.RawTransaction = {
+    "sender": bytes.fromhex("7deeccb1080854f499ec8b4c1b213b82c5e34b925cf6875fec02d4b77adbd2d6"),
+    "sequence_number": 11,
+    "payload": {"EntryFunction": call},
+    "max_gas_amount": 2000,
+    "gas_unit_price": 1,
+    "expiration_timestamp_secs": 1234567890,
+    "chain_id": 4,
+}
+
+
+def name_of(payload: aptos.TransactionPayload) -> str:
+    return payload["EntryFunction"]["module"]["name"] if "EntryFunction" in payload else ""
+
+
+def width_of(tag: aptos.TypeTag) -> int:
+    if isinstance(tag, str):
+        return int(tag[1:])
+    return width_of(tag["Vector"]) if "Vector" in tag else len(tag["Struct"]["name"])
+
+
+def right() -> None:
+    assert APTOS.encode("RawTransaction", transfer) == bytes_of("aptos_transfer.hex")
+    back: aptos.RawTransaction = APTOS.decode("RawTransaction", bytes_of("aptos_transfer.hex"), native=True)
+    assert back == transfer and back["sequence_number"] + 1 == 12 and name_of(back["payload"]) == "coin"
+    assert (width_of("U8"), width_of({"Vector": "U64"}), width_of(coin)) == (8, 64, 9)
+    staked: sui.TransactionData = SUI.decode("TransactionData", bytes_of("sui_stake.hex"), native=True)
+    assert staked["V1"]["gas_data"]["budget"] > 0 and SUI.encode("TransactionData", staked) == bytes_of("sui_stake.hex")
+    prices: shapes.Prices = [["a", {"some": 7}], ["b", None]]
+    assert SHAPES.decode("Prices", SHAPES.encode("Prices", prices), native=True) == prices
+    some: list[shapes.Shape] = ["Dot", {"Box": [1, 2]}, {"Named": {"side": 3}}, {"Bare": {}}, {"Maybe": {"some": "Dot"}}]
+    assert SHAPES.decode({"SEQ": {"TYPENAME": "Shape"}}, SHAPES.encode({"SEQ": {"TYPENAME": "Shape"}}, some), native=True) == some
+    chain: shapes.Chain = {"value": 1, "next": {"some": {"value": 2, "next": None}}}
+    tree: shapes.Tree = [[], [[]]]
+    assert SHAPES.encode("Chain", chain) == b"\1\1\2\0" and SHAPES.encode("Tree", tree) == b"\2\0\1\0"
+
+
+def wrong(script: aptos.Script, back: aptos.RawTransaction, prices: shapes.Prices) -> None:
+    tags: list[aptos.TypeTag] = ["U512"]  # error: List item 0 has incompatible type "Literal['U512']"
+    tag: aptos.TypeTag = {"Vector": []}  # error: Incompatible types
+    other: aptos.TypeTag = {"Vectors": "U8"}  # error: Incompatible types
+    named: aptos.TransactionPayload = "Script"  # error: Incompatible types
+    both: aptos.TransactionPayload = {"Script": script, "EntryFunction": call}  # error: Incompatible types
+    carried: aptos.TransactionPayload = {"Script": call}  # error: Incompatible types
+    module: aptos.ModuleId = {"address": one}  # error: Missing key "name" for TypedDict "ModuleId"
+    more: aptos.ModuleId = {"address": one, "name": "coin", "fee": 1}  # error: Extra key "fee" for TypedDict "ModuleId"
+    digits: aptos.ModuleId = {"address": "01", "name": "coin"}  # error: (expression has type "str", TypedDict item "address" has type "bytes")
+    absent: aptos.Multisig = {"multisig_address": one, "transaction_payload": {"EntryFunction": call}}  # error: TypedDict item "transaction_payload" has type "Optional[Some_MultisigTransactionPayload]"
+    decimal: shapes.Id = "7"  # error: (expression has type "str", variable has type "int")
+    wide: shapes.Prices = [["a", 7]]  # error: List item 1 has incompatible type "int"
+    mapped: shapes.Prices = {"a": None}  # error: Incompatible types
+    unit: shapes.Dust = {}  # error: (expression has type "Dict[<nothing>, <nothing>]", variable has type "None")
+    empty: shapes.Empty = {"a": 1}  # error: Extra key "a" for TypedDict "Empty"
+    floating: shapes.Float = 1.5  # error: (expression has type "float", variable has type "NoReturn")
+    endless: shapes.Endless = None  # error: (expression has type "None", variable has type "NoReturn")
+    never: shapes.Never = "A"  # error: (expression has type "str", variable has type "NoReturn")
+    number: str = back["sequence_number"]  # error: (expression has type "int", variable has type "str")
+    fee = back["fee"]  # error: TypedDict "RawTransaction" has no key "fee"
+    code = back["payload"]["Script"]  # error: has no key "Script"
+    entry: bytes = prices[0][1]  # error: Incompatible types
+    staked: sui.TransactionData = back  # error: Incompatible types
+    told: Union[Any, str] = (tags, tag, other, named, both, carried, module, more, digits, absent, decimal, wide, mapped, unit, empty)
+    print(told, floating, endless, never, number, fee, code, entry, staked)
+
+
+if __name__ == "__main__":
+    right()
