@@ -8,8 +8,8 @@ from words import Unsayable, bytes_of, bytes_of_digits, format_of
 
 FORMS = {"--ways": "ways", "--paths": "paths", "--tree": "tree", "--json": "json"}
 COMMANDS_BEYOND_CALLS = {"show", "example"}
-OPTIONS = ("--raw", "--front", "--lines", "--color", "--list", *FORMS)
-BEYOND_CALLS = {"--lines", "--color", "--list"}
+OPTIONS = ("--raw", "--base64", "--front", "--lines", "--color", "--list", *FORMS)
+BEYOND_CALLS = {"--base64", "--lines", "--color", "--list"}
 
 
 class Printed(NamedTuple):

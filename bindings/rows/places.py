@@ -11,7 +11,7 @@ import re
 from typing import NamedTuple
 
 from driver import STANDARD_LIMITS, Driver, expect
-from jobs import OPTIONS
+from jobs import BEYOND_CALLS, OPTIONS
 from words import Unsayable, bytes_of, bytes_of_digits, format_of
 
 LINE = re.compile(r'2 "(?:.*\\n)?refused: (?P<fault>\w+)(?: at \d+)?\\n" (?:in (?P<of>\w+), )?at (?P<place>.*?): (?P=fault): (?P<words>.*)')
@@ -56,6 +56,8 @@ def place_of_job(driver: Driver, name: str, words: list[str], wanted: str) -> tu
     if line is None or UNTOLD.match(line["place"]) or (line["of"] is None and line["fault"] in GROWTH_FAULTS):
         raise Unsayable
     options = [word for word in words if word in OPTIONS]
+    if BEYOND_CALLS & set(options):
+        raise Unsayable
     words = words[len(options) :]
     of_registry = place_told(driver, "registry_place", bytes_of(words[line["of"] == "NEW"]))
     if name in ON_REGISTRIES or of_registry:

@@ -21,6 +21,9 @@ use Rattle.bcs_tool_answers.specs.declared.judging.Asked.{Asked}
 use Rattle.bcs_tool_command_line.specs.declared.taking.TakeFault.TheVariants as take_fault
 use Rattle.bcs_tool_command_line.specs.declared.work.Report.{Report}
 use Rattle.bcs_tool_command_line.specs.declared.work.Work.{Work}
+use Rattle.bcs_tool_command_line.specs.Jobs.{is_raw}
+use Rattle.bcs_tool_command_line.specs.declared.coding.Coding.{Coding}
+use Rattle.bcs_tool_command_line.specs.declared.coding.Coding.TheVariants.{Hexadecimal, Base64, Raw}
 use Rattle.bcs_tool_command_line.specs.declared.command.Command.{Command}
 use Rattle.bcs_tool_command_line.specs.declared.command.Command.TheVariants as command
 use Rattle.bcs_tool_command_line.specs.declared.command.Command.TheVariants.{Scan}
@@ -33,12 +36,18 @@ use Rattle.bcs_tool.proofs.RunLemmas.{nothing_before}
 
 -- ---- the answer
 
-module _ (work : Work) (registry : Entries) (s : Shape) (asks : Asks work registry s) (is : work.command ≡ Scan) (raw : work.raw ≡ true) (unlimited : is_unlimited work ≡ true) where
+-- as they are, bytes give themselves
+given_raw : (coding : Coding) (input : List ℕ) → is_raw coding ≡ true → Gives coding input input
+given_raw Hexadecimal input is = cc
+given_raw Base64 input is = cc
+given_raw Raw input is = refl
+
+module _ (work : Work) (registry : Entries) (s : Shape) (asks : Asks work registry s) (is : work.command ≡ Scan) (raw : is_raw work.coding ≡ true) (unlimited : is_unlimited work ≡ true) where
   asked : (input : List ℕ) → IsAsked work input Scan registry s
   asked input = record { is_command = is; asks = asks; within = λ limited. absurd (true≢false (sym unlimited ∙ limited)) }
 
-  given : (input : List ℕ) → Gives work.raw input input
-  given input = subst (λ (b : Bool). Gives b input input) (sym raw) refl
+  given : (input : List ℕ) → Gives work.coding input input
+  given input = given_raw work.coding input raw
 
   pub counts : (front : Bool) → work.front ≡ front → (content left : Option (List ℕ)) (n : ℕ) → Scans front registry work.limits s content left (Ok n)
       → IfTold content (λ all. Answers work all 0 (count_line n))
@@ -106,7 +115,7 @@ module _ (work : Work) (asked : Asked) (asks : IsAskedBy work asked) (streams : 
   pub scanned_count : (content left : Option (List ℕ)) (n : ℕ) (a : Answer) → Scans work.front asked.registry work.limits (shape_of asked.format) content left (Ok n)
       → Prints a 0 (count_line n) → IsScanned work content a
   scanned_count content left n a told prints =
-      let is = scan_raw work.command work.raw streams.0 in
+      let is = scan_raw work.command (is_raw work.coding) streams.0 in
       is_scanned work content a 0 (count_line n) (omega arith) prints
       (counts work asked.registry (shape_of asked.format) asks.asks is.0 is.1 streams.0 work.front refl content left n told)
 
@@ -114,7 +123,7 @@ module _ (work : Work) (asked : Asked) (asks : IsAskedBy work asked) (streams : 
       → Scans work.front asked.registry work.limits (shape_of asked.format) (content input) (content input') (Err fault)
       → (fault ≡ decode_fault.Read → has_stopped input' ≡ true) → RefusesScan fault r → AnswersScan content has_stopped work input input' r
   scanned_refusal content has_stopped input input' (decode_fault.Stop stop) (Ok a) told read refuses =
-      let is = scan_raw work.command work.raw streams.0 in
+      let is = scan_raw work.command (is_raw work.coding) streams.0 in
       is_scanned work (content input) a 2 (stop_line stop.reason stop.place) (omega arith) refuses
       (stops_at work asked.registry (shape_of asked.format) asks.asks is.0 is.1 streams.0 work.front refl (content input) (content input') stop told)
   scanned_refusal content has_stopped input input' (decode_fault.Stop stop) (Err e) told read refuses =

@@ -24,8 +24,9 @@ pub use bcs_io::put_all;
 pub use bcs_look_text::style::{Form, Paint, Style};
 pub use bcs_tool_answers::laws;
 pub use bcs_tool_command_line::{
-    Color, Command, FileFault, FileRefusal, Inputs, Job, LineFault, OpenCause, Origin, Outcome,
-    Report, TakeFault, UnreadFile, Work, line, read_named, read_opened, read_work, take_all,
+    Coding, Color, Command, FileFault, FileRefusal, Inputs, Job, LineFault, OpenCause, Origin,
+    Outcome, Report, TakeFault, UnreadFile, Work, line, read_named, read_opened, read_work,
+    take_all,
 };
 pub use entry::{program, start, words_of};
 pub use interruption::Interruption;

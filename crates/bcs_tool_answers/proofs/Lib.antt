@@ -7,6 +7,7 @@ pub mod OnePair
 pub mod OneKind
 pub mod OneAnswer
 pub mod SomeRefusal
+pub mod Base64Lemmas
 pub mod SomeInput
 pub mod SomePair
 pub mod SomeAnswer

@@ -17,6 +17,7 @@ use Rattle.bcs_tool_answers.specs.AnswerLaws.{IsExact, OneAnswer}
 use Rattle.bcs_json_spec.specs.FaultNames.{json_fault_name}
 use Rattle.bcs_tool_answers.specs.Answers.{Answers, AnswersTexts, IsAsked, Lists, count_line, line_of, lists, printed, printed_none, refusal_line, stop_line}
 use Rattle.bcs_tool_answers.specs.Answers as answer
+use Rattle.bcs_tool_answers.specs.Input as given
 use Rattle.bcs_tool_answers.specs.Judging.{IsFormat, IsPath, IsRegistry, RefusesAt, RefusesFormatted, job_fault_name}
 use Rattle.bcs_tool_answers.specs.declared.job_fault.JobFault.{JobFault}
 use Rattle.bcs_tool_answers.proofs.OneKind.{Decoded, Encoded, Normalised, Parted, Scanned, one_decoded, one_encoded, one_normalised, one_parted, one_scanned}
@@ -72,7 +73,7 @@ module _ (work : Work) (input : List ℕ) where
   told (answer.grown r n l c h k g a) = by command.Grows 0 (l ++ line_of (codes "grows")) c (r, n, h, k, g, l, a, refl, refl)
   told (answer.shown r t c h k) = by command.Show 0 t c tt
   told (answer.exampled r f z t a h) = by command.Example z t a.is_command tt
-  told (answer.encoded r f b a h) = by Encode 0 (printed work.raw b) a.is_command (valued (Encoded work input) Encode r f 0 (printed work.raw b) a (inl (b, h, refl, refl)))
+  told (answer.encoded r f b a h) = by Encode 0 (printed work.coding b) a.is_command (valued (Encoded work input) Encode r f 0 (printed work.coding b) a (inl (b, h, refl, refl)))
   told (answer.normalised r f t a h) = by Normalise 0 (line_of t) a.is_command (valued (Normalised work input) Normalise r f 0 (line_of t) a (inl (t, h, refl, refl)))
   told (answer.refused c r f e (inl is) a h) = by Encode 2 (refusal_line (json_fault_name e)) (a.is_command ∙ is) (valued (Encoded work input) c r f 2 (refusal_line (json_fault_name e)) a (inr (e, h, refl, refl)))
   told (answer.refused c r f e (inr is) a h) = by Normalise 2 (refusal_line (json_fault_name e)) (a.is_command ∙ is) (valued (Normalised work input) c r f 2 (refusal_line (json_fault_name e)) a (inr (e, h, refl, refl)))
@@ -82,20 +83,20 @@ module _ (work : Work) (input : List ℕ) where
   told (answer.too_nested r f b c a g h n) = by Decode 2 (refusal_line (codes "TooNested")) a.is_command (valued (Decoded work input) Decode r f 2 (refusal_line (codes "TooNested")) a (inl (b, g, inr (inr (c, h, n, refl, refl)))))
   told (answer.explained r f b t c a g h) = by command.Explain 0 t a.is_command tt
   told (answer.damaged r f b t e o a g h) = by command.Explain 2 t a.is_command tt
-  told (answer.no_bytes c r f (inl is) a h) = by Decode 2 (refusal_line (codes "BadHex")) (a.is_command ∙ is) (valued (Decoded work input) c r f 2 (refusal_line (codes "BadHex")) a (inr (h, refl, refl)))
-  told (answer.no_bytes c r f (inr (inr (inl is))) a h) = by command.Explain 2 (refusal_line (codes "BadHex")) (a.is_command ∙ is) tt
+  told (answer.no_bytes c r f (inl is) a h) = by Decode 2 (refusal_line (given.fault_name work.coding)) (a.is_command ∙ is) (valued (Decoded work input) c r f 2 (refusal_line (given.fault_name work.coding)) a (inr (h, refl, refl)))
+  told (answer.no_bytes c r f (inr (inr (inl is))) a h) = by command.Explain 2 (refusal_line (given.fault_name work.coding)) (a.is_command ∙ is) tt
   told (answer.no_bytes c r f (inr (inr (inr is))) a h) =
-      by command.Scan 2 (refusal_line (codes "BadHex")) (a.is_command ∙ is) (valued (Scanned work input) c r f 2 (refusal_line (codes "BadHex")) a (inr (h, refl, refl)))
+      by command.Scan 2 (refusal_line (given.fault_name work.coding)) (a.is_command ∙ is) (valued (Scanned work input) c r f 2 (refusal_line (given.fault_name work.coding)) a (inr (h, refl, refl)))
   told (answer.no_bytes c r f (inr (inl is)) a h) =
       let path = spelled c r f is a in
       let own = subst (λ (k : Command). IsAsked work input k r f) is a in
-      by command.Part 2 (refusal_line (codes "BadHex")) own.is_command (parted r f path.0 2 (refusal_line (codes "BadHex")) own path.1 (inr (h, refl, refl)))
+      by command.Part 2 (refusal_line (given.fault_name work.coding)) own.is_command (parted r f path.0 2 (refusal_line (given.fault_name work.coding)) own path.1 (inr (h, refl, refl)))
   told (answer.found r f path b n c x a spells g h at) =
-      by command.Part 0 (printed work.raw (plain r x.value x.content)) a.is_command
-      (parted r f path 0 (printed work.raw (plain r x.value x.content)) a spells (inl (b, g, inl (n, c, h, inl (x, at, refl, refl)))))
+      by command.Part 0 (printed work.coding (plain r x.value x.content)) a.is_command
+      (parted r f path 0 (printed work.coding (plain r x.value x.content)) a spells (inl (b, g, inl (n, c, h, inl (x, at, refl, refl)))))
   told (answer.nowhere r f path b n c a spells g h at) =
-      by command.Part 1 (printed_none work.raw) a.is_command
-      (parted r f path 1 (printed_none work.raw) a spells (inl (b, g, inl (n, c, h, inr (at, refl, refl)))))
+      by command.Part 1 (printed_none work.coding) a.is_command
+      (parted r f path 1 (printed_none work.coding) a spells (inl (b, g, inl (n, c, h, inr (at, refl, refl)))))
   told (answer.front_stopped r f b e o a g h) =
       let path = spelled command.Part r f refl a in
       by command.Part 2 (stop_line e o) a.is_command (parted r f path.0 2 (stop_line e o) a path.1 (inl (b, g, inr (e, o, h, refl, refl))))

@@ -1,5 +1,5 @@
 -- At a registry and a format there is at most one answer of each kind.
-use Rattle.std.proofs.Common.{◌≡◌, ◌<◌, ◌∙◌, ◌⊎◌, inl, inr, ℕ, List, Bool, true, false, Some, None, Ok, codes, length, ap, ap₂, arith, sym, subst}
+use Rattle.std.proofs.Common.{◌≡◌, ◌<◌, ◌∙◌, ◌⊎◌, inl, inr, ℕ, List, Some, None, Ok, codes, length, ap, ap₂, arith, sym, subst}
 use Rattle.serde_json.specs.Data.{depth}
 use Rattle.serde_json.specs.Written.{compact_text}
 use Rattle.bcs_registry_model.specs.Container.{Entries}
@@ -22,23 +22,27 @@ use Rattle.bcs_json_spec.specs.Shown.{shown}
 use Rattle.bcs_json_spec.specs.Texts.{nesting_limit}
 use Rattle.bcs_json_spec.proofs.Lowest.{shown_is_lowest}
 use Rattle.bcs_json_spec.proofs.TextLaws.{denotes_once}
+use Rattle.bcs_tool_command_line.specs.declared.coding.Coding.{Coding}
+use Rattle.bcs_tool_command_line.specs.declared.coding.Coding.TheVariants.{Hexadecimal, Base64, Raw}
 use Rattle.bcs_tool_command_line.specs.declared.work.Work.{Work}
+use Rattle.bcs_tool_answers.proofs.Base64Lemmas.{one_base64}
 use Rattle.bcs_tool_answers.proofs.OnePair.{Agrees, Refused, not_both, one_refused}
 use Rattle.bcs_tool_answers.proofs.ScanAnswers.{Scans, not_scanned, one_count, one_scan_stop}
 use Rattle.bcs_tool_answers.specs.Answers.{ScanStops, count_line, line_of, printed, printed_none, refusal_line, stop_line}
 use Rattle.bcs_tool_answers.specs.Input as given
 
 -- the bytes that an input gives are its own
-one_given : (raw : Bool) (input b c : List ℕ) → given.Gives raw input b → given.Gives raw input c → b ≡ c
-one_given true input b c h k = h ∙ sym k
-one_given false input b c h k = let same : Ok b ≡ Ok c = sym h ∙ k in cc
+one_given : (coding : Coding) (input b c : List ℕ) → given.Gives coding input b → given.Gives coding input c → b ≡ c
+one_given Hexadecimal input b c h k = let same : Ok b ≡ Ok c = sym h ∙ k in cc
+one_given Base64 input b c h k = one_base64 (given.without_blanks input) b c h k
+one_given Raw input b c h k = h ∙ sym k
 
 module _ (work : Work) (input : List ℕ) where
   -- ---- what is answered at a registry and a format
 
   module _ (r : Entries) (f : Shape) where
     abbrev pub Encoded : ℕ → List ℕ → Type 0
-    Encoded s p = ((b : List ℕ) × HasBytes r work.limits f input b × (s ≡ 0) × (p ≡ printed work.raw b)) ⊎ Refused r work.limits f input s p
+    Encoded s p = ((b : List ℕ) × HasBytes r work.limits f input b × (s ≡ 0) × (p ≡ printed work.coding b)) ⊎ Refused r work.limits f input s p
 
     abbrev pub Normalised : ℕ → List ℕ → Type 0
     Normalised s p = ((t : List ℕ) × Normalises r work.limits f input t × (s ≡ 0) × (p ≡ line_of t)) ⊎ Refused r work.limits f input s p
@@ -50,16 +54,16 @@ module _ (work : Work) (input : List ℕ) where
 
     -- where the input gives bytes, what is answered to these; and where it gives none
     abbrev pub Given : (List ℕ → ℕ → List ℕ → Type 0) → ℕ → List ℕ → Type 0
-    Given P s p = ((bytes : List ℕ) × given.Gives work.raw input bytes × P bytes s p)
-        ⊎ (((bytes : List ℕ) → given.Gives work.raw input bytes → ⊥) × (s ≡ 2) × (p ≡ refusal_line (codes "BadHex")))
+    Given P s p = ((bytes : List ℕ) × given.Gives work.coding input bytes × P bytes s p)
+        ⊎ (((bytes : List ℕ) → given.Gives work.coding input bytes → ⊥) × (s ≡ 2) × (p ≡ refusal_line (given.fault_name work.coding)))
 
     abbrev pub Decoded : ℕ → List ℕ → Type 0
     Decoded s p = Given Shown s p
 
     -- what is printed of the value at the front of the bytes
     abbrev pub Led : List Step → Tree → ℕ → List ℕ → Type 0
-    Led path c s p = ((x : Part) × (part_at r path (container.of f) c ≡ Some x) × (s ≡ 0) × (p ≡ printed work.raw (plain r x.value x.content)))
-        ⊎ ((part_at r path (container.of f) c ≡ None) × (s ≡ 1) × (p ≡ printed_none work.raw))
+    Led path c s p = ((x : Part) × (part_at r path (container.of f) c ≡ Some x) × (s ≡ 0) × (p ≡ printed work.coding (plain r x.value x.content)))
+        ⊎ ((part_at r path (container.of f) c ≡ None) × (s ≡ 1) × (p ≡ printed_none work.coding))
 
     abbrev pub Fronted : List Step → List ℕ → ℕ → List ℕ → Type 0
     Fronted path bytes s p = ((n : ℕ) × (c : Tree) × Accepts r work.limits f bytes n c × Led path c s p)
@@ -91,7 +95,7 @@ module _ (work : Work) (input : List ℕ) where
         h.is ∙ ap (λ (c : Tree). compact_text (shown r c (of f))) same ∙ sym k.is
 
     pub one_encoded : (s z : ℕ) (p q : List ℕ) → Encoded r f s p → Encoded r f z q → Agrees s p z q
-    one_encoded s z p q (inl (b, h, hs, hp)) (inl (c, k, ks, kq)) = (hs ∙ sym ks, hp ∙ ap (printed work.raw) (one_encoding b c h k) ∙ sym kq)
+    one_encoded s z p q (inl (b, h, hs, hp)) (inl (c, k, ks, kq)) = (hs ∙ sym ks, hp ∙ ap (printed work.coding) (one_encoding b c h k) ∙ sym kq)
     one_encoded s z p q (inl (b, h, hs, hp)) (inr k) = absurd (not_both r work.limits f input h.value z q h.denoted k)
     one_encoded s z p q (inr h) (inl (c, k, ks, kq)) = absurd (not_both r work.limits f input k.value s p k.denoted h)
     one_encoded s z p q (inr h) (inr k) = one_refused r work.limits f orderly input s z p q h k
@@ -138,7 +142,7 @@ module _ (work : Work) (input : List ℕ) where
     one_given_answer : (P : List ℕ → ℕ → List ℕ → Type 0) → ((bytes : List ℕ) (s z : ℕ) (p q : List ℕ) → P bytes s p → P bytes z q → Agrees s p z q)
         → (s z : ℕ) (p q : List ℕ) → Given r f P s p → Given r f P z q → Agrees s p z q
     one_given_answer P one s z p q (inl (b, g, h)) (inl (c, e, k)) =
-        one b s z p q h (subst (λ (bytes : List ℕ). P bytes z q) (one_given work.raw input c b e g) k)
+        one b s z p q h (subst (λ (bytes : List ℕ). P bytes z q) (one_given work.coding input c b e g) k)
     one_given_answer P one s z p q (inl (b, g, h)) (inr (none, ks, kq)) = absurd (none b g)
     one_given_answer P one s z p q (inr (none, hs, hp)) (inl (c, e, k)) = absurd (none c e)
     one_given_answer P one s z p q (inr (none, hs, hp)) (inr (none2, ks, kq)) = (hs ∙ sym ks, hp ∙ sym kq)
@@ -152,7 +156,7 @@ module _ (work : Work) (input : List ℕ) where
     one_led path c s z p q (inl (x, h, hs, hp)) (inl (y, k, ks, kq)) =
         let both : Some x ≡ Some y = sym h ∙ k in
         let same : x ≡ y = cc in
-        (hs ∙ sym ks, hp ∙ ap (λ (t : Part). printed work.raw (plain r t.value t.content)) same ∙ sym kq)
+        (hs ∙ sym ks, hp ∙ ap (λ (t : Part). printed work.coding (plain r t.value t.content)) same ∙ sym kq)
     one_led path c s z p q (inl (x, h, hs, hp)) (inr (k, ks, kq)) = let both : Some x ≡ None = sym h ∙ k in absurd cc
     one_led path c s z p q (inr (h, hs, hp)) (inl (y, k, ks, kq)) = let both : None ≡ Some y = sym h ∙ k in absurd cc
     one_led path c s z p q (inr (h, hs, hp)) (inr (k, ks, kq)) = (hs ∙ sym ks, hp ∙ sym kq)

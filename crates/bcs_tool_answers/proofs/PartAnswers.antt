@@ -22,19 +22,19 @@ spells k word path steps is same h =
 
 module _ (work : Work) (input : List ℕ) (registry : Entries) (s : Shape) (bytes : List ℕ) (n : ℕ) (t : Tree) (path : List Step)
     (asked : IsAsked work input command.Part registry s) (spelled : SpellsPath (string_bytes work.path) path)
-    (gives : Gives work.raw input bytes) (accepts : Accepts registry work.limits s bytes n t) where
+    (gives : Gives work.coding input bytes) (accepts : Accepts registry work.limits s bytes n t) where
   pub finds : (o : Option handed.Part) (r : handed.Part) → o ≡ Some r → GivesPart registry bytes (part_at registry path (of s) t) o
-      → Answers work input 0 (printed work.raw r.bytes.now)
+      → Answers work input 0 (printed work.coding r.bytes.now)
   finds o r same h = at (part_at registry path (of s) t) refl (subst (λ (p : Option handed.Part). GivesPart registry bytes (part_at registry path (of s) t) p) same h)
     where
-      at : (p : Option Part) → part_at registry path (of s) t ≡ p → GivesPart registry bytes p (Some r) → Answers work input 0 (printed work.raw r.bytes.now)
+      at : (p : Option Part) → part_at registry path (of s) t ≡ p → GivesPart registry bytes p (Some r) → Answers work input 0 (printed work.coding r.bytes.now)
       at (Some x) is k =
-          subst (λ (b : List ℕ). Answers work input 0 (printed work.raw b)) (sym k.1) (found registry s path bytes n t x asked spelled gives accepts is)
+          subst (λ (b : List ℕ). Answers work input 0 (printed work.coding b)) (sym k.1) (found registry s path bytes n t x asked spelled gives accepts is)
       at None is k = absurd k
 
-  pub leads_nowhere : (o : Option handed.Part) → o ≡ None → GivesPart registry bytes (part_at registry path (of s) t) o → Answers work input 1 (printed_none work.raw)
+  pub leads_nowhere : (o : Option handed.Part) → o ≡ None → GivesPart registry bytes (part_at registry path (of s) t) o → Answers work input 1 (printed_none work.coding)
   leads_nowhere o same h = at (part_at registry path (of s) t) refl (subst (λ (p : Option handed.Part). GivesPart registry bytes (part_at registry path (of s) t) p) same h)
     where
-      at : (p : Option Part) → part_at registry path (of s) t ≡ p → GivesPart registry bytes p None → Answers work input 1 (printed_none work.raw)
+      at : (p : Option Part) → part_at registry path (of s) t ≡ p → GivesPart registry bytes p None → Answers work input 1 (printed_none work.coding)
       at None is k = nowhere registry s path bytes n t asked spelled gives accepts is
       at (Some x) is k = absurd k

@@ -1,5 +1,5 @@
 -- An input gives bytes, or gives none.
-use Rattle.std.proofs.Common.{◌≡◌, ◌∙◌, ◌<◌, ◌⊎◌, inl, inr, ℕ, List, Bool, true, false, Result, Ok, Err, refl, sym}
+use Rattle.std.proofs.Common.{◌≡◌, ◌∙◌, ◌<◌, ◌⊎◌, inl, inr, ℕ, List, Result, Ok, Err, refl, sym}
 use Rattle.std.proofs.lemmas.List.Elements.{All-from_get_or}
 use Rattle.hex.proofs.HexLemmas.{decode_of-ok}
 use Rattle.hex.specs.Hex.{decode_of}
@@ -7,6 +7,9 @@ use Rattle.hex.specs.declared.error.FromHexError.{FromHexError}
 use Rattle.bcs_decode_spec.specs.Exact.{AreBytes}
 use Rattle.bcs_json_spec.specs.Bytes.{IsHexOf}
 use Rattle.bcs_tool_answers.specs.Input.{Gives, without_blanks}
+use Rattle.bcs_tool_answers.proofs.Base64Lemmas.{some_base64}
+use Rattle.bcs_tool_command_line.specs.declared.coding.Coding.{Coding}
+use Rattle.bcs_tool_command_line.specs.declared.coding.Coding.TheVariants.{Hexadecimal, Base64, Raw}
 
 -- digits are those of some bytes, or of none
 digits : (text : List ℕ) → ((b : List ℕ) × AreBytes b × IsHexOf text b) ⊎ ((b : List ℕ) → IsHexOf text b → ⊥)
@@ -17,6 +20,10 @@ digits text = at (decode_of text) refl
     at (Err e) is = inr (λ b h. cc (sym is ∙ h))
 
 -- an input of bytes gives bytes, or none
-pub some_given : (input : List ℕ) (raw : Bool) → AreBytes input → ((b : List ℕ) × AreBytes b × Gives raw input b) ⊎ ((b : List ℕ) → Gives raw input b → ⊥)
-some_given input true are = inl (input, are, refl)
-some_given input false are = digits (without_blanks input)
+pub some_given : (input : List ℕ) (coding : Coding) → AreBytes input → ((b : List ℕ) × AreBytes b × Gives coding input b) ⊎ ((b : List ℕ) → Gives coding input b → ⊥)
+some_given input Hexadecimal are = digits (without_blanks input)
+some_given input Base64 are = elim (some_base64 (without_blanks input)) [
+  | inl h ↦ inl (h.0, h.1.0, h.1)
+  | inr none ↦ inr none
+]
+some_given input Raw are = inl (input, are, refl)

@@ -1,5 +1,5 @@
 -- What the program answers to a job and its input: a status, and the bytes of the standard output.
-use Rattle.std.specs.Prelude.{◌≡◌, ◌⊎◌, ◌≤◌, ◌<◌, ◌++◌, ◌∷◌, [], ℕ, List, Bool, true, false, Some, None, codes, length, if◌then◌else◌, string_bytes}
+use Rattle.std.specs.Prelude.{◌≡◌, ◌⊎◌, ◌≤◌, ◌<◌, ◌++◌, ◌∷◌, [], ℕ, List, Bool, true, false, Some, None, codes, length, string_bytes}
 use Rattle.std.specs.Fmt.{decimal}
 use Rattle.hex.specs.Hex.{encode_lower}
 use Rattle.serde_json.specs.Data.{depth}
@@ -25,6 +25,8 @@ use Rattle.bcs_decode_parts.specs.Path.{SpellsPath}
 use Rattle.bcs_tool_command_line.specs.Files.{size_limit}
 use Rattle.bcs_tool_answers.specs.Input as given
 use Rattle.bcs_tool_answers.specs.Judging.{Asks, IsFormat, IsRegistry, NamesNone, RefusesEarly, is_unlimited, job_fault_name, name_of}
+use Rattle.bcs_tool_command_line.specs.declared.coding.Coding.{Coding}
+use Rattle.bcs_tool_command_line.specs.declared.coding.Coding.TheVariants as coding
 use Rattle.bcs_tool_command_line.specs.declared.command.Command.{Command}
 use Rattle.bcs_tool_command_line.specs.declared.command.Command.TheVariants as command
 use Rattle.bcs_tool_answers.specs.declared.job_fault.JobFault.{JobFault}
@@ -43,13 +45,17 @@ refusal_line name = line_of (codes "refused: " ++ name)
 abbrev pub stop_line : Reason → ℕ → List ℕ
 stop_line reason place = refusal_line (reason_name reason ++ codes " at " ++ decimal place)
 
--- bytes as they are, or as a line of hexadecimal digits
-abbrev pub printed : Bool → List ℕ → List ℕ
-printed raw bytes = if raw then bytes else line_of (encode_lower bytes)
+-- bytes as a line of hexadecimal digits or of base64, or as they are
+abbrev pub printed : Coding → List ℕ → List ℕ
+printed coding.Hexadecimal bytes = line_of (encode_lower bytes)
+printed coding.Base64 bytes = line_of (given.base64_text bytes)
+printed coding.Raw bytes = bytes
 
 -- what is printed where steps lead nowhere
-abbrev pub printed_none : Bool → List ℕ
-printed_none raw = if raw then [] else line_of (codes "none")
+abbrev pub printed_none : Coding → List ℕ
+printed_none coding.Hexadecimal = line_of (codes "none")
+printed_none coding.Base64 = line_of (codes "none")
+printed_none coding.Raw = []
 
 -- the line for a registry of so many containers, and for a value of so many bytes
 abbrev pub count_line : ℕ → List ℕ
@@ -117,7 +123,7 @@ pub data Answers (work : Work) (input : List ℕ) : ℕ → List ℕ → Type 0 
   -- `example`: done with an example for reading, or refused since there is none. Only that the words are good is promised
   exampled : (registry : Entries) (s : Shape) (status : ℕ) (output : List ℕ) → AsksExample work registry s → (status ≡ 0) ⊎ (status ≡ 2) → Answers work input status output
   -- `encode`: the bytes of the value that the text denotes
-  encoded : (registry : Entries) (s : Shape) (bytes : List ℕ) → IsAsked work input command.Encode registry s → HasBytes registry work.limits s input bytes → Answers work input 0 (printed work.raw bytes)
+  encoded : (registry : Entries) (s : Shape) (bytes : List ℕ) → IsAsked work input command.Encode registry s → HasBytes registry work.limits s input bytes → Answers work input 0 (printed work.coding bytes)
   -- `normalise`: its normal text
   normalised : (registry : Entries) (s : Shape) (text : List ℕ) → IsAsked work input command.Normalise registry s → Normalises registry work.limits s input text → Answers work input 0 (line_of text)
   -- `encode` and `normalise`: the text is refused
@@ -125,24 +131,24 @@ pub data Answers (work : Work) (input : List ℕ) : ℕ → List ℕ → Type 0 
   -- `same`: what is answered to the job's text and that of the input
   compared : (registry : Entries) (s : Shape) (status : ℕ) (output : List ℕ) → IsAsked work input command.Same registry s → AnswersTexts registry work.limits s work.second.items input status output → Answers work input status output
   -- `decode`: the text of the one value whose bytes the input gives
-  decoded : (registry : Entries) (s : Shape) (bytes text : List ℕ) → IsAsked work input command.Decode registry s → given.Gives work.raw input bytes → ShowsBytes registry work.limits s bytes text → Answers work input 0 (line_of text)
+  decoded : (registry : Entries) (s : Shape) (bytes text : List ℕ) → IsAsked work input command.Decode registry s → given.Gives work.coding input bytes → ShowsBytes registry work.limits s bytes text → Answers work input 0 (line_of text)
   -- `decode`: the bytes stop being a value at a place
-  stopped : (registry : Entries) (s : Shape) (bytes : List ℕ) (reason : Reason) (place : ℕ) → IsAsked work input command.Decode registry s → given.Gives work.raw input bytes → StopsAll registry work.limits s bytes reason place → Answers work input 2 (stop_line reason place)
+  stopped : (registry : Entries) (s : Shape) (bytes : List ℕ) (reason : Reason) (place : ℕ) → IsAsked work input command.Decode registry s → given.Gives work.coding input bytes → StopsAll registry work.limits s bytes reason place → Answers work input 2 (stop_line reason place)
   -- `decode`: they are a value's, and its text would nest deeper than a text may
-  too_nested : (registry : Entries) (s : Shape) (bytes : List ℕ) (c : Tree) → IsAsked work input command.Decode registry s → given.Gives work.raw input bytes → Accepts registry work.limits s bytes (length bytes) c → nesting_limit < depth (value.shown registry c (of s)) → Answers work input 2 (refusal_line (codes "TooNested"))
+  too_nested : (registry : Entries) (s : Shape) (bytes : List ℕ) (c : Tree) → IsAsked work input command.Decode registry s → given.Gives work.coding input bytes → Accepts registry work.limits s bytes (length bytes) c → nesting_limit < depth (value.shown registry c (of s)) → Answers work input 2 (refusal_line (codes "TooNested"))
   -- `explain`: a text for reading, where the input gives the bytes of one value
-  explained : (registry : Entries) (s : Shape) (bytes text : List ℕ) (c : Tree) → IsAsked work input command.Explain registry s → given.Gives work.raw input bytes → Accepts registry work.limits s bytes (length bytes) c → Answers work input 0 text
+  explained : (registry : Entries) (s : Shape) (bytes text : List ℕ) (c : Tree) → IsAsked work input command.Explain registry s → given.Gives work.coding input bytes → Accepts registry work.limits s bytes (length bytes) c → Answers work input 0 text
   -- `explain`: a text for reading, where the bytes stop being a value
-  damaged : (registry : Entries) (s : Shape) (bytes text : List ℕ) (reason : Reason) (place : ℕ) → IsAsked work input command.Explain registry s → given.Gives work.raw input bytes → StopsAll registry work.limits s bytes reason place → Answers work input 2 text
+  damaged : (registry : Entries) (s : Shape) (bytes text : List ℕ) (reason : Reason) (place : ℕ) → IsAsked work input command.Explain registry s → given.Gives work.coding input bytes → StopsAll registry work.limits s bytes reason place → Answers work input 2 text
   -- `decode`, `explain`, `part` and `scan`: the input gives no bytes
-  no_bytes : (asked : Command) (registry : Entries) (s : Shape) → TakesBytes asked → IsAsked work input asked registry s → ((bytes : List ℕ) → given.Gives work.raw input bytes → ⊥) → Answers work input 2 (refusal_line (codes "BadHex"))
+  no_bytes : (asked : Command) (registry : Entries) (s : Shape) → TakesBytes asked → IsAsked work input asked registry s → ((bytes : List ℕ) → given.Gives work.coding input bytes → ⊥) → Answers work input 2 (refusal_line (given.fault_name work.coding))
   -- `part`: a value stands at the front of the bytes, and the steps of PATH lead to a part of it, whose bytes these are
-  found : (registry : Entries) (s : Shape) (path : List Step) (bytes : List ℕ) (n : ℕ) (c : Tree) (x : Part) → IsAsked work input command.Part registry s → SpellsPath (string_bytes work.path) path → given.Gives work.raw input bytes → Accepts registry work.limits s bytes n c → part_at registry path (container.of s) c ≡ Some x → Answers work input 0 (printed work.raw (plain registry x.value x.content))
+  found : (registry : Entries) (s : Shape) (path : List Step) (bytes : List ℕ) (n : ℕ) (c : Tree) (x : Part) → IsAsked work input command.Part registry s → SpellsPath (string_bytes work.path) path → given.Gives work.coding input bytes → Accepts registry work.limits s bytes n c → part_at registry path (container.of s) c ≡ Some x → Answers work input 0 (printed work.coding (plain registry x.value x.content))
   -- `part`: they lead nowhere in it
-  nowhere : (registry : Entries) (s : Shape) (path : List Step) (bytes : List ℕ) (n : ℕ) (c : Tree) → IsAsked work input command.Part registry s → SpellsPath (string_bytes work.path) path → given.Gives work.raw input bytes → Accepts registry work.limits s bytes n c → part_at registry path (container.of s) c ≡ None → Answers work input 1 (printed_none work.raw)
+  nowhere : (registry : Entries) (s : Shape) (path : List Step) (bytes : List ℕ) (n : ℕ) (c : Tree) → IsAsked work input command.Part registry s → SpellsPath (string_bytes work.path) path → given.Gives work.coding input bytes → Accepts registry work.limits s bytes n c → part_at registry path (container.of s) c ≡ None → Answers work input 1 (printed_none work.coding)
   -- `part`: no value stands at their front, since they stop being one at a place
-  front_stopped : (registry : Entries) (s : Shape) (bytes : List ℕ) (reason : Reason) (place : ℕ) → IsAsked work input command.Part registry s → given.Gives work.raw input bytes → Stops registry work.limits s bytes reason place → Answers work input 2 (stop_line reason place)
+  front_stopped : (registry : Entries) (s : Shape) (bytes : List ℕ) (reason : Reason) (place : ℕ) → IsAsked work input command.Part registry s → given.Gives work.coding input bytes → Stops registry work.limits s bytes reason place → Answers work input 2 (stop_line reason place)
   -- `scan`: a value stands at the front of the bytes, and it is all of them unless the front alone is asked for
-  scanned : (registry : Entries) (s : Shape) (bytes : List ℕ) (n : ℕ) (c : Tree) → IsAsked work input command.Scan registry s → given.Gives work.raw input bytes → Accepts registry work.limits s bytes n c → (work.front ≡ false → n ≡ length bytes) → Answers work input 0 (count_line n)
+  scanned : (registry : Entries) (s : Shape) (bytes : List ℕ) (n : ℕ) (c : Tree) → IsAsked work input command.Scan registry s → given.Gives work.coding input bytes → Accepts registry work.limits s bytes n c → (work.front ≡ false → n ≡ length bytes) → Answers work input 0 (count_line n)
   -- `scan`: they stop being one at a place
-  scan_stopped : (registry : Entries) (s : Shape) (bytes : List ℕ) (reason : Reason) (place : ℕ) → IsAsked work input command.Scan registry s → given.Gives work.raw input bytes → ScanStops work.front registry work.limits s bytes reason place → Answers work input 2 (stop_line reason place)
+  scan_stopped : (registry : Entries) (s : Shape) (bytes : List ℕ) (reason : Reason) (place : ℕ) → IsAsked work input command.Scan registry s → given.Gives work.coding input bytes → ScanStops work.front registry work.limits s bytes reason place → Answers work input 2 (stop_line reason place)

@@ -1,7 +1,12 @@
 -- What the bytes of an input stand for.
-use Rattle.std.specs.Prelude.{◌≡◌, ◌-◌, ◌==◌, ◌||◌, ℕ, List, Bool, true, false, drop, length, take}
+use Rattle.std.specs.Prelude.{◌≡◌, ◌-◌, ◌==◌, ◌||◌, ℕ, List, [], Bool, codes, drop, length, take}
 use Rattle.std.specs.List.{prefix_len, suffix_len}
+use Rattle.base64.specs.Engines.{standard}
+use Rattle.base64.specs.GeneralPurpose.{encode_of}
+use Rattle.bcs_decode_spec.specs.Exact.{AreBytes}
 use Rattle.bcs_json_spec.specs.Bytes.{IsHexOf}
+use Rattle.bcs_tool_command_line.specs.declared.coding.Coding.{Coding}
+use Rattle.bcs_tool_command_line.specs.declared.coding.Coding.TheVariants.{Hexadecimal, Base64, Raw}
 
 -- a space, a tab, a line feed or a carriage return
 abbrev pub is_blank : ℕ → Bool
@@ -17,7 +22,23 @@ without_end text = take (length text - suffix_len is_blank text) text
 abbrev pub without_blanks : List ℕ → List ℕ
 without_blanks text = without_end (without_front text)
 
--- the bytes that are given: as they are, or as hexadecimal digits of either case, with blanks before and after them
-abbrev pub Gives : Bool → List ℕ → List ℕ → Type 0
-Gives true input bytes = bytes ≡ input
-Gives false input bytes = IsHexOf (without_blanks input) bytes
+-- bytes as base64: in the standard alphabet of RFC 4648, with padding
+unfoldable pub base64_text : List ℕ → List ℕ
+base64_text bytes = encode_of standard bytes
+
+-- the text is the base64 of these bytes. No other text is, so that no bit is left over in it, and no padding missing
+abbrev pub IsBase64Of : List ℕ → List ℕ → Type 0
+IsBase64Of text bytes = AreBytes bytes × (text ≡ base64_text bytes)
+
+-- the bytes that are given: as hexadecimal digits of either case or as base64, with blanks before and after them, or as
+-- they are
+abbrev pub Gives : Coding → List ℕ → List ℕ → Type 0
+Gives Hexadecimal input bytes = IsHexOf (without_blanks input) bytes
+Gives Base64 input bytes = IsBase64Of (without_blanks input) bytes
+Gives Raw input bytes = bytes ≡ input
+
+-- what an input that gives no bytes is refused for; none is, where bytes are given as they are
+abbrev pub fault_name : Coding → List ℕ
+fault_name Hexadecimal = codes "BadHex"
+fault_name Base64 = codes "BadBase64"
+fault_name Raw = []

@@ -17,6 +17,7 @@ use Rattle.bcs_tool_command_line.specs.declared.command.Command.{Command}
 use Rattle.bcs_tool_command_line.specs.declared.command.Command.TheVariants as command
 use Rattle.bcs_tool_answers.specs.declared.job_fault.JobFault.{JobFault}
 use Rattle.bcs_tool_answers.specs.declared.job_fault.JobFault.TheVariants as job
+use Rattle.bcs_tool_command_line.specs.Jobs.{is_raw}
 use Rattle.bcs_tool_command_line.specs.declared.work.Work.{Work}
 
 -- ---- the names that are printed
@@ -89,7 +90,7 @@ is_scan other = false
 
 -- the input may have any size: bytes as they are, which are judged as they come
 abbrev pub is_unlimited : Work → Bool
-is_unlimited work = is_scan work.command && work.raw
+is_unlimited work = is_scan work.command && is_raw work.coding
 
 -- the job works on values of this format of this registry, and its PATH is good where it has one
 pub record Asks (work : Work) (registry : Entries) (s : Shape) : Type 0 where

@@ -32,4 +32,4 @@ IsAnswer work input a = Answers work input a.status a.output.items × Places wor
 
 -- it answers each input within the size that gives these bytes
 abbrev pub AnswersBytes : Work → List ℕ → Answer → Type 0
-AnswersBytes work bytes a = (input : List ℕ) → length input ≤ size_limit → Gives work.raw input bytes → IsAnswer work input a
+AnswersBytes work bytes a = (input : List ℕ) → length input ≤ size_limit → Gives work.coding input bytes → IsAnswer work input a

@@ -3,11 +3,14 @@ ghost use Rattle.std.specs.Prelude.{◌≡◌, ◌≢◌, IfOk, string_bytes};
 ghost use Rattle.hex.specs.Hex.{encode_lower};
 ghost use Rattle.bcs_json_spec.specs.FaultNames.{json_fault_name};
 ghost use Rattle.bcs_tool_answers.specs.Answers.{count_line, line_of, printed, printed_none, refusal_line, stop_line};
+ghost use Rattle.bcs_tool_answers.specs.Input.{base64_text};
 ghost use Rattle.bcs_tool_answers.specs.Places.{Prints};
 
+use base64::engine::general_purpose::STANDARD;
 use bcs_decode::Stop;
 use bcs_json::JsonFault;
 use bcs_look_text::style::Form;
+use bcs_tool_command_line::Coding;
 use std::alloc::{AllocError, Global};
 
 /// The program's status, and what it prints.
@@ -87,38 +90,38 @@ pub fn shown(alloc: Global, text: String) -> Result<Answer, AllocError>
     Ok(unplaced(alloc, 0, with_line_end(text)?))
 }
 
-/// The bytes of a value, as they are where `raw` is asked for, or as a line of hexadecimal digits.
-pub fn encoded(alloc: Global, bytes: Vec<u8>, raw: bool) -> Result<Answer, AllocError>
-    ensures { IfOk result (λ a. Prints a 0 (printed raw bytes.items)) }
+/// The bytes of a value, as a line of hexadecimal digits or of base64, or as they are.
+pub fn encoded(alloc: Global, bytes: Vec<u8>, coding: Coding) -> Result<Answer, AllocError>
+    ensures { IfOk result (λ a. Prints a 0 (printed coding bytes.items)) }
 {
-    let output = if raw {
-        bytes
-    } else {
-        digits_line(alloc, bytes.as_slice())?
+    let output = match coding {
+        Coding::Hexadecimal => digits_line(alloc, bytes.as_slice())?,
+        Coding::Base64 => base64_line(alloc, bytes.as_slice())?,
+        Coding::Raw => bytes,
     };
     Ok(unplaced(alloc, 0, output))
 }
 
 /// The bytes of a part, in the same way.
-pub fn found(alloc: Global, bytes: &[u8], raw: bool) -> Result<Answer, AllocError>
-    ensures { IfOk result (λ a. Prints a 0 (printed raw bytes.now)) }
+pub fn found(alloc: Global, bytes: &[u8], coding: Coding) -> Result<Answer, AllocError>
+    ensures { IfOk result (λ a. Prints a 0 (printed coding bytes.now)) }
 {
-    let output = if raw {
-        Vec::from_slice(alloc, bytes)?
-    } else {
-        digits_line(alloc, bytes)?
+    let output = match coding {
+        Coding::Hexadecimal => digits_line(alloc, bytes)?,
+        Coding::Base64 => base64_line(alloc, bytes)?,
+        Coding::Raw => Vec::from_slice(alloc, bytes)?,
     };
     Ok(unplaced(alloc, 0, output))
 }
 
-/// What is printed where there is no part: nothing where `raw` is asked for.
-pub fn nowhere(alloc: Global, raw: bool) -> Result<Answer, AllocError>
-    ensures { IfOk result (λ a. Prints a 1 (printed_none raw)) }
+/// What is printed where there is no part: nothing where bytes are written as they are.
+pub fn nowhere(alloc: Global, coding: Coding) -> Result<Answer, AllocError>
+    ensures { IfOk result (λ a. Prints a 1 (printed_none coding)) }
 {
-    if raw {
-        return Ok(unplaced(alloc, 1, Vec::new(alloc)));
+    match coding {
+        Coding::Hexadecimal | Coding::Base64 => told(alloc, 1, "none"),
+        Coding::Raw => Ok(unplaced(alloc, 1, Vec::new(alloc))),
     }
-    told(alloc, 1, "none")
 }
 
 /// The answer with the place of its refusal.
@@ -146,6 +149,13 @@ fn digits_line(alloc: Global, bytes: &[u8]) -> Result<Vec<u8>, AllocError>
     ensures { IfOk result (λ v. v.items ≡ line_of (encode_lower bytes.now)) }
 {
     with_line_end(hex::encode(alloc, bytes)?)
+}
+
+// The bytes as a line of base64.
+fn base64_line(alloc: Global, bytes: &[u8]) -> Result<Vec<u8>, AllocError>
+    ensures { IfOk result (λ v. v.items ≡ line_of (base64_text bytes.now)) }
+{
+    with_line_end(STANDARD.encode(alloc, bytes)?)
 }
 
 // The text and a line end.

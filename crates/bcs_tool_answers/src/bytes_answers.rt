@@ -2,23 +2,26 @@
 ghost use Rattle.std.specs.Prelude.{◌≡◌, ◌≢◌, ◌≤◌, codes, length, IfOk};
 ghost use Rattle.bcs_tool_command_line.specs.Files.{size_limit};
 ghost use Rattle.bcs_tool_answers.specs.Answers.{TakesBytes, refusal_line};
-ghost use Rattle.bcs_tool_answers.specs.Places.{AnswersBytes, IsAnswer, Prints};
+ghost use Rattle.bcs_tool_answers.specs.Places.{AnswersBytes, IsAnswer, Prints, Tells};
 ghost use Rattle.bcs_tool_answers.specs.Preparing.{IsAskedBy};
 
-use crate::answer::{Answer, damaged, found, nowhere, refused, shown, unplaced};
-use crate::blanks::without_blanks;
+use crate::answer::{Answer, damaged, found, nowhere, placed, refused, shown, unplaced};
+use crate::base64_input::bytes_of_base64;
+use crate::base64_places::place_of_base64;
+use crate::blanks::{blanks_before, without_blanks};
 use crate::judging::Asked;
 use crate::scan_answers::answer_scan;
 use crate::stop_answers::answer_stop;
+use base64::DecodeAllocError;
 use bcs_decode::part;
 use bcs_decode_parts::steps_of;
 use bcs_json::{FromFault, from_bcs};
 use bcs_look_pieces::{Explanation, explain_text};
-use bcs_tool_command_line::{Command, Work};
+use bcs_tool_command_line::{Coding, Command, Work};
 use hex::FromHexError;
 use std::alloc::{AllocError, Global};
 
-/// The answer to the input of a job that takes a value's bytes, which are given as they are or as digits.
+/// The answer to the input of a job that takes a value's bytes.
 pub fn answer_given(
     alloc: Global,
     work: &Work,
@@ -30,12 +33,48 @@ pub fn answer_given(
     requires within { length input.now ≤ size_limit }
     ensures { IfOk result (λ a. IsAnswer work.now input.now a) }
 {
-    if work.raw {
-        return answer_bytes(alloc, work, asked, input);
+    match work.coding {
+        Coding::Hexadecimal => answer_digits(alloc, work, asked, input),
+        Coding::Base64 => answer_base64(alloc, work, asked, input),
+        Coding::Raw => answer_bytes(alloc, work, asked, input),
     }
+}
+
+// The answer to bytes that are given as hexadecimal digits.
+fn answer_digits(
+    alloc: Global,
+    work: &Work,
+    asked: &Asked,
+    input: &[u8],
+) -> Result<Answer, AllocError>
+    requires coding { work.now.coding ≡ Coding.Hexadecimal }
+    requires command { TakesBytes work.now.command }
+    requires asked { IsAskedBy work.now asked.now }
+    requires within { length input.now ≤ size_limit }
+    ensures { IfOk result (λ a. IsAnswer work.now input.now a) }
+{
     match hex::decode(alloc, without_blanks(input)) {
         Ok(bytes) => answer_bytes(alloc, work, asked, bytes.as_slice()),
         Err(fault) => refused_digits(alloc, fault),
+    }
+}
+
+// The answer to bytes that are given as base64.
+fn answer_base64(
+    alloc: Global,
+    work: &Work,
+    asked: &Asked,
+    input: &[u8],
+) -> Result<Answer, AllocError>
+    requires coding { work.now.coding ≡ Coding.Base64 }
+    requires command { TakesBytes work.now.command }
+    requires asked { IsAskedBy work.now asked.now }
+    requires within { length input.now ≤ size_limit }
+    ensures { IfOk result (λ a. IsAnswer work.now input.now a) }
+{
+    match bytes_of_base64(alloc, without_blanks(input)) {
+        Ok(bytes) => answer_bytes(alloc, work, asked, bytes.as_slice()),
+        Err(fault) => refused_base64(alloc, work, input, fault),
     }
 }
 
@@ -49,6 +88,25 @@ fn refused_digits(alloc: Global, fault: FromHexError) -> Result<Answer, AllocErr
         FromHexError::OddLength
         | FromHexError::InvalidHexCharacter { .. }
         | FromHexError::InvalidStringLength => refused(alloc, "BadHex"),
+    }
+}
+
+// The answer to an input that is no base64. Want of memory is no refusal.
+fn refused_base64(
+    alloc: Global,
+    work: &Work,
+    input: &[u8],
+    fault: DecodeAllocError,
+) -> Result<Answer, AllocError>
+    ensures { IfOk result (λ a. (fault ≢ DecodeAllocError.OutOfMemory) × (a.status ≡ 2)
+        × (a.output.items ≡ refusal_line (codes "BadBase64")) × Tells work.now a.place.items) }
+{
+    match fault {
+        DecodeAllocError::OutOfMemory => Err(AllocError),
+        DecodeAllocError::DecodeError(fault) => {
+            let place = place_of_base64(alloc, work, blanks_before(input), fault);
+            Ok(placed(refused(alloc, "BadBase64")?, place))
+        }
     }
 }
 
@@ -139,8 +197,8 @@ fn answer_part(
     } = asked;
     let steps = steps_of(alloc, path.as_slice())?;
     match part(registry, format, &work.limits, bytes, steps.as_slice()) {
-        Ok(Some(part)) => found(alloc, part.bytes, work.raw),
-        Ok(None) => nowhere(alloc, work.raw),
+        Ok(Some(part)) => found(alloc, part.bytes, work.coding),
+        Ok(None) => nowhere(alloc, work.coding),
         Err(stop) => answer_stop(alloc, work, asked, bytes, stop),
     }
 }

@@ -2,6 +2,8 @@
 #![tactic(auto)]
 
 mod answer;
+mod base64_input;
+mod base64_places;
 mod blanks;
 mod bytes_answers;
 mod ending;

@@ -20,7 +20,7 @@ use std::alloc::{AllocError, Global};
 pub fn is_unlimited(work: &Work) -> bool
     ensures { result ≡ is_unlimited work.now }
 {
-    work.command == Command::Scan && work.raw
+    work.command == Command::Scan && work.coding.is_raw()
 }
 
 /// How many bytes the value has whose bytes these are, or which stands at their front where that alone is asked for.

@@ -72,9 +72,13 @@ example_app = fold with_rule (value_app (codes "example")) (variant_option ∷ f
 abbrev pub lines_option : Rule
 lines_option = flag_option (codes "lines")
 
--- where the input is from, and how it is read
+-- where the input is from, and how bytes are read and written
+abbrev pub coding_options : List Rule
+coding_options = optional (codes "FILE") ∷ flag_option (codes "raw") ∷ flag_option (codes "base64") ∷ []
+
+-- the same, and whether each line is an input
 abbrev pub input_options : List Rule
-input_options = optional (codes "FILE") ∷ flag_option (codes "raw") ∷ lines_option ∷ []
+input_options = optional (codes "FILE") ∷ flag_option (codes "raw") ∷ flag_option (codes "base64") ∷ lines_option ∷ []
 
 abbrev pub encode_app : App
 encode_app = fold with_rule (value_app (codes "encode")) input_options
@@ -91,7 +95,7 @@ abbrev pub color_options : List Rule
 color_options = flag_option (codes "color") ∷ flag_option (codes "no-color") ∷ []
 
 abbrev pub explain_app : App
-explain_app = fold with_rule (fold with_rule (fold with_rule (value_app (codes "explain")) (optional (codes "FILE") ∷ flag_option (codes "raw") ∷ [])) form_options) color_options
+explain_app = fold with_rule (fold with_rule (fold with_rule (value_app (codes "explain")) coding_options) form_options) color_options
 
 abbrev pub normalise_app : App
 normalise_app = fold with_rule (value_app (codes "normalise")) (optional (codes "FILE") ∷ lines_option ∷ [])

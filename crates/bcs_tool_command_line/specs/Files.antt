@@ -133,7 +133,7 @@ module _ {F : Type 0} (remaining : F → Option (List ℕ)) where
     pub format : work.format ≡ job.format
     pub path : work.path ≡ job.path
     pub name : work.name ≡ job.name
-    pub raw : work.raw ≡ job.raw
+    pub coding : work.coding ≡ job.coding
     pub lines : work.lines ≡ job.lines
     pub front : work.front ≡ job.front
     pub list : work.list ≡ job.list

@@ -1,5 +1,5 @@
 -- The job that a command line asks for.
-use Rattle.std.specs.Prelude.{◌≡◌, ◌≤◌, IsSomeAnd, ℕ, List, [], Option, Some, None, Bool, codes, option_map, unwrap_or, if◌then◌else◌, string_bytes}
+use Rattle.std.specs.Prelude.{◌≡◌, ◌≤◌, IsSomeAnd, ℕ, List, [], Option, Some, None, Bool, true, false, codes, option_map, unwrap_or, if◌then◌else◌, string_bytes}
 use Rattle.std.specs.Str.{bytes_eq}
 use Rattle.std.specs.Str.Parse.{IsNumeral, digits_value, without_leading_plus}
 use Rattle.std.specs.Option.{option_or}
@@ -8,6 +8,8 @@ use Rattle.bcs_value_model.specs.Limits.{Bounds}
 use Rattle.bcs_look_text.specs.declared.style.Form.{Form}
 use Rattle.bcs_look_text.specs.declared.style.Form.TheVariants.{Ways, Paths, Tree, Json}
 use Rattle.bcs_tool_command_line.specs.CommandLine.{bcs_app}
+use Rattle.bcs_tool_command_line.specs.declared.coding.Coding.{Coding}
+use Rattle.bcs_tool_command_line.specs.declared.coding.Coding.TheVariants.{Hexadecimal, Base64, Raw}
 use Rattle.bcs_tool_command_line.specs.declared.color.Color.{Color}
 use Rattle.bcs_tool_command_line.specs.declared.color.Color.TheVariants.{Auto, Always, Never}
 use Rattle.bcs_tool_command_line.specs.declared.command.Command.{Command}
@@ -35,6 +37,16 @@ text_or_empty word = unwrap_or word []
 -- clap gives an option without a value the text `true` where it was used, and `false` else
 abbrev pub is_set : Text → List Row → Bool
 is_set name found = bytes_eq (text_or_empty (first_of name found)) (codes "true")
+
+-- how bytes are read and written: `--base64` goes before `--raw`
+abbrev pub coding_of : List Row → Coding
+coding_of found = if is_set (codes "base64") found then Base64 else (if is_set (codes "raw") found then Raw else Hexadecimal)
+
+-- they are so as they are
+abbrev pub is_raw : Coding → Bool
+is_raw Hexadecimal = false
+is_raw Base64 = false
+is_raw Raw = true
 
 -- how pieces are printed: `--json` goes before `--tree`, and that before `--paths`
 abbrev pub form_of : List Row → Form
@@ -66,7 +78,7 @@ pub record IsJob (command : Command) (found : List Row) (job : Job) : Type 0 whe
   pub path : string_bytes job.path ≡ text_or_empty (first_of (codes "PATH") found)
   pub name : option_map string_bytes job.name ≡ option_or (first_of (codes "NAME") found) (first_of (codes "variant") found)
   pub file : option_map string_bytes job.file ≡ option_or (first_of (codes "FILE") found) (first_of (codes "B") found)
-  pub raw : job.raw ≡ is_set (codes "raw") found
+  pub coding : job.coding ≡ coding_of found
   pub lines : job.lines ≡ is_set (codes "lines") found
   pub front : job.front ≡ is_set (codes "front") found
   pub list : job.list ≡ is_set (codes "list") found

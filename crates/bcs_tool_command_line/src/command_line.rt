@@ -2,7 +2,7 @@
 ghost use Rattle.std.specs.Prelude.{◌≡◌, ◌⊎◌, ◌&&◌, [], IfOk, IfErr, IsOkUnless};
 ghost use Rattle.clap.specs.Words.{fault_of, found_of, kind_of, rows_of};
 ghost use Rattle.bcs_tool_command_line.specs.CommandLine.{bcs_app, texts_of};
-ghost use Rattle.bcs_tool_command_line.specs.Jobs.{IsJobOf};
+ghost use Rattle.bcs_tool_command_line.specs.Jobs.{IsJobOf, is_raw};
 ghost use Rattle.bcs_tool_command_line.specs.LineFaults.{IsFaultAmong, IsFaultOf, IsFaultOfKind, TellsJoined};
 ghost use Rattle.bcs_tool_command_line.specs.TakenWords.{TakesWords};
 
@@ -26,8 +26,8 @@ const JOINED: &str =
 ///
 /// `Help` answers `--help`, `-h` and `help`, and `--version` and `-V`. `Usage` answers other words
 /// that no command takes: no command, another one, a word too few or too many, an option that the
-/// command doesn't have or that is given twice, and `--raw` with `--lines`. Words that a command
-/// takes are refused only where memory runs out.
+/// command doesn't have or that is given twice, and `--raw` with `--lines`, unless `--base64` goes
+/// before it. Words that a command takes are refused only where memory runs out.
 pub fn line(alloc: Global, words: &[String]) -> Result<Job, LineFault>
     ensures job { IfOk result (IsJobOf (texts_of words.now)) }
     ensures taken { IfOk result (λ _. TakesWords (texts_of words.now)) }
@@ -65,9 +65,9 @@ fn parsed_job(alloc: Global, words: &[String]) -> Result<Job, LineFault>
 
 // Whether `--raw` and `--lines` stand together. Bytes as they are have no lines.
 fn has_joined(job: &Job) -> bool
-    ensures { result ≡ (job.now.raw && job.now.lines) }
+    ensures { result ≡ (is_raw job.now.coding && job.now.lines) }
 {
-    job.raw && job.lines
+    job.coding.is_raw() && job.lines
 }
 
 // The fault of words that join `--raw` and `--lines`.

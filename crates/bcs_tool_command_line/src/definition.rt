@@ -2,7 +2,7 @@
 ghost use Rattle.std.specs.Prelude.{◌≡◌, IfOk, codes, false, fold};
 ghost use Rattle.clap.specs.Words.{app_of, rule_of, with_rule};
 ghost use Rattle.clap.specs.declared.builder.command.Command.TheViews.{out-Command};
-ghost use Rattle.bcs_tool_command_line.specs.CommandLine.{bcs_app, check_app, color_options, decode_app, encode_app, example_app, explain_app, flag_option, form_options, growth_options, grows_app, input_options, lines_option, normalise_app, number_option, optional, part_app, quiet_option, required, same_app, scan_app, show_app, show_options, value_app, value_options, variant_option};
+ghost use Rattle.bcs_tool_command_line.specs.CommandLine.{bcs_app, check_app, coding_options, color_options, decode_app, encode_app, example_app, explain_app, flag_option, form_options, growth_options, grows_app, input_options, lines_option, normalise_app, number_option, optional, part_app, quiet_option, required, same_app, scan_app, show_app, show_options, value_app, value_options, variant_option};
 
 use crate::texts;
 use crate::version::VERSION;
@@ -104,7 +104,7 @@ fn encode_command<'a>(alloc: Global) -> Result<Command<'a>, AllocError>
     let command = value_command(alloc, "encode")?
         .about("Prints the bytes of a value's JSON text")
         .after_help(texts::ENCODE_END);
-    with_input_options(alloc, command, texts::RAW_OUTPUT)
+    with_input_options(alloc, command, texts::RAW_OUTPUT, texts::BASE64_OUTPUT)
 }
 
 fn decode_command<'a>(alloc: Global) -> Result<Command<'a>, AllocError>
@@ -114,7 +114,7 @@ fn decode_command<'a>(alloc: Global) -> Result<Command<'a>, AllocError>
     let command = value_command(alloc, "decode")?
         .about("Prints the JSON text of a value's bytes")
         .after_help(texts::DECODE_END);
-    with_input_options(alloc, command, texts::RAW_INPUT)
+    with_input_options(alloc, command, texts::RAW_INPUT, texts::BASE64_INPUT)
 }
 
 fn explain_command<'a>(alloc: Global) -> Result<Command<'a>, AllocError>
@@ -125,9 +125,8 @@ fn explain_command<'a>(alloc: Global) -> Result<Command<'a>, AllocError>
         .about(
             "Prints a value's bytes, piece by piece: place, bytes, what they are, and the way to them",
         )
-        .after_help(texts::EXPLAIN_END)
-        .arg(optional_word(alloc, "FILE", texts::FILE))?
-        .arg(raw_option(alloc, texts::RAW_INPUT))?;
+        .after_help(texts::EXPLAIN_END);
+    let command = with_coding_options(alloc, command, texts::RAW_INPUT, texts::BASE64_INPUT)?;
     with_color_options(alloc, with_form_options(alloc, command)?)
 }
 
@@ -184,7 +183,7 @@ fn part_command<'a>(alloc: Global) -> Result<Command<'a>, AllocError>
         .about("Prints the bytes of a part of a value, out of the value's bytes")
         .after_help(texts::PART_END)
         .arg(required_word(alloc, "PATH", texts::PATH))?;
-    with_input_options(alloc, command, texts::RAW_BOTH)
+    with_input_options(alloc, command, texts::RAW_BOTH, texts::BASE64_BOTH)
 }
 
 fn scan_command<'a>(alloc: Global) -> Result<Command<'a>, AllocError>
@@ -194,23 +193,42 @@ fn scan_command<'a>(alloc: Global) -> Result<Command<'a>, AllocError>
     let command = value_command(alloc, "scan")?
         .about("Checks the bytes of a value and prints how many there are")
         .after_help(texts::SCAN_END);
-    with_input_options(alloc, command, texts::RAW_INPUT)?.arg(flag(alloc, "front", texts::FRONT))
+    with_input_options(alloc, command, texts::RAW_INPUT, texts::BASE64_INPUT)?.arg(flag(
+        alloc,
+        "front",
+        texts::FRONT,
+    ))
 }
 
-// Where the input is from, and how it is read. `raw` is the help of `--raw`.
+// Where the input is from, and how bytes are read and written. `raw` and `base64` are the helps of these options.
+fn with_coding_options<'a>(
+    alloc: Global,
+    command: Command<'a>,
+    raw: &'a str,
+    base64: &'a str,
+) -> Result<Command<'a>, AllocError>
+    requires global { (out-Command command).has_globals ≡ false }
+    ensures app { IfOk result (λ c. app_of c ≡ fold with_rule (app_of command.entry) coding_options) }
+    ensures global { IfOk result (λ c. (out-Command c).has_globals ≡ false) }
+{
+    command
+        .arg(optional_word(alloc, "FILE", texts::FILE))?
+        .arg(flag(alloc, "raw", raw))?
+        .arg(flag(alloc, "base64", base64))
+}
+
+// The same options, and whether each line is an input.
 fn with_input_options<'a>(
     alloc: Global,
     command: Command<'a>,
     raw: &'a str,
+    base64: &'a str,
 ) -> Result<Command<'a>, AllocError>
     requires global { (out-Command command).has_globals ≡ false }
     ensures app { IfOk result (λ c. app_of c ≡ fold with_rule (app_of command.entry) input_options) }
     ensures global { IfOk result (λ c. (out-Command c).has_globals ≡ false) }
 {
-    command
-        .arg(optional_word(alloc, "FILE", texts::FILE))?
-        .arg(raw_option(alloc, raw))?
-        .arg(lines_option(alloc))
+    with_coding_options(alloc, command, raw, base64)?.arg(lines_option(alloc))
 }
 
 // A command on values of a format, within limits.
@@ -249,13 +267,6 @@ fn optional_word<'a>(alloc: Global, name: &'a str, help: &'a str) -> Arg<'a>
     ensures global { result.global ≡ false }
 {
     Arg::new(alloc, name).help(help)
-}
-
-fn raw_option<'a>(alloc: Global, help: &'a str) -> Arg<'a>
-    ensures rule { rule_of result ≡ flag_option (codes "raw") }
-    ensures global { result.global ≡ false }
-{
-    flag(alloc, "raw", help)
 }
 
 fn lines_option<'a>(alloc: Global) -> Arg<'a>

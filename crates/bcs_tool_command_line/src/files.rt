@@ -93,7 +93,7 @@ pub fn read_work<R: Files + Env + AllocGlobal>(
         format: job.format,
         path: job.path,
         name: job.name,
-        raw: job.raw,
+        coding: job.coding,
         lines: job.lines,
         front: job.front,
         list: job.list,

@@ -1,5 +1,6 @@
 //! A command with its words.
 
+use crate::coding::Coding;
 use crate::color::Color;
 use crate::command::Command;
 use bcs_look_text::style::Form;
@@ -22,8 +23,8 @@ pub struct Job {
     pub name: Option<String>,
     /// FILE, or B of `same`: the name of the file to read in place of the standard input.
     pub file: Option<String>,
-    /// Whether `--raw` was given: bytes are read and written as they are, and not as hexadecimal digits.
-    pub raw: bool,
+    /// `--raw`, `--base64`: how bytes are read and written. Of both the latter is meant.
+    pub coding: Coding,
     /// Whether `--lines` was given: each line of the input is an input of its own.
     pub lines: bool,
     /// Whether `--front` was given: a value is taken at the front of the bytes, and the rest is left.

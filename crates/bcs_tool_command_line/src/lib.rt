@@ -2,6 +2,7 @@
 #![tactic(auto)]
 
 mod arguments;
+mod coding;
 mod color;
 mod command;
 mod command_line;
@@ -22,6 +23,7 @@ mod unread_file;
 pub mod version;
 mod work;
 
+pub use coding::Coding;
 pub use color::Color;
 pub use command::Command;
 pub use command_line::line;

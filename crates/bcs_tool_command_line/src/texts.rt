@@ -35,6 +35,16 @@ pub const RAW_OUTPUT: &str = "Writes the bytes as they are, and not as hexadecim
 
 pub const RAW_BOTH: &str = "Reads and writes the bytes as they are, and not as hexadecimal digits";
 
+pub const BASE64_INPUT: &str =
+    "Reads the bytes as base64, with padding, and not as hexadecimal digits. It goes before --raw";
+
+pub const BASE64_OUTPUT: &str =
+    "Writes the bytes as base64, with padding, and not as hexadecimal digits. It goes before --raw";
+
+pub const BASE64_BOTH: &str =
+    "Reads and writes the bytes as base64, with padding, and not as hexadecimal digits. It goes \
+    before --raw";
+
 pub const LINES: &str =
     "Takes each line of the input as an input of its own, and answers each by a line";
 
@@ -122,6 +132,7 @@ Status: 0 done, 2 refused, 3 usage, 4 file or memory";
 
 pub const DECODE_END: &str = "Example:
   echo cced | bcs decode '{}' '\"I16\"'  # -4660
+  echo zO0= | bcs decode '{}' '\"I16\"' --base64  # -4660
 
 Status: 0 done, 2 refused, 3 usage, 4 file or memory";
 

@@ -1,6 +1,6 @@
 //! What a run is given, and how it ends.
 
-use crate::Command;
+use crate::{Coding, Command};
 use bcs_look_text::style::Style;
 use bcs_value::Limits;
 
@@ -18,8 +18,8 @@ pub struct Work {
     pub path: String,
     /// NAME, or what `--variant` names, as it stands; none where neither was given.
     pub name: Option<String>,
-    /// Whether bytes are read and written as they are, and not as hexadecimal digits.
-    pub raw: bool,
+    /// How bytes are read and written.
+    pub coding: Coding,
     /// Whether each line of the input is an input of its own.
     pub lines: bool,
     /// Whether a value is taken at the front of the bytes, and the rest is left.

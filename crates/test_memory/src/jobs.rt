@@ -4,7 +4,7 @@ use crate::tally::Tally;
 use crate::told::Told;
 use bcs_decode::SliceSource;
 use bcs_encode::pieces::PieceSink;
-use bcs_tool::{Command, Form, Outcome, Paint, Style, Work, run};
+use bcs_tool::{Coding, Command, Form, Outcome, Paint, Style, Work, run};
 use bcs_value::Limits;
 use std::alloc::{AllocError, Global};
 use std::str;
@@ -23,7 +23,7 @@ pub(crate) fn job(
         second: Vec::from_slice(alloc, second.as_bytes())?,
         format: String::from_str(alloc, format)?,
         path: String::new(alloc),
-        raw: false,
+        coding: Coding::Hexadecimal,
         lines: false,
         front: false,
         list: false,

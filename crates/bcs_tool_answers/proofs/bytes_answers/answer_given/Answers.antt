@@ -1,32 +1,11 @@
-use Rattle.std.proofs.Common.{◌≡◌, ◌⊎◌, Bool, Err, List, Ok, refl, subst, sym, ℕ}
+use Rattle.std.proofs.Common.{refl, subst, sym}
 use Rattle.std.proofs.lemmas.Result.{IfOk-weaker}
-use Rattle.hex.specs.Hex.{decode_of}
-use Rattle.hex.specs.declared.error.FromHexError.TheVariants.{OutOfMemory}
-use Rattle.bcs_tool_answers.specs.Answers.{no_bytes}
-use Rattle.bcs_tool_answers.specs.Input.{Gives, without_blanks}
-use Rattle.bcs_tool_answers.proofs.AnswerLemmas.{is_asked, no_digits, same_answer}
+use Rattle.bcs_tool_answers.specs.Input.{Gives}
+use Rattle.bcs_tool_command_line.specs.declared.coding.Coding.{Coding}
 use Rattle.bcs_tool_answers.proofs.bytes_answers.answer_given.Goals as goal
 
-pub returns-then-work : goal.returns-then-work
-returns-then-work c =
+pub returns-in-Raw : goal.returns-in-Raw
+returns-in-Raw c =
     let input = c.args.input.now in
-    let gives = subst (λ (raw : Bool). Gives raw input input) (sym c.if-work.true) refl in
+    let gives = subst (λ (coding : Coding). Gives coding input input) (sym c.in-Raw.is) refl in
     IfOk-weaker c.answer_bytes.result _ _ (λ a answers. answers input c.requires.within gives) c.answer_bytes.ensures
-
-pub returns-in-Ok : goal.returns-in-Ok
-returns-in-Ok c =
-    let input = c.args.input.now in
-    let bytes = c.as_slice.result.now in
-    let decoded = subst (λ (text : List ℕ). decode_of text ≡ Ok c.in-Ok.bytes.items) c.without_blanks.ensures c.in-Ok.ensures.ok in
-    let digits = subst (λ (b : List ℕ). decode_of (without_blanks input) ≡ Ok b) (sym c.as_slice.ensures.value) decoded in
-    let gives = subst (λ (raw : Bool). Gives raw input bytes) (sym c.if-work.false) digits in
-    IfOk-weaker c.answer_bytes-in-Ok.result _ _ (λ a answers. answers input c.requires.within gives) c.answer_bytes-in-Ok.ensures
-
-pub returns-in-Err : goal.returns-in-Err
-returns-in-Err c =
-    let input = c.args.input.now in
-    let fault = c.in-Err.fault in
-    let refused = subst (λ (text : List ℕ). (fault ≡ OutOfMemory) ⊎ (decode_of text ≡ Err fault)) c.without_blanks.ensures c.in-Err.ensures.err in
-    IfOk-weaker c.refused_digits.result _ _ (λ a is. same_answer _ input a 2 _ is.1
-    (no_bytes c.args.work.now.command _ _ c.requires.command (is_asked input c.args.work.now.command refl c.requires.asked c.requires.within)
-    (λ bytes gives. no_digits (without_blanks input) fault refused is.0 bytes (subst (λ (raw : Bool). Gives raw input bytes) c.if-work.false gives)))) c.refused_digits.ensures

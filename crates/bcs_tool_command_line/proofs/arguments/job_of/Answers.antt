@@ -30,12 +30,12 @@ returns c =
           (c.get_str-8.ensures ∙ first_value-rows f (codes "variant"));
       file = c.in_ok-given_name-2.ensures ∙ either c.get_str-9.result c.get_str-10.result c.or-4.result _ _ c.or-4.ensures (c.get_str-9.ensures ∙ first_value-rows f (codes "FILE"))
           (c.get_str-10.ensures ∙ first_value-rows f (codes "B"));
-      raw = c.is_set.ensures;
-      lines = c.is_set-2.ensures;
-      front = c.is_set-3.ensures;
-      list = c.is_set-4.ensures;
-      full = c.is_set-5.ensures;
-      quiet = c.is_set-6.ensures;
+      coding = c.coding_of.ensures;
+      lines = c.is_set.ensures;
+      front = c.is_set-2.ensures;
+      list = c.is_set-3.ensures;
+      full = c.is_set-4.ensures;
+      quiet = c.is_set-5.ensures;
       form = c.form_of.ensures;
       color = c.color_of.ensures;
       limits = c.limits_of.ensures;

@@ -1,0 +1,26 @@
+//! How bytes are read and written.
+ghost use Rattle.std.specs.Prelude.{◌≡◌};
+ghost use Rattle.bcs_tool_command_line.specs.Jobs.{is_raw};
+
+/// What stands for a value's bytes in an input, and in an answer.
+#[derive(Clone, Copy, Debug, PartialEq, Eq)]
+pub enum Coding {
+    /// Hexadecimal digits.
+    Hexadecimal,
+    /// `--base64`: base64 of the standard alphabet of RFC 4648, with padding.
+    Base64,
+    /// `--raw`: the bytes as they are.
+    Raw,
+}
+
+impl Coding {
+    /// Whether the bytes stand there as they are.
+    pub fn is_raw(self) -> bool
+        ensures { result ≡ is_raw self }
+    {
+        match self {
+            Coding::Raw => true,
+            Coding::Hexadecimal | Coding::Base64 => false,
+        }
+    }
+}
