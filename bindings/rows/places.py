@@ -1,9 +1,9 @@
 """Where something is refused, and what was wanted there: the calls on places tell what the program tells.
 
 Its line stands behind the answer of a row `bcs --where`, and is asked of what it is told of: a registry, a text or bytes. Left
-out are lines on a format, on a path, on a name that is asked for, and on growth, since no call tells these; and a line whose
-place has a name that the program cut at 200 signs, since the calls tell a pointer's names whole. A row `place` of
-crates/test_calls has the pointer alone.
+out are lines on a format, on an input that is no digits, on a path, on a name that is asked for, and on growth, since no call
+tells these; and a line whose place has a name that the program cut at 200 signs, since the calls tell a pointer's names whole.
+A row `place` of crates/test_calls has the pointer alone.
 """
 
 import json
@@ -15,7 +15,7 @@ from jobs import BEYOND_CALLS, OPTIONS
 from words import Unsayable, bytes_of, bytes_of_digits, format_of
 
 LINE = re.compile(r'2 "(?:.*\\n)?refused: (?P<fault>\w+)(?: at \d+)?\\n" (?:in (?P<of>\w+), )?at (?P<place>.*?): (?P=fault): (?P<words>.*)')
-UNTOLD = re.compile(r"(?:FORMAT|PATH|NAME)\b|.*\.\.\.\(cut\)")
+UNTOLD = re.compile(r"(?:FORMAT|PATH|NAME)\b|the whole input$|byte \d+ of the input$|.*\.\.\.\(cut\)")
 GROWTH_FAULTS = ("Missing", "Changed", "VariantMissing", "VariantChanged")
 ON_REGISTRIES = ("check", "grows", "show", "example")
 ON_BYTES = ("decode", "part", "scan")

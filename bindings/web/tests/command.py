@@ -26,8 +26,8 @@ from words import bytes_of, unrolled  # noqa: E402
 ROWS = HERE.parent.parent.parent / ".ci/bcs.rows"
 WITH_INPUT = {"encode", "decode", "explain", "normalise", "same", "part", "scan"}
 BEYOND = {"--lines", "--list", "--color"}
-# What the module doesn't tell: where a format, a path and base64 are refused, and where growth fails.
-UNTOLD = re.compile(r'^2 "(?:.*\\n)?refused: (?:Missing|Changed|VariantMissing|VariantChanged)\\n"|^2 ".*" at (?:FORMAT|PATH)\b|^2 ".*" at [^:]*: BadBase64:')
+# What the module doesn't tell: where a format, a path, digits and base64 are refused, and where growth fails.
+UNTOLD = re.compile(r'^2 "(?:.*\\n)?refused: (?:Missing|Changed|VariantMissing|VariantChanged)\\n"|^2 ".*" at (?:FORMAT|PATH)\b|^2 ".*" at (?:the whole input|byte \d+ of the input):')
 
 
 class Row(NamedTuple):

@@ -115,7 +115,7 @@ test('a text that is refused is told, and the other side is marked', async () =>
   await replace(page, 'text', read('aptos_transfer_damaged.json'));
   await page.until(`${verdict}.includes('BadHex')`);
   assert.match(await page.ask(verdict), /Refused at line \d+, column \d+: BadHex\. .*without 0x/);
-  assert.match(await page.ask(verdict), /At \/sender: a character that is no hexadecimal digit\.$/);
+  assert.match(await page.ask(verdict), /At \/sender: 0x isn't part of hexadecimal digits here\.$/);
   const marked = await page.ask("document.querySelector('#text-side mark').textContent");
   assert.equal(JSON.parse(marked), JSON.parse(read('aptos_transfer_damaged.json')).sender);
   // (the cursor goes there, and what is marked is selected)

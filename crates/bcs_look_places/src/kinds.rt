@@ -1,6 +1,7 @@
 //! What is wanted of JSON where a value of a format is to stand.
 
 use crate::content::Content;
+use crate::digits::wrong_digits;
 use crate::goals::{Goal, field_called, payload_called};
 use crate::names::Name;
 use crate::wants::{Count, Want};
@@ -64,18 +65,7 @@ fn bytes_want<'a>(json: &'a Json) -> Option<Want<'a>> {
 }
 
 fn digits_want<'a>(text: &'a str) -> Option<Want<'a>> {
-    Some(Want::Words(wrong_digits(text)?))
-}
-
-// What is wrong with a string of hexadecimal digits.
-fn wrong_digits(text: &str) -> Option<&'static str> {
-    if !text.bytes().all(|byte| byte.is_ascii_hexdigit()) {
-        Some("a character that is no hexadecimal digit")
-    } else if text.len() % 2 == 1 {
-        Some("an odd number of digits")
-    } else {
-        None
-    }
+    Some(Want::Words(wrong_digits(text.as_bytes())?.words))
 }
 
 fn option_want<'a>(json: &'a Json) -> Option<Want<'a>> {
@@ -128,8 +118,8 @@ fn all_octets_want<'a>(number: u64, json: &'a Json) -> Option<Want<'a>> {
 }
 
 fn all_digits_want<'a>(count: Count, text: &'a str) -> Option<Want<'a>> {
-    match wrong_digits(text) {
-        Some(words) => Some(Want::Words(words)),
+    match wrong_digits(text.as_bytes()) {
+        Some(wrong) => Some(Want::Words(wrong.words)),
         None => other_want(count, (text.len() / 2) as u64),
     }
 }

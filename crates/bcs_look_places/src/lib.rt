@@ -3,6 +3,7 @@
 #![tactic(auto)]
 
 mod content;
+mod digits;
 mod formats;
 mod goals;
 mod growth;
@@ -19,7 +20,9 @@ mod shapes;
 mod texts;
 mod wants;
 mod wholes;
+mod wrong_text;
 
+pub use digits::wrong_digits;
 pub use formats::{place_of_container, place_of_name, place_of_word};
 pub use growth::place_of_growth;
 pub use limits::{put_limit, put_text_limit};
@@ -29,3 +32,4 @@ pub use rules::place_of_rule;
 pub use shapes::{place_of_format_shape, place_of_registry_shape};
 pub use texts::place_of_text;
 pub use wholes::whole_line;
+pub use wrong_text::WrongText;

@@ -3,9 +3,26 @@
 use serde_json::{Category, Value};
 use std::alloc::Global;
 
-/// Where a registry's text stops being JSON, by the line and the column that `serde_json` tells.
+const YAML: &str = "; it looks like YAML, and docs/REGISTRIES.md says how it becomes JSON";
+
+/// Where a registry's text stops being JSON, by the line and the column that `serde_json` tells. Chains keep registries as
+/// YAML, so of a text that begins as such it says what is to be done.
 pub fn place_of_no_json(alloc: Global, text: &[u8]) -> Option<Vec<u8>> {
-    stop_line(alloc, "at", text)
+    let mut line = stop_line(alloc, "at", text)?;
+    if begins_as_yaml(text) {
+        line.extend_from_slice(YAML.as_bytes()).ok()?;
+    }
+    Some(line)
+}
+
+// With three dashes, or with a name and a colon.
+fn begins_as_yaml(text: &[u8]) -> bool {
+    let name = text.iter().position(|byte| !is_in_name(*byte)).unwrap_or(0);
+    text.starts_with(b"---") || (name > 0 && text.get(name) == Some(&b':'))
+}
+
+fn is_in_name(byte: u8) -> bool {
+    byte.is_ascii_alphanumeric() || byte == b'_'
 }
 
 /// The same of the word FORMAT.

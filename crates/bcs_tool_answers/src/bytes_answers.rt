@@ -2,13 +2,13 @@
 ghost use Rattle.std.specs.Prelude.{◌≡◌, ◌≢◌, ◌≤◌, codes, length, IfOk};
 ghost use Rattle.bcs_tool_command_line.specs.Files.{size_limit};
 ghost use Rattle.bcs_tool_answers.specs.Answers.{TakesBytes, refusal_line};
-ghost use Rattle.bcs_tool_answers.specs.Places.{AnswersBytes, IsAnswer, Prints, Tells};
+ghost use Rattle.bcs_tool_answers.specs.Places.{AnswersBytes, IsAnswer, Tells};
 ghost use Rattle.bcs_tool_answers.specs.Preparing.{IsAskedBy};
 
 use crate::answer::{Answer, damaged, found, nowhere, placed, refused, shown, unplaced};
 use crate::base64_input::bytes_of_base64;
-use crate::base64_places::place_of_base64;
-use crate::blanks::{blanks_before, without_blanks};
+use crate::blanks::without_blanks;
+use crate::input_places::{place_of_base64, place_of_digits};
 use crate::judging::Asked;
 use crate::scan_answers::answer_scan;
 use crate::stop_answers::answer_stop;
@@ -55,7 +55,7 @@ fn answer_digits(
 {
     match hex::decode(alloc, without_blanks(input)) {
         Ok(bytes) => answer_bytes(alloc, work, asked, bytes.as_slice()),
-        Err(fault) => refused_digits(alloc, fault),
+        Err(fault) => refused_digits(alloc, work, input, fault),
     }
 }
 
@@ -78,16 +78,24 @@ fn answer_base64(
     }
 }
 
-// The answer to text that is no hexadecimal digits. Want of memory is no refusal.
-fn refused_digits(alloc: Global, fault: FromHexError) -> Result<Answer, AllocError>
-    ensures { IfOk result (λ a. (fault ≢ FromHexError.OutOfMemory)
-        × Prints a 2 (refusal_line (codes "BadHex"))) }
+// The answer to an input that is no hexadecimal digits. Want of memory is no refusal.
+fn refused_digits(
+    alloc: Global,
+    work: &Work,
+    input: &[u8],
+    fault: FromHexError,
+) -> Result<Answer, AllocError>
+    ensures { IfOk result (λ a. (fault ≢ FromHexError.OutOfMemory) × (a.status ≡ 2)
+        × (a.output.items ≡ refusal_line (codes "BadHex")) × Tells work.now a.place.items) }
 {
     match fault {
         FromHexError::OutOfMemory => Err(AllocError),
         FromHexError::OddLength
         | FromHexError::InvalidHexCharacter { .. }
-        | FromHexError::InvalidStringLength => refused(alloc, "BadHex"),
+        | FromHexError::InvalidStringLength => {
+            let place = place_of_digits(alloc, work, input);
+            Ok(placed(refused(alloc, "BadHex")?, place))
+        }
     }
 }
 
@@ -104,7 +112,7 @@ fn refused_base64(
     match fault {
         DecodeAllocError::OutOfMemory => Err(AllocError),
         DecodeAllocError::DecodeError(fault) => {
-            let place = place_of_base64(alloc, work, blanks_before(input), fault);
+            let place = place_of_base64(alloc, work, input, fault);
             Ok(placed(refused(alloc, "BadBase64")?, place))
         }
     }

@@ -3,12 +3,12 @@
 
 mod answer;
 mod base64_input;
-mod base64_places;
 mod blanks;
 mod bytes_answers;
 mod ending;
 mod examples;
 mod growing;
+mod input_places;
 mod job_fault;
 mod judging;
 pub mod laws;

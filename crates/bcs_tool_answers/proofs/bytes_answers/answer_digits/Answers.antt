@@ -5,7 +5,7 @@ use Rattle.hex.specs.declared.error.FromHexError.TheVariants.{OutOfMemory}
 use Rattle.bcs_tool_answers.specs.Answers.{Answers, no_bytes, refusal_line}
 use Rattle.bcs_tool_answers.specs.Input.{Gives, fault_name, without_blanks}
 use Rattle.bcs_tool_command_line.specs.declared.coding.Coding.{Coding}
-use Rattle.bcs_tool_answers.proofs.AnswerLemmas.{is_asked, no_digits, same_answer}
+use Rattle.bcs_tool_answers.proofs.AnswerLemmas.{is_asked, no_digits, placed_answer}
 use Rattle.bcs_tool_answers.proofs.bytes_answers.answer_digits.Goals as goal
 
 pub returns-in-Ok : goal.returns-in-Ok
@@ -23,7 +23,7 @@ returns-in-Err c =
     let work = c.args.work.now in
     let fault = c.in-Err.fault in
     let refused = subst (λ (text : List ℕ). (fault ≡ OutOfMemory) ⊎ (decode_of text ≡ Err fault)) c.without_blanks.ensures c.in-Err.ensures.err in
-    IfOk-weaker c.refused_digits.result _ _ (λ a is. same_answer _ input a 2 _ is.1
+    IfOk-weaker c.refused_digits.result _ _ (λ a is. placed_answer work input 2 _ a is.1 is.2 is.3
     (subst (λ (coding : Coding). Answers work input 2 (refusal_line (fault_name coding))) c.requires.coding
     (no_bytes work.command _ _ c.requires.command (is_asked input work.command refl c.requires.asked c.requires.within)
     (λ bytes gives. no_digits (without_blanks input) fault refused is.0 bytes (subst (λ (coding : Coding). Gives coding input bytes) c.requires.coding gives))))) c.refused_digits.ensures

@@ -1,0 +1,81 @@
+//! Where an input is no hexadecimal digits, or no base64.
+ghost use Rattle.bcs_tool_answers.specs.Places.{Tells};
+
+use crate::blanks::{blanks_before, without_blanks};
+use crate::places::place_of_line;
+use base64::DecodeError;
+use bcs_look_places::{WrongText, wrong_digits};
+use bcs_tool_command_line::Work;
+use std::alloc::{AllocError, Global};
+
+/// Where this input is no hexadecimal digits. It is empty at a quiet job, and where no memory is left for it.
+pub fn place_of_digits(alloc: Global, work: &Work, input: &[u8]) -> Vec<u8>
+    ensures { Tells work.now result.items }
+{
+    match wrong_digits(without_blanks(input)) {
+        Some(wrong) => place_of_input(alloc, work, input, "BadHex", wrong),
+        None => Vec::new(alloc),
+    }
+}
+
+/// Where this input is no base64, by the fault of the text between its blanks. It is empty at a quiet job, and where no
+/// memory is left for it.
+pub fn place_of_base64(alloc: Global, work: &Work, input: &[u8], fault: DecodeError) -> Vec<u8>
+    ensures { Tells work.now result.items }
+{
+    place_of_input(alloc, work, input, "BadBase64", wrong_base64(fault))
+}
+
+fn wrong_base64(fault: DecodeError) -> WrongText {
+    let (place, words) = match fault {
+        DecodeError::InvalidByte(place, b'=') => (Some(place), "padding where none belongs"),
+        DecodeError::InvalidByte(place, b'-' | b'_') => (
+            Some(place),
+            "a sign of the URL alphabet: wanted + and /",
+        ),
+        DecodeError::InvalidByte(place, _) => (
+            Some(place),
+            "a character that is no sign of base64",
+        ),
+        DecodeError::InvalidLastSymbol { offset, .. } => (
+            Some(offset),
+            "bits are left over in the last character",
+        ),
+        DecodeError::InvalidLength(_) => (None, "a lone character at the end"),
+        DecodeError::InvalidPadding => (None, "padding is missing"),
+    };
+    WrongText { place, words }
+}
+
+fn place_of_input(
+    alloc: Global,
+    work: &Work,
+    input: &[u8],
+    fault: &str,
+    wrong: WrongText,
+) -> Vec<u8>
+    ensures { Tells work.now result.items }
+{
+    if work.quiet || work.lines {
+        return Vec::new(alloc);
+    }
+    let blanks = blanks_before(input);
+    place_of_line(alloc, input_line(alloc, blanks, fault, wrong).ok())
+}
+
+fn input_line(
+    alloc: Global,
+    blanks: usize,
+    fault: &str,
+    wrong: WrongText,
+) -> Result<Vec<u8>, AllocError> {
+    let words = wrong.words;
+    let line = match wrong.place {
+        Some(place) => {
+            let byte = blanks.saturating_add(place);
+            format!(in alloc; "at byte {byte} of the input: {fault}: {words}")?
+        }
+        None => format!(in alloc; "at the whole input: {fault}: {words}")?,
+    };
+    Ok(line.into_bytes())
+}
