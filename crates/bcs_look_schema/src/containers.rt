@@ -2,7 +2,7 @@
 
 use crate::definitions::Definitions;
 use crate::formats::{format_schema, formats_schema};
-use crate::pieces::{no_text, put_word, single_schema, type_schema};
+use crate::pieces::{choice_schema, no_text, put_word, single_schema, type_schema};
 use bcs_registry::{Container, Format, Named, Registry, VariantFormat};
 use bcs_value::Limits;
 use serde_json::{Map, Value, json};
@@ -30,7 +30,10 @@ fn container_schema<'r>(
     match container {
         Container::UnitStruct => type_schema(definitions.alloc, "null"),
         Container::NewTypeStruct(format) if is_newtypes_alone(definitions.registry, format) => {
-            no_text(definitions.alloc, "newtype structs alone, too deep")
+            no_text(
+                definitions.alloc,
+                "more newtype structs in one another than may be open",
+            )
         }
         Container::NewTypeStruct(format) => format_schema(definitions, format),
         Container::TupleStruct(formats) => formats_schema(definitions, formats),
@@ -92,13 +95,10 @@ fn variants_schema<'r>(
         let payload = payload_schema(definitions, &variant.value)?;
         choices.push(single_schema(alloc, name, payload)?)?;
     }
-    if choices.is_empty() {
-        return no_text(alloc, "the enum has no variants");
-    }
     if !names.is_empty() {
         choices.push(json!(in alloc; {"enum": (Value::Array(names))})?)?;
     }
-    json!(in alloc; {"oneOf": (Value::Array(choices))})
+    choice_schema(alloc, choices)
 }
 
 fn payload_schema<'r>(

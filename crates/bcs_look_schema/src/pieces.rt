@@ -60,3 +60,17 @@ pub(crate) fn single_schema(
         "additionalProperties": false
     })
 }
+
+/// The schema of what one of these schemas takes, no two of which take the same. A validator tells more of a schema that stands
+/// by itself.
+pub(crate) fn choice_schema(alloc: Global, choices: Vec<Value>) -> Result<Value, AllocError> {
+    let mut choices = choices;
+    let Some(last) = choices.pop() else {
+        return no_text(alloc, "the enum has no variants");
+    };
+    if choices.is_empty() {
+        return Ok(last);
+    }
+    choices.push(last)?;
+    json!(in alloc; {"oneOf": (Value::Array(choices))})
+}
