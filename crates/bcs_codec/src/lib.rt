@@ -23,6 +23,7 @@ pub use bcs_look_registry::{
     Change, Difference, RegistryForm, Sizes, container_sizes, difference_lines, differences,
     show_registry,
 };
+pub use bcs_look_schema::schema_text;
 pub use bcs_look_text::style::{Form, Paint, Style};
 pub use bcs_num::{NumFault, Width};
 pub use bcs_pieces::{Counted, Listener, Meaning, Step as TrailStep, Trail, Wanted, explain};

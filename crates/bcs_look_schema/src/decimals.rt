@@ -1,0 +1,69 @@
+//! Regular expressions of whole numbers.
+
+use crate::whole_numbers::WholeNumbers;
+use itoa::Buffer;
+use std::alloc::{AllocError, Global};
+
+/// A regular expression of exactly the plain decimal texts of the numbers.
+pub(crate) fn decimal_pattern(alloc: Global, numbers: WholeNumbers) -> Result<String, AllocError> {
+    let mut digits = Buffer::new();
+    let mut pattern = String::new(alloc);
+    pattern.push_str("^(?:0|")?;
+    if numbers.least < 0 {
+        // Below 0 there is one number more than above it.
+        pattern.push_str(digits.format(numbers.least))?;
+        pattern.push_str("|-?")?;
+    }
+    put_positive(digits.format(numbers.greatest).as_bytes(), &mut pattern)?;
+    pattern.push_str(")$")?;
+    Ok(pattern)
+}
+
+/// Appends the texts of the numbers from 1 to the one of these digits: those with fewer digits; and at each place the digits
+/// that are lower, behind which any may stand, or this one.
+fn put_positive(digits: &[u8], pattern: &mut String) -> Result<(), AllocError> {
+    pattern.push_str("(?:[1-9]")?;
+    put_any_digits("0,", digits.len().saturating_sub(2), pattern)?;
+    pattern.push('|')?;
+    let mut least = b'1';
+    let mut open = 1_usize;
+    for (place, digit) in digits.iter().enumerate() {
+        match digits.len().saturating_sub(place) {
+            0 | 1 => put_range(least, *digit, pattern)?,
+            left if least < *digit => {
+                pattern.push_str("(?:")?;
+                put_range(least, digit.saturating_sub(1), pattern)?;
+                put_any_digits("", left.saturating_sub(1), pattern)?;
+                pattern.push('|')?;
+                pattern.push(char::from(*digit))?;
+                open = open.saturating_add(1);
+            }
+            _ => pattern.push(char::from(*digit))?,
+        }
+        least = b'0';
+    }
+    for _ in 0..open {
+        pattern.push(')')?;
+    }
+    Ok(())
+}
+
+/// Appends so many digits, or with `0,` at most so many.
+fn put_any_digits(fewest: &str, count: usize, pattern: &mut String) -> Result<(), AllocError> {
+    pattern.push_str("[0-9]{")?;
+    pattern.push_str(fewest)?;
+    pattern.push_str(Buffer::new().format(count))?;
+    pattern.push('}')
+}
+
+/// Appends a digit of these.
+fn put_range(least: u8, greatest: u8, pattern: &mut String) -> Result<(), AllocError> {
+    if least < greatest {
+        pattern.push('[')?;
+        pattern.push(char::from(least))?;
+        pattern.push('-')?;
+        pattern.push(char::from(greatest))?;
+        return pattern.push(']');
+    }
+    pattern.push(char::from(greatest))
+}

@@ -1,0 +1,15 @@
+//! A JSON Schema of the texts that are read at a format: what `bcs schema` prints.
+#![tactic(auto)]
+
+mod containers;
+mod decimals;
+mod definitions;
+mod digits;
+mod formats;
+mod lists;
+mod pieces;
+mod references;
+mod schema;
+mod whole_numbers;
+
+pub use schema::schema_text;
