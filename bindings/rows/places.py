@@ -17,7 +17,7 @@ from words import Unsayable, bytes_of, bytes_of_digits, format_of
 LINE = re.compile(r'2 "(?:.*\\n)?refused: (?P<fault>\w+)(?: at \d+)?\\n" (?:in (?P<of>\w+), )?at (?P<place>.*?): (?P=fault): (?P<words>.*)')
 UNTOLD = re.compile(r"(?:FORMAT|PATH|NAME)\b|the whole input$|byte \d+ of the input$|.*\.\.\.\(cut\)")
 GROWTH_FAULTS = ("Missing", "Changed", "VariantMissing", "VariantChanged")
-ON_REGISTRIES = ("check", "grows", "show", "example")
+ON_REGISTRIES = ("check", "grows", "show", "example", "schema")
 ON_BYTES = ("decode", "part", "scan")
 # What the program says of the limits behind the words.
 LIMIT = re.compile(r"; --(?:depth|nodes) allows \d+$")

@@ -24,7 +24,7 @@ const COMMANDS = {
   part: { words: [...VALUE, 'PATH'], more: ['FILE'], options: [...LIMITS, ...CODINGS], beyond: ['lines'] },
   scan: { words: VALUE, more: ['FILE'], options: [...LIMITS, ...CODINGS, 'front'], beyond: ['lines'] },
 };
-const COMMANDS_BEYOND = ['show', 'example'];
+const COMMANDS_BEYOND = ['show', 'example', 'schema'];
 
 const MOST = { depth: 500, nodes: 0xffffffff };
 const SHORT_HELP = { '-h': '--help', '-V': '--version' };

@@ -20,7 +20,7 @@ use Rattle.hex.specs.Hex.{decode_of}
 use Rattle.hex.specs.declared.error.FromHexError.{FromHexError}
 use Rattle.hex.specs.declared.error.FromHexError.TheVariants.{OutOfMemory}
 use Rattle.serde_json.specs.Data.{depth}
-use Rattle.bcs_tool_answers.specs.Answers.{Answers, AnswersTexts, IsAsked, checked, compared, damaged, decoded, different, encoded, equal, exampled, explained, first_refused, found, front_stopped, grown, no_bytes, normalised, nowhere, refusal_line, refused, refused_early, scan_stopped, scanned, second_refused, stopped, too_nested}
+use Rattle.bcs_tool_answers.specs.Answers.{Answers, AnswersTexts, IsAsked, checked, compared, damaged, decoded, described, different, encoded, equal, exampled, explained, first_refused, found, front_stopped, grown, no_bytes, normalised, nowhere, refusal_line, refused, refused_early, scan_stopped, scanned, second_refused, stopped, too_nested}
 use Rattle.bcs_tool_answers.specs.Answers as answers
 use Rattle.bcs_tool_answers.specs.Places.{IsAnswer, Places, Prints, Tells, nothing, told}
 use Rattle.bcs_tool_answers.specs.Judging.{RefusesAt, RefusesFormatted, RefusesPart, works_on_values}
@@ -32,7 +32,7 @@ use Rattle.bcs_tool_answers.specs.declared.judging.Asked.{Asked}
 use Rattle.bcs_tool_command_line.specs.Files.{size_limit}
 use Rattle.bcs_tool_command_line.specs.declared.work.Work.{Work}
 use Rattle.bcs_tool_command_line.specs.declared.command.Command.{Command}
-use Rattle.bcs_tool_command_line.specs.declared.command.Command.TheVariants.{Check, Grows, Show, Example, Encode, Decode, Explain, Normalise, Same, Part, Scan}
+use Rattle.bcs_tool_command_line.specs.declared.command.Command.TheVariants.{Check, Grows, Show, Example, Schema, Encode, Decode, Explain, Normalise, Same, Part, Scan}
 
 places_of : {work : Work} {input place : List ℕ} → Tells work place → Places work input place
 places_of (inl none) = nothing none
@@ -102,6 +102,7 @@ refuses_formatted Check work fault on h = cc
 refuses_formatted Grows work fault on h = cc
 refuses_formatted Show work fault on h = cc
 refuses_formatted Example work fault on h = cc
+refuses_formatted Schema work fault on h = cc
 refuses_formatted Encode work fault on h = h
 refuses_formatted Decode work fault on h = h
 refuses_formatted Explain work fault on h = h
@@ -132,6 +133,7 @@ status_below work input s p (checked r k h) = omega arith
 status_below work input s p (grown o n l k a b h c) = omega arith
 status_below work input s p (answers.shown r t k h n) = omega arith
 status_below work input s p (exampled r f z t a h) = omega (arith, h)
+status_below work input s p (described r f t a) = omega arith
 status_below work input s p (encoded r f b k h) = omega arith
 status_below work input s p (normalised r f t k h) = omega arith
 status_below work input s p (refused c r f e o k h) = omega arith

@@ -166,6 +166,7 @@ one_refusal command.Check work e g exact h k = one_check work e g h k
 one_refusal command.Grows work e g exact h k = one_growth work e g h k
 one_refusal command.Show work e g exact h k = absurd exact
 one_refusal command.Example work e g exact h k = absurd exact
+one_refusal command.Schema work e g exact h k = absurd exact
 one_refusal command.Encode work e g exact h k = one_formatted work e g h k
 one_refusal command.Decode work e g exact h k = one_formatted work e g h k
 one_refusal command.Explain work e g exact h k = absurd exact
@@ -182,6 +183,7 @@ unlisted command.Grows work (Growth e) exact h = exact
 unlisted command.Check work (Growth e) exact h = absurd h
 unlisted command.Show work (Growth e) exact h = absurd exact
 unlisted command.Example work (Growth e) exact h = absurd exact
+unlisted command.Schema work (Growth e) exact h = absurd exact
 unlisted command.Encode work (Growth e) exact h = absurd h
 unlisted command.Decode work (Growth e) exact h = absurd h
 unlisted command.Explain work (Growth e) exact h = absurd exact
@@ -206,6 +208,9 @@ module _ (work : Work) where
   pub example_reads_nothing : work.command ≡ command.Example → ReadsInput work → ⊥
   example_reads_nothing is reads = no_values command.Example is refl reads
 
+  pub schema_reads_nothing : work.command ≡ command.Schema → ReadsInput work → ⊥
+  schema_reads_nothing is reads = no_values command.Schema is refl reads
+
   pub growth_reads_nothing : work.command ≡ command.Grows → ReadsInput work → ⊥
   growth_reads_nothing is reads = no_values command.Grows is refl reads
 
@@ -218,6 +223,7 @@ module _ (work : Work) where
   refused_reads_nothing command.Grows fault is h reads = growth_reads_nothing is reads
   refused_reads_nothing command.Show fault is h reads = show_reads_nothing is reads
   refused_reads_nothing command.Example fault is h reads = example_reads_nothing is reads
+  refused_reads_nothing command.Schema fault is h reads = schema_reads_nothing is reads
   refused_reads_nothing command.Encode fault is h reads = not_valued fault h reads
   refused_reads_nothing command.Decode fault is h reads = not_valued fault h reads
   refused_reads_nothing command.Explain fault is h reads = not_valued fault h reads

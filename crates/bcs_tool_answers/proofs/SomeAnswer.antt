@@ -16,7 +16,7 @@ use Rattle.bcs_json_spec.specs.Shown as value
 use Rattle.bcs_json_spec.specs.Texts.{nesting_limit}
 use Rattle.bcs_json_spec.proofs.SomeText.{some_bytes, some_normal_text, some_shown_text}
 use Rattle.bcs_tool_answers.specs.AnswerLaws.{SomeAnswer}
-use Rattle.bcs_tool_answers.specs.Answers.{Answers, IsAsked, IsWithin, checked, compared, damaged, decoded, encoded, exampled, explained, found, front_stopped, grown, no_bytes, normalised, nowhere, refused, refused_early, scan_stopped, scanned, shown, stopped, too_nested}
+use Rattle.bcs_tool_answers.specs.Answers.{Answers, IsAsked, IsWithin, checked, compared, damaged, decoded, described, encoded, exampled, explained, found, front_stopped, grown, no_bytes, normalised, nowhere, refused, refused_early, scan_stopped, scanned, shown, stopped, too_nested}
 use Rattle.bcs_tool_answers.specs.Input.{Gives}
 use Rattle.bcs_tool_answers.specs.Judging.{IsFormat, IsPath, IsRegistry, RefusesAt, name_of, works_on_values}
 use Rattle.bcs_tool_answers.specs.declared.job_fault.JobFault.{JobFault}
@@ -72,6 +72,12 @@ module _ (work : Work) (input : List ℕ) where
   some_example is = elim (some_formatted work) [
     | inr h ↦ refused_words command.Example is h.0 h.1
     | inl h ↦ (_, _, exampled h.0 h.1 0 [] (record { is_command = is; is_registry = h.2; is_format = h.3 }) (inl refl))
+  ]
+
+  some_schema : work.command ≡ command.Schema → Answered
+  some_schema is = elim (some_formatted work) [
+    | inr h ↦ refused_words command.Schema is h.0 h.1
+    | inl h ↦ (_, _, described h.0 h.1 [] (record { is_command = is; is_registry = h.2; is_format = h.3 }))
   ]
 
   -- ---- an input, at a format of a registry
@@ -190,6 +196,7 @@ module _ (work : Work) (input : List ℕ) where
   of_command are within command.Grows is = some_grows is
   of_command are within command.Show is = some_show is
   of_command are within command.Example is = some_example is
+  of_command are within command.Schema is = some_schema is
   of_command are within command.Encode is = valued command.Encode refl refl within some_encode is
   of_command are within command.Decode is = valued command.Decode refl refl within (λ r s registry asked. some_decode r s registry are asked) is
   of_command are within command.Explain is = valued command.Explain refl refl within (λ r s registry asked. some_explain r s registry are asked) is

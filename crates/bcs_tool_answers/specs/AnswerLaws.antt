@@ -17,6 +17,7 @@ abbrev pub IsExact : Command → Bool → Type 0
 IsExact command.Grows listed = listed ≡ false
 IsExact command.Show listed = ⊥
 IsExact command.Example listed = ⊥
+IsExact command.Schema listed = ⊥
 IsExact command.Explain listed = ⊥
 IsExact other listed = Unit {0}
 

@@ -89,9 +89,9 @@ IsOneText asked = (asked ≡ command.Encode) ⊎ (asked ≡ command.Normalise)
 abbrev pub TakesBytes : Command → Type 0
 TakesBytes asked = (asked ≡ command.Decode) ⊎ (asked ≡ command.Part) ⊎ (asked ≡ command.Explain) ⊎ (asked ≡ command.Scan)
 
--- the job is for an example of this format
-pub record AsksExample (work : Work) (registry : Entries) (s : Shape) : Type 0 where
-  pub is_command : work.command ≡ command.Example
+-- the job is for this command on this format, and has no input
+pub record AsksOfFormat (work : Work) (asked : Command) (registry : Entries) (s : Shape) : Type 0 where
+  pub is_command : work.command ≡ asked
   pub is_registry : IsRegistry work.registry.items registry
   pub is_format : IsFormat registry (string_bytes work.format) s
 
@@ -121,7 +121,9 @@ pub data Answers (work : Work) (input : List ℕ) : ℕ → List ℕ → Type 0 
   -- `show`: a text for reading, where NAME, if it is given, is that of a container
   shown : (registry : Entries) (text : List ℕ) → work.command ≡ command.Show → IsRegistry work.registry.items registry → (NamesNone (name_of work) registry → ⊥) → Answers work input 0 text
   -- `example`: done with an example for reading, or refused since there is none. Only that the words are good is promised
-  exampled : (registry : Entries) (s : Shape) (status : ℕ) (output : List ℕ) → AsksExample work registry s → (status ≡ 0) ⊎ (status ≡ 2) → Answers work input status output
+  exampled : (registry : Entries) (s : Shape) (status : ℕ) (output : List ℕ) → AsksOfFormat work command.Example registry s → (status ≡ 0) ⊎ (status ≡ 2) → Answers work input status output
+  -- `schema`: a text for reading, where the words are good
+  described : (registry : Entries) (s : Shape) (text : List ℕ) → AsksOfFormat work command.Schema registry s → Answers work input 0 text
   -- `encode`: the bytes of the value that the text denotes
   encoded : (registry : Entries) (s : Shape) (bytes : List ℕ) → IsAsked work input command.Encode registry s → HasBytes registry work.limits s input bytes → Answers work input 0 (printed work.coding bytes)
   -- `normalise`: its normal text

@@ -81,6 +81,7 @@ works_on_values command.Check = false
 works_on_values command.Grows = false
 works_on_values command.Show = false
 works_on_values command.Example = false
+works_on_values command.Schema = false
 works_on_values other = true
 
 -- the command judges bytes alone, and makes nothing of them

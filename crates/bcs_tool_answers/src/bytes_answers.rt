@@ -138,6 +138,7 @@ fn answer_bytes(
         | Command::Grows
         | Command::Show
         | Command::Example
+        | Command::Schema
         | Command::Encode
         | Command::Normalise
         | Command::Same => unreachable!(),

@@ -1,7 +1,7 @@
 //! An example of a format.
 ghost use Rattle.std.specs.Prelude.{◌≡◌, ℕ, List, IfOk};
 ghost use Rattle.bcs_registry_model.specs.View.{shape_of};
-ghost use Rattle.bcs_tool_answers.specs.Answers.{AsksExample};
+ghost use Rattle.bcs_tool_answers.specs.Answers.{AsksOfFormat};
 ghost use Rattle.bcs_tool_answers.specs.Places.{IsAnswer, Prints};
 
 use crate::answer::{Answer, refused, shown};
@@ -30,7 +30,7 @@ fn answer_wish(
     registry: &Registry,
     format: &Format,
 ) -> Result<Answer, AllocError>
-    requires asks { AsksExample work.now registry.now (shape_of format.now) }
+    requires asks { AsksOfFormat work.now Command.Example registry.now (shape_of format.now) }
     ensures { IfOk result (λ a. (bytes : List ℕ) → IsAnswer work.now bytes a) }
 {
     let wish = Wish {

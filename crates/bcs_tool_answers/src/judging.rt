@@ -84,6 +84,7 @@ fn judge_path(alloc: Global, work: &Work) -> Result<Vec<PathStep>, PathFault>
         | Command::Grows
         | Command::Show
         | Command::Example
+        | Command::Schema
         | Command::Encode
         | Command::Decode
         | Command::Explain

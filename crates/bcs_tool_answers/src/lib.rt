@@ -17,6 +17,7 @@ mod places;
 mod preparing;
 mod refusing;
 mod scan_answers;
+mod schemas;
 mod showing;
 mod stop_answers;
 mod text_places;

@@ -9,6 +9,7 @@ use crate::examples::answer_example;
 use crate::growing::answer_growth;
 use crate::judging::{Asked, judge_asked, judge_check};
 use crate::refusing::refused_words;
+use crate::schemas::answer_schema;
 use crate::showing::answer_show;
 use bcs_tool_command_line::{Command, Work};
 use std::alloc::{AllocError, Global};
@@ -31,6 +32,7 @@ pub fn prepare(alloc: Global, work: &Work) -> Result<Prepared, AllocError>
         Command::Grows => Ok(Prepared::Answered(answer_growth(alloc, work)?)),
         Command::Show => Ok(Prepared::Answered(answer_show(alloc, work)?)),
         Command::Example => Ok(Prepared::Answered(answer_example(alloc, work)?)),
+        Command::Schema => Ok(Prepared::Answered(answer_schema(alloc, work)?)),
         Command::Encode
         | Command::Decode
         | Command::Explain

@@ -81,6 +81,7 @@ fn registry_line(
         }
         Command::Show => name_line(alloc, work),
         Command::Example
+        | Command::Schema
         | Command::Encode
         | Command::Decode
         | Command::Explain

@@ -84,7 +84,7 @@ depths =
           (
             (no id q _ refl, (no id q _ refl, (λ same. record { action = refl; parser = refl; exact = refl; defaults = refl }, none id q (drop 3 (rules_at 3)) refl))),
             (
-              (no id q _ refl, (no id q _ refl, (λ same. record { action = refl; parser = refl; exact = refl; defaults = refl }, none id q (drop 3 (rules_at 4)) refl))),
+              none id q (rules_at 4) refl,
               (
                 (no id q _ refl, (no id q _ refl, (λ same. record { action = refl; parser = refl; exact = refl; defaults = refl }, none id q (drop 3 (rules_at 5)) refl))),
                 (
@@ -98,8 +98,11 @@ depths =
                         (
                           (no id q _ refl, (no id q _ refl, (λ same. record { action = refl; parser = refl; exact = refl; defaults = refl }, none id q (drop 3 (rules_at 10)) refl))),
                           (
-                            none id q (rules_at 11) refl,
-                            tt,
+                            (no id q _ refl, (no id q _ refl, (λ same. record { action = refl; parser = refl; exact = refl; defaults = refl }, none id q (drop 3 (rules_at 11)) refl))),
+                            (
+                              none id q (rules_at 12) refl,
+                              tt,
+                            ),
                           ),
                         ),
                       ),
@@ -125,7 +128,7 @@ nodes =
           (
             (no id q _ refl, (no id q _ refl, (no id q _ refl, (λ same. record { action = refl; parser = refl; exact = refl; defaults = refl }, none id q (drop 4 (rules_at 3)) refl)))),
             (
-              (no id q _ refl, (no id q _ refl, (no id q _ refl, (λ same. record { action = refl; parser = refl; exact = refl; defaults = refl }, none id q (drop 4 (rules_at 4)) refl)))),
+              none id q (rules_at 4) refl,
               (
                 (no id q _ refl, (no id q _ refl, (no id q _ refl, (λ same. record { action = refl; parser = refl; exact = refl; defaults = refl }, none id q (drop 4 (rules_at 5)) refl)))),
                 (
@@ -139,8 +142,11 @@ nodes =
                         (
                           (no id q _ refl, (no id q _ refl, (no id q _ refl, (λ same. record { action = refl; parser = refl; exact = refl; defaults = refl }, none id q (drop 4 (rules_at 10)) refl)))),
                           (
-                            none id q (rules_at 11) refl,
-                            tt,
+                            (no id q _ refl, (no id q _ refl, (no id q _ refl, (λ same. record { action = refl; parser = refl; exact = refl; defaults = refl }, none id q (drop 4 (rules_at 11)) refl)))),
+                            (
+                              none id q (rules_at 12) refl,
+                              tt,
+                            ),
                           ),
                         ),
                       ),

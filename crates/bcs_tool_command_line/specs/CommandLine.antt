@@ -68,6 +68,9 @@ variant_option = text_option (codes "variant")
 abbrev pub example_app : App
 example_app = fold with_rule (value_app (codes "example")) (variant_option ∷ flag_option (codes "full") ∷ [])
 
+abbrev pub schema_app : App
+schema_app = command_with (codes "schema") (required (codes "REG") ∷ required (codes "FORMAT") ∷ quiet_option ∷ [])
+
 -- whether each line of the input is an input of its own
 abbrev pub lines_option : Rule
 lines_option = flag_option (codes "lines")
@@ -119,7 +122,7 @@ tells_version = on_top (λ s. record s { has_version = true })
 
 abbrev pub bcs_app : App
 bcs_app = fold (λ program command. with_subcommand program command.top) (wants_command (tells_version (new_app (codes "bcs"))))
-    (check_app ∷ grows_app ∷ show_app ∷ example_app ∷ encode_app ∷ decode_app ∷ explain_app ∷ normalise_app ∷ same_app ∷ part_app ∷ scan_app ∷ [])
+    (check_app ∷ grows_app ∷ show_app ∷ example_app ∷ schema_app ∷ encode_app ∷ decode_app ∷ explain_app ∷ normalise_app ∷ same_app ∷ part_app ∷ scan_app ∷ [])
 
 -- the words as texts
 abbrev pub texts_of : List (String Global) → List Text

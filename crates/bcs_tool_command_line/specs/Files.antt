@@ -4,7 +4,7 @@ use Rattle.bcs_look_text.specs.declared.style.Paint.TheVariants.{Plain, Colored}
 use Rattle.bcs_look_text.specs.declared.style.Style.{Style}
 use Rattle.bcs_tool_command_line.specs.declared.color.Color.TheVariants.{Always, Never}
 use Rattle.bcs_tool_command_line.specs.declared.command.Command.{Command}
-use Rattle.bcs_tool_command_line.specs.declared.command.Command.TheVariants.{Check, Grows, Show, Example, Encode, Decode, Explain, Normalise, Same, Part, Scan}
+use Rattle.bcs_tool_command_line.specs.declared.command.Command.TheVariants.{Check, Grows, Show, Example, Schema, Encode, Decode, Explain, Normalise, Same, Part, Scan}
 use Rattle.bcs_tool_command_line.specs.declared.file_fault.FileFault.{FileFault}
 use Rattle.bcs_tool_command_line.specs.declared.file_fault.FileFault.TheVariants as fault
 use Rattle.bcs_tool_command_line.specs.declared.file_refusal.FileRefusal.{FileRefusal}
@@ -117,6 +117,7 @@ module _ {F : Type 0} (remaining : F → Option (List ℕ)) where
   IsSecondOf Grows lines word text = IsTextOf word text
   IsSecondOf Show lines word text = text ≡ []
   IsSecondOf Example lines word text = text ≡ []
+  IsSecondOf Schema lines word text = text ≡ []
   IsSecondOf Encode lines word text = text ≡ []
   IsSecondOf Decode lines word text = text ≡ []
   IsSecondOf Explain lines word text = text ≡ []

@@ -13,7 +13,7 @@ use Rattle.bcs_tool_command_line.specs.declared.coding.Coding.TheVariants.{Hexad
 use Rattle.bcs_tool_command_line.specs.declared.color.Color.{Color}
 use Rattle.bcs_tool_command_line.specs.declared.color.Color.TheVariants.{Auto, Always, Never}
 use Rattle.bcs_tool_command_line.specs.declared.command.Command.{Command}
-use Rattle.bcs_tool_command_line.specs.declared.command.Command.TheVariants.{Check, Grows, Show, Example, Encode, Decode, Explain, Normalise, Same, Part, Scan}
+use Rattle.bcs_tool_command_line.specs.declared.command.Command.TheVariants.{Check, Grows, Show, Example, Schema, Encode, Decode, Explain, Normalise, Same, Part, Scan}
 use Rattle.bcs_tool_command_line.specs.declared.job.Job.{Job}
 
 -- the command of a name
@@ -22,13 +22,14 @@ command_named name = if bytes_eq name (codes "check") then Some Check
     else (if bytes_eq name (codes "grows") then Some Grows
     else (if bytes_eq name (codes "show") then Some Show
     else (if bytes_eq name (codes "example") then Some Example
+    else (if bytes_eq name (codes "schema") then Some Schema
     else (if bytes_eq name (codes "encode") then Some Encode
     else (if bytes_eq name (codes "decode") then Some Decode
     else (if bytes_eq name (codes "explain") then Some Explain
     else (if bytes_eq name (codes "normalise") then Some Normalise
     else (if bytes_eq name (codes "same") then Some Same
     else (if bytes_eq name (codes "part") then Some Part
-    else (if bytes_eq name (codes "scan") then Some Scan else None))))))))))
+    else (if bytes_eq name (codes "scan") then Some Scan else None)))))))))))
 
 -- the text of a word, which is empty where there is none
 abbrev pub text_or_empty : Option Text → Text

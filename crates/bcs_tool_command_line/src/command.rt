@@ -13,6 +13,8 @@ pub enum Command {
     Show,
     /// `example`: makes a value of a format, and prints its JSON text.
     Example,
+    /// `schema`: prints the JSON Schema of the JSON texts of a format.
+    Schema,
     /// `encode`: turns a value's JSON text into its bytes.
     Encode,
     /// `decode`: turns a value's bytes into its JSON text.
@@ -39,6 +41,7 @@ impl Command {
             "grows" => Some(Command::Grows),
             "show" => Some(Command::Show),
             "example" => Some(Command::Example),
+            "schema" => Some(Command::Schema),
             "encode" => Some(Command::Encode),
             "decode" => Some(Command::Decode),
             "explain" => Some(Command::Explain),

@@ -2,7 +2,7 @@
 ghost use Rattle.std.specs.Prelude.{◌≡◌, IfOk, codes, false, fold};
 ghost use Rattle.clap.specs.Words.{app_of, rule_of, with_rule};
 ghost use Rattle.clap.specs.declared.builder.command.Command.TheViews.{out-Command};
-ghost use Rattle.bcs_tool_command_line.specs.CommandLine.{bcs_app, check_app, coding_options, color_options, decode_app, encode_app, example_app, explain_app, flag_option, form_options, growth_options, grows_app, input_options, lines_option, normalise_app, number_option, optional, part_app, quiet_option, required, same_app, scan_app, show_app, show_options, value_app, value_options, variant_option};
+ghost use Rattle.bcs_tool_command_line.specs.CommandLine.{bcs_app, check_app, coding_options, color_options, decode_app, encode_app, example_app, explain_app, flag_option, form_options, growth_options, grows_app, input_options, lines_option, normalise_app, number_option, optional, part_app, quiet_option, required, same_app, scan_app, schema_app, show_app, show_options, value_app, value_options, variant_option};
 
 use crate::texts;
 use crate::version::VERSION;
@@ -22,6 +22,7 @@ pub fn bcs_command<'a>(alloc: Global) -> Result<Command<'a>, AllocError>
         .subcommand(grows_command(alloc)?)?
         .subcommand(show_command(alloc)?)?
         .subcommand(example_command(alloc)?)?
+        .subcommand(schema_command(alloc)?)?
         .subcommand(encode_command(alloc)?)?
         .subcommand(decode_command(alloc)?)?
         .subcommand(explain_command(alloc)?)?
@@ -95,6 +96,18 @@ fn example_command<'a>(alloc: Global) -> Result<Command<'a>, AllocError>
         .after_help(texts::EXAMPLE_END)
         .arg(variant_option(alloc))?
         .arg(flag(alloc, "full", texts::FULL))
+}
+
+fn schema_command<'a>(alloc: Global) -> Result<Command<'a>, AllocError>
+    ensures app { IfOk result (λ c. app_of c ≡ schema_app) }
+    ensures global { IfOk result (λ c. (out-Command c).has_globals ≡ false) }
+{
+    Command::new(alloc, "schema")
+        .about("Prints a JSON Schema of the JSON texts of a format's values")
+        .after_help(texts::SCHEMA_END)
+        .arg(required_word(alloc, "REG", texts::REGISTRY))?
+        .arg(required_word(alloc, "FORMAT", texts::FORMAT))?
+        .arg(quiet_option(alloc))
 }
 
 fn encode_command<'a>(alloc: Global) -> Result<Command<'a>, AllocError>

@@ -141,6 +141,7 @@ fn read_second<R: Files + AllocGlobal>(
         Command::Check
         | Command::Show
         | Command::Example
+        | Command::Schema
         | Command::Encode
         | Command::Decode
         | Command::Explain

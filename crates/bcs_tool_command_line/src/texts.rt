@@ -125,6 +125,11 @@ pub const EXAMPLE_END: &str = "Example:
 
 Status: 0 done, 2 refused, 3 usage, 4 file or memory";
 
+pub const SCHEMA_END: &str = "Example:
+  bcs schema '{}' '\"BOOL\"' | grep boolean | xargs  # type: boolean
+
+Status: 0 done, 2 refused, 3 usage, 4 file or memory";
+
 pub const ENCODE_END: &str = "Example:
   echo -4660 | bcs encode '{}' '\"I16\"'  # cced
 

@@ -1,4 +1,4 @@
-use Rattle.bcs_tool_answers.proofs.OneRefusal.{check_reads_nothing, example_reads_nothing, growth_reads_nothing, show_reads_nothing}
+use Rattle.bcs_tool_answers.proofs.OneRefusal.{check_reads_nothing, example_reads_nothing, growth_reads_nothing, schema_reads_nothing, show_reads_nothing}
 use Rattle.bcs_tool_answers.proofs.preparing.prepare.Goals as goal
 
 pub returns-in_ok-answer_check-in-Check : goal.returns-in_ok-answer_check-in-Check
@@ -12,3 +12,6 @@ returns-in_ok-answer_show-in-Show c = (show_reads_nothing c.args.work.now c.in-S
 
 pub returns-in_ok-answer_example-in-Example : goal.returns-in_ok-answer_example-in-Example
 returns-in_ok-answer_example-in-Example c = (example_reads_nothing c.args.work.now c.in-Example.is, c.in_ok-answer_example-in-Example.ensures)
+
+pub returns-in_ok-answer_schema-in-Schema : goal.returns-in_ok-answer_schema-in-Schema
+returns-in_ok-answer_schema-in-Schema c = (schema_reads_nothing c.args.work.now c.in-Schema.is, c.in_ok-answer_schema-in-Schema.ensures)

@@ -28,18 +28,20 @@ returns c =
     c.in_ok-show_command.ensures.global grows c.in_ok-show_command.ensures.app in
     let example = added _ _ _ c.in_ok-subcommand-4.ensures
     c.in_ok-example_command.ensures.global show c.in_ok-example_command.ensures.app in
-    let encode = added _ _ _ c.in_ok-subcommand-5.ensures
-    c.in_ok-encode_command.ensures.global example c.in_ok-encode_command.ensures.app in
-    let decode = added _ _ _ c.in_ok-subcommand-6.ensures
+    let schema = added _ _ _ c.in_ok-subcommand-5.ensures
+    c.in_ok-schema_command.ensures.global example c.in_ok-schema_command.ensures.app in
+    let encode = added _ _ _ c.in_ok-subcommand-6.ensures
+    c.in_ok-encode_command.ensures.global schema c.in_ok-encode_command.ensures.app in
+    let decode = added _ _ _ c.in_ok-subcommand-7.ensures
     c.in_ok-decode_command.ensures.global encode c.in_ok-decode_command.ensures.app in
-    let explain = added _ _ _ c.in_ok-subcommand-7.ensures
+    let explain = added _ _ _ c.in_ok-subcommand-8.ensures
     c.in_ok-explain_command.ensures.global decode c.in_ok-explain_command.ensures.app in
-    let normalise = added _ _ _ c.in_ok-subcommand-8.ensures
+    let normalise = added _ _ _ c.in_ok-subcommand-9.ensures
     c.in_ok-normalise_command.ensures.global explain c.in_ok-normalise_command.ensures.app in
-    let same = added _ _ _ c.in_ok-subcommand-9.ensures
+    let same = added _ _ _ c.in_ok-subcommand-10.ensures
     c.in_ok-same_command.ensures.global normalise c.in_ok-same_command.ensures.app in
-    let part = added _ _ _ c.in_ok-subcommand-10.ensures
+    let part = added _ _ _ c.in_ok-subcommand-11.ensures
     c.in_ok-part_command.ensures.global same c.in_ok-part_command.ensures.app in
-    IfOk-weaker c.subcommand-11.result _ _
+    IfOk-weaker c.subcommand-12.result _ _
     (λ r h. added _ _ r h c.in_ok-scan_command.ensures.global part c.in_ok-scan_command.ensures.app)
-    c.subcommand-11.ensures
+    c.subcommand-12.ensures

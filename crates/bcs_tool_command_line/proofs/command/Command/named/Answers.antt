@@ -13,6 +13,9 @@ returns-in-show c = search rules
 pub returns-in-example : goal.returns-in-example
 returns-in-example c = search rules
 
+pub returns-in-schema : goal.returns-in-schema
+returns-in-schema c = search rules
+
 pub returns-in-encode : goal.returns-in-encode
 returns-in-encode c = search rules
 
