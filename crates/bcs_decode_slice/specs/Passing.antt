@@ -1,6 +1,5 @@
 -- What going past a part of the bytes says of the cursor.
-use Rattle.std.specs.Prelude.{◌≡◌, ℕ, zero, suc, ◌+◌, ◌≤◌, Bool, List, Option, Some, None, length, Result, Ok, Err}
-use Rattle.std.specs.Borrow.{Bor}
+use Rattle.std.specs.Prelude.{◌≡◌, ℕ, zero, suc, ◌+◌, ◌≤◌, Bool, length, Result, Ok, Err}
 use Rattle.bcs_registry_model.specs.Shape.{Shape}
 use Rattle.bcs_registry_model.specs.Container.{Entries}
 use Rattle.bcs_decode_slice.specs.declared.cursor.Cursor.{Cursor}
@@ -17,15 +16,6 @@ Passes view (Err s) f old new = f old.place old.nodes old.rest.now ≡ Err (s.re
 -- bytes are only gone past
 abbrev pub Onward : Cursor → Cursor → Type 0
 Onward old new = (new.place + length new.rest.now ≡ old.place + length old.rest.now) × (old.place ≤ new.place)
-
--- a test that reads nothing
-abbrev pub Judges : Result (Unit {0}) Stop → Parser (Unit {0}) → Type 0
-Judges (Ok u) f = (p m : ℕ) (b : List ℕ) → f p m b ≡ Ok (tt, p, m, b)
-Judges (Err s) f = (p m : ℕ) (b : List ℕ) → f p m b ≡ Err (s.reason, s.place)
-
-abbrev pub key_bytes : Option (Bor (List ℕ)) → Option (List ℕ)
-key_bytes None = None
-key_bytes (Some k) = Some k.now
 
 -- a node begins, and nothing is read
 abbrev pub node_here : Parser (Unit {0})

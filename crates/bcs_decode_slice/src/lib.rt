@@ -4,7 +4,6 @@
 pub mod cursor;
 pub mod fixed_row;
 mod fixed_size;
-pub mod key_order;
 pub mod measuring;
 pub mod named_container;
 pub mod scanning;

@@ -7,17 +7,18 @@ ghost use Rattle.bcs_registry_model.specs.Shape.{name as name_shape, tuple as tu
 ghost use Rattle.bcs_registry_model.specs.View.{shape_of, formats_shapes, field_of, payload_of, container_of};
 ghost use Rattle.bcs_registry_model.specs.WellFormed.{IsWellFormed};
 ghost use Rattle.bcs_decode_spec.specs.Reading.{content_here, items_here, key_here, named_here, pairs_here, skipping};
-ghost use Rattle.bcs_decode_slice.specs.Passing.{Passes, Onward, key_bytes, skip};
+ghost use Rattle.bcs_keys.specs.Following.{key_bytes};
+ghost use Rattle.bcs_decode_slice.specs.Passing.{Passes, Onward, skip};
 
 use crate::cursor::{Cursor, node};
 use crate::fixed_row::fixed_row;
-use crate::key_order::follows;
 use crate::named_container::named_container;
 use crate::shallow::{
     bytes_value, counted, enter, flag_value, text_value, truth, unsupported, variant_number, whole,
 };
 use crate::whole_row::{whole_row, whole_width};
 use bcs_decode_spec::{Reason, Stop};
+use bcs_keys::following::follows;
 use bcs_registry::{Container, Format, Named, Registry, VariantFormat};
 
 /// Goes past a value of the format, inside which so many containers may open.

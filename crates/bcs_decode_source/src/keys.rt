@@ -4,8 +4,8 @@ ghost use Rattle.bcs_decode_spec.specs.Reading.{key_after};
 ghost use Rattle.bcs_decode_source.specs.Kept.{Judges, SamePlace, Stands, last_bytes};
 
 use crate::at::At;
-use bcs_decode_spec::{DecodeFault, Reason, Stop};
-use std::cmp::Ordering;
+use bcs_decode_spec::DecodeFault;
+use bcs_keys::following::follows;
 
 /// The keys of a map that is being read, among the bytes that are kept.
 #[derive(Drop)]
@@ -42,25 +42,18 @@ pub fn follow(at: &mut At, keys: &mut MapKeys, from: usize, start: u64) -> Resul
 }
 
 /// Whether the key that is kept from `from` on may follow the last one.
-#[tactic(auto, unfolding(bcs_decode_spec::specs::Reading::key_after, bcs_decode_spec::specs::Reading::give, bcs_decode_spec::specs::Reading::fail))]
 fn judge(keys: &MapKeys, kept: &[u8], from: usize, start: u64) -> Result<(), DecodeFault>
     requires stands { Stands keys.now.last keys.now.begun from }
     requires long { from ≤ length kept.now }
     ensures judges { Judges result (key_after (last_bytes keys.now.last kept.now) (drop from kept.now) start) start }
 {
-    let Some(last) = keys.last else {
-        return Ok(());
+    let last = match keys.last {
+        Some(last) => Some(&kept[last.from..last.to]),
+        None => None,
     };
-    match kept[last.from..last.to].cmp(&kept[from..]) {
-        Ordering::Less => Ok(()),
-        Ordering::Equal => Err(DecodeFault::Stop(Stop {
-            reason: Reason::KeyRepeated,
-            place: start,
-        })),
-        Ordering::Greater => Err(DecodeFault::Stop(Stop {
-            reason: Reason::KeyOrder,
-            place: start,
-        })),
+    match follows(last, &kept[from..], start) {
+        Ok(()) => Ok(()),
+        Err(stop) => Err(DecodeFault::Stop(stop)),
     }
 }
 

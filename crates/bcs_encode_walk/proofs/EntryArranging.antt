@@ -1,14 +1,14 @@
 -- Entries that were sorted by their keys' bytes are those that were put in order one by one.
-use Rattle.std.proofs.Common.{◌≡◌, ℕ, ◌≤◌, true, false, List, [], ◌∷◌, ◌++◌, length, refl, sym, subst, arith, inl, inr, ◌⊎◌, Ok, Err}
+use Rattle.std.proofs.Common.{◌≡◌, ℕ, true, false, List, [], ◌∷◌, ◌++◌, refl, arith, inl, inr, ◌⊎◌, Ok, Err}
 use Rattle.std.specs.List.{flat_map}
 use Rattle.std.specs.List.Sorted.{IsPermutation}
-use Rattle.std.specs.Str.{bytes_eq}
-use Rattle.std.proofs.lemmas.Bool.{cases_Bool, and_parts, or_left, or_right, true≢false}
+use Rattle.std.proofs.lemmas.Bool.{cases_Bool, and_parts}
 use Rattle.std.proofs.lemmas.List.Sorted.{IsPermutation-refl, IsPermutation-sym, IsPermutation-trans, IsPermutation-cons, IsPermutation-swap}
-use Rattle.bcs_value_model.proofs.Equivalence.{bytes-same, bytes-refl}
+use Rattle.bcs_keys.proofs.Twins.{rising_no_twins, twins_found}
 use Rattle.bcs_encode_spec.specs.Canonical.{Below}
 use Rattle.bcs_encode_spec.specs.Entries.{Keyed, Entry, entry_bytes, EntriesRiseFrom, EntriesRise, HasTwins}
-use Rattle.bcs_encode_walk.specs.Writing.{is_below, insert_in_order, in_order, has_twins, keys_rise, sorted_entries_written}
+use Rattle.bcs_keys.specs.Order.{is_below, keys_rise}
+use Rattle.bcs_encode_walk.specs.Writing.{insert_in_order, in_order, sorted_entries_written}
 use Rattle.bcs_encode_spec.specs.declared.fault.EncodeFault.TheVariants.{RepeatedKey}
 use Rattle.bcs_encode_spec.proofs.BelowLaws.{order, not_below, Below-is_lt}
 use Rattle.bcs_encode_spec.proofs.EntryOrder.{rising_once, twins_twice, once_moved, moved, rising_alike}
@@ -98,28 +98,6 @@ module _ {V : Type 0} where
         (once_moved (in_order es) es (IsPermutation-sym es (in_order es) (in_order_moves es)) (once_moved es rs p (rising_once rs up))))
   ]
 
--- ---- the test for neighbours with one key
-
-pub twins_found : (es : List Entry) → HasTwins es → has_twins es ≡ true
-twins_found [] h = absurd h
-twins_found (e ∷ []) h = absurd h
-twins_found (e ∷ d ∷ es) (inl is) = or_left (bytes_eq e.0 d.0) (has_twins (d ∷ es)) (subst (λ (x : List ℕ). bytes_eq e.0 x ≡ true) is (bytes-refl e.0))
-twins_found (e ∷ d ∷ es) (inr more) = or_right (bytes_eq e.0 d.0) (has_twins (d ∷ es)) (twins_found (d ∷ es) more)
-
-found_twins : (es : List Entry) → has_twins es ≡ true → HasTwins es
-found_twins [] h = absurd (true≢false (sym h))
-found_twins (e ∷ []) h = absurd (true≢false (sym h))
-found_twins (e ∷ d ∷ es) h = elim (cases_Bool (bytes_eq e.0 d.0)) [
-  | inl is ↦ inl (bytes-same e.0 d.0 is)
-  | inr isnt ↦ inr (found_twins (d ∷ es) (rw isnt at h))
-]
-
-pub rising_no_twins : (es : List Entry) → EntriesRise es → has_twins es ≡ false
-rising_no_twins es up = elim (cases_Bool (has_twins es)) [
-  | inl is ↦ absurd (twins_twice es (found_twins es is) (rising_once es up))
-  | inr isnt ↦ isnt
-]
-
 -- ---- what is put of them
 
 pub sorted_written : (es rs : List Entry) (b : List ℕ) → IsPermutation es rs → EntriesRise rs → sorted_entries_written es b ≡ Ok (b ++ flat_map entry_bytes rs)
@@ -143,14 +121,3 @@ rise_from e (d ∷ es) h = let p = and_parts (is_below e.0 d.0) (keys_rise (d �
 pub keys_rise_up : (es : List Entry) → keys_rise es ≡ true → EntriesRise es
 keys_rise_up [] h = tt
 keys_rise_up (e ∷ es) h = rise_from e es h
-
-pub few_rise : (es : List Entry) → length es ≤ 1 → keys_rise es ≡ true
-few_rise [] h = refl
-few_rise (e ∷ []) h = refl
-few_rise (e ∷ d ∷ es) h = absurd (omega arith)
-
--- fewer than two entries
-pub few_no_twins : (es : List Entry) → length es ≤ 1 → has_twins es ≡ false
-few_no_twins [] h = refl
-few_no_twins (e ∷ []) h = refl
-few_no_twins (e ∷ d ∷ es) h = absurd (omega arith)

@@ -17,10 +17,12 @@ use Rattle.bcs_value_model.specs.Tree.{Tree, Trees, no_trees, tree, Pairs, no_pa
 use Rattle.bcs_num.specs.Le.{holds_signed}
 use Rattle.bcs_encode_spec.specs.Lengths.{length_limit}
 use Rattle.bcs_encode_spec.specs.Entries.{Entry, entry_bytes, EntriesRiseFrom, EntriesRise, HasTwins}
-use Rattle.bcs_encode_walk.specs.Writing.{Verdict, chain, length_written, in_order, has_twins, sorted_entries_written, shape_count, written, items_written, each_written, entries_written}
-use Rattle.bcs_encode_walk.specs.Laying.{Ordered, lone_key_at, part, span_entry, span}
+use Rattle.bcs_keys.specs.Order.{has_twins}
+use Rattle.bcs_encode_walk.specs.Writing.{Verdict, chain, length_written, in_order, sorted_entries_written, shape_count, written, items_written, each_written, entries_written}
+use Rattle.bcs_keys.specs.Spans.{Ordered, lone_key_at, part}
+use Rattle.bcs_encode_walk.specs.Laying.{span_entry, span}
 use Rattle.bcs_encode_walk.proofs.EntryArranging.{sorted_written, twins_written}
-use Rattle.bcs_encode_walk.specs.declared.spans.Span.{Span}
+use Rattle.bcs_keys.specs.declared.spans.Span.{Span}
 use Rattle.bcs_encode_spec.specs.declared.fault.EncodeFault.{EncodeFault}
 use Rattle.bcs_encode_spec.specs.declared.fault.EncodeFault.TheVariants.{NotOfFormat, RepeatedKey}
 

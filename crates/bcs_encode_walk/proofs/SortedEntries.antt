@@ -9,8 +9,10 @@ use Rattle.std.proofs.lemmas.List.Sorted.{IsPermutation-map}
 use Rattle.bcs_encode_spec.specs.Entries.{Entry, entry_bytes}
 use Rattle.bcs_encode_spec.specs.declared.fault.EncodeFault.TheVariants.{RepeatedKey}
 use Rattle.bcs_encode_spec.proofs.Sorting.{rise_or_twins}
-use Rattle.bcs_encode_walk.specs.Writing.{has_twins, sorted_entries_written}
-use Rattle.bcs_encode_walk.proofs.EntryArranging.{rising_no_twins, sorted_written, twins_found, twins_written}
+use Rattle.bcs_keys.specs.Order.{has_twins}
+use Rattle.bcs_encode_walk.specs.Writing.{sorted_entries_written}
+use Rattle.bcs_keys.proofs.Twins.{rising_no_twins, twins_found}
+use Rattle.bcs_encode_walk.proofs.EntryArranging.{sorted_written, twins_written}
 
 module _ {X : Type 0} (entry : X → Entry) (xs ys : List X) (b : List ℕ) (p : IsPermutation xs ys) (up : IsSortedByKey (λ x. (entry x).0) (slice_cmp nat_cmp) ys) where
   entries_move : IsPermutation (map entry xs) (map entry ys)

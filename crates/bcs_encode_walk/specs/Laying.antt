@@ -1,27 +1,15 @@
 -- The entries of a map: as bytes of their own, and where they stand in a buffer.
-use Rattle.std.specs.Prelude.{ℕ, Bool, true, false, map, ◌&&◌, nat_le, if◌then◌else◌, List, [], length, slice_range}
-use Rattle.bcs_encode_spec.specs.Entries.{Entry, EntriesRise, HasTwins}
+use Rattle.std.specs.Prelude.{ℕ, List}
+use Rattle.bcs_encode_spec.specs.Entries.{Entry}
+use Rattle.bcs_keys.specs.Spans.{part}
 use Rattle.bcs_encode_walk.specs.declared.by_entries.EntryBytes.{EntryBytes}
-use Rattle.bcs_encode_walk.specs.declared.spans.Span.{Span}
+use Rattle.bcs_keys.specs.declared.spans.Span.{Span}
 
 abbrev pub entry_of : EntryBytes → Entry
 entry_of e = (e.key.items, e.value.items)
 
--- the bytes from one place to another, or none where there is no such part
-abbrev pub part : List ℕ → ℕ → ℕ → List ℕ
-part bytes from to = if nat_le from to && nat_le to (length bytes) then slice_range bytes from to else []
-
 abbrev pub span_entry : List ℕ → Span → Entry
 span_entry bytes s = (part bytes s.start s.end, part bytes s.end s.value)
-
--- a key's bytes alone
-abbrev pub lone_key_at : List ℕ → Span → Entry
-lone_key_at bytes z = (part bytes z.start z.end, [])
-
--- the keys rise from each span to the next; or two neighbours are the same
-abbrev pub Ordered : Bool → List ℕ → List Span → Type 0
-Ordered true bytes zs = EntriesRise (map (lone_key_at bytes) zs)
-Ordered false bytes zs = HasTwins (map (lone_key_at bytes) zs)
 
 abbrev pub span : ℕ → ℕ → ℕ → Span
 span from to value = record { start = from; end = to; value = value }

@@ -1,11 +1,8 @@
 -- What the writing of a value makes of the bytes before it: those bytes with the value's after them, or a fault. These
 -- functions carry the proofs of the encoder; the public contracts name `Encodes` and `Refuses` alone.
-use Rattle.std.specs.Prelude.{◌≡◌, ℕ, ℤ, suc, Bool, true, false, ◌||◌, ◌&&◌, ◌==◌, nat_le, if◌then◌else◌, List, [], ◌∷◌, ◌++◌, length, Result, Ok, Err}
+use Rattle.std.specs.Prelude.{◌≡◌, ℕ, ℤ, suc, ◌==◌, nat_le, if◌then◌else◌, List, [], ◌∷◌, ◌++◌, length, Result, Ok, Err}
 use Rattle.std.specs.List.{flat_map}
-use Rattle.std.specs.Str.{bytes_eq}
 use Rattle.std.specs.Int.{Width}
-use Rattle.std.specs.Ordering.{nat_cmp, is_lt}
-use Rattle.std.specs.Cmp.Lexicographic.{slice_cmp}
 use Rattle.bcs_num.specs.Uleb.{uleb}
 use Rattle.bcs_num.specs.Le.{holds_unsigned, holds_signed, le, le_signed}
 use Rattle.bcs_registry_model.specs.Shape as shape
@@ -18,6 +15,7 @@ use Rattle.bcs_encode_spec.specs.Plain.{truth_byte}
 use Rattle.bcs_encode_spec.specs.Entries.{Keyed, Entry, entry_bytes}
 use Rattle.bcs_encode_spec.specs.declared.fault.EncodeFault.{EncodeFault}
 use Rattle.bcs_encode_spec.specs.declared.fault.EncodeFault.TheVariants.{NotOfFormat, TooLong, RepeatedKey, OutOfMemory}
+use Rattle.bcs_keys.specs.Order.{is_below, has_twins}
 
 -- the bytes so far, or the first fault
 abbrev pub Verdict : Type 0
@@ -48,9 +46,6 @@ signed_written w z b = if holds_signed w z then Ok (b ++ le_signed w z) else Err
 
 -- ---- the entries of a map in order
 
-abbrev pub is_below : List ℕ → List ℕ → Bool
-is_below a b = is_lt (slice_cmp nat_cmp a b)
-
 -- before the first entry whose key isn't below
 abbrev pub insert_in_order : {V : Type 0} → Keyed V → List (Keyed V) → List (Keyed V)
 insert_in_order e [] = e ∷ []
@@ -59,18 +54,6 @@ insert_in_order e (d ∷ ds) = if is_below d.0 e.0 then d ∷ insert_in_order e 
 abbrev pub in_order : {V : Type 0} → List (Keyed V) → List (Keyed V)
 in_order [] = []
 in_order (e ∷ es) = insert_in_order e (in_order es)
-
--- two neighbours have one key
-abbrev pub has_twins : List Entry → Bool
-has_twins [] = false
-has_twins (e ∷ []) = false
-has_twins (e ∷ d ∷ es) = bytes_eq e.0 d.0 || has_twins (d ∷ es)
-
--- from each entry to the next, the keys' bytes rise
-abbrev pub keys_rise : List Entry → Bool
-keys_rise [] = true
-keys_rise (e ∷ []) = true
-keys_rise (e ∷ d ∷ es) = is_below e.0 d.0 && keys_rise (d ∷ es)
 
 unfoldable pub sorted_entries_written : List Entry → List ℕ → Verdict
 sorted_entries_written es b = if has_twins (in_order es) then Err RepeatedKey else Ok (b ++ flat_map entry_bytes (in_order es))

@@ -8,7 +8,8 @@ ghost use Rattle.bcs_encode_walk.specs.Writing.{sorted_entries_written};
 ghost use Rattle.bcs_encode_walk.specs.Appends.{is_told, is_whole, rises_after, told};
 
 use crate::output::{Extent, Output};
-use crate::spans::{Span, push_in_order, rise, rises};
+use crate::spans::push_in_order;
+use bcs_keys::spans::{Span, rise, rises};
 use std::alloc::AllocError;
 
 impl Output {

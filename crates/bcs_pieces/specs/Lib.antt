@@ -7,6 +7,5 @@ pub use Rattle.bcs_pieces_spec.specs.Held
 pub use Rattle.bcs_pieces_spec.specs.Pieces
 pub use Rattle.bcs_pieces_spec.specs.Stopped
 pub use Rattle.bcs_pieces_spec.specs.Laws
-pub mod Trail
-pub mod Hearing
-pub mod Leaf
+pub use Rattle.bcs_pieces_walk.specs.Trail
+pub use Rattle.bcs_pieces_walk.specs.Hearing

@@ -10,13 +10,13 @@ ghost use Rattle.bcs_pieces_spec.specs.Held.{of};
 ghost use Rattle.bcs_pieces_spec.specs.Pieces.{pieces};
 ghost use Rattle.bcs_pieces_spec.specs.Stopped.{stopped as stopped_at};
 ghost use Rattle.bcs_pieces_spec.specs.Told.{as_told, halt_told};
-ghost use Rattle.bcs_pieces.specs.Hearing.{Hears};
+ghost use Rattle.bcs_pieces_walk.specs.Hearing.{Hears};
 
-use crate::listener::Listener;
-use crate::trail::top;
-use crate::walking::value;
 use bcs_decode_slice::cursor::Cursor;
 use bcs_decode_spec::Stop;
+use bcs_pieces_walk::listener::Listener;
+use bcs_pieces_walk::trail::top;
+use bcs_pieces_walk::walking::value;
 use bcs_registry::{Format, Registry};
 use bcs_value::Limits;
 

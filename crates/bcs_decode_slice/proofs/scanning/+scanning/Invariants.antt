@@ -4,7 +4,8 @@ use Rattle.bcs_registry_model.specs.Shape.{name as name_shape}
 use Rattle.bcs_registry_model.specs.View.{shape_of, formats_shapes, field_of, payload_of, container_of}
 use Rattle.bcs_registry_model.specs.WellFormed.{levels, shapes_levels}
 use Rattle.bcs_decode_spec.specs.Reading.{items_here, pairs_here, skipping}
-use Rattle.bcs_decode_slice.specs.Passing.{key_bytes, Onward, skip}
+use Rattle.bcs_keys.specs.Following.{key_bytes}
+use Rattle.bcs_decode_slice.specs.Passing.{Onward, skip}
 use Rattle.bcs_decode_slice.proofs.PassingParts.{each}
 use Rattle.bcs_decode_slice.proofs.scanning.+scanning.Given as goal
 

@@ -1,7 +1,7 @@
 use Rattle.std.proofs.Common.{◌-◌, ◌∙◌, arith, map, drop, sym, length-drop}
 use Rattle.std.proofs.lemmas.List.{length-map}
 use Rattle.bcs_encode_walk.specs.Laying.{entry_of}
-use Rattle.bcs_encode_walk.proofs.EntryArranging.{few_no_twins}
+use Rattle.bcs_keys.proofs.Twins.{few_no_twins}
 use Rattle.bcs_encode_walk.proofs.by_entries.have_equal_neighbours.Goals as goal
 
 pub returns : goal.returns

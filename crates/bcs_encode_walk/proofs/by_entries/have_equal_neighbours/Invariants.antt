@@ -1,6 +1,6 @@
 use Rattle.std.proofs.Common.{◌≡◌, ◌-◌, map, drop}
 use Rattle.bcs_encode_walk.specs.Laying.{entry_of}
-use Rattle.bcs_encode_walk.specs.Writing.{has_twins}
+use Rattle.bcs_keys.specs.Order.{has_twins}
 use Rattle.bcs_encode_walk.proofs.by_entries.have_equal_neighbours.Given as goal
 
 abbrev pub invariant-loop-i : goal.invariant-loop-i

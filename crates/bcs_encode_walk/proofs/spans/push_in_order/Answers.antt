@@ -1,7 +1,8 @@
 use Rattle.std.proofs.Common.{◌≡◌, ◌∙◌, ◌+◌, ◌<◌, ℕ, List, Bool, Ok, true, false, ap, length, length-append, map, subst, sym, rules, vec_capacity, vec_len}
 use Rattle.std.specs.List.{flat_map}
 use Rattle.bcs_encode_spec.specs.Entries.{entry_bytes}
-use Rattle.bcs_encode_walk.specs.Laying.{Ordered, span_entry}
+use Rattle.bcs_keys.specs.Spans.{Ordered}
+use Rattle.bcs_encode_walk.specs.Laying.{span_entry}
 use Rattle.bcs_encode_walk.proofs.LayingLaws.{moved_len, ordered_written, repeated_refused}
 use Rattle.bcs_encode_walk.proofs.spans.push_in_order.Goals as goal
 

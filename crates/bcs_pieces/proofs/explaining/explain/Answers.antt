@@ -11,7 +11,7 @@ use Rattle.bcs_pieces_spec.specs.Telling.{tell}
 use Rattle.bcs_pieces_spec.specs.Way.{Way}
 use Rattle.bcs_pieces_spec.proofs.Told.{told_at_an_encoding_is}
 use Rattle.bcs_pieces_spec.proofs.StoppedTold.{told_at_a_stop_is}
-use Rattle.bcs_pieces.proofs.Noted.{hears_as}
+use Rattle.bcs_pieces_walk.proofs.Noted.{hears_as}
 use Rattle.bcs_pieces.proofs.explaining.explain.Goals as goal
 
 pub returns-clause-found : goal.returns-clause-found

@@ -1,0 +1,18 @@
+use Rattle.bcs_pieces_spec.specs.Piece as pieces
+use Rattle.bcs_pieces_walk.specs.Trail.{way_of}
+use Rattle.bcs_decode_slice.specs.Passing.{flag_past}
+use Rattle.bcs_pieces_walk.proofs.Noted.{noted, unnoted, hears_as}
+use Rattle.bcs_pieces_spec.specs.Told as wanted
+use Rattle.bcs_pieces_walk.proofs.leaves.tell_flag.Goals as goal
+
+pub returns-in-Err-clause-hears : goal.returns-in-Err-clause-hears
+returns-in-Err-clause-hears g c =
+    hears_as g.T.Listener.heard g.T.Listener.has_lost c.args.out.now c.halt.new.self _ _
+    (unnoted (way_of c.args.trail.now) pieces.option wanted.option (flag_past c.args.bad) _ _ _ _ c.in-Err.ensures.passes)
+    c.halt.ensures
+
+pub returns-in-Ok-clause-hears : goal.returns-in-Ok-clause-hears
+returns-in-Ok-clause-hears g c =
+    hears_as g.T.Listener.heard g.T.Listener.has_lost c.args.out.now c.tell.new.out _ _
+    (noted (way_of c.args.trail.now) pieces.option wanted.option (flag_past c.args.bad) _ _ _ c.in-Ok.is_set _ _ _ c.in-Ok.ensures.passes)
+    c.tell.ensures

@@ -1,0 +1,3 @@
+pub mod Trail
+pub mod Hearing
+pub mod Leaf
