@@ -1,4 +1,4 @@
-use Rattle.std.proofs.Common.{◌≡◌, ap, sym, ◌∙◌, arith}
+use Rattle.std.proofs.Common.{ap, sym, ◌∙◌, arith}
 use Rattle.bcs_registry_model.proofs.KindShapes.{shape_seen}
 use Rattle.bcs_decode_slice.specs.Passing.{whole_here}
 use Rattle.bcs_decode_slice.proofs.Passings.{past_scalar, nothing_is, whole_len-small}
