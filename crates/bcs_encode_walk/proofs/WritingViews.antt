@@ -6,11 +6,11 @@ use Rattle.std.specs.Map.{lookup}
 use Rattle.std.specs.Option.{option_copied}
 use Rattle.std.specs.BTreeMap.{is_at}
 use Rattle.bcs_num.specs.Uleb.{uleb}
-use Rattle.bcs_registry_model.specs.Shape.{Shape, tuple, seq, array, map as map_shape}
+use Rattle.bcs_registry_model.specs.Shape.{tuple}
 use Rattle.bcs_registry_model.specs.Container.{Entries, of, nothing, content, field_shapes, payload_shape}
 use Rattle.bcs_registry_model.specs.View.{shape_of, formats_shapes, field_of, payload_of, container_of}
 use Rattle.bcs_registry_model.specs.declared.named.Named.{Named}
-use Rattle.bcs_registry_model.specs.declared.format.Format.{Format}
+use Rattle.bcs_registry_model.specs.declared.format.Format.{Format, Map, Seq, TupleArray}
 use Rattle.bcs_registry_model.specs.declared.variant_format.VariantFormat.{VariantFormat}
 use Rattle.bcs_registry_model.specs.declared.container.Container as declared
 use Rattle.bcs_registry_model.specs.declared.container.Container.TheVariants.{Enum}
@@ -21,7 +21,7 @@ use Rattle.bcs_value_model.specs.declared.value.Value.{Value, Items, Pairs, Vari
 use Rattle.bcs_encode_walk.specs.Writing.{Tells, chain, length_written, sorted_entries_written, shape_count, written, items_written, each_written, entries_written}
 use Rattle.bcs_encode_spec.specs.declared.fault.EncodeFault.{EncodeFault}
 use Rattle.bcs_encode_spec.specs.declared.fault.EncodeFault.TheVariants.{NotOfFormat}
-use Rattle.bcs_value_model.proofs.WalkViews.{count_items, count_pairs, at_enum, at_items, at_pairs, choice-found, choice-missing}
+use Rattle.bcs_value_model.proofs.WalkViews.{count_items, count_pairs, at_enum, at_map, at_list, at_array, choice-found, choice-missing}
 
 pub count_formats : (fs : List Format) → shape_count (formats_shapes fs) ≡ length fs
 count_formats [] = refl
@@ -40,28 +40,28 @@ nothing_written r tree.unit b = refl
 nothing_written r _ b = refl
 
 -- a list
-pub list_written : (r : Entries) (v : Value) (f : Format) (vs : Vec Value Global) (element : Shape) (n : ℕ) (b : List ℕ)
-    → v ≡ Items vs → shape_of f ≡ seq element → n ≡ length vs.items
-    → written r (tree_of v) (of (shape_of f)) b ≡ chain (length_written n b) (items_written r (items_trees vs.items) element)
+pub list_written : (r : Entries) (v : Value) (f : Format) (vs : Vec Value Global) (element : Box Format Global) (n : ℕ) (b : List ℕ)
+    → v ≡ Items vs → f ≡ Seq element → n ≡ length vs.items
+    → written r (tree_of v) (of (shape_of f)) b ≡ chain (length_written n b) (items_written r (items_trees vs.items) (shape_of element.value))
 list_written r v f vs element n b e g i =
-    at_items (λ t c. written r t c b) v f vs (seq element) e g
-    ∙ ap (λ (k : ℕ). chain (length_written k b) (items_written r (items_trees vs.items) element)) (count_items vs.items ∙ sym i)
+    at_list (λ t c. written r t c b) v f vs element e g
+    ∙ ap (λ (k : ℕ). chain (length_written k b) (items_written r (items_trees vs.items) (shape_of element.value))) (count_items vs.items ∙ sym i)
 
 -- an array, of another size and of its own
-pub array_refused : (r : Entries) (v : Value) (f : Format) (vs : Vec Value Global) (element : Shape) (size n : ℕ) (b : List ℕ)
-    → v ≡ Items vs → shape_of f ≡ array element size → n ≡ length vs.items → (n ≡ size → ⊥)
+pub array_refused : (r : Entries) (v : Value) (f : Format) (vs : Vec Value Global) (element : Box Format Global) (size n : ℕ) (b : List ℕ)
+    → v ≡ Items vs → f ≡ TupleArray element size → n ≡ length vs.items → (n ≡ size → ⊥)
     → written r (tree_of v) (of (shape_of f)) b ≡ Err NotOfFormat
 array_refused r v f vs element size n b e g i other =
-    at_items (λ t c. written r t c b) v f vs (array element size) e g
-    ∙ ap (λ (x : Bool). if x then items_written r (items_trees vs.items) element b else Err NotOfFormat)
+    at_array (λ t c. written r t c b) v f vs element size e g
+    ∙ ap (λ (x : Bool). if x then items_written r (items_trees vs.items) (shape_of element.value) b else Err NotOfFormat)
     (ap (λ (k : ℕ). k == size) (count_items vs.items ∙ sym i) ∙ ne_eqb n size other)
 
-pub array_written : (r : Entries) (v : Value) (f : Format) (vs : Vec Value Global) (element : Shape) (size n : ℕ) (b : List ℕ)
-    → v ≡ Items vs → shape_of f ≡ array element size → n ≡ length vs.items → n ≡ size
-    → written r (tree_of v) (of (shape_of f)) b ≡ items_written r (items_trees vs.items) element b
+pub array_written : (r : Entries) (v : Value) (f : Format) (vs : Vec Value Global) (element : Box Format Global) (size n : ℕ) (b : List ℕ)
+    → v ≡ Items vs → f ≡ TupleArray element size → n ≡ length vs.items → n ≡ size
+    → written r (tree_of v) (of (shape_of f)) b ≡ items_written r (items_trees vs.items) (shape_of element.value) b
 array_written r v f vs element size n b e g i same =
-    at_items (λ t c. written r t c b) v f vs (array element size) e g
-    ∙ ap (λ (x : Bool). if x then items_written r (items_trees vs.items) element b else Err NotOfFormat)
+    at_array (λ t c. written r t c b) v f vs element size e g
+    ∙ ap (λ (x : Bool). if x then items_written r (items_trees vs.items) (shape_of element.value) b else Err NotOfFormat)
     (ap (λ (k : ℕ). k == size) (count_items vs.items ∙ sym i) ∙ eq-eqb n size same)
 
 -- a tuple, and a struct, of as many parts as there are formats
@@ -78,13 +78,13 @@ fields_written r vs fs b e =
     (eq-eqb _ _ (count_items vs ∙ e ∙ sym (count_fields fs)))
 
 -- a map
-pub map_written : (r : Entries) (v : Value) (f : Format) (ps : Vec (Value × Value) Global) (key value : Shape) (n : ℕ) (b : List ℕ)
-    → v ≡ Pairs ps → shape_of f ≡ map_shape key value → n ≡ length ps.items
+pub map_written : (r : Entries) (v : Value) (f : Format) (ps : Vec (Value × Value) Global) (key value : Box Format Global) (n : ℕ) (b : List ℕ)
+    → v ≡ Pairs ps → f ≡ Map key value → n ≡ length ps.items
     → written r (tree_of v) (of (shape_of f)) b
-    ≡ chain (length_written n b) (λ c. chain (entries_written r (entries_pairs ps.items) key value []) (λ es. sorted_entries_written es c))
+    ≡ chain (length_written n b) (λ c. chain (entries_written r (entries_pairs ps.items) (shape_of key.value) (shape_of value.value) []) (λ es. sorted_entries_written es c))
 map_written r v f ps key value n b e g i =
-    at_pairs (λ t c. written r t c b) v f ps (map_shape key value) e g
-    ∙ ap (λ (k : ℕ). chain (length_written k b) (λ c. chain (entries_written r (entries_pairs ps.items) key value []) (λ es. sorted_entries_written es c))) (count_pairs ps.items ∙ sym i)
+    at_map (λ t c. written r t c b) v f ps key value e g
+    ∙ ap (λ (k : ℕ). chain (length_written k b) (λ c. chain (entries_written r (entries_pairs ps.items) (shape_of key.value) (shape_of value.value) []) (λ es. sorted_entries_written es c))) (count_pairs ps.items ∙ sym i)
 
 -- a variant that the enum has, and one that it hasn't
 pub variant_written : (r : Entries) (v : Value) (k : declared.Container) (vs : BTreeMap ℕ (Named VariantFormat)) (n : ℕ) (inner : Box Value Global)

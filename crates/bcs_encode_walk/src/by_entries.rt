@@ -16,8 +16,8 @@ ghost use Rattle.bcs_encode_spec.specs.Entries.{entry_bytes};
 
 use crate::pushing::{push_byte, push_bytes, push_length, push_number, push_signed, push_unsigned};
 use bcs_encode_spec::EncodeFault;
+use bcs_num::Width;
 use bcs_registry::{Container, Format, Named, Registry, VariantFormat};
-use bcs_registry_model::{Kind, Scalar, WholeNumber};
 use bcs_value::Value;
 use std::alloc::Global;
 
@@ -32,43 +32,47 @@ pub fn push_value(
 ) -> Result<(), EncodeFault>
     ensures { Tells result (spec.written registry.now (tree_of value.now) (of (shape_of format.now)) out.old.items) out.new.items }
 {
-    match (value, format.kind()) {
-        (_, Kind::Scalar(Scalar::Unsupported(_))) => Err(EncodeFault::NotOfFormat),
-        (Value::Unit, Kind::Scalar(Scalar::Unit)) => Ok(()),
-        (Value::Bool(truth), Kind::Scalar(Scalar::Bool)) => push_byte(u8::from(*truth), out),
-        (Value::Unsigned(number), Kind::Scalar(Scalar::Whole(WholeNumber::Unsigned(width)))) => {
-            push_unsigned(width, *number, out)
-        }
-        (Value::Signed(number), Kind::Scalar(Scalar::Whole(WholeNumber::Signed(width)))) => {
-            push_signed(width, *number, out)
-        }
-        (Value::Text(text), Kind::Scalar(Scalar::Str)) => push_bytes(text.as_bytes(), out),
-        (Value::Bytes(bytes), Kind::Scalar(Scalar::Bytes)) => push_bytes(bytes, out),
-        (Value::Absent, Kind::Opt(_)) => push_byte(0, out),
-        (Value::Present(inner), Kind::Opt(content)) => {
+    match (value, format) {
+        (_, Format::F32 | Format::F64 | Format::Char) => Err(EncodeFault::NotOfFormat),
+        (Value::Unit, Format::Unit) => Ok(()),
+        (Value::Bool(truth), Format::Bool) => push_byte(u8::from(*truth), out),
+        (Value::Unsigned(number), Format::U8) => push_unsigned(Width::W1, *number, out),
+        (Value::Unsigned(number), Format::U16) => push_unsigned(Width::W2, *number, out),
+        (Value::Unsigned(number), Format::U32) => push_unsigned(Width::W4, *number, out),
+        (Value::Unsigned(number), Format::U64) => push_unsigned(Width::W8, *number, out),
+        (Value::Unsigned(number), Format::U128) => push_unsigned(Width::W16, *number, out),
+        (Value::Signed(number), Format::I8) => push_signed(Width::W1, *number, out),
+        (Value::Signed(number), Format::I16) => push_signed(Width::W2, *number, out),
+        (Value::Signed(number), Format::I32) => push_signed(Width::W4, *number, out),
+        (Value::Signed(number), Format::I64) => push_signed(Width::W8, *number, out),
+        (Value::Signed(number), Format::I128) => push_signed(Width::W16, *number, out),
+        (Value::Text(text), Format::Str) => push_bytes(text.as_bytes(), out),
+        (Value::Bytes(bytes), Format::Bytes) => push_bytes(bytes, out),
+        (Value::Absent, Format::Opt(_)) => push_byte(0, out),
+        (Value::Present(inner), Format::Opt(content)) => {
             push_byte(1, out)?;
             push_value(inner, alloc, registry, content, out)
         }
-        (Value::Items(items), Kind::Seq(element)) => {
+        (Value::Items(items), Format::Seq(element)) => {
             push_length(items.len(), out)?;
             push_all(items, alloc, registry, element, out)
         }
-        (Value::Items(items), Kind::Tuple(formats)) => {
+        (Value::Items(items), Format::Tuple(formats)) => {
             push_each(items, alloc, registry, formats, out)
         }
-        (Value::Items(items), Kind::TupleArray(element, size)) => {
-            if items.len() as u64 != size {
+        (Value::Items(items), Format::TupleArray(element, size)) => {
+            if items.len() as u64 != *size {
                 return Err(EncodeFault::NotOfFormat);
             }
             push_all(items, alloc, registry, element, out)
         }
-        (Value::Pairs(pairs), Kind::Map(key, value)) => {
+        (Value::Pairs(pairs), Format::Map(key, value)) => {
             push_length(pairs.len(), out)?;
             let mut entries = Vec::new(alloc);
             collect_entries(pairs, alloc, registry, key, value, &mut entries)?;
             push_in_order(entries, out)
         }
-        (Value::Named(inner), Kind::TypeName(name)) => match registry.container(name) {
+        (Value::Named(inner), Format::TypeName(name)) => match registry.container(name.as_str()) {
             Some(container) => push_content(inner, alloc, registry, container, out),
             None => Err(EncodeFault::NotOfFormat),
         },

@@ -1,44 +1,42 @@
 use Rattle.std.proofs.Common.{◌∙◌, arith, rules}
 use Rattle.std.proofs.lemmas.Grind.{common_steps}
-use Rattle.bcs_registry_model.specs.View.{shape_of}
-use Rattle.bcs_registry_model.proofs.KindShapes.{shape_seen}
 use Rattle.bcs_encode_walk.proofs.WritingViews.{tells_along, array_refused, array_written, list_written, tuple_written, fields_written, map_written, variant_written, no_variant_written}
 use Rattle.bcs_encode_walk.proofs.by_entries.+by_entries.Goals as goal
 
 pub push_value-returns-in_err-push_length-in-Items-Seq : goal.push_value-returns-in_err-push_length-in-Items-Seq
 push_value-returns-in_err-push_length-in-Items-Seq t c =
     let m = c.in-Items-Seq in
-    tells_along _ _ _ _ (list_written c.args.registry.now c.args.value.now c.args.format.now m.items (shape_of m.element.now) c.len.result c.args.out.now.items m.is-0 (shape_seen c.args.format.now c.kind.result _ c.kind.ensures m.is-1) (search rules)) (search rules)
+    tells_along _ _ _ _ (list_written c.args.registry.now c.args.value.now c.args.format.now m.items m.element c.len.result c.args.out.now.items m.is-0 m.is-1 (search rules)) (search rules)
 
 pub push_value-returns-in_ok-push_length-in-Items-Seq : goal.push_value-returns-in_ok-push_length-in-Items-Seq
 push_value-returns-in_ok-push_length-in-Items-Seq t c =
     let m = c.in-Items-Seq in
-    tells_along _ _ _ _ (list_written c.args.registry.now c.args.value.now c.args.format.now m.items (shape_of m.element.now) c.len.result c.args.out.now.items m.is-0 (shape_seen c.args.format.now c.kind.result _ c.kind.ensures m.is-1) (search rules)) (search rules)
+    tells_along _ _ _ _ (list_written c.args.registry.now c.args.value.now c.args.format.now m.items m.element c.len.result c.args.out.now.items m.is-0 m.is-1 (search rules)) (search rules)
 
 pub push_value-returns-then-len-size : goal.push_value-returns-then-len-size
 push_value-returns-then-len-size t c _ =
     let m = c.in-Items-TupleArray in
-    array_refused c.args.registry.now c.args.value.now c.args.format.now m.items (shape_of m.element.now) m.size c.len-in-Items-TupleArray.result c.args.out.now.items m.is-0 (shape_seen c.args.format.now c.kind.result _ c.kind.ensures m.is-1) (search rules) c.if-len-size.true
+    array_refused c.args.registry.now c.args.value.now c.args.format.now m.items m.element m.size c.len-in-Items-TupleArray.result c.args.out.now.items m.is-0 m.is-1 (search rules) c.if-len-size.true
 
 pub push_value-returns-else-len-size : goal.push_value-returns-else-len-size
 push_value-returns-else-len-size t c =
     let m = c.in-Items-TupleArray in
-    tells_along _ _ _ _ (array_written c.args.registry.now c.args.value.now c.args.format.now m.items (shape_of m.element.now) m.size c.len-in-Items-TupleArray.result c.args.out.now.items m.is-0 (shape_seen c.args.format.now c.kind.result _ c.kind.ensures m.is-1) (search rules) (search rules)) (search rules)
+    tells_along _ _ _ _ (array_written c.args.registry.now c.args.value.now c.args.format.now m.items m.element m.size c.len-in-Items-TupleArray.result c.args.out.now.items m.is-0 m.is-1 (search rules) (search rules)) (search rules)
 
 pub push_value-returns-in_err-push_length-in-Pairs-Map : goal.push_value-returns-in_err-push_length-in-Pairs-Map
 push_value-returns-in_err-push_length-in-Pairs-Map t c =
     let m = c.in-Pairs-Map in
-    tells_along _ _ _ _ (map_written c.args.registry.now c.args.value.now c.args.format.now m.pairs (shape_of m.key.now) (shape_of m.value.now) c.len-in-Pairs-Map.result c.args.out.now.items m.is-0 (shape_seen c.args.format.now c.kind.result _ c.kind.ensures m.is-1) (search rules)) (search rules)
+    tells_along _ _ _ _ (map_written c.args.registry.now c.args.value.now c.args.format.now m.pairs m.key m.value c.len-in-Pairs-Map.result c.args.out.now.items m.is-0 m.is-1 (search rules)) (search rules)
 
 pub push_value-returns-in_err-collect_entries-in-Pairs-Map : goal.push_value-returns-in_err-collect_entries-in-Pairs-Map
 push_value-returns-in_err-collect_entries-in-Pairs-Map t c =
     let m = c.in-Pairs-Map in
-    tells_along _ _ _ _ (map_written c.args.registry.now c.args.value.now c.args.format.now m.pairs (shape_of m.key.now) (shape_of m.value.now) c.len-in-Pairs-Map.result c.args.out.now.items m.is-0 (shape_seen c.args.format.now c.kind.result _ c.kind.ensures m.is-1) (search rules)) (search rules)
+    tells_along _ _ _ _ (map_written c.args.registry.now c.args.value.now c.args.format.now m.pairs m.key m.value c.len-in-Pairs-Map.result c.args.out.now.items m.is-0 m.is-1 (search rules)) (search rules)
 
 pub push_value-returns-in_ok-collect_entries-in-Pairs-Map : goal.push_value-returns-in_ok-collect_entries-in-Pairs-Map
 push_value-returns-in_ok-collect_entries-in-Pairs-Map t c =
     let m = c.in-Pairs-Map in
-    tells_along _ _ _ _ (map_written c.args.registry.now c.args.value.now c.args.format.now m.pairs (shape_of m.key.now) (shape_of m.value.now) c.len-in-Pairs-Map.result c.args.out.now.items m.is-0 (shape_seen c.args.format.now c.kind.result _ c.kind.ensures m.is-1) (search rules)) (search rules)
+    tells_along _ _ _ _ (map_written c.args.registry.now c.args.value.now c.args.format.now m.pairs m.key m.value c.len-in-Pairs-Map.result c.args.out.now.items m.is-0 m.is-1 (search rules)) (search rules)
 
 pub push_content-returns-in-Some : goal.push_content-returns-in-Some
 push_content-returns-in-Some t c =
