@@ -7,8 +7,8 @@ ghost use Rattle.bcs_value_model.specs.Fits as spec;
 ghost use Rattle.bcs_value_model.specs.Tree.{items as items_tree};
 ghost use Rattle.bcs_value_model.specs.View.{entries_pairs, items_trees, tree_of};
 
+use bcs_num::Width;
 use bcs_registry::{Container, Format, Named, Registry, VariantFormat};
-use bcs_registry_model::{Kind, Scalar, WholeNumber};
 use bcs_value_model::Value;
 
 /// Whether the value is one of the format: each part in its place, each number in its range, and as many parts as the
@@ -31,29 +31,33 @@ pub fn fits_loosely(registry: &Registry, format: &Format, value: &Value) -> bool
 fn fits(value: &Value, registry: &Registry, format: &Format, loose: bool) -> bool
     ensures { result ≡ spec.fits loose registry.now (tree_of value.now) (of (shape_of format.now)) }
 {
-    match (value, format.kind()) {
-        (_, Kind::Scalar(Scalar::Unsupported(_))) => loose,
-        (Value::Unit, Kind::Scalar(Scalar::Unit)) => true,
-        (Value::Bool(_), Kind::Scalar(Scalar::Bool)) => true,
-        (Value::Signed(number), Kind::Scalar(Scalar::Whole(WholeNumber::Signed(width)))) => {
-            width.holds_signed(*number)
-        }
-        (Value::Unsigned(number), Kind::Scalar(Scalar::Whole(WholeNumber::Unsigned(width)))) => {
-            width.holds_unsigned(*number)
-        }
-        (Value::Text(_), Kind::Scalar(Scalar::Str)) => true,
-        (Value::Bytes(bytes), Kind::Scalar(Scalar::Bytes)) => are_bytes(bytes),
-        (Value::Absent, Kind::Opt(_)) => true,
-        (Value::Present(inner), Kind::Opt(content)) => fits(inner, registry, content, loose),
-        (Value::Items(items), Kind::Seq(element)) => all_fit(items, registry, element, loose),
-        (Value::Items(items), Kind::Tuple(formats)) => each_fits(items, registry, formats, loose),
-        (Value::Items(items), Kind::TupleArray(element, size)) => array_fits(
-            items, registry, element, size, loose,
+    match (value, format) {
+        (_, Format::F32 | Format::F64 | Format::Char) => loose,
+        (Value::Unit, Format::Unit) => true,
+        (Value::Bool(_), Format::Bool) => true,
+        (Value::Signed(number), Format::I8) => Width::W1.holds_signed(*number),
+        (Value::Signed(number), Format::I16) => Width::W2.holds_signed(*number),
+        (Value::Signed(number), Format::I32) => Width::W4.holds_signed(*number),
+        (Value::Signed(number), Format::I64) => Width::W8.holds_signed(*number),
+        (Value::Signed(number), Format::I128) => Width::W16.holds_signed(*number),
+        (Value::Unsigned(number), Format::U8) => Width::W1.holds_unsigned(*number),
+        (Value::Unsigned(number), Format::U16) => Width::W2.holds_unsigned(*number),
+        (Value::Unsigned(number), Format::U32) => Width::W4.holds_unsigned(*number),
+        (Value::Unsigned(number), Format::U64) => Width::W8.holds_unsigned(*number),
+        (Value::Unsigned(number), Format::U128) => Width::W16.holds_unsigned(*number),
+        (Value::Text(_), Format::Str) => true,
+        (Value::Bytes(bytes), Format::Bytes) => are_bytes(bytes),
+        (Value::Absent, Format::Opt(_)) => true,
+        (Value::Present(inner), Format::Opt(content)) => fits(inner, registry, content, loose),
+        (Value::Items(items), Format::Seq(element)) => all_fit(items, registry, element, loose),
+        (Value::Items(items), Format::Tuple(formats)) => each_fits(items, registry, formats, loose),
+        (Value::Items(items), Format::TupleArray(element, size)) => array_fits(
+            items, registry, element, *size, loose,
         ),
-        (Value::Pairs(pairs), Kind::Map(key, value)) => pairs_fit(
+        (Value::Pairs(pairs), Format::Map(key, value)) => pairs_fit(
             pairs, registry, key, value, loose,
         ),
-        (Value::Named(inner), Kind::TypeName(name)) => match registry.container(name) {
+        (Value::Named(inner), Format::TypeName(name)) => match registry.container(name.as_str()) {
             Some(container) => fills(inner, registry, container, loose),
             None => false,
         },

@@ -7,13 +7,14 @@ use Rattle.std.specs.Map.{lookup}
 use Rattle.std.specs.Option.{option_copied}
 use Rattle.std.specs.BTreeMap.{is_at}
 use Rattle.bcs_registry_model.specs.Container.{Entries, of, nothing, content, payload_shape, field_shapes}
-use Rattle.bcs_registry_model.specs.Shape.{Shape, Unsupported, unsupported, text, bytes, map as map_shape}
+use Rattle.bcs_registry_model.specs.Shape.{Unsupported, unsupported}
 use Rattle.bcs_registry_model.specs.View.{shape_of, formats_shapes, field_of, payload_of, container_of}
 use Rattle.bcs_registry_model.specs.declared.named.Named.{Named}
-use Rattle.bcs_registry_model.specs.declared.format.Format.{Format}
+use Rattle.bcs_registry_model.specs.declared.format.Format.{Format, Str, Bytes, Map}
 use Rattle.bcs_registry_model.specs.declared.variant_format.VariantFormat.{VariantFormat}
 use Rattle.bcs_registry_model.specs.declared.container.Container as declared
 use Rattle.bcs_registry_model.specs.declared.container.Container.TheVariants.{Enum}
+use Rattle.bcs_registry_model.proofs.FormatViews.{shape-Bytes, shape-Str}
 use Rattle.bcs_value_model.specs.Tree as tree
 use Rattle.bcs_value_model.specs.Tree.{Tree}
 use Rattle.bcs_value_model.specs.Fits.{fits, each_fits, pairs_fit, are_bytes}
@@ -21,7 +22,7 @@ use Rattle.bcs_value_model.specs.View.{tree_of, items_trees, entries_pairs}
 use Rattle.bcs_value_model.specs.declared.value.Value as value
 use Rattle.bcs_value_model.specs.declared.value.Value.{Value, Text, Pairs, Variant}
 use Rattle.bcs_value_model.proofs.Views.{tree_of_text, tree_of_bytes}
-use Rattle.bcs_value_model.proofs.WalkViews.{at_enum, at_pairs, choice-found, choice-missing}
+use Rattle.bcs_value_model.proofs.WalkViews.{at_enum, at_map, choice-found, choice-missing}
 
 pub bytes_are : (bs : List ℕ) → ((i : ℕ) → get_or bs i 0 < 256) → are_bytes bs ≡ true
 bytes_are [] h = refl
@@ -49,14 +50,14 @@ pub fits-unsupported : (loose : Bool) (r : Entries) (t : Tree) (u : Unsupported)
 fits-unsupported loose r tree.unit u = refl
 fits-unsupported loose r _ u = refl
 
-pub fits-text : (loose : Bool) (r : Entries) (v : Value) (f : Format) (s : String Global) → v ≡ Text s → shape_of f ≡ text
+pub fits-text : (loose : Bool) (r : Entries) (v : Value) (f : Format) (s : String Global) → v ≡ Text s → f ≡ Str
     → true ≡ fits loose r (tree_of v) (of (shape_of f))
-fits-text loose r v f s e g = rw (e, tree_of_text s, g) (sym (is_utf8-from_IsUtf8 _ (IsUtf8-string_bytes s)))
+fits-text loose r v f s e g = rw (e, tree_of_text s, shape-Str f g) (sym (is_utf8-from_IsUtf8 _ (IsUtf8-string_bytes s)))
 
 pub fits-bytes : (loose : Bool) (r : Entries) (v : Value) (f : Format) (b : Vec ℕ Global) (us : List ℕ) (is : Bool)
-    → v ≡ value.Bytes b → shape_of f ≡ bytes → us ≡ b.items → is ≡ are_bytes us
+    → v ≡ value.Bytes b → f ≡ Bytes → us ≡ b.items → is ≡ are_bytes us
     → is ≡ fits loose r (tree_of v) (of (shape_of f))
-fits-bytes loose r v f b us is e g h i = i ∙ rw (e, h, tree_of_bytes b, g) refl
+fits-bytes loose r v f b us is e g h i = i ∙ rw (e, h, tree_of_bytes b, shape-Bytes f g) refl
 
 pub fits-found : (loose : Bool) (r : Entries) (v w : Value) (k : declared.Container) (vs : BTreeMap ℕ (Named VariantFormat)) (n : ℕ) (inner : Box Value Global)
     (x : Bor (Named VariantFormat)) (o : Option (Bor (Named VariantFormat))) (b : Bool)
@@ -79,8 +80,8 @@ fits-missing loose r v k vs n inner o e f found none =
     ∙ ap (λ c. nat_lt n (2 ^ 32) && fits loose r (tree_of inner.value) c) (choice-missing n vs.entries o found none)
     ∙ and_right (nat_lt n (2 ^ 32)) _ (fits-nothing loose r (tree_of inner.value)))
 
-pub fits-map : (loose : Bool) (r : Entries) (v : Value) (f : Format) (ps : Vec (Value × Value) Global) (key value : Shape) (us : List (Value × Value)) (b : Bool)
-    → v ≡ Pairs ps → shape_of f ≡ map_shape key value → us ≡ ps.items
-    → b ≡ pairs_fit loose r (entries_pairs us) key value
+pub fits-map : (loose : Bool) (r : Entries) (v : Value) (f : Format) (ps : Vec (Value × Value) Global) (key value : Box Format Global) (us : List (Value × Value)) (k w : Format) (b : Bool)
+    → v ≡ Pairs ps → f ≡ Map key value → us ≡ ps.items → k ≡ key.value → w ≡ value.value
+    → b ≡ pairs_fit loose r (entries_pairs us) (shape_of k) (shape_of w)
     → b ≡ fits loose r (tree_of v) (of (shape_of f))
-fits-map loose r v f ps key value us b e g h is = is ∙ rw h (sym (at_pairs (fits loose r) v f ps (map_shape key value) e g))
+fits-map loose r v f ps key value us k w b e g h i j is = is ∙ rw (h, i, j) (sym (at_map (fits loose r) v f ps key value e g))

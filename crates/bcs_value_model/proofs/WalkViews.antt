@@ -5,7 +5,7 @@ use Rattle.std.specs.Map.{lookup}
 use Rattle.std.specs.Option.{option_copied, option_map_or}
 use Rattle.std.specs.BTreeMap.{is_at}
 use Rattle.bcs_registry_model.specs.Container.{Payload, Content, of, one_of, nothing, content, payload_shape, choice_at}
-use Rattle.bcs_registry_model.specs.Shape.{Shape, seq, array, map as map_shape}
+use Rattle.bcs_registry_model.specs.Shape.{seq, array, map as map_shape}
 use Rattle.bcs_registry_model.specs.View.{shape_of, payload_of, choice_of, container_of}
 use Rattle.bcs_registry_model.specs.declared.named.Named.{Named}
 use Rattle.bcs_registry_model.specs.declared.format.Format.{Format, Map, Seq, TupleArray}
@@ -69,12 +69,3 @@ at_list walk v f vs element e g = rw (e, tree_of_items vs, shape-Seq f element g
 pub at_array : {A : Type 0} (walk : Tree → Content → A) (v : Value) (f : Format) (vs : Vec Value Global) (element : Box Format Global) (size : ℕ)
     → v ≡ Items vs → f ≡ TupleArray element size → walk (tree_of v) (of (shape_of f)) ≡ walk (tree.items (items_trees vs.items)) (of (array (shape_of element.value) size))
 at_array walk v f vs element size e g = rw (e, tree_of_items vs, shape-TupleArray f element size g) refl
-
--- and where the format's shape is known
-pub at_items : {A : Type 0} (walk : Tree → Content → A) (v : Value) (f : Format) (vs : Vec Value Global) (s : Shape)
-    → v ≡ Items vs → shape_of f ≡ s → walk (tree_of v) (of (shape_of f)) ≡ walk (tree.items (items_trees vs.items)) (of s)
-at_items walk v f vs s e g = rw (e, tree_of_items vs, g) refl
-
-pub at_pairs : {A : Type 0} (walk : Tree → Content → A) (v : Value) (f : Format) (ps : Vec (Value × Value) Global) (s : Shape)
-    → v ≡ Pairs ps → shape_of f ≡ s → walk (tree_of v) (of (shape_of f)) ≡ walk (tree.pairs (entries_pairs ps.items)) (of s)
-at_pairs walk v f ps s e g = rw (e, tree_of_pairs ps, g) refl

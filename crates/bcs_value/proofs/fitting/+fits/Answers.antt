@@ -1,6 +1,5 @@
-use Rattle.std.proofs.Common.{sym, arith, rules}
-use Rattle.bcs_value_model.proofs.FitsByViews.{each_fits-unlike, fields_fit-unlike, fits-found, fits-missing, fits-map, fits-text}
-use Rattle.bcs_registry_model.proofs.KindShapes.{shape_seen}
+use Rattle.std.proofs.Common.{sym, arith}
+use Rattle.bcs_value_model.proofs.FitsByViews.{each_fits-unlike, fields_fit-unlike, fits-found, fits-missing, fits-map, fits-text, fits-bytes}
 use Rattle.bcs_value.proofs.fitting.+fits.Goals as goal
 
 pub each_fits-returns-then-items-formats : goal.each_fits-returns-then-items-formats
@@ -24,9 +23,13 @@ fills-returns-in-None t c =
 pub fits-returns-in-Pairs-Map : goal.fits-returns-in-Pairs-Map
 fits-returns-in-Pairs-Map t c =
     let m = c.in-Pairs-Map in
-    fits-map _ _ _ _ m.pairs _ _ _ _ m.is-0 (shape_seen c.args.format.now c.kind.result _ c.kind.ensures m.is-1) c.deref-in-Pairs-Map.ensures.value c.pairs_fit.ensures
+    fits-map _ _ _ _ m.pairs m.key m.value _ _ _ _ m.is-0 m.is-1 c.deref-in-Pairs-Map.ensures.value c.deref-in-Pairs-Map-2.ensures c.deref-in-Pairs-Map-3.ensures c.pairs_fit.ensures
 
-pub fits-returns-in-Text-Scalar-Str : goal.fits-returns-in-Text-Scalar-Str
-fits-returns-in-Text-Scalar-Str t c =
-    let m = c.in-Text-Scalar-Str in
-    fits-text _ _ _ _ _ m.is-0 (search rules)
+pub fits-returns-in-Text-Str : goal.fits-returns-in-Text-Str
+fits-returns-in-Text-Str t c =
+    fits-text _ _ _ _ _ c.in-Text-Str.is-0 c.in-Text-Str.is-1
+
+pub fits-returns-in-Bytes-Bytes : goal.fits-returns-in-Bytes-Bytes
+fits-returns-in-Bytes-Bytes t c =
+    let m = c.in-Bytes-Bytes in
+    fits-bytes _ _ _ _ m.bytes _ _ m.is-0 m.is-1 c.deref.ensures.value c.are_bytes.ensures
