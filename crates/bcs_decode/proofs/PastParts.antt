@@ -5,7 +5,6 @@ use Rattle.bcs_registry_model.specs.Shape.{Shape, Shapes}
 use Rattle.bcs_registry_model.specs.Container.{Entries, Choice, of, one_of, nothing, choice_at}
 use Rattle.bcs_registry_model.specs.View.{shape_of, formats_shapes}
 use Rattle.bcs_registry_model.specs.declared.format.Format as format
-use Rattle.bcs_registry_model.proofs.FormatViews.{shape-Opt, shape-Seq, shape-TupleArray, shape-Map, shape-Tuple, shape-TypeName}
 use Rattle.bcs_decode_spec.specs.declared.reason.Reason.{Reason}
 use Rattle.bcs_decode_spec.specs.declared.reason.Reason.TheVariants.{UnknownVariant}
 use Rattle.bcs_decode_spec.specs.Reading.{Read, Parser, follow, chain, give, node, length_here, items_here, pairs_here, option_here, shape_here, value_here, skipping}
@@ -39,27 +38,25 @@ map_is f g p zero b = refl
 map_is f g p (suc m) b = refl
 
 module _ (registry : Entries) (d : ℕ) (f : format.Format) (p m : ℕ) (b : List ℕ) where
-  pub past_Opt : (o : Box format.Format Global) → f ≡ format.Opt o → skip registry d (shape_of f) p m b ≡ option_past (skip registry d (shape_of o.value)) p m b
+  pub past_Opt : (s : Shape) → shape_of f ≡ shape.option s → skip registry d (shape_of f) p m b ≡ option_past (skip registry d s) p m b
   unfolding value_here shape_here
-  past_Opt o h = rw (shape-Opt f o h) (option_is (skip registry d (shape_of o.value)) p m b)
+  past_Opt s h = rw h (option_is (skip registry d s) p m b)
 
-  pub past_Seq : (o : Box format.Format Global) → f ≡ format.Seq o → skip registry d (shape_of f) p m b ≡ items_past (skip registry d (shape_of o.value)) None p m b
+  pub past_Seq : (s : Shape) → shape_of f ≡ shape.seq s → skip registry d (shape_of f) p m b ≡ items_past (skip registry d s) None p m b
   unfolding value_here shape_here
-  past_Seq o h = rw (shape-Seq f o h) (seq_is (skip registry d (shape_of o.value)) p m b)
+  past_Seq s h = rw h (seq_is (skip registry d s) p m b)
 
-  pub past_TupleArray : (o : Box format.Format Global) (n : ℕ) → f ≡ format.TupleArray o n → skip registry d (shape_of f) p m b ≡ items_past (skip registry d (shape_of o.value)) (Some n) p m b
+  pub past_TupleArray : (s : Shape) (n : ℕ) → shape_of f ≡ shape.array s n → skip registry d (shape_of f) p m b ≡ items_past (skip registry d s) (Some n) p m b
   unfolding value_here shape_here
-  past_TupleArray o n h = rw (shape-TupleArray f o n h) (array_is (skip registry d (shape_of o.value)) n p m b)
+  past_TupleArray s n h = rw h (array_is (skip registry d s) n p m b)
 
-  pub past_Map : (k v : Box format.Format Global) → f ≡ format.Map k v → skip registry d (shape_of f) p m b ≡ pairs_past (skip registry d (shape_of k.value)) (skip registry d (shape_of v.value)) p m b
+  pub past_Map : (k v : Shape) → shape_of f ≡ shape.map k v → skip registry d (shape_of f) p m b ≡ pairs_past (skip registry d k) (skip registry d v) p m b
   unfolding value_here shape_here
-  past_Map k v h = rw (shape-Map f k v h) (map_is (skip registry d (shape_of k.value)) (skip registry d (shape_of v.value)) p m b)
+  past_Map k v h = rw h (map_is (skip registry d k) (skip registry d v) p m b)
 
-  pub past_Tuple : (v : Vec format.Format Global) → f ≡ format.Tuple v → skip registry d (shape_of f) p m b ≡ skip registry d (shape.tuple (formats_shapes v.items)) p m b
-  past_Tuple v h = ap (λ (s : Shape). skip registry d s p m b) (shape-Tuple f v h)
-
-  pub past_TypeName : (n : String Global) → f ≡ format.TypeName n → skip registry d (shape_of f) p m b ≡ skip registry d (shape.name (string_bytes n)) p m b
-  past_TypeName n h = ap (λ (s : Shape). skip registry d s p m b) (shape-TypeName f n h)
+  -- where the shape alone changes
+  pub past_shape : (s : Shape) → shape_of f ≡ s → skip registry d (shape_of f) p m b ≡ skip registry d s p m b
+  past_shape s h = ap (λ (s : Shape). skip registry d s p m b) h
 
 -- ---- an option, and what it holds
 

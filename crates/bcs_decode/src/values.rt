@@ -18,6 +18,7 @@ use bcs_decode_source::reader::Reader;
 use bcs_decode_spec::DecodeFault;
 use bcs_io::ByteSource;
 use bcs_registry::Format;
+use bcs_registry_model::{Kind, Scalar};
 
 /// Goes past a value of the format, inside which so many containers may open.
 #[inline(always)]
@@ -31,23 +32,19 @@ pub fn value<S: ByteSource>(
     ensures reads { Reads S.content S.is_failed S.allowance (λ x. x) result reader.old (skip reader.old.registry.now depth (shape_of format.now)) reader.new }
     ensures spares { reaches_no_map reader.old.registry.now depth (shape_of format.now) ≡ true → SparesMemory result reader.old.at.now }
 {
-    match format {
-        Format::Unit => begin(reader),
-        Format::Bool => truth(reader),
-        Format::I8 | Format::U8 => whole(reader, 1),
-        Format::I16 | Format::U16 => whole(reader, 2),
-        Format::I32 | Format::U32 => whole(reader, 4),
-        Format::I64 | Format::U64 => whole(reader, 8),
-        Format::I128 | Format::U128 => whole(reader, 16),
-        Format::F32 | Format::F64 | Format::Char => unsupported(reader),
-        Format::Str => text(reader),
-        Format::Bytes => bytes(reader),
-        Format::TypeName(name) => named(reader, name.as_str(), depth),
-        Format::Opt(part) => option(reader, part, depth),
-        Format::Seq(element) => items(reader, element, None, depth),
-        Format::Map(key, part) => pairs(reader, key, part, depth),
-        Format::Tuple(formats) => tuple(reader, formats, depth),
-        Format::TupleArray(element, size) => items(reader, element, Some(*size), depth),
+    match format.kind() {
+        Kind::Scalar(Scalar::Unit) => begin(reader),
+        Kind::Scalar(Scalar::Bool) => truth(reader),
+        Kind::Scalar(Scalar::Whole(number)) => whole(reader, number.byte_len()),
+        Kind::Scalar(Scalar::Unsupported(_)) => unsupported(reader),
+        Kind::Scalar(Scalar::Str) => text(reader),
+        Kind::Scalar(Scalar::Bytes) => bytes(reader),
+        Kind::TypeName(name) => named(reader, name, depth),
+        Kind::Opt(part) => option(reader, part, depth),
+        Kind::Seq(element) => items(reader, element, None, depth),
+        Kind::Map(key, part) => pairs(reader, key, part, depth),
+        Kind::Tuple(formats) => tuple(reader, formats, depth),
+        Kind::TupleArray(element, size) => items(reader, element, Some(size), depth),
     }
 }
 

@@ -6,6 +6,7 @@ ghost use Rattle.bcs_decode_parts.specs.Inside.{Opens};
 
 use crate::here::Here;
 use bcs_registry::{Format, Named, VariantFormat};
+use bcs_registry_model::Kind;
 use std::collections::BTreeMap;
 
 /// What stands inside a value, to which steps may lead.
@@ -26,30 +27,14 @@ pub enum Inside<'r> {
 fn inside_format(format: &Format) -> Inside<'_>
     ensures { Opens (of (shape_of format.now)) result }
 {
-    match format {
-        Format::Unit
-        | Format::Bool
-        | Format::I8
-        | Format::I16
-        | Format::I32
-        | Format::I64
-        | Format::I128
-        | Format::U8
-        | Format::U16
-        | Format::U32
-        | Format::U64
-        | Format::U128
-        | Format::F32
-        | Format::F64
-        | Format::Char
-        | Format::Str
-        | Format::Bytes => Inside::Nothing,
-        Format::TypeName(name) => Inside::Container(name.as_str()),
-        Format::Opt(content) => Inside::Option(content),
-        Format::Seq(element) => Inside::List(element),
-        Format::Map(key, content) => Inside::Map(key, content),
-        Format::Tuple(formats) => Inside::Tuple(formats),
-        Format::TupleArray(element, size) => Inside::Array(element, *size),
+    match format.kind() {
+        Kind::Scalar(_) => Inside::Nothing,
+        Kind::TypeName(name) => Inside::Container(name),
+        Kind::Opt(content) => Inside::Option(content),
+        Kind::Seq(element) => Inside::List(element),
+        Kind::Map(key, content) => Inside::Map(key, content),
+        Kind::Tuple(formats) => Inside::Tuple(formats),
+        Kind::TupleArray(element, size) => Inside::Array(element, size),
     }
 }
 

@@ -1,6 +1,5 @@
 pub mod Passings
 pub mod Steps
-pub mod NoParts
 pub mod PassingParts
 pub mod WholeRows
 pub mod Reaching

@@ -1,12 +1,20 @@
 -- Going past a value, format by format.
-use Rattle.std.proofs.Common.{◌≡◌, ℕ, zero, suc, ◌+◌, ◌<◌, List, length, Result, Ok, Err, refl, ◌∙◌, arith, ◌⊎◌, inl, inr}
+use Rattle.std.proofs.Common.{◌≡◌, ℕ, zero, suc, ◌+◌, ◌<◌, ◌≤◌, List, length, Result, Ok, Err, refl, ap, ◌∙◌, arith}
 use Rattle.std.proofs.lemmas.Bool.{le-ltb}
-use Rattle.std.specs.Int.{Width, w8, w16, w32, w64, w128, byte_len, from_le_bytes, cast_signed}
+use Rattle.std.specs.Int.{Width, byte_len, from_le_bytes, cast_signed}
 use Rattle.bcs_registry_model.specs.Shape as shape
 use Rattle.bcs_registry_model.specs.Container.{Entries}
 use Rattle.bcs_registry_model.specs.View.{shape_of}
-use Rattle.bcs_registry_model.specs.declared.format.Format as format
-use Rattle.bcs_registry_model.proofs.FormatViews.{shape-Unit, shape-Bool, shape-Str, shape-Bytes, shape-F32, shape-F64, shape-Char, shape-I8, shape-U8, shape-I16, shape-U16, shape-I32, shape-U32, shape-I64, shape-U64, shape-I128, shape-U128}
+use Rattle.bcs_registry_model.specs.Kind.{scalar_shape}
+use Rattle.bcs_registry_model.specs.Whole.{whole_shape, whole_len}
+use Rattle.bcs_registry_model.specs.declared.whole_number.WholeNumber.{WholeNumber}
+use Rattle.bcs_registry_model.specs.declared.whole_number.WholeNumber.TheVariants.{Unsigned, Signed}
+use Rattle.bcs_registry_model.specs.declared.scalar.Scalar.{Scalar}
+use Rattle.bcs_registry_model.specs.declared.scalar.Scalar.TheVariants as scalar
+use Rattle.bcs_num.specs.Le.{width_of}
+use Rattle.bcs_num.specs.declared.width.Width.{Width as NumberWidth}
+use Rattle.bcs_num.specs.declared.width.Width.TheVariants.{W1, W2, W4, W8, W16}
+use Rattle.bcs_registry_model.specs.declared.format.Format.{Format}
 use Rattle.bcs_decode_spec.specs.declared.reason.Reason.TheVariants.{BadBool, TooDeep, Unsupported}
 use Rattle.bcs_decode_spec.specs.Reading.{Read, Parser, follow, chain, give, fail_here, node, length_here, bytes_here, text_here, flag_here, unsigned_here, signed_here, shape_here, value_here}
 use Rattle.bcs_decode_slice.specs.declared.cursor.Cursor.{Cursor}
@@ -67,13 +75,33 @@ signed_gone : (w : Width) (p m : ℕ) (b : List ℕ) → chain (signed_here w) (
 unfolding chain signed_here
 signed_gone w p m b = dropped (bytes_here (byte_len w) p m b) (λ s. cast_signed w (from_le_bytes w s))
 
+width_small : (w : NumberWidth) → byte_len (width_of w) ≤ 16
+width_small W1 = omega arith
+width_small W2 = omega arith
+width_small W4 = omega arith
+width_small W8 = omega arith
+width_small W16 = omega arith
+
+pub whole_len-small : (n : WholeNumber) → whole_len n ≤ 16
+whole_len-small (Unsigned w) = width_small w
+whole_len-small (Signed w) = width_small w
+
 -- a node alone is one with no bytes
-nothing_is : (p m : ℕ) (b : List ℕ) → node_here p m b ≡ whole_here 0 p m b
+pub nothing_is : (p m : ℕ) (b : List ℕ) → node_here p m b ≡ whole_here 0 p m b
 unfolding whole_here chain node give bytes_here
 nothing_is p zero b = refl
 nothing_is p (suc m) b =
     let none : p + 0 ≡ p = omega arith in
     rw (le-ltb (length b) 0 (omega arith), none) refl
+
+-- a value of a format without parts
+abbrev pub scalar_past : Scalar → Parser (Unit {0})
+scalar_past scalar.Unit = node_here
+scalar_past scalar.Bool = truth_here
+scalar_past (scalar.Whole n) = whole_here (whole_len n)
+scalar_past (scalar.Unsupported u) = unsupported_here
+scalar_past scalar.Str = text_past
+scalar_past scalar.Bytes = bytes_past
 
 module _ (registry : Entries) (d : ℕ) where
   whole_is : (n : ℕ) (f : Parser (Unit {0})) → ((p m : ℕ) (b : List ℕ) → f p m b ≡ follow (bytes_here n p m b) (λ _. give tt)) → (p m : ℕ) (b : List ℕ) → node f p m b ≡ whole_here n p m b
@@ -93,90 +121,20 @@ module _ (registry : Entries) (d : ℕ) where
   unfolding value_here shape_here
   unit_is p m b = refl
 
-  -- ---- formats without formats inside
+  -- ---- formats without parts
 
-  module _ (f : format.Format) (p m : ℕ) (b : List ℕ) where
-    pub past_Unit : f ≡ format.Unit → skip registry d (shape_of f) p m b ≡ node_here p m b
-    past_Unit h = rw (shape-Unit f h) (unit_is p m b)
+  pub past_whole : (n : WholeNumber) (p m : ℕ) (b : List ℕ) → skip registry d (whole_shape n) p m b ≡ whole_here (whole_len n) p m b
+  past_whole (Unsigned w) p m b = unsigned_is (width_of w) p m b
+  past_whole (Signed w) p m b = signed_is (width_of w) p m b
 
-    pub past_Bool : f ≡ format.Bool → skip registry d (shape_of f) p m b ≡ truth_here p m b
-    unfolding value_here shape_here truth_here
-    past_Bool h = rw (shape-Bool f h) (node_is (chain (flag_here BadBool) (λ _. give tt)) p m b ∙ chain_is node_here _ p m b)
+  scalar_is : (s : Scalar) (p m : ℕ) (b : List ℕ) → skip registry d (scalar_shape s) p m b ≡ scalar_past s p m b
+  unfolding value_here shape_here truth_here text_past bytes_past unsupported_here
+  scalar_is scalar.Unit p m b = refl
+  scalar_is scalar.Bool p m b = node_is (chain (flag_here BadBool) (λ _. give tt)) p m b ∙ chain_is node_here _ p m b
+  scalar_is (scalar.Whole n) p m b = past_whole n p m b
+  scalar_is (scalar.Unsupported u) p m b = node_is (fail_here Unsupported) p m b ∙ chain_is node_here _ p m b
+  scalar_is scalar.Str p m b = counted_is (λ n. chain (text_here n) (λ s. give tt)) p m b
+  scalar_is scalar.Bytes p m b = counted_is (λ n. chain (bytes_here n) (λ _. give tt)) p m b
 
-    pub past_Str : f ≡ format.Str → skip registry d (shape_of f) p m b ≡ text_past p m b
-    unfolding value_here shape_here text_past
-    past_Str h = rw (shape-Str f h) (counted_is (λ n. chain (text_here n) (λ s. give tt)) p m b)
-
-    pub past_Bytes : f ≡ format.Bytes → skip registry d (shape_of f) p m b ≡ bytes_past p m b
-    unfolding value_here shape_here bytes_past
-    past_Bytes h = rw (shape-Bytes f h) (counted_is (λ n. chain (bytes_here n) (λ s. give tt)) p m b)
-
-    pub past_F32 : f ≡ format.F32 → skip registry d (shape_of f) p m b ≡ unsupported_here p m b
-    unfolding value_here shape_here unsupported_here
-    past_F32 h = rw (shape-F32 f h) (node_is (fail_here Unsupported) p m b ∙ chain_is node_here _ p m b)
-
-    pub past_F64 : f ≡ format.F64 → skip registry d (shape_of f) p m b ≡ unsupported_here p m b
-    unfolding value_here shape_here unsupported_here
-    past_F64 h = rw (shape-F64 f h) (node_is (fail_here Unsupported) p m b ∙ chain_is node_here _ p m b)
-
-    pub past_Char : f ≡ format.Char → skip registry d (shape_of f) p m b ≡ unsupported_here p m b
-    unfolding value_here shape_here unsupported_here
-    past_Char h = rw (shape-Char f h) (node_is (fail_here Unsupported) p m b ∙ chain_is node_here _ p m b)
-
-    pub past_I8 : f ≡ format.I8 → skip registry d (shape_of f) p m b ≡ whole_here 1 p m b
-    past_I8 h = rw (shape-I8 f h) (signed_is w8 p m b)
-
-    pub past_U8 : f ≡ format.U8 → skip registry d (shape_of f) p m b ≡ whole_here 1 p m b
-    past_U8 h = rw (shape-U8 f h) (unsigned_is w8 p m b)
-
-    pub past_I16 : f ≡ format.I16 → skip registry d (shape_of f) p m b ≡ whole_here 2 p m b
-    past_I16 h = rw (shape-I16 f h) (signed_is w16 p m b)
-
-    pub past_U16 : f ≡ format.U16 → skip registry d (shape_of f) p m b ≡ whole_here 2 p m b
-    past_U16 h = rw (shape-U16 f h) (unsigned_is w16 p m b)
-
-    pub past_I32 : f ≡ format.I32 → skip registry d (shape_of f) p m b ≡ whole_here 4 p m b
-    past_I32 h = rw (shape-I32 f h) (signed_is w32 p m b)
-
-    pub past_U32 : f ≡ format.U32 → skip registry d (shape_of f) p m b ≡ whole_here 4 p m b
-    past_U32 h = rw (shape-U32 f h) (unsigned_is w32 p m b)
-
-    pub past_I64 : f ≡ format.I64 → skip registry d (shape_of f) p m b ≡ whole_here 8 p m b
-    past_I64 h = rw (shape-I64 f h) (signed_is w64 p m b)
-
-    pub past_U64 : f ≡ format.U64 → skip registry d (shape_of f) p m b ≡ whole_here 8 p m b
-    past_U64 h = rw (shape-U64 f h) (unsigned_is w64 p m b)
-
-    pub past_I128 : f ≡ format.I128 → skip registry d (shape_of f) p m b ≡ whole_here 16 p m b
-    past_I128 h = rw (shape-I128 f h) (signed_is w128 p m b)
-
-    pub past_U128 : f ≡ format.U128 → skip registry d (shape_of f) p m b ≡ whole_here 16 p m b
-    past_U128 h = rw (shape-U128 f h) (unsigned_is w128 p m b)
-
-    pub past_Nothing : f ≡ format.Unit → skip registry d (shape_of f) p m b ≡ whole_here 0 p m b
-    past_Nothing h = past_Unit h ∙ nothing_is p m b
-
-    pub past_8 : (f ≡ format.I8) ⊎ (f ≡ format.U8) → skip registry d (shape_of f) p m b ≡ whole_here 1 p m b
-    past_8 (inl h) = past_I8 h
-    past_8 (inr h) = past_U8 h
-
-    pub past_16 : (f ≡ format.I16) ⊎ (f ≡ format.U16) → skip registry d (shape_of f) p m b ≡ whole_here 2 p m b
-    past_16 (inl h) = past_I16 h
-    past_16 (inr h) = past_U16 h
-
-    pub past_32 : (f ≡ format.I32) ⊎ (f ≡ format.U32) → skip registry d (shape_of f) p m b ≡ whole_here 4 p m b
-    past_32 (inl h) = past_I32 h
-    past_32 (inr h) = past_U32 h
-
-    pub past_64 : (f ≡ format.I64) ⊎ (f ≡ format.U64) → skip registry d (shape_of f) p m b ≡ whole_here 8 p m b
-    past_64 (inl h) = past_I64 h
-    past_64 (inr h) = past_U64 h
-
-    pub past_128 : (f ≡ format.I128) ⊎ (f ≡ format.U128) → skip registry d (shape_of f) p m b ≡ whole_here 16 p m b
-    past_128 (inl h) = past_I128 h
-    past_128 (inr h) = past_U128 h
-
-    pub past_float : (f ≡ format.F32) ⊎ ((f ≡ format.F64) ⊎ (f ≡ format.Char)) → skip registry d (shape_of f) p m b ≡ unsupported_here p m b
-    past_float (inl h) = past_F32 h
-    past_float (inr (inl h)) = past_F64 h
-    past_float (inr (inr h)) = past_Char h
+  pub past_scalar : (f : Format) (seen s : Scalar) → shape_of f ≡ scalar_shape seen → seen ≡ s → (p m : ℕ) (b : List ℕ) → skip registry d (shape_of f) p m b ≡ scalar_past s p m b
+  past_scalar f seen s is was p m b = rw is (scalar_is seen p m b) ∙ ap (λ t. scalar_past t p m b) was

@@ -7,6 +7,7 @@ ghost use Rattle.bcs_decode_slice.specs.Fixed.{IsFixed, IsFixedInside};
 
 use crate::fixed_size::{FixedSize, NODE, whole_size};
 use bcs_registry::{Container, Format, Named, Registry};
+use bcs_registry_model::Kind;
 
 /// The size of each value of the format, inside which so many containers may open. `None`: the values differ in size,
 /// or some bytes are none, or more than `looks` formats would have to be looked at.
@@ -24,30 +25,12 @@ pub fn value_size(
         return None;
     }
     *looks -= 1;
-    match format {
-        Format::TypeName(name) => named_size(registry, name.as_str(), depth, looks),
-        Format::Tuple(formats) => tuple_size(registry, formats, depth, looks),
-        Format::TupleArray(element, size) => { array_size(registry, element, *size, depth, looks) }
-        Format::Unit
-        | Format::I8
-        | Format::I16
-        | Format::I32
-        | Format::I64
-        | Format::I128
-        | Format::U8
-        | Format::U16
-        | Format::U32
-        | Format::U64
-        | Format::U128 => whole_size(format),
-        Format::Bool
-        | Format::F32
-        | Format::F64
-        | Format::Char
-        | Format::Str
-        | Format::Bytes
-        | Format::Opt(_)
-        | Format::Seq(_)
-        | Format::Map(_, _) => None,
+    match format.kind() {
+        Kind::TypeName(name) => named_size(registry, name, depth, looks),
+        Kind::Tuple(formats) => tuple_size(registry, formats, depth, looks),
+        Kind::TupleArray(element, size) => array_size(registry, element, size, depth, looks),
+        Kind::Scalar(_) => whole_size(format),
+        Kind::Opt(_) | Kind::Seq(_) | Kind::Map(_, _) => None,
     }
 }
 

@@ -7,6 +7,7 @@ ghost use Rattle.bcs_registry_model.specs.View.{shape_of, container_of};
 ghost use Rattle.bcs_registry_model.specs.WellFormed.{IsWellFormed};
 
 use bcs_registry::{Container, Format, Registry};
+use bcs_registry_model::Kind;
 
 /// The container whose values those of the format are. `None`: the format is no name, or no container has it.
 #[inline(never)]
@@ -16,29 +17,13 @@ pub fn named_container<'a>(registry: &'a Registry, format: &Format) -> Option<&'
     ensures well_formed { IsWellFormed registry.now }
 {
     registry.recall();
-    match format {
-        Format::TypeName(name) => registry.container(name.as_str()),
-        Format::Unit
-        | Format::Bool
-        | Format::I8
-        | Format::I16
-        | Format::I32
-        | Format::I64
-        | Format::I128
-        | Format::U8
-        | Format::U16
-        | Format::U32
-        | Format::U64
-        | Format::U128
-        | Format::F32
-        | Format::F64
-        | Format::Char
-        | Format::Str
-        | Format::Bytes
-        | Format::Opt(_)
-        | Format::Seq(_)
-        | Format::Map(_, _)
-        | Format::Tuple(_)
-        | Format::TupleArray(_, _) => None,
+    match format.kind() {
+        Kind::TypeName(name) => registry.container(name),
+        Kind::Scalar(_)
+        | Kind::Opt(_)
+        | Kind::Seq(_)
+        | Kind::Map(_, _)
+        | Kind::Tuple(_)
+        | Kind::TupleArray(_, _) => None,
     }
 }

@@ -20,6 +20,7 @@ use crate::whole_row::{whole_row, whole_width};
 use bcs_decode_spec::{Reason, Stop};
 use bcs_keys::following::follows;
 use bcs_registry::{Container, Format, Named, Registry, VariantFormat};
+use bcs_registry_model::{Kind, Scalar};
 
 /// Goes past a value of the format, inside which so many containers may open.
 #[cycle(scanning)]
@@ -34,37 +35,33 @@ pub fn value<'a>(
     ensures passes { Passes (λ x. x) result (skip registry.now depth (shape_of format.now)) cursor.old cursor.new }
     ensures onward { Onward cursor.old cursor.new }
 {
-    match format {
-        Format::Unit => node(cursor),
-        Format::Bool => truth(cursor),
-        Format::I8 | Format::U8 => whole(cursor, 1),
-        Format::I16 | Format::U16 => whole(cursor, 2),
-        Format::I32 | Format::U32 => whole(cursor, 4),
-        Format::I64 | Format::U64 => whole(cursor, 8),
-        Format::I128 | Format::U128 => whole(cursor, 16),
-        Format::F32 | Format::F64 | Format::Char => unsupported(cursor),
-        Format::Str => text_value(cursor),
-        Format::Bytes => bytes_value(cursor),
-        Format::TypeName(name) => named(registry, name.as_str(), depth, cursor),
-        Format::Opt(content) => {
+    match format.kind() {
+        Kind::Scalar(Scalar::Unit) => node(cursor),
+        Kind::Scalar(Scalar::Bool) => truth(cursor),
+        Kind::Scalar(Scalar::Whole(number)) => whole(cursor, number.byte_len()),
+        Kind::Scalar(Scalar::Unsupported(_)) => unsupported(cursor),
+        Kind::Scalar(Scalar::Str) => text_value(cursor),
+        Kind::Scalar(Scalar::Bytes) => bytes_value(cursor),
+        Kind::TypeName(name) => named(registry, name, depth, cursor),
+        Kind::Opt(content) => {
             if flag_value(cursor, Reason::BadOption)? {
                 value(registry, content, depth, cursor)
             } else {
                 Ok(())
             }
         }
-        Format::Seq(element) => {
+        Kind::Seq(element) => {
             let count = counted(cursor)?;
             elements(registry, element, u64::from(count), depth, cursor)
         }
-        Format::Map(key, content) => {
+        Kind::Map(key, content) => {
             let count = counted(cursor)?;
             entries(registry, key, content, count, depth, cursor)
         }
-        Format::Tuple(formats) => tuple(registry, formats, depth, cursor),
-        Format::TupleArray(element, size) => {
+        Kind::Tuple(formats) => tuple(registry, formats, depth, cursor),
+        Kind::TupleArray(element, size) => {
             node(cursor)?;
-            elements(registry, element, *size, depth, cursor)
+            elements(registry, element, size, depth, cursor)
         }
     }
 }

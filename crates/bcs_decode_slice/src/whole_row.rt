@@ -7,22 +7,23 @@ ghost use Rattle.bcs_decode_slice.specs.Passing.{Passes, Onward, skip, whole_her
 
 use crate::cursor::{Cursor, advance, end_of_input};
 use bcs_decode_spec::{Reason, Stop};
-use bcs_registry_model::Format;
+use bcs_registry_model::{Format, Kind, Scalar};
 
 /// How many bytes each value of the format has, where any bytes will do.
 #[inline(never)]
-#[tactic(auto, using(crate::proofs::Passings::past_Nothing, crate::proofs::Passings::past_8, crate::proofs::Passings::past_16, crate::proofs::Passings::past_32, crate::proofs::Passings::past_64, crate::proofs::Passings::past_128))]
 pub fn whole_width(format: &Format) -> Option<usize>
     ensures { IfSome result (λ w. (w ≤ 16) × ((registry : Entries) (d p m : ℕ) (b : List ℕ) → skip registry d (shape_of format.now) p m b ≡ whole_here w p m b)) }
 {
-    match format {
-        Format::Unit => Some(0),
-        Format::I8 | Format::U8 => Some(1),
-        Format::I16 | Format::U16 => Some(2),
-        Format::I32 | Format::U32 => Some(4),
-        Format::I64 | Format::U64 => Some(8),
-        Format::I128 | Format::U128 => Some(16),
-        _ => None,
+    match format.kind() {
+        Kind::Scalar(Scalar::Unit) => Some(0),
+        Kind::Scalar(Scalar::Whole(number)) => Some(number.byte_len()),
+        Kind::Scalar(Scalar::Bool | Scalar::Unsupported(_) | Scalar::Str | Scalar::Bytes)
+        | Kind::TypeName(_)
+        | Kind::Opt(_)
+        | Kind::Seq(_)
+        | Kind::Map(_, _)
+        | Kind::Tuple(_)
+        | Kind::TupleArray(_, _) => None,
     }
 }
 

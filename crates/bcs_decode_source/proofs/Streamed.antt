@@ -4,17 +4,18 @@ use Rattle.bcs_registry_model.specs.Shape as shape
 use Rattle.bcs_registry_model.specs.Shape.{Shape, Shapes}
 use Rattle.bcs_registry_model.specs.Container.{Entries, Content, Choice, of, one_of, nothing, content_at, choice_at}
 use Rattle.bcs_registry_model.specs.View.{shape_of, formats_shapes}
+use Rattle.bcs_registry_model.specs.Kind.{scalar_shape}
 use Rattle.bcs_registry_model.specs.Whole.{whole_shape}
+use Rattle.bcs_registry_model.specs.declared.scalar.Scalar.{Scalar}
+use Rattle.bcs_registry_model.specs.declared.scalar.Scalar.TheVariants as scalar
 use Rattle.bcs_registry_model.specs.declared.whole_number.WholeNumber.{WholeNumber}
 use Rattle.bcs_registry_model.specs.declared.whole_number.WholeNumber.TheVariants.{Unsigned, Signed}
 use Rattle.bcs_registry_model.specs.declared.format.Format as format
-use Rattle.bcs_registry_model.proofs.FormatViews.{shape-Opt, shape-Seq, shape-TupleArray, shape-Map, shape-Tuple, shape-TypeName}
 use Rattle.bcs_value_model.specs.Tree as tree
 use Rattle.bcs_value_model.specs.Tree.{Tree}
 use Rattle.bcs_decode_spec.specs.declared.reason.Reason.TheVariants.{TooDeep, Unsupported, UnknownVariant}
 use Rattle.bcs_decode_spec.specs.declared.reason.Reason.{Reason}
 use Rattle.bcs_decode_spec.specs.Reading.{Parser, follow, chain, give, fail, fail_here, content_here, choice_here, variant_here, node, value_here, shape_here, option_here, items_here, pairs_here, length_here, named_here, building}
-use Rattle.bcs_decode_slice.proofs.NoParts.{has_no_parts, IsBare, bare_shape}
 use Rattle.bcs_decode_source.specs.Sees.{node_here, read, leaf_here, unit_leaf, flag_node, option_value, items_value, row_here, pairs_value, each, tuple_value, enter_here, container_value, named_value, content_value, number_node}
 
 pub enter_none : (d p m : ℕ) (b : List ℕ) → d ≡ 0 → enter_here d p m b ≡ fail_here TooDeep p m b
@@ -107,16 +108,15 @@ module _ (registry : Entries) (d p m : ℕ) (b : List ℕ) where
 
 -- ---- formats
 
-leaf_is : (registry : Entries) (d : ℕ) (s : Shape) → has_no_parts s ≡ true → read registry d s ≡ leaf_here s
+leaf_is : (registry : Entries) (d : ℕ) (s : Scalar) → read registry d (scalar_shape s) ≡ leaf_here (scalar_shape s)
 unfolding value_here shape_here
-leaf_is registry d shape.unit h = refl
-leaf_is registry d shape.truth h = refl
-leaf_is registry d (shape.unsigned w) h = refl
-leaf_is registry d (shape.signed w) h = refl
-leaf_is registry d (shape.unsupported u) h = refl
-leaf_is registry d shape.text h = refl
-leaf_is registry d shape.bytes h = refl
-leaf_is registry d _ h = absurd cc
+leaf_is registry d scalar.Unit = refl
+leaf_is registry d scalar.Bool = refl
+leaf_is registry d (scalar.Whole (Unsigned w)) = refl
+leaf_is registry d (scalar.Whole (Signed w)) = refl
+leaf_is registry d (scalar.Unsupported u) = refl
+leaf_is registry d scalar.Str = refl
+leaf_is registry d scalar.Bytes = refl
 
 -- a name is read as its container
 pub read_container : (registry : Entries) (d : ℕ) (s : Shape) (name : List ℕ) (c : Content) → s ≡ shape.name name → content_at name registry ≡ c → (p m : ℕ) (b : List ℕ) → read registry d s p m b ≡ container_value registry d c p m b
@@ -131,29 +131,29 @@ read_whole registry d s (Signed w) h = rw h refl
 
 module _ (registry : Entries) (d : ℕ) (f : format.Format) where
   -- what has no parts is read as a leaf, whatever is registered
-  pub read_leaf : IsBare f → read registry d (shape_of f) ≡ leaf_here (shape_of f)
-  read_leaf h = leaf_is registry d (shape_of f) (bare_shape f h)
+  pub read_leaf : (s : Scalar) → shape_of f ≡ scalar_shape s → read registry d (shape_of f) ≡ leaf_here (shape_of f)
+  read_leaf s h = rw h (leaf_is registry d s)
 
-  pub read_Opt : (o : Box format.Format Global) → f ≡ format.Opt o → (p m : ℕ) (b : List ℕ) → read registry d (shape_of f) p m b ≡ option_value (read registry d (shape_of o.value)) p m b
+  pub read_Opt : (s : Shape) → shape_of f ≡ shape.option s → (p m : ℕ) (b : List ℕ) → read registry d (shape_of f) p m b ≡ option_value (read registry d s) p m b
   unfolding value_here shape_here option_value option_here
-  read_Opt o h p m b = rw (shape-Opt f o h) (option_is (read registry d (shape_of o.value)) p m b)
+  read_Opt s h p m b = rw h (option_is (read registry d s) p m b)
 
-  pub read_Seq : (o : Box format.Format Global) → f ≡ format.Seq o → (p m : ℕ) (b : List ℕ) → read registry d (shape_of f) p m b ≡ items_value (read registry d (shape_of o.value)) None p m b
+  pub read_Seq : (s : Shape) → shape_of f ≡ shape.seq s → (p m : ℕ) (b : List ℕ) → read registry d (shape_of f) p m b ≡ items_value (read registry d s) None p m b
   unfolding value_here shape_here
-  read_Seq o h p m b = rw (shape-Seq f o h) (seq_is (read registry d (shape_of o.value)) p m b)
+  read_Seq s h p m b = rw h (seq_is (read registry d s) p m b)
 
-  pub read_TupleArray : (o : Box format.Format Global) (n : ℕ) → f ≡ format.TupleArray o n → (p m : ℕ) (b : List ℕ) → read registry d (shape_of f) p m b ≡ items_value (read registry d (shape_of o.value)) (Some n) p m b
+  pub read_TupleArray : (s : Shape) (n : ℕ) → shape_of f ≡ shape.array s n → (p m : ℕ) (b : List ℕ) → read registry d (shape_of f) p m b ≡ items_value (read registry d s) (Some n) p m b
   unfolding value_here shape_here
-  read_TupleArray o n h p m b = rw (shape-TupleArray f o n h) (array_is (read registry d (shape_of o.value)) n p m b)
+  read_TupleArray s n h p m b = rw h (array_is (read registry d s) n p m b)
 
-  pub read_Map : (k v : Box format.Format Global) → f ≡ format.Map k v → (p m : ℕ) (b : List ℕ) → read registry d (shape_of f) p m b ≡ pairs_value (read registry d (shape_of k.value)) (read registry d (shape_of v.value)) p m b
+  pub read_Map : (k v : Shape) → shape_of f ≡ shape.map k v → (p m : ℕ) (b : List ℕ) → read registry d (shape_of f) p m b ≡ pairs_value (read registry d k) (read registry d v) p m b
   unfolding value_here shape_here
-  read_Map k v h p m b = rw (shape-Map f k v h) (map_is (read registry d (shape_of k.value)) (read registry d (shape_of v.value)) p m b)
+  read_Map k v h p m b = rw h (map_is (read registry d k) (read registry d v) p m b)
 
-  pub read_Tuple : (v : Vec format.Format Global) → f ≡ format.Tuple v → (p m : ℕ) (b : List ℕ) → read registry d (shape_of f) p m b ≡ tuple_value registry d (formats_shapes v.items) p m b
+  pub read_Tuple : (ss : Shapes) → shape_of f ≡ shape.tuple ss → (p m : ℕ) (b : List ℕ) → read registry d (shape_of f) p m b ≡ tuple_value registry d ss p m b
   unfolding value_here shape_here
-  read_Tuple v h p m b = rw (shape-Tuple f v h) (tuple_is registry d (formats_shapes v.items) p m b)
+  read_Tuple ss h p m b = rw h (tuple_is registry d ss p m b)
 
-  pub read_TypeName : (n : String Global) → f ≡ format.TypeName n → (p m : ℕ) (b : List ℕ) → read registry d (shape_of f) p m b ≡ named_value registry d (string_bytes n) p m b
+  pub read_TypeName : (name : List ℕ) → shape_of f ≡ shape.name name → (p m : ℕ) (b : List ℕ) → read registry d (shape_of f) p m b ≡ named_value registry d name p m b
   unfolding value_here shape_here
-  read_TypeName n h p m b = rw (shape-TypeName f n h) (named_is registry d (string_bytes n) p m b)
+  read_TypeName name h p m b = rw h (named_is registry d name p m b)

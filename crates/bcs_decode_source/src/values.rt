@@ -14,6 +14,7 @@ use crate::slots::put_absent;
 use bcs_decode_spec::DecodeFault;
 use bcs_io::ByteSource;
 use bcs_registry::Format;
+use bcs_registry_model::Kind;
 use bcs_value::Value;
 use bcs_value_model::slot::wrap_present;
 
@@ -30,30 +31,14 @@ pub fn value<S: ByteSource>(
     ensures reads { Reads S.content S.is_failed S.allowance (λ _. tree_of slot.new) result reader.old (read reader.old.registry.now depth (shape_of format.now)) reader.new }
     ensures spares { Spares (takes_no_memory (shape_of format.now)) result reader.old.at.now }
 {
-    match format {
-        Format::TypeName(name) => named(reader, name.as_str(), depth, slot),
-        Format::Opt(part) => option(reader, part, depth, slot),
-        Format::Seq(element) => items(reader, element, None, depth, slot),
-        Format::Map(key, part) => pairs(reader, key, part, depth, slot),
-        Format::Tuple(formats) => tuple(reader, formats, depth, slot),
-        Format::TupleArray(element, size) => { items(reader, element, Some(*size), depth, slot) }
-        Format::Unit
-        | Format::Bool
-        | Format::U8
-        | Format::U16
-        | Format::U32
-        | Format::U64
-        | Format::U128
-        | Format::I8
-        | Format::I16
-        | Format::I32
-        | Format::I64
-        | Format::I128
-        | Format::F32
-        | Format::F64
-        | Format::Char
-        | Format::Str
-        | Format::Bytes => leaf(reader, format, slot),
+    match format.kind() {
+        Kind::TypeName(name) => named(reader, name, depth, slot),
+        Kind::Opt(part) => option(reader, part, depth, slot),
+        Kind::Seq(element) => items(reader, element, None, depth, slot),
+        Kind::Map(key, part) => pairs(reader, key, part, depth, slot),
+        Kind::Tuple(formats) => tuple(reader, formats, depth, slot),
+        Kind::TupleArray(element, size) => items(reader, element, Some(size), depth, slot),
+        Kind::Scalar(_) => leaf(reader, format, slot),
     }
 }
 

@@ -1,10 +1,8 @@
 -- Formats with formats inside, and how many levels these have.
 use Rattle.std.proofs.Common.{◌≡◌, ◌∙◌, ℕ, zero, suc, ◌≤◌, List, [], ◌∷◌, map, drop, Box, Global, Result, ap, sym, subst, arith, rules}
-use Rattle.bcs_registry_model.specs.Shape as shape
 use Rattle.bcs_registry_model.specs.Container.{field_shapes}
 use Rattle.bcs_registry_model.specs.View.{shape_of, formats_shapes, field_of}
 use Rattle.bcs_registry_model.specs.WellFormed.{levels, shapes_levels}
-use Rattle.bcs_registry_model.specs.declared.format.Format as format
 use Rattle.bcs_registry_model.specs.declared.format.Format.{Format}
 use Rattle.bcs_registry_model.specs.declared.named.Named.{Named}
 use Rattle.bcs_json_spec.specs.declared.json_fault.JsonFault.{JsonFault}
@@ -13,20 +11,6 @@ use Rattle.bcs_json_spec.specs.Reading.{Read, Tells}
 -- what tells one reading tells an equal one
 pub tells_as : {X A : Type 0} (v : X → A) (r : Result X JsonFault) (x y : Read A) → x ≡ y → Tells v r y → Tells v r x
 tells_as v r x y h t = subst (Tells v r) (sym h) t
-
-module _ (f : Format) where
-  pub option_shape : (o : Box Format Global) (g : Format) → f ≡ format.Opt o → g ≡ o.value → shape_of f ≡ shape.option (shape_of g)
-  option_shape o g h is = ap shape_of h ∙ search (rules, format.the_lemmas) ∙ ap (λ g. shape.option (shape_of g)) (sym is)
-
-  pub seq_shape : (o : Box Format Global) (g : Format) → f ≡ format.Seq o → g ≡ o.value → shape_of f ≡ shape.seq (shape_of g)
-  seq_shape o g h is = ap shape_of h ∙ search (rules, format.the_lemmas) ∙ ap (λ g. shape.seq (shape_of g)) (sym is)
-
-  pub array_shape : (o : Box Format Global) (n : ℕ) (g : Format) → f ≡ format.TupleArray o n → g ≡ o.value → shape_of f ≡ shape.array (shape_of g) n
-  array_shape o n g h is = ap shape_of h ∙ search (rules, format.the_lemmas) ∙ ap (λ g. shape.array (shape_of g) n) (sym is)
-
-  pub map_shape : (o p : Box Format Global) (k g : Format) → f ≡ format.Map o p → k ≡ o.value → g ≡ p.value → shape_of f ≡ shape.map (shape_of k) (shape_of g)
-  map_shape o p k g h key is =
-      ap shape_of h ∙ search (rules, format.the_lemmas) ∙ ap (λ k. shape.map (shape_of k) (shape_of p.value)) (sym key) ∙ ap (λ g. shape.map (shape_of k) (shape_of g)) (sym is)
 
 -- ---- levels
 

@@ -11,8 +11,7 @@ ghost use Rattle.bcs_json_reader.specs.Leaf as leaf;
 use crate::hexadecimal::read_bytes;
 use crate::numbers::{read_signed, read_unsigned};
 use bcs_json_spec::JsonFault;
-use bcs_num::Width;
-use bcs_registry_model::Format;
+use bcs_registry_model::{Format, Kind, Scalar, WholeNumber};
 use bcs_value_model::Value;
 use serde_json::Value as Json;
 use std::alloc::Global;
@@ -58,29 +57,19 @@ pub fn read_text(json: Json) -> Result<Value, JsonFault>
 pub fn read_leaf(alloc: Global, format: &Format, json: Json) -> Result<Value, JsonFault>
     ensures { Tells tree_of result (leaf.read_leaf (shape_of format.now) (view json)) }
 {
-    match format {
-        Format::Unit => read_unit(json),
-        Format::Bool => read_truth(json),
-        Format::U8 => read_unsigned(Width::W1, json),
-        Format::U16 => read_unsigned(Width::W2, json),
-        Format::U32 => read_unsigned(Width::W4, json),
-        Format::U64 => read_unsigned(Width::W8, json),
-        Format::U128 => read_unsigned(Width::W16, json),
-        Format::I8 => read_signed(Width::W1, json),
-        Format::I16 => read_signed(Width::W2, json),
-        Format::I32 => read_signed(Width::W4, json),
-        Format::I64 => read_signed(Width::W8, json),
-        Format::I128 => read_signed(Width::W16, json),
-        Format::Str => read_text(json),
-        Format::Bytes => read_bytes(alloc, json),
-        Format::F32
-        | Format::F64
-        | Format::Char
-        | Format::TypeName(_)
-        | Format::Opt(_)
-        | Format::Seq(_)
-        | Format::Map(_, _)
-        | Format::Tuple(_)
-        | Format::TupleArray(_, _) => Err(JsonFault::Unsupported),
+    match format.kind() {
+        Kind::Scalar(Scalar::Unit) => read_unit(json),
+        Kind::Scalar(Scalar::Bool) => read_truth(json),
+        Kind::Scalar(Scalar::Whole(WholeNumber::Unsigned(width))) => read_unsigned(width, json),
+        Kind::Scalar(Scalar::Whole(WholeNumber::Signed(width))) => read_signed(width, json),
+        Kind::Scalar(Scalar::Str) => read_text(json),
+        Kind::Scalar(Scalar::Bytes) => read_bytes(alloc, json),
+        Kind::Scalar(Scalar::Unsupported(_))
+        | Kind::TypeName(_)
+        | Kind::Opt(_)
+        | Kind::Seq(_)
+        | Kind::Map(_, _)
+        | Kind::Tuple(_)
+        | Kind::TupleArray(_, _) => Err(JsonFault::Unsupported),
     }
 }

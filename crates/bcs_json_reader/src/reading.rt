@@ -19,6 +19,7 @@ use crate::objects::option_of;
 use crate::parts::{read_all, read_each, read_pairs};
 use crate::refusal::{Refusal, at_member};
 use bcs_registry::{Format, Registry};
+use bcs_registry_model::Kind;
 use bcs_value_model::Value;
 use serde_json::Value as Json;
 use std::alloc::Global;
@@ -35,32 +36,16 @@ pub fn read(
     ensures tells { Tells tree_of (fault_alone result) (read_data registry.now left (of (shape_of format.now)) (view json)) }
     ensures placed { IsPlaced registry.now (parts registry.now left (value (of (shape_of format.now))) (view json)) result }
 {
-    match format {
-        Format::TypeName(name) => read_named(alloc, registry, name.as_str(), left, json),
-        Format::Opt(content) => read_option(alloc, registry, content, left, json),
-        Format::Seq(element) => read_list(alloc, registry, element, left, json),
-        Format::Map(key, content) => read_map(alloc, registry, key, content, left, json),
-        Format::Tuple(formats) => read_tuple(alloc, registry, formats, left, json),
-        Format::TupleArray(element, size) => {
-            read_array(alloc, registry, element, *size, left, json)
+    match format.kind() {
+        Kind::Scalar(_) => Ok(read_leaf(alloc, format, json)?),
+        Kind::TypeName(name) => read_named(alloc, registry, name, left, json),
+        Kind::Opt(content) => read_option(alloc, registry, content, left, json),
+        Kind::Seq(element) => read_list(alloc, registry, element, left, json),
+        Kind::Map(key, content) => read_map(alloc, registry, key, content, left, json),
+        Kind::Tuple(formats) => read_tuple(alloc, registry, formats, left, json),
+        Kind::TupleArray(element, size) => {
+            read_array(alloc, registry, element, size, left, json)
         }
-        Format::Unit
-        | Format::Bool
-        | Format::U8
-        | Format::U16
-        | Format::U32
-        | Format::U64
-        | Format::U128
-        | Format::I8
-        | Format::I16
-        | Format::I32
-        | Format::I64
-        | Format::I128
-        | Format::F32
-        | Format::F64
-        | Format::Char
-        | Format::Str
-        | Format::Bytes => Ok(read_leaf(alloc, format, json)?),
     }
 }
 

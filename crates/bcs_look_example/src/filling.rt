@@ -9,6 +9,7 @@ use crate::spending::{spend, spend_copies};
 use crate::weighing::{content_of, format_nodes};
 use crate::wish::ExampleForm;
 use bcs_registry::{Format, Named, Registry};
+use bcs_registry_model::{Kind, Scalar, WholeNumber};
 use bcs_value::Value;
 use bcs_value_model::slot::{
     keep, keep_entry, put_items, put_pairs, wrap_named, wrap_present, wrap_variant,
@@ -103,19 +104,17 @@ fn fill<'r>(
 /// The value of the format without parts: numbers 0, truths false, options absent, and all else empty.
 #[inline(never)]
 fn put_empty(alloc: Global, format: &Format, slot: &mut Value) -> Result<(), WantedFault> {
-    *slot = match format {
-        Format::Unit => Value::Unit,
-        Format::Bool => Value::Bool(false),
-        Format::I8 | Format::I16 | Format::I32 | Format::I64 | Format::I128 => Value::Signed(0),
-        Format::U8 | Format::U16 | Format::U32 | Format::U64 | Format::U128 => Value::Unsigned(0),
-        Format::Str => Value::Text(String::new(alloc)),
-        Format::Bytes => Value::Bytes(Vec::new(alloc)),
-        Format::Opt(_) => Value::Absent,
-        Format::Seq(_) | Format::Tuple(_) | Format::TupleArray(..) => {
-            Value::Items(Vec::new(alloc))
-        }
-        Format::Map(..) => Value::Pairs(Vec::new(alloc)),
-        Format::F32 | Format::F64 | Format::Char | Format::TypeName(_) => {
+    *slot = match format.kind() {
+        Kind::Scalar(Scalar::Unit) => Value::Unit,
+        Kind::Scalar(Scalar::Bool) => Value::Bool(false),
+        Kind::Scalar(Scalar::Whole(WholeNumber::Signed(_))) => Value::Signed(0),
+        Kind::Scalar(Scalar::Whole(WholeNumber::Unsigned(_))) => Value::Unsigned(0),
+        Kind::Scalar(Scalar::Str) => Value::Text(String::new(alloc)),
+        Kind::Scalar(Scalar::Bytes) => Value::Bytes(Vec::new(alloc)),
+        Kind::Opt(_) => Value::Absent,
+        Kind::Seq(_) | Kind::Tuple(_) | Kind::TupleArray(..) => Value::Items(Vec::new(alloc)),
+        Kind::Map(..) => Value::Pairs(Vec::new(alloc)),
+        Kind::Scalar(Scalar::Unsupported(_)) | Kind::TypeName(_) => {
             return Err(WantedFault::NoValue);
         }
     };

@@ -3,38 +3,26 @@
 use crate::part::{Content, Part, payload_part};
 use crate::ranks::{Rank, Ranks};
 use bcs_registry::{Container, Format, Named, VariantFormat};
+use bcs_registry_model::{Kind, Scalar};
 use std::collections::BTreeMap;
 
 /// The nodes of the format's least example, or 18446744073709551615 where they are more. `None`: there is none in which at
 /// most so many containers are open at once.
 #[cycle(weighing)]
 pub(crate) fn format_nodes(format: &Format, ranks: &Ranks<'_>, depth: u32) -> Option<u64> {
-    match format {
-        Format::TypeName(name) => Some(ranks.within(name.as_str(), depth)?.nodes),
-        Format::Tuple(formats) => row_nodes(formats, ranks, depth),
-        Format::TupleArray(_, 0) => Some(1),
-        Format::TupleArray(element, size) => {
+    match format.kind() {
+        Kind::TypeName(name) => Some(ranks.within(name, depth)?.nodes),
+        Kind::Tuple(formats) => row_nodes(formats, ranks, depth),
+        Kind::TupleArray(_, 0) => Some(1),
+        Kind::TupleArray(element, size) => {
             let each = format_nodes(element, ranks, depth)?;
-            Some(each.saturating_mul(*size).saturating_add(1))
+            Some(each.saturating_mul(size).saturating_add(1))
         }
-        Format::F32 | Format::F64 | Format::Char => None,
-        Format::Unit
-        | Format::Bool
-        | Format::I8
-        | Format::I16
-        | Format::I32
-        | Format::I64
-        | Format::I128
-        | Format::U8
-        | Format::U16
-        | Format::U32
-        | Format::U64
-        | Format::U128
-        | Format::Str
-        | Format::Bytes
-        | Format::Opt(_)
-        | Format::Seq(_)
-        | Format::Map(_, _) => Some(1),
+        Kind::Scalar(Scalar::Unsupported(_)) => None,
+        Kind::Scalar(Scalar::Unit | Scalar::Bool | Scalar::Whole(_) | Scalar::Str | Scalar::Bytes)
+        | Kind::Opt(_)
+        | Kind::Seq(_)
+        | Kind::Map(_, _) => Some(1),
     }
 }
 

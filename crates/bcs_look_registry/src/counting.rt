@@ -2,7 +2,7 @@
 
 use crate::sizes::Sizes;
 use bcs_num::put_uleb;
-use bcs_registry_model::{Container, Format, Named, VariantFormat};
+use bcs_registry_model::{Container, Format, Kind, Named, Scalar, VariantFormat};
 use std::collections::BTreeMap;
 
 /// The sizes of what stands in the container.
@@ -61,23 +61,22 @@ fn row_sizes(formats: &[Format], known: &BTreeMap<&str, Sizes>) -> Sizes {
 
 #[cycle(sizing)]
 fn format_sizes(format: &Format, known: &BTreeMap<&str, Sizes>) -> Sizes {
-    match format {
-        Format::TypeName(name) => match known.get(name.as_str()) {
+    match format.kind() {
+        Kind::TypeName(name) => match known.get(name) {
             Some(sizes) => *sizes,
             None => Sizes::NoValue,
         },
-        Format::Opt(inner) => {
+        Kind::Opt(inner) => {
             Sizes::exactly(1).or(Sizes::exactly(1).followed_by(format_sizes(inner, known)))
         }
-        Format::Tuple(formats) => row_sizes(formats, known),
-        Format::TupleArray(element, size) => format_sizes(element, known).times(*size),
-        Format::Unit => Sizes::exactly(0),
-        Format::Bool | Format::I8 | Format::U8 => Sizes::exactly(1),
-        Format::I16 | Format::U16 => Sizes::exactly(2),
-        Format::I32 | Format::U32 => Sizes::exactly(4),
-        Format::I64 | Format::U64 => Sizes::exactly(8),
-        Format::I128 | Format::U128 => Sizes::exactly(16),
-        Format::F32 | Format::F64 | Format::Char => Sizes::NoValue,
-        Format::Str | Format::Bytes | Format::Seq(_) | Format::Map(_, _) => Sizes::WITH_LENGTH,
+        Kind::Tuple(formats) => row_sizes(formats, known),
+        Kind::TupleArray(element, size) => format_sizes(element, known).times(size),
+        Kind::Scalar(Scalar::Unit) => Sizes::exactly(0),
+        Kind::Scalar(Scalar::Bool) => Sizes::exactly(1),
+        Kind::Scalar(Scalar::Whole(number)) => Sizes::exactly(number.byte_len() as u64),
+        Kind::Scalar(Scalar::Unsupported(_)) => Sizes::NoValue,
+        Kind::Scalar(Scalar::Str | Scalar::Bytes) | Kind::Seq(_) | Kind::Map(_, _) => {
+            Sizes::WITH_LENGTH
+        }
     }
 }

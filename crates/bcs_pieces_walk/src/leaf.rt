@@ -13,8 +13,7 @@ use crate::opening::{node, unsupported};
 use crate::trail::Trail;
 use bcs_decode_slice::cursor::Cursor;
 use bcs_decode_spec::Stop;
-use bcs_num::Width;
-use bcs_registry_model::Format;
+use bcs_registry_model::{Format, Kind, Scalar, WholeNumber};
 
 /// A value of a format that has no values inside. One of another format is refused, as it is told elsewhere.
 #[inline(never)]
@@ -30,28 +29,24 @@ pub fn tell_leaf<T: Listener>(
     ensures hears { Hears T.heard T.has_lost out.old out.new
         (leaf_told (shape_of format.now) (way_of trail.now) cursor.old.place cursor.old.nodes cursor.old.rest.now) }
 {
-    match format {
-        Format::Unit => node(cursor, trail, out),
-        Format::Bool => tell_truth(cursor, trail, out),
-        Format::U8 => tell_unsigned(cursor, Width::W1, trail, out),
-        Format::U16 => tell_unsigned(cursor, Width::W2, trail, out),
-        Format::U32 => tell_unsigned(cursor, Width::W4, trail, out),
-        Format::U64 => tell_unsigned(cursor, Width::W8, trail, out),
-        Format::U128 => tell_unsigned(cursor, Width::W16, trail, out),
-        Format::I8 => tell_signed(cursor, Width::W1, trail, out),
-        Format::I16 => tell_signed(cursor, Width::W2, trail, out),
-        Format::I32 => tell_signed(cursor, Width::W4, trail, out),
-        Format::I64 => tell_signed(cursor, Width::W8, trail, out),
-        Format::I128 => tell_signed(cursor, Width::W16, trail, out),
-        Format::Str => tell_string(cursor, trail, out),
-        Format::Bytes => tell_byte_string(cursor, trail, out),
-        Format::F32 | Format::F64 | Format::Char => unsupported(cursor, trail, out),
-        Format::TypeName(_) => unsupported(cursor, trail, out),
-        Format::Opt(_) => unsupported(cursor, trail, out),
-        Format::Seq(_) => unsupported(cursor, trail, out),
-        Format::Map(_, _) => unsupported(cursor, trail, out),
-        Format::Tuple(_) => unsupported(cursor, trail, out),
-        Format::TupleArray(_, _) => unsupported(cursor, trail, out),
+    match format.kind() {
+        Kind::Scalar(Scalar::Unit) => node(cursor, trail, out),
+        Kind::Scalar(Scalar::Bool) => tell_truth(cursor, trail, out),
+        Kind::Scalar(Scalar::Whole(WholeNumber::Unsigned(width))) => {
+            tell_unsigned(cursor, width, trail, out)
+        }
+        Kind::Scalar(Scalar::Whole(WholeNumber::Signed(width))) => {
+            tell_signed(cursor, width, trail, out)
+        }
+        Kind::Scalar(Scalar::Str) => tell_string(cursor, trail, out),
+        Kind::Scalar(Scalar::Bytes) => tell_byte_string(cursor, trail, out),
+        Kind::Scalar(Scalar::Unsupported(_)) => unsupported(cursor, trail, out),
+        Kind::TypeName(_) => unsupported(cursor, trail, out),
+        Kind::Opt(_) => unsupported(cursor, trail, out),
+        Kind::Seq(_) => unsupported(cursor, trail, out),
+        Kind::Map(_, _) => unsupported(cursor, trail, out),
+        Kind::Tuple(_) => unsupported(cursor, trail, out),
+        Kind::TupleArray(_, _) => unsupported(cursor, trail, out),
     }
 }
 

@@ -16,6 +16,7 @@ use crate::trail::{Step, Trail, below};
 use bcs_decode_slice::cursor::Cursor;
 use bcs_decode_spec::{Reason, Stop};
 use bcs_registry::{Format, Registry};
+use bcs_registry_model::Kind;
 
 /// Goes past a value of the format, inside which so many containers may open. It keeps nothing of its own, so each level
 /// of a format takes the one frame of the stack that its kind needs.
@@ -35,35 +36,19 @@ pub fn value<'r, 'a, T: Listener>(
     ensures hears { Hears T.heard T.has_lost out.old out.new
         (told registry.now depth (shape_of format.now) (way_of trail.now) cursor.old.place cursor.old.nodes cursor.old.rest.now) }
 {
-    match format {
-        Format::Unit
-        | Format::Bool
-        | Format::U8
-        | Format::U16
-        | Format::U32
-        | Format::U64
-        | Format::U128
-        | Format::I8
-        | Format::I16
-        | Format::I32
-        | Format::I64
-        | Format::I128
-        | Format::F32
-        | Format::F64
-        | Format::Char
-        | Format::Str
-        | Format::Bytes => tell_leaf(format, cursor, trail, out),
-        Format::TypeName(name) => named(registry, name.as_str(), depth, cursor, trail, out),
-        Format::Opt(content) => option(registry, content, depth, cursor, trail, out),
-        Format::Seq(element) => list(registry, element, depth, cursor, trail, out),
-        Format::Map(key, content) => {
+    match format.kind() {
+        Kind::Scalar(_) => tell_leaf(format, cursor, trail, out),
+        Kind::TypeName(name) => named(registry, name, depth, cursor, trail, out),
+        Kind::Opt(content) => option(registry, content, depth, cursor, trail, out),
+        Kind::Seq(element) => list(registry, element, depth, cursor, trail, out),
+        Kind::Map(key, content) => {
             map(registry, Entry { key, content }, depth, cursor, trail, out)
         }
-        Format::Tuple(formats) => tuple(registry, formats, depth, cursor, trail, out),
-        Format::TupleArray(element, size) => {
+        Kind::Tuple(formats) => tuple(registry, formats, depth, cursor, trail, out),
+        Kind::TupleArray(element, size) => {
             let row = Row {
                 element,
-                count: *size,
+                count: size,
             };
             array(registry, row, depth, cursor, trail, out)
         }

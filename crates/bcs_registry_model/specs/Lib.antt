@@ -2,6 +2,7 @@ pub mod Shape
 pub mod Whole
 pub mod Container
 pub mod View
+pub mod Kind
 pub mod WellFormed
 pub mod Breaks
 pub mod Rules

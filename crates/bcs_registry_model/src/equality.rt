@@ -5,6 +5,7 @@ ghost use Rattle.bcs_registry_model.specs.View.{shape_of, formats_shapes, field_
 
 use crate::container::Container;
 use crate::format::Format;
+use crate::kind::Kind;
 use crate::named::Named;
 use crate::variant_format::VariantFormat;
 
@@ -57,35 +58,17 @@ fn is_same_payload(one: &VariantFormat, other: &VariantFormat) -> bool
 fn is_same_format(one: &Format, other: &Format) -> bool
     ensures { result ≡ same_shape (shape_of one.now) (shape_of other.now) }
 {
-    match (one, other) {
-        (Format::Unit, Format::Unit)
-        | (Format::Bool, Format::Bool)
-        | (Format::I8, Format::I8)
-        | (Format::I16, Format::I16)
-        | (Format::I32, Format::I32)
-        | (Format::I64, Format::I64)
-        | (Format::I128, Format::I128)
-        | (Format::U8, Format::U8)
-        | (Format::U16, Format::U16)
-        | (Format::U32, Format::U32)
-        | (Format::U64, Format::U64)
-        | (Format::U128, Format::U128)
-        | (Format::F32, Format::F32)
-        | (Format::F64, Format::F64)
-        | (Format::Char, Format::Char)
-        | (Format::Str, Format::Str)
-        | (Format::Bytes, Format::Bytes) => true,
-        (Format::TypeName(one), Format::TypeName(other)) => one == other,
-        (Format::Opt(one), Format::Opt(other)) | (Format::Seq(one), Format::Seq(other)) => {
+    match (one.kind(), other.kind()) {
+        (Kind::Scalar(one), Kind::Scalar(other)) => one == other,
+        (Kind::TypeName(one), Kind::TypeName(other)) => one == other,
+        (Kind::Opt(one), Kind::Opt(other)) | (Kind::Seq(one), Kind::Seq(other)) => {
             is_same_format(one, other)
         }
-        (Format::Map(key, value), Format::Map(other_key, other_value)) => {
+        (Kind::Map(key, value), Kind::Map(other_key, other_value)) => {
             is_same_format(key, other_key) && is_same_format(value, other_value)
         }
-        (Format::Tuple(one), Format::Tuple(other)) => {
-            are_same_formats(one.as_slice(), other.as_slice())
-        }
-        (Format::TupleArray(one, size), Format::TupleArray(other, other_size)) => {
+        (Kind::Tuple(ones), Kind::Tuple(others)) => are_same_formats(ones, others),
+        (Kind::TupleArray(one, size), Kind::TupleArray(other, other_size)) => {
             size == other_size && is_same_format(one, other)
         }
         _ => false,

@@ -8,13 +8,13 @@ use Rattle.bcs_registry_model.specs.View.{shape_of, formats_shapes, field_of, pa
 use Rattle.bcs_registry_model.specs.declared.named.Named.{Named}
 use Rattle.bcs_registry_model.specs.declared.format.Format.{Format}
 use Rattle.bcs_registry_model.specs.declared.container.Container.{Container}
-use Rattle.bcs_registry_model.proofs.FormatViews.{shape-Opt, shape-Seq, shape-TupleArray, shape-Map, shape-Tuple, shape-TypeName}
+use Rattle.bcs_registry_model.proofs.KindShapes.{shape_seen}
 use Rattle.bcs_registry_model.proofs.Admitted.{content_at-inside, choice_at-inside}
 use Rattle.bcs_decode_spec.specs.declared.reason.Reason.TheVariants.{UnknownVariant}
 use Rattle.bcs_decode_spec.specs.Reading.{fail, key_here, pairs_here, skipping}
 use Rattle.bcs_decode_spec.proofs.LookedUp.{content_found, content_missing, choice_found, choice_missing, levels_in, field_levels_in, formats_next, fields_next}
-use Rattle.bcs_decode_slice.specs.Passing.{skip}
-use Rattle.bcs_decode_slice.proofs.Passings.{past_Unit, past_Bool, past_Str, past_Bytes, past_float, past_8, past_16, past_32, past_64, past_128, unit_is}
+use Rattle.bcs_decode_slice.specs.Passing.{skip, whole_here}
+use Rattle.bcs_decode_slice.proofs.Passings.{past_scalar, unit_is}
 use Rattle.bcs_decode_slice.proofs.PassingParts.{items_stop, items_on, items_end, pairs_stop_key, pairs_end, each, tuple_stop, tuple_on, each_end, each_stop, each_on, named_stop, named_on, content_past, content_shape, content_nothing}
 use Rattle.bcs_decode_source.specs.Kept.{last_bytes, key_of}
 use Rattle.bcs_decode_source.specs.Sees.{rest_of}
@@ -27,7 +27,7 @@ use Rattle.bcs_decode.specs.Reaching.{content_has_no_map, named_reaches_no_map, 
 use Rattle.bcs_decode.proofs.Leading.{leads_ends, leads_done, Reads-bare, Reads-in, Leads-none, Leads-on, Leads-ends, Leads-done, Leads-rest, Leads-stops}
 use Rattle.bcs_decode.proofs.PastEntries.{value_ends, entry_on}
 use Rattle.bcs_decode.proofs.PastKeys.{key_ends, kept_wrong, kept_right}
-use Rattle.bcs_decode.proofs.PastParts.{past_Opt, past_Seq, past_TupleArray, past_Map, past_Tuple, past_TypeName, some_is, held_past, absent_is, option_on, items_same, enter_is, enum_ends, enum_unknown, enum_on}
+use Rattle.bcs_decode.proofs.PastParts.{past_Opt, past_Seq, past_TupleArray, past_Map, past_shape, some_is, held_past, absent_is, option_on, items_same, enter_is, enum_ends, enum_unknown, enum_on}
 use Rattle.bcs_decode.proofs.Sparing.{SparesMemory-exit, SparesMemory-on, format_has_no_map, field_has_no_map, choice_has_no_map, named_content}
 use Rattle.bcs_decode.proofs.+scanning.Goals as goal
 
@@ -36,69 +36,53 @@ fields_shapes fs = field_shapes (map field_of fs)
 
 -- ---- formats
 
-pub values::value-returns-in-Unit-clause-reads : goal.values::value-returns-in-Unit-clause-reads
-values::value-returns-in-Unit-clause-reads g t c =
-    Reads-as (λ p m b. past_Unit c.args.reader.now.registry.now c.args.depth c.args.format.now p m b c.in-Unit.is) c.begin.ensures.reads
+pub values::value-returns-in-Scalar-Unit-clause-reads : goal.values::value-returns-in-Scalar-Unit-clause-reads
+values::value-returns-in-Scalar-Unit-clause-reads g t c =
+    Reads-as (past_scalar c.args.reader.now.registry.now c.args.depth c.args.format.now c.in-Scalar-Unit.field-0 _ (shape_seen c.args.format.now c.kind.result _ c.kind.ensures c.in-Scalar-Unit.is) c.in-Scalar-Unit.field-0-is) c.begin.ensures.reads
 
-pub values::value-returns-in-Bool-clause-reads : goal.values::value-returns-in-Bool-clause-reads
-values::value-returns-in-Bool-clause-reads g t c =
-    Reads-as (λ p m b. past_Bool c.args.reader.now.registry.now c.args.depth c.args.format.now p m b c.in-Bool.is) c.truth.ensures.reads
+pub values::value-returns-in-Scalar-Bool-clause-reads : goal.values::value-returns-in-Scalar-Bool-clause-reads
+values::value-returns-in-Scalar-Bool-clause-reads g t c =
+    Reads-as (past_scalar c.args.reader.now.registry.now c.args.depth c.args.format.now c.in-Scalar-Bool.field-0 _ (shape_seen c.args.format.now c.kind.result _ c.kind.ensures c.in-Scalar-Bool.is) c.in-Scalar-Bool.field-0-is) c.truth.ensures.reads
 
-pub values::value-returns-in-Str-clause-reads : goal.values::value-returns-in-Str-clause-reads
-values::value-returns-in-Str-clause-reads g t c =
-    Reads-as (λ p m b. past_Str c.args.reader.now.registry.now c.args.depth c.args.format.now p m b c.in-Str.is) c.text.ensures.reads
+pub values::value-returns-in-Scalar-Whole-clause-reads : goal.values::value-returns-in-Scalar-Whole-clause-reads
+values::value-returns-in-Scalar-Whole-clause-reads g t c =
+    Reads-as (λ p m b. past_scalar c.args.reader.now.registry.now c.args.depth c.args.format.now c.in-Scalar-Whole.field-0 _ (shape_seen c.args.format.now c.kind.result _ c.kind.ensures c.in-Scalar-Whole.is) c.in-Scalar-Whole.field-0-is p m b ∙ ap (λ n. whole_here n p m b) (sym c.byte_len.ensures)) c.whole.ensures.reads
 
-pub values::value-returns-in-Bytes-clause-reads : goal.values::value-returns-in-Bytes-clause-reads
-values::value-returns-in-Bytes-clause-reads g t c =
-    Reads-as (λ p m b. past_Bytes c.args.reader.now.registry.now c.args.depth c.args.format.now p m b c.in-Bytes.is) c.bytes.ensures.reads
+pub values::value-returns-in-Scalar-Unsupported-clause-reads : goal.values::value-returns-in-Scalar-Unsupported-clause-reads
+values::value-returns-in-Scalar-Unsupported-clause-reads g t c =
+    Reads-as (past_scalar c.args.reader.now.registry.now c.args.depth c.args.format.now c.in-Scalar-Unsupported.field-0 _ (shape_seen c.args.format.now c.kind.result _ c.kind.ensures c.in-Scalar-Unsupported.is) c.in-Scalar-Unsupported.field-0-is) c.unsupported.ensures.reads
 
-pub values::value-returns-in-F32-clause-reads : goal.values::value-returns-in-F32-clause-reads
-values::value-returns-in-F32-clause-reads g t c =
-    Reads-as (λ p m b. past_float c.args.reader.now.registry.now c.args.depth c.args.format.now p m b c.in-F32.is) c.unsupported.ensures.reads
+pub values::value-returns-in-Scalar-Str-clause-reads : goal.values::value-returns-in-Scalar-Str-clause-reads
+values::value-returns-in-Scalar-Str-clause-reads g t c =
+    Reads-as (past_scalar c.args.reader.now.registry.now c.args.depth c.args.format.now c.in-Scalar-Str.field-0 _ (shape_seen c.args.format.now c.kind.result _ c.kind.ensures c.in-Scalar-Str.is) c.in-Scalar-Str.field-0-is) c.text.ensures.reads
 
-pub values::value-returns-in-I8-clause-reads : goal.values::value-returns-in-I8-clause-reads
-values::value-returns-in-I8-clause-reads g t c =
-    Reads-as (λ p m b. past_8 c.args.reader.now.registry.now c.args.depth c.args.format.now p m b c.in-I8.is) c.whole-in-I8.ensures.reads
-
-pub values::value-returns-in-I16-clause-reads : goal.values::value-returns-in-I16-clause-reads
-values::value-returns-in-I16-clause-reads g t c =
-    Reads-as (λ p m b. past_16 c.args.reader.now.registry.now c.args.depth c.args.format.now p m b c.in-I16.is) c.whole-in-I16.ensures.reads
-
-pub values::value-returns-in-I32-clause-reads : goal.values::value-returns-in-I32-clause-reads
-values::value-returns-in-I32-clause-reads g t c =
-    Reads-as (λ p m b. past_32 c.args.reader.now.registry.now c.args.depth c.args.format.now p m b c.in-I32.is) c.whole-in-I32.ensures.reads
-
-pub values::value-returns-in-I64-clause-reads : goal.values::value-returns-in-I64-clause-reads
-values::value-returns-in-I64-clause-reads g t c =
-    Reads-as (λ p m b. past_64 c.args.reader.now.registry.now c.args.depth c.args.format.now p m b c.in-I64.is) c.whole-in-I64.ensures.reads
-
-pub values::value-returns-in-I128-clause-reads : goal.values::value-returns-in-I128-clause-reads
-values::value-returns-in-I128-clause-reads g t c =
-    Reads-as (λ p m b. past_128 c.args.reader.now.registry.now c.args.depth c.args.format.now p m b c.in-I128.is) c.whole.ensures.reads
+pub values::value-returns-in-Scalar-Bytes-clause-reads : goal.values::value-returns-in-Scalar-Bytes-clause-reads
+values::value-returns-in-Scalar-Bytes-clause-reads g t c =
+    Reads-as (past_scalar c.args.reader.now.registry.now c.args.depth c.args.format.now c.in-Scalar-Bytes.field-0 _ (shape_seen c.args.format.now c.kind.result _ c.kind.ensures c.in-Scalar-Bytes.is) c.in-Scalar-Bytes.field-0-is) c.bytes.ensures.reads
 
 pub values::value-returns-in-Opt-clause-reads : goal.values::value-returns-in-Opt-clause-reads
 values::value-returns-in-Opt-clause-reads g t c =
-    Reads-as (λ p m b. past_Opt c.args.reader.now.registry.now c.args.depth c.args.format.now p m b c.in-Opt.part c.in-Opt.is) (rw (← c.deref.ensures) c.option.ensures.reads)
+    Reads-as (λ p m b. past_Opt c.args.reader.now.registry.now c.args.depth c.args.format.now p m b _ (shape_seen c.args.format.now c.kind.result _ c.kind.ensures c.in-Opt.is)) c.option.ensures.reads
 
 pub values::value-returns-in-Seq-clause-reads : goal.values::value-returns-in-Seq-clause-reads
 values::value-returns-in-Seq-clause-reads g t c =
-    Reads-as (λ p m b. past_Seq c.args.reader.now.registry.now c.args.depth c.args.format.now p m b c.in-Seq.element c.in-Seq.is) (rw (← c.deref-in-Seq.ensures) c.items.ensures.reads)
+    Reads-as (λ p m b. past_Seq c.args.reader.now.registry.now c.args.depth c.args.format.now p m b _ (shape_seen c.args.format.now c.kind.result _ c.kind.ensures c.in-Seq.is)) c.items.ensures.reads
 
 pub values::value-returns-in-TupleArray-clause-reads : goal.values::value-returns-in-TupleArray-clause-reads
 values::value-returns-in-TupleArray-clause-reads g t c =
-    Reads-as (λ p m b. past_TupleArray c.args.reader.now.registry.now c.args.depth c.args.format.now p m b c.in-TupleArray.element c.in-TupleArray.size c.in-TupleArray.is) (rw (← c.deref-in-TupleArray.ensures) c.items-in-TupleArray.ensures.reads)
+    Reads-as (λ p m b. past_TupleArray c.args.reader.now.registry.now c.args.depth c.args.format.now p m b _ _ (shape_seen c.args.format.now c.kind.result _ c.kind.ensures c.in-TupleArray.is)) c.items-in-TupleArray.ensures.reads
 
 pub values::value-returns-in-Map-clause-reads : goal.values::value-returns-in-Map-clause-reads
 values::value-returns-in-Map-clause-reads g t c =
-    Reads-as (λ p m b. past_Map c.args.reader.now.registry.now c.args.depth c.args.format.now p m b c.in-Map.key c.in-Map.part c.in-Map.is) (rw (← c.deref-in-Map.ensures, ← c.deref-in-Map-2.ensures) c.pairs.ensures.reads)
+    Reads-as (λ p m b. past_Map c.args.reader.now.registry.now c.args.depth c.args.format.now p m b _ _ (shape_seen c.args.format.now c.kind.result _ c.kind.ensures c.in-Map.is)) c.pairs.ensures.reads
 
 pub values::value-returns-in-Tuple-clause-reads : goal.values::value-returns-in-Tuple-clause-reads
 values::value-returns-in-Tuple-clause-reads g t c =
-    Reads-as (λ p m b. past_Tuple c.args.reader.now.registry.now c.args.depth c.args.format.now p m b c.in-Tuple.formats c.in-Tuple.is) (rw (← c.deref-in-Tuple.ensures.value) c.tuple.ensures.reads)
+    Reads-as (λ p m b. past_shape c.args.reader.now.registry.now c.args.depth c.args.format.now p m b _ (shape_seen c.args.format.now c.kind.result _ c.kind.ensures c.in-Tuple.is)) c.tuple.ensures.reads
 
 pub values::value-returns-in-TypeName-clause-reads : goal.values::value-returns-in-TypeName-clause-reads
 values::value-returns-in-TypeName-clause-reads g t c =
-    Reads-as (λ p m b. past_TypeName c.args.reader.now.registry.now c.args.depth c.args.format.now p m b c.in-TypeName.name c.in-TypeName.is) (rw (← c.as_str.ensures.value) c.named.ensures.reads)
+    Reads-as (λ p m b. past_shape c.args.reader.now.registry.now c.args.depth c.args.format.now p m b _ (shape_seen c.args.format.now c.kind.result _ c.kind.ensures c.in-TypeName.is)) c.named.ensures.reads
 
 pub values::option-returns-in_err-flag_node-clause-reads : goal.values::option-returns-in_err-flag_node-clause-reads
 unfolding option_past
@@ -457,27 +441,27 @@ maps::next_key-returns-clause-reads g t c =
 
 pub values::value-returns-in-Opt-clause-spares : goal.values::value-returns-in-Opt-clause-spares
 values::value-returns-in-Opt-clause-spares g t c =
-    λ h. c.option.ensures.spares (rw c.deref.ensures (ap (reaches_no_map c.args.reader.now.registry.now c.args.depth) (sym (shape-Opt c.args.format.now c.in-Opt.part c.in-Opt.is)) ∙ h))
+    λ h. c.option.ensures.spares (ap (reaches_no_map c.args.reader.now.registry.now c.args.depth) (sym (shape_seen c.args.format.now c.kind.result _ c.kind.ensures c.in-Opt.is)) ∙ h)
 
 pub values::value-returns-in-Seq-clause-spares : goal.values::value-returns-in-Seq-clause-spares
 values::value-returns-in-Seq-clause-spares g t c =
-    λ h. c.items.ensures.spares (rw c.deref-in-Seq.ensures (ap (reaches_no_map c.args.reader.now.registry.now c.args.depth) (sym (shape-Seq c.args.format.now c.in-Seq.element c.in-Seq.is)) ∙ h))
+    λ h. c.items.ensures.spares (ap (reaches_no_map c.args.reader.now.registry.now c.args.depth) (sym (shape_seen c.args.format.now c.kind.result _ c.kind.ensures c.in-Seq.is)) ∙ h)
 
 pub values::value-returns-in-TupleArray-clause-spares : goal.values::value-returns-in-TupleArray-clause-spares
 values::value-returns-in-TupleArray-clause-spares g t c =
-    λ h. c.items-in-TupleArray.ensures.spares (rw c.deref-in-TupleArray.ensures (ap (reaches_no_map c.args.reader.now.registry.now c.args.depth) (sym (shape-TupleArray c.args.format.now c.in-TupleArray.element c.in-TupleArray.size c.in-TupleArray.is)) ∙ h))
+    λ h. c.items-in-TupleArray.ensures.spares (ap (reaches_no_map c.args.reader.now.registry.now c.args.depth) (sym (shape_seen c.args.format.now c.kind.result _ c.kind.ensures c.in-TupleArray.is)) ∙ h)
 
 pub values::value-returns-in-Map-clause-spares : goal.values::value-returns-in-Map-clause-spares
 values::value-returns-in-Map-clause-spares g t c =
-    λ h. absurd (let no = ap (reaches_no_map c.args.reader.now.registry.now c.args.depth) (sym (shape-Map c.args.format.now c.in-Map.key c.in-Map.part c.in-Map.is)) ∙ h in cc)
+    λ h. absurd (let no = ap (reaches_no_map c.args.reader.now.registry.now c.args.depth) (sym (shape_seen c.args.format.now c.kind.result _ c.kind.ensures c.in-Map.is)) ∙ h in cc)
 
 pub values::value-returns-in-Tuple-clause-spares : goal.values::value-returns-in-Tuple-clause-spares
 values::value-returns-in-Tuple-clause-spares g t c =
-    λ h. c.tuple.ensures.spares (rw c.deref-in-Tuple.ensures.value (ap (reaches_no_map c.args.reader.now.registry.now c.args.depth) (sym (shape-Tuple c.args.format.now c.in-Tuple.formats c.in-Tuple.is)) ∙ h))
+    λ h. c.tuple.ensures.spares (ap (reaches_no_map c.args.reader.now.registry.now c.args.depth) (sym (shape_seen c.args.format.now c.kind.result _ c.kind.ensures c.in-Tuple.is)) ∙ h)
 
 pub values::value-returns-in-TypeName-clause-spares : goal.values::value-returns-in-TypeName-clause-spares
 values::value-returns-in-TypeName-clause-spares g t c =
-    λ h. c.named.ensures.spares (rw c.as_str.ensures.value (ap (reaches_no_map c.args.reader.now.registry.now c.args.depth) (sym (shape-TypeName c.args.format.now c.in-TypeName.name c.in-TypeName.is)) ∙ h))
+    λ h. c.named.ensures.spares (ap (reaches_no_map c.args.reader.now.registry.now c.args.depth) (sym (shape_seen c.args.format.now c.kind.result _ c.kind.ensures c.in-TypeName.is)) ∙ h)
 
 pub values::option-returns-then-branch-clause-spares : goal.values::option-returns-then-branch-clause-spares
 values::option-returns-then-branch-clause-spares g t c =

@@ -19,6 +19,7 @@ use Rattle.bcs_decode_source.proofs.StreamedKeys.{key_stop, kept_wrong, kept_rig
 use Rattle.bcs_decode_spec.proofs.LookedUp.{content_found, content_missing, choice_found, choice_missing, levels_in, field_levels_in, formats_next, fields_next}
 use Rattle.bcs_decode_source.proofs.Streamed.{read_leaf, read_whole, read_container, container_missing, container_stop, read_Opt, read_Seq, read_TupleArray, read_Map, read_Tuple, read_TypeName, unit_is, read_tuple, content_shape, enum_stop, enum_unknown, enum_refused, enum_on}
 use Rattle.bcs_decode_source.proofs.StreamedRows.{items_same, items_none, items_more, items_done, items_refused, each_none, each_more, each_done, each_refused, pairs_none, pairs_more, pairs_done, key_refused, value_refused}
+use Rattle.bcs_registry_model.proofs.KindShapes.{shape_seen}
 use Rattle.bcs_registry_model.proofs.Admitted.{content_at-inside, choice_at-inside}
 use Rattle.bcs_decode_source.proofs.Readers.{again, IsSame-then, Reads-as, Reads-then, Reads-put, Onward-none, Onward-then, Onward-done, Onward-ends, Onward-stops, Onward-lacks, Reads-exit}
 use Rattle.bcs_decode_source.proofs.+streaming.Goals as goal
@@ -26,33 +27,33 @@ use Rattle.bcs_decode_source.proofs.+streaming.Goals as goal
 abbrev fields_shapes : List (Named Format) → Shapes
 fields_shapes fs = field_shapes (map field_of fs)
 
-pub values::value-returns-in-Unit-clause-reads : goal.values::value-returns-in-Unit-clause-reads
-values::value-returns-in-Unit-clause-reads g t c =
-    rw (read_leaf c.args.reader.now.registry.now c.args.depth c.args.format.now c.in-Unit.is) c.leaf.ensures.reads
+pub values::value-returns-in-Scalar-clause-reads : goal.values::value-returns-in-Scalar-clause-reads
+values::value-returns-in-Scalar-clause-reads g t c =
+    rw (read_leaf c.args.reader.now.registry.now c.args.depth c.args.format.now c.in-Scalar.field-0 (shape_seen c.args.format.now c.kind.result _ c.kind.ensures c.in-Scalar.is)) c.leaf.ensures.reads
 
 pub values::value-returns-in-Opt-clause-reads : goal.values::value-returns-in-Opt-clause-reads
 values::value-returns-in-Opt-clause-reads g t c =
-    Reads-as (λ p m b. read_Opt c.args.reader.now.registry.now c.args.depth c.args.format.now c.in-Opt.part c.in-Opt.is p m b) (rw (← c.deref.ensures) c.option.ensures.reads)
+    Reads-as (read_Opt c.args.reader.now.registry.now c.args.depth c.args.format.now _ (shape_seen c.args.format.now c.kind.result _ c.kind.ensures c.in-Opt.is)) c.option.ensures.reads
 
 pub values::value-returns-in-Seq-clause-reads : goal.values::value-returns-in-Seq-clause-reads
 values::value-returns-in-Seq-clause-reads g t c =
-    Reads-as (λ p m b. read_Seq c.args.reader.now.registry.now c.args.depth c.args.format.now c.in-Seq.element c.in-Seq.is p m b) (rw (← c.deref-in-Seq.ensures) c.items.ensures.reads)
+    Reads-as (read_Seq c.args.reader.now.registry.now c.args.depth c.args.format.now _ (shape_seen c.args.format.now c.kind.result _ c.kind.ensures c.in-Seq.is)) c.items.ensures.reads
 
 pub values::value-returns-in-TupleArray-clause-reads : goal.values::value-returns-in-TupleArray-clause-reads
 values::value-returns-in-TupleArray-clause-reads g t c =
-    Reads-as (λ p m b. read_TupleArray c.args.reader.now.registry.now c.args.depth c.args.format.now c.in-TupleArray.element c.in-TupleArray.size c.in-TupleArray.is p m b) (rw (← c.deref-in-TupleArray.ensures) c.items-in-TupleArray.ensures.reads)
+    Reads-as (read_TupleArray c.args.reader.now.registry.now c.args.depth c.args.format.now _ _ (shape_seen c.args.format.now c.kind.result _ c.kind.ensures c.in-TupleArray.is)) c.items-in-TupleArray.ensures.reads
 
 pub values::value-returns-in-Map-clause-reads : goal.values::value-returns-in-Map-clause-reads
 values::value-returns-in-Map-clause-reads g t c =
-    Reads-as (λ p m b. read_Map c.args.reader.now.registry.now c.args.depth c.args.format.now c.in-Map.key c.in-Map.part c.in-Map.is p m b) (rw (← c.deref-in-Map.ensures, ← c.deref-in-Map-2.ensures) c.pairs.ensures.reads)
+    Reads-as (read_Map c.args.reader.now.registry.now c.args.depth c.args.format.now _ _ (shape_seen c.args.format.now c.kind.result _ c.kind.ensures c.in-Map.is)) c.pairs.ensures.reads
 
 pub values::value-returns-in-Tuple-clause-reads : goal.values::value-returns-in-Tuple-clause-reads
 values::value-returns-in-Tuple-clause-reads g t c =
-    Reads-as (λ p m b. read_Tuple c.args.reader.now.registry.now c.args.depth c.args.format.now c.in-Tuple.formats c.in-Tuple.is p m b) (rw (← c.deref-in-Tuple.ensures.value) c.tuple.ensures.reads)
+    Reads-as (read_Tuple c.args.reader.now.registry.now c.args.depth c.args.format.now _ (shape_seen c.args.format.now c.kind.result _ c.kind.ensures c.in-Tuple.is)) c.tuple.ensures.reads
 
 pub values::value-returns-in-TypeName-clause-reads : goal.values::value-returns-in-TypeName-clause-reads
 values::value-returns-in-TypeName-clause-reads g t c =
-    Reads-as (λ p m b. read_TypeName c.args.reader.now.registry.now c.args.depth c.args.format.now c.in-TypeName.name c.in-TypeName.is p m b) (rw (← c.as_str.ensures.value) c.named.ensures.reads)
+    Reads-as (read_TypeName c.args.reader.now.registry.now c.args.depth c.args.format.now _ (shape_seen c.args.format.now c.kind.result _ c.kind.ensures c.in-TypeName.is)) c.named.ensures.reads
 
 pub rows::row-loop-init : goal.rows::row-loop-init
 rows::row-loop-init g t c =

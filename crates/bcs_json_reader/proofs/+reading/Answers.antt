@@ -7,6 +7,7 @@ use Rattle.serde_json.specs.View.{view, items_view, members_view}
 use Rattle.bcs_registry_model.specs.Container.{Choice, field_shapes, payload_shape, choice_called}
 use Rattle.bcs_registry_model.specs.View.{shape_of, formats_shapes, field_of, payload_of, choice_of}
 use Rattle.bcs_registry_model.specs.WellFormed.{levels, shapes_levels}
+use Rattle.bcs_registry_model.proofs.KindShapes.{shape_seen}
 use Rattle.bcs_value_model.specs.View.{tree_of, items_trees}
 use Rattle.bcs_value_model.specs.declared.value.Value.{Value}
 use Rattle.bcs_json_spec.specs.Bytes.{is_byte}
@@ -18,7 +19,7 @@ use Rattle.bcs_json_reader.specs.Kinds.{option_json, list_json, enum_json}
 use Rattle.bcs_json_reader.proofs.Rows.{joined, item_more, items_done, each_more, each_done}
 use Rattle.bcs_json_reader.proofs.Counts.{count_formats, items_read, items_fault, tuple_refused, tuple_row, tuple_items, array_other, array_row, array_other_none, array_items}
 use Rattle.bcs_json_reader.proofs.FieldRows.{field_more, fields_done}
-use Rattle.bcs_json_reader.proofs.Formats.{tells_as, option_shape, seq_shape, array_shape, map_shape, levels_here, field_levels_here}
+use Rattle.bcs_json_reader.proofs.Formats.{tells_as, levels_here, field_levels_here}
 use Rattle.bcs_json_reader.proofs.Levels.{container_found, newtype_levels, tuple_levels, struct_levels, variant_levels}
 use Rattle.bcs_json_reader.proofs.OwnKind.{no_array, option_none, seq_none, array_none, map_none, tuple_none, pair_none, struct_none, enum_none}
 use Rattle.bcs_json_reader.proofs.PairRows.{joined_pairs, pair_more, pairs_done}
@@ -30,35 +31,35 @@ use Rattle.bcs_json_reader.proofs.+reading.Goals as goal
 
 pub reading::read-returns-in-Opt-clause-tells : goal.reading::read-returns-in-Opt-clause-tells
 reading::read-returns-in-Opt-clause-tells t c =
-    tells_as tree_of _ _ _ (ap (λ s. read_data c.args.registry.now c.args.left (of s) (view c.args.json)) (option_shape c.args.format.now c.in-Opt.content c.deref.result.now c.in-Opt.is c.deref.ensures)) c.read_option.ensures.tells
+    tells_as tree_of _ _ _ (ap (λ s. read_data c.args.registry.now c.args.left (of s) (view c.args.json)) (shape_seen c.args.format.now c.kind.result _ c.kind.ensures c.in-Opt.is)) c.read_option.ensures.tells
 
 pub reading::read-returns-in-Opt-clause-placed : goal.reading::read-returns-in-Opt-clause-placed
 reading::read-returns-in-Opt-clause-placed t c =
-    placed_as c.args.registry.now _ _ c.read_option.result (ap (λ s. parts c.args.registry.now c.args.left (value (of s)) (view c.args.json)) (option_shape c.args.format.now c.in-Opt.content c.deref.result.now c.in-Opt.is c.deref.ensures)) c.read_option.ensures.placed
+    placed_as c.args.registry.now _ _ c.read_option.result (ap (λ s. parts c.args.registry.now c.args.left (value (of s)) (view c.args.json)) (shape_seen c.args.format.now c.kind.result _ c.kind.ensures c.in-Opt.is)) c.read_option.ensures.placed
 
 pub reading::read-returns-in-Seq-clause-tells : goal.reading::read-returns-in-Seq-clause-tells
 reading::read-returns-in-Seq-clause-tells t c =
-    tells_as tree_of _ _ _ (ap (λ s. read_data c.args.registry.now c.args.left (of s) (view c.args.json)) (seq_shape c.args.format.now c.in-Seq.element c.deref-in-Seq.result.now c.in-Seq.is c.deref-in-Seq.ensures)) c.read_list.ensures.tells
+    tells_as tree_of _ _ _ (ap (λ s. read_data c.args.registry.now c.args.left (of s) (view c.args.json)) (shape_seen c.args.format.now c.kind.result _ c.kind.ensures c.in-Seq.is)) c.read_list.ensures.tells
 
 pub reading::read-returns-in-Seq-clause-placed : goal.reading::read-returns-in-Seq-clause-placed
 reading::read-returns-in-Seq-clause-placed t c =
-    placed_as c.args.registry.now _ _ c.read_list.result (ap (λ s. parts c.args.registry.now c.args.left (value (of s)) (view c.args.json)) (seq_shape c.args.format.now c.in-Seq.element c.deref-in-Seq.result.now c.in-Seq.is c.deref-in-Seq.ensures)) c.read_list.ensures.placed
+    placed_as c.args.registry.now _ _ c.read_list.result (ap (λ s. parts c.args.registry.now c.args.left (value (of s)) (view c.args.json)) (shape_seen c.args.format.now c.kind.result _ c.kind.ensures c.in-Seq.is)) c.read_list.ensures.placed
 
 pub reading::read-returns-in-Map-clause-tells : goal.reading::read-returns-in-Map-clause-tells
 reading::read-returns-in-Map-clause-tells t c =
-    tells_as tree_of _ _ _ (ap (λ s. read_data c.args.registry.now c.args.left (of s) (view c.args.json)) (map_shape c.args.format.now c.in-Map.key c.in-Map.content c.deref-in-Map.result.now c.deref-in-Map-2.result.now c.in-Map.is c.deref-in-Map.ensures c.deref-in-Map-2.ensures)) c.read_map.ensures.tells
+    tells_as tree_of _ _ _ (ap (λ s. read_data c.args.registry.now c.args.left (of s) (view c.args.json)) (shape_seen c.args.format.now c.kind.result _ c.kind.ensures c.in-Map.is)) c.read_map.ensures.tells
 
 pub reading::read-returns-in-Map-clause-placed : goal.reading::read-returns-in-Map-clause-placed
 reading::read-returns-in-Map-clause-placed t c =
-    placed_as c.args.registry.now _ _ c.read_map.result (ap (λ s. parts c.args.registry.now c.args.left (value (of s)) (view c.args.json)) (map_shape c.args.format.now c.in-Map.key c.in-Map.content c.deref-in-Map.result.now c.deref-in-Map-2.result.now c.in-Map.is c.deref-in-Map.ensures c.deref-in-Map-2.ensures)) c.read_map.ensures.placed
+    placed_as c.args.registry.now _ _ c.read_map.result (ap (λ s. parts c.args.registry.now c.args.left (value (of s)) (view c.args.json)) (shape_seen c.args.format.now c.kind.result _ c.kind.ensures c.in-Map.is)) c.read_map.ensures.placed
 
 pub reading::read-returns-in-TupleArray-clause-tells : goal.reading::read-returns-in-TupleArray-clause-tells
 reading::read-returns-in-TupleArray-clause-tells t c =
-    tells_as tree_of _ _ _ (ap (λ s. read_data c.args.registry.now c.args.left (of s) (view c.args.json)) (array_shape c.args.format.now c.in-TupleArray.element c.in-TupleArray.size c.deref-in-TupleArray.result.now c.in-TupleArray.is c.deref-in-TupleArray.ensures)) c.read_array.ensures.tells
+    tells_as tree_of _ _ _ (ap (λ s. read_data c.args.registry.now c.args.left (of s) (view c.args.json)) (shape_seen c.args.format.now c.kind.result _ c.kind.ensures c.in-TupleArray.is)) c.read_array.ensures.tells
 
 pub reading::read-returns-in-TupleArray-clause-placed : goal.reading::read-returns-in-TupleArray-clause-placed
 reading::read-returns-in-TupleArray-clause-placed t c =
-    placed_as c.args.registry.now _ _ c.read_array.result (ap (λ s. parts c.args.registry.now c.args.left (value (of s)) (view c.args.json)) (array_shape c.args.format.now c.in-TupleArray.element c.in-TupleArray.size c.deref-in-TupleArray.result.now c.in-TupleArray.is c.deref-in-TupleArray.ensures)) c.read_array.ensures.placed
+    placed_as c.args.registry.now _ _ c.read_array.result (ap (λ s. parts c.args.registry.now c.args.left (value (of s)) (view c.args.json)) (shape_seen c.args.format.now c.kind.result _ c.kind.ensures c.in-TupleArray.is)) c.read_array.ensures.placed
 
 -- ---- JSON that is refused for its own kind
 

@@ -3,7 +3,7 @@ use Rattle.std.proofs.lemmas.List.{drop_all}
 use Rattle.std.proofs.lemmas.Result.{err_from_is_err_and}
 use Rattle.bcs_registry_model.specs.Shape as shape
 use Rattle.bcs_registry_model.specs.Shape.{Shape, tuple as tuple_shape}
-use Rattle.bcs_registry_model.proofs.FormatViews.{shape-Opt, shape-Seq, shape-Map, shape-TupleArray}
+use Rattle.bcs_registry_model.proofs.KindShapes.{shape_seen}
 use Rattle.bcs_registry_model.specs.Container.{Entries, Content, of, one_of, nothing as no_content, content, field_shapes, payload_shape, content_at, choice_at}
 use Rattle.bcs_registry_model.specs.WellFormed.{levels, shapes_levels}
 use Rattle.bcs_registry_model.specs.declared.container.Container.{Container}
@@ -40,13 +40,13 @@ use Rattle.bcs_pieces_walk.proofs.+walking.Goals as goal
 content_as : (registry : Entries) (d p m : ℕ) (b : List ℕ) (k j : Container) → k ≡ j → content_past registry d (content (container_of k)) p m b ≡ content_past registry d (content (container_of j)) p m b
 content_as registry d p m b k j is = ap (λ (x : Container). content_past registry d (content (container_of x)) p m b) is
 
-pub walking::value-returns-in-Unit-clause-passes : goal.walking::value-returns-in-Unit-clause-passes
-walking::value-returns-in-Unit-clause-passes g t c =
-    passes_here c.tell_leaf.result _ (leaf_past (shape_of c.args.format.now)) c.args.cursor.now c.tell_leaf.new.cursor (λ p m b. leaf_past_is c.args.registry.now c.args.depth c.args.format.now p m b c.in-Unit.is) c.tell_leaf.ensures.passes
+pub walking::value-returns-in-Scalar-clause-passes : goal.walking::value-returns-in-Scalar-clause-passes
+walking::value-returns-in-Scalar-clause-passes g t c =
+    passes_here c.tell_leaf.result _ (leaf_past (shape_of c.args.format.now)) c.args.cursor.now c.tell_leaf.new.cursor (leaf_past_is c.args.registry.now c.args.depth c.args.format.now c.in-Scalar.field-0 (shape_seen c.args.format.now c.kind.result _ c.kind.ensures c.in-Scalar.is)) c.tell_leaf.ensures.passes
 
-pub walking::value-returns-in-Unit-clause-hears : goal.walking::value-returns-in-Unit-clause-hears
-walking::value-returns-in-Unit-clause-hears g t c =
-    hears_as g.T.Listener.heard g.T.Listener.has_lost c.args.out.now c.tell_leaf.new.out _ _ (leaf_told_is c.args.registry.now c.args.depth c.args.format.now (way_of c.args.trail.now) _ _ _ c.in-Unit.is) c.tell_leaf.ensures.hears
+pub walking::value-returns-in-Scalar-clause-hears : goal.walking::value-returns-in-Scalar-clause-hears
+walking::value-returns-in-Scalar-clause-hears g t c =
+    hears_as g.T.Listener.heard g.T.Listener.has_lost c.args.out.now c.tell_leaf.new.out _ _ (leaf_told_is c.args.registry.now c.args.depth c.args.format.now c.in-Scalar.field-0 (shape_seen c.args.format.now c.kind.result _ c.kind.ensures c.in-Scalar.is) (way_of c.args.trail.now) _ _ _) c.tell_leaf.ensures.hears
 
 pub walking::value-named-requires : goal.walking::value-named-requires
 walking::value-named-requires g t c κs within = (omega arith, (within, c.requires.room))
@@ -54,49 +54,49 @@ walking::value-named-requires g t c κs within = (omega arith, (within, c.requir
 pub walking::value-returns-in-Opt-clause-passes : goal.walking::value-returns-in-Opt-clause-passes
 walking::value-returns-in-Opt-clause-passes g t c =
     passes_here c.option.result _ _ c.args.cursor.now c.option.new.cursor
-    (λ p m b. ap (λ (s : Shape). skip c.args.registry.now c.args.depth s p m b) (shape-Opt c.args.format.now c.in-Opt.content c.in-Opt.is ∙ ap (λ (f : Format). shape.option (shape_of f)) (sym c.deref.ensures)))
+    (λ p m b. ap (λ (s : Shape). skip c.args.registry.now c.args.depth s p m b) (shape_seen c.args.format.now c.kind.result _ c.kind.ensures c.in-Opt.is))
     c.option.ensures.passes
 
 pub walking::value-returns-in-Opt-clause-hears : goal.walking::value-returns-in-Opt-clause-hears
 walking::value-returns-in-Opt-clause-hears g t c =
     hears_as g.T.Listener.heard g.T.Listener.has_lost c.args.out.now c.option.new.out _ _
-    (ap (λ (s : Shape). told c.args.registry.now c.args.depth s (way_of c.args.trail.now) c.args.cursor.now.place c.args.cursor.now.nodes c.args.cursor.now.rest.now) (sym (shape-Opt c.args.format.now c.in-Opt.content c.in-Opt.is ∙ ap (λ (f : Format). shape.option (shape_of f)) (sym c.deref.ensures))))
+    (ap (λ (s : Shape). told c.args.registry.now c.args.depth s (way_of c.args.trail.now) c.args.cursor.now.place c.args.cursor.now.nodes c.args.cursor.now.rest.now) (sym (shape_seen c.args.format.now c.kind.result _ c.kind.ensures c.in-Opt.is)))
     c.option.ensures.hears
 
 pub walking::value-returns-in-Seq-clause-passes : goal.walking::value-returns-in-Seq-clause-passes
 walking::value-returns-in-Seq-clause-passes g t c =
     passes_here c.list.result _ _ c.args.cursor.now c.list.new.cursor
-    (λ p m b. ap (λ (s : Shape). skip c.args.registry.now c.args.depth s p m b) (shape-Seq c.args.format.now c.in-Seq.element c.in-Seq.is ∙ ap (λ (f : Format). shape.seq (shape_of f)) (sym c.deref-in-Seq.ensures)))
+    (λ p m b. ap (λ (s : Shape). skip c.args.registry.now c.args.depth s p m b) (shape_seen c.args.format.now c.kind.result _ c.kind.ensures c.in-Seq.is))
     c.list.ensures.passes
 
 pub walking::value-returns-in-Seq-clause-hears : goal.walking::value-returns-in-Seq-clause-hears
 walking::value-returns-in-Seq-clause-hears g t c =
     hears_as g.T.Listener.heard g.T.Listener.has_lost c.args.out.now c.list.new.out _ _
-    (ap (λ (s : Shape). told c.args.registry.now c.args.depth s (way_of c.args.trail.now) c.args.cursor.now.place c.args.cursor.now.nodes c.args.cursor.now.rest.now) (sym (shape-Seq c.args.format.now c.in-Seq.element c.in-Seq.is ∙ ap (λ (f : Format). shape.seq (shape_of f)) (sym c.deref-in-Seq.ensures))))
+    (ap (λ (s : Shape). told c.args.registry.now c.args.depth s (way_of c.args.trail.now) c.args.cursor.now.place c.args.cursor.now.nodes c.args.cursor.now.rest.now) (sym (shape_seen c.args.format.now c.kind.result _ c.kind.ensures c.in-Seq.is)))
     c.list.ensures.hears
 
 pub walking::value-returns-in-Map-clause-passes : goal.walking::value-returns-in-Map-clause-passes
 walking::value-returns-in-Map-clause-passes g t c =
     passes_here c.map.result _ _ c.args.cursor.now c.map.new.cursor
-    (λ p m b. ap (λ (s : Shape). skip c.args.registry.now c.args.depth s p m b) (shape-Map c.args.format.now c.in-Map.key c.in-Map.content c.in-Map.is ∙ ap₂ (λ (f h : Format). shape.map (shape_of f) (shape_of h)) (sym c.deref-in-Map.ensures) (sym c.deref-in-Map-2.ensures)))
+    (λ p m b. ap (λ (s : Shape). skip c.args.registry.now c.args.depth s p m b) (shape_seen c.args.format.now c.kind.result _ c.kind.ensures c.in-Map.is))
     c.map.ensures.passes
 
 pub walking::value-returns-in-Map-clause-hears : goal.walking::value-returns-in-Map-clause-hears
 walking::value-returns-in-Map-clause-hears g t c =
     hears_as g.T.Listener.heard g.T.Listener.has_lost c.args.out.now c.map.new.out _ _
-    (ap (λ (s : Shape). told c.args.registry.now c.args.depth s (way_of c.args.trail.now) c.args.cursor.now.place c.args.cursor.now.nodes c.args.cursor.now.rest.now) (sym (shape-Map c.args.format.now c.in-Map.key c.in-Map.content c.in-Map.is ∙ ap₂ (λ (f h : Format). shape.map (shape_of f) (shape_of h)) (sym c.deref-in-Map.ensures) (sym c.deref-in-Map-2.ensures))))
+    (ap (λ (s : Shape). told c.args.registry.now c.args.depth s (way_of c.args.trail.now) c.args.cursor.now.place c.args.cursor.now.nodes c.args.cursor.now.rest.now) (sym (shape_seen c.args.format.now c.kind.result _ c.kind.ensures c.in-Map.is)))
     c.map.ensures.hears
 
 pub walking::value-returns-in-TupleArray-clause-passes : goal.walking::value-returns-in-TupleArray-clause-passes
 walking::value-returns-in-TupleArray-clause-passes g t c =
     passes_here c.array.result _ _ c.args.cursor.now c.array.new.cursor
-    (λ p m b. ap (λ (s : Shape). skip c.args.registry.now c.args.depth s p m b) (shape-TupleArray c.args.format.now c.in-TupleArray.element c.in-TupleArray.size c.in-TupleArray.is ∙ ap (λ (f : Format). shape.array (shape_of f) c.in-TupleArray.size) (sym c.deref-in-TupleArray.ensures)))
+    (λ p m b. ap (λ (s : Shape). skip c.args.registry.now c.args.depth s p m b) (shape_seen c.args.format.now c.kind.result _ c.kind.ensures c.in-TupleArray.is))
     c.array.ensures.passes
 
 pub walking::value-returns-in-TupleArray-clause-hears : goal.walking::value-returns-in-TupleArray-clause-hears
 walking::value-returns-in-TupleArray-clause-hears g t c =
     hears_as g.T.Listener.heard g.T.Listener.has_lost c.args.out.now c.array.new.out _ _
-    (ap (λ (s : Shape). told c.args.registry.now c.args.depth s (way_of c.args.trail.now) c.args.cursor.now.place c.args.cursor.now.nodes c.args.cursor.now.rest.now) (sym (shape-TupleArray c.args.format.now c.in-TupleArray.element c.in-TupleArray.size c.in-TupleArray.is ∙ ap (λ (f : Format). shape.array (shape_of f) c.in-TupleArray.size) (sym c.deref-in-TupleArray.ensures))))
+    (ap (λ (s : Shape). told c.args.registry.now c.args.depth s (way_of c.args.trail.now) c.args.cursor.now.place c.args.cursor.now.nodes c.args.cursor.now.rest.now) (sym (shape_seen c.args.format.now c.kind.result _ c.kind.ensures c.in-TupleArray.is)))
     c.array.ensures.hears
 
 pub walking::option-returns-in_err-tell_flag-clause-passes : goal.walking::option-returns-in_err-tell_flag-clause-passes

@@ -7,9 +7,9 @@ use Rattle.bcs_registry_model.specs.WellFormed.{levels, shapes_levels}
 use Rattle.bcs_registry_model.specs.View.{shape_of, formats_shapes, field_of, payload_of, choice_of, container_of}
 use Rattle.bcs_registry_model.specs.declared.container.Container.{Container}
 use Rattle.bcs_decode_spec.specs.Reading.{items_here, pairs_here, skipping}
-use Rattle.bcs_registry_model.proofs.FormatViews.{shape-Opt, shape-Seq, shape-Map, shape-TupleArray}
+use Rattle.bcs_registry_model.proofs.KindShapes.{shape_seen}
 use Rattle.bcs_decode_slice.specs.Passing.{skip, node_here, truth_here, whole_here, text_past, bytes_past, unsupported_here}
-use Rattle.bcs_decode_slice.proofs.Passings.{past_Unit, past_Bool, past_Str, past_Bytes, past_float, past_8, past_16, past_32, past_64, past_128, unit_is, passes_from, passes_here}
+use Rattle.bcs_decode_slice.proofs.Passings.{past_scalar, unit_is, passes_from, passes_here}
 use Rattle.bcs_decode_slice.proofs.PassingParts.{option_stop, option_some, option_none, list_stop, list_on, map_stop, map_on, array_stop, array_on, items_stop, items_on, items_end, pairs_stop_key, pairs_stop_value, pairs_on, pairs_end, each, tuple_stop, tuple_on, each_end, each_stop, each_on, named_stop, named_on, content_past, content_shape, content_nothing, variant_stop, variant_unknown, variant_on, named_past}
 use Rattle.bcs_decode_spec.proofs.LookedUp.{content_found, content_missing, choice_found, choice_missing, levels_in, field_levels_in, formats_next, fields_next}
 use Rattle.bcs_registry_model.proofs.Admitted.{content_at-inside, choice_at-inside}
@@ -355,50 +355,46 @@ structure-returns-clause-passes t c =
 
 -- ---- formats
 
-pub value-returns-in-Unit-clause-passes : goal.value-returns-in-Unit-clause-passes
-value-returns-in-Unit-clause-passes t c =
-    passes_here c.node.result _ (node_here) c.args.cursor.now c.node.new.cursor (λ p m b. past_Unit c.args.registry.now c.args.depth c.args.format.now p m b c.in-Unit.is) c.node.ensures.passes
+pub value-returns-in-Scalar-Unit-clause-passes : goal.value-returns-in-Scalar-Unit-clause-passes
+value-returns-in-Scalar-Unit-clause-passes t c =
+    passes_here c.node.result _ (node_here) c.args.cursor.now c.node.new.cursor
+    (past_scalar c.args.registry.now c.args.depth c.args.format.now c.in-Scalar-Unit.field-0 _ (shape_seen c.args.format.now c.kind.result _ c.kind.ensures c.in-Scalar-Unit.is) c.in-Scalar-Unit.field-0-is)
+    c.node.ensures.passes
 
-pub value-returns-in-Bool-clause-passes : goal.value-returns-in-Bool-clause-passes
-value-returns-in-Bool-clause-passes t c =
-    passes_here c.truth.result _ (truth_here) c.args.cursor.now c.truth.new.cursor (λ p m b. past_Bool c.args.registry.now c.args.depth c.args.format.now p m b c.in-Bool.is) c.truth.ensures.passes
+pub value-returns-in-Scalar-Bool-clause-passes : goal.value-returns-in-Scalar-Bool-clause-passes
+value-returns-in-Scalar-Bool-clause-passes t c =
+    passes_here c.truth.result _ (truth_here) c.args.cursor.now c.truth.new.cursor
+    (past_scalar c.args.registry.now c.args.depth c.args.format.now c.in-Scalar-Bool.field-0 _ (shape_seen c.args.format.now c.kind.result _ c.kind.ensures c.in-Scalar-Bool.is) c.in-Scalar-Bool.field-0-is)
+    c.truth.ensures.passes
 
-pub value-returns-in-Str-clause-passes : goal.value-returns-in-Str-clause-passes
-value-returns-in-Str-clause-passes t c =
-    passes_here c.text_value.result _ (text_past) c.args.cursor.now c.text_value.new.cursor (λ p m b. past_Str c.args.registry.now c.args.depth c.args.format.now p m b c.in-Str.is) c.text_value.ensures.passes
+pub value-returns-in-Scalar-Whole-clause-passes : goal.value-returns-in-Scalar-Whole-clause-passes
+value-returns-in-Scalar-Whole-clause-passes t c =
+    passes_here c.whole.result _ (whole_here c.byte_len.result) c.args.cursor.now c.whole.new.cursor
+    (λ p m b. past_scalar c.args.registry.now c.args.depth c.args.format.now c.in-Scalar-Whole.field-0 _ (shape_seen c.args.format.now c.kind.result _ c.kind.ensures c.in-Scalar-Whole.is) c.in-Scalar-Whole.field-0-is p m b ∙ ap (λ n. whole_here n p m b) (sym c.byte_len.ensures))
+    c.whole.ensures.passes
 
-pub value-returns-in-Bytes-clause-passes : goal.value-returns-in-Bytes-clause-passes
-value-returns-in-Bytes-clause-passes t c =
-    passes_here c.bytes_value.result _ (bytes_past) c.args.cursor.now c.bytes_value.new.cursor (λ p m b. past_Bytes c.args.registry.now c.args.depth c.args.format.now p m b c.in-Bytes.is) c.bytes_value.ensures.passes
+pub value-returns-in-Scalar-Unsupported-clause-passes : goal.value-returns-in-Scalar-Unsupported-clause-passes
+value-returns-in-Scalar-Unsupported-clause-passes t c =
+    passes_here c.unsupported.result _ (unsupported_here) c.args.cursor.now c.unsupported.new.cursor
+    (past_scalar c.args.registry.now c.args.depth c.args.format.now c.in-Scalar-Unsupported.field-0 _ (shape_seen c.args.format.now c.kind.result _ c.kind.ensures c.in-Scalar-Unsupported.is) c.in-Scalar-Unsupported.field-0-is)
+    c.unsupported.ensures.passes
 
-pub value-returns-in-I8-clause-passes : goal.value-returns-in-I8-clause-passes
-value-returns-in-I8-clause-passes t c =
-    passes_here c.whole-in-I8.result _ (whole_here 1) c.args.cursor.now c.whole-in-I8.new.cursor (λ p m b. past_8 c.args.registry.now c.args.depth c.args.format.now p m b c.in-I8.is) c.whole-in-I8.ensures.passes
+pub value-returns-in-Scalar-Str-clause-passes : goal.value-returns-in-Scalar-Str-clause-passes
+value-returns-in-Scalar-Str-clause-passes t c =
+    passes_here c.text_value.result _ (text_past) c.args.cursor.now c.text_value.new.cursor
+    (past_scalar c.args.registry.now c.args.depth c.args.format.now c.in-Scalar-Str.field-0 _ (shape_seen c.args.format.now c.kind.result _ c.kind.ensures c.in-Scalar-Str.is) c.in-Scalar-Str.field-0-is)
+    c.text_value.ensures.passes
 
-pub value-returns-in-I16-clause-passes : goal.value-returns-in-I16-clause-passes
-value-returns-in-I16-clause-passes t c =
-    passes_here c.whole-in-I16.result _ (whole_here 2) c.args.cursor.now c.whole-in-I16.new.cursor (λ p m b. past_16 c.args.registry.now c.args.depth c.args.format.now p m b c.in-I16.is) c.whole-in-I16.ensures.passes
-
-pub value-returns-in-I32-clause-passes : goal.value-returns-in-I32-clause-passes
-value-returns-in-I32-clause-passes t c =
-    passes_here c.whole-in-I32.result _ (whole_here 4) c.args.cursor.now c.whole-in-I32.new.cursor (λ p m b. past_32 c.args.registry.now c.args.depth c.args.format.now p m b c.in-I32.is) c.whole-in-I32.ensures.passes
-
-pub value-returns-in-I64-clause-passes : goal.value-returns-in-I64-clause-passes
-value-returns-in-I64-clause-passes t c =
-    passes_here c.whole-in-I64.result _ (whole_here 8) c.args.cursor.now c.whole-in-I64.new.cursor (λ p m b. past_64 c.args.registry.now c.args.depth c.args.format.now p m b c.in-I64.is) c.whole-in-I64.ensures.passes
-
-pub value-returns-in-I128-clause-passes : goal.value-returns-in-I128-clause-passes
-value-returns-in-I128-clause-passes t c =
-    passes_here c.whole.result _ (whole_here 16) c.args.cursor.now c.whole.new.cursor (λ p m b. past_128 c.args.registry.now c.args.depth c.args.format.now p m b c.in-I128.is) c.whole.ensures.passes
-
-pub value-returns-in-F32-clause-passes : goal.value-returns-in-F32-clause-passes
-value-returns-in-F32-clause-passes t c =
-    passes_here c.unsupported.result _ (unsupported_here) c.args.cursor.now c.unsupported.new.cursor (λ p m b. past_float c.args.registry.now c.args.depth c.args.format.now p m b c.in-F32.is) c.unsupported.ensures.passes
+pub value-returns-in-Scalar-Bytes-clause-passes : goal.value-returns-in-Scalar-Bytes-clause-passes
+value-returns-in-Scalar-Bytes-clause-passes t c =
+    passes_here c.bytes_value.result _ (bytes_past) c.args.cursor.now c.bytes_value.new.cursor
+    (past_scalar c.args.registry.now c.args.depth c.args.format.now c.in-Scalar-Bytes.field-0 _ (shape_seen c.args.format.now c.kind.result _ c.kind.ensures c.in-Scalar-Bytes.is) c.in-Scalar-Bytes.field-0-is)
+    c.bytes_value.ensures.passes
 
 pub value-returns-in_err-flag_value-in-Opt-clause-passes : goal.value-returns-in_err-flag_value-in-Opt-clause-passes
 value-returns-in_err-flag_value-in-Opt-clause-passes t c =
     let p = err_from_is_err_and c.from_residual.result c.from_residual.ensures.1 in
-    rw (p.1, p.2, shape-Opt c.args.format.now c.in-Opt.content c.in-Opt.is) (option_stop c.args.registry.now c.args.depth _ _ _ (shape_of c.in-Opt.content.value) _ c.in_err-flag_value-in-Opt.ensures.passes)
+    rw (p.1, p.2, shape_seen c.args.format.now c.kind.result _ c.kind.ensures c.in-Opt.is) (option_stop c.args.registry.now c.args.depth _ _ _ (shape_of c.in-Opt.content.now) _ c.in_err-flag_value-in-Opt.ensures.passes)
 
 pub value-returns-then-branch-clause-passes : goal.value-returns-then-branch-clause-passes
 value-returns-then-branch-clause-passes t c =
@@ -406,20 +402,19 @@ value-returns-then-branch-clause-passes t c =
     let d = c.args.depth in
     let at = c.args.cursor.now in
     let on = c.flag_value.new.cursor in
-    passes_from (λ x. x) c.value.result _ (skip r d (shape_of c.deref.result.now)) at on c.value.new.cursor
-    (ap (λ s. skip r d s at.place at.nodes at.rest.now) (shape-Opt c.args.format.now c.in-Opt.content c.in-Opt.is)
-    ∙ option_some r d at.place at.nodes at.rest.now (shape_of c.in-Opt.content.value) _ on.place on.nodes on.rest.now c.in_ok-flag_value-in-Opt.ensures.passes c.if-branch.true
-    ∙ ap (λ f. skip r d (shape_of f) on.place on.nodes on.rest.now) (sym c.deref.ensures))
+    passes_from (λ x. x) c.value.result _ (skip r d (shape_of c.in-Opt.content.now)) at on c.value.new.cursor
+    (ap (λ s. skip r d s at.place at.nodes at.rest.now) (shape_seen c.args.format.now c.kind.result _ c.kind.ensures c.in-Opt.is)
+    ∙ option_some r d at.place at.nodes at.rest.now (shape_of c.in-Opt.content.now) _ on.place on.nodes on.rest.now c.in_ok-flag_value-in-Opt.ensures.passes c.if-branch.true)
     c.value.ensures.passes
 
 pub value-returns-else-branch-clause-passes : goal.value-returns-else-branch-clause-passes
 value-returns-else-branch-clause-passes t c =
-    rw (shape-Opt c.args.format.now c.in-Opt.content c.in-Opt.is) (option_none c.args.registry.now c.args.depth _ _ _ (shape_of c.in-Opt.content.value) _ _ _ _ c.in_ok-flag_value-in-Opt.ensures.passes c.if-branch.false)
+    rw (shape_seen c.args.format.now c.kind.result _ c.kind.ensures c.in-Opt.is) (option_none c.args.registry.now c.args.depth _ _ _ (shape_of c.in-Opt.content.now) _ _ _ _ c.in_ok-flag_value-in-Opt.ensures.passes c.if-branch.false)
 
 pub value-returns-in_err-count-in-Seq-clause-passes : goal.value-returns-in_err-count-in-Seq-clause-passes
 value-returns-in_err-count-in-Seq-clause-passes t c =
     let p = err_from_is_err_and c.from_residual-in_err-count-in-Seq.result c.from_residual-in_err-count-in-Seq.ensures.1 in
-    rw (p.1, p.2, shape-Seq c.args.format.now c.in-Seq.element c.in-Seq.is) (list_stop c.args.registry.now c.args.depth _ _ _ (shape_of c.in-Seq.element.value) _ c.in_err-count-in-Seq.ensures.passes)
+    rw (p.1, p.2, shape_seen c.args.format.now c.kind.result _ c.kind.ensures c.in-Seq.is) (list_stop c.args.registry.now c.args.depth _ _ _ (shape_of c.in-Seq.element.now) _ c.in_err-count-in-Seq.ensures.passes)
 
 pub value-returns-in_ok-count-in-Seq-clause-passes : goal.value-returns-in_ok-count-in-Seq-clause-passes
 value-returns-in_ok-count-in-Seq-clause-passes t c =
@@ -428,17 +423,17 @@ value-returns-in_ok-count-in-Seq-clause-passes t c =
     let at = c.args.cursor.now in
     let on = c.counted.new.cursor in
     let n = c.in_ok-count-in-Seq.count in
-    passes_from (λ x. x) c.elements.result _ (items_here skipping (skip r d (shape_of c.deref-in-Seq.result.now)) c.from.result) at on c.elements.new.cursor
-    (ap (λ s. skip r d s at.place at.nodes at.rest.now) (shape-Seq c.args.format.now c.in-Seq.element c.in-Seq.is)
-    ∙ list_on r d at.place at.nodes at.rest.now (shape_of c.in-Seq.element.value) n on.place on.nodes on.rest.now c.in_ok-count-in-Seq.ensures.passes
-    ∙ ap (λ f. items_here skipping (skip r d (shape_of f)) n on.place on.nodes on.rest.now) (sym c.deref-in-Seq.ensures)
-    ∙ ap (λ k. items_here skipping (skip r d (shape_of c.deref-in-Seq.result.now)) k on.place on.nodes on.rest.now) (sym c.from.ensures))
+    let s : Shape = shape_of c.in-Seq.element.now in
+    passes_from (λ x. x) c.elements.result _ (items_here skipping (skip r d s) c.from.result) at on c.elements.new.cursor
+    (ap (λ s. skip r d s at.place at.nodes at.rest.now) (shape_seen c.args.format.now c.kind.result _ c.kind.ensures c.in-Seq.is)
+    ∙ list_on r d at.place at.nodes at.rest.now s n on.place on.nodes on.rest.now c.in_ok-count-in-Seq.ensures.passes
+    ∙ ap (λ k. items_here skipping (skip r d s) k on.place on.nodes on.rest.now) (sym c.from.ensures))
     c.elements.ensures.passes
 
 pub value-returns-in_err-count-in-Map-clause-passes : goal.value-returns-in_err-count-in-Map-clause-passes
 value-returns-in_err-count-in-Map-clause-passes t c =
     let p = err_from_is_err_and c.from_residual-in_err-count-in-Map.result c.from_residual-in_err-count-in-Map.ensures.1 in
-    rw (p.1, p.2, shape-Map c.args.format.now c.in-Map.key c.in-Map.content c.in-Map.is) (map_stop c.args.registry.now c.args.depth _ _ _ (shape_of c.in-Map.key.value) (shape_of c.in-Map.content.value) _ c.in_err-count-in-Map.ensures.passes)
+    rw (p.1, p.2, shape_seen c.args.format.now c.kind.result _ c.kind.ensures c.in-Map.is) (map_stop c.args.registry.now c.args.depth _ _ _ (shape_of c.in-Map.key.now) (shape_of c.in-Map.content.now) _ c.in_err-count-in-Map.ensures.passes)
 
 pub value-returns-in_ok-count-in-Map-clause-passes : goal.value-returns-in_ok-count-in-Map-clause-passes
 value-returns-in_ok-count-in-Map-clause-passes t c =
@@ -446,18 +441,18 @@ value-returns-in_ok-count-in-Map-clause-passes t c =
     let d = c.args.depth in
     let at = c.args.cursor.now in
     let on = c.counted-in-Map.new.cursor in
+    let k : Shape = shape_of c.in-Map.key.now in
+    let v : Shape = shape_of c.in-Map.content.now in
     let n = c.in_ok-count-in-Map.count in
-    passes_from (λ x. x) c.entries.result _ (pairs_here skipping (skip r d (shape_of c.deref-in-Map.result.now)) (skip r d (shape_of c.deref-in-Map-2.result.now)) None n) at on c.entries.new.cursor
-    (ap (λ s. skip r d s at.place at.nodes at.rest.now) (shape-Map c.args.format.now c.in-Map.key c.in-Map.content c.in-Map.is)
-    ∙ map_on r d at.place at.nodes at.rest.now (shape_of c.in-Map.key.value) (shape_of c.in-Map.content.value) n on.place on.nodes on.rest.now c.in_ok-count-in-Map.ensures.passes
-    ∙ ap (λ f. pairs_here skipping (skip r d (shape_of f)) (skip r d (shape_of c.in-Map.content.value)) None n on.place on.nodes on.rest.now) (sym c.deref-in-Map.ensures)
-    ∙ ap (λ f. pairs_here skipping (skip r d (shape_of c.deref-in-Map.result.now)) (skip r d (shape_of f)) None n on.place on.nodes on.rest.now) (sym c.deref-in-Map-2.ensures))
+    passes_from (λ x. x) c.entries.result _ (pairs_here skipping (skip r d k) (skip r d v) None n) at on c.entries.new.cursor
+    (ap (λ s. skip r d s at.place at.nodes at.rest.now) (shape_seen c.args.format.now c.kind.result _ c.kind.ensures c.in-Map.is)
+    ∙ map_on r d at.place at.nodes at.rest.now k v n on.place on.nodes on.rest.now c.in_ok-count-in-Map.ensures.passes)
     c.entries.ensures.passes
 
 pub value-returns-in_err-node-in-TupleArray-clause-passes : goal.value-returns-in_err-node-in-TupleArray-clause-passes
 value-returns-in_err-node-in-TupleArray-clause-passes t c =
     let p = err_from_is_err_and c.from_residual-in_err-node-in-TupleArray.result c.from_residual-in_err-node-in-TupleArray.ensures.1 in
-    rw (p.1, p.2, shape-TupleArray c.args.format.now c.in-TupleArray.element c.in-TupleArray.size c.in-TupleArray.is) (array_stop c.args.registry.now c.args.depth _ _ _ (shape_of c.in-TupleArray.element.value) c.in-TupleArray.size _ c.in_err-node-in-TupleArray.ensures.passes)
+    rw (p.1, p.2, shape_seen c.args.format.now c.kind.result _ c.kind.ensures c.in-TupleArray.is) (array_stop c.args.registry.now c.args.depth _ _ _ (shape_of c.in-TupleArray.element.now) c.in-TupleArray.size _ c.in_err-node-in-TupleArray.ensures.passes)
 
 pub value-returns-in_ok-node-in-TupleArray-clause-passes : goal.value-returns-in_ok-node-in-TupleArray-clause-passes
 value-returns-in_ok-node-in-TupleArray-clause-passes t c =
@@ -465,9 +460,9 @@ value-returns-in_ok-node-in-TupleArray-clause-passes t c =
     let d = c.args.depth in
     let at = c.args.cursor.now in
     let on = c.node-in-TupleArray.new.cursor in
+    let s : Shape = shape_of c.in-TupleArray.element.now in
     let n = c.in-TupleArray.size in
-    passes_from (λ x. x) c.elements-in-TupleArray.result _ (items_here skipping (skip r d (shape_of c.deref-in-TupleArray.result.now)) n) at on c.elements-in-TupleArray.new.cursor
-    (ap (λ s. skip r d s at.place at.nodes at.rest.now) (shape-TupleArray c.args.format.now c.in-TupleArray.element c.in-TupleArray.size c.in-TupleArray.is)
-    ∙ array_on r d at.place at.nodes at.rest.now (shape_of c.in-TupleArray.element.value) n on.place on.nodes on.rest.now c.in_ok-node-in-TupleArray.ensures.passes
-    ∙ ap (λ f. items_here skipping (skip r d (shape_of f)) n on.place on.nodes on.rest.now) (sym c.deref-in-TupleArray.ensures))
+    passes_from (λ x. x) c.elements-in-TupleArray.result _ (items_here skipping (skip r d s) n) at on c.elements-in-TupleArray.new.cursor
+    (ap (λ s. skip r d s at.place at.nodes at.rest.now) (shape_seen c.args.format.now c.kind.result _ c.kind.ensures c.in-TupleArray.is)
+    ∙ array_on r d at.place at.nodes at.rest.now s n on.place on.nodes on.rest.now c.in_ok-node-in-TupleArray.ensures.passes)
     c.elements-in-TupleArray.ensures.passes

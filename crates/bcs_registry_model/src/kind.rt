@@ -1,0 +1,55 @@
+//! Formats by kind: the one place that tells the words of formats without parts apart.
+ghost use Rattle.std.specs.Prelude.{◌≡◌};
+ghost use Rattle.bcs_registry_model.specs.Kind.{kind_shape};
+ghost use Rattle.bcs_registry_model.specs.View.{shape_of};
+
+use crate::format::Format;
+use crate::scalar::{Scalar, Unsupported};
+use crate::whole_number::WholeNumber;
+use bcs_num::Width;
+
+/// What a format is, as walks look at it: its words without parts by what their values are, and the parts of all others.
+#[derive(Clone, Copy)]
+pub enum Kind<'a> {
+    Scalar(Scalar),
+    TypeName(&'a str),
+    Opt(&'a Format),
+    Seq(&'a Format),
+    Map(&'a Format, &'a Format),
+    Tuple(&'a [Format]),
+    TupleArray(&'a Format, u64),
+}
+
+impl Format {
+    /// What the format is. It is part of its callers, so that a match on it is one step.
+    #[inline(always)]
+    pub fn kind(&self) -> Kind<'_>
+        ensures { kind_shape result ≡ shape_of self.now }
+    {
+        match self {
+            Format::Unit => Kind::Scalar(Scalar::Unit),
+            Format::Bool => Kind::Scalar(Scalar::Bool),
+            Format::I8 => Kind::Scalar(Scalar::Whole(WholeNumber::Signed(Width::W1))),
+            Format::I16 => Kind::Scalar(Scalar::Whole(WholeNumber::Signed(Width::W2))),
+            Format::I32 => Kind::Scalar(Scalar::Whole(WholeNumber::Signed(Width::W4))),
+            Format::I64 => Kind::Scalar(Scalar::Whole(WholeNumber::Signed(Width::W8))),
+            Format::I128 => Kind::Scalar(Scalar::Whole(WholeNumber::Signed(Width::W16))),
+            Format::U8 => Kind::Scalar(Scalar::Whole(WholeNumber::Unsigned(Width::W1))),
+            Format::U16 => Kind::Scalar(Scalar::Whole(WholeNumber::Unsigned(Width::W2))),
+            Format::U32 => Kind::Scalar(Scalar::Whole(WholeNumber::Unsigned(Width::W4))),
+            Format::U64 => Kind::Scalar(Scalar::Whole(WholeNumber::Unsigned(Width::W8))),
+            Format::U128 => Kind::Scalar(Scalar::Whole(WholeNumber::Unsigned(Width::W16))),
+            Format::F32 => Kind::Scalar(Scalar::Unsupported(Unsupported::F32)),
+            Format::F64 => Kind::Scalar(Scalar::Unsupported(Unsupported::F64)),
+            Format::Char => Kind::Scalar(Scalar::Unsupported(Unsupported::Char)),
+            Format::Str => Kind::Scalar(Scalar::Str),
+            Format::Bytes => Kind::Scalar(Scalar::Bytes),
+            Format::TypeName(name) => Kind::TypeName(name.as_str()),
+            Format::Opt(content) => Kind::Opt(content),
+            Format::Seq(element) => Kind::Seq(element),
+            Format::Map(key, value) => Kind::Map(key, value),
+            Format::Tuple(formats) => Kind::Tuple(formats.as_slice()),
+            Format::TupleArray(element, size) => Kind::TupleArray(element, *size),
+        }
+    }
+}
