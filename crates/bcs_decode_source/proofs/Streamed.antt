@@ -1,9 +1,9 @@
 -- The parsers of values, as they are read from a source.
-use Rattle.std.proofs.Common.{◌≡◌, ℕ, zero, suc, true, ◌-◌, ◌<◌, List, Some, None, Ok, Err, Box, Vec, Global, String, string_bytes, refl, ap, ◌∙◌, arith}
+use Rattle.std.proofs.Common.{◌≡◌, ℕ, zero, suc, ◌-◌, ◌<◌, List, Some, None, Ok, Err, refl, ap, ◌∙◌, arith}
 use Rattle.bcs_registry_model.specs.Shape as shape
 use Rattle.bcs_registry_model.specs.Shape.{Shape, Shapes}
 use Rattle.bcs_registry_model.specs.Container.{Entries, Content, Choice, of, one_of, nothing, content_at, choice_at}
-use Rattle.bcs_registry_model.specs.View.{shape_of, formats_shapes}
+use Rattle.bcs_registry_model.specs.View.{shape_of}
 use Rattle.bcs_registry_model.specs.Kind.{scalar_shape}
 use Rattle.bcs_registry_model.specs.Whole.{whole_shape}
 use Rattle.bcs_registry_model.specs.declared.scalar.Scalar.{Scalar}

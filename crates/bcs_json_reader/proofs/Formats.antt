@@ -1,5 +1,5 @@
 -- Formats with formats inside, and how many levels these have.
-use Rattle.std.proofs.Common.{◌≡◌, ◌∙◌, ℕ, zero, suc, ◌≤◌, List, [], ◌∷◌, map, drop, Box, Global, Result, ap, sym, subst, arith, rules}
+use Rattle.std.proofs.Common.{◌≡◌, ℕ, zero, suc, ◌≤◌, List, [], ◌∷◌, map, drop, Result, ap, sym, subst, arith}
 use Rattle.bcs_registry_model.specs.Container.{field_shapes}
 use Rattle.bcs_registry_model.specs.View.{shape_of, formats_shapes, field_of}
 use Rattle.bcs_registry_model.specs.WellFormed.{levels, shapes_levels}

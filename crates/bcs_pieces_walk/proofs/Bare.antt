@@ -1,5 +1,5 @@
 -- Values without values inside.
-use Rattle.std.proofs.Common.{◌≡◌, ℕ, zero, suc, List, [], ◌∷◌, true, Ok, Err, refl, sym}
+use Rattle.std.proofs.Common.{◌≡◌, ℕ, zero, suc, List, true, Ok, Err, refl, sym}
 use Rattle.std.specs.Int.{w8, byte_len, from_le_bytes, cast_signed}
 use Rattle.bcs_registry_model.specs.Shape as shape
 use Rattle.bcs_registry_model.specs.Shape.{Shape}
@@ -19,7 +19,7 @@ use Rattle.bcs_pieces_spec.specs.Way.{Way}
 use Rattle.bcs_pieces_spec.specs.Piece as pieces
 use Rattle.bcs_pieces_spec.specs.Piece.{Meaning}
 use Rattle.bcs_pieces_spec.specs.Told as wanted
-use Rattle.bcs_pieces_spec.specs.Told.{Wanted, halt}
+use Rattle.bcs_pieces_spec.specs.Told.{Wanted}
 use Rattle.bcs_pieces_spec.specs.Pieces.{is_octet}
 use Rattle.bcs_pieces_spec.specs.Telling.{tell, tell_shape, silent, halting, begun, note, noting, noting_then, going}
 use Rattle.bcs_pieces_walk.specs.Leaf.{bytes_node, gone, needing, leaf_past, leaf_told}

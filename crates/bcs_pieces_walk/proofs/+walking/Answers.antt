@@ -1,7 +1,6 @@
 use Rattle.std.proofs.Common.{◌≡◌, ℕ, List, ◌∙◌, string_bytes, take, ◌+◌, ◌-◌, ◌++◌, ◌≤◌, suc, [], ◌∷◌, Err, None, drop, map, ap, ap₂, sym, refl, arith, rules}
 use Rattle.std.proofs.lemmas.List.{drop_all}
 use Rattle.std.proofs.lemmas.Result.{err_from_is_err_and}
-use Rattle.bcs_registry_model.specs.Shape as shape
 use Rattle.bcs_registry_model.specs.Shape.{Shape, tuple as tuple_shape}
 use Rattle.bcs_registry_model.proofs.KindShapes.{shape_seen}
 use Rattle.bcs_registry_model.specs.Container.{Entries, Content, of, one_of, nothing as no_content, content, field_shapes, payload_shape, content_at, choice_at}
@@ -9,7 +8,6 @@ use Rattle.bcs_registry_model.specs.WellFormed.{levels, shapes_levels}
 use Rattle.bcs_registry_model.specs.declared.container.Container.{Container}
 use Rattle.bcs_registry_model.specs.declared.variant_format.VariantFormat.{VariantFormat}
 use Rattle.bcs_registry_model.specs.View.{shape_of, formats_shapes, field_of, payload_of, choice_of, container_of}
-use Rattle.bcs_registry_model.specs.declared.format.Format.{Format}
 use Rattle.bcs_decode_spec.specs.declared.reason.Reason.TheVariants.{BadOption}
 use Rattle.bcs_decode_spec.specs.Reading.{items_here, pairs_here, skipping}
 use Rattle.bcs_keys.specs.Following.{key_bytes}
