@@ -71,14 +71,14 @@ function judgedWords(calls, ask, { command, words }) {
 function valueJob(calls, job, ask, first, input) {
   switch (job.command) {
     case 'encode':
-      return textJob(calls, calls.toBcs(ask, input), placeInText(calls, ask, input), ({ output }) => digits(output, job.raw));
+      return textJob(calls, calls.toBcs(ask, input), placeInText(calls, ask, input), ({ output }) => coded(output, job));
     case 'normalise':
       return textJob(calls, calls.normalise(ask, input), placeInText(calls, ask, input), ({ output }) => [output, line('')]);
     case 'same':
       return textJob(calls, calls.compare(ask, first, input), placeInTexts(calls, ask, first, input), () => line('equal'));
   }
-  const bytes = job.raw ? input : bytesOfDigits(input);
-  return bytes === undefined ? refused('BadHex') : bytesJob(calls, job, ask, bytes);
+  const bytes = bytesOfInput(input, job);
+  return bytes === undefined ? refused(job.base64 ? 'BadBase64' : 'BadHex') : bytesJob(calls, job, ask, bytes);
 }
 
 function textJob(calls, answer, placing, put) {
@@ -104,19 +104,19 @@ function stopJob(calls, ask, bytes, answer, put) {
   return refusal(calls, answer, placeInBytes(calls, ask, bytes));
 }
 
-function scan(calls, ask, bytes, { front, raw }) {
+function scan(calls, ask, bytes, job) {
   const answer = calls.scan(ask, bytes);
-  const isShort = answer.status === 'done' && answer.length < bytes.length && !front;
+  const isShort = answer.status === 'done' && answer.length < bytes.length && !job.front;
   // (as the program, which doesn't hold raw bytes, it doesn't tell where they stop)
-  const placing = raw ? undefined : placeInBytes(calls, ask, bytes);
+  const placing = isRaw(job) ? undefined : placeInBytes(calls, ask, bytes);
   if (isShort) return refused(`TrailingBytes at ${answer.length}`, placing?.('TrailingBytes'));
   return answer.status === 'done' ? done(line(`ok ${answer.length}`)) : refusal(calls, answer, placing);
 }
 
-function part(calls, ask, bytes, { words, raw }) {
-  const answer = calls.part(ask, bytes, encoder.encode(words.PATH));
-  if (answer.status === 'no') return { status: 1, output: raw ? NONE : line('none') };
-  return stopJob(calls, ask, bytes, answer, ({ place, length }) => digits(bytes.subarray(place, place + length), raw));
+function part(calls, ask, bytes, job) {
+  const answer = calls.part(ask, bytes, encoder.encode(job.words.PATH));
+  if (answer.status === 'no') return { status: 1, output: isRaw(job) ? NONE : line('none') };
+  return stopJob(calls, ask, bytes, answer, ({ place, length }) => coded(bytes.subarray(place, place + length), job));
 }
 
 function explain(calls, ask, bytes, { json, tree, paths }) {
@@ -202,17 +202,25 @@ function line(text) {
   return encoder.encode(`${text}\n`);
 }
 
-function digits(bytes, isRaw) {
-  return isRaw ? bytes : line(Buffer.from(bytes).toString('hex'));
+/** Whether bytes are read and written as they are: `--base64` goes before `--raw`. */
+function isRaw({ raw, base64 }) {
+  return raw && !base64;
 }
 
-/** The bytes of digits with blanks around them, or `undefined` where they are none. */
-function bytesOfDigits(input) {
+function coded(bytes, job) {
+  return isRaw(job) ? bytes : line(Buffer.from(bytes).toString(job.base64 ? 'base64' : 'hex'));
+}
+
+/** The bytes that an input gives, or `undefined` where it gives none. Blanks may stand around digits and base64. */
+function bytesOfInput(input, job) {
+  if (isRaw(job)) return input;
   const isBlank = (byte) => byte === 32 || byte === 9 || byte === 13 || byte === 10;
   let [start, end] = [0, input.length];
   while (start < end && isBlank(input[start])) start++;
   while (start < end && isBlank(input[end - 1])) end--;
-  // (it stops at what is no digit)
-  const bytes = Buffer.from(Buffer.from(input).toString('latin1', start, end), 'hex');
-  return 2 * bytes.length === end - start ? bytes : undefined;
+  const text = Buffer.from(input).toString('latin1', start, end);
+  const bytes = Buffer.from(text, job.base64 ? 'base64' : 'hex');
+  // (it stops at what is no digit, and takes base64 of other spellings)
+  const isWhole = job.base64 ? bytes.toString('base64') === text : 2 * bytes.length === text.length;
+  return isWhole ? bytes : undefined;
 }

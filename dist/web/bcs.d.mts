@@ -5,9 +5,11 @@ export type Text = string | Bytes;
 
 /**
  * A format of a registry: a container's name; a format as an object, as `{ SEQ: 'U8' }`; or its JSON text, which begins with
- * `{` or `"`, as `'"U64"'`.
+ * `{` or `"`, as `'"U64"'`. Of a registry whose types are known, a name is one of theirs.
  */
-export type Format = string | FormatObject;
+export type Format<T extends Types = AnyTypes> = (keyof T & string) | FormatText | FormatObject;
+
+export type FormatText = `{${string}` | `"${string}`;
 
 export type FormatWord =
   | 'UNIT' | 'BOOL' | 'STR' | 'BYTES' | 'CHAR' | 'F32' | 'F64'
@@ -25,9 +27,9 @@ export type FormatObject =
 export type FormatPart = FormatWord | FormatObject;
 
 /**
- * A value. Whole numbers of 64 and 128 bits are decoded as `bigint`, narrower ones as `number`, and each is taken as either, a
- * `number` where JavaScript holds it exactly. `BYTES` and lists of `U8` are `Uint8Array`, a `MAP` is a `Map`, an option is
- * `null` or `{ some: value }`, a struct an object of its fields, a variant its name or `{ Name: payload }`.
+ * A value as `decode` gives it. Whole numbers of 64 and 128 bits are `bigint`, narrower ones `number`. `BYTES` and lists of `U8`
+ * are `Uint8Array`, a `MAP` is a `Map`, an option is `null` or `{ some: value }`, a struct an object of its fields, a variant its
+ * name or `{ Name: payload }`.
  */
 export type Value =
   | null
@@ -40,6 +42,29 @@ export type Value =
   | Value[]
   | Map<Value, Value>
   | { [name: string]: Value };
+
+/**
+ * A value as `encode` takes it. A whole number is a `bigint`, or a `number` where JavaScript holds it exactly; `BYTES` are an
+ * `ArrayBuffer`, too; and all that JSON values have is taken.
+ */
+export type ValueInput =
+  | Value
+  | readonly ValueInput[]
+  | ReadonlyMap<ValueInput, ValueInput>
+  | { readonly [name: string]: ValueInput };
+
+/** By the names of a registry's containers, what `encode` takes and what `decode` gives. `bcs-types` writes them. */
+export type Types = { [name: string]: { encode: unknown; decode: unknown } };
+
+/** Those of a registry whose types aren't known. */
+export type AnyTypes = { [name: string]: { encode: ValueInput; decode: Value } };
+
+/** What `encode` takes for a format, or `decode` gives: by the types where it is a container's name. */
+export type ValueOf<T extends Types, F, Call extends 'encode' | 'decode'> = F extends FormatText | FormatObject
+  ? AnyTypes[string][Call]
+  : F extends keyof T
+    ? T[F][Call]
+    : never;
 
 export interface Limits {
   /** How many containers may be open at once: at most 500, the standard. */
@@ -117,44 +142,45 @@ export type Bytes = Uint8Array | ArrayBuffer | readonly number[];
 export type Json = null | boolean | number | string | Json[] | { [name: string]: Json };
 
 /**
- * A registry is read once, and holds memory of the module until it is closed or collected.
+ * A registry is read once, and holds memory of the module until it is closed or collected. Where its types are known, values
+ * of its containers have them. `Registry<any>` is one of any types.
  */
-export interface Registry {
+export interface Registry<T extends Types = AnyTypes> {
   /** The names of its containers. */
-  readonly names: string[];
+  readonly names: (keyof T & string)[];
   /** The same registry with other limits. */
-  withLimits(limits: Limits): Registry;
+  withLimits(limits: Limits): Registry<T>;
   /** Gives the registry's memory back, also of those that `withLimits` made of it. From then on calls throw. */
   close(): void;
   /** Returns if the format is good. */
-  check(format: Format): void;
+  check(format: Format<T>): void;
   /** The bytes of a value. */
-  encode(format: Format, value: Value): Uint8Array;
+  encode<F extends Format<T>>(format: F, value: ValueOf<T, F, 'encode'>): Uint8Array;
   /** The bytes of the value that a JSON text denotes. */
-  encodeText(format: Format, text: Text): Uint8Array;
+  encodeText(format: Format<T>, text: Text): Uint8Array;
   /** The value whose bytes are the whole input. */
-  decode(format: Format, bytes: Bytes, options?: { json?: false }): Value;
+  decode<F extends Format<T>>(format: F, bytes: Bytes, options?: { json?: false }): ValueOf<T, F, 'decode'>;
   /** The same as `JSON.parse` makes it of its normal text, so that `JSON.stringify` takes it: wide numbers are strings. */
-  decode(format: Format, bytes: Bytes, options: { json: true }): Json;
+  decode(format: Format<T>, bytes: Bytes, options: { json: true }): Json;
   /** The normal JSON text of that value. */
-  decodeText(format: Format, bytes: Bytes): string;
+  decodeText(format: Format<T>, bytes: Bytes): string;
   /** The one normal JSON text of the value that a JSON text denotes. */
-  normalise(format: Format, text: Text): string;
+  normalise(format: Format<T>, text: Text): string;
   /** Whether two JSON texts denote equal values. */
-  equal(format: Format, first: Text, second: Text): boolean;
+  equal(format: Format<T>, first: Text, second: Text): boolean;
   /** How many bytes the value at the front of the input has. */
-  scan(format: Format, bytes: Bytes): number;
+  scan(format: Format<T>, bytes: Bytes): number;
   /** The part to which a path leads, and its place; `undefined` where it leads nowhere. */
-  part(format: Format, bytes: Bytes, path: Text): { place: number; bytes: Uint8Array } | undefined;
+  part(format: Format<T>, bytes: Bytes, path: Text): { place: number; bytes: Uint8Array } | undefined;
   /** The pieces of the input, and behind them their end, or where they stop being a value. */
-  explain(format: Format, bytes: Bytes): (Piece | End | Stop)[];
+  explain(format: Format<T>, bytes: Bytes): (Piece | End | Stop)[];
   /** The same as lines, as the program `bcs explain` prints them. */
-  explainText(format: Format, bytes: Bytes, form?: 'ways' | 'paths' | 'tree' | 'json'): string;
+  explainText(format: Format<T>, bytes: Bytes, form?: 'ways' | 'paths' | 'tree' | 'json'): string;
 }
 
 export interface Bcs {
-  /** A registry, from its JSON text. */
-  registry(text: Text): Registry;
+  /** A registry, from its JSON text; `registry<Types>(text)` with the types that `bcs-types` wrote of it. */
+  registry<T extends Types = AnyTypes>(text: Text): Registry<T>;
   /** Returns if the newer registry keeps all that the older one has. */
   grows(older: Text, newer: Text): void;
   /** The name of a fault of `bcs.h`, or `undefined` where no fault has the number. */

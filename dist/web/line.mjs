@@ -5,20 +5,26 @@ export class Usage extends Error {}
 
 const VALUE = ['REG', 'FORMAT'];
 const LIMITS = ['depth', 'nodes'];
+const CODINGS = ['raw', 'base64'];
 
 // Each command's words, those that may be left out, and its options.
 const COMMANDS = {
   check: { words: ['REG'], more: [], options: [] },
   grows: { words: ['OLD', 'NEW'], more: [], options: [], beyond: ['list'] },
-  encode: { words: VALUE, more: ['FILE'], options: [...LIMITS, 'raw'], beyond: ['lines'] },
-  decode: { words: VALUE, more: ['FILE'], options: [...LIMITS, 'raw'], beyond: ['lines'] },
-  explain: { words: VALUE, more: ['FILE'], options: [...LIMITS, 'raw', 'paths', 'tree', 'json', 'no-color'], beyond: ['color'] },
+  encode: { words: VALUE, more: ['FILE'], options: [...LIMITS, ...CODINGS], beyond: ['lines'] },
+  decode: { words: VALUE, more: ['FILE'], options: [...LIMITS, ...CODINGS], beyond: ['lines'] },
+  explain: {
+    words: VALUE,
+    more: ['FILE'],
+    options: [...LIMITS, ...CODINGS, 'paths', 'tree', 'json', 'no-color'],
+    beyond: ['color'],
+  },
   normalise: { words: VALUE, more: ['FILE'], options: LIMITS, beyond: ['lines'] },
   same: { words: [...VALUE, 'A'], more: ['B'], options: LIMITS, beyond: ['lines'] },
-  part: { words: [...VALUE, 'PATH'], more: ['FILE'], options: [...LIMITS, 'raw'], beyond: ['lines'] },
-  scan: { words: VALUE, more: ['FILE'], options: [...LIMITS, 'raw', 'front'], beyond: ['lines'] },
+  part: { words: [...VALUE, 'PATH'], more: ['FILE'], options: [...LIMITS, ...CODINGS], beyond: ['lines'] },
+  scan: { words: VALUE, more: ['FILE'], options: [...LIMITS, ...CODINGS, 'front'], beyond: ['lines'] },
 };
-const COMMANDS_BEYOND = ['show', 'example'];
+const COMMANDS_BEYOND = ['show', 'example', 'schema'];
 
 const MOST = { depth: 500, nodes: 0xffffffff };
 const SHORT_HELP = { '-h': '--help', '-V': '--version' };
@@ -60,7 +66,7 @@ function commandJob(command, given) {
 /** Puts an option into the job, and gives how many more words it took. */
 function takeOption(job, seen, word, next) {
   const { options, beyond: others = [] } = COMMANDS[job.command];
-  const [, name, , value] = /^--([a-z-]+)(=(.*))?$/s.exec(word) ?? [];
+  const [, name, , value] = /^--([a-z0-9-]+)(=(.*))?$/s.exec(word) ?? [];
   if (others.includes(name)) throw beyond(`${job.command} --${name}`);
   if (name !== 'quiet' && !options.includes(name)) throw usage(`no such option: ${word}`, job.command);
   if (seen.has(name)) throw usage(`--${name} is given twice`, job.command);

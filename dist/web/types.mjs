@@ -1,0 +1,49 @@
+// The command `bcs-types`, which writes TypeScript declarations of a registry's values.
+import { readFileSync } from 'node:fs';
+import { declarationsOf } from './declarations.mjs';
+import { BcsError, load } from './loader.mjs';
+import { Fault, system } from './system.mjs';
+import { containersOf } from './values.mjs';
+
+const USAGE = `Usage: bcs-types REGISTRY >registry.d.mts
+
+Writes the types of a registry's values for TypeScript. REGISTRY is a file, or the registry's JSON, which begins with {.
+`;
+
+process.exitCode = await run(process.argv.slice(2));
+
+/** Gives the status: 0, 2 of a registry that is refused, 3 of wrong words, 4 of a file. What is wrong goes to standard error. */
+async function run(words) {
+  if (words.length === 1 && ['--help', '-h'].includes(words[0])) {
+    await system.put(Buffer.from(USAGE));
+    return 0;
+  }
+  if (words.length !== 1 || words[0].startsWith('-')) {
+    system.tell(USAGE);
+    return 3;
+  }
+  try {
+    await system.put(Buffer.from(declarationsOf(await containersIn(words[0]))));
+    return 0;
+  } catch (error) {
+    return statusOf(error);
+  }
+}
+
+/** The containers of a registry, which the proved call has read. */
+async function containersIn(word) {
+  const text = word.startsWith('{') ? Buffer.from(word) : await system.read(word);
+  const bcs = await load(readFileSync(new URL('bcs.wasm', import.meta.url)));
+  bcs.registry(text).close();
+  return containersOf(text.toString());
+}
+
+function statusOf(error) {
+  if (error instanceof BcsError && error.kind === 'registry') {
+    system.tell(`${error.message}\n`);
+    return 2;
+  }
+  if (!(error instanceof BcsError || error instanceof Fault)) throw error;
+  system.tell(`fault: ${error instanceof Fault ? error.message : error.kind}${error.place ? ` ${error.place}` : ''}\n`);
+  return 4;
+}
