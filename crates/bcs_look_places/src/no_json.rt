@@ -3,6 +3,9 @@
 use serde_json::{Category, Value};
 use std::alloc::Global;
 
+/// How many lines of comments are passed over, at most.
+const COMMENTS: usize = 100;
+
 const YAML: &str = "; it looks like YAML, and docs/REGISTRIES.md says how it becomes JSON";
 
 /// Where a registry's text stops being JSON, by the line and the column that `serde_json` tells. Chains keep registries as
@@ -15,10 +18,26 @@ pub fn place_of_no_json(alloc: Global, text: &[u8]) -> Option<Vec<u8>> {
     Some(line)
 }
 
-// With three dashes, or with a name and a colon.
+// With three dashes, or with a name and a colon, behind lines of comments.
 fn begins_as_yaml(text: &[u8]) -> bool {
+    let text = without_comments(text);
     let name = text.iter().position(|byte| !is_in_name(*byte)).unwrap_or(0);
     text.starts_with(b"---") || (name > 0 && text.get(name) == Some(&b':'))
+}
+
+fn without_comments(text: &[u8]) -> &[u8] {
+    let mut text = text;
+    for _ in 0..COMMENTS {
+        if !text.starts_with(b"#") {
+            break;
+        }
+        let end = text
+            .iter()
+            .position(|byte| *byte == b'\n')
+            .unwrap_or(text.len());
+        text = text.get(end.saturating_add(1)..).unwrap_or(b"");
+    }
+    text
 }
 
 fn is_in_name(byte: u8) -> bool {
