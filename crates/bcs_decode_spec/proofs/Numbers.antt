@@ -1,17 +1,16 @@
 -- Numbers, lengths, byte strings, texts and flags.
 use Rattle.std.proofs.Common.{◌≡◌, ℕ, suc, ◌+◌, ◌-◌, ◌<◌, ◌≤◌, ◌^◌, ◌==◌, nat_lt, Bool, true, false, if◌then◌else◌, ℤ, List, [], ◌∷◌, ◌++◌, length, take, drop, Result, Ok, Err, refl, sym, ap, ap₂, subst, ◌∙◌, arith, inl, inr}
 use Rattle.std.proofs.lemmas.Bool.{and_parts, and_from, cases_lt, cases_Bool, cases_eq, le-ltb, lt-ltb, ltb-true}
-use Rattle.std.proofs.lemmas.List.{length-append, take-append-drop, length-take, take_at, take_all, drop_at, append-nil}
+use Rattle.std.proofs.lemmas.List.{length-append, take-append-drop, length-take, take_at, drop_at, append-nil}
 use Rattle.std.proofs.lemmas.List.Elements.{All-nil, All-cons, All-head, All-tail}
-use Rattle.std.specs.Int.{Width, byte_len, from_le_bytes, cast_signed, cast_unsigned}
+use Rattle.std.specs.Int.{Width, byte_len, from_le_bytes}
 use Rattle.std.specs.Str.{is_utf8}
 use Rattle.std.specs.Str.Lossy.{utf8_valid_len}
 use Rattle.bcs_num.specs.declared.fault.NumFault.{NumFault}
 use Rattle.bcs_num.specs.declared.fault.NumFault.TheVariants as num
 use Rattle.bcs_num.specs.Uleb.{uleb}
 use Rattle.bcs_num.specs.Le.{IsUnsigned, IsSigned, le, le_signed}
-use Rattle.bcs_num.proofs.LeLaws.{All-le, length-le, le_injective, le_signed_injective}
-use Rattle.bcs_num.proofs.LeReading.{number_read as le_number_read, signed_taken}
+use Rattle.bcs_num.proofs.LeReading.{unsigned_read, unsigned_written, signed_number, signed_read, signed_written}
 use Rattle.bcs_num.proofs.UlebReading as reading
 use Rattle.bcs_num.proofs.UlebReading.{number_from, number_at, number_at_number, number_at_fault, number_at_is_number, number_at_is_fault}
 use Rattle.bcs_value_model.specs.Fits.{are_bytes}
@@ -319,39 +318,12 @@ module _ {A : Type 0} (n : ℕ) (number : List ℕ → A) (Is : A → Type 0) (b
   pub exact_whole : Exact WholeReads (BytesStop n) (chain (bytes_here n) (λ s. give (number s)))
   exact_whole = exact_same (exact_chain (exact_of_bytes (exact_bytes n)) (λ s v r g. exact_give (number s))) to from on back
 
--- the number of a width that bytes write
-unsigned_read : (w : Width) (s : List ℕ) → AreBytes s → length s ≡ byte_len w → IsUnsigned w (from_le_bytes w s) × (s ≡ le w (from_le_bytes w s))
-unsigned_read w s h long =
-    let all : take (byte_len w) s ≡ s = take_all (byte_len w) s (omega (arith, long)) in
-    let k = le_number_read w s s (from_le_bytes w s) (omega (arith, long)) h (sym all) refl in
-    (k.0, sym all ∙ k.1)
-
-unsigned_written : (w : Width) (n : ℕ) → IsUnsigned w n → AreBytes (le w n) × (length (le w n) ≡ byte_len w) × (from_le_bytes w (le w n) ≡ n)
-unsigned_written w n h =
-    let k = unsigned_read w (le w n) (All-le w n) (length-le w n) in
-    (All-le w n, length-le w n, le_injective w (from_le_bytes w (le w n)) n k.0 h (sym k.1))
-
 abbrev pub UnsignedReads : Width → Reads ℕ
 UnsignedReads w x v s = IsUnsigned w x × (v ≡ 0) × (s ≡ le w x)
 
 pub exact_unsigned : (w : Width) → Exact (UnsignedReads w) (BytesStop (byte_len w)) (unsigned_here w)
 unfolding unsigned_here
 exact_unsigned w = exact_whole (byte_len w) (from_le_bytes w) (IsUnsigned w) (le w) (unsigned_read w) (unsigned_written w)
-
-abbrev signed_number : Width → List ℕ → ℤ
-signed_number w s = cast_signed w (from_le_bytes w s)
-
-signed_read : (w : Width) (s : List ℕ) → AreBytes s → length s ≡ byte_len w → IsSigned w (signed_number w s) × (s ≡ le_signed w (signed_number w s))
-signed_read w s h long =
-    let all : take (byte_len w) s ≡ s = take_all (byte_len w) s (omega (arith, long)) in
-    let k = (signed_taken w s s (signed_number w s) (omega (arith, long)) h (sym all) refl).found in
-    (k.0, sym all ∙ k.1)
-
-signed_written : (w : Width) (z : ℤ) → IsSigned w z
-    → AreBytes (le_signed w z) × (length (le_signed w z) ≡ byte_len w) × (signed_number w (le_signed w z) ≡ z)
-signed_written w z h =
-    let k = signed_read w (le_signed w z) (All-le w (cast_unsigned w z)) (length-le w (cast_unsigned w z)) in
-    (All-le w (cast_unsigned w z), length-le w (cast_unsigned w z), le_signed_injective w (signed_number w (le_signed w z)) z k.0 h (sym k.1))
 
 abbrev pub SignedReads : Width → Reads ℤ
 SignedReads w x v s = IsSigned w x × (v ≡ 0) × (s ≡ le_signed w x)

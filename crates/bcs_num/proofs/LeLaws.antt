@@ -55,9 +55,6 @@ pub le_prefix_free : (w : int.Width) (m n : ℕ) (r s : List ℕ) → IsUnsigned
 unfolding le
 le_prefix_free w m n r s h g e = low_bytes-free (byte_len w) m n r s (subst (λ (x : ℕ). m < x) (width_bytes w) h) (subst (λ (x : ℕ). n < x) (width_bytes w) g) e
 
-pub le_injective : (w : int.Width) (m n : ℕ) → IsUnsigned w m → IsUnsigned w n → le w m ≡ le w n → m ≡ n
-le_injective w m n h g e = (le_prefix_free w m n [] [] h g (ap (λ (x : List ℕ). x ++ []) e)).0
-
 -- the two's complement of a signed number is a number of the width
 pub cast_in_range : (w : int.Width) (z : ℤ) → IsSigned w z → IsUnsigned w (cast_unsigned w z)
 cast_in_range w z h = (Fits-of_z h).fits
@@ -66,9 +63,6 @@ pub le_signed_prefix_free : (w : int.Width) (y z : ℤ) (r s : List ℕ) → IsS
 le_signed_prefix_free w y z r s h g e =
     let i = le_prefix_free w (cast_unsigned w y) (cast_unsigned w z) r s (cast_in_range w y h) (cast_in_range w z g) e in
     (sym (to_z-of_z w y h) ∙ ap (cast_signed w) i.0 ∙ to_z-of_z w z g, i.1)
-
-pub le_signed_injective : (w : int.Width) (y z : ℤ) → IsSigned w y → IsSigned w z → le_signed w y ≡ le_signed w z → y ≡ z
-le_signed_injective w y z h g e = (le_signed_prefix_free w y z [] [] h g (ap (λ (x : List ℕ). x ++ []) e)).0
 
 -- ---- std's words
 

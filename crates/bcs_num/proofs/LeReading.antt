@@ -1,19 +1,20 @@
 -- What the calls on little-endian numbers read and write, by std's words.
-use Rattle.std.proofs.Common.{◌≡◌, ℕ, zero, suc, ◌+◌, ◌-◌, ◌*◌, ◌/◌, ◌%◌, ◌^◌, ◌<◌, ◌≤◌, ℤ, List, [], ◌∷◌, ◌++◌, length, take, get_or, refl, sym, ap, subst, ◌∙◌, arith, length-take, Result, Ok, Err}
-use Rattle.std.specs.Prelude.{IfOk, IsErrOf, ◌↔◌}
-use Rattle.std.specs.Result.{result_map_both}
-use Rattle.bcs_num.specs.declared.fault.NumFault.{NumFault}
+use Rattle.std.proofs.Common.{◌≡◌, ℕ, zero, suc, ◌+◌, ◌-◌, ◌*◌, ◌/◌, ◌%◌, ◌^◌, ◌<◌, ◌≤◌, ℤ, pos, negsuc, List, [], ◌∷◌, ◌++◌, length, take, drop, get_or, refl, sym, ap, subst, ◌∙◌, arith, length-take, length-take-le, Option, Some, None, Ok}
+use Rattle.std.specs.Prelude.{IfOk, IfSome, ok_or}
 use Rattle.bcs_num.specs.declared.fault.NumFault.TheVariants.{EndOfInput}
 use Rattle.std.specs.Int as int
 use Rattle.std.specs.Int.{w8, w16, w32, w64, w128, byte_len, byte_worth, sum_through, to_le_bytes, from_le_bytes, cast_unsigned, cast_signed}
+use Rattle.std.specs.Int.Bits.{bit_and}
 use Rattle.std.specs.List.{All}
 use Rattle.std.proofs.Math.Facts.{Fits-of_lt, sfits_to_z}
-use Rattle.std.proofs.Math.Nat.{pow-suc}
+use Rattle.std.proofs.Math.Nat.{pow-suc, mod-eq_of_lt}
 use Rattle.std.proofs.lemmas.Int.{to_z-of_z, of_z-to_z}
-use Rattle.std.proofs.lemmas.List.{take_at}
-use Rattle.std.proofs.lemmas.List.Elements.{All-head, All-tail, All-same, All-take}
+use Rattle.std.proofs.lemmas.Nat.{and_mask}
+use Rattle.std.proofs.lemmas.List.{take_at, drop_at}
+use Rattle.std.proofs.lemmas.List.Elements.{All-head, All-tail, All-take}
+use mir.Val.{bits}
 use Rattle.bcs_num.specs.Le.{IsUnsigned, IsSigned, low_bytes, le, le_signed}
-use Rattle.bcs_num.proofs.LeLaws.{width_bytes, cast_in_range, length-le, le_injective, le_signed_injective, to_le_bytes-le}
+use Rattle.bcs_num.proofs.LeLaws.{width_bytes, cast_in_range, All-le, length-le, le_prefix_free, to_le_bytes-le}
 
 -- the number that bytes write, the lowest first
 number_of : List ℕ → ℕ
@@ -55,98 +56,88 @@ unfolding worth_through number_of
 worth_through-all b [] = omega arith
 worth_through-all b (c ∷ bytes) = worth_through-cons b (c ∷ bytes) (length bytes) ∙ ap (λ (n : ℕ). b + n * 256) (worth_through-all c bytes)
 
-byte_len_pos : (w : int.Width) → 0 < byte_len w
-byte_len_pos w8 = omega arith
-byte_len_pos w16 = omega arith
-byte_len_pos w32 = omega arith
-byte_len_pos w64 = omega arith
-byte_len_pos w128 = omega arith
+pub byte_len_within : (w : int.Width) → (0 < byte_len w) × (byte_len w ≤ 16)
+byte_len_within w8 = (omega arith, omega arith)
+byte_len_within w16 = (omega arith, omega arith)
+byte_len_within w32 = (omega arith, omega arith)
+byte_len_within w64 = (omega arith, omega arith)
+byte_len_within w128 = (omega arith, omega arith)
 
 from_le_bytes-number_of : (w : int.Width) (bytes : List ℕ) → length bytes ≡ byte_len w → from_le_bytes w bytes ≡ number_of bytes
 unfolding worth_through
-from_le_bytes-number_of w [] long = absurd (omega (arith, byte_len_pos w))
+from_le_bytes-number_of w [] long = absurd (omega (arith, (byte_len_within w).0))
 from_le_bytes-number_of w (b ∷ bytes) long =
     let last : byte_len w - 1 ≡ length bytes = omega (arith, long) in
     ap (worth_through (b ∷ bytes)) last ∙ worth_through-all b bytes
 
--- the number that is read from the first bytes is in range, and they are its bytes
-pub number_read : (w : int.Width) (bytes xs : List ℕ) (n : ℕ) → byte_len w ≤ length bytes → All (λ byte. byte < 256) bytes → xs ≡ take (byte_len w) bytes → n ≡ from_le_bytes w xs → IsUnsigned w n × (take (byte_len w) bytes ≡ le w n)
+-- so many bytes are those of their number, which is in range; and a number is that of its bytes
+pub unsigned_read : (w : int.Width) (s : List ℕ) → All (λ byte. byte < 256) s → length s ≡ byte_len w → IsUnsigned w (from_le_bytes w s) × (s ≡ le w (from_le_bytes w s))
 unfolding le
-number_read w bytes xs n enough byte front is =
-    let first : All (λ x. x < 256) xs = All-same (λ x. x < 256) xs (take (byte_len w) bytes) front (All-take (λ x. x < 256) (byte_len w) bytes byte) in
-    let long : length xs ≡ byte_len w = omega (arith, ap length front, length-take (byte_len w) bytes) in
-    let number : n ≡ number_of xs = is ∙ from_le_bytes-number_of w xs long in
-    let below : number_of xs < 256 ^ byte_len w = subst (λ (k : ℕ). number_of xs < 256 ^ k) long (number_of-lt xs first) in (
+unsigned_read w s byte long =
+    let number : from_le_bytes w s ≡ number_of s = from_le_bytes-number_of w s long in
+    let below : number_of s < 256 ^ byte_len w = subst (λ (k : ℕ). number_of s < 256 ^ k) long (number_of-lt s byte) in (
       omega (arith, number, below, width_bytes w),
-      sym front ∙ sym (low_bytes-number_of xs first) ∙ ap (λ (k : ℕ). low_bytes k (number_of xs)) long ∙ ap (low_bytes (byte_len w)) (sym number),
+      sym (low_bytes-number_of s byte) ∙ ap (λ (k : ℕ). low_bytes k (number_of s)) long ∙ ap (low_bytes (byte_len w)) (sym number),
     )
 
--- the clauses of `take_le`
-abbrev pub Verdict : int.Width → List ℕ → Result ℕ NumFault → Type 0
-Verdict w bytes r = record {
-  found : IfOk r (λ n. IsUnsigned w n × (take (byte_len w) bytes ≡ le w n));
-  only : (n : ℕ) → IsUnsigned w n → take (byte_len w) bytes ≡ le w n → r ≡ Ok n;
-  ended : IsErrOf r EndOfInput ↔ (length bytes < byte_len w);
-}
+pub unsigned_written : (w : int.Width) (n : ℕ) → IsUnsigned w n → All (λ byte. byte < 256) (le w n) × (length (le w n) ≡ byte_len w) × (from_le_bytes w (le w n) ≡ n)
+unsigned_written w n h =
+    let k = unsigned_read w (le w n) (All-le w n) (length-le w n) in
+    (All-le w n, length-le w n, (le_prefix_free w (from_le_bytes w (le w n)) n [] [] k.0 h (ap (λ (x : List ℕ). x ++ []) (sym k.1))).0)
 
-pub taken : (w : int.Width) (bytes xs : List ℕ) (n : ℕ) → byte_len w ≤ length bytes → All (λ byte. byte < 256) bytes → xs ≡ take (byte_len w) bytes → n ≡ from_le_bytes w xs → Verdict w bytes (Ok n)
-taken w bytes xs n enough byte front is =
-    let number = number_read w bytes xs n enough byte front is in
+-- the same of signed numbers
+abbrev pub signed_number : int.Width → List ℕ → ℤ
+signed_number w s = cast_signed w (from_le_bytes w s)
+
+pub signed_read : (w : int.Width) (s : List ℕ) → All (λ byte. byte < 256) s → length s ≡ byte_len w → IsSigned w (signed_number w s) × (s ≡ le_signed w (signed_number w s))
+signed_read w s byte long =
+    let k = unsigned_read w s byte long in
+    (sfits_to_z (Fits-of_lt k.0), k.1 ∙ ap (le w) (sym (of_z-to_z w (from_le_bytes w s) k.0)))
+
+pub signed_written : (w : int.Width) (z : ℤ) → IsSigned w z → All (λ byte. byte < 256) (le_signed w z) × (length (le_signed w z) ≡ byte_len w) × (signed_number w (le_signed w z) ≡ z)
+signed_written w z h =
+    let k = unsigned_written w (cast_unsigned w z) (cast_in_range w z h) in
+    (k.0, k.1, ap (cast_signed w) k.2 ∙ to_z-of_z w z h)
+
+-- what `take_le` and `take_le_signed` take
+module _ {A : Type 0} (w : int.Width) (number : List ℕ → A) (Is : A → Type 0) (bytes_of : A → List ℕ) (bytes : List ℕ) where
+  abbrev Front : Option A → Type 0
+  Front r = IfSome r (λ n. (byte_len w ≤ length bytes) × (n ≡ number (take (byte_len w) bytes)))
+
+  pub front_found : (r : Option A) → Front r → All (λ byte. byte < 256) bytes
+      → ((s : List ℕ) → All (λ byte. byte < 256) s → length s ≡ byte_len w → Is (number s) × (s ≡ bytes_of (number s))) → IfOk (ok_or r EndOfInput) (λ n. Is n × (take (byte_len w) bytes ≡ bytes_of n))
+  front_found (Some n) (enough, is) byte read = rw is (read (take (byte_len w) bytes) (All-take (λ x. x < 256) (byte_len w) bytes byte) (length-take-le (byte_len w) bytes enough))
+  front_found None h byte read = tt
+
+  pub front_only : (r : Option A) → Front r → (r ≡ None → length bytes < byte_len w) → ((n : A) → Is n → All (λ byte. byte < 256) (bytes_of n) × (length (bytes_of n) ≡ byte_len w) × (number (bytes_of n) ≡ n))
+      → (n : A) → Is n → take (byte_len w) bytes ≡ bytes_of n → ok_or r EndOfInput ≡ Ok n
+  front_only (Some m) (enough, is) none back n fits first = ap (λ (x : A). Ok x) (is ∙ ap number first ∙ (back n fits).2)
+  front_only None h none back n fits first = absurd (omega (arith, none refl, ap length first, (back n fits).1, length-take (byte_len w) bytes))
+
+-- the lowest bits of a number of the width are its two's complement
+low_bits : (w : int.Width) (z : ℤ) → IsSigned w z → cast_unsigned w128 z % 2 ^ bits w ≡ cast_unsigned w z
+low_bits w (pos n) h = mod-eq_of_lt (cast_in_range w (pos n) h)
+low_bits w8 (negsuc n) h = omega (arith, h.sfits)
+low_bits w16 (negsuc n) h = omega (arith, h.sfits)
+low_bits w32 (negsuc n) h = omega (arith, h.sfits)
+low_bits w64 (negsuc n) h = omega (arith, h.sfits)
+low_bits w128 (negsuc n) h = omega (arith, h.sfits)
+
+pub masked : (w : int.Width) (z : ℤ) (n mask : ℕ) → IsSigned w z → n ≡ cast_unsigned w128 z → mask + 1 ≡ 2 ^ bits w → bit_and n mask ≡ cast_unsigned w z
+masked w z n mask h is ones = let all : mask ≡ 2 ^ bits w - 1 = omega (arith, ones) in rw (all, is) (and_mask (cast_unsigned w128 z) (bits w) ∙ low_bits w z h)
+
+-- the clauses of `put_le`, by what `put_front` leaves
+pub put_is : (w : int.Width) (n k : ℕ) (s old new : List ℕ) → k ≡ byte_len w → s ≡ to_le_bytes w n → new ≡ s ++ drop (byte_len w) old
+    → record { len : k ≡ byte_len w; room : k ≤ 16; bytes : take k new ≡ le w n; rest : drop k new ≡ drop k old }
+put_is w n k s old new size is after =
+    let bytes_are : s ≡ le w n = is ∙ to_le_bytes-le w n in
+    let long : length s ≡ k = ap length bytes_are ∙ length-le w n ∙ sym size in
     record {
-      found = number;
-      only = λ m fits is2. ap (λ (x : ℕ). Ok x) (le_injective w n m number.0 fits (sym number.1 ∙ is2));
-      ended = (λ e. absurd cc, λ short. absurd (omega arith));
+      len = size;
+      room = omega (arith, size, (byte_len_within w).1);
+      bytes = ap (take k) after ∙ take_at s (drop (byte_len w) old) k long ∙ bytes_are;
+      rest = ap (drop k) after ∙ drop_at s (drop (byte_len w) old) k long ∙ ap (λ i. drop i old) (sym size);
     }
-
-pub not_taken : (w : int.Width) (bytes : List ℕ) (r : Result ℕ NumFault) → length bytes < byte_len w → r ≡ Err EndOfInput → Verdict w bytes r
-not_taken w bytes r short is = rw is (record {
-  found = tt;
-  only = λ n fits is2. absurd (omega (arith, ap length is2, length-le w n, length-take (byte_len w) bytes));
-  ended = (λ e. short, λ _. refl);
-})
-
--- the clauses of `take_le_signed`
-abbrev pub SignedVerdict : int.Width → List ℕ → Result ℤ NumFault → Type 0
-SignedVerdict w bytes r = record {
-  found : IfOk r (λ z. IsSigned w z × (take (byte_len w) bytes ≡ le_signed w z));
-  only : (z : ℤ) → IsSigned w z → take (byte_len w) bytes ≡ le_signed w z → r ≡ Ok z;
-  ended : IsErrOf r EndOfInput ↔ (length bytes < byte_len w);
-}
-
--- what `take_le` takes, by two's complement
-pub signed_verdict : (w : int.Width) (bytes : List ℕ) (r : Result ℕ NumFault) (s : Result ℤ NumFault) → Verdict w bytes r → s ≡ result_map_both (cast_signed w) (λ e. e) r → SignedVerdict w bytes s
-signed_verdict w bytes (Ok n) s v is =
-    let back : cast_unsigned w (cast_signed w n) ≡ n = of_z-to_z w n v.found.0 in
-    let bytes_are : take (byte_len w) bytes ≡ le_signed w (cast_signed w n) = v.found.1 ∙ ap (le w) (sym back) in
-    rw is (record {
-      found = (sfits_to_z (Fits-of_lt v.found.0), bytes_are);
-      only = λ z fits is2. ap (λ (x : ℤ). Ok x) (le_signed_injective w (cast_signed w n) z (sfits_to_z (Fits-of_lt v.found.0)) fits (sym bytes_are ∙ is2));
-      ended = (λ e. absurd cc, λ short. absurd (let e = v.ended.1 short in cc));
-    })
-signed_verdict w bytes (Err e) s v is = rw is (record {
-  found = tt;
-  only = λ z fits is2. absurd (let no = v.only (cast_unsigned w z) (cast_in_range w z fits) is2 in cc);
-  ended = (λ same. v.ended.0 (let is : e ≡ EndOfInput = cc in ap Err is), λ short. let same = v.ended.1 short in let is : e ≡ EndOfInput = cc in ap Err is);
-})
-
-pub signed_taken : (w : int.Width) (bytes xs : List ℕ) (z : ℤ) → byte_len w ≤ length bytes → All (λ byte. byte < 256) bytes → xs ≡ take (byte_len w) bytes → z ≡ cast_signed w (from_le_bytes w xs) → SignedVerdict w bytes (Ok z)
-signed_taken w bytes xs z enough byte front is =
-    signed_verdict w bytes (Ok (from_le_bytes w xs)) (Ok z) (taken w bytes xs (from_le_bytes w xs) enough byte front refl) (ap (λ (x : ℤ). Ok x) is)
-
--- a cast to a narrower width keeps a number that fits it
-pub cast_kept : (w : int.Width) (z : ℤ) → IsSigned w128 z → IsSigned w z → cast_unsigned w (cast_signed w (cast_unsigned w (cast_signed w128 (cast_unsigned w128 z)))) ≡ cast_unsigned w z
-cast_kept w z wide fits =
-    ap (λ (y : ℤ). cast_unsigned w (cast_signed w (cast_unsigned w y))) (to_z-of_z w128 z wide) ∙ ap (cast_unsigned w) (to_z-of_z w z fits)
-
--- and of one to 128 bits
-pub widening_kept : (w : int.Width) (y z t : ℤ) → IsSigned w128 z → IsSigned w y → z ≡ cast_signed w (cast_unsigned w y) → y ≡ t → cast_signed w128 (cast_unsigned w128 z) ≡ t
-widening_kept w y z t wide fits is same = to_z-of_z w128 z wide ∙ is ∙ to_z-of_z w y fits ∙ same
-
--- what `put_front` leaves at the front
-pub front_is : (w : int.Width) (n len : ℕ) (bytes new rest : List ℕ) → len ≡ byte_len w → bytes ≡ to_le_bytes w n → new ≡ bytes ++ rest → take len new ≡ le w n
-front_is w n len bytes new rest size is after =
-    let bytes_are : bytes ≡ le w n = is ∙ to_le_bytes-le w n in
-    ap (take len) after ∙ take_at bytes rest len (ap length bytes_are ∙ length-le w n ∙ sym size) ∙ bytes_are
 
 -- a byte is its only byte
 pub byte_low_first : (n : ℕ) → n < 256 → n ∷ [] ≡ to_le_bytes w8 n

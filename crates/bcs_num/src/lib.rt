@@ -11,6 +11,8 @@ mod width;
 
 pub use decimal::{parse_signed, parse_unsigned};
 pub use fault::NumFault;
-pub use little_endian::{put_le, put_le_signed, take_le, take_le_signed};
+pub use little_endian::{
+    front_signed, front_unsigned, put_le, put_le_signed, take_le, take_le_signed,
+};
 pub use uleb::{LENGTH_LIMIT, put_uleb, take_uleb};
 pub use width::Width;

@@ -1,6 +1,6 @@
 //! Whole numbers of a fixed width, as BCS writes them: two's complement, the lowest byte first.
-ghost use Rattle.std.specs.Prelude.{◌≡◌, ℕ, ℤ, ◌<◌, ◌≤◌, ◌++◌, ◌↔◌, Ok, length, take, drop, IfOk, IfErr, IsErrOf};
-ghost use Rattle.std.specs.Int.{byte_len, cast_signed, cast_unsigned};
+ghost use Rattle.std.specs.Prelude.{◌≡◌, ℕ, ℤ, ◌<◌, ◌≤◌, ◌++◌, ◌↔◌, Ok, None, length, take, drop, IfOk, IfSome, IsErrOf};
+ghost use Rattle.std.specs.Int.{byte_len, cast_signed, from_le_bytes};
 ghost use Rattle.bcs_num.specs.Le.{width_of, IsUnsigned, IsSigned, le, le_signed};
 
 use crate::fault::NumFault;
@@ -33,7 +33,17 @@ pub fn put_le_signed(width: Width, n: i128, out: &mut [u8; 16]) -> usize
     ensures bytes { take result out.new ≡ le_signed (width_of width) n }
     ensures rest { drop result out.new ≡ drop result out.old }
 {
-    put_le(width, complement(width, n), out)
+    // Two's complement: the lowest bits of the number's own.
+    put_le(width, n.cast_unsigned() & width.greatest_unsigned(), out)
+}
+
+fn put_front<const N: usize>(bytes: [u8; N], out: &mut [u8; 16]) -> usize
+    requires { N ≤ 16 }
+    ensures len { result ≡ N }
+    ensures after { out.new ≡ bytes.entry ++ drop N out.old }
+{
+    out[..N].copy_from_slice(&bytes);
+    N
 }
 
 /// Takes the unsigned number of the width at the front. `EndOfInput`: there are fewer bytes than
@@ -46,13 +56,7 @@ pub fn take_le(width: Width, bytes: &[u8]) -> Result<u128, NumFault>
     ensures ended { IsErrOf result NumFault.EndOfInput
         ↔ (length bytes.now < byte_len (width_of width)) }
 {
-    match width {
-        Width::W1 => Ok(u128::from(u8::from_le_bytes(front(bytes)?))),
-        Width::W2 => Ok(u128::from(u16::from_le_bytes(front(bytes)?))),
-        Width::W4 => Ok(u128::from(u32::from_le_bytes(front(bytes)?))),
-        Width::W8 => Ok(u128::from(u64::from_le_bytes(front(bytes)?))),
-        Width::W16 => Ok(u128::from_le_bytes(front(bytes)?)),
-    }
+    front_unsigned(width, bytes).ok_or(NumFault::EndOfInput)
 }
 
 /// Takes the signed number of the width at the front. `EndOfInput`: there are fewer bytes than the
@@ -65,53 +69,35 @@ pub fn take_le_signed(width: Width, bytes: &[u8]) -> Result<i128, NumFault>
     ensures ended { IsErrOf result NumFault.EndOfInput
         ↔ (length bytes.now < byte_len (width_of width)) }
 {
-    let n = take_le(width, bytes)?;
-    Ok(signed(width, n))
+    front_signed(width, bytes).ok_or(NumFault::EndOfInput)
 }
 
-// The number with the same bits, by two's complement.
-fn complement(width: Width, z: i128) -> u128
-    requires { IsSigned (width_of width) z }
-    ensures { result ≡ cast_unsigned (width_of width) z }
+/// The unsigned number of the width that the first bytes are. `None`: there are fewer.
+#[inline(always)]
+pub fn front_unsigned(width: Width, bytes: &[u8]) -> Option<u128>
+    ensures found { IfSome result (λ n. (byte_len (width_of width) ≤ length bytes.now) × (n ≡ from_le_bytes (width_of width) (take (byte_len (width_of width)) bytes.now))) }
+    ensures none { result ≡ None → length bytes.now < byte_len (width_of width) }
 {
-    match width {
-        Width::W1 => u128::from((z as i8).cast_unsigned()),
-        Width::W2 => u128::from((z as i16).cast_unsigned()),
-        Width::W4 => u128::from((z as i32).cast_unsigned()),
-        Width::W8 => u128::from((z as i64).cast_unsigned()),
-        Width::W16 => z.cast_unsigned(),
-    }
+    Some(match width {
+        Width::W1 => u128::from(u8::from_le_bytes(*bytes.first_chunk()?)),
+        Width::W2 => u128::from(u16::from_le_bytes(*bytes.first_chunk()?)),
+        Width::W4 => u128::from(u32::from_le_bytes(*bytes.first_chunk()?)),
+        Width::W8 => u128::from(u64::from_le_bytes(*bytes.first_chunk()?)),
+        Width::W16 => u128::from_le_bytes(*bytes.first_chunk()?),
+    })
 }
 
-// The number whose two's complement has these bits.
-fn signed(width: Width, n: u128) -> i128
-    requires { IsUnsigned (width_of width) n }
-    ensures { result ≡ cast_signed (width_of width) n }
+/// The signed number of the width that the first bytes are. `None`: there are fewer.
+#[inline(always)]
+pub fn front_signed(width: Width, bytes: &[u8]) -> Option<i128>
+    ensures found { IfSome result (λ z. (byte_len (width_of width) ≤ length bytes.now) × (z ≡ cast_signed (width_of width) (from_le_bytes (width_of width) (take (byte_len (width_of width)) bytes.now)))) }
+    ensures none { result ≡ None → length bytes.now < byte_len (width_of width) }
 {
-    match width {
-        Width::W1 => i128::from((n as u8).cast_signed()),
-        Width::W2 => i128::from((n as u16).cast_signed()),
-        Width::W4 => i128::from((n as u32).cast_signed()),
-        Width::W8 => i128::from((n as u64).cast_signed()),
-        Width::W16 => n.cast_signed(),
-    }
-}
-
-fn put_front<const N: usize>(bytes: [u8; N], out: &mut [u8; 16]) -> usize
-    requires { N ≤ 16 }
-    ensures len { result ≡ N }
-    ensures after { out.new ≡ bytes.entry ++ drop N out.old }
-{
-    out[..N].copy_from_slice(&bytes);
-    N
-}
-
-fn front<const N: usize>(bytes: &[u8]) -> Result<[u8; N], NumFault>
-    ensures found { IfOk result (λ xs. (N ≤ length bytes.now) × (xs ≡ take N bytes.now)) }
-    ensures ended { IfErr result (λ e. (e ≡ NumFault.EndOfInput) × (length bytes.now < N)) }
-{
-    match bytes.first_chunk() {
-        Some(front) => Ok(*front),
-        None => Err(NumFault::EndOfInput),
-    }
+    Some(match width {
+        Width::W1 => i128::from(i8::from_le_bytes(*bytes.first_chunk()?)),
+        Width::W2 => i128::from(i16::from_le_bytes(*bytes.first_chunk()?)),
+        Width::W4 => i128::from(i32::from_le_bytes(*bytes.first_chunk()?)),
+        Width::W8 => i128::from(i64::from_le_bytes(*bytes.first_chunk()?)),
+        Width::W16 => i128::from_le_bytes(*bytes.first_chunk()?),
+    })
 }

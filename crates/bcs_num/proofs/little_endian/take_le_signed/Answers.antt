@@ -1,13 +1,16 @@
-use Rattle.std.proofs.Common.{Ok, Err, ap, ◌∙◌, rules}
-use Rattle.std.specs.Int.{w128}
-use Rattle.std.proofs.lemmas.Int.{to_z-of_z}
-use Rattle.bcs_num.specs.Le.{width_of}
-use Rattle.bcs_num.proofs.LeReading.{signed_verdict}
+use Rattle.std.proofs.Common.{◌<◌}
+use Rattle.std.proofs.lemmas.List.Elements.{All-from_get_or}
+use Rattle.bcs_num.specs.Le.{width_of, IsSigned, le_signed}
+use Rattle.bcs_num.proofs.LeReading.{signed_number, signed_read, signed_written, front_found, front_only}
 use Rattle.bcs_num.proofs.little_endian.take_le_signed.Goals as goal
 
-pub returns-in_err-n : goal.returns-in_err-n
-returns-in_err-n c = signed_verdict (width_of c.args.width) c.args.bytes.now (Err c.in_err-n.field-0.0) c.from_residual.result c.in_err-n.ensures (search rules)
+pub returns-clause-found : goal.returns-clause-found
+returns-clause-found c =
+    let w = width_of c.args.width in
+    rw c.ok_or.ensures.value (front_found w (signed_number w) (IsSigned w) (le_signed w) c.args.bytes.now c.front_signed.result c.front_signed.ensures.found
+    (All-from_get_or (λ b. b < 256) c.args.bytes.now 0 (λ i _. (c.type_inv.bytes i).fits)) (signed_read w))
 
-pub returns : goal.returns
-returns c =
-    signed_verdict (width_of c.args.width) c.args.bytes.now (Ok c.in_ok-n.n) (Ok _) c.in_ok-n.ensures (ap Ok (to_z-of_z w128 c.signed.result (record { sfits = c.signed.type_inv }) ∙ c.signed.ensures))
+pub returns-clause-only : goal.returns-clause-only
+returns-clause-only c =
+    let w = width_of c.args.width in
+    rw c.ok_or.ensures.value (front_only w (signed_number w) (IsSigned w) (le_signed w) c.args.bytes.now c.front_signed.result c.front_signed.ensures.found c.front_signed.ensures.none (signed_written w))
