@@ -1,6 +1,6 @@
 //! The parts of a registry's JSON.
 
-use bcs_registry_json::format_text::word_format;
+use bcs_registry_model::words::word_format;
 use serde_json::{Map, Number, Value};
 use std::fmt;
 

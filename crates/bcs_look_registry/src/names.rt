@@ -1,7 +1,7 @@
 //! Names as they stand in lines.
 
 use bcs_look_text::escaping::put_escaped;
-use bcs_registry_json::format_text::word_format;
+use bcs_registry_model::words::word_format;
 use std::alloc::AllocError;
 
 /// Appends a name as it is if it is plain, and else as a JSON string, in ASCII. A plain name begins with an ASCII letter

@@ -9,7 +9,7 @@ use Rattle.serde_json.specs.View.{items_of, items_view, view}
 use Rattle.serde_json.specs.declared.value.Value as json
 use Rattle.bcs_registry_json.specs.Parts.{IsTupleText}
 use Rattle.bcs_registry_model.specs.Shape.{Shape}
-use Rattle.bcs_registry_json.specs.Shaped.{format_named, format_words, word_among}
+use Rattle.bcs_registry_model.specs.Words.{format_named, format_words, word_among, word_of}
 use Rattle.bcs_registry_json.specs.Shown.{shown_format}
 use Rattle.bcs_registry_model.specs.Ranges.{all_sizes_fit, sizes_fit}
 use Rattle.bcs_registry_json.specs.Text.{IsFormatText}
@@ -46,6 +46,7 @@ are_written [] h = λ word s none. cc
 are_written (entry ∷ words) h = more_written entry words h.0 (are_written words h.1)
 
 all_written : AllWritten format_words
+unfolding word_of
 all_written = search rules
 
 pub word_written : (word : List ℕ) (s : Shape) → format_named word ≡ Some s → IsFormatText (string word) s

@@ -22,6 +22,10 @@ passes_on test wider TooNested all h = h
 passes_on test wider RepeatedName all h = h
 passes_on test wider UnknownName all h = h
 
+-- a fault of the second of two parts
+pub second_fault : (first second whole : Bool → Bool) (e : RegistryFault) → ((loose : Bool) → whole loose ≡ (first loose && second loose)) → IsFaultBy second e → IsFaultBy whole e
+second_fault first second whole e both h = passes_on second whole e (λ loose f. both loose ∙ and-false_right (first loose) (second loose) f) h
+
 -- each value is what the one at its place is shown as, and those are in range
 pub record IsRow {A : Type 0} (shows : A → Data) (fits : A → Bool) (vs : List Value) (parts : List A) : Type 0 where
   pub same : map view vs ≡ map shows parts

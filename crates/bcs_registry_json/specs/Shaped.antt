@@ -1,32 +1,12 @@
 -- Which JSON has the shape of a format or a registry. Loosely, any name may stand for a variant's number and any JSON
 -- number for a SIZE; else a variant's number is plain decimal and fits 32 bits, and a SIZE is whole and fits 64 bits.
-use Rattle.std.specs.Prelude.{ℕ, ◌^◌, List, [], ◌∷◌, Bool, true, false, ◌&&◌, ◌||◌, nat_lt, is_some, Option, Some, None, if◌then◌else◌, codes, decimal}
-use Rattle.std.specs.Int.{w8, w16, w32, w64, w128}
+use Rattle.std.specs.Prelude.{ℕ, ◌^◌, List, Bool, true, false, ◌&&◌, ◌||◌, nat_lt, is_some, if◌then◌else◌, codes, decimal}
 use Rattle.std.specs.Str.{bytes_eq}
 use Rattle.std.specs.Str.Parse.{digits_value}
 use Rattle.serde_json.specs.Data.{Data, Num, unsigned as whole, number, string, array, object, Items, no_items, item, Members, no_members, member}
-use Rattle.bcs_registry_model.specs.Shape.{Shape, unit, truth, unsigned, signed, unsupported, float32, float64, character, text, bytes}
+use Rattle.bcs_registry_model.specs.Words.{format_named}
 
 -- ---- words and numbers
-
--- each word, and the format that it stands for
-abbrev pub format_words : List (List ℕ × Shape)
-format_words =
-    (codes "UNIT", unit) ∷ (codes "BOOL", truth)
-    ∷ (codes "I8", signed w8) ∷ (codes "I16", signed w16) ∷ (codes "I32", signed w32)
-    ∷ (codes "I64", signed w64) ∷ (codes "I128", signed w128)
-    ∷ (codes "U8", unsigned w8) ∷ (codes "U16", unsigned w16) ∷ (codes "U32", unsigned w32)
-    ∷ (codes "U64", unsigned w64) ∷ (codes "U128", unsigned w128)
-    ∷ (codes "F32", unsupported float32) ∷ (codes "F64", unsupported float64) ∷ (codes "CHAR", unsupported character)
-    ∷ (codes "STR", text) ∷ (codes "BYTES", bytes) ∷ []
-
--- what the word stands for among these
-abbrev pub word_among : List (List ℕ × Shape) → List ℕ → Option Shape
-word_among [] word = None
-word_among (entry ∷ entries) word = if bytes_eq word entry.0 then Some entry.1 else word_among entries word
-
-abbrev pub format_named : List ℕ → Option Shape
-format_named = word_among format_words
 
 -- plain decimal of a number that fits 32 bits
 abbrev pub is_variant_number : List ℕ → Bool

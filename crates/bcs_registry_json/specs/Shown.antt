@@ -1,11 +1,11 @@
 -- The JSON that a registry is written as (serde-reflection's shapes): words, and objects with exactly the members that
 -- are listed. The members of an object rise by the bytes of their names.
 use Rattle.std.specs.Prelude.{ℕ, List, [], ◌∷◌, codes, decimal}
-use Rattle.std.specs.Int.{w8, w16, w32, w64, w128}
 use Rattle.serde_json.specs.Data.{Data, number, unsigned as whole, string, array as list, object, Items, no_items, item, Members, no_members, member, put}
-use Rattle.bcs_registry_model.specs.Shape.{Shape, unit, truth, unsigned, signed, unsupported, float32, float64, character, text, bytes, name, option, seq, map, tuple, array, Shapes, no_shapes, shape}
+use Rattle.bcs_registry_model.specs.Shape.{Shape, name, option, seq, map, tuple, array, Shapes, no_shapes, shape}
 use Rattle.bcs_registry_model.specs.Container.{Field, Payload, Choice, Container, unit_struct, newtype_struct, tuple_struct, field_struct, enumeration, Entries}
 use Rattle.bcs_registry_model.specs.Container as container
+use Rattle.bcs_registry_model.specs.Words.{word_of}
 
 -- an object with one member
 abbrev pub single : List ℕ → Data → Data
@@ -13,23 +13,6 @@ single key d = object (member key d no_members)
 
 abbrev mutual
   pub shown_format : Shape → Data
-  shown_format unit = string (codes "UNIT")
-  shown_format truth = string (codes "BOOL")
-  shown_format (signed w8) = string (codes "I8")
-  shown_format (signed w16) = string (codes "I16")
-  shown_format (signed w32) = string (codes "I32")
-  shown_format (signed w64) = string (codes "I64")
-  shown_format (signed w128) = string (codes "I128")
-  shown_format (unsigned w8) = string (codes "U8")
-  shown_format (unsigned w16) = string (codes "U16")
-  shown_format (unsigned w32) = string (codes "U32")
-  shown_format (unsigned w64) = string (codes "U64")
-  shown_format (unsigned w128) = string (codes "U128")
-  shown_format (unsupported float32) = string (codes "F32")
-  shown_format (unsupported float64) = string (codes "F64")
-  shown_format (unsupported character) = string (codes "CHAR")
-  shown_format text = string (codes "STR")
-  shown_format bytes = string (codes "BYTES")
   shown_format (name n) = single (codes "TYPENAME") (string n)
   shown_format (option s) = single (codes "OPTION") (shown_format s)
   shown_format (seq s) = single (codes "SEQ") (shown_format s)
@@ -38,6 +21,8 @@ abbrev mutual
   shown_format (tuple ss) = single (codes "TUPLE") (list (shown_formats ss))
   shown_format (array s n) =
       single (codes "TUPLEARRAY") (object (member (codes "CONTENT") (shown_format s) (member (codes "SIZE") (number (whole n)) no_members)))
+  -- a format without parts
+  shown_format s = string (word_of s)
 
   pub shown_formats : Shapes → Items
   shown_formats no_shapes = no_items

@@ -1,43 +1,18 @@
 //! Reading a format from JSON.
-ghost use Rattle.std.specs.Prelude.{◌≡◌, IfErr, IfOk, codes, option_map};
+ghost use Rattle.std.specs.Prelude.{◌≡◌, IfErr, IfOk, codes};
 ghost use Rattle.serde_json.specs.Data.{number, unsigned};
 ghost use Rattle.serde_json.specs.View.{view};
 ghost use Rattle.bcs_registry_json.specs.Parts.{IsFaultBy, IsTupleText};
-ghost use Rattle.bcs_registry_json.specs.Shaped.{format_named, is_format, is_map, is_size, is_text, is_tuple, is_tuple_array};
+ghost use Rattle.bcs_registry_json.specs.Shaped.{is_format, is_map, is_size, is_text, is_tuple, is_tuple_array};
 ghost use Rattle.bcs_registry_json.specs.Shown.{single};
 ghost use Rattle.bcs_registry_json.specs.Text.{IsFormatText};
 ghost use Rattle.bcs_registry_model.specs.View.{formats_shapes, shape_of};
 
 use crate::members::{only_member, two_members};
+use bcs_registry_model::words::word_format;
 use bcs_registry_model::{Format, RegistryFault};
 use serde_json::Value;
 use std::alloc::Global;
-
-/// The format of a word.
-pub fn word_format(word: &str) -> Option<Format>
-    ensures { option_map shape_of result ≡ format_named word.now }
-{
-    match word {
-        "UNIT" => Some(Format::Unit),
-        "BOOL" => Some(Format::Bool),
-        "I8" => Some(Format::I8),
-        "I16" => Some(Format::I16),
-        "I32" => Some(Format::I32),
-        "I64" => Some(Format::I64),
-        "I128" => Some(Format::I128),
-        "U8" => Some(Format::U8),
-        "U16" => Some(Format::U16),
-        "U32" => Some(Format::U32),
-        "U64" => Some(Format::U64),
-        "U128" => Some(Format::U128),
-        "F32" => Some(Format::F32),
-        "F64" => Some(Format::F64),
-        "CHAR" => Some(Format::Char),
-        "STR" => Some(Format::Str),
-        "BYTES" => Some(Format::Bytes),
-        _ => None,
-    }
-}
 
 /// The format that a JSON value writes down.
 #[cycle(format_text)]

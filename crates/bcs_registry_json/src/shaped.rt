@@ -4,8 +4,8 @@ ghost use Rattle.serde_json.specs.Data.{depth};
 ghost use Rattle.serde_json.specs.View.{view};
 ghost use Rattle.bcs_registry_json.specs.Shaped.{are_fields, are_variants, is_container, is_field, is_format, is_map, is_payload, is_registry, is_size, is_tuple, is_tuple_array, is_variant};
 
-use crate::format_text::word_format;
 use crate::members::{only_member, two_members};
+use bcs_registry_model::words::word_format;
 use serde_json::Value;
 
 /// Whether the JSON has the shape of a format.

@@ -1,9 +1,12 @@
-use Rattle.std.proofs.Common.{arith, refl, rules}
+use Rattle.std.proofs.Common.{◌≡◌, ◌∙◌, ap, arith, codes, refl, rules}
 use Rattle.std.proofs.lemmas.Result.{err_from_is_err_and}
-use Rattle.bcs_registry_json.specs.Shaped.{are_formats, is_format, is_tuple}
+use Rattle.serde_json.proofs.Views.{view-Object}
+use Rattle.serde_json.specs.Data.{member, no_members, object}
+use Rattle.serde_json.specs.View.{view}
+use Rattle.bcs_registry_json.specs.Shaped.{are_formats, is_format, is_map, is_size, is_tuple, is_tuple_array}
 use Rattle.bcs_registry_json.proofs.FormatText.{fits_format, tuple_written, value_word}
 use Rattle.bcs_registry_json.proofs.ShownParts.{format_data}
-use Rattle.bcs_registry_json.proofs.Rows.{element_fault, element_shallow, row_all, row_more}
+use Rattle.bcs_registry_json.proofs.Rows.{element_fault, element_shallow, row_all, row_more, second_fault}
 use Rattle.bcs_registry_json.proofs.format_text.+format_text.Goals as goal
 
 pub format_from-returns-in-String-clause-ok : goal.format_from-returns-in-String-clause-ok
@@ -34,3 +37,19 @@ formats_from-returns-clause-ok t c =
     tuple_written c.args.value.now c.in-Array.parts c.deref-part-items.result.now c.loop-part.formats.items c.in-Array.is c.deref-part-items.ensures.value
     (row_all format_data fits_format c.deref-part-items.result.now c.loop-part.part-index c.loop-part.formats.items c.loop-part-test.false c.loop-part.invariant)
     c.loop-part.invariant.fit
+
+pub map_from-returns-in_err-value-clause-fault : goal.map_from-returns-in_err-value-clause-fault
+map_from-returns-in_err-value-clause-fault t c =
+    let p = err_from_is_err_and c.from_residual-in_err-value.result c.from_residual-in_err-value.ensures.1 in
+    let parts : view c.args.value.now ≡ object (member (codes "KEY") (view c.in-Some.key.now) (member (codes "VALUE") (view c.in-Some.value.now) no_members)) =
+    ap view c.in-Object.is ∙ view-Object c.in-Object.members ∙ ap object c.in-Some.ensures.some in
+    rw (p.1, p.2) (second_fault (λ loose. is_format loose (view c.in-Some.key.now)) (λ loose. is_format loose (view c.in-Some.value.now)) (λ loose. is_map loose (view c.args.value.now)) _
+    (λ loose. ap (is_map loose) parts) c.in_err-value.ensures.fault)
+
+pub tuple_array_from-returns-in_err-size-clause-fault : goal.tuple_array_from-returns-in_err-size-clause-fault
+tuple_array_from-returns-in_err-size-clause-fault t c =
+    let p = err_from_is_err_and c.from_residual-in_err-size.result c.from_residual-in_err-size.ensures.1 in
+    let parts : view c.args.value.now ≡ object (member (codes "CONTENT") (view c.in-Some.content.now) (member (codes "SIZE") (view c.in-Some.size.now) no_members)) =
+    ap view c.in-Object.is ∙ view-Object c.in-Object.members ∙ ap object c.in-Some.ensures.some in
+    rw (p.1, p.2) (second_fault (λ loose. is_format loose (view c.in-Some.content.now)) (λ loose. is_size loose (view c.in-Some.size.now)) (λ loose. is_tuple_array loose (view c.args.value.now)) _
+    (λ loose. ap (is_tuple_array loose) parts) c.in_err-size.ensures.fault)

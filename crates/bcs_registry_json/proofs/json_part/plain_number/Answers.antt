@@ -1,4 +1,4 @@
-use Rattle.std.proofs.Common.{◌≡◌, ◌<◌, ◌^◌, ◌∙◌, Some, ap, arith, rules, sym}
+use Rattle.std.proofs.Common.{◌≡◌, ◌∙◌, Some, ap, rules, sym}
 use Rattle.serde_json.proofs.Numbers.{number_of-decimal}
 use Rattle.serde_json.specs.Data.{unsigned}
 use Rattle.serde_json.specs.Read.{number_of}

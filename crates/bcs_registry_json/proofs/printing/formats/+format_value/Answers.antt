@@ -6,6 +6,6 @@ use Rattle.bcs_registry_json.proofs.printing.formats.+format_value.Goals as goal
 
 pub format_values-returns : goal.format_values-returns
 format_values-returns t c =
-    let formats = c.deref-format-items.result.now in
+    let formats = c.args.formats.now in
     let all : take c.loop-format.format-index formats ≡ formats = take_all c.loop-format.format-index formats (omega arith) in
-    ap items_of (c.loop-format.invariant ∙ ap (map format_data) (all ∙ c.deref-format-items.ensures.value)) ∙ items_formats c.args.formats.now.items
+    ap items_of (c.loop-format.invariant.shown ∙ ap (map format_data) all) ∙ items_formats formats

@@ -1,7 +1,18 @@
-use Rattle.std.proofs.Common.{◌≡◌, map, take}
+use Rattle.std.proofs.Common.{◌≡◌, ◌+◌, ◌*◌, ◌≤◌, drop, map, take}
 use Rattle.serde_json.specs.View.{view}
+use Rattle.bcs_registry_model.specs.View.{formats_shapes, shape_of}
+use Rattle.bcs_registry_model.specs.WellFormed.{levels, shapes_levels}
 use Rattle.bcs_registry_json.proofs.ShownParts.{format_data}
 use Rattle.bcs_registry_json.proofs.printing.formats.+format_value.Given as goal
 
+abbrev pub decreases-format_value : goal.decreases-format_value
+decreases-format_value l = 2 * levels (shape_of l.format.now)
+
+abbrev pub decreases-format_values : goal.decreases-format_values
+decreases-format_values l = 2 * shapes_levels (formats_shapes l.formats.now) + 1
+
 abbrev pub invariant-format_values-loop-format : goal.invariant-format_values-loop-format
-invariant-format_values-loop-format l = map view l.values.items ≡ map format_data (take l.format-index l.format-items)
+invariant-format_values-loop-format l = record {
+  shown : map view l.values.items ≡ map format_data (take l.format-index l.formats);
+  low : shapes_levels (formats_shapes (drop l.format-index l.formats)) ≤ shapes_levels (formats_shapes l.formats);
+}
