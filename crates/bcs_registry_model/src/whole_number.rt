@@ -18,6 +18,7 @@ pub enum WholeNumber {
 
 impl WholeNumber {
     /// Which whole numbers the values of the format are. `None`: they are something else.
+    #[inline(always)]
     pub fn of(format: &Format) -> Option<WholeNumber>
         ensures found { IfSome result (λ n. shape_of format.now ≡ whole_shape n) }
         ensures none { result ≡ None → (n : Whole) → shape_of format.now ≢ whole_shape n }

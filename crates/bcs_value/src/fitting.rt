@@ -1,14 +1,14 @@
 //! Whether a value is one of a format.
 ghost use Rattle.std.specs.Prelude.{◌≡◌, false, true, map};
-ghost use Rattle.bcs_registry_model.specs.Container.{of, content, field_shapes, payload_shape};
+ghost use Rattle.bcs_registry_model.specs.Container.{Entries, of, content, field_shapes, payload_shape};
 ghost use Rattle.bcs_registry_model.specs.Shape.{array};
 ghost use Rattle.bcs_registry_model.specs.View.{container_of, field_of, formats_shapes, payload_of, shape_of};
 ghost use Rattle.bcs_value_model.specs.Fits as spec;
-ghost use Rattle.bcs_value_model.specs.Tree.{items as items_tree};
+ghost use Rattle.bcs_value_model.specs.Tree.{items as items_tree, signed, unsigned};
 ghost use Rattle.bcs_value_model.specs.View.{entries_pairs, items_trees, tree_of};
 
-use bcs_num::Width;
 use bcs_registry::{Container, Format, Named, Registry, VariantFormat};
+use bcs_registry_model::{Kind, Scalar, WholeNumber};
 use bcs_value_model::Value;
 
 /// Whether the value is one of the format: each part in its place, each number in its range, and as many parts as the
@@ -32,19 +32,11 @@ fn fits(value: &Value, registry: &Registry, format: &Format, loose: bool) -> boo
     ensures { result ≡ spec.fits loose registry.now (tree_of value.now) (of (shape_of format.now)) }
 {
     match (value, format) {
+        (Value::Unsigned(number), _) => unsigned_fits(number, format, loose),
+        (Value::Signed(number), _) => signed_fits(number, format, loose),
         (_, Format::F32 | Format::F64 | Format::Char) => loose,
         (Value::Unit, Format::Unit) => true,
         (Value::Bool(_), Format::Bool) => true,
-        (Value::Signed(number), Format::I8) => Width::W1.holds_signed(*number),
-        (Value::Signed(number), Format::I16) => Width::W2.holds_signed(*number),
-        (Value::Signed(number), Format::I32) => Width::W4.holds_signed(*number),
-        (Value::Signed(number), Format::I64) => Width::W8.holds_signed(*number),
-        (Value::Signed(number), Format::I128) => Width::W16.holds_signed(*number),
-        (Value::Unsigned(number), Format::U8) => Width::W1.holds_unsigned(*number),
-        (Value::Unsigned(number), Format::U16) => Width::W2.holds_unsigned(*number),
-        (Value::Unsigned(number), Format::U32) => Width::W4.holds_unsigned(*number),
-        (Value::Unsigned(number), Format::U64) => Width::W8.holds_unsigned(*number),
-        (Value::Unsigned(number), Format::U128) => Width::W16.holds_unsigned(*number),
         (Value::Text(_), Format::Str) => true,
         (Value::Bytes(bytes), Format::Bytes) => are_bytes(bytes),
         (Value::Absent, Format::Opt(_)) => true,
@@ -62,6 +54,54 @@ fn fits(value: &Value, registry: &Registry, format: &Format, loose: bool) -> boo
             None => false,
         },
         _ => false,
+    }
+}
+
+/// Whether an unsigned number is one of the format, whichever it is.
+#[inline(always)]
+fn unsigned_fits(number: &u128, format: &Format, loose: bool) -> bool
+    ensures { (r : Entries) → result ≡ spec.fits loose r (unsigned number.now) (of (shape_of format.now)) }
+{
+    match format.kind() {
+        Kind::Scalar(Scalar::Whole(WholeNumber::Unsigned(width))) => width.holds_unsigned(*number),
+        Kind::Scalar(Scalar::Unsupported(_)) => loose,
+        Kind::Scalar(
+            Scalar::Unit
+            | Scalar::Bool
+            | Scalar::Whole(WholeNumber::Signed(_))
+            | Scalar::Str
+            | Scalar::Bytes,
+        )
+        | Kind::TypeName(_)
+        | Kind::Opt(_)
+        | Kind::Seq(_)
+        | Kind::Map(_, _)
+        | Kind::Tuple(_)
+        | Kind::TupleArray(_, _) => false,
+    }
+}
+
+/// The same of a signed number.
+#[inline(always)]
+fn signed_fits(number: &i128, format: &Format, loose: bool) -> bool
+    ensures { (r : Entries) → result ≡ spec.fits loose r (signed number.now) (of (shape_of format.now)) }
+{
+    match format.kind() {
+        Kind::Scalar(Scalar::Whole(WholeNumber::Signed(width))) => width.holds_signed(*number),
+        Kind::Scalar(Scalar::Unsupported(_)) => loose,
+        Kind::Scalar(
+            Scalar::Unit
+            | Scalar::Bool
+            | Scalar::Whole(WholeNumber::Unsigned(_))
+            | Scalar::Str
+            | Scalar::Bytes,
+        )
+        | Kind::TypeName(_)
+        | Kind::Opt(_)
+        | Kind::Seq(_)
+        | Kind::Map(_, _)
+        | Kind::Tuple(_)
+        | Kind::TupleArray(_, _) => false,
     }
 }
 

@@ -1,5 +1,6 @@
 use Rattle.std.proofs.Common.{sym, arith}
 use Rattle.bcs_value_model.proofs.FitsByViews.{each_fits-unlike, fields_fit-unlike, fits-found, fits-missing, fits-map, fits-text, fits-bytes}
+use Rattle.bcs_value_model.proofs.Views.{tree_of_signed, tree_of_unsigned}
 use Rattle.bcs_value.proofs.fitting.+fits.Goals as goal
 
 pub each_fits-returns-then-items-formats : goal.each_fits-returns-then-items-formats
@@ -33,3 +34,11 @@ pub fits-returns-in-Bytes-Bytes : goal.fits-returns-in-Bytes-Bytes
 fits-returns-in-Bytes-Bytes t c =
     let m = c.in-Bytes-Bytes in
     fits-bytes _ _ _ _ m.bytes _ _ m.is-0 m.is-1 c.deref.ensures.value c.are_bytes.ensures
+
+pub fits-returns-in-Unsigned-default : goal.fits-returns-in-Unsigned-default
+fits-returns-in-Unsigned-default t c =
+    rw (c.in-Unsigned-default.is-0, tree_of_unsigned c.in-Unsigned-default.number) (c.unsigned_fits.ensures c.args.registry.now)
+
+pub fits-returns-in-Signed-default : goal.fits-returns-in-Signed-default
+fits-returns-in-Signed-default t c =
+    rw (c.in-Signed-default.is-0, tree_of_signed c.in-Signed-default.number) (c.signed_fits.ensures c.args.registry.now)
