@@ -1,4 +1,5 @@
 pub mod FormatViews
+pub mod WordsBack
 pub mod KindShapes
 pub mod Lookup
 pub mod KnownNames

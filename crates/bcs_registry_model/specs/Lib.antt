@@ -13,4 +13,5 @@ pub mod Order
 pub mod Ranges
 pub mod Laws
 pub mod Names
+pub mod Words
 pub mod FaultNames

@@ -18,6 +18,7 @@ mod scalar;
 mod variant_format;
 pub mod variant_numbers;
 mod whole_number;
+pub mod words;
 
 pub use container::Container;
 pub use fault::RegistryFault;
