@@ -1,12 +1,14 @@
 -- Values with no parts.
 use Rattle.std.proofs.Common.{◌≡◌, ◌∙◌, ℕ, ℤ, pos, negsuc, ◌≤◌, ◌^◌, List, [], ◌∷◌, Ok, Err, Result, Bool, true, false, IsTrue, if◌then◌else◌, refl, ap, sym, subst, arith}
-use Rattle.std.specs.Int.{Width, w8, w16, w32, w64, w128}
+use Rattle.std.specs.Int.{Width}
 use Rattle.std.specs.Str.{is_utf8}
 use Rattle.std.proofs.lemmas.Bool.Decides.{Decides-ltb}
 use Rattle.std.proofs.Math.Nat.{max-le}
+use mir.Val.{bits, hbits}
 use Rattle.hex.specs.Hex.{decode_of}
 use Rattle.hex.specs.declared.error.FromHexError.{FromHexError}
 use Rattle.serde_json.specs.Data.{Data, null, boolean, string}
+use Rattle.bcs_num.proofs.Ranges.{bits_most, half_most}
 use Rattle.bcs_registry_model.specs.Container.{Entries}
 use Rattle.bcs_registry_model.specs.Shape as shape
 use Rattle.bcs_registry_model.specs.Shape.{Shape, Unsupported}
@@ -49,24 +51,12 @@ byte_text_depth n false s ts w = absurd w
 -- ---- ranges
 
 unsigned_small : (w : Width) (z : ℤ) → is_unsigned_of w z ≡ true → IsSmall z
-unsigned_small w8 (pos n) h = omega (arith, (Decides-ltb n (2 ^ 8)).0 h)
-unsigned_small w16 (pos n) h = omega (arith, (Decides-ltb n (2 ^ 16)).0 h)
-unsigned_small w32 (pos n) h = omega (arith, (Decides-ltb n (2 ^ 32)).0 h)
-unsigned_small w64 (pos n) h = omega (arith, (Decides-ltb n (2 ^ 64)).0 h)
-unsigned_small w128 (pos n) h = omega (arith, (Decides-ltb n (2 ^ 128)).0 h)
+unsigned_small w (pos n) h = omega (arith, (Decides-ltb n (2 ^ bits w)).0 h, bits_most w)
 unsigned_small w (negsuc n) h = cc
 
 signed_small : (w : Width) (z : ℤ) → is_signed_of w z ≡ true → IsSmall z
-signed_small w8 (pos n) h = omega (arith, (Decides-ltb n (2 ^ 7)).0 h)
-signed_small w16 (pos n) h = omega (arith, (Decides-ltb n (2 ^ 15)).0 h)
-signed_small w32 (pos n) h = omega (arith, (Decides-ltb n (2 ^ 31)).0 h)
-signed_small w64 (pos n) h = omega (arith, (Decides-ltb n (2 ^ 63)).0 h)
-signed_small w128 (pos n) h = omega (arith, (Decides-ltb n (2 ^ 127)).0 h)
-signed_small w8 (negsuc n) h = omega (arith, (Decides-ltb n (2 ^ 7)).0 h)
-signed_small w16 (negsuc n) h = omega (arith, (Decides-ltb n (2 ^ 15)).0 h)
-signed_small w32 (negsuc n) h = omega (arith, (Decides-ltb n (2 ^ 31)).0 h)
-signed_small w64 (negsuc n) h = omega (arith, (Decides-ltb n (2 ^ 63)).0 h)
-signed_small w128 (negsuc n) h = omega (arith, (Decides-ltb n (2 ^ 127)).0 h)
+signed_small w (pos n) h = omega (arith, (Decides-ltb n (2 ^ hbits w)).0 h, half_most w)
+signed_small w (negsuc n) h = omega (arith, (Decides-ltb n (2 ^ hbits w)).0 h, half_most w)
 
 module _ (registry : Entries) (n : ℕ) where
   abbrev pub Within : Shape → Data → Tree → Type 0

@@ -1,7 +1,8 @@
 -- What is shown of a value can be written: its compact text is read as just that. Its names and strings are UTF-8, if P
 -- and where the registry's names are.
-use Rattle.std.proofs.Common.{◌≡◌, ◌∙◌, ℕ, suc, ℤ, pos, negsuc, ◌^◌, ◌<◌, ◌==◌, ◌&&◌, List, [], ◌∷◌, Bool, true, false, cond, if◌then◌else◌, Some, Ok, Ordering, Less, Equal, Greater, IsUtf8, arith, codes, decimal, nat_cmp, nat_lt, refl, ap, sym, subst}
-use Rattle.std.proofs.lemmas.Bool.{false≢true}
+use Rattle.std.proofs.Common.{◌≡◌, ◌∙◌, ℕ, suc, ℤ, pos, negsuc, ◌^◌, ◌<◌, ◌≤◌, ◌==◌, ◌&&◌, List, [], ◌∷◌, Bool, true, false, cond, if◌then◌else◌, Some, Ok, Ordering, Less, Equal, Greater, IsUtf8, arith, codes, decimal, nat_cmp, nat_lt, refl, ap, sym, subst}
+use Rattle.std.proofs.Math.Nat.{pow-le-pow_right}
+use Rattle.std.proofs.lemmas.Bool.{false≢true, ltb-false}
 use Rattle.std.proofs.lemmas.Bool.Decides.{Decides-ltb}
 use Rattle.std.proofs.lemmas.Cmp.{nat_list_cmp_total}
 use Rattle.std.proofs.lemmas.Fmt.{IsAscii-decimal_wide}
@@ -9,7 +10,7 @@ use Rattle.std.proofs.lemmas.Str.{IsUtf8-append, IsUtf8-from_ascii, IsUtf8-from_
 use Rattle.std.proofs.lemmas.Str.Ascii.{IsAscii-from_all}
 use Rattle.std.specs.Cmp.Lexicographic.{slice_cmp}
 use Rattle.std.specs.Fmt.{signed_decimal}
-use Rattle.std.specs.Int.{Width, w8, w16, w32, w64, w128}
+use Rattle.std.specs.Int.{Width, w8, byte_len}
 use Rattle.std.specs.List.Sorted.{IsStrictlySortedBy}
 use Rattle.std.specs.Option.{option_map_or}
 use Rattle.std.specs.Ordering.{match_ordering}
@@ -18,7 +19,10 @@ use Rattle.hex.proofs.HexLemmas.{decode_of-encode_lower, decode_of-ok}
 use Rattle.json.proofs.Printed.Utf8.{IsUtf8-are_ascii}
 use Rattle.serde_json.specs.Data.{Data, number, unsigned as whole, string, Members, no_members, member, put}
 use Rattle.serde_json.specs.Find.{of_integer}
-use Rattle.bcs_num.specs.Le.{holds_signed, holds_unsigned}
+use mir.Val.{bits}
+use Rattle.bcs_num.specs.Le.{IsSigned, holds_signed, holds_unsigned}
+use Rattle.bcs_num.proofs.LeLaws.{width_bytes}
+use Rattle.bcs_num.proofs.Ranges.{bits_most, half_most, holds_signed-is, two_halves}
 use Rattle.bcs_registry_model.specs.Container as container
 use Rattle.bcs_registry_model.specs.Container.{Choice, Entries, Field, Payload, choice_numbered, field_shapes, newtype, payload_shape, tuple}
 use Rattle.bcs_registry_model.specs.Shape as shape
@@ -55,30 +59,28 @@ byte_text : (registry : Entries) (s : Shape) (ts : Trees) → all_fit false regi
 byte_text registry (shape.unsigned w8) ts h is = hex_utf8 (trees_bytes ts) (bytes_again registry ts h).1
 byte_text registry _ ts h is = absurd (false≢true is)
 
+-- a width that isn't wide has at most 32 bits
+narrow : (w : Width) → is_wide w ≡ false → 2 ^ bits w ≤ 2 ^ 32
+narrow w is = subst (λ n. n ≤ 2 ^ 32) (sym (width_bytes w)) (pow-le-pow_right {n = 256} (omega arith) {i = byte_len w} {j = 4} (ltb-false 4 (byte_len w) is))
+
 module _ (P : Type 0) where
   -- a number of a width, or its text
+  unsigned_at : (b : Bool) (w : Width) (n : ℕ) → is_wide w ≡ b → n < 2 ^ bits w → IsWritable P (if b then string (decimal n) else number (whole n))
+  unsigned_at true w n is h = λ p. digits_utf8 n (omega (arith, h, bits_most w))
+  unsigned_at false w n is h = omega (arith, h, narrow w is)
+
+  signed_at : (b : Bool) (w : Width) (z : ℤ) → is_wide w ≡ b → IsSigned w z → IsWritable P (if b then string (signed_decimal z) else number (of_integer z))
+  signed_at true w (pos n) is h = λ p. digits_utf8 n (omega (arith, h.sfits, half_most w))
+  signed_at true w (negsuc n) is h = λ p.
+      IsUtf8-append (45 ∷ []) (decimal (suc n)) (IsUtf8-are_ascii (45 ∷ []) refl) (digits_utf8 (suc n) (omega (arith, h.sfits, half_most w)))
+  signed_at false w (pos n) is h = omega (arith, h.sfits, two_halves w, narrow w is)
+  signed_at false w (negsuc n) is h = omega (arith, h.sfits, two_halves w, narrow w is)
+
   unsigned_writable : (w : Width) (n : ℕ) → holds_unsigned w n ≡ true → IsWritable P (if is_wide w then string (decimal n) else number (whole n))
-  unsigned_writable w8 n h = let small = (Decides-ltb n (2 ^ 8)).0 h in omega (arith, small)
-  unsigned_writable w16 n h = let small = (Decides-ltb n (2 ^ 16)).0 h in omega (arith, small)
-  unsigned_writable w32 n h = let small = (Decides-ltb n (2 ^ 32)).0 h in omega (arith, small)
-  unsigned_writable w64 n h = λ p. let small = (Decides-ltb n (2 ^ 64)).0 h in digits_utf8 n (omega (arith, small))
-  unsigned_writable w128 n h = λ p. digits_utf8 n ((Decides-ltb n (2 ^ 128)).0 h)
+  unsigned_writable w n h = unsigned_at (is_wide w) w n refl ((Decides-ltb n (2 ^ bits w)).0 h)
 
   signed_writable : (w : Width) (z : ℤ) → holds_signed w z ≡ true → IsWritable P (if is_wide w then string (signed_decimal z) else number (of_integer z))
-  signed_writable w8 (pos n) h = let small = (Decides-ltb n (2 ^ 7)).0 h in omega (arith, small)
-  signed_writable w8 (negsuc n) h = let small = (Decides-ltb n (2 ^ 7)).0 h in omega (arith, small)
-  signed_writable w16 (pos n) h = let small = (Decides-ltb n (2 ^ 15)).0 h in omega (arith, small)
-  signed_writable w16 (negsuc n) h = let small = (Decides-ltb n (2 ^ 15)).0 h in omega (arith, small)
-  signed_writable w32 (pos n) h = let small = (Decides-ltb n (2 ^ 31)).0 h in omega (arith, small)
-  signed_writable w32 (negsuc n) h = let small = (Decides-ltb n (2 ^ 31)).0 h in omega (arith, small)
-  signed_writable w64 (pos n) h = λ p. let small = (Decides-ltb n (2 ^ 63)).0 h in digits_utf8 n (omega (arith, small))
-  signed_writable w64 (negsuc n) h = λ p.
-      let small = (Decides-ltb n (2 ^ 63)).0 h in
-      IsUtf8-append (45 ∷ []) (decimal (suc n)) (IsUtf8-are_ascii (45 ∷ []) refl) (digits_utf8 (suc n) (omega (arith, small)))
-  signed_writable w128 (pos n) h = λ p. let small = (Decides-ltb n (2 ^ 127)).0 h in digits_utf8 n (omega (arith, small))
-  signed_writable w128 (negsuc n) h = λ p.
-      let small = (Decides-ltb n (2 ^ 127)).0 h in
-      IsUtf8-append (45 ∷ []) (decimal (suc n)) (IsUtf8-are_ascii (45 ∷ []) refl) (digits_utf8 (suc n) (omega (arith, small)))
+  signed_writable w z h = signed_at (is_wide w) w z refl (holds_signed-is w z h)
 
   -- ---- members
 

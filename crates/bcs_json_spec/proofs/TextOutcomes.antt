@@ -12,7 +12,7 @@ use Rattle.bcs_encode_spec.specs.declared.fault.EncodeFault.{EncodeFault}
 use Rattle.bcs_encode_spec.specs.declared.fault.EncodeFault.TheVariants as fault
 use Rattle.bcs_json_spec.specs.Causes.{fault_of_value}
 use Rattle.bcs_json_spec.specs.declared.json_fault.JsonFault.{JsonFault}
-use Rattle.bcs_json_spec.specs.declared.json_fault.JsonFault.TheVariants.{Unsupported, TooDeep, TooManyNodes, TooLong, RepeatedKey, OutOfMemory}
+use Rattle.bcs_json_spec.specs.declared.json_fault.JsonFault.TheVariants.{OutOfMemory}
 use Rattle.bcs_json_spec.specs.JsonContent.{of}
 use Rattle.bcs_json_spec.specs.Reading.{read_data}
 use Rattle.bcs_json_spec.specs.Texts.{IsReadAs, Denotes, SpelledBy, RefusesText}

@@ -1,7 +1,7 @@
 -- The JSON that a tree is printed as: the column "Printed" of the formats.
-use Rattle.std.specs.Prelude.{ℕ, List, ◌∷◌, codes, decimal, Option, Some, None, Bool, true, false, if◌then◌else◌}
+use Rattle.std.specs.Prelude.{ℕ, List, ◌∷◌, codes, decimal, Option, Some, None, Bool, nat_lt, if◌then◌else◌}
 use Rattle.std.specs.Fmt.{signed_decimal}
-use Rattle.std.specs.Int.{Width, w64, w128}
+use Rattle.std.specs.Int.{Width, byte_len}
 use Rattle.hex.specs.Hex.{encode_lower}
 use Rattle.serde_json.specs.Data.{Data, null, boolean, number, unsigned as whole, string, array, object, Items, no_items, item, Members, no_members, put}
 use Rattle.serde_json.specs.Find.{of_integer}
@@ -17,9 +17,7 @@ use Rattle.bcs_json_spec.specs.JsonContent.{JsonContent, of, fields, one_of, jso
 
 -- of more than 32 bits
 abbrev pub is_wide : Width → Bool
-is_wide w64 = true
-is_wide w128 = true
-is_wide _ = false
+is_wide w = nat_lt 4 (byte_len w)
 
 -- a variant's name alone, or its name and what it carries
 abbrev pub shown_choice : (JsonContent → Data) → Option (List ℕ × Payload) → Data

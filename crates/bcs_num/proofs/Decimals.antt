@@ -4,7 +4,6 @@ use Rattle.std.specs.Prelude.{IfSome, SomeIff}
 use Rattle.std.specs.Char.{digit_value}
 use Rattle.std.specs.Fmt.{signed_decimal}
 use Rattle.std.specs.Int as int
-use Rattle.std.specs.Int.{w8, w16, w32, w64, w128}
 use Rattle.std.specs.Str.Parse.{AllDigits, digits_value, digits_value_after}
 use Rattle.std.proofs.Math.Nat.{pow-le-pow_right}
 use Rattle.std.proofs.Math.ListN.{get_or-append}
@@ -16,6 +15,7 @@ use Rattle.std.proofs.lemmas.Str.{digit_value_digit}
 use Rattle.std.proofs.lemmas.Str.Parse.{digit_at, digit_from_value, digits_value-take-le}
 use mir.Val.{hbits}
 use Rattle.bcs_num.specs.Le.{IsSigned}
+use Rattle.bcs_num.proofs.Ranges.{half_most}
 
 -- ---- digits
 
@@ -134,13 +134,6 @@ plain_only ds r h n small is =
 
 -- ---- with a sign
 
-half_le : (w : int.Width) → 2 ^ hbits w ≤ 2 ^ 127
-half_le w8 = omega arith
-half_le w16 = omega arith
-half_le w32 = omega arith
-half_le w64 = omega arith
-half_le w128 = omega arith
-
 no_minus : (n : ℕ) → n < 10 ^ 64 → get_or (decimal n) 0 0 ≡ 45 → ⊥
 no_minus n small minus =
     let numeral = decimal_is_IsNumeral_wide n small in
@@ -151,7 +144,7 @@ no_minus n small minus =
 pub minus_text : (w : int.Width) (z : ℤ) (text bytes : List ℕ) → IsSigned w z → get_or text 0 0 ≡ 45 → text ≡ signed_decimal z → bytes ≡ text
     → (k : ℕ) × (z ≡ negsuc k) × (k < 2 ^ 127) × (k < 2 ^ hbits w) × (take (length bytes - 1) (drop 1 bytes) ≡ decimal (suc k))
 minus_text w (pos n) text bytes fits minus is same =
-    absurd (no_minus n (omega (arith, fits.sfits, half_le w)) (sym (ap (λ (x : List ℕ). get_or x 0 0) is) ∙ minus))
+    absurd (no_minus n (omega (arith, fits.sfits, half_most w)) (sym (ap (λ (x : List ℕ). get_or x 0 0) is) ∙ minus))
 minus_text w (negsuc k) text bytes fits minus is same =
     let whole : take (length bytes - 1) (drop 1 bytes) ≡ drop 1 bytes = take_all (length bytes - 1) (drop 1 bytes) (omega (arith, length-drop 1 bytes)) in
-    (k, refl, omega (arith, fits.sfits, half_le w), fits.sfits, whole ∙ ap (drop 1) (same ∙ is))
+    (k, refl, omega (arith, fits.sfits, half_most w), fits.sfits, whole ∙ ap (drop 1) (same ∙ is))

@@ -1,8 +1,8 @@
--- The ranges of a width as tests and as statements.
-use Rattle.std.proofs.Common.{◌≡◌, ℤ, pos, negsuc, ◌^◌, true}
+-- The ranges of a width as tests and as statements, and how large they are.
+use Rattle.std.proofs.Common.{◌≡◌, ℤ, pos, negsuc, ◌+◌, ◌^◌, ◌≤◌, true, refl, arith}
 use Rattle.std.proofs.lemmas.Bool.{ltb-true, lt-ltb}
-use Rattle.std.specs.Int.{Width}
-use mir.Val.{hbits}
+use Rattle.std.specs.Int.{Width, w8, w16, w32, w64, w128}
+use mir.Val.{bits, hbits}
 use Rattle.bcs_num.specs.Le.{IsSigned, holds_signed}
 
 pub holds_signed-is : (w : Width) (z : ℤ) → holds_signed w z ≡ true → IsSigned w z
@@ -12,3 +12,22 @@ holds_signed-is w (negsuc n) h = record { sfits = ltb-true n (2 ^ hbits w) h }
 pub is-holds_signed : (w : Width) (z : ℤ) → IsSigned w z → holds_signed w z ≡ true
 is-holds_signed w (pos n) h = lt-ltb n (2 ^ hbits w) h.sfits
 is-holds_signed w (negsuc n) h = lt-ltb n (2 ^ hbits w) h.sfits
+
+-- no width has more than 128 bits
+pub bits_most : (w : Width) → 2 ^ bits w ≤ 2 ^ 128
+bits_most w8 = omega arith
+bits_most w16 = omega arith
+bits_most w32 = omega arith
+bits_most w64 = omega arith
+bits_most w128 = omega arith
+
+-- below 0 stand as many numbers as from 0 on
+pub two_halves : (w : Width) → 2 ^ bits w ≡ 2 ^ hbits w + 2 ^ hbits w
+two_halves w8 = refl
+two_halves w16 = refl
+two_halves w32 = refl
+two_halves w64 = refl
+two_halves w128 = refl
+
+pub half_most : (w : Width) → 2 ^ hbits w ≤ 2 ^ 127
+half_most w = omega (arith, two_halves w, bits_most w)
