@@ -7,6 +7,7 @@ pub mod ReadSource
 pub mod PieceSource
 pub mod RepeatSource
 pub mod Filling
+pub mod Notes
 pub mod Lines
 pub mod Laws
 pub mod Held

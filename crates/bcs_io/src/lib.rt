@@ -11,6 +11,7 @@ mod read_source;
 mod sink;
 mod slice_source;
 mod source;
+mod taking;
 mod write_sink;
 
 pub use line_buffer::LineBuffer;
@@ -20,4 +21,5 @@ pub use read_source::ReadSource;
 pub use sink::{ByteSink, SinkFailed};
 pub use slice_source::SliceSource;
 pub use source::{ByteSource, SourceFailed};
+pub use taking::{TakeFault, take_all};
 pub use write_sink::WriteSink;

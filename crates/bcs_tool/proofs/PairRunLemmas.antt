@@ -12,7 +12,7 @@ use Rattle.bcs_tool_answers.specs.declared.answer.Answer.{Answer}
 use Rattle.bcs_tool_answers.proofs.AnswerLemmas.{status_below}
 use Rattle.bcs_tool_answers.proofs.PairAnswerLemmas.{greatest_pair_below}
 use Rattle.bcs_tool_command_line.specs.FaultPlaces.{TellsPlace}
-use Rattle.bcs_tool_command_line.specs.declared.taking.TakeFault.TheVariants.{OutOfMemory}
+use Rattle.bcs_io.specs.declared.taking.TakeFault.TheVariants.{OutOfMemory}
 use Rattle.bcs_tool_command_line.specs.declared.work.Report.{Report}
 use Rattle.bcs_tool_command_line.specs.declared.work.Work.{Work}
 use Rattle.bcs_tool.specs.PairLines.{AllPaired}

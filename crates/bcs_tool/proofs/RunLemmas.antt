@@ -16,8 +16,8 @@ use Rattle.bcs_tool_answers.proofs.AnswerLemmas.{status_below}
 use Rattle.bcs_tool_answers.proofs.LineAnswerLemmas.{greatest_below}
 use Rattle.bcs_tool_command_line.specs.FaultPlaces.{TellsPlace}
 use Rattle.bcs_tool_command_line.specs.Files.{IsContent, size_limit}
-use Rattle.bcs_tool_command_line.specs.declared.taking.TakeFault.{TakeFault}
-use Rattle.bcs_tool_command_line.specs.declared.taking.TakeFault.TheVariants as take_fault
+use Rattle.bcs_io.specs.declared.taking.TakeFault.{TakeFault}
+use Rattle.bcs_io.specs.declared.taking.TakeFault.TheVariants as take_fault
 use Rattle.bcs_tool_command_line.specs.declared.work.Report.{Report}
 use Rattle.bcs_tool_command_line.specs.declared.work.Work.{Work}
 use Rattle.bcs_tool.specs.Lines.{AllAnswered, IsTally}

@@ -18,7 +18,7 @@ use Rattle.bcs_tool_answers.specs.Places.{Prints}
 use Rattle.bcs_tool_answers.specs.Preparing.{IsAskedBy}
 use Rattle.bcs_tool_answers.specs.declared.answer.Answer.{Answer}
 use Rattle.bcs_tool_answers.specs.declared.judging.Asked.{Asked}
-use Rattle.bcs_tool_command_line.specs.declared.taking.TakeFault.TheVariants as take_fault
+use Rattle.bcs_io.specs.declared.taking.TakeFault.TheVariants as take_fault
 use Rattle.bcs_tool_command_line.specs.declared.work.Report.{Report}
 use Rattle.bcs_tool_command_line.specs.declared.work.Work.{Work}
 use Rattle.bcs_tool_command_line.specs.Jobs.{is_raw}

@@ -12,7 +12,7 @@ use Rattle.bcs_tool_answers.specs.Answers.{Answers}
 use Rattle.bcs_tool_answers.specs.LineAnswers.{AnswersAll, none}
 use Rattle.bcs_tool_answers.proofs.LineAnswerLemmas.{answers_snoc, as_many}
 use Rattle.bcs_tool_command_line.specs.Files.{size_limit}
-use Rattle.bcs_tool_command_line.specs.declared.taking.TakeFault.{TakeFault}
+use Rattle.bcs_io.specs.declared.taking.TakeFault.{TakeFault}
 use Rattle.bcs_tool_command_line.specs.declared.work.Work.{Work}
 use Rattle.bcs_tool.specs.Lines.{AllAnswered, IsSoFar, IsTally}
 use Rattle.bcs_tool.specs.Pairs.{BrokeInLine, GaveFew}

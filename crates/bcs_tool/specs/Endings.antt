@@ -9,7 +9,7 @@ use Rattle.bcs_tool_command_line.specs.FaultPlaces.{TellsPlace, file_place, file
 use Rattle.bcs_tool_command_line.specs.Files.{ComparesLines, IsFaultOfFiles, IsWorkOf, NamesForWork, NamesNoFile, fault_of, file_note}
 use Rattle.bcs_tool_command_line.specs.declared.open_cause.OpenCause.{OpenCause}
 use Rattle.bcs_tool_command_line.specs.declared.origin.Origin.TheVariants.{StandardInput}
-use Rattle.bcs_tool_command_line.specs.declared.taking.TakeFault.TheVariants as taking
+use Rattle.bcs_io.specs.declared.taking.TakeFault.TheVariants as taking
 use Rattle.bcs_tool_command_line.specs.declared.unread_file.UnreadFile.{UnreadFile}
 use Rattle.bcs_tool_command_line.specs.declared.unread_file.UnreadFile.TheVariants.{Unopened, Untaken}
 use Rattle.bcs_tool_command_line.specs.declared.work.Report.{Report}

@@ -11,7 +11,7 @@ use Rattle.bcs_tool_answers.specs.PairAnswers.{AnswersPair, AnswersPairs}
 use Rattle.bcs_tool_answers.specs.declared.ending.Ending.{Ending}
 use Rattle.bcs_tool_answers.specs.declared.ending.Ending.TheVariants.{Together, FirstEnds, SecondEnds}
 use Rattle.bcs_tool_command_line.specs.Files.{IsContent, size_limit}
-use Rattle.bcs_tool_command_line.specs.declared.taking.TakeFault.TheVariants.{OutOfMemory}
+use Rattle.bcs_io.specs.declared.taking.TakeFault.TheVariants.{OutOfMemory}
 use Rattle.bcs_tool_command_line.specs.declared.work.Work.{Work}
 use Rattle.bcs_tool.specs.Lines.{AreRead, IsTally}
 use Rattle.bcs_tool.specs.Pairs.{FailsPairsAt}

@@ -6,6 +6,7 @@ use Rattle.bcs_decode_spec.specs.Exact.{AreBytes}
 use Rattle.bcs_io.specs.Giving as source
 use Rattle.bcs_io.specs.Taking as sink
 use Rattle.bcs_io.specs.Lines.{before_block, line_feeds, lines_of}
+use Rattle.bcs_io.specs.Notes.{take_note}
 use Rattle.bcs_io.specs.declared.next_fault.NextFault.{NextFault}
 use Rattle.bcs_io.specs.declared.next_fault.NextFault.TheVariants as next
 use Rattle.bcs_tool_answers.specs.Answers.{Answers}
@@ -14,9 +15,9 @@ use Rattle.bcs_tool_answers.specs.LineAnswers.{AnswersAll, greatest, summary}
 use Rattle.bcs_tool_answers.specs.Places.{Places}
 use Rattle.bcs_tool_answers.specs.declared.answer.Answer.{Answer}
 use Rattle.bcs_tool_command_line.specs.FaultPlaces.{TellsPlace, origin_text, output_text, take_place}
-use Rattle.bcs_tool_command_line.specs.Files.{IsContent, size_limit, take_note}
+use Rattle.bcs_tool_command_line.specs.Files.{IsContent, size_limit}
 use Rattle.bcs_tool_command_line.specs.declared.origin.Origin.TheVariants.{StandardInput}
-use Rattle.bcs_tool_command_line.specs.declared.taking.TakeFault.TheVariants.{Read, TooLarge, OutOfMemory}
+use Rattle.bcs_io.specs.declared.taking.TakeFault.TheVariants.{Read, TooLarge, OutOfMemory}
 use Rattle.bcs_tool_command_line.specs.declared.work.Outcome.{Outcome}
 use Rattle.bcs_tool_command_line.specs.declared.work.Report.{Report}
 use Rattle.bcs_tool_command_line.specs.declared.work.Work.{Work}

@@ -10,7 +10,7 @@ use Rattle.bcs_decode_spec.specs.declared.decode_fault.DecodeFault.TheVariants a
 use Rattle.bcs_tool_answers.specs.Answers.{Answers, stop_line}
 use Rattle.bcs_tool_answers.specs.Places.{Prints}
 use Rattle.bcs_tool_answers.specs.declared.answer.Answer.{Answer}
-use Rattle.bcs_tool_command_line.specs.declared.taking.TakeFault.TheVariants.{OutOfMemory, Read, TooLarge}
+use Rattle.bcs_io.specs.declared.taking.TakeFault.TheVariants.{OutOfMemory, Read, TooLarge}
 use Rattle.bcs_tool_command_line.specs.declared.work.Work.{Work}
 use Rattle.bcs_tool.specs.Running.{IfTold}
 use Rattle.bcs_tool.specs.declared.interruption.Interruption.{Interruption}

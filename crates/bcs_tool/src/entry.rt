@@ -9,8 +9,7 @@ ghost use Rattle.bcs_tool.specs.Endings.{IsWordsFault, Performs, TellsFault, Tel
 
 use crate::responding::respond;
 use crate::telling::tell_fault;
-use bcs_decode::{ByteSource, ReadSource};
-use bcs_encode::{ByteSink, WriteSink};
+use bcs_io::{ByteSink, ByteSource, ReadSource, WriteSink};
 use bcs_tool_command_line::{Job, LineFault, Report};
 use std::env;
 use std::env::Env;

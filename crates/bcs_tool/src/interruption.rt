@@ -1,7 +1,7 @@
 //! Where a run is broken off.
 
 use crate::run_fault::RunFault;
-use bcs_tool_command_line::TakeFault;
+use bcs_io::TakeFault;
 use std::alloc::AllocError;
 use thiserror::Error;
 
@@ -30,7 +30,7 @@ impl From<TakeFault> for Interruption {
 impl From<AllocError> for Interruption {
     ghost use Rattle.std.specs.Prelude.{◌≡◌};
     ghost use Rattle.bcs_tool.specs.declared.run_fault.RunFault.TheVariants.{Take};
-    ghost use Rattle.bcs_tool_command_line.specs.declared.taking.TakeFault.TheVariants.{OutOfMemory};
+    ghost use Rattle.bcs_io.specs.declared.taking.TakeFault.TheVariants.{OutOfMemory};
 
     ghost from_gives = { λ _ result. result ≡ record { fault = Take OutOfMemory; answered = 0 } };
 

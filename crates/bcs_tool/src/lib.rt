@@ -1,7 +1,9 @@
 //! The program `bcs`: a job and its input are run, and its streams are told what comes of it.
 #![tactic(auto)]
 
+mod command_line;
 mod entry;
+mod files;
 mod interruption;
 mod line_running;
 mod pair_interruption;
@@ -18,17 +20,16 @@ mod scan_running;
 mod tally;
 mod telling;
 
-pub use bcs_decode::{ByteSource, ReadSource};
-pub use bcs_encode::{ByteSink, WriteSink};
-pub use bcs_io::put_all;
+pub use bcs_io::{ByteSink, ByteSource, ReadSource, TakeFault, WriteSink, put_all, take_all};
 pub use bcs_look_text::style::{Form, Paint, Style};
 pub use bcs_tool_answers::laws;
 pub use bcs_tool_command_line::{
     Coding, Color, Command, FileFault, FileRefusal, Inputs, Job, LineFault, OpenCause, Origin,
-    Outcome, Report, TakeFault, UnreadFile, Work, line, read_named, read_opened, read_work,
-    take_all,
+    Outcome, Report, UnreadFile, Work,
 };
+pub use command_line::line;
 pub use entry::{program, start, words_of};
+pub use files::{read_named, read_opened, read_work};
 pub use interruption::Interruption;
 pub use pair_interruption::{PairInterruption, Side};
 pub use pair_running::run_pairs;

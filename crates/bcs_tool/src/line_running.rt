@@ -9,12 +9,10 @@ use crate::interruption::Interruption;
 use crate::run_fault::RunFault;
 use crate::run_places::place_of_tally;
 use crate::tally::Tally;
-use bcs_decode::ByteSource;
-use bcs_encode::ByteSink;
-use bcs_io::{LineBuffer, put_all};
+use bcs_io::{ByteSink, ByteSource, LineBuffer, TakeFault, put_all};
 use bcs_tool_answers::{Asked, answer_values};
 use bcs_tool_command_line::limits::SIZE_LIMIT;
-use bcs_tool_command_line::{Outcome, Report, TakeFault, Work};
+use bcs_tool_command_line::{Outcome, Report, Work};
 use std::alloc::Global;
 
 /// Puts the answer to each line of the input, and tells how many have which status.

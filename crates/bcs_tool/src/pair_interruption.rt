@@ -40,7 +40,7 @@ impl From<AllocError> for PairInterruption {
     ghost use Rattle.std.specs.Prelude.{◌≡◌};
     ghost use Rattle.bcs_tool.specs.declared.pair_interruption.Side.TheVariants.{First};
     ghost use Rattle.bcs_tool.specs.declared.run_fault.RunFault.TheVariants.{Take};
-    ghost use Rattle.bcs_tool_command_line.specs.declared.taking.TakeFault.TheVariants.{OutOfMemory};
+    ghost use Rattle.bcs_io.specs.declared.taking.TakeFault.TheVariants.{OutOfMemory};
 
     ghost from_gives = { λ _ result. result ≡ record { side = First; interruption = record { fault = Take OutOfMemory; answered = 0 } } };
 

@@ -9,11 +9,9 @@ use crate::pair_interruption::{PairInterruption, Side};
 use crate::pair_reading::{Next, advance_pair};
 use crate::run_fault::RunFault;
 use crate::tally::Tally;
-use bcs_decode::ByteSource;
-use bcs_encode::ByteSink;
-use bcs_io::{LineBuffer, put_all};
+use bcs_io::{ByteSink, ByteSource, LineBuffer, TakeFault, put_all};
 use bcs_tool_answers::{Asked, Ending, answer_pair};
-use bcs_tool_command_line::{TakeFault, Work};
+use bcs_tool_command_line::Work;
 use std::alloc::Global;
 
 /// How the pairs of lines of two files were answered.

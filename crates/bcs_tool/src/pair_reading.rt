@@ -5,8 +5,7 @@ ghost use Rattle.bcs_tool.specs.PairLines.{AdvancesPair, AdvancesSide, next_of};
 use crate::interruption::Interruption;
 use crate::pair_interruption::{PairInterruption, Side};
 use crate::run_fault::RunFault;
-use bcs_decode::ByteSource;
-use bcs_io::LineBuffer;
+use bcs_io::{ByteSource, LineBuffer};
 use bcs_tool_answers::Ending;
 use bcs_tool_command_line::limits::SIZE_LIMIT;
 

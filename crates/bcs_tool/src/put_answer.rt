@@ -3,8 +3,7 @@ ghost use Rattle.bcs_tool.specs.Running.{PutsAnswer};
 
 use crate::interruption::Interruption;
 use crate::run_fault::RunFault;
-use bcs_encode::ByteSink;
-use bcs_io::put_all;
+use bcs_io::{ByteSink, put_all};
 use bcs_tool_answers::Answer;
 use bcs_tool_command_line::{Outcome, Report};
 

@@ -6,14 +6,14 @@ ghost use Rattle.bcs_tool_command_line.specs.LineFaults.{IsFaultOf};
 ghost use Rattle.bcs_tool_command_line.specs.TakenWords.{TakesWords};
 ghost use Rattle.bcs_tool.specs.Endings.{IsUnopened, Performs, PerformsOne, PerformsPairs, TellsFault, TellsReport};
 
+use crate::command_line::line;
+use crate::files::read_work;
 use crate::pair_running::{report_of_pairs, run_pairs};
 use crate::running::{failed, run_from};
 use crate::telling::{tell_fault, tell_report};
-use bcs_decode::{ByteSource, ReadSource};
-use bcs_encode::ByteSink;
+use bcs_io::{ByteSink, ByteSource, ReadSource};
 use bcs_tool_command_line::{
-    FileFault, Inputs, Job, LineFault, OpenCause, Origin, Report, UnreadFile, Work, line,
-    place_of_file, read_work,
+    FileFault, Inputs, Job, LineFault, OpenCause, Origin, Report, UnreadFile, Work, place_of_file,
 };
 use std::alloc::Global;
 use std::env::Env;

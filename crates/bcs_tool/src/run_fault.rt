@@ -2,8 +2,7 @@
 ghost use Rattle.std.specs.Prelude.{◌≡◌};
 ghost use Rattle.bcs_tool.specs.Running.{fault_note, of_next};
 
-use bcs_io::NextFault;
-use bcs_tool_command_line::TakeFault;
+use bcs_io::{NextFault, TakeFault};
 use thiserror::Error;
 
 /// Why a run has not put all of its answers. The message is the fault's name alone.

@@ -10,11 +10,10 @@ use crate::line_running::run_lines;
 use crate::put_answer::put_answer;
 use crate::run_places::place_of_interruption;
 use crate::scan_running::run_scan;
-use bcs_decode::ByteSource;
-use bcs_encode::ByteSink;
+use bcs_io::{ByteSink, ByteSource, take_all};
 use bcs_tool_answers::{Asked, Prepared, answer_values, is_unlimited, prepare};
 use bcs_tool_command_line::limits::SIZE_LIMIT;
-use bcs_tool_command_line::{Origin, Outcome, Report, Work, take_all};
+use bcs_tool_command_line::{Origin, Outcome, Report, Work};
 use std::alloc::Global;
 
 /// Puts the answer to a job and its input; or, where the job is for lines, the answer to each line of it. A whole answer is

@@ -8,10 +8,10 @@ ghost use Rattle.bcs_tool_answers.specs.Preparing.{IsAskedBy};
 
 use crate::interruption::Interruption;
 use crate::put_answer::put_answer;
-use bcs_decode::{ByteSource, DecodeFault, scan_all, scan_from};
-use bcs_encode::ByteSink;
+use bcs_decode::{DecodeFault, scan_all, scan_from};
+use bcs_io::{ByteSink, ByteSource, TakeFault};
 use bcs_tool_answers::{Answer, Asked, counted, stopped};
-use bcs_tool_command_line::{Report, TakeFault, Work};
+use bcs_tool_command_line::{Report, Work};
 use std::alloc::Global;
 
 /// Puts how many bytes the value has that the input gives, or where they stop being one. Where they stand in the value is

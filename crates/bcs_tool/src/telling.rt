@@ -3,8 +3,7 @@ ghost use Rattle.std.specs.Prelude.{◌≡◌, ◌++◌, codes};
 ghost use Rattle.bcs_tool_answers.specs.Answers.{line_of};
 ghost use Rattle.bcs_tool.specs.Endings.{Told, TellsFault, TellsReport};
 
-use bcs_encode::ByteSink;
-use bcs_io::put_all;
+use bcs_io::{ByteSink, put_all};
 use bcs_tool_command_line::{LineFault, Report};
 
 /// Tells why the words are no job, or what they ask for, and gives the status.

@@ -7,8 +7,8 @@ use Rattle.bcs_tool_command_line.specs.declared.open_cause.OpenCause.{OpenCause}
 use Rattle.bcs_tool_command_line.specs.declared.open_cause.OpenCause.TheVariants.{Missing, Forbidden, NoFolder, Loop, LongName, BadName, Other}
 use Rattle.bcs_tool_command_line.specs.declared.origin.Origin.{Origin}
 use Rattle.bcs_tool_command_line.specs.declared.origin.Origin.TheVariants.{File, StandardInput}
-use Rattle.bcs_tool_command_line.specs.declared.taking.TakeFault.{TakeFault}
-use Rattle.bcs_tool_command_line.specs.declared.taking.TakeFault.TheVariants.{Read, TooLarge, OutOfMemory}
+use Rattle.bcs_io.specs.declared.taking.TakeFault.{TakeFault}
+use Rattle.bcs_io.specs.declared.taking.TakeFault.TheVariants.{Read, TooLarge, OutOfMemory}
 use Rattle.bcs_tool_command_line.specs.declared.unread_file.UnreadFile.{UnreadFile}
 use Rattle.bcs_tool_command_line.specs.declared.unread_file.UnreadFile.TheVariants.{Unopened, Untaken}
 

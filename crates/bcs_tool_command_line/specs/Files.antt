@@ -1,5 +1,6 @@
 -- The files that a job names.
 use Rattle.std.specs.Prelude.{◌≡◌, ◌≢◌, ◌⊎◌, ◌≤◌, ◌<◌, ◌==◌, ℕ, List, [], ◌∷◌, Bool, true, false, codes, length, IfSome, Option, Some, None, string_bytes}
+use Rattle.bcs_io.specs.Notes.{take_note}
 use Rattle.bcs_look_text.specs.declared.style.Paint.TheVariants.{Plain, Colored}
 use Rattle.bcs_look_text.specs.declared.style.Style.{Style}
 use Rattle.bcs_tool_command_line.specs.declared.color.Color.TheVariants.{Always, Never}
@@ -9,8 +10,7 @@ use Rattle.bcs_tool_command_line.specs.declared.file_fault.FileFault.{FileFault}
 use Rattle.bcs_tool_command_line.specs.declared.file_fault.FileFault.TheVariants as fault
 use Rattle.bcs_tool_command_line.specs.declared.file_refusal.FileRefusal.{FileRefusal}
 use Rattle.bcs_tool_command_line.specs.declared.job.Job.{Job}
-use Rattle.bcs_tool_command_line.specs.declared.taking.TakeFault.{TakeFault}
-use Rattle.bcs_tool_command_line.specs.declared.taking.TakeFault.TheVariants.{Read, TooLarge, OutOfMemory}
+use Rattle.bcs_io.specs.declared.taking.TakeFault.TheVariants.{Read, TooLarge, OutOfMemory}
 use Rattle.bcs_tool_command_line.specs.declared.unread_file.UnreadFile.{UnreadFile}
 use Rattle.bcs_tool_command_line.specs.declared.unread_file.UnreadFile.TheVariants.{Unopened, Untaken}
 use Rattle.bcs_tool_command_line.specs.declared.work.Inputs.{Inputs}
@@ -21,11 +21,6 @@ abbrev pub size_limit : ℕ
 size_limit = 268435456
 
 -- what the standard error is told
-abbrev pub take_note : TakeFault → List ℕ
-take_note Read = codes "fault: read"
-take_note TooLarge = codes "fault: too large"
-take_note OutOfMemory = codes "fault: memory"
-
 abbrev pub file_note : FileFault → List ℕ
 file_note fault.Open = codes "fault: open"
 file_note fault.Read = take_note Read

@@ -4,8 +4,8 @@ ghost use Rattle.bcs_tool_command_line.specs.FaultPlaces.{TellsPlace, cause_text
 
 use crate::open_cause::OpenCause;
 use crate::origin::Origin;
-use crate::taking::TakeFault;
 use crate::unread_file::UnreadFile;
+use bcs_io::TakeFault;
 use bcs_look_text::escaping::put_escaped;
 use std::alloc::{AllocError, Global};
 

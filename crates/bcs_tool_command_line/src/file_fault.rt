@@ -2,8 +2,8 @@
 ghost use Rattle.std.specs.Prelude.{◌≡◌};
 ghost use Rattle.bcs_tool_command_line.specs.Files.{file_note};
 
-use crate::taking::TakeFault;
 use crate::unread_file::UnreadFile;
+use bcs_io::TakeFault;
 use thiserror::Error;
 
 /// Why the content of a named file was not read. The message is the variant's name alone, and the variants count from 1.

@@ -1,23 +1,21 @@
-//! The command line of `bcs`, the job that it tells, and the files that the job names.
+//! The command line of `bcs`, the job that it tells, and what its work and its files are.
 #![tactic(auto)]
 
 mod arguments;
 mod coding;
 mod color;
 mod command;
-mod command_line;
 mod definition;
 mod fault_places;
 mod file_fault;
 mod file_refusal;
-mod files;
 mod job;
 pub mod limits;
 mod line_fault;
 mod open_cause;
 mod origin;
+mod parsing;
 mod styling;
-mod taking;
 mod texts;
 mod unread_file;
 pub mod version;
@@ -26,15 +24,14 @@ mod work;
 pub use coding::Coding;
 pub use color::Color;
 pub use command::Command;
-pub use command_line::line;
 pub use fault_places::{input_line, output_line, place_of_file};
 pub use file_fault::FileFault;
 pub use file_refusal::FileRefusal;
-pub use files::{read_named, read_opened, read_work};
 pub use job::Job;
 pub use line_fault::LineFault;
 pub use open_cause::OpenCause;
 pub use origin::Origin;
-pub use taking::{TakeFault, take_all};
+pub use parsing::parsed_job;
+pub use styling::style_of;
 pub use unread_file::UnreadFile;
 pub use work::{Inputs, Outcome, Report, Work};

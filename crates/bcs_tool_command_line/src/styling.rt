@@ -9,7 +9,7 @@ use std::{env, fs};
 
 /// The form that the job says, in color where it says so. Where it says nothing of color, pieces are printed in color on
 /// a terminal, if NO_COLOR isn't set.
-pub(crate) fn style_of<R: Files + Env + AllocGlobal>(rt: &R, job: &Job) -> Style
+pub fn style_of<R: Files + Env + AllocGlobal>(rt: &R, job: &Job) -> Style
     ensures { IsStyleOf job.now result }
 {
     let paint = match job.color {

@@ -2,7 +2,7 @@
 ghost use Rattle.std.specs.Prelude.{◌≡◌};
 
 use crate::open_cause::OpenCause;
-use crate::taking::TakeFault;
+use bcs_io::TakeFault;
 use thiserror::Error;
 
 /// Why the content of a named file was not read, with what is told of it. The message is the fault's name alone.

@@ -1,7 +1,7 @@
 use Rattle.std.proofs.Common.{Result, [], refl, subst}
 use Rattle.bcs_tool_answers.specs.Preparing.{IsPrepared}
 use Rattle.bcs_tool_answers.specs.declared.preparing.Prepared.{Prepared}
-use Rattle.bcs_tool_command_line.specs.declared.taking.TakeFault.TheVariants.{OutOfMemory}
+use Rattle.bcs_io.specs.declared.taking.TakeFault.TheVariants.{OutOfMemory}
 use Rattle.bcs_tool_command_line.specs.declared.work.Report.{Report}
 use Rattle.bcs_tool.specs.Pairs.{EndsPairs}
 use Rattle.bcs_tool.specs.declared.pair_interruption.PairInterruption.{PairInterruption}

@@ -1,7 +1,7 @@
 use Rattle.std.proofs.Common.{◌∙◌, ◌≤◌, Err, List, Result, ap, arith, length, subst, ℕ}
 use Rattle.bcs_tool_answers.specs.Places.{IsAnswer}
 use Rattle.bcs_tool_command_line.specs.Files.{size_limit}
-use Rattle.bcs_tool_command_line.specs.declared.taking.TakeFault.TheVariants.{OutOfMemory}
+use Rattle.bcs_io.specs.declared.taking.TakeFault.TheVariants.{OutOfMemory}
 use Rattle.bcs_tool_command_line.specs.declared.work.Report.{Report}
 use Rattle.bcs_tool.specs.Running.{Ends}
 use Rattle.bcs_tool.specs.declared.interruption.Interruption.{Interruption}

@@ -1,18 +1,11 @@
 //! The command line: its words, and the job that they ask for.
-ghost use Rattle.std.specs.Prelude.{◌≡◌, ◌⊎◌, ◌&&◌, [], IfOk, IfErr, IsOkUnless};
-ghost use Rattle.clap.specs.Words.{fault_of, found_of, kind_of, rows_of};
-ghost use Rattle.bcs_tool_command_line.specs.CommandLine.{bcs_app, texts_of};
+ghost use Rattle.std.specs.Prelude.{◌≡◌, ◌⊎◌, ◌&&◌, IfOk, IfErr, IsOkUnless};
+ghost use Rattle.bcs_tool_command_line.specs.CommandLine.{texts_of};
 ghost use Rattle.bcs_tool_command_line.specs.Jobs.{IsJobOf, is_raw};
-ghost use Rattle.bcs_tool_command_line.specs.LineFaults.{IsFaultAmong, IsFaultOf, IsFaultOfKind, TellsJoined};
+ghost use Rattle.bcs_tool_command_line.specs.LineFaults.{IsFaultOf, TellsJoined};
 ghost use Rattle.bcs_tool_command_line.specs.TakenWords.{TakesWords};
 
-use crate::arguments::job_of;
-use crate::command::Command;
-use crate::definition::bcs_command;
-use crate::job::Job;
-use crate::line_fault::LineFault;
-use clap::Error;
-use clap::error::ErrorKind;
+use bcs_tool_command_line::{Job, LineFault, parsed_job};
 use std::alloc::{AllocError, Global};
 
 // What clap tells of two arguments that don't go together. It has no such rule on `--raw` and `--lines`,
@@ -41,28 +34,6 @@ pub fn line(alloc: Global, words: &[String]) -> Result<Job, LineFault>
     Ok(job)
 }
 
-// The job of words in which clap finds no fault.
-fn parsed_job(alloc: Global, words: &[String]) -> Result<Job, LineFault>
-    ensures job { IfOk result (IsJobOf (texts_of words.now)) }
-    ensures taken { IfOk result (λ _. fault_of bcs_app (texts_of words.now) ≡ []) }
-    ensures fault { IfErr result (IsFaultAmong (fault_of bcs_app (texts_of words.now))) }
-    ensures good { fault_of bcs_app (texts_of words.now) ≡ []
-        → IsOkUnless result LineFault.OutOfMemory }
-{
-    let definition = bcs_command(alloc)?;
-    let matches = match definition.try_get_matches_from(words) {
-        Ok(matches) => matches,
-        Err(error) => return Err(refusal(alloc, &error)),
-    };
-    let Some((name, given)) = matches.subcommand() else {
-        unreachable!()
-    };
-    let Some(command) = Command::named(name) else {
-        unreachable!()
-    };
-    Ok(job_of(alloc, command, given)?)
-}
-
 // Whether `--raw` and `--lines` stand together. Bytes as they are have no lines.
 fn has_joined(job: &Job) -> bool
     ensures { result ≡ (is_raw job.now.coding && job.now.lines) }
@@ -77,21 +48,5 @@ fn joined_fault(alloc: Global) -> LineFault
     match String::from_str(alloc, JOINED) {
         Ok(text) => LineFault::Usage(text),
         Err(AllocError) => LineFault::OutOfMemory,
-    }
-}
-
-// What clap's error says, in this crate's terms.
-fn refusal(alloc: Global, error: &Error) -> LineFault
-    ensures { IsFaultOfKind (kind_of error.now) result }
-{
-    if error.kind() == ErrorKind::OutOfMemory {
-        return LineFault::OutOfMemory;
-    }
-    let Ok(text) = error.to_string(alloc) else {
-        return LineFault::OutOfMemory;
-    };
-    match error.kind() {
-        ErrorKind::DisplayHelp | ErrorKind::DisplayVersion => LineFault::Help(text),
-        _ => LineFault::Usage(text),
     }
 }

@@ -1,5 +1,5 @@
 use Rattle.std.proofs.Common.{rules}
-use Rattle.bcs_tool_command_line.proofs.command_line.refusal.Goals as goal
+use Rattle.bcs_tool_command_line.proofs.parsing.refusal.Goals as goal
 
 pub returns-then-eq : goal.returns-then-eq
 returns-then-eq c = search rules

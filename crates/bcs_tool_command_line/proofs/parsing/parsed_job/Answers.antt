@@ -5,8 +5,8 @@ use Rattle.bcs_tool_command_line.specs.LineFaults.{IsFaultAmong}
 use Rattle.bcs_tool_command_line.proofs.LineFaultLemmas.{fault_of_error, none_is_memory, taken_as}
 use Rattle.bcs_tool_command_line.proofs.CommandNames.{met_is_named, met_job}
 use Rattle.bcs_tool_command_line.proofs.CommandOptions.{met_limits}
-use Rattle.bcs_tool_command_line.proofs.command_line.parsed_job.Goals as goal
-use Rattle.bcs_tool_command_line.proofs.command_line.parsed_job.Goals.{Joined-error}
+use Rattle.bcs_tool_command_line.proofs.parsing.parsed_job.Goals as goal
+use Rattle.bcs_tool_command_line.proofs.parsing.parsed_job.Goals.{Joined-error}
 
 refused : (c : Joined-error) → IsFaultAmong (fault_of bcs_app (texts_of c.args.words.now)) c.refusal.result
 refused c = fault_of_error (app_of c.in_ok-definition.definition) (texts_of c.args.words.now) c.in-Err.error c.refusal.result

@@ -1,6 +1,6 @@
 use Rattle.std.proofs.Common.{◌≡◌, List, false, inl, inr, refl, rules, subst, ℕ}
 use Rattle.bcs_tool_command_line.specs.Files.{IsTextOf, is_registry_text}
-use Rattle.bcs_tool_command_line.proofs.files.read_work.Goals as goal
+use Rattle.bcs_tool.proofs.files.read_work.Goals as goal
 
 -- the text for REG or OLD was read before
 pub returns-in-Err-read_second-clause-fault : goal.returns-in-Err-read_second-clause-fault

@@ -2,8 +2,8 @@ use Rattle.std.proofs.Common.{◌∙◌, sym}
 use Rattle.bcs_tool_command_line.specs.CommandLine.{texts_of}
 use Rattle.bcs_tool_command_line.specs.LineFaults.{IsFaultOf}
 use Rattle.bcs_tool_command_line.proofs.LineFaultLemmas.{fault_of_joined, memory_alone, takes_words}
-use Rattle.bcs_tool_command_line.proofs.command_line.line.Goals as goal
-use Rattle.bcs_tool_command_line.proofs.command_line.line.Goals.{Joined-job-2}
+use Rattle.bcs_tool.proofs.command_line.line.Goals as goal
+use Rattle.bcs_tool.proofs.command_line.line.Goals.{Joined-job-2}
 
 refused : (c : Joined-job-2) → IsFaultOf (texts_of c.args.words.now) c.joined_fault.result
 refused c =

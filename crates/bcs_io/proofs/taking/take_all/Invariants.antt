@@ -1,6 +1,6 @@
 use Rattle.std.proofs.Common.{length, ◌≤◌}
 use Rattle.bcs_io.specs.Giving.{Took}
-use Rattle.bcs_tool_command_line.proofs.taking.take_all.Given as goal
+use Rattle.bcs_io.proofs.taking.take_all.Given as goal
 
 abbrev pub invariant-loop-count : goal.invariant-loop-count
 invariant-loop-count g l = record {

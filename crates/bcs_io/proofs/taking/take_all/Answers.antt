@@ -1,7 +1,7 @@
 use Rattle.std.proofs.Common.{◌+◌, ◌++◌, ◌∙◌, arith, take}
 use Rattle.std.proofs.lemmas.List.{length-append, length-take}
 use Rattle.bcs_io.proofs.GivingLemmas.{Took-then}
-use Rattle.bcs_tool_command_line.proofs.taking.take_all.Goals as goal
+use Rattle.bcs_io.proofs.taking.take_all.Goals as goal
 
 -- what was given before, and one byte more than may still come
 pub returns-then-left-count-clause-too_large : goal.returns-then-left-count-clause-too_large

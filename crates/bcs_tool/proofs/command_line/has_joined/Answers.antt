@@ -1,5 +1,5 @@
 use Rattle.std.proofs.Common.{rules}
-use Rattle.bcs_tool_command_line.proofs.command_line.has_joined.Goals as goal
+use Rattle.bcs_tool.proofs.command_line.has_joined.Goals as goal
 
 pub returns-then-is_raw : goal.returns-then-is_raw
 returns-then-is_raw c = search rules

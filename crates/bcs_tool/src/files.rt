@@ -5,16 +5,11 @@ ghost use Rattle.bcs_io.specs.Giving.{Took, Lost};
 ghost use Rattle.bcs_tool_command_line.specs.Files.{size_limit};
 ghost use Rattle.bcs_tool_command_line.specs.Files.{IsFaultOfFiles, IsFileText, IsFirstText, IsInputsOf, IsRefusalOf, IsSecondOf, IsTextOf, IsWorkOf, NamesNoFile, fault_of, is_registry_text};
 
-use crate::file_fault::FileFault;
-use crate::file_refusal::FileRefusal;
-use crate::limits::SIZE_LIMIT;
-use crate::open_cause::OpenCause;
-use crate::styling::style_of;
-use crate::taking::{TakeFault, take_all};
-use crate::unread_file::UnreadFile;
-use crate::work::{Inputs, Work};
-use crate::{Command, Job};
-use bcs_io::{ByteSource, ReadSource};
+use bcs_io::{ByteSource, ReadSource, TakeFault, take_all};
+use bcs_tool_command_line::limits::SIZE_LIMIT;
+use bcs_tool_command_line::{
+    Command, FileFault, FileRefusal, Inputs, Job, OpenCause, UnreadFile, Work, style_of,
+};
 use std::alloc::{AllocError, Global};
 use std::env::Env;
 use std::fs::File;

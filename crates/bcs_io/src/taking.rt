@@ -2,9 +2,9 @@
 ghost use Rattle.std.specs.Prelude.{◌≡◌, ◌+◌, ◌≤◌, ℕ, List, false, length, vec_len, IfOk, Err};
 ghost use Rattle.std.specs.Io.KnownBytes.{IsAtEnd};
 ghost use Rattle.bcs_io.specs.Giving.{Took, Lost};
-ghost use Rattle.bcs_tool_command_line.specs.Files.{take_note};
+ghost use Rattle.bcs_io.specs.Notes.{take_note};
 
-use bcs_io::ByteSource;
+use crate::source::ByteSource;
 use std::alloc::Global;
 use thiserror::Error;
 
