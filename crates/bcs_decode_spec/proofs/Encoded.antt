@@ -1,5 +1,5 @@
 -- What is accepted is what is encoded.
-use Rattle.std.proofs.Common.{◌≡◌, ℕ, List, length, sym, subst, ◌∙◌, arith}
+use Rattle.std.proofs.Common.{ℕ, List, length, sym, subst, ◌∙◌, arith}
 use Rattle.std.proofs.lemmas.List.{take_all}
 use Rattle.bcs_registry_model.specs.Container.{Entries, of}
 use Rattle.bcs_registry_model.specs.Shape.{Shape}
