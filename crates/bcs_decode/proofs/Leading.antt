@@ -12,7 +12,7 @@ use Rattle.bcs_decode_source.specs.Reads.{Ready, Reads}
 use Rattle.bcs_decode_source.proofs.Going.{Goes-then, Refuses-whole}
 use Rattle.bcs_decode_source.proofs.Readers.{IsSame-then, Reads-as, Onward, Onward-none, Onward-then, Onward-nodes, Onward-done, Onward-ends, Onward-stops}
 use Rattle.bcs_decode_source.proofs.StreamedRows.{Found}
-use Rattle.bcs_decode_slice.proofs.Passings.{bare}
+use Rattle.bcs_decode_slice.proofs.PassingParts.{chained_bare}
 
 -- ---- told bytes
 
@@ -42,11 +42,7 @@ module _ (f g : Parser (Unit {0})) (c d : Option (List ℕ)) (p q : At) (h : Lea
       let a = h told in
       (a.0 ∙ done (rest_of d), a.1)
 
--- ---- nothing is made of nothing
-
-pub bare_chain : (f : Parser (Unit {0})) (p m : ℕ) (b : List ℕ) → chain f (λ _. give tt) p m b ≡ f p m b
-unfolding chain
-bare_chain f p m b = bare (f p m b)
+-- ---- one after another
 
 pub chain_on : {A : Type 0} (f : Parser A) (k : A → Parser (Unit {0})) (p m : ℕ) (b : List ℕ) (x : A) (q l : ℕ) (c : List ℕ) → f p m b ≡ Ok (x, q, l, c) → chain f k p m b ≡ k x q l c
 unfolding chain
@@ -68,7 +64,7 @@ module _ {S : Type 0} {content : S → Option (List ℕ)} {is_failed : S → Boo
   -- nothing is made of what was gone past
   pub Reads-bare : {r : Result (Unit {0}) DecodeFault} {p q : Reader S} {f : Parser (Unit {0})}
       → Reads content is_failed allowance (λ x. x) r p f q → Reads content is_failed allowance (λ x. x) r p (chain f (λ _. give tt)) q
-  Reads-bare {f = f} h = Reads-as (λ o m b. bare_chain f o m b) h
+  Reads-bare {f = f} h = Reads-as (λ o m b. chained_bare f o m b) h
 
   -- so many bytes, by another word for how many
   pub Reads-count : {X : Type 0} {v : X → List ℕ} {r : Result X DecodeFault} {n k : ℕ} {p q : Reader S} → k ≡ n

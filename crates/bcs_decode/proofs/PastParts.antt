@@ -10,10 +10,9 @@ use Rattle.bcs_decode_spec.specs.declared.reason.Reason.TheVariants.{UnknownVari
 use Rattle.bcs_decode_spec.specs.Reading.{Read, Parser, follow, chain, give, node, length_here, items_here, pairs_here, option_here, shape_here, value_here, skipping}
 use Rattle.bcs_decode_slice.specs.Passing as slice
 use Rattle.bcs_decode_slice.specs.Passing.{skip}
-use Rattle.bcs_decode_slice.proofs.PassingParts.{content_past, variant_stop, variant_unknown, variant_on}
+use Rattle.bcs_decode_slice.proofs.PassingParts.{chained_bare, content_past, variant_stop, variant_unknown, variant_on}
 use Rattle.bcs_decode_source.specs.Sees.{enter_here, flag_node, row_here, number_node}
 use Rattle.bcs_decode.specs.Past.{option_past, items_past, pairs_past}
-use Rattle.bcs_decode.proofs.Leading.{bare_chain}
 
 -- ---- formats
 
@@ -64,7 +63,7 @@ abbrev pub held_past : Parser (Unit {0}) → Bool → Parser (Unit {0})
 held_past f some = if some then chain f (λ _. give tt) else give tt
 
 pub some_is : (f : Parser (Unit {0})) (some : Bool) (p m : ℕ) (b : List ℕ) → some ≡ true → held_past f some p m b ≡ f p m b
-some_is f some p m b is = rw is (bare_chain f p m b)
+some_is f some p m b is = rw is (chained_bare f p m b)
 
 pub absent_is : (f : Parser (Unit {0})) (some : Bool) (p m : ℕ) (b : List ℕ) → some ≡ false → held_past f some p m b ≡ Ok (tt, p, m, b)
 unfolding give

@@ -1,5 +1,5 @@
 -- From what is seen of told bytes to what is promised.
-use Rattle.std.proofs.Common.{◌≡◌, ◌<◌, ℕ, zero, suc, List, [], ◌∷◌, inr, subst, sym, length-drop, length, drop, Option, Some, None, Ok, Err, refl, ap, ap₂, ◌∙◌, arith}
+use Rattle.std.proofs.Common.{◌≡◌, ◌<◌, ℕ, suc, List, [], ◌∷◌, inr, subst, sym, length-drop, length, drop, Option, Some, None, Ok, Err, refl, ap, ap₂, ◌∙◌, arith}
 use Rattle.std.specs.Io.KnownBytes.{Consumes, IsAtEnd}
 use Rattle.bcs_registry_model.specs.Shape.{Shape}
 use Rattle.bcs_registry_model.specs.Container.{Entries}
@@ -15,31 +15,11 @@ use Rattle.bcs_decode_spec.proofs.Encoded.{is_decoded, no_encoding_stops}
 use Rattle.bcs_decode_spec.proofs.Verdicts.{skips_accepts, skips_stops}
 use Rattle.bcs_decode_slice.specs.Passing.{skip}
 use Rattle.bcs_decode_source.specs.declared.at.At.{At}
-use Rattle.bcs_decode_source.specs.Sees.{rest_of, Refuses, Left, Along, GaveFront, Halts}
+use Rattle.bcs_decode_source.specs.Sees.{rest_of, Refuses, Along, Halts}
 use Rattle.bcs_decode_source.proofs.StreamedRows.{Found}
-use Rattle.bcs_decode.specs.Whole.{FrontGone}
 use Rattle.bcs_decode.proofs.Wholes as whole
+use Rattle.bcs_decode.proofs.Wholes.{some_same, drop-suc, told_rest, from_all, gave}
 use Rattle.bcs_decode.specs.Scanned.{ScansFrom, ScansAll}
-
-some_same : {x y : List ℕ} → Some x ≡ Some y → x ≡ y
-some_same h = cc
-
-drop-suc : (n : ℕ) (b : List ℕ) → drop (suc n) b ≡ drop 1 (drop n b)
-drop-suc zero b = refl
-drop-suc (suc n) [] = refl
-drop-suc (suc n) (x ∷ b) = drop-suc n b
-
-told_rest : (n : ℕ) (b : List ℕ) (d : Option (List ℕ)) → Left b n d → d ≡ Some (drop n b)
-told_rest n b None l = absurd (let e = l.told in cc)
-told_rest n b (Some c) l = ap Some l.is
-
-from_all : (b : List ℕ) (p : At) → p.place ≡ 0 → Left b p.place (Some b)
-from_all b p place = record { told = refl; within = omega arith; is = ap (λ i. drop i b) (sym place) }
-
-gave : (b : List ℕ) (d : Option (List ℕ)) (p : At) → p.place ≡ 0 → GaveFront (Some b) p d → FrontGone b d
-gave b d p place k =
-    let front = k b (from_all b p place) in
-    (front.0, front.2.within, told_rest front.0 b d front.2)
 
 module _ (registry : Entries) (limits : Bounds) (s : Shape) where
   from_start : (p : At) → p.place ≡ 0 → p.nodes ≡ limits.nodes → (b : List ℕ) (x : Reading.Read (Unit {0})) → skip registry limits.depth s p.place p.nodes b ≡ x → skip_value registry limits s b ≡ x

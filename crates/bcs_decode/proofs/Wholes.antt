@@ -24,29 +24,29 @@ use Rattle.bcs_decode_spec.proofs.Verdicts.{reads_accepts}
 use Rattle.bcs_decode_spec.proofs.Encoded.{is_decoded, no_encoding_stops}
 use Rattle.bcs_decode_spec.specs.Stopping.{StopsAll}
 
-some_same : {x y : List ℕ} → Some x ≡ Some y → x ≡ y
+pub some_same : {x y : List ℕ} → Some x ≡ Some y → x ≡ y
 some_same h = cc
 
-drop-suc : (n : ℕ) (b : List ℕ) → drop (suc n) b ≡ drop 1 (drop n b)
+pub drop-suc : (n : ℕ) (b : List ℕ) → drop (suc n) b ≡ drop 1 (drop n b)
 drop-suc zero b = refl
 drop-suc (suc n) [] = refl
 drop-suc (suc n) (x ∷ b) = drop-suc n b
 
+pub told_rest : (n : ℕ) (b : List ℕ) (d : Option (List ℕ)) → Left b n d → d ≡ Some (drop n b)
+told_rest n b None l = absurd (let e = l.told in cc)
+told_rest n b (Some c) l = ap Some l.is
+
+pub from_all : (b : List ℕ) (p : At) → p.place ≡ 0 → Left b p.place (Some b)
+from_all b p place = record { told = refl; within = omega arith; is = ap (λ i. drop i b) (sym place) }
+
+pub gave : (b : List ℕ) (d : Option (List ℕ)) (p : At) → p.place ≡ 0 → GaveFront (Some b) p d → FrontGone b d
+gave b d p place k =
+    let front = k b (from_all b p place) in
+    (front.0, front.2.within, told_rest front.0 b d front.2)
+
 module _ (registry : Entries) (limits : Bounds) (s : Shape) where
   from_start : (p : At) → p.place ≡ 0 → p.nodes ≡ limits.nodes → (b : List ℕ) (x : Reading.Read Tree) → read registry limits.depth s p.place p.nodes b ≡ x → read_value registry limits s b ≡ x
   from_start p place nodes b x h = ap₂ (λ (o m : ℕ). read registry limits.depth s o m b) (sym place) (sym nodes) ∙ h
-
-  told_rest : (n : ℕ) (b : List ℕ) (d : Option (List ℕ)) → Left b n d → d ≡ Some (drop n b)
-  told_rest n b None l = absurd (let e = l.told in cc)
-  told_rest n b (Some c) l = ap Some l.is
-
-  from_all : (b : List ℕ) (p : At) → p.place ≡ 0 → Left b p.place (Some b)
-  from_all b p place = record { told = refl; within = omega arith; is = ap (λ i. drop i b) (sym place) }
-
-  gave : (b : List ℕ) (d : Option (List ℕ)) (p : At) → p.place ≡ 0 → GaveFront (Some b) p d → FrontGone b d
-  gave b d p place k =
-      let front = k b (from_all b p place) in
-      (front.0, front.2.within, told_rest front.0 b d front.2)
 
   pub decoded : (c d : Option (List ℕ)) (v : Value) (p q : At) → p.place ≡ 0 → p.nodes ≡ limits.nodes → Found (tree_of v) (read registry limits.depth s) c d p q → Along c p d q → DecodesFront registry limits s c d (Ok (v, q.place))
   decoded None d v p q place nodes h along = tt
@@ -78,12 +78,6 @@ module _ (registry : Entries) (limits : Bounds) (s : Shape) where
   pub front_value : (c d : Option (List ℕ)) (r : Value × ℕ) → DecodesFront registry limits s c d (Ok r) → DecodesFrom registry limits s c d (Ok r.0)
   front_value None d r h = tt
   front_value (Some b) d r h = λ bytes. (r.1, (h.1 bytes).0, (h.1 bytes).1)
-
-  pub front_stop : (c d : Option (List ℕ)) (x : DecodeFault) → DecodesFront registry limits s c d (Err x) → DecodesFrom registry limits s c d (Err x)
-  front_stop None d x h = tt
-  front_stop (Some b) d (Stop stop) h = h
-  front_stop (Some b) d Read h = h
-  front_stop (Some b) d OutOfMemory h = h
 
   pub all_stop : (c d : Option (List ℕ)) (x : DecodeFault) → DecodesFront registry limits s c d (Err x) → DecodesAll registry limits s c d (Err x)
   all_stop None d x h = tt

@@ -9,19 +9,13 @@ use Rattle.bcs_registry_model.specs.Container.{Entries, Content, of, one_of, not
 use Rattle.bcs_registry_model.specs.Grows.{Grows}
 use Rattle.bcs_registry_model.proofs.GrowthLaws.{StaysIn, content_at-grows, choice_at-grows}
 use Rattle.bcs_value_model.specs.Tree as tree
-use Rattle.bcs_value_model.specs.Tree.{Tree, Trees, no_trees, tree, Pairs, no_pairs, pair, count, pair_count}
+use Rattle.bcs_value_model.specs.Tree.{Tree, Trees, no_trees, tree, Pairs, no_pairs, pair, count}
 use Rattle.bcs_value_model.specs.Fits.{fits, all_fit, each_fits, pairs_fit}
 use Rattle.bcs_value_model.proofs.VariantFits.{payload_fits}
 use Rattle.bcs_encode_spec.specs.Plain.{plain}
-use Rattle.bcs_encode_spec.proofs.Growth.{plain_newer, fitting_stays}
+use Rattle.bcs_encode_spec.proofs.Growth.{plain_newer, fitting_stays, stays_alike}
 use Rattle.bcs_decode_parts.specs.Parts.{Step, item, inner, key, Part, part_after, part_onward, item_of, item_in, value_of, step_at, part_at}
 use Rattle.bcs_decode_parts.specs.PartLaws.{IsSamePart, GrowthKeepsParts}
-
--- content that is unchanged stays
-stays_alike : (f : Content) → StaysIn f f
-stays_alike (of s) = refl
-stays_alike (one_of cs) = λ n v is. is
-stays_alike nothing = tt
 
 module _ (older newer : Entries) (grows : Grows older newer) where
   -- a part of a fitting tree, and the one that it is in the newer registry

@@ -1,13 +1,11 @@
 -- A step to what an option, a container or a variant holds.
-use Rattle.std.proofs.Common.{◌≡◌, ◌≢◌, ℕ, ◌-◌, ◌<◌, ◌^◌, List, [], ◌∷◌, ◌++◌, length, Some, None, false, true, refl, sym, ap, subst, ◌∙◌, append_assoc, arith}
-use Rattle.std.proofs.lemmas.Bool.{false≢true}
+use Rattle.std.proofs.Common.{◌≡◌, ℕ, ◌-◌, ◌<◌, ◌^◌, List, [], ◌∷◌, ◌++◌, Some, false, refl, sym, subst, ◌∙◌, append_assoc, arith}
 use Rattle.bcs_num.specs.Uleb.{uleb}
 use Rattle.bcs_registry_model.specs.Shape as shape
 use Rattle.bcs_registry_model.specs.Shape.{Shape}
-use Rattle.bcs_registry_model.specs.Container.{Entries, Content, Choice, of, one_of, nothing, content_at, choice_at}
+use Rattle.bcs_registry_model.specs.Container.{Entries, Content, Choice, of, one_of, content_at, choice_at}
 use Rattle.bcs_value_model.specs.Tree as tree
-use Rattle.bcs_value_model.specs.Tree.{Tree, nodes}
-use Rattle.bcs_value_model.specs.Fits.{fits}
+use Rattle.bcs_value_model.specs.Tree.{Tree}
 use Rattle.bcs_value_model.proofs.VariantFits.{number_fits, payload_fits}
 use Rattle.bcs_encode_spec.specs.Plain.{plain}
 use Rattle.bcs_decode_spec.specs.Accepting.{IsDecodable}
@@ -20,27 +18,9 @@ use Rattle.bcs_decode_parts.specs.Fronts.{Fronts, LeadsTo}
 use Rattle.bcs_decode_parts.proofs.Arrivals.{AsLimited, fronts, reached}
 
 module _ (registry : Entries) (ahead : Ahead) where
-  -- what fits nothing stands nowhere
-  nothing_stands : (d : ℕ) (f : Content) (t : Tree) → f ≡ nothing → IsDecodable registry d f t → ⊥
-  nothing_stands d f t e h = at t (subst (λ (x : Content). fits false registry t x ≡ true) e h.sound.fit)
-    where
-      at : (t : Tree) → fits false registry t nothing ≡ true → ⊥
-      at t e = absurd (false≢true e)
-
   -- ---- options
 
   module _ (s : Shape) where
-    pub option_none : (t : Tree) (after : List ℕ) → Fronts registry ahead (of (shape.option s)) t after → length ahead.bytes.now ≡ 0 → ⊥
-    option_none tree.absent after h e = let same = ap length h.is in omega (arith, e, same)
-    option_none (tree.present t) after h e = let same = ap length h.is in omega (arith, e, same)
-    option_none _ after h e = absurd (let k = h.good.sound.fit in cc)
-
-    pub option_absent : (t : Tree) (after : List ℕ) (x : ℕ) (rest : List ℕ) → Fronts registry ahead (of (shape.option s)) t after → ahead.bytes.now ≡ x ∷ rest → x ≢ 1
-        → LeadsTo registry ahead.bytes.now (step_at registry inner (of (shape.option s)) t) None
-    option_absent tree.absent after x rest h e other = tt
-    option_absent (tree.present t) after x rest h e other = absurd (let same = sym e ∙ h.is in other cc)
-    option_absent _ after x rest h e other = absurd (let k = h.good.sound.fit in cc)
-
     pub option_leads : (t : Tree) (after : List ℕ) (x : ℕ) (rest : List ℕ) (r : Reached) → Fronts registry ahead (of (shape.option s)) t after → ahead.bytes.now ≡ x ∷ rest → x ≡ 1
         → content_of r.here ≡ of s → AsLimited ahead r.ahead → r.ahead.bytes.now ≡ rest → LeadsTo registry ahead.bytes.now (step_at registry inner (of (shape.option s)) t) (Some r)
     option_leads tree.absent after x rest r h e one same alike on = absurd (let k = sym e ∙ h.is in cc)
@@ -55,19 +35,11 @@ module _ (registry : Entries) (ahead : Ahead) where
   -- ---- containers
 
   module _ (name : List ℕ) where
-    pub container_shut : (t : Tree) (after : List ℕ) → Fronts registry ahead (of (shape.name name)) t after → ahead.depth ≡ 0 → ⊥
-    container_shut (tree.named t) after h e = let deep = h.good.sound.depth_holds in omega (arith, deep, e)
-    container_shut _ after h e = absurd (let k = h.good.sound.fit in cc)
-
     inside : (t : Tree) (after : List ℕ) → Fronts registry ahead (of (shape.name name)) (tree.named t) after → IsDecodable registry (ahead.depth - 1) (content_at name registry) t
     inside t after h =
         let g = h.good in
         let deep = g.sound.depth_holds in
         decodable registry (ahead.depth - 1) (content_at name registry) t g.sound.fit g.canonical (omega (arith, deep)) g.sound.lengths
-
-    pub container_missing : (t : Tree) (after : List ℕ) → Fronts registry ahead (of (shape.name name)) t after → content_at name registry ≡ nothing → ⊥
-    container_missing (tree.named t) after h e = nothing_stands (ahead.depth - 1) (content_at name registry) t e (inside t after h)
-    container_missing _ after h e = absurd (let k = h.good.sound.fit in cc)
 
     pub container_leads : (t : Tree) (after : List ℕ) (r : Reached) → Fronts registry ahead (of (shape.name name)) t after → content_of r.here ≡ content_at name registry
         → r.ahead.depth ≡ ahead.depth - 1 → r.ahead.nodes ≡ ahead.nodes → r.ahead.bytes.now ≡ ahead.bytes.now → LeadsTo registry ahead.bytes.now (step_at registry inner (of (shape.name name)) t) (Some r)
@@ -90,13 +62,6 @@ module _ (registry : Entries) (ahead : Ahead) where
           decodable registry ahead.depth (choice_at n cs) t (payload_fits false registry n t cs g.sound.fit) g.canonical g.sound.depth_holds g.sound.lengths,
         )
 
-    pub variant_unknown : (t : Tree) (after : List ℕ) → Fronts registry ahead (one_of cs) t after
-        → ((n : ℕ) (z : List ℕ) → n < 2 ^ 32 → ahead.bytes.now ≡ uleb n ++ z → choice_at n cs ≡ nothing) → ⊥
-    variant_unknown (tree.variant n t) after h none =
-        let v = variant_is n t after h in
-        nothing_stands ahead.depth (choice_at n cs) t (none n (plain registry t (choice_at n cs) ++ after) v.0 v.1) v.2
-    variant_unknown _ after h none = absurd (let k = h.good.sound.fit in cc)
-
     -- what the variant holds stands ahead, behind its number
     pub variant_stands : (t : Tree) (after : List ℕ) (s : Shape) (rest : List ℕ) (mid : Ahead) → Fronts registry ahead (one_of cs) t after
         → ((n : ℕ) (z : List ℕ) → n < 2 ^ 32 → ahead.bytes.now ≡ uleb n ++ z → (choice_at n cs ≡ of s) × (rest ≡ z)) → AsLimited ahead mid → mid.bytes.now ≡ rest
@@ -107,13 +72,3 @@ module _ (registry : Entries) (ahead : Ahead) where
         let few = h.few in
         (t, subst (λ (f : Content). Fronts registry mid f t after) c.0 (fronts registry ahead mid (choice_at n cs) t after alike v.2 (omega (arith, few)) (is ∙ c.1)))
     variant_stands _ after s rest mid h found alike is = absurd (let k = h.good.sound.fit in cc)
-
-    pub variant_leads : (t : Tree) (after : List ℕ) (s : Shape) (rest : List ℕ) (r : Reached) → Fronts registry ahead (one_of cs) t after
-        → ((n : ℕ) (z : List ℕ) → n < 2 ^ 32 → ahead.bytes.now ≡ uleb n ++ z → (choice_at n cs ≡ of s) × (rest ≡ z)) → content_of r.here ≡ of s → AsLimited ahead r.ahead → r.ahead.bytes.now ≡ rest
-        → LeadsTo registry ahead.bytes.now (step_at registry inner (one_of cs) t) (Some r)
-    variant_leads (tree.variant n t) after s rest r h found same alike on =
-        let v = variant_is n t after h in
-        let c = found n (plain registry t (choice_at n cs) ++ after) v.0 v.1 in
-        let few = h.few in
-        reached registry ahead (record { value = t; content = choice_at n cs; place = length (uleb n) }) r ahead.bytes.now (uleb n) after (same ∙ sym c.0) alike v.2 (omega (arith, few)) refl v.1 (on ∙ c.1)
-    variant_leads _ after s rest r h found same alike on = absurd (let k = h.good.sound.fit in cc)

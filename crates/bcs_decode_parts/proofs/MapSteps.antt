@@ -7,7 +7,7 @@ use Rattle.bcs_registry_model.specs.Shape as shape
 use Rattle.bcs_registry_model.specs.Shape.{Shape}
 use Rattle.bcs_registry_model.specs.Container.{Entries, of}
 use Rattle.bcs_value_model.specs.Tree as tree
-use Rattle.bcs_value_model.specs.Tree.{Tree, Pairs, no_pairs, pair, pair_count, nodes, pairs_nodes}
+use Rattle.bcs_value_model.specs.Tree.{Tree, Pairs, no_pairs, pair, pair_count, pairs_nodes}
 use Rattle.bcs_encode_spec.specs.Plain.{plain, plain_pairs}
 use Rattle.bcs_encode_spec.specs.Lengths.{length_limit, pairs_hold}
 use Rattle.bcs_decode_spec.specs.Accepting.{IsDecodable}
@@ -52,10 +52,6 @@ module _ (registry : Entries) (ahead : Ahead) (f g : Shape) (wanted : List ℕ) 
         omega (arith, leb-true (pair_count ps) length_limit p.0),
         h.is ∙ append_assoc (uleb (pair_count ps)) (plain_pairs registry ps f g) after,
       )
-
-  pub map_none : ((k : ℕ) (z : List ℕ) → k < 2 ^ 32 → ahead.bytes.now ≡ uleb k ++ z → ⊥) → (t : Tree) (after : List ℕ) → Fronts registry ahead (of (shape.map f g)) t after → ⊥
-  map_none none (tree.pairs ps) after h = let m = map_entries ps after h in none (pair_count ps) (plain_pairs registry ps f g ++ after) m.1 m.2
-  map_none none _ after h = absurd (let e = h.good.sound.fit in cc)
 
   -- whatever is found among the entries behind the number is found in the map
   pub found_in_map : (n : ℕ) (rest : List ℕ) → NumberIs ahead.bytes.now n rest → (r : Option Reached) → Finds rest n r → FindsInMap r

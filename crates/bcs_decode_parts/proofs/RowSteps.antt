@@ -6,7 +6,7 @@ use Rattle.bcs_registry_model.specs.Shape as shape
 use Rattle.bcs_registry_model.specs.Shape.{Shape, Shapes}
 use Rattle.bcs_registry_model.specs.Container.{Entries, Content, of}
 use Rattle.bcs_value_model.specs.Tree as tree
-use Rattle.bcs_value_model.specs.Tree.{Tree, Trees, no_trees, tree, count, nodes, trees_nodes}
+use Rattle.bcs_value_model.specs.Tree.{Tree, Trees, tree, count, trees_nodes}
 use Rattle.bcs_value_model.specs.Fits.{all_fit}
 use Rattle.bcs_value_model.proofs.Equivalence.{nat-same}
 use Rattle.bcs_encode_spec.specs.Plain.{plain, plain_items, plain_each}
@@ -128,10 +128,6 @@ module _ (registry : Entries) (ahead : Ahead) where
           omega (arith, leb-true (count ts) length_limit p.0),
           h.is ∙ append_assoc (uleb (count ts)) (plain_items registry ts s) after,
         )
-
-    pub list_none : (t : Tree) (after : List ℕ) → Fronts registry ahead (of (shape.seq s)) t after → ((k : ℕ) (z : List ℕ) → k < 2 ^ 32 → ahead.bytes.now ≡ uleb k ++ z → ⊥) → ⊥
-    list_none (tree.items ts) after h none = let l = list_number ts after h in none (count ts) (plain_items registry ts s ++ after) l.1 l.2
-    list_none _ after h none = absurd (let e = h.good.sound.fit in cc)
 
     pub list_past : (t : Tree) (after : List ℕ) (n : ℕ) (rest : List ℕ) → Fronts registry ahead (of (shape.seq s)) t after → NumberIs ahead.bytes.now n rest → n ≤ i
         → LeadsTo registry ahead.bytes.now (step_at registry (item i) (of (shape.seq s)) t) None

@@ -1,5 +1,6 @@
 -- A text spells one step at most, and has no slash.
-use Rattle.std.proofs.Common.{◌≡◌, ◌∙◌, ◌<◌, ◌≤◌, ◌^◌, ◌++◌, ◌==◌, Bool, ℕ, List, [], ◌∷◌, Ok, ap, arith, codes, decimal, drop, false, get_or, not, refl, subst, sym, true, true≢false}
+use Rattle.std.proofs.Common.{◌≡◌, ◌∙◌, ◌<◌, ◌≤◌, ◌^◌, ◌++◌, ◌==◌, ℕ, List, [], ◌∷◌, Ok, ap, arith, codes, decimal, drop, false, get_or, not, refl, subst, sym, true, true≢false}
+use borrow.Author.Tests.{not-true}
 use Rattle.std.specs.List.{list_all}
 use Rattle.std.specs.Str.Parse.{AllDigits}
 use Rattle.std.proofs.lemmas.Bool.{ne_eqb}
@@ -60,12 +61,8 @@ digits_have_none (c ∷ cs) h = All-cons IsNoSlash c cs (ne_eqb c 47 (λ e. omeg
 hex_digit_is_none : (c : ℕ) → is_hex_digit c ≡ true → (c == 47) ≡ false
 hex_digit_is_none c h = ne_eqb c 47 (λ e. true≢false (sym h ∙ ap is_hex_digit e))
 
-not_false : (b : Bool) → not b ≡ true → b ≡ false
-not_false false e = refl
-not_false true e = cc
-
 none_by : (xs : List ℕ) → list_all (λ b. not (b == 47)) xs ≡ true → HasNoSlash xs
-none_by xs h = All-weaker (λ b. not (b == 47) ≡ true) IsNoSlash (λ b e. not_false (b == 47) e) xs (AllPass-from_list_all (λ b. not (b == 47)) xs h)
+none_by xs h = All-weaker (λ b. not (b == 47) ≡ true) IsNoSlash (λ b e. not-true (b == 47) e) xs (AllPass-from_list_all (λ b. not (b == 47)) xs h)
 
 pub has_no_slash : (text : List ℕ) (s : Step) → SpellsStep text s → HasNoSlash text
 has_no_slash text (item n) h = subst HasNoSlash (sym h.0) (digits_have_none (decimal n) (decimal_is_IsNumeral n h.1).0.1)

@@ -18,7 +18,7 @@ unfolding node option_here flag_past chain give
 node_option g p zero b = refl
 node_option g p (suc m) b = refl
 
-chained_bare : (g : Parser (Unit {0})) (p m : ℕ) (b : List ℕ) → chain g (λ _. give tt) p m b ≡ g p m b
+pub chained_bare : (g : Parser (Unit {0})) (p m : ℕ) (b : List ℕ) → chain g (λ _. give tt) p m b ≡ g p m b
 unfolding chain
 chained_bare g p m b = bare (g p m b)
 

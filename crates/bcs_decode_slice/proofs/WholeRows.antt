@@ -1,5 +1,5 @@
 -- Going past a row of values that each have so many bytes, in one step.
-use Rattle.std.proofs.Common.{◌≡◌, ℕ, zero, suc, ◌+◌, ◌-◌, ◌*◌, ◌<◌, ◌≤◌, List, length, drop, Ok, Err, refl, ap, ◌∙◌, arith, ◌/◌, ◌⊎◌, inl, inr}
+use Rattle.std.proofs.Common.{◌≡◌, ℕ, zero, suc, ◌+◌, ◌-◌, ◌*◌, ◌<◌, ◌≤◌, List, length, drop, Ok, Err, refl, ap, ◌∙◌, arith, ◌/◌, ◌⊎◌, inl, inr, mul-le-mul_right}
 use Rattle.std.proofs.Math.Nat.{suc-mul}
 use Rattle.std.proofs.lemmas.Bool.{le-ltb, lt-ltb}
 use Rattle.std.proofs.lemmas.List.{length-drop, drop-drop}
@@ -81,11 +81,6 @@ module _ (w : ℕ) where
 
 -- ---- how many values the bytes have room for
 
-times_le : (n k w : ℕ) → n ≤ k → n * w ≤ k * w
-times_le zero k w h = let none : 0 * w ≡ 0 = omega arith in omega (arith, none)
-times_le (suc n) zero w h = absurd (omega arith)
-times_le (suc n) (suc k) w h = omega (arith, suc-mul n w, suc-mul k w, times_le n k w (omega arith))
-
 pub room_low : (len k w : ℕ) → 0 < w → k ≡ len / w → k * w ≤ len
 room_low len k w h is = rw is (omega arith)
 
@@ -94,4 +89,4 @@ room_high len k w h is = rw is (omega (arith, suc-mul (len / w) w))
 
 pub room_for : (len n k w : ℕ) → n ≤ k → (w ≡ 0) ⊎ ((0 < w) × (k ≡ len / w)) → n * w ≤ len
 room_for len n k w h (inl none) = let zero_bytes : n * 0 ≡ 0 = omega arith in rw (none, zero_bytes) (omega arith)
-room_for len n k w h (inr some) = omega (arith, times_le n k w h, room_low len k w some.0 some.1)
+room_for len n k w h (inr some) = omega (arith, mul-le-mul_right w h, room_low len k w some.0 some.1)

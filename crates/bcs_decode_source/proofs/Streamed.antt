@@ -78,10 +78,6 @@ module _ (registry : Entries) (d p m : ℕ) (b : List ℕ) where
   unfolding content_here value_here
   content_shape s = refl
 
-  pub content_nothing : content_value registry d nothing p m b ≡ Err (Unsupported, p)
-  unfolding content_here fail_here
-  content_nothing = refl
-
   pub enum_stop : (cs : List Choice) (e : Reason) (o : ℕ) → number_node p m b ≡ Err (e, o) → content_value registry d (one_of cs) p m b ≡ Err (e, o)
   enum_stop cs e o h = enum_is registry d cs p m b ∙ rw h refl
 

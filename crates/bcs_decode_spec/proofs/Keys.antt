@@ -1,18 +1,16 @@
 -- A key, as the bytes that were gone past.
-use Rattle.std.proofs.Common.{◌≡◌, ℕ, ◌+◌, ◌-◌, ◌<◌, List, [], ◌∷◌, ◌++◌, length, take, Option, Some, None, Ok, Err, refl, sym, ap, ap₂, subst, ◌∙◌, arith, inl, inr, ◌⊎◌}
+use Rattle.std.proofs.Common.{◌≡◌, ℕ, ◌+◌, ◌-◌, List, [], ◌++◌, length, take, Option, Some, None, Ok, Err, refl, sym, ap, ap₂, subst, ◌∙◌, arith, inl, inr, ◌⊎◌}
 use Rattle.std.specs.Ordering.{nat_cmp, match_ordering}
 use Rattle.std.specs.declared.cmp.Ordering.{Ordering}
 use Rattle.std.specs.declared.cmp.Ordering.TheVariants.{Less, Equal, Greater}
 use Rattle.std.specs.Cmp.Lexicographic.{slice_cmp}
-use Rattle.std.proofs.lemmas.Bool.{le-ltb, eq-eqb}
-use Rattle.std.proofs.lemmas.Bool.Decides.{nat_tests}
 use Rattle.std.proofs.lemmas.List.{append-nil, take_at}
 use Rattle.bcs_registry_model.specs.Shape.{Shape}
 use Rattle.bcs_registry_model.specs.Container.{Entries, of}
 use Rattle.bcs_value_model.specs.Tree.{Tree, nodes}
 use Rattle.bcs_encode_spec.specs.Plain.{plain}
 use Rattle.bcs_encode_spec.specs.Canonical.{Below}
-use Rattle.bcs_encode_spec.proofs.BelowLaws.{below_less, less_below, order}
+use Rattle.bcs_encode_spec.proofs.BelowLaws.{same_equal, below_less, below_greater, less_below, order}
 use Rattle.bcs_decode_spec.specs.declared.reason.Reason.{Reason}
 use Rattle.bcs_decode_spec.specs.declared.reason.Reason.TheVariants.{KeyOrder, KeyRepeated}
 use Rattle.bcs_decode_spec.specs.Reading.{Read, Parser, chain, give, fail, key_after, key_here}
@@ -22,23 +20,6 @@ use Rattle.bcs_decode_spec.proofs.Combine.{exact_give, exact_fail, exact_from, e
 use Rattle.bcs_decode_spec.proofs.Items.{Says}
 
 -- ---- the order of keys
-
-cmp_same : (x y : ℕ) → x ≡ y → nat_cmp x y ≡ Equal
-cmp_same x y h = rw (le-ltb x y (omega arith), eq-eqb x y h) refl
-
-cmp_more : (x y : ℕ) → y < x → nat_cmp x y ≡ Greater
-cmp_more x y h = grind (arith, nat_tests)
-
-same_equal : (a : List ℕ) → slice_cmp nat_cmp a a ≡ Equal
-same_equal [] = refl
-same_equal (x ∷ a) = rw (cmp_same x x refl) (same_equal a)
-
-below_greater : (a b : List ℕ) → Below b a → slice_cmp nat_cmp a b ≡ Greater
-below_greater [] [] h = elim h [ ]
-below_greater [] (y ∷ b) h = elim h [ ]
-below_greater (x ∷ a) [] h = refl
-below_greater (x ∷ a) (y ∷ b) (inl lt) = rw (cmp_more x y lt) refl
-below_greater (x ∷ a) (y ∷ b) (inr e) = rw (cmp_same x y (sym e.0)) (below_greater a b e.1)
 
 greater_below : (a b : List ℕ) → slice_cmp nat_cmp a b ≡ Greater → Below b a
 greater_below a b h = elim (order a b) [

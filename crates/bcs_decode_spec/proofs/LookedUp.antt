@@ -1,19 +1,14 @@
 -- Containers and variants that were looked up, and how many levels a format in a row has.
-use Rattle.std.proofs.Common.{◌≡◌, ℕ, zero, suc, ◌+◌, ◌<◌, ◌≤◌, List, [], ◌∷◌, length, get_or, map, drop, Option, Some, None, option_map, Bor, string_bytes, refl, sym, ap, ◌∙◌, arith}
+use Rattle.std.proofs.Common.{◌≡◌, ℕ, zero, suc, ◌+◌, ◌<◌, ◌≤◌, List, [], ◌∷◌, length, get_or, map, drop, Option, Some, None, option_map, Bor, refl, sym, ap, ◌∙◌, arith}
 use Rattle.std.proofs.lemmas.List.{drop_more}
-use Rattle.std.specs.Ordering.{nat_cmp}
-use Rattle.std.specs.Map.{lookup}
-use Rattle.std.specs.Option.{option_copied, option_map_or}
-use Rattle.std.specs.BTreeMap.{is_at}
 use Rattle.bcs_registry_model.specs.Shape as shape
-use Rattle.bcs_registry_model.specs.Container.{Entries, Payload, Content, of, nothing, content, container_at, content_at, choice_at, payload_shape, field_shapes}
-use Rattle.bcs_registry_model.specs.View.{shape_of, formats_shapes, field_of, payload_of, choice_of, container_of}
+use Rattle.bcs_registry_model.specs.Container.{Entries, nothing, content, container_at, content_at, field_shapes}
+use Rattle.bcs_registry_model.specs.View.{shape_of, formats_shapes, field_of, container_of}
 use Rattle.bcs_registry_model.specs.WellFormed.{levels, shapes_levels}
 use Rattle.bcs_registry_model.specs.declared.named.Named.{Named}
 use Rattle.bcs_registry_model.specs.declared.format.Format.{Format}
-use Rattle.bcs_registry_model.specs.declared.variant_format.VariantFormat.{VariantFormat}
 use Rattle.bcs_registry_model.specs.declared.container.Container as declared
-use Rattle.bcs_registry_model.proofs.Lookup.{find-choice}
+pub use Rattle.bcs_value_model.proofs.WalkViews.{choice-found as choice_found, choice-missing as choice_missing}
 
 -- ---- containers and variants that were looked up
 
@@ -24,26 +19,6 @@ content_found registry name o c found some = rw (← found, some) refl
 pub content_missing : (registry : Entries) (name : List ℕ) (o : Option (Bor declared.Container))
     → option_map (λ c. container_of c.now) o ≡ container_at name registry → o ≡ None → content_at name registry ≡ nothing
 content_missing registry name o found none = rw (← found, none) refl
-
-map-map_or : {A B C : Type 0} (f : B → C) (g : A → B) (d : C) (o : Option A) → option_map_or f (option_map g o) d ≡ option_map_or (λ a. f (g a)) o d
-map-map_or f g d None = refl
-map-map_or f g d (Some a) = refl
-
-abbrev chosen : Option (Named VariantFormat) → Content
-chosen o = option_map_or (λ v. of (payload_shape (payload_of v.value))) o nothing
-
-choice-is : (n : ℕ) (es : List (ℕ × Named VariantFormat)) → choice_at n (map choice_of es) ≡ chosen (lookup (is_at (nat_cmp n)) es)
-choice-is n es =
-    ap (λ (q : Option (List ℕ × Payload)). option_map_or (λ c. of (payload_shape c.1)) q nothing) (find-choice n es)
-    ∙ map-map_or {B = List ℕ × Payload} (λ p. of (payload_shape p.1)) (λ v. (string_bytes v.name, payload_of v.value)) nothing (lookup (is_at (nat_cmp n)) es)
-
-pub choice_found : (n : ℕ) (es : List (ℕ × Named VariantFormat)) (x : Bor (Named VariantFormat)) (o : Option (Bor (Named VariantFormat)))
-    → option_copied o ≡ lookup (is_at (nat_cmp n)) es → o ≡ Some x → choice_at n (map choice_of es) ≡ of (payload_shape (payload_of x.now.value))
-choice_found n es x o found some = choice-is n es ∙ ap chosen (sym found ∙ ap option_copied some)
-
-pub choice_missing : (n : ℕ) (es : List (ℕ × Named VariantFormat)) (o : Option (Bor (Named VariantFormat)))
-    → option_copied o ≡ lookup (is_at (nat_cmp n)) es → o ≡ None → choice_at n (map choice_of es) ≡ nothing
-choice_missing n es o found none = choice-is n es ∙ ap chosen (sym found ∙ ap option_copied none)
 
 -- ---- the next format in a row
 

@@ -8,10 +8,10 @@ use Rattle.bcs_num.specs.Uleb.{uleb}
 use Rattle.bcs_num.specs.Le.{le}
 use Rattle.bcs_num.proofs.Ranges.{holds_signed-is, is-holds_signed}
 use Rattle.bcs_registry_model.specs.Shape as shape
-use Rattle.bcs_registry_model.specs.Shape.{Shape, Shapes, no_shapes, shape}
+use Rattle.bcs_registry_model.specs.Shape.{Shape, shape}
 use Rattle.bcs_registry_model.specs.Container.{Entries, Content, of}
 use Rattle.bcs_value_model.specs.Tree as tree
-use Rattle.bcs_value_model.specs.Tree.{Tree, Trees, no_trees, tree, Pairs, no_pairs, pair, count, pair_count, depth, nodes, trees_nodes, pairs_nodes}
+use Rattle.bcs_value_model.specs.Tree.{Tree, Trees, tree, Pairs, count, pair_count, nodes, trees_nodes, pairs_nodes}
 use Rattle.bcs_value_model.specs.Fits.{all_fit}
 use Rattle.bcs_encode_spec.specs.Plain.{plain, plain_items, plain_pairs}
 use Rattle.bcs_encode_spec.specs.Lengths.{length_limit, all_hold, pairs_hold}

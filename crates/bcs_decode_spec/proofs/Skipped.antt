@@ -216,7 +216,7 @@ module _ {V R E V' R' E' : Type 0} (make : Making V R E) (remake : Making V' R' 
 abbrev pub forget : {A : Type 0} → A → Unit {0}
 forget x = tt
 
-forgets : Leads building skipping forget forget forget
+pub forgets : Leads building skipping forget forget forget
 forgets = record {
   unit_is = refl;
   truth_is = λ x. refl;

@@ -7,7 +7,7 @@ use Rattle.bcs_registry_model.specs.Shape.{Shape, Shapes, no_shapes, shape}
 use Rattle.bcs_registry_model.specs.Container.{Entries, Content, of, one_of, nothing, Choice, Payload, content_at, choice_at, choice_numbered, payload_shape}
 use Rattle.std.specs.Option.{option_map_or}
 use Rattle.bcs_value_model.specs.Tree as tree
-use Rattle.bcs_value_model.specs.Tree.{Tree, Trees, no_trees, tree, Pairs, no_pairs, pair, count, pair_count, depth, nodes, trees_nodes, pairs_nodes}
+use Rattle.bcs_value_model.specs.Tree.{Tree, Trees, no_trees, tree, nodes, trees_nodes}
 use Rattle.bcs_value_model.proofs.VariantFits.{number_fits, payload_fits}
 use Rattle.bcs_encode_spec.specs.Plain.{plain, plain_each}
 use Rattle.bcs_decode_spec.specs.declared.reason.Reason.{Reason}

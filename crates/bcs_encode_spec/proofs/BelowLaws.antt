@@ -52,6 +52,10 @@ cmp_same x y h = rw (le-ltb x y (omega arith), eq-eqb x y h) refl
 cmp_more : (x y : ℕ) → y < x → nat_cmp x y ≡ Greater
 cmp_more x y h = grind (arith, nat_tests)
 
+pub same_equal : (a : List ℕ) → slice_cmp nat_cmp a a ≡ Equal
+same_equal [] = refl
+same_equal (x ∷ a) = rw (cmp_same x x refl) (same_equal a)
+
 pub below_less : (a b : List ℕ) → Below a b → slice_cmp nat_cmp a b ≡ Less
 below_less [] [] h = elim h [ ]
 below_less [] (y ∷ b) h = refl

@@ -49,7 +49,7 @@ fitting_stays P between registry t (one_of cs) nothing e h p = absurd e
 fitting_stays P between registry _ _ _ e h p = absurd (search (false≢true))
 
 -- content that is unchanged stays
-stays_alike : (f : Content) → StaysIn f f
+pub stays_alike : (f : Content) → StaysIn f f
 stays_alike (of s) = refl
 stays_alike (one_of cs) = λ n v is. is
 stays_alike nothing = tt

@@ -1,7 +1,6 @@
 -- No value's bytes begin another's.
 use Rattle.std.proofs.Common.{◌≡◌, ℕ, ◌^◌, Bool, true, false, ◌&&◌, ◌==◌, List, [], ◌∷◌, ◌++◌, length, refl, sym, ap, ap₂, subst, ◌∙◌, append_assoc}
 use Rattle.std.proofs.lemmas.Bool.{false≢true, and_parts, eqb-true, ltb-true}
-use Rattle.std.specs.Int.{Width}
 use mir.Val.{bits}
 use Rattle.bcs_num.specs.Uleb.{uleb}
 use Rattle.bcs_num.proofs.Ranges.{holds_signed-is}

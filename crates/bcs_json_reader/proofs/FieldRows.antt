@@ -1,6 +1,6 @@
 -- The fields of a struct from one on, in the members that are left.
-use Rattle.std.proofs.Common.{◌≡◌, ◌∙◌, ◌++◌, ℕ, List, [], ◌∷◌, Ok, Err, Some, map, string_bytes, refl, ap, sym}
-use Rattle.serde_json.specs.Data.{Data, Members, no_members, member}
+use Rattle.std.proofs.Common.{◌≡◌, ◌∙◌, ◌++◌, ℕ, List, [], ◌∷◌, Ok, Some, map, string_bytes, ap, sym}
+use Rattle.serde_json.specs.Data.{Data, Members, no_members}
 use Rattle.serde_json.specs.Find.{get_member}
 use Rattle.bcs_registry_model.specs.View.{shape_of, field_of}
 use Rattle.bcs_registry_model.specs.declared.format.Format.{Format}
@@ -10,7 +10,6 @@ use Rattle.bcs_value_model.specs.View.{tree_of, items_trees}
 use Rattle.bcs_value_model.specs.declared.value.Value.{Value}
 use Rattle.bcs_json_spec.specs.Look.{without}
 use Rattle.bcs_json_spec.specs.Reading.{Read, follow, read_shape, read_member, read_fields}
-use Rattle.bcs_json_spec.specs.declared.json_fault.JsonFault.TheVariants.{UnknownField}
 use Rattle.bcs_json_reader.proofs.Rows.{joined, joined-none, row_more}
 
 module _ (named : List ℕ → Data → Read Tree) (x : Named Format) (fs gs : List (Named Format)) (here : gs ≡ x ∷ fs) (ms : Members) (vs : List Value) where
@@ -33,7 +32,3 @@ module _ (named : List ℕ → Data → Read Tree) (gs : List (Named Format)) (d
   fields_done ms none =
       ap (λ hs. follow (read_fields named (map field_of hs) ms) (λ ts. Ok (joined vs ts))) done
       ∙ ap (λ qs. follow (read_fields named [] qs) (λ ts. Ok (joined vs ts))) none ∙ ap Ok (joined-none vs)
-
-  pub member_left : (ms : Members) → (ms ≡ no_members → ⊥) → follow (read_fields named (map field_of gs) ms) (λ ts. Ok (joined vs ts)) ≡ Err UnknownField
-  member_left no_members some = absurd (some refl)
-  member_left (member k d ms) some = ap (λ hs. follow (read_fields named (map field_of hs) (member k d ms)) (λ ts. Ok (joined vs ts))) done

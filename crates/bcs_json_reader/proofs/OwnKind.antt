@@ -11,14 +11,12 @@ use Rattle.bcs_json_spec.specs.Look.{item_count, shape_count}
 use Rattle.bcs_json_spec.specs.Place.{Part, option_parts, seq_parts, map_parts, tuple_parts, array_parts, struct_parts, enum_parts, pair_parts}
 use Rattle.bcs_json_spec.specs.Reading.{Read, follow, read_all, read_choice, read_enum, read_option, read_pair, read_seq, read_tuple}
 use Rattle.bcs_json_spec.specs.declared.json_fault.JsonFault.{JsonFault}
+use Rattle.bcs_json_spec.proofs.Exact.{not_both}
 use Rattle.bcs_json_spec.specs.declared.json_fault.JsonFault.TheVariants.{BadShape}
 
 -- a reader that takes anything
 abbrev takes : Data → Read Tree
 takes d = Ok tree.unit
-
-ok_err : {A : Type 0} (x : A) (e : JsonFault) (r : Read A) → r ≡ Ok x → r ≡ Err e → ⊥
-ok_err x e r h g = cc
 
 takes_all : (ds : Items) → (ts : Trees) × (read_all takes ds ≡ Ok ts)
 takes_all no_items = (no_trees, refl)
@@ -27,7 +25,7 @@ takes_all (item d ds) = let rest = takes_all ds in (tree.tree tree.unit rest.0, 
 pub no_array : (j : Data) (e : JsonFault) → ((bytes : Bool) (r : Data → Read Tree) → read_seq bytes r j ≡ Err e) → (ds : Items) → j ≡ array ds → ⊥
 no_array j e h ds is =
     let all = takes_all ds in
-    ok_err (tree.items all.0) e (read_seq true takes j) (ap (read_seq true takes) is ∙ ap (λ (x : Read Trees). follow x (λ ts. Ok (tree.items ts))) all.1) (h true takes)
+    not_both (tree.items all.0) e (read_seq true takes j) (ap (read_seq true takes) is ∙ ap (λ (x : Read Trees). follow x (λ ts. Ok (tree.items ts))) all.1) (h true takes)
 
 module _ (left : ℕ) where
   option_at : (b : Bool) (e : JsonFault) (ps : List Part) → (if b then Ok (tree.present tree.unit) else Err BadShape) ≡ Err e → (if b then ps else []) ≡ []
@@ -59,7 +57,7 @@ module _ (left : ℕ) where
   tuple_none ss _ e h = refl
 
   pub pair_none : (s t : Shape) (j : Data) (e : JsonFault) → ((k v : Data → Read Tree) → read_pair k v j ≡ Err e) → pair_parts left s t j ≡ []
-  pair_none s t (array (item a (item b no_items))) e h = absurd (ok_err (tree.unit, tree.unit) e (read_pair takes takes (array (item a (item b no_items)))) refl (h takes takes))
+  pair_none s t (array (item a (item b no_items))) e h = absurd (not_both (tree.unit, tree.unit) e (read_pair takes takes (array (item a (item b no_items)))) refl (h takes takes))
   pair_none s t _ e h = refl
 
   pub struct_none : (fs : List Field) (j : Data) → ((ms : Members) → j ≡ object ms → ⊥) → struct_parts left fs j ≡ []
@@ -75,6 +73,6 @@ module _ (left : ℕ) where
 
   pub enum_none : (cs : List Choice) (j : Data) (e : JsonFault) → ((named : List ℕ → Data → Read Tree) (ds : List Choice) → read_enum named ds j ≡ Err e) → enum_parts left cs j ≡ []
   enum_none cs (object (member word d no_members)) e h =
-      absurd (ok_err (tree.variant 0 tree.unit) e (read_enum (λ n. takes) (named_so word) (object (member word d no_members)))
+      absurd (not_both (tree.variant 0 tree.unit) e (read_enum (λ n. takes) (named_so word) (object (member word d no_members)))
       (ap (λ o. read_choice (λ n. takes) o d) (called_so word)) (h (λ n. takes) (named_so word)))
   enum_none cs _ e h = refl

@@ -1,12 +1,11 @@
 -- The entries of a map: those that were read so far, before those that are still to be read.
 use Rattle.std.proofs.Common.{◌≡◌, ◌∙◌, ◌++◌, List, [], ◌∷◌, Ok, Err, refl, ap, sym}
-use Rattle.serde_json.specs.Data.{Data, array, no_items, item}
+use Rattle.serde_json.specs.Data.{Data}
 use Rattle.serde_json.specs.View.{view, items_view}
 use Rattle.serde_json.specs.declared.value.Value.{Value as Json}
 use Rattle.bcs_value_model.specs.Tree.{Tree, Pairs, no_pairs, pair}
 use Rattle.bcs_value_model.specs.View.{tree_of, entries_pairs}
 use Rattle.bcs_value_model.specs.declared.value.Value.{Value}
-use Rattle.bcs_json_spec.specs.declared.json_fault.JsonFault.{JsonFault}
 use Rattle.bcs_json_spec.specs.Reading.{Read, follow, read_pair, read_pairs}
 
 abbrev pub joined_pairs : List (Value × Value) → Pairs → Pairs
@@ -27,18 +26,6 @@ step es e (Ok ps) = ap Ok (sym (joined_pairs-more es e ps))
 step es e (Err f) = refl
 
 -- ---- an entry
-
-module _ (k v : Data → Read Tree) (j a b : Data) (two : j ≡ array (item a (item b no_items))) where
-  key_read : (s : Tree) → k a ≡ Ok s → read_pair k v j ≡ follow {B = Tree × Tree} (v b) (λ t. Ok (s, t))
-  key_read s h = ap (read_pair k v) two ∙ ap (λ (x : Read Tree). follow x (λ s. follow (v b) (λ t. Ok (s, t)))) h
-
-  -- its value is refused
-  pub value_fault : (s : Tree) (e : JsonFault) → k a ≡ Ok s → v b ≡ Err e → read_pair k v j ≡ Err e
-  value_fault s e g h = key_read s g ∙ ap (λ (y : Read Tree). follow {B = Tree × Tree} y (λ t. Ok (s, t))) h
-
-  -- or both are read
-  pub both_read : (s t : Tree) → k a ≡ Ok s → v b ≡ Ok t → read_pair k v j ≡ Ok (s, t)
-  both_read s t g h = key_read s g ∙ ap (λ (y : Read Tree). follow {B = Tree × Tree} y (λ t. Ok (s, t))) h
 
 -- ---- entries in a row
 

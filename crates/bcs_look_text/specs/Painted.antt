@@ -12,8 +12,3 @@ color_on Colored color = 27 ∷ 91 ∷ color ++ codes "m"
 abbrev pub color_off : Paint → List ℕ
 color_off Plain = []
 color_off Colored = 27 ∷ codes "[0m"
-
--- a text in a colour, or as it is
-abbrev pub painted : Paint → List ℕ → List ℕ → List ℕ
-painted Plain color text = text
-painted Colored color text = color_on Colored color ++ text ++ color_off Colored

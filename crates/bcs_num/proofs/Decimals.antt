@@ -24,11 +24,6 @@ all_digits_at [] i digits h = absurd (omega arith)
 all_digits_at (c ∷ cs) zero digits h = digits.0
 all_digits_at (c ∷ cs) (suc i) digits h = all_digits_at cs i digits.1 (omega arith)
 
-pub all_digits_take : (i : ℕ) (ds : List ℕ) → AllDigits 10 ds → AllDigits 10 (take i ds)
-all_digits_take zero ds digits = tt
-all_digits_take (suc i) [] digits = tt
-all_digits_take (suc i) (c ∷ cs) digits = (digits.0, all_digits_take i cs digits.1)
-
 -- nineteen digits never go past 64 bits
 pub short_fits : (ds : List ℕ) (i n : ℕ) → i < length ds → length ds ≤ 19 → AllDigits 10 (take i ds) → n ≡ digits_value 10 (take i ds) → n < 10 ^ 18
 short_fits ds i n h short digits is =
@@ -69,10 +64,6 @@ decimal_begins n some small = (decimal_by_steps_wide (λ m ds. (0 < length ds) �
     (λ m low. (omega arith, λ some. omega arith))
     (λ m ds low front. (omega (arith, length-append ds ((48 + m % 10) ∷ [])), λ some. omega (arith, get_or-append ds ((48 + m % 10) ∷ []) 0 0 front.0, front.1 (omega arith))))
     n small).1 some
-
--- each number has a text of its own
-pub decimal_injective : (m n : ℕ) → m < 10 ^ 64 → n < 10 ^ 64 → decimal m ≡ decimal n → m ≡ n
-decimal_injective m n h g e = sym (decimal_is_IsNumeral_wide m h).1 ∙ ap (digits_value 10) e ∙ (decimal_is_IsNumeral_wide n g).1
 
 value_after-ge : (n : ℕ) (ds : List ℕ) → n ≤ digits_value_after 10 n ds
 value_after-ge n [] = omega arith

@@ -10,28 +10,8 @@ use Rattle.bcs_decode_spec.specs.Reading.{Parser, chain, give, key_after, key_he
 use Rattle.bcs_decode_spec.specs.declared.reason.Reason.{Reason}
 use Rattle.bcs_decode_spec.specs.Accepting.{IsDecodable}
 use Rattle.bcs_decode_spec.specs.Stopping.{AllAre, Follows, ShapeStop, NamedStop}
-use Rattle.bcs_decode_spec.proofs.Skipped.{Leads, mapped, forget, mapped_value}
+use Rattle.bcs_decode_spec.proofs.Skipped.{mapped, forget, forgets, mapped_value}
 use Rattle.bcs_decode_spec.proofs.Values.{exact_value}
-
-pub forgets : Leads building skipping forget forget forget
-forgets = record {
-  unit_is = refl;
-  truth_is = λ x. refl;
-  unsigned_is = λ x. refl;
-  signed_is = λ x. refl;
-  text_is = λ x. refl;
-  bytes_is = λ x. refl;
-  absent_is = refl;
-  present_is = λ x. refl;
-  items_is = λ x. refl;
-  variant_is = λ n x. refl;
-  pairs_is = λ x. refl;
-  named_is = λ x. refl;
-  no_items_is = refl;
-  item_is = λ x y. refl;
-  no_entries_is = refl;
-  entry_is = λ x y z. refl;
-}
 
 -- the parser goes past these bytes and nodes
 pub record Past {A : Type 0} (f : Parser A) (x : A) (w : ℕ) (a : List ℕ) : Type 0 where

@@ -8,7 +8,7 @@ use Rattle.bcs_registry_model.specs.Container.{Entries}
 use Rattle.bcs_value_model.specs.Tree.{Tree, nodes}
 use Rattle.bcs_encode_spec.specs.Plain.{plain}
 use Rattle.bcs_decode_spec.specs.Reading.{Read, value_here, building, skipping}
-use Rattle.bcs_decode_spec.proofs.Skipped.{mapped, forget, mapped_value}
+use Rattle.bcs_decode_spec.proofs.Skipped.{mapped, forget, forgets, mapped_value}
 use Rattle.bcs_decode_spec.proofs.Values.{exact_value}
 use Rattle.bcs_pieces_spec.specs.Way.{Way}
 use Rattle.bcs_pieces_spec.specs.Piece.{Piece, Cut, pieces_bytes}
@@ -17,7 +17,6 @@ use Rattle.bcs_pieces_spec.specs.Held.{of}
 use Rattle.bcs_pieces_spec.specs.Pieces.{pieces}
 use Rattle.bcs_pieces_spec.specs.Telling.{tell}
 use Rattle.bcs_pieces_spec.proofs.Cutting.{pieces_cut}
-use Rattle.bcs_pieces_spec.proofs.Past.{forgets}
 use Rattle.bcs_pieces_spec.proofs.Tells.{tells_at}
 use Rattle.bcs_pieces_spec.proofs.Told.{told_value}
 

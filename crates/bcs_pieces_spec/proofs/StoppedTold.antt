@@ -6,7 +6,7 @@ use Rattle.bcs_num.specs.Uleb.{uleb}
 use Rattle.bcs_registry_model.specs.Shape as shape
 use Rattle.bcs_registry_model.specs.Shape.{Shape, Shapes, no_shapes, shape}
 use Rattle.bcs_registry_model.specs.Container as container
-use Rattle.bcs_registry_model.specs.Container.{Entries, Field, Payload, Choice, Container, Content, container_at, choice_numbered, content, payload_shape, field_shapes}
+use Rattle.bcs_registry_model.specs.Container.{Entries, Field, Payload, Choice, Container, container_at, choice_numbered, content, payload_shape, field_shapes}
 use Rattle.bcs_value_model.specs.Tree.{nodes}
 use Rattle.bcs_value_model.specs.Limits.{Bounds}
 use Rattle.bcs_encode_spec.specs.Plain.{plain}
@@ -17,7 +17,7 @@ use Rattle.bcs_decode_spec.specs.Stopping.{Stopping, NodeStop, TextStop, BytesSt
 use Rattle.bcs_decode_spec.proofs.Numbers.{exact_number, exact_bytes, exact_text, exact_flag, exact_unsigned, exact_signed}
 use Rattle.bcs_pieces_spec.specs.Way.{Way, onto, item, field, inner, opening, variant}
 use Rattle.bcs_pieces_spec.specs.Piece as piece
-use Rattle.bcs_pieces_spec.specs.Piece.{Piece, piece_at, counted, text_bytes, raw_bytes, elements, entries}
+use Rattle.bcs_pieces_spec.specs.Piece.{piece_at, counted, text_bytes, raw_bytes, elements, entries}
 use Rattle.bcs_pieces_spec.specs.Told as wanted
 use Rattle.bcs_pieces_spec.specs.Told.{Told, Wanted, as_told, halt_told}
 use Rattle.bcs_pieces_spec.proofs.AsTold.{told_behind}

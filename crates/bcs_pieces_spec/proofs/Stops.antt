@@ -1,19 +1,15 @@
 -- What is told before a stop, of bytes that are read one after another.
 use Rattle.std.proofs.Common.{◌≡◌, ℕ, zero, suc, ◌+◌, ◌-◌, inl, inr, Option, Some, None, List, [], ◌∷◌, ◌++◌, length, take, Ok, Err, refl, ap, ap₂, ◌∙◌, sym, append-nil, arith}
-use Rattle.std.proofs.lemmas.Bool.{le-ltb, eq-eqb}
 use Rattle.std.proofs.lemmas.List.{take_at}
-use Rattle.std.specs.Ordering.{nat_cmp}
-use Rattle.std.specs.Cmp.Lexicographic.{slice_cmp}
-use Rattle.std.specs.declared.cmp.Ordering.TheVariants.{Equal}
 use Rattle.bcs_num.specs.Uleb.{uleb}
-use Rattle.bcs_encode_spec.proofs.BelowLaws.{below_greater}
+use Rattle.bcs_encode_spec.proofs.BelowLaws.{same_equal, below_greater}
 use Rattle.bcs_decode_spec.specs.declared.reason.Reason.{Reason}
 use Rattle.bcs_decode_spec.specs.Reading.{Parser, fail, length_here, key_after, key_here}
 use Rattle.bcs_decode_spec.specs.Stopping.{Stopping, AfterLength, NodeStop, Misplaced}
 use Rattle.bcs_decode_spec.proofs.Numbers.{exact_length}
 use Rattle.bcs_pieces_spec.specs.Way.{Way}
 use Rattle.bcs_pieces_spec.specs.Told as wanted
-use Rattle.bcs_pieces_spec.specs.Told.{Told, Wanted, halt, as_told, halted, halt_told}
+use Rattle.bcs_pieces_spec.specs.Told.{Told, Wanted, halt, as_told, halt_told}
 use Rattle.bcs_pieces_spec.proofs.AsTold.{told_behind}
 use Rattle.bcs_pieces_spec.specs.Piece.{Meaning, Counted, piece_at, counted}
 use Rattle.bcs_pieces_spec.specs.Telling.{Telling, note, after, begun, noting, going, noting_then}
@@ -96,13 +92,6 @@ stops_length Rest way what k f rest = record { told = at }
         ∙ sym (told_behind (piece_at way p (uleb n) (counted what n)) (f n (p + length (uleb n)) m c e o h))
 
 -- ---- keys
-
-cmp_same : (x : ℕ) → nat_cmp x x ≡ Equal
-cmp_same x = rw (le-ltb x x (omega arith), eq-eqb x x refl) refl
-
-same_equal : (a : List ℕ) → slice_cmp nat_cmp a a ≡ Equal
-same_equal [] = refl
-same_equal (x ∷ a) = rw (cmp_same x) (same_equal a)
 
 misplaced : (last : Option (List ℕ)) (key : List ℕ) (e : Reason) → Misplaced last key e → (p q l : ℕ) (c : List ℕ) → key_after last key p q l c ≡ Err (e, p)
 unfolding key_after fail

@@ -13,7 +13,7 @@ use Rattle.bcs_registry_model.specs.Shape.{Shape, Shapes, no_shapes, shape}
 use Rattle.bcs_registry_model.specs.Container as container
 use Rattle.bcs_registry_model.specs.Container.{Entries, Field, Payload, Choice, Container, Content, container_at, choice_numbered, content, content_at, choice_at, payload_shape, field_shapes}
 use Rattle.bcs_value_model.specs.Tree as tree
-use Rattle.bcs_value_model.specs.Tree.{Tree, Trees, no_trees, tree, Pairs, count, pair_count, nodes, trees_nodes, pairs_nodes}
+use Rattle.bcs_value_model.specs.Tree.{Tree, Trees, no_trees, tree, count, pair_count, nodes, trees_nodes, pairs_nodes}
 use Rattle.bcs_value_model.specs.Fits.{all_fit}
 use Rattle.bcs_value_model.specs.Limits.{Bounds}
 use Rattle.bcs_value_model.proofs.Equivalence.{nat-same}

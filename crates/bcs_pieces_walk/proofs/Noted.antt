@@ -1,6 +1,5 @@
 -- What a listener was told, one after another.
-use Rattle.std.proofs.Common.{◌≡◌, ℕ, ◌-◌, Bool, List, [], ◌∷◌, ◌++◌, append_assoc, append-nil, length, take, Result, Ok, Err, refl, sym, ap, subst, ◌∙◌}
-use Rattle.std.proofs.Math.Seq.{take-length}
+use Rattle.std.proofs.Common.{◌≡◌, ℕ, ◌-◌, Bool, List, [], ◌∷◌, ◌++◌, append_assoc, append-nil, take, Result, Ok, Err, refl, sym, ap, subst, ◌∙◌}
 use Rattle.bcs_decode_spec.specs.declared.reason.Reason.{Reason}
 use Rattle.bcs_decode_spec.specs.Reading.{Parser, chain, give}
 use Rattle.bcs_pieces_spec.specs.Way.{Way}
@@ -51,9 +50,6 @@ gone_ok f p m b x q l c h = rw h refl
 pub gone_err : {A : Type 0} (f : Parser A) (p m : ℕ) (b : List ℕ) (e : Reason × ℕ) → f p m b ≡ Err e → gone f p m b ≡ Err e
 unfolding gone chain
 gone_err f p m b e h = rw h refl
-
-pub take_all : (n : ℕ) (b : List ℕ) → n ≡ length b → take n b ≡ b
-take_all n b h = ap (λ (k : ℕ). take k b) h ∙ take-length b
 
 -- ---- one after another
 

@@ -1,11 +1,10 @@
 -- JSON objects whose members were read one after another.
-use Rattle.std.proofs.Common.{◌≡◌, ◌∙◌, ◌&&◌, ◌++◌, List, ℕ, [], ◌∷◌, Bool, false, BTreeMap, String, Global, ap, append_assoc, append-nil, refl, string_bytes, string_cmp, subst, sym}
+use Rattle.std.proofs.Common.{◌≡◌, ◌∙◌, ◌&&◌, ◌++◌, List, ℕ, [], ◌∷◌, Bool, false, ap, append_assoc, append-nil, string_bytes, string_cmp, subst, sym}
 use Rattle.std.specs.List.Sorted.{IsStrictlySortedBy}
 use Rattle.std.specs.Map.{keys_of}
-use Rattle.serde_json.proofs.Views.{Entry, put_last, view-Object}
-use Rattle.serde_json.specs.Data.{Data, Members, member, no_members, object, put}
+use Rattle.serde_json.proofs.Views.{Entry, put_last}
+use Rattle.serde_json.specs.Data.{Data, Members, member, object, put}
 use Rattle.serde_json.specs.View.{members_view, view}
-use Rattle.serde_json.specs.declared.value.Value.{Object, Value}
 use Rattle.bcs_registry_json.proofs.TwoTests.{and-false_left, and-false_right}
 
 -- the object's members, of which the first ones were read as these
@@ -14,15 +13,6 @@ pub record IsRead (d : Data) (rest : List Entry) (shown : Members) : Type 0 wher
   pub whole : d ≡ object (members_view (done ++ rest))
   pub ordered : IsStrictlySortedBy string_cmp (keys_of (done ++ rest))
   pub same : shown ≡ members_view done
-
-pub none_read : (v : Value) (m : BTreeMap (String Global) Value) (rest : List Entry) → v ≡ Object m → rest ≡ m.entries → IsStrictlySortedBy string_cmp (keys_of m.entries)
-    → IsRead (view v) rest no_members
-none_read v m rest is same ordered = record {
-  done = [];
-  whole = ap view is ∙ view-Object m ∙ ap (λ (es : List Entry). object (members_view es)) (sym same);
-  ordered = subst (λ (es : List Entry). IsStrictlySortedBy string_cmp (keys_of es)) (sym same) ordered;
-  same = refl;
-}
 
 module _ (d : Data) (rest left : List Entry) (shown : Members) (e : Entry) (read : IsRead d rest shown) (next : rest ≡ e ∷ left) where
   all : d ≡ object (members_view (read.done ++ e ∷ left))

@@ -1,9 +1,8 @@
 -- What a registry's maps keep of their keys, in the mirror: names rise by their bytes, and variants' numbers rise and fit
 -- 32 bits.
-use Rattle.std.proofs.Common.{IsTrue, nat_lt, subst, ◌≡◌, ◌<◌, ◌^◌, ℕ, List, [], ◌∷◌, ◌++◌, String, Global, Less, Ordering, string_bytes, map, refl, sym, ap}
-use Rattle.std.proofs.lemmas.Bool.{lt-ltb}
+use Rattle.std.proofs.Common.{subst, ◌≡◌, ℕ, List, [], ◌∷◌, ◌++◌, String, Global, Less, Ordering, string_bytes, map, refl, sym, ap}
 use Rattle.std.specs.Cmp.Lexicographic.{slice_cmp}
-use Rattle.std.specs.List.{AllByRecursion, list_all}
+use Rattle.std.specs.List.{AllByRecursion}
 use Rattle.std.specs.List.Sorted.{IsStrictlySortedBy}
 use Rattle.std.specs.Map.{keys_of}
 use Rattle.std.specs.Ordering.{nat_cmp}
@@ -23,10 +22,6 @@ Variant = ℕ × Named VariantFormat
 pub keys-choices : (vs : List Variant) → keys_of (map choice_of vs) ≡ keys_of vs
 keys-choices [] = refl
 keys-choices (v ∷ vs) = ap (λ ns. v.0 ∷ ns) (keys-choices vs)
-
-pub all_numbers_fit : (vs : List Variant) → AllByRecursion (λ n. n < 2 ^ 32) (keys_of vs) → IsTrue (list_all (λ c. nat_lt c.0 (2 ^ 32)) (map choice_of vs))
-all_numbers_fit [] bounds = refl
-all_numbers_fit (v ∷ vs) bounds = rw (lt-ltb v.0 (2 ^ 32) bounds.0) (all_numbers_fit vs bounds.1)
 
 bytes_above : (name : String Global) (es : List Stored) → AllByRecursion (λ k. string_cmp name k ≡ Less) (keys_of es) → AllByRecursion (λ k. slice_cmp nat_cmp (string_bytes name) k ≡ Less) (keys_of (entries_of es))
 bytes_above name [] h = h

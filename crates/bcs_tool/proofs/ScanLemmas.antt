@@ -1,5 +1,5 @@
 -- Bytes that are judged as they come: the answer to them, and what comes of it.
-use Rattle.std.proofs.Common.{◌≡◌, ◌⊎◌, ◌≤◌, ◌∙◌, ◌&&◌, ℕ, suc, Bool, true, false, List, [], ◌∷◌, Option, Some, None, Result, Ok, Err, arith, drop, inl, inr, length, refl, subst, sym, true≢false}
+use Rattle.std.proofs.Common.{◌≡◌, ◌⊎◌, ◌≤◌, ◌∙◌, ◌&&◌, ℕ, suc, Bool, true, false, List, [], Option, Some, None, Result, Ok, Err, arith, inl, inr, refl, subst, sym, true≢false}
 use Rattle.bcs_decode.specs.Whole.{FrontGone, GoneTo, Trails}
 use Rattle.bcs_decode_spec.specs.Stopping.{Stops}
 use Rattle.bcs_decode_spec.specs.Accepting.{Accepts}
@@ -63,11 +63,6 @@ module _ (work : Work) (registry : Entries) (s : Shape) (asks : Asks work regist
   stops_at front of None left stop told = tt
   stops_at true of (Some all) left stop told = λ are. scan_stopped registry s all stop.reason stop.place (asked all) (given all) (rw of (told are).0)
   stops_at false of (Some all) left stop told = λ are. scan_stopped registry s all stop.reason stop.place (asked all) (given all) (rw of (told are).0)
-
--- a front of the content is gone
-drop_all : (xs : List ℕ) → drop (length xs) xs ≡ []
-drop_all [] = refl
-drop_all (x ∷ xs) = drop_all xs
 
 pub gone_at_stop : (front : Bool) (work : Work) (registry : Entries) (s : Shape) (content left : Option (List ℕ)) (stop : Stop)
     → Scans front registry work.limits s content left (Err (decode_fault.Stop stop)) → IfTold content (λ all. FrontGone all left)
