@@ -1,11 +1,11 @@
 -- From the JSON back to the format or the container that it writes down.
 use Rattle.std.proofs.Common.{◌≡◌, ◌∙◌, ℕ, List, [], ◌∷◌, ap, bytes_eq, codes, if◌then◌else◌, refl, unwrap_or}
-use Rattle.std.specs.Int.{w8, w16, w32, w64, w128}
 use Rattle.serde_json.specs.Data.{Data, unsigned as whole, number, string, array as list, object, Items, no_items, item, no_members, member}
 use Rattle.bcs_registry_model.specs.Container as container
 use Rattle.bcs_registry_model.specs.Container.{Container, Field, Payload}
-use Rattle.bcs_registry_model.specs.Shape.{Shape, unit, truth, unsigned, signed, unsupported, float32, float64, character, text, bytes, name, option, seq, map, tuple, array, Shapes, no_shapes, shape}
-use Rattle.bcs_registry_json.specs.Shaped.{format_named}
+use Rattle.bcs_registry_model.specs.Shape.{Shape, unit, name, option, seq, map, tuple, array, Shapes, no_shapes, shape}
+use Rattle.bcs_registry_model.specs.Words.{format_named}
+use Rattle.bcs_registry_model.proofs.WordsBack.{word_named}
 use Rattle.bcs_registry_json.specs.Shown.{shown_choices, shown_container, shown_fields, shown_format, shown_formats, shown_payload}
 use Rattle.bcs_registry_json.proofs.Choices.{variant_shown}
 
@@ -49,29 +49,13 @@ abbrev mutual
 
 mutual
   pub format_back : (s : Shape) → format_in (shown_format s) ≡ s
-  format_back unit = refl
-  format_back truth = refl
-  format_back (signed w8) = refl
-  format_back (signed w16) = refl
-  format_back (signed w32) = refl
-  format_back (signed w64) = refl
-  format_back (signed w128) = refl
-  format_back (unsigned w8) = refl
-  format_back (unsigned w16) = refl
-  format_back (unsigned w32) = refl
-  format_back (unsigned w64) = refl
-  format_back (unsigned w128) = refl
-  format_back (unsupported float32) = refl
-  format_back (unsupported float64) = refl
-  format_back (unsupported character) = refl
-  format_back text = refl
-  format_back bytes = refl
   format_back (name n) = refl
   format_back (option s) = ap option (format_back s)
   format_back (seq s) = ap seq (format_back s)
   format_back (map k v) = ap (λ s. map s (format_in (shown_format v))) (format_back k) ∙ ap (map k) (format_back v)
   format_back (tuple ss) = ap tuple (formats_back ss)
   format_back (array s n) = ap (λ t. array t n) (format_back s)
+  format_back s = ap (λ o. unwrap_or o unit) (word_named s refl)
 
   pub formats_back : (ss : Shapes) → each_format (shown_formats ss) ≡ ss
   formats_back no_shapes = refl

@@ -10,36 +10,19 @@ use Rattle.serde_json.specs.Data.{Data, Members, no_members, member, put, depth,
 use Rattle.serde_json.specs.Read.{max_depth}
 use Rattle.bcs_registry_model.specs.Container.{Field, Payload, Choice, Container, Entries, unit_struct, newtype_struct, tuple_struct, field_struct, enumeration}
 use Rattle.bcs_registry_model.specs.Container as container
-use Rattle.bcs_registry_model.specs.Shape.{Shape, unit, truth, unsigned, signed, unsupported, float32, float64, character, text, bytes, name, option, seq, map as map_of, tuple, array, Shapes, no_shapes, shape}
-use Rattle.std.specs.Int.{w8, w16, w32, w64, w128}
+use Rattle.bcs_registry_model.specs.Shape.{Shape, name, option, seq, map as map_of, tuple, array, Shapes, no_shapes, shape}
 use Rattle.bcs_registry_json.specs.Shown.{single, shown_format, shown_formats, shown_fields, shown_payload, shown_choices, shown_container, shown_containers, shown}
 use Rattle.bcs_registry_model.specs.WellFormed.{IsWellFormed, has_few_levels, levels, shapes_levels, level_limit, formats, container_formats, payload_formats, shape_list, levels_hold, names_differ, names_known}
 
 mutual
   depth-format : (s : Shape) → depth (shown_format s) ≤ 2 * levels s + 1
-  depth-format unit = omega arith
-  depth-format truth = omega arith
-  depth-format (signed w8) = omega arith
-  depth-format (signed w16) = omega arith
-  depth-format (signed w32) = omega arith
-  depth-format (signed w64) = omega arith
-  depth-format (signed w128) = omega arith
-  depth-format (unsigned w8) = omega arith
-  depth-format (unsigned w16) = omega arith
-  depth-format (unsigned w32) = omega arith
-  depth-format (unsigned w64) = omega arith
-  depth-format (unsigned w128) = omega arith
-  depth-format (unsupported float32) = omega arith
-  depth-format (unsupported float64) = omega arith
-  depth-format (unsupported character) = omega arith
-  depth-format text = omega arith
-  depth-format bytes = omega arith
   depth-format (name n) = omega arith
   depth-format (option s) = omega (arith, depth-format s)
   depth-format (seq s) = omega (arith, depth-format s)
   depth-format (map_of k v) = omega (arith, depth-format k, depth-format v)
   depth-format (tuple ss) = omega (arith, depth-formats ss)
   depth-format (array s n) = omega (arith, depth-format s)
+  depth-format _ = omega arith
 
   depth-formats : (ss : Shapes) → items_depth (shown_formats ss) ≤ 2 * shapes_levels ss + 1
   depth-formats no_shapes = omega arith

@@ -8,8 +8,7 @@ use Rattle.serde_json.specs.Data.{Data, Members, no_members, member, put}
 use Rattle.serde_json.specs.Written.{has_float, items_have_float, members_have_float}
 use Rattle.bcs_registry_model.specs.Container.{Field, Payload, Choice, Container, Entries, unit_struct, newtype_struct, tuple_struct, field_struct, enumeration}
 use Rattle.bcs_registry_model.specs.Container as container
-use Rattle.bcs_registry_model.specs.Shape.{Shape, unit, truth, unsigned, signed, unsupported, float32, float64, character, text, bytes, name, option, seq, map as map_of, tuple, array, Shapes, no_shapes, shape}
-use Rattle.std.specs.Int.{w8, w16, w32, w64, w128}
+use Rattle.bcs_registry_model.specs.Shape.{Shape, option, seq, map as map_of, tuple, array, Shapes, no_shapes, shape}
 use Rattle.bcs_registry_json.specs.Shown.{single, shown_format, shown_formats, shown_fields, shown_payload, shown_choices, shown_container, shown_containers, shown}
 
 no_float-put_at : (o : Ordering) (k l : List ℕ) (d e : Data) (ms : Members) → has_float d ≡ false → members_have_float (member l e ms) ≡ false → members_have_float (put k d ms) ≡ false
@@ -25,29 +24,12 @@ no_float-put k d (member l e ms) p h = no_float-put_at (slice_cmp nat_cmp k l) k
 
 mutual
   no_float-format : (s : Shape) → has_float (shown_format s) ≡ false
-  no_float-format unit = refl
-  no_float-format truth = refl
-  no_float-format (signed w8) = refl
-  no_float-format (signed w16) = refl
-  no_float-format (signed w32) = refl
-  no_float-format (signed w64) = refl
-  no_float-format (signed w128) = refl
-  no_float-format (unsigned w8) = refl
-  no_float-format (unsigned w16) = refl
-  no_float-format (unsigned w32) = refl
-  no_float-format (unsigned w64) = refl
-  no_float-format (unsigned w128) = refl
-  no_float-format (unsupported float32) = refl
-  no_float-format (unsupported float64) = refl
-  no_float-format (unsupported character) = refl
-  no_float-format text = refl
-  no_float-format bytes = refl
-  no_float-format (name n) = refl
   no_float-format (option s) = rw (no_float-format s) refl
   no_float-format (seq s) = rw (no_float-format s) refl
   no_float-format (map_of k v) = rw (no_float-format k, no_float-format v) refl
   no_float-format (tuple ss) = rw (no_float-formats ss) refl
   no_float-format (array s n) = rw (no_float-format s) refl
+  no_float-format _ = refl
 
   no_float-formats : (ss : Shapes) → items_have_float (shown_formats ss) ≡ false
   no_float-formats no_shapes = refl

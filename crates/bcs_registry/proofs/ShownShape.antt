@@ -1,15 +1,15 @@
 -- What is written has the shape, with its numbers in range.
-use Rattle.std.proofs.Common.{◌≡◌, ◌^◌, ◌&&◌, ◌||◌, ℕ, List, [], ◌∷◌, Bool, true, Ordering, Less, Equal, Greater, decimal, nat_lt, refl}
-use Rattle.std.specs.Int.{w8, w16, w32, w64, w128}
+use Rattle.std.proofs.Common.{◌≡◌, ◌^◌, ◌&&◌, ◌||◌, ℕ, List, [], ◌∷◌, Bool, true, Ordering, Less, Equal, Greater, ap, decimal, is_some, nat_lt, refl}
 use Rattle.std.specs.List.{list_all, AllByRecursion}
 use Rattle.std.specs.Ordering.{match_ordering, nat_cmp}
 use Rattle.std.specs.Cmp.Lexicographic.{slice_cmp}
 use Rattle.serde_json.specs.Data.{Data, Members, no_members, member, put}
 use Rattle.bcs_registry_model.specs.Container as container
 use Rattle.bcs_registry_model.specs.Container.{Choice, Container, Entries, Field, Payload}
-use Rattle.bcs_registry_model.specs.Shape.{Shape, unit, truth, unsigned, signed, unsupported, float32, float64, character, text, bytes, name, option, seq, map, tuple, array, Shapes, no_shapes, shape}
+use Rattle.bcs_registry_model.specs.Shape.{Shape, name, option, seq, map, tuple, array, Shapes, no_shapes, shape}
 use Rattle.bcs_registry_json.specs.Shaped.{all_fields, all_variants, are_formats, is_container, is_format, is_payload, is_registry, is_variant, is_variant_number}
 use Rattle.bcs_registry_json.specs.Shown.{shown, shown_choices, shown_container, shown_fields, shown_format, shown_formats, shown_payload, single}
+use Rattle.bcs_registry_model.proofs.WordsBack.{word_named}
 use Rattle.bcs_registry_model.specs.Ranges.{IsInRange, all_sizes_fit, payload_sizes_fit, sizes_fit}
 use Rattle.bcs_registry_json.proofs.TwoTests.{and-true_parts, or-true_right}
 use Rattle.bcs_registry_json.proofs.VariantNumbers.{a_number}
@@ -18,23 +18,6 @@ use Rattle.bcs_registry_json.proofs.Choices.{has_number, has_sizes, numbered_bel
 module _ (loose : Bool) where
   mutual
     pub format_shaped : (s : Shape) → sizes_fit s ≡ true → is_format loose (shown_format s) ≡ true
-    format_shaped unit h = refl
-    format_shaped truth h = refl
-    format_shaped (signed w8) h = refl
-    format_shaped (signed w16) h = refl
-    format_shaped (signed w32) h = refl
-    format_shaped (signed w64) h = refl
-    format_shaped (signed w128) h = refl
-    format_shaped (unsigned w8) h = refl
-    format_shaped (unsigned w16) h = refl
-    format_shaped (unsigned w32) h = refl
-    format_shaped (unsigned w64) h = refl
-    format_shaped (unsigned w128) h = refl
-    format_shaped (unsupported float32) h = refl
-    format_shaped (unsupported float64) h = refl
-    format_shaped (unsupported character) h = refl
-    format_shaped text h = refl
-    format_shaped bytes h = refl
     format_shaped (name n) h = refl
     format_shaped (option s) h = format_shaped s h
     format_shaped (seq s) h = format_shaped s h
@@ -43,6 +26,7 @@ module _ (loose : Bool) where
     format_shaped (array s n) h =
         let p = and-true_parts (sizes_fit s) (nat_lt n (2 ^ 64)) h in
         rw (format_shaped s p.0, or-true_right loose (nat_lt n (2 ^ 64)) p.1) refl
+    format_shaped s h = ap is_some (word_named s refl)
 
     pub formats_shaped : (ss : Shapes) → all_sizes_fit ss ≡ true → are_formats loose (shown_formats ss) ≡ true
     formats_shaped no_shapes h = refl

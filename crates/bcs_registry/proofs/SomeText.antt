@@ -13,7 +13,8 @@ use Rattle.bcs_registry_model.specs.Container as container
 use Rattle.bcs_registry_model.specs.Container.{Choice, Container, Entries, Field, Payload}
 use Rattle.bcs_registry_json.specs.Parts.{IsContainerText, IsFieldText, IsFieldsText, IsPayloadText, IsTupleText, IsVariantText, IsVariantsText}
 use Rattle.bcs_registry_model.specs.Shape.{Shape, unit, name, option, seq, map, tuple, array}
-use Rattle.bcs_registry_json.specs.Shaped.{all_containers, all_fields, all_variants, are_fields, are_formats, are_variants, format_named, is_container, is_field, is_format, is_map, is_payload, is_registry, is_size, is_text, is_tuple, is_tuple_array, is_variant, is_variant_number}
+use Rattle.bcs_registry_json.specs.Shaped.{all_containers, all_fields, all_variants, are_fields, are_formats, are_variants, is_container, is_field, is_format, is_map, is_payload, is_registry, is_size, is_text, is_tuple, is_tuple_array, is_variant, is_variant_number}
+use Rattle.bcs_registry_model.specs.Words.{format_named}
 use Rattle.bcs_registry_json.specs.Shown.{shown_choices, shown_container, shown_containers, shown_fields, shown_format, shown_formats, single}
 use Rattle.bcs_registry_model.specs.Ranges.{IsInRange, NumbersRise, all_sizes_fit, container_sizes_fit, numbers_fit, sizes_fit}
 use Rattle.bcs_registry_json.specs.Text.{IsFormatText, IsRegistryText}

@@ -9,6 +9,7 @@ pub use Rattle.bcs_registry_model.specs.FaultNames
 pub use Rattle.bcs_registry_model.specs.Order
 pub use Rattle.bcs_registry_model.specs.Ranges
 pub use Rattle.bcs_registry_model.specs.Laws
+pub use Rattle.bcs_registry_model.specs.Words
 pub use Rattle.bcs_registry_json.specs.Json
 pub use Rattle.bcs_registry_json.specs.Shown
 pub use Rattle.bcs_registry_json.specs.Text
