@@ -1,23 +1,29 @@
 -- The test for neighbours with one key, and entries that rise.
-use Rattle.std.proofs.Common.{◌≡◌, ℕ, ◌≤◌, true, false, List, [], ◌∷◌, length, refl, sym, subst, arith, inl, inr}
+use Rattle.std.proofs.Common.{◌≡◌, ℕ, ◌≤◌, true, false, List, [], ◌∷◌, length, refl, sym, subst, arith, rules, inl, inr}
+use Rattle.std.specs.Cmp.Rules.{comparing}
 use Rattle.std.specs.Str.{bytes_eq}
 use Rattle.std.proofs.lemmas.Bool.{cases_Bool, or_left, or_right, true≢false}
-use Rattle.bcs_value_model.proofs.Equivalence.{bytes-same, bytes-refl}
 use Rattle.bcs_encode_spec.specs.Entries.{Entry, EntriesRise, HasTwins}
 use Rattle.bcs_encode_spec.proofs.EntryOrder.{rising_once, twins_twice}
 use Rattle.bcs_keys.specs.Order.{has_twins, keys_rise}
 
+equal_alike : (xs : List ℕ) → bytes_eq xs xs ≡ true
+equal_alike xs = search (comparing, rules)
+
+alike_equal : (xs ys : List ℕ) → bytes_eq xs ys ≡ true → xs ≡ ys
+alike_equal xs ys h = search (comparing, rules)
+
 pub twins_found : (es : List Entry) → HasTwins es → has_twins es ≡ true
 twins_found [] h = absurd h
 twins_found (e ∷ []) h = absurd h
-twins_found (e ∷ d ∷ es) (inl is) = or_left (bytes_eq e.0 d.0) (has_twins (d ∷ es)) (subst (λ (x : List ℕ). bytes_eq e.0 x ≡ true) is (bytes-refl e.0))
+twins_found (e ∷ d ∷ es) (inl is) = or_left (bytes_eq e.0 d.0) (has_twins (d ∷ es)) (subst (λ (x : List ℕ). bytes_eq e.0 x ≡ true) is (equal_alike e.0))
 twins_found (e ∷ d ∷ es) (inr more) = or_right (bytes_eq e.0 d.0) (has_twins (d ∷ es)) (twins_found (d ∷ es) more)
 
 found_twins : (es : List Entry) → has_twins es ≡ true → HasTwins es
 found_twins [] h = absurd (true≢false (sym h))
 found_twins (e ∷ []) h = absurd (true≢false (sym h))
 found_twins (e ∷ d ∷ es) h = elim (cases_Bool (bytes_eq e.0 d.0)) [
-  | inl is ↦ inl (bytes-same e.0 d.0 is)
+  | inl is ↦ inl (alike_equal e.0 d.0 is)
   | inr isnt ↦ inr (found_twins (d ∷ es) (rw isnt at h))
 ]
 
