@@ -1,3 +1,4 @@
+pub mod Common
 pub mod Combine
 pub mod Decodable
 pub mod Encoded

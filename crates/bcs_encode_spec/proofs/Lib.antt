@@ -1,3 +1,4 @@
+pub mod Common
 pub mod BelowLaws
 pub mod EntryOrder
 pub mod FormLaws
