@@ -32,7 +32,7 @@ def ask_rows(driver: Driver, tally: Tally, without: set[str]) -> None:
 def ask_places(driver: Driver, tally: Tally) -> None:
     for row in rows_of_tests():
         if has_place(row.kind, row.words, row.wanted):
-            tally.judge("places", row.name, partial(place_told_row, driver, row.registry, row.words, row.wanted), row.wanted)
+            tally.judge("places", row.name, partial(place_told_row, driver, row.words, row.wanted), row.wanted)
 
 
 def ask_pieces(driver: Driver, tally: Tally) -> None:

@@ -4,7 +4,7 @@ own program does."""
 import json
 
 from driver import Driver, Question, expect, stop_of
-from words import Unsayable, bytes_of
+from words import bytes_of
 
 FORMAT_FAULTS = ("NotJson", "BadShape", "BadNumber", "TooNested", "RepeatedName", "UnknownName")
 
@@ -143,14 +143,6 @@ def pairs_row(driver: Driver, registry: bytes, words: list[str], wanted: str) ->
     return f"{count} equal"
 
 
-def place_row(driver: Driver, registry: bytes, words: list[str], wanted: str) -> str:
-    """The fault. Where it stands in the text is asked in places.py."""
-    if " at " not in wanted:
-        raise Unsayable
-    answer = Question(driver, registry, words[0].encode(), words[2:]).ask("to_bcs", words[1].encode())
-    return wanted if wanted.startswith(answer.fault + " at ") else answer.fault
-
-
 # Rows on numbers
 
 
@@ -203,7 +195,6 @@ KINDS = {
     "text": text_row,
     "same": same_row,
     "pairs": pairs_row,
-    "place": place_row,
     "number": number_row,
     "put": put_row,
     "take": take_row,

@@ -3,7 +3,6 @@
 Its line stands behind the answer of a row `bcs --where`, and is asked of what it is told of: a registry, a text or bytes. Left
 out are lines on a format, on an input that is no digits, on a path, on a name that is asked for, and on growth, since no call
 tells these; and a line whose place has a name that the program cut at 200 signs, since the calls tell a pointer's names whole.
-A row `place` of crates/test_calls has the pointer alone.
 """
 
 import json
@@ -31,23 +30,13 @@ class Place(NamedTuple):
 
 
 def has_place(kind: str, words: list[str], wanted: str) -> bool:
-    """Whether a row tells where a refusal is, or that there is none."""
-    return kind == "place" or (kind == "bcs" and words[0] == "--where" and LINE.fullmatch(wanted) is not None)
+    """Whether a row tells where a refusal is."""
+    return kind == "bcs" and words[0] == "--where" and LINE.fullmatch(wanted) is not None
 
 
-def place_told_row(driver: Driver, registry: bytes, words: list[str], wanted: str) -> str:
-    if words[0] == "--where":
-        right, told = place_of_job(driver, words[1], words[2:], wanted)
-    else:
-        right, told = pointer_of_text(driver, registry, words, wanted)
+def place_told_row(driver: Driver, words: list[str], wanted: str) -> str:
+    right, told = place_of_job(driver, words[1], words[2:], wanted)
     return wanted if told == right else f"{told}, and not {right}"
-
-
-def pointer_of_text(driver: Driver, registry: bytes, words: list[str], wanted: str) -> tuple[str, str]:
-    """The pointer by the row, and by the call. What is refused as a whole, or not at all, has none in the row."""
-    place = place_told(driver, "text_place", registry, words[0].encode(), *(words[2:] or STANDARD_LIMITS), words[1].encode())
-    _, is_refused, pointer = wanted.partition(" at ")
-    return json.loads(pointer) if is_refused else "", place.where if place else ""
 
 
 def place_of_job(driver: Driver, name: str, words: list[str], wanted: str) -> tuple[Place, Place | None]:

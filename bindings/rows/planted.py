@@ -33,7 +33,7 @@ def are_found(driver: Planted) -> bool:
     with contextlib.redirect_stdout(io.StringIO()):
         for row in rows_of_tests():
             if row.kind == "bcs" and has_place(row.kind, row.words, row.wanted):
-                tally.judge("places", row.name, lambda: place_told_row(driver, row.registry, row.words, row.wanted), row.wanted)
+                tally.judge("places", row.name, lambda: place_told_row(driver, row.words, row.wanted), row.wanted)
     driver.end()
     print(f"planted: {driver.call} {driver.what}: {driver.changed} answers changed, {tally.failed} rows found wrong")
     return tally.failed == driver.changed > 0

@@ -3,7 +3,7 @@ ghost use Rattle.std.specs.Prelude.{◌<◌, length};
 
 use crate::question::Question;
 use crate::row_fault::RowFault;
-use crate::verdicts::verdict;
+use crate::verdicts::encoded_again;
 use std::alloc::Global;
 
 /// Asks each call at the bytes, at each front of them, and with each other byte at each place. Answers how often it
@@ -23,7 +23,7 @@ pub(crate) fn agreeing_changes(
 }
 
 fn ask(alloc: Global, question: &Question, bytes: &[u8], count: &mut u64) -> Result<(), RowFault> {
-    let _ = verdict(alloc, question, bytes)?;
+    let _ = encoded_again(alloc, question, bytes)?;
     *count = count.saturating_add(1);
     Ok(())
 }

@@ -2,18 +2,23 @@
 ghost use Rattle.std.specs.Prelude.{◌≤◌};
 
 use crate::question::Question;
-use crate::row_fault::RowFault;
+use crate::row_fault::{RowFault, agree, granted};
 use crate::setting::Setting;
 use crate::value_words::value_of;
 use crate::words::{bytes, call, number, word_of};
-use bcs_decode::decode_slice;
+use bcs_decode::{DecodeFault, decode_slice};
 use bcs_encode::pieces::PieceSink;
 use bcs_encode::{
     ByteSink, EncodeFault, WriteFault, canonicalise, encode, encode_by_entries, write,
 };
+use bcs_json::{PrintFault, print_value};
 use bcs_value::{Value, same};
 use std::alloc::Global;
 
+/// The bytes of a value, or why it has none.
+type Encoded = Result<Vec<u8>, EncodeFault>;
+
+/// `quiet_value` makes calls that ask for no memory, and `stand_value` makes none, and is otherwise the same.
 pub(crate) fn answer(
     alloc: Global,
     setting: &Setting,
@@ -23,60 +28,52 @@ pub(crate) fn answer(
     let [format, value, more @ ..] = words else {
         return Err(RowFault::NotUnderstood);
     };
-    let asked = match question {
-        "encode" | "form" => Question::read(alloc, &setting.registry, format, more)?,
-        _ => Question::read(alloc, &setting.registry, format, &[])?,
+    let limits: &[&str] = match question {
+        "deep" | "write" => &[],
+        _ => more,
     };
+    let asked = Question::read(alloc, &setting.registry, format, limits)?;
     let value = value_of(alloc, value)?;
-    of_value(alloc, question, &asked, &value, more)
-}
-
-fn of_value(
-    alloc: Global,
-    question: &str,
-    asked: &Question,
-    value: &Value,
-    more: &[&str],
-) -> Result<String, RowFault> {
     match (question, more) {
-        ("encode", _) => encoded(alloc, asked, value),
-        ("form", _) => formed(alloc, asked, value),
-        ("length", []) => length(alloc, asked, value),
-        ("deep", [wanted]) => deep(alloc, asked, value, &bytes(alloc, wanted)?),
-        ("write", [piece, fails]) => written(alloc, asked, value, [piece, fails]),
+        ("encode", _) => encoded_told(alloc, &asked, &value),
+        ("form", _) => formed(alloc, &asked, &value),
+        ("length", _) => counted(alloc, of_encode(alloc, &asked, &value)?),
+        ("entries", _) => counted(alloc, of_entries(alloc, &asked, &value)?),
+        ("deep", [wanted]) => deep(alloc, &asked, &value, &bytes(alloc, wanted)?),
+        ("write", [piece, fails]) => written(alloc, &asked, &value, [piece, fails]),
+        ("quiet_value", _) => {
+            let _ = encoded(alloc, &asked, &value)?;
+            Ok(String::from_str(alloc, "quiet")?)
+        }
+        ("stand_value", _) => Ok(String::from_str(alloc, "quiet")?),
         _ => Err(RowFault::NotUnderstood),
     }
 }
 
-// How many bytes the value has by the faster encoder.
-fn length(alloc: Global, question: &Question, value: &Value) -> Result<String, RowFault> {
-    match of_encode(alloc, question, value) {
+// How many bytes one of the encoders gives.
+fn counted(alloc: Global, encoded: Encoded) -> Result<String, RowFault> {
+    match encoded {
         Ok(bytes) => Ok(format!(in alloc; "{} bytes", bytes.len())?),
         Err(fault) => Ok(format!(in alloc; "{fault}")?),
     }
 }
 
-// All encoders give these bytes of a value that may be too deep to be walked beside another.
+// All encoders give these bytes, which are too many to be told.
 fn deep(
     alloc: Global,
     question: &Question,
     value: &Value,
     wanted: &[u8],
 ) -> Result<String, RowFault> {
-    for (name, answer) in [
-        ("encode", of_encode(alloc, question, value)),
-        ("encode_by_entries", of_entries(alloc, question, value)),
-        ("canonicalise", of_form(alloc, question, value)),
-    ] {
-        match answer {
-            Ok(bytes) if bytes.as_slice() == wanted => {}
-            _ => return Err(RowFault::Disagreement(name)),
-        }
-    }
-    Ok(format!(in alloc; "{} bytes", wanted.len())?)
+    let encoded = encoded(alloc, question, value)?;
+    agree(
+        matches!(&encoded, Ok(bytes) if bytes.as_slice() == wanted),
+        "encode",
+    )?;
+    counted(alloc, encoded)
 }
 
-// What is written to a sink of eight bytes that takes a piece a call, and fails from a call on.
+// What is written to a sink of 64 bytes that takes a piece a call, and fails from a call on.
 fn written(
     alloc: Global,
     question: &Question,
@@ -89,7 +86,7 @@ fn written(
         limits,
     } = question;
     let piece = (number(piece)? as usize).max(1);
-    let mut sink = PieceSink::<8>::new(piece, call(fails)?);
+    let mut sink = PieceSink::<64>::new(piece, call(fails)?);
     let told = match write(alloc, registry, format, limits, value, &mut sink) {
         Ok(count) => format!(in alloc; "{count}")?,
         Err(WriteFault::Write { written }) => format!(in alloc; "Write {written}")?,
@@ -102,102 +99,144 @@ fn written(
 
 // The canonical form, by the names that values have in code.
 fn formed(alloc: Global, question: &Question, value: &Value) -> Result<String, RowFault> {
-    let Question {
-        registry,
-        format,
-        limits,
-    } = question;
-    match canonicalise(alloc, registry, format, limits, value) {
-        Ok(form) if same(&form, value) => Ok(format!(in alloc; "{form:?}")?),
-        Ok(_) => Err(RowFault::Disagreement("same")),
+    match form_of(alloc, question, value)? {
+        Ok(form) => Ok(format!(in alloc; "{form:?}")?),
+        Err(fault) => Ok(format!(in alloc; "{fault}")?),
+    }
+}
+
+fn encoded_told(alloc: Global, question: &Question, value: &Value) -> Result<String, RowFault> {
+    match encoded(alloc, question, value)? {
+        Ok(bytes) => word_of(alloc, &bytes),
         Err(fault) => Ok(format!(in alloc; "{fault}")?),
     }
 }
 
 // The bytes or the fault of `encode`, and all other calls have to give the same.
-fn encoded(alloc: Global, question: &Question, value: &Value) -> Result<String, RowFault> {
-    let answer = of_encode(alloc, question, value);
-    if of_entries(alloc, question, value) != answer {
-        return Err(RowFault::Disagreement("encode_by_entries"));
-    }
-    if of_form(alloc, question, value) != answer {
-        return Err(RowFault::Disagreement("canonicalise"));
-    }
-    if !is_written(alloc, question, value, &answer) {
-        return Err(RowFault::Disagreement("write"));
-    }
-    match answer {
-        Ok(bytes) if is_decoded(alloc, question, value, &bytes) => word_of(alloc, &bytes),
-        Ok(_) => Err(RowFault::Disagreement("decode_slice")),
-        Err(fault) => Ok(format!(in alloc; "{fault}")?),
-    }
-}
-
-fn of_encode(alloc: Global, question: &Question, value: &Value) -> Result<Vec<u8>, EncodeFault> {
-    encode(
-        alloc,
-        &question.registry,
-        &question.format,
-        &question.limits,
-        value,
-    )
-}
-
-fn of_entries(alloc: Global, question: &Question, value: &Value) -> Result<Vec<u8>, EncodeFault> {
-    encode_by_entries(
-        alloc,
-        &question.registry,
-        &question.format,
-        &question.limits,
-        value,
-    )
-}
-
-// By way of the canonical form.
-fn of_form(alloc: Global, question: &Question, value: &Value) -> Result<Vec<u8>, EncodeFault> {
-    let form = canonicalise(
-        alloc,
-        &question.registry,
-        &question.format,
-        &question.limits,
-        value,
+fn encoded(alloc: Global, question: &Question, value: &Value) -> Result<Encoded, RowFault> {
+    let encoded = of_encode(alloc, question, value)?;
+    agree(
+        of_entries(alloc, question, value)? == encoded,
+        "encode_by_entries",
     )?;
-    of_encode(alloc, question, &form)
+    agree(of_form(alloc, question, value)? == encoded, "canonicalise")?;
+    agree(of_write(alloc, question, value)? == encoded, "write")?;
+    let refused = match &encoded {
+        Ok(bytes) => {
+            agree(is_decoded(alloc, question, value, bytes)?, "decode_slice")?;
+            None
+        }
+        Err(fault) => Some(*fault),
+    };
+    agree(is_printed(alloc, question, value, refused)?, "print_value")?;
+    Ok(encoded)
 }
 
-// A sink that takes a byte a call gets the bytes, and none where there is a fault.
-fn is_written(
+fn of_encode(alloc: Global, question: &Question, value: &Value) -> Result<Encoded, RowFault> {
+    let Question {
+        registry,
+        format,
+        limits,
+    } = question;
+    let encoded = encode(alloc, registry, format, limits, value);
+    granted(encoded, EncodeFault::OutOfMemory)
+}
+
+fn of_entries(alloc: Global, question: &Question, value: &Value) -> Result<Encoded, RowFault> {
+    let Question {
+        registry,
+        format,
+        limits,
+    } = question;
+    let encoded = encode_by_entries(alloc, registry, format, limits, value);
+    granted(encoded, EncodeFault::OutOfMemory)
+}
+
+// The canonical form is the same value.
+fn form_of(
     alloc: Global,
     question: &Question,
     value: &Value,
-    answer: &Result<Vec<u8>, EncodeFault>,
-) -> bool {
-    let mut sink = PieceSink::<4096>::new(1, None);
-    let written = write(
-        alloc,
-        &question.registry,
-        &question.format,
-        &question.limits,
-        value,
-        &mut sink,
-    );
-    match answer {
-        Ok(bytes) => written == Ok(bytes.len() as u64) && sink.taken() == bytes.as_slice(),
-        Err(fault) => written == Err(WriteFault::Encode(*fault)) && sink.taken().is_empty(),
+) -> Result<Result<Value, EncodeFault>, RowFault> {
+    let Question {
+        registry,
+        format,
+        limits,
+    } = question;
+    let form = canonicalise(alloc, registry, format, limits, value);
+    let form = granted(form, EncodeFault::OutOfMemory)?;
+    agree(!matches!(&form, Ok(form) if !same(form, value)), "same")?;
+    Ok(form)
+}
+
+// By way of the canonical form.
+fn of_form(alloc: Global, question: &Question, value: &Value) -> Result<Encoded, RowFault> {
+    match form_of(alloc, question, value)? {
+        Ok(form) => of_encode(alloc, question, &form),
+        Err(fault) => Ok(Err(fault)),
     }
 }
 
-fn is_decoded(alloc: Global, question: &Question, value: &Value, bytes: &[u8]) -> bool {
+// A sink that takes a byte a call gets the bytes, and none where there is a fault, want of memory too.
+fn of_write(alloc: Global, question: &Question, value: &Value) -> Result<Encoded, RowFault> {
+    let Question {
+        registry,
+        format,
+        limits,
+    } = question;
+    let mut sink = PieceSink::<20000>::new(1, None);
+    match write(alloc, registry, format, limits, value, &mut sink) {
+        Ok(count) if count == sink.taken().len() as u64 => {
+            Ok(Ok(Vec::from_slice(alloc, sink.taken())?))
+        }
+        Err(WriteFault::Encode(fault)) if sink.taken().is_empty() => {
+            granted(Err(fault), EncodeFault::OutOfMemory)
+        }
+        _ => Err(RowFault::Disagreement("write")),
+    }
+}
+
+// A copy is the value that the bytes have.
+fn is_decoded(
+    alloc: Global,
+    question: &Question,
+    value: &Value,
+    bytes: &[u8],
+) -> Result<bool, RowFault> {
     let Question {
         registry,
         format,
         limits,
     } = question;
     if !registry.admits(format) {
-        return false;
+        return Ok(false);
     }
-    match decode_slice(alloc, registry, format, limits, bytes) {
-        Ok((decoded, length)) => same(&decoded, value) && length == bytes.len(),
-        Err(_) => false,
+    let copy = value.copy(alloc)?;
+    let decoded = decode_slice(alloc, registry, format, limits, bytes);
+    match granted(decoded, DecodeFault::OutOfMemory)? {
+        Ok((decoded, length)) => {
+            Ok(same(&decoded, value) && same(&copy, value) && length == bytes.len())
+        }
+        Err(_) => Ok(false),
+    }
+}
+
+// What has bytes has a text, or one that would nest too deep, and what has none is refused for the same reason.
+fn is_printed(
+    alloc: Global,
+    question: &Question,
+    value: &Value,
+    refused: Option<EncodeFault>,
+) -> Result<bool, RowFault> {
+    let Question {
+        registry,
+        format,
+        limits,
+    } = question;
+    let printed = print_value(alloc, registry, format, limits, value);
+    match (granted(printed, PrintFault::OutOfMemory)?, refused) {
+        (Ok(_) | Err(PrintFault::TooNested), None) => Ok(true),
+        (Err(fault), Some(refused)) => Ok(fault == PrintFault::from(refused)),
+        _ => Ok(false),
     }
 }

@@ -1,6 +1,7 @@
 //! Rows on command lines: which jobs they are, and how they end over sources and sinks that fail.
 ghost use Rattle.std.specs.Prelude.{◌≤◌};
 
+use crate::question::limits_of;
 use crate::row_fault::RowFault;
 use crate::words::{bytes, call, number, word_of};
 use bcs_decode::pieces::{PieceSource, RepeatSource};
@@ -8,8 +9,8 @@ use bcs_decode::{DecodeFault, Reason, Stop};
 use bcs_encode::pieces::PieceSink;
 use bcs_encode::{EncodeFault, WriteFault};
 use bcs_tool::{
-    ByteSource, FileFault, Interruption, LineFault, OpenCause, PairInterruption, TakeFault,
-    UnreadFile, Work, line, read_work, respond, run, run_pairs, take_all,
+    ByteSource, Coding, Command, FileFault, Form, Interruption, LineFault, OpenCause, Paint,
+    PairInterruption, Style, TakeFault, UnreadFile, Work, line, respond, run, run_pairs, take_all,
 };
 use std::alloc::{AllocError, Global};
 use std::str;
@@ -17,13 +18,16 @@ use std::str;
 pub(crate) fn answer(rt: &HostRuntime, question: &str, words: &[&str]) -> Result<String, RowFault> {
     match (question, words) {
         ("line", words) => job(rt.alloc(), words),
-        ("run", [input, words @ ..]) => ran(rt, input, words),
+        ("run", [input, words @ ..]) => ran(rt.alloc(), [input, "-", "-"], words),
+        ("failing_run", [input, reads, puts, words @ ..]) => {
+            ran(rt.alloc(), [input, reads, puts], words)
+        }
         ("ends", [input, piece, reads, puts, tells, words @ ..]) => {
             ended(rt, [input, piece, reads], [puts, tells], words)
         }
         ("endless_job", words) => ended_endless(rt, words),
-        ("pairs_end", [first, second, one, other, puts, words @ ..]) => {
-            paired(rt, [first, second], [one, other, puts], words)
+        ("pairs_end", [first, second, one, other, puts, format]) => {
+            paired(rt.alloc(), [first, second], [one, other, puts], format)
         }
         ("take_all", [text, piece, limit, reads]) => {
             taken(rt.alloc(), [text, piece], number(limit)?, reads)
@@ -43,14 +47,52 @@ fn words_of(alloc: Global, arguments: &[&str]) -> Result<Vec<String>, AllocError
     Ok(words)
 }
 
-fn work_of(rt: &HostRuntime, arguments: &[&str]) -> Result<Work, RowFault> {
-    let words = words_of(rt.alloc(), arguments)?;
-    let Ok(job) = line(rt.alloc(), &words) else {
+// The job of a command's words without options, and its limits behind them.
+fn work_of(alloc: Global, words: &[&str]) -> Result<Work, RowFault> {
+    let (command, [registry, format, second, path], limits) = match words {
+        ["check", registry] => (Command::Check, [*registry, "", "", ""], &words[..0]),
+        ["grows", older, newer] => (Command::Grows, [*older, "", *newer, ""], &words[..0]),
+        ["same", registry, format, text, limits @ ..] => {
+            (Command::Same, [*registry, *format, *text, ""], limits)
+        }
+        ["part", registry, format, path, limits @ ..] => {
+            (Command::Part, [*registry, *format, "", *path], limits)
+        }
+        [name, registry, format, limits @ ..] => {
+            (command_of(name)?, [*registry, *format, "", ""], limits)
+        }
+        _ => return Err(RowFault::NotUnderstood),
+    };
+    let Some(limits) = limits_of(limits) else {
         return Err(RowFault::NotUnderstood);
     };
-    match read_work(rt, job) {
-        Ok((work, _)) => Ok(work),
-        Err(_) => Err(RowFault::NotUnderstood),
+    Ok(Work {
+        command,
+        registry: Vec::from_slice(alloc, registry.as_bytes())?,
+        second: Vec::from_slice(alloc, second.as_bytes())?,
+        format: String::from_str(alloc, format)?,
+        path: String::from_str(alloc, path)?,
+        coding: Coding::Hexadecimal,
+        lines: false,
+        front: false,
+        list: false,
+        full: false,
+        name: None,
+        quiet: true,
+        style: Style {
+            form: Form::Ways,
+            paint: Paint::Plain,
+        },
+        limits,
+    })
+}
+
+fn command_of(name: &str) -> Result<Command, RowFault> {
+    match name {
+        "encode" => Ok(Command::Encode),
+        "decode" => Ok(Command::Decode),
+        "normalise" => Ok(Command::Normalise),
+        _ => Err(RowFault::NotUnderstood),
     }
 }
 
@@ -62,20 +104,17 @@ fn job(alloc: Global, words: &[&str]) -> Result<String, RowFault> {
     }
 }
 
-// The status of a job over this input, what is put, and the note where there is one.
-fn ran(rt: &HostRuntime, input: &str, words: &[&str]) -> Result<String, RowFault> {
-    let alloc = rt.alloc();
-    let work = work_of(rt, words)?;
+// The status of a job over this input, what is put, and the note where there is one. A call gives or takes a byte, and these
+// fail from calls on. Behind that stands whether the input has failed.
+fn ran(alloc: Global, [input, reads, puts]: [&str; 3], words: &[&str]) -> Result<String, RowFault> {
+    let work = work_of(alloc, words)?;
     let bytes = bytes(alloc, input)?;
-    let mut out = PieceSink::<1000>::new(7, None);
-    let outcome = run(
-        alloc,
-        &work,
-        &mut PieceSource::new(&bytes, 3, None),
-        &mut out,
-    );
+    let mut source = PieceSource::new(&bytes, 1, call(reads)?);
+    let mut out = PieceSink::<1000>::new(1, call(puts)?);
+    let outcome = run(alloc, &work, &mut source, &mut out);
     let put = put_text(alloc, out.taken())?;
-    Ok(format!(in alloc; "{} {put}{}", outcome.status, outcome.note)?)
+    let failed = if source.failed() { ", read" } else { "" };
+    Ok(format!(in alloc; "{} {put}{}{failed}", outcome.status, outcome.note)?)
 }
 
 fn put_text(alloc: Global, put: &[u8]) -> Result<String, RowFault> {
@@ -132,13 +171,13 @@ fn ended_endless(rt: &HostRuntime, words: &[&str]) -> Result<String, RowFault> {
 // Two files of two bytes a call that are compared line by line: what is put, and the status; or the fault, at which file, and
 // behind how many pairs.
 fn paired(
-    rt: &HostRuntime,
+    alloc: Global,
     [first, second]: [&str; 2],
     [one, other, puts]: [&str; 3],
-    words: &[&str],
+    format: &str,
 ) -> Result<String, RowFault> {
-    let alloc = rt.alloc();
-    let work = work_of(rt, words)?;
+    let mut work = work_of(alloc, &["same", "{}", format, ""])?;
+    work.lines = true;
     let first = bytes(alloc, first)?;
     let second = bytes(alloc, second)?;
     let mut one = PieceSource::new(&first, 2, call(one)?);

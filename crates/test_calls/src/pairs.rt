@@ -1,9 +1,9 @@
 //! Texts, and which of them denote equal values.
 
 use crate::question::Question;
-use crate::row_fault::RowFault;
-use crate::texts::bytes_of;
-use bcs_json::{compare, read_value};
+use crate::row_fault::{RowFault, agree};
+use crate::texts::{bytes_of, value_of};
+use bcs_json::compare;
 use bcs_value::same;
 use std::alloc::Global;
 
@@ -46,28 +46,15 @@ fn is_equal(
     let Ok(is_equal) = compare(alloc, registry, format, limits, one, other) else {
         return Err(RowFault::NotUnderstood);
     };
-    if have_equal_bytes(alloc, question, one, other) != Some(is_equal) {
-        return Err(RowFault::Disagreement("to_bcs"));
-    }
-    if are_same(alloc, question, one, other) != Some(is_equal) {
-        return Err(RowFault::Disagreement("read_value"));
+    let bytes = bytes_of(alloc, question, one)?;
+    let other_bytes = bytes_of(alloc, question, other)?;
+    agree((bytes == other_bytes) == is_equal, "to_bcs")?;
+    match (
+        value_of(alloc, question, one)?,
+        value_of(alloc, question, other)?,
+    ) {
+        (Ok(one), Ok(other)) => agree(same(&one, &other) == is_equal, "read_value")?,
+        _ => return Err(RowFault::Disagreement("read_value")),
     }
     Ok(is_equal)
-}
-
-fn have_equal_bytes(alloc: Global, question: &Question, one: &[u8], other: &[u8]) -> Option<bool> {
-    let one = bytes_of(alloc, question, one).ok()?;
-    let other = bytes_of(alloc, question, other).ok()?;
-    Some(one == other)
-}
-
-fn are_same(alloc: Global, question: &Question, one: &[u8], other: &[u8]) -> Option<bool> {
-    let Question {
-        registry,
-        format,
-        limits,
-    } = question;
-    let one = read_value(alloc, registry, format, limits, one).ok()?;
-    let other = read_value(alloc, registry, format, limits, other).ok()?;
-    Some(same(&one, &other))
 }

@@ -58,3 +58,24 @@ impl From<PathFault> for RowFault {
         }
     }
 }
+
+/// What a call answers, but for want of memory, which is the row's whole answer.
+pub(crate) fn granted<T: Drop, F: Copy + Drop + PartialEq>(
+    answer: Result<T, F>,
+    no_memory: F,
+) -> Result<Result<T, F>, RowFault> {
+    match answer {
+        Ok(given) => Ok(Ok(given)),
+        Err(fault) if fault == no_memory => Err(RowFault::OutOfMemory),
+        Err(fault) => Ok(Err(fault)),
+    }
+}
+
+/// That a call agrees with the others that the row asks.
+pub(crate) fn agree(is_so: bool, call: &'static str) -> Result<(), RowFault> {
+    if is_so {
+        Ok(())
+    } else {
+        Err(RowFault::Disagreement(call))
+    }
+}

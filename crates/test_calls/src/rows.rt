@@ -4,8 +4,8 @@ use crate::row_fault::RowFault;
 use crate::setting::Setting;
 use crate::words::unrolled;
 use crate::{
-    encodings, jobs, likeness, numbers, parts, places, registries, shown, sizes, sources, streams,
-    texts, values, verdicts,
+    encodings, jobs, likeness, numbers, parts, registries, sources, streams, texts, values,
+    verdicts,
 };
 use std::alloc::{AllocError, Global};
 
@@ -45,23 +45,30 @@ fn answered(
         "registry" | "format" | "print" | "container" | "admits" | "grows" => {
             registries::answer(alloc, setting, question, words)
         }
-        "short" | "lines" => shown::answer(alloc, setting, question, words),
-        "verdict" | "deepest" | "scan" | "changes" => {
+        "verdict" | "scan" | "changes" | "quiet" | "stand" | "quiet_slice" | "stand_slice" => {
             verdicts::answer(alloc, setting, question, words)
         }
         "failing" | "failing_front" | "endless" => sources::answer(alloc, setting, question, words),
         "part" => parts::answer(alloc, setting, words),
         "values" | "fits" | "limits" => values::answer(alloc, setting, question, words),
         "alike" | "size" => likeness::answer(alloc, setting, question, words),
-        "encode" | "form" | "length" | "deep" | "write" => {
-            encodings::answer(alloc, setting, question, words)
-        }
+        "encode"
+        | "form"
+        | "length"
+        | "entries"
+        | "deep"
+        | "write"
+        | "quiet_value"
+        | "stand_value" => encodings::answer(alloc, setting, question, words),
         "json" | "text" | "same" | "pairs" => texts::answer(alloc, setting, question, words),
-        "place" => places::answer(alloc, setting, words),
-        "sizes" => sizes::answer(alloc, setting, words),
-        "run" | "line" | "ends" | "endless_job" | "pairs_end" | "take_all" | "messages" => {
-            jobs::answer(rt, question, words)
-        }
+        "run"
+        | "failing_run"
+        | "line"
+        | "ends"
+        | "endless_job"
+        | "pairs_end"
+        | "take_all"
+        | "messages" => jobs::answer(rt, question, words),
         _ => streams::answer(alloc, question, words),
     }
 }

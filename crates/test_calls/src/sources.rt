@@ -1,12 +1,16 @@
-//! Rows on values of sources that fail, and of sources without end.
+//! Rows on values of sources that fail, and of sources without end; and what all calls on sources give.
 
 use crate::question::Question;
-use crate::row_fault::RowFault;
+use crate::row_fault::{RowFault, agree, granted};
 use crate::setting::Setting;
 use crate::words::{bytes, call};
 use bcs_decode::pieces::{PieceSource, RepeatSource};
 use bcs_decode::{ByteSource, DecodeFault, Stop, decode_all, decode_from, scan_all, scan_from};
+use bcs_value::Value;
 use std::alloc::{AllocError, Global};
+
+/// A value with its length, or why there is none.
+pub(crate) type Judged = Result<(Value, u64), DecodeFault>;
 
 pub(crate) fn answer(
     alloc: Global,
@@ -19,82 +23,54 @@ pub(crate) fn answer(
     };
     let asked = Question::read(alloc, &setting.registry, format, &[])?;
     let input = bytes(alloc, input)?;
-    match (question, fails) {
-        ("failing", [fails]) => of_whole(alloc, &asked, &input, call(fails)?),
-        ("failing_front", [fails]) => of_front(alloc, &asked, &input, call(fails)?),
-        ("endless", []) => of_endless(alloc, &asked, &input),
+    match (question, fails, input.as_slice()) {
+        ("failing" | "failing_front", [fails], input) => {
+            of_failing(alloc, question, &asked, input, call(fails)?)
+        }
+        ("endless", [], [byte, ..]) => of_endless(alloc, &asked, *byte),
         _ => Err(RowFault::NotUnderstood),
     }
 }
 
-// All of a source that gives a byte a call, and fails from a call on.
-fn of_whole(
+// All of a source, or its front, that gives a byte a call, and fails from a call on.
+fn of_failing(
     alloc: Global,
+    question: &str,
     asked: &Question,
     input: &[u8],
     fails: Option<u64>,
 ) -> Result<String, RowFault> {
     let mut source = PieceSource::new(input, 1, fails);
     let mut other = PieceSource::new(input, 1, fails);
-    let scanned = judged_whole(alloc, asked, &mut source, &mut other)?;
-    told(alloc, scanned, &source, &other)
-}
-
-fn judged_whole(
-    alloc: Global,
-    asked: &Question,
-    source: &mut PieceSource<'_>,
-    other: &mut PieceSource<'_>,
-) -> Result<Result<u64, DecodeFault>, RowFault> {
-    let Question {
-        registry,
-        format,
-        limits,
-    } = asked;
-    if !registry.admits(format) {
-        return Err(RowFault::Disagreement("admits"));
-    }
-    let scanned = scan_all(alloc, registry, format, limits, source);
-    if decode_all(alloc, registry, format, limits, other).err() != scanned.err() {
-        return Err(RowFault::Disagreement("decode_all"));
-    }
-    Ok(scanned)
-}
-
-// The front of such a source.
-fn of_front(
-    alloc: Global,
-    asked: &Question,
-    input: &[u8],
-    fails: Option<u64>,
-) -> Result<String, RowFault> {
-    let mut source = PieceSource::new(input, 1, fails);
-    let mut other = PieceSource::new(input, 1, fails);
-    let scanned = judged_front(alloc, asked, &mut source, &mut other)?;
-    told(alloc, scanned, &source, &other)
-}
-
-// The front of a source that gives the first byte of the input without end.
-fn of_endless(alloc: Global, asked: &Question, input: &[u8]) -> Result<String, RowFault> {
-    let Some(byte) = input.first() else {
-        return Err(RowFault::NotUnderstood);
+    let judged = if question == "failing" {
+        of_whole(alloc, asked, &mut source, &mut other)?
+    } else {
+        of_front(alloc, asked, &mut source, &mut other)?
     };
-    let mut source = RepeatSource::new(*byte);
-    let mut other = RepeatSource::new(*byte);
-    let scanned = judged_front(alloc, asked, &mut source, &mut other)?;
-    if source.given() != other.given() {
-        return Err(RowFault::Disagreement("given"));
-    }
-    let answer = verdict(alloc, scanned)?;
+    agree(source.failed() == other.failed(), "failed")?;
+    agree(source.given() == other.given(), "given")?;
+    let answer = told(alloc, &length_of(judged))?;
+    let failed = if source.failed() { ", failed" } else { "" };
+    Ok(format!(in alloc; "{answer}{failed}")?)
+}
+
+// The front of a source that gives a byte without end.
+fn of_endless(alloc: Global, asked: &Question, byte: u8) -> Result<String, RowFault> {
+    let mut source = RepeatSource::new(byte);
+    let mut other = RepeatSource::new(byte);
+    let judged = of_front(alloc, asked, &mut source, &mut other)?;
+    agree(source.given() == other.given(), "given")?;
+    let answer = told(alloc, &length_of(judged))?;
     Ok(format!(in alloc; "{answer}, {} given", source.given())?)
 }
 
-fn judged_front<S: ByteSource>(
+/// The front of a source, by `scan_from`, and by `decode_from` of another like it.
+pub(crate) fn of_front<S: ByteSource>(
     alloc: Global,
     asked: &Question,
     source: &mut S,
     other: &mut S,
-) -> Result<Result<u64, DecodeFault>, RowFault> {
+) -> Result<Judged, RowFault> {
     let Question {
         registry,
         format,
@@ -104,29 +80,60 @@ fn judged_front<S: ByteSource>(
         return Err(RowFault::Disagreement("admits"));
     }
     let scanned = scan_from(alloc, registry, format, limits, source);
-    if decode_from(alloc, registry, format, limits, other).err() != scanned.err() {
-        return Err(RowFault::Disagreement("decode_from"));
-    }
-    Ok(scanned)
+    let decoded = decode_from(alloc, registry, format, limits, other);
+    judged(scanned, decoded)
 }
 
-// The verdict, and whether the sources have failed.
-fn told(
+/// The whole of a source, by `scan_all`, and by `decode_all` of another like it.
+pub(crate) fn of_whole<S: ByteSource>(
     alloc: Global,
-    scanned: Result<u64, DecodeFault>,
-    source: &PieceSource<'_>,
-    other: &PieceSource<'_>,
-) -> Result<String, RowFault> {
-    if source.failed() != other.failed() || source.given() != other.given() {
-        return Err(RowFault::Disagreement("failed"));
+    asked: &Question,
+    source: &mut S,
+    other: &mut S,
+) -> Result<Judged, RowFault> {
+    let Question {
+        registry,
+        format,
+        limits,
+    } = asked;
+    if !registry.admits(format) {
+        return Err(RowFault::Disagreement("admits"));
     }
-    let answer = verdict(alloc, scanned)?;
-    let failed = if source.failed() { ", failed" } else { "" };
-    Ok(format!(in alloc; "{answer}{failed}")?)
+    let scanned = scan_all(alloc, registry, format, limits, source);
+    let decoded = decode_all(alloc, registry, format, limits, other);
+    judged(scanned, decoded)
 }
 
-fn verdict(alloc: Global, scanned: Result<u64, DecodeFault>) -> Result<String, AllocError> {
-    match scanned {
+fn judged(
+    scanned: Result<u64, DecodeFault>,
+    decoded: Result<Value, DecodeFault>,
+) -> Result<Judged, RowFault> {
+    let scanned = granted(scanned, DecodeFault::OutOfMemory)?;
+    let decoded = granted(decoded, DecodeFault::OutOfMemory)?;
+    match (scanned, decoded) {
+        (Ok(length), Ok(value)) => Ok(Ok((value, length))),
+        (Err(one), Err(other)) if one == other => Ok(Err(one)),
+        _ => Err(RowFault::Disagreement("scanning")),
+    }
+}
+
+pub(crate) fn fault_of(judged: &Judged) -> Option<DecodeFault> {
+    match judged {
+        Ok(_) => None,
+        Err(fault) => Some(*fault),
+    }
+}
+
+fn length_of(judged: Judged) -> Result<u64, DecodeFault> {
+    match judged {
+        Ok((_, length)) => Ok(length),
+        Err(fault) => Err(fault),
+    }
+}
+
+/// The length of a value, or why there is none.
+pub(crate) fn told(alloc: Global, length: &Result<u64, DecodeFault>) -> Result<String, AllocError> {
+    match length {
         Ok(length) => format!(in alloc; "ok {length}"),
         Err(DecodeFault::Stop(Stop { reason, place })) => format!(in alloc; "{reason} at {place}"),
         Err(fault) => format!(in alloc; "{fault}"),

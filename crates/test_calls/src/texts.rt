@@ -2,13 +2,14 @@
 
 use crate::pairs::agreeing_pairs;
 use crate::question::Question;
-use crate::row_fault::RowFault;
+use crate::row_fault::{RowFault, agree, granted};
 use crate::setting::Setting;
 use crate::words::{bytes, word_of};
-use bcs_decode::decode_slice;
+use bcs_decode::{DecodeFault, decode_slice};
 use bcs_json::{
     FromFault, JsonFault, PrintFault, compare, from_bcs, normalise, print_value, read_value, to_bcs,
 };
+use bcs_value::Value;
 use std::alloc::Global;
 
 pub(crate) fn answer(
@@ -17,167 +18,132 @@ pub(crate) fn answer(
     question: &str,
     words: &[&str],
 ) -> Result<String, RowFault> {
-    match (question, words) {
-        ("json" | "text", [format, input, limits @ ..]) => {
-            let asked = Question::read(alloc, &setting.registry, format, limits)?;
-            of_input(alloc, question, &asked, input)
-        }
-        ("same" | "pairs", [format, texts @ ..]) => {
-            let asked = Question::read(alloc, &setting.registry, format, &[])?;
-            of_texts(alloc, question, &asked, texts)
-        }
-        _ => Err(RowFault::NotUnderstood),
-    }
-}
-
-// What a text means, or what bytes are shown as.
-fn of_input(
-    alloc: Global,
-    question: &str,
-    asked: &Question,
-    input: &str,
-) -> Result<String, RowFault> {
-    let input = bytes(alloc, input)?;
-    if question == "json" {
-        meant(alloc, asked, &input)
-    } else {
-        shown(alloc, asked, &input)
-    }
-}
-
-// How two texts compare, or any two of many.
-fn of_texts(
-    alloc: Global,
-    question: &str,
-    asked: &Question,
-    texts: &[&str],
-) -> Result<String, RowFault> {
-    match (question, texts) {
-        ("same", [one, other]) => compared(alloc, asked, one.as_bytes(), other.as_bytes()),
-        ("pairs", texts) => paired(alloc, asked, texts),
-        _ => Err(RowFault::NotUnderstood),
-    }
-}
-
-// The bytes and the normal text of what the text denotes, or the fault.
-fn meant(alloc: Global, question: &Question, text: &[u8]) -> Result<String, RowFault> {
-    match bytes_of(alloc, question, text) {
-        Ok(bytes) => accepted(alloc, question, text, &bytes),
-        Err(fault) => refused(alloc, question, text, fault),
-    }
-}
-
-fn accepted(
-    alloc: Global,
-    question: &Question,
-    text: &[u8],
-    bytes: &[u8],
-) -> Result<String, RowFault> {
-    let Ok(normal) = normal_of(alloc, question, text) else {
-        return Err(RowFault::Disagreement("normalise"));
+    let [format, texts @ ..] = words else {
+        return Err(RowFault::NotUnderstood);
     };
-    if !is_stable(alloc, question, &normal, bytes) {
-        return Err(RowFault::Disagreement("the normal text"));
+    let [input, more @ ..] = texts else {
+        return Err(RowFault::NotUnderstood);
+    };
+    let limits: &[&str] = match question {
+        "json" | "text" => more,
+        _ => &[],
+    };
+    let asked = Question::read(alloc, &setting.registry, format, limits)?;
+    match (question, more) {
+        ("json", _) => meant(alloc, &asked, &bytes(alloc, input)?),
+        ("text", _) => shown(alloc, &asked, &bytes(alloc, input)?),
+        ("same", [other]) => compared(alloc, &asked, input.as_bytes(), other.as_bytes()),
+        ("pairs", _) => {
+            let count = agreeing_pairs(alloc, &asked, texts)?;
+            Ok(format!(in alloc; "{count} equal")?)
+        }
+        _ => Err(RowFault::NotUnderstood),
     }
-    if !is_printed(alloc, question, text, &normal) {
-        return Err(RowFault::Disagreement("print_value"));
-    }
-    if !is_shown(alloc, question, bytes, &normal) {
-        return Err(RowFault::Disagreement("from_bcs"));
-    }
-    let word = word_of(alloc, bytes)?;
-    Ok(format!(in alloc; "{word} {normal}")?)
 }
 
-// Every call refuses the text for the same reason.
-fn refused(
+// The bytes and the normal text of what the text denotes, or the fault, for which every call refuses the text.
+fn meant(alloc: Global, question: &Question, text: &[u8]) -> Result<String, RowFault> {
+    let bytes = bytes_of(alloc, question, text)?;
+    let normal = normal_of(alloc, question, text)?;
+    let value = value_of(alloc, question, text)?;
+    match (bytes, normal, value) {
+        (Ok(bytes), Ok(normal), Ok(value)) => {
+            agree_on(alloc, question, &value, &bytes, &normal)?;
+            let word = word_of(alloc, &bytes)?;
+            Ok(format!(in alloc; "{word} {normal}")?)
+        }
+        (Err(fault), Err(other), Err(third)) if fault == other && fault == third => {
+            Ok(format!(in alloc; "{fault}")?)
+        }
+        _ => Err(RowFault::Disagreement("read_value")),
+    }
+}
+
+// The normal text has the same bytes, and is its own normal text; and so the value and the bytes are printed.
+fn agree_on(
     alloc: Global,
     question: &Question,
-    text: &[u8],
-    fault: JsonFault,
-) -> Result<String, RowFault> {
-    let Question {
-        registry,
-        format,
-        limits,
-    } = question;
-    if read_value(alloc, registry, format, limits, text).err() != Some(fault) {
-        return Err(RowFault::Disagreement("read_value"));
-    }
-    if normal_of(alloc, question, text).err() != Some(fault) {
-        return Err(RowFault::Disagreement("normalise"));
-    }
-    Ok(format!(in alloc; "{fault}")?)
+    value: &Value,
+    bytes: &[u8],
+    normal: &str,
+) -> Result<(), RowFault> {
+    let again = bytes_of(alloc, question, normal.as_bytes())?;
+    agree(
+        again.is_ok_and(|again| again.as_slice() == bytes),
+        "the normal text",
+    )?;
+    let text = normal_of(alloc, question, normal.as_bytes())?;
+    agree(text.is_ok_and(|text| text.as_str() == normal), "normalise")?;
+    let text = text_of(alloc, question, value)?;
+    agree(
+        text.is_ok_and(|text| text.as_str() == normal),
+        "print_value",
+    )?;
+    let text = text_of_bytes(alloc, question, bytes)?;
+    agree(text.is_ok_and(|text| text.as_str() == normal), "from_bcs")
 }
 
 pub(crate) fn bytes_of(
     alloc: Global,
     question: &Question,
     text: &[u8],
-) -> Result<Vec<u8>, JsonFault> {
-    to_bcs(
-        alloc,
-        &question.registry,
-        &question.format,
-        &question.limits,
-        text,
-    )
-}
-
-fn normal_of(alloc: Global, question: &Question, text: &[u8]) -> Result<String, JsonFault> {
-    normalise(
-        alloc,
-        &question.registry,
-        &question.format,
-        &question.limits,
-        text,
-    )
-}
-
-// The normal text has the same bytes, and is its own normal text.
-fn is_stable(alloc: Global, question: &Question, normal: &str, bytes: &[u8]) -> bool {
-    let again = bytes_of(alloc, question, normal.as_bytes());
-    let text = normal_of(alloc, question, normal.as_bytes());
-    match (again, text) {
-        (Ok(again), Ok(text)) => again.as_slice() == bytes && text.as_str() == normal,
-        _ => false,
-    }
-}
-
-// The value that is read is printed as the normal text.
-fn is_printed(alloc: Global, question: &Question, text: &[u8], normal: &str) -> bool {
+) -> Result<Result<Vec<u8>, JsonFault>, RowFault> {
     let Question {
         registry,
         format,
         limits,
     } = question;
-    let Ok(value) = read_value(alloc, registry, format, limits, text) else {
-        return false;
-    };
-    match print_value(alloc, registry, format, limits, &value) {
-        Ok(printed) => printed.as_str() == normal,
-        Err(_) => false,
-    }
+    let bytes = to_bcs(alloc, registry, format, limits, text);
+    granted(bytes, JsonFault::OutOfMemory)
 }
 
-fn is_shown(alloc: Global, question: &Question, bytes: &[u8], normal: &str) -> bool {
-    if !question.registry.admits(&question.format) {
-        return false;
-    }
-    match from_bcs(
-        alloc,
-        &question.registry,
-        &question.format,
-        &question.limits,
-        bytes,
-    ) {
-        Ok(text) => text.as_str() == normal,
-        Err(_) => false,
-    }
+fn normal_of(
+    alloc: Global,
+    question: &Question,
+    text: &[u8],
+) -> Result<Result<String, JsonFault>, RowFault> {
+    let Question {
+        registry,
+        format,
+        limits,
+    } = question;
+    let normal = normalise(alloc, registry, format, limits, text);
+    granted(normal, JsonFault::OutOfMemory)
 }
 
-// The text of the bytes, or the fault.
-fn shown(alloc: Global, question: &Question, bytes: &[u8]) -> Result<String, RowFault> {
+pub(crate) fn value_of(
+    alloc: Global,
+    question: &Question,
+    text: &[u8],
+) -> Result<Result<Value, JsonFault>, RowFault> {
+    let Question {
+        registry,
+        format,
+        limits,
+    } = question;
+    let value = read_value(alloc, registry, format, limits, text);
+    granted(value, JsonFault::OutOfMemory)
+}
+
+fn text_of(
+    alloc: Global,
+    question: &Question,
+    value: &Value,
+) -> Result<Result<String, PrintFault>, RowFault> {
+    let Question {
+        registry,
+        format,
+        limits,
+    } = question;
+    let text = print_value(alloc, registry, format, limits, value);
+    granted(text, PrintFault::OutOfMemory)
+}
+
+fn text_of_bytes(
+    alloc: Global,
+    question: &Question,
+    bytes: &[u8],
+) -> Result<Result<String, FromFault>, RowFault> {
     let Question {
         registry,
         format,
@@ -186,34 +152,38 @@ fn shown(alloc: Global, question: &Question, bytes: &[u8]) -> Result<String, Row
     if !registry.admits(format) {
         return Err(RowFault::Disagreement("admits"));
     }
-    match from_bcs(alloc, registry, format, limits, bytes) {
+    let text = from_bcs(alloc, registry, format, limits, bytes);
+    granted(text, FromFault::OutOfMemory)
+}
+
+// The text of the bytes, or the fault. A value whose text would nest too deep isn't printed either.
+fn shown(alloc: Global, question: &Question, bytes: &[u8]) -> Result<String, RowFault> {
+    match text_of_bytes(alloc, question, bytes)? {
         Ok(text) => Ok(text),
-        Err(FromFault::Stop(stop)) => {
-            Ok(format!(in alloc; "{} at {}", stop.reason, stop.place)?)
+        Err(FromFault::Stop(stop)) => Ok(format!(in alloc; "{} at {}", stop.reason, stop.place)?),
+        Err(fault) => {
+            agree(is_too_nested(alloc, question, bytes)?, "print_value")?;
+            Ok(format!(in alloc; "{fault}")?)
         }
-        Err(FromFault::TooNested) if !is_too_nested(alloc, question, bytes) => {
-            Err(RowFault::Disagreement("print_value"))
-        }
-        Err(fault) => Ok(format!(in alloc; "{fault}")?),
     }
 }
 
-// The value of the bytes isn't printed either.
-fn is_too_nested(alloc: Global, question: &Question, bytes: &[u8]) -> bool {
+fn is_too_nested(alloc: Global, question: &Question, bytes: &[u8]) -> Result<bool, RowFault> {
     let Question {
         registry,
         format,
         limits,
     } = question;
     if !registry.admits(format) {
-        return false;
+        return Err(RowFault::Disagreement("admits"));
     }
-    match decode_slice(alloc, registry, format, limits, bytes) {
-        Ok((value, _)) => matches!(
-            print_value(alloc, registry, format, limits, &value),
+    let decoded = decode_slice(alloc, registry, format, limits, bytes);
+    match granted(decoded, DecodeFault::OutOfMemory)? {
+        Ok((value, _)) => Ok(matches!(
+            text_of(alloc, question, &value)?,
             Err(PrintFault::TooNested)
-        ),
-        Err(_) => false,
+        )),
+        Err(_) => Ok(false),
     }
 }
 
@@ -234,9 +204,4 @@ fn compared(
         Ok(false) => Ok(String::from_str(alloc, "different")?),
         Err(fault) => Ok(format!(in alloc; "{fault}")?),
     }
-}
-
-fn paired(alloc: Global, question: &Question, texts: &[&str]) -> Result<String, RowFault> {
-    let count = agreeing_pairs(alloc, question, texts)?;
-    Ok(format!(in alloc; "{count} equal")?)
 }

@@ -3,17 +3,18 @@ ghost use Rattle.std.specs.Prelude.{◌≤◌};
 
 use crate::changes::agreeing_changes;
 use crate::question::Question;
-use crate::row_fault::RowFault;
+use crate::row_fault::{RowFault, agree, granted};
 use crate::setting::Setting;
+use crate::sources::{Judged, fault_of, of_front, of_whole, told};
 use crate::words;
 use bcs_decode::pieces::PieceSource;
-use bcs_decode::{
-    DecodeFault, Reason, Stop, decode_all, decode_from, decode_slice, part, scan, scan_all,
-    scan_from,
-};
-use bcs_encode::encode;
+use bcs_decode::{DecodeFault, Part, Reason, Stop, decode_slice, part, scan};
+use bcs_encode::{EncodeFault, encode};
+use bcs_value::same;
 use std::alloc::Global;
 
+/// `quiet` makes calls that ask for no memory, and `quiet_slice` those of them on a slice. `stand` and `stand_slice` make
+/// none, and are otherwise the same.
 pub(crate) fn answer(
     alloc: Global,
     setting: &Setting,
@@ -26,56 +27,74 @@ pub(crate) fn answer(
     let asked = Question::read(alloc, &setting.registry, format, limits)?;
     let bytes = words::bytes(alloc, bytes)?;
     match question {
-        "verdict" | "deepest" => judged(alloc, verdict(alloc, &asked, &bytes)?),
-        "scan" => judged(alloc, scanned(&asked, &bytes)?),
-        _ => changed(alloc, &asked, &bytes),
+        "verdict" => Ok(told(alloc, &encoded_again(alloc, &asked, &bytes)?)?),
+        "scan" => Ok(told(alloc, &scanned(&asked, &bytes)?)?),
+        "changes" => {
+            let count = agreeing_changes(alloc, &asked, &bytes)?;
+            Ok(format!(in alloc; "{count} agree")?)
+        }
+        _ => {
+            ask_quietly(alloc, question, &asked, &bytes)?;
+            Ok(String::from_str(alloc, "quiet")?)
+        }
     }
 }
 
-fn judged(alloc: Global, verdict: Result<usize, Stop>) -> Result<String, RowFault> {
-    match verdict {
-        Ok(length) => Ok(format!(in alloc; "ok {length}")?),
-        Err(Stop { reason, place }) => Ok(format!(in alloc; "{reason} at {place}")?),
+fn ask_quietly(
+    alloc: Global,
+    question: &str,
+    asked: &Question,
+    bytes: &[u8],
+) -> Result<(), RowFault> {
+    match question {
+        "quiet" => {
+            let _ = verdict(alloc, asked, bytes)?;
+        }
+        "quiet_slice" => {
+            let _ = of_slice(alloc, asked, bytes)?;
+        }
+        _ => {}
     }
+    Ok(())
 }
 
-fn changed(alloc: Global, question: &Question, bytes: &[u8]) -> Result<String, RowFault> {
-    let count = agreeing_changes(alloc, question, bytes)?;
-    Ok(format!(in alloc; "{count} agree")?)
-}
-
-/// The length of the value that the bytes begin with, or where and why they stop being one: by `scan`, and all other
-/// calls have to give the same.
-pub(crate) fn verdict(
+/// The verdict of all calls, of which `encode` has to give the bytes of the value again.
+pub(crate) fn encoded_again(
     alloc: Global,
     question: &Question,
     bytes: &[u8],
-) -> Result<Result<usize, Stop>, RowFault> {
-    let verdict = scanned(question, bytes)?;
-    if of_part(question, bytes)? != verdict {
-        return Err(RowFault::Disagreement("part"));
+) -> Result<Result<u64, DecodeFault>, RowFault> {
+    let Question {
+        registry,
+        format,
+        limits,
+    } = question;
+    match verdict(alloc, question, bytes)? {
+        Ok((value, length)) => {
+            let again = encode(alloc, registry, format, limits, &value);
+            let is_front = match granted(again, EncodeFault::OutOfMemory)? {
+                Ok(again) => bytes.starts_with(&again) && length == again.len() as u64,
+                Err(_) => false,
+            };
+            agree(is_front, "encode")?;
+            Ok(Ok(length))
+        }
+        Err(fault) => Ok(Err(fault)),
     }
-    if of_slice(alloc, question, bytes)? != verdict {
-        return Err(RowFault::Disagreement("decode_slice"));
-    }
-    agree_however(alloc, question, bytes, verdict)?;
+}
+
+// The value that the bytes begin with, and its length, or where and why they stop being one: by the calls on a slice, and all
+// calls on sources have to give the same, in pieces of 1, 2 and 3 bytes, and of the whole.
+fn verdict(alloc: Global, question: &Question, bytes: &[u8]) -> Result<Judged, RowFault> {
+    let verdict = of_slice(alloc, question, bytes)?;
+    agree_in_pieces(alloc, question, bytes, 1, &verdict)?;
+    agree_in_pieces(alloc, question, bytes, 2, &verdict)?;
+    agree_in_pieces(alloc, question, bytes, 3, &verdict)?;
+    agree_in_pieces(alloc, question, bytes, 65536, &verdict)?;
     Ok(verdict)
 }
 
-// Pieces of 1, 2 and 3 bytes, and the whole.
-fn agree_however(
-    alloc: Global,
-    question: &Question,
-    bytes: &[u8],
-    verdict: Result<usize, Stop>,
-) -> Result<(), RowFault> {
-    agree_in_pieces(alloc, question, bytes, 1, verdict)?;
-    agree_in_pieces(alloc, question, bytes, 2, verdict)?;
-    agree_in_pieces(alloc, question, bytes, 3, verdict)?;
-    agree_in_pieces(alloc, question, bytes, 65536, verdict)
-}
-
-fn scanned(question: &Question, bytes: &[u8]) -> Result<Result<usize, Stop>, RowFault> {
+fn scanned(question: &Question, bytes: &[u8]) -> Result<Result<u64, DecodeFault>, RowFault> {
     let Question {
         registry,
         format,
@@ -84,11 +103,14 @@ fn scanned(question: &Question, bytes: &[u8]) -> Result<Result<usize, Stop>, Row
     if !registry.admits(format) {
         return Err(RowFault::Disagreement("admits"));
     }
-    Ok(scan(registry, format, limits, bytes))
+    match scan(registry, format, limits, bytes) {
+        Ok(length) => Ok(Ok(length as u64)),
+        Err(stop) => Ok(Err(DecodeFault::Stop(stop))),
+    }
 }
 
-// The whole is the part that no steps lead to.
-fn of_part(question: &Question, bytes: &[u8]) -> Result<Result<usize, Stop>, RowFault> {
+// The whole is the part to which no steps lead.
+fn of_slice(alloc: Global, question: &Question, bytes: &[u8]) -> Result<Judged, RowFault> {
     let Question {
         registry,
         format,
@@ -97,178 +119,95 @@ fn of_part(question: &Question, bytes: &[u8]) -> Result<Result<usize, Stop>, Row
     if !registry.admits(format) {
         return Err(RowFault::Disagreement("admits"));
     }
-    match part(registry, format, limits, bytes, &[]) {
-        Ok(Some(whole)) if whole.place == 0 && bytes.starts_with(whole.bytes) => {
-            Ok(Ok(whole.bytes.len()))
+    let decoded = decode_slice(alloc, registry, format, limits, bytes);
+    let verdict = match granted(decoded, DecodeFault::OutOfMemory)? {
+        Ok((value, length)) => Ok((value, length as u64)),
+        Err(fault) => Err(fault),
+    };
+    let whole = part(registry, format, limits, bytes, &[]);
+    agree(is_whole(whole, bytes, &verdict), "part")?;
+    agree(is_length(scanned(question, bytes)?, &verdict), "scan")?;
+    Ok(verdict)
+}
+
+fn is_whole(part: Result<Option<Part<'_>>, Stop>, bytes: &[u8], verdict: &Judged) -> bool {
+    match (part, verdict) {
+        (Ok(Some(whole)), Ok((_, length))) => {
+            whole.place == 0
+                && whole.bytes.len() as u64 == *length
+                && bytes.starts_with(whole.bytes)
         }
-        Ok(_) => Err(RowFault::Disagreement("part")),
-        Err(stop) => Ok(Err(stop)),
+        (Err(stop), Err(fault)) => DecodeFault::Stop(stop) == *fault,
+        _ => false,
     }
 }
 
-fn of_slice(
-    alloc: Global,
-    question: &Question,
-    bytes: &[u8],
-) -> Result<Result<usize, Stop>, RowFault> {
-    if !question.registry.admits(&question.format) {
-        return Err(RowFault::Disagreement("admits"));
-    }
-    match decode_slice(
-        alloc,
-        &question.registry,
-        &question.format,
-        &question.limits,
-        bytes,
-    ) {
-        Ok((_, length)) => Ok(Ok(length)),
-        Err(DecodeFault::Stop(stop)) => Ok(Err(stop)),
-        Err(_) => Err(RowFault::OutOfMemory),
+fn is_length(scanned: Result<u64, DecodeFault>, verdict: &Judged) -> bool {
+    match (scanned, verdict) {
+        (Ok(found), Ok((_, length))) => found == *length,
+        (Err(one), Err(other)) => one == *other,
+        _ => false,
     }
 }
 
-// A source that gives so many bytes a call has the verdict too, whether its front or its whole is asked for.
+// A source that gives so many bytes a call has the verdict too, whether its front or its whole is asked for. Behind a value its
+// front takes no byte, and the whole one.
 fn agree_in_pieces(
     alloc: Global,
     question: &Question,
     bytes: &[u8],
     piece: usize,
-    verdict: Result<usize, Stop>,
+    verdict: &Judged,
 ) -> Result<(), RowFault>
     requires { 1 ≤ piece }
 {
-    if of_front(alloc, question, bytes, piece)? != verdict {
-        return Err(RowFault::Disagreement("decode_from"));
-    }
-    if !is_of_whole(alloc, question, bytes, piece, verdict) {
-        return Err(RowFault::Disagreement("decode_all"));
-    }
-    if !is_scanned(alloc, question, bytes, piece, verdict) {
-        return Err(RowFault::Disagreement("scan_from"));
-    }
-    if !is_scanned_whole(alloc, question, bytes, piece, verdict) {
-        return Err(RowFault::Disagreement("scan_all"));
-    }
-    Ok(())
-}
-
-// The value's encoding has to be what the source gave, and no byte more.
-fn of_front(
-    alloc: Global,
-    question: &Question,
-    bytes: &[u8],
-    piece: usize,
-) -> Result<Result<usize, Stop>, RowFault>
-    requires { 1 ≤ piece }
-{
-    let Question {
-        registry,
-        format,
-        limits,
-    } = question;
-    if !registry.admits(format) {
-        return Err(RowFault::Disagreement("admits"));
-    }
     let mut source = PieceSource::new(bytes, piece, None);
-    match decode_from(alloc, registry, format, limits, &mut source) {
-        Ok(value) => match encode(alloc, registry, format, limits, &value) {
-            Ok(again) if is_given(&source, bytes, &again) => Ok(Ok(again.len())),
-            _ => Err(RowFault::Disagreement("encode")),
-        },
-        Err(DecodeFault::Stop(stop)) => Ok(Err(stop)),
-        Err(_) => Err(RowFault::OutOfMemory),
-    }
-}
-
-fn is_given(source: &PieceSource, bytes: &[u8], front: &[u8]) -> bool {
-    bytes.starts_with(front) && source.given() == front.len() as u64
-}
-
-// What the whole of so many bytes is, by the verdict on their front: a value exactly if no byte follows.
-fn whole_of(verdict: Result<usize, Stop>, len: usize) -> Result<u64, DecodeFault> {
-    match verdict {
-        Ok(length) if length == len => Ok(len as u64),
-        Ok(length) => Err(DecodeFault::Stop(Stop {
-            reason: Reason::TrailingBytes,
-            place: length as u64,
-        })),
-        Err(stop) => Err(DecodeFault::Stop(stop)),
-    }
-}
-
-// One byte behind a value is taken.
-fn is_of_whole(
-    alloc: Global,
-    question: &Question,
-    bytes: &[u8],
-    piece: usize,
-    verdict: Result<usize, Stop>,
-) -> bool
-    requires { 1 ≤ piece }
-{
-    let Question {
-        registry,
-        format,
-        limits,
-    } = question;
-    if !registry.admits(format) {
-        return false;
-    }
+    let mut other = PieceSource::new(bytes, piece, None);
+    let front = of_front(alloc, question, &mut source, &mut other)?;
+    agree(is_same(&front, verdict), "decode_from")?;
+    agree(
+        gave(&source, verdict, 0) && gave(&other, verdict, 0),
+        "given",
+    )?;
     let mut source = PieceSource::new(bytes, piece, None);
-    let fault = decode_all(alloc, registry, format, limits, &mut source).err();
-    let given = match verdict {
-        Ok(length) => (length as u64).saturating_add(1).min(bytes.len() as u64),
-        Err(_) => source.given(),
-    };
-    fault == whole_of(verdict, bytes.len()).err() && source.given() == given
+    let mut other = PieceSource::new(bytes, piece, None);
+    let whole = of_whole(alloc, question, &mut source, &mut other)?;
+    agree(is_same_whole(&whole, verdict, bytes.len()), "decode_all")?;
+    let behind = u64::from(fault_of(&whole) != fault_of(verdict));
+    agree(
+        gave(&source, verdict, behind) && gave(&other, verdict, behind),
+        "given",
+    )
 }
 
-// A source that is judged has the verdict too, and of a value it gives no byte more.
-fn is_scanned(
-    alloc: Global,
-    question: &Question,
-    bytes: &[u8],
-    piece: usize,
-    verdict: Result<usize, Stop>,
-) -> bool
-    requires { 1 ≤ piece }
-{
-    let Question {
-        registry,
-        format,
-        limits,
-    } = question;
-    if !registry.admits(format) {
-        return false;
-    }
-    let mut source = PieceSource::new(bytes, piece, None);
-    match (
-        scan_from(alloc, registry, format, limits, &mut source),
-        verdict,
-    ) {
-        (Ok(found), Ok(length)) => found == length as u64 && source.given() == found,
-        (Err(DecodeFault::Stop(found)), Err(stop)) => found == stop,
+fn is_same(one: &Judged, other: &Judged) -> bool {
+    match (one, other) {
+        (Ok((value, length)), Ok((same_value, same_length))) => {
+            length == same_length && same(value, same_value)
+        }
+        (Err(one), Err(other)) => one == other,
         _ => false,
     }
 }
 
-fn is_scanned_whole(
-    alloc: Global,
-    question: &Question,
-    bytes: &[u8],
-    piece: usize,
-    verdict: Result<usize, Stop>,
-) -> bool
-    requires { 1 ≤ piece }
-{
-    let Question {
-        registry,
-        format,
-        limits,
-    } = question;
-    if !registry.admits(format) {
-        return false;
+// What the whole of so many bytes is, by the verdict on their front: a value exactly if no byte follows.
+fn is_same_whole(whole: &Judged, verdict: &Judged, len: usize) -> bool {
+    match verdict {
+        Ok((_, length)) if *length != len as u64 => {
+            fault_of(whole)
+                == Some(DecodeFault::Stop(Stop {
+                    reason: Reason::TrailingBytes,
+                    place: *length,
+                }))
+        }
+        _ => is_same(whole, verdict),
     }
-    let mut source = PieceSource::new(bytes, piece, None);
-    scan_all(alloc, registry, format, limits, &mut source) == whole_of(verdict, bytes.len())
+}
+
+// Whether a source gave the bytes of a value, and so many behind it.
+fn gave(source: &PieceSource<'_>, verdict: &Judged, behind: u64) -> bool {
+    match verdict {
+        Ok((_, length)) => source.given() == length.saturating_add(behind),
+        Err(_) => true,
+    }
 }

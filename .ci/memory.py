@@ -1,0 +1,223 @@
+"""Asks the rows of crates/test_calls/memory.rows of the program `test_calls` where memory is short, and where a read or a write fails.
+
+    python3 .ci/memory.py REFUSER
+
+REFUSER is the library that .ci/refuse.c becomes. Each request for memory of the rows below a blank line is refused in turn, one
+a run: then one row answers want of memory, and all others what they answer else; or the program, which found no room for its
+own words, ends before a row. Where what was asked for had only been a hint, nothing is missing, and the run is made again with
+the next request refused, too.
+"""
+
+import os
+import pathlib
+import re
+import subprocess
+import sys
+import tempfile
+from collections import Counter
+from collections.abc import Iterator
+from concurrent.futures import ThreadPoolExecutor
+from typing import NamedTuple
+
+CALLS = pathlib.Path(__file__).resolve().parent.parent / "crates/test_calls"
+PROGRAM = CALLS / "out/test_calls"
+# Behind each run, in both its streams.
+END = re.compile(rb"\x1e(\d+) (\d+)\n")
+# What a row answers for want of memory: a job puts nothing, and ends with status 4.
+NO_MEMORY = ("out of memory", "OutOfMemory", '4 ""fault: memory')
+# The status of a program that ends with an error.
+ENDED = 1
+KEYS_REQUEST = 100
+
+
+class Run(NamedTuple):
+    """What a run put, and how it ended."""
+
+    lines: list[str]
+    status: int
+    requests: int
+
+
+class Failed(Exception):
+    """What is wrong."""
+
+
+def runs(refuser: str, rows: list[str], ranges: list[str]) -> list[Run]:
+    """A run over the rows for each range of requests, which are refused."""
+    with tempfile.TemporaryFile() as given, tempfile.TemporaryFile() as put:
+        given.write("".join(f"{row.partition(' -> ')[0]}\n" for row in rows).encode())
+        given.seek(0)
+        refused = {"LD_PRELOAD": refuser, "REFUSE": " ".join(ranges)}
+        subprocess.run([PROGRAM], stdin=given, stdout=put, stderr=subprocess.DEVNULL, env=refused, check=True)
+        put.seek(0)
+        parts = END.split(put.read())
+    outputs, statuses, requests = parts[:-1:3], parts[1::3], parts[2::3]
+    told = [Run(o.decode().split("\n")[:-1], int(s), int(r)) for o, s, r in zip(outputs, statuses, requests, strict=True)]
+    if len(told) != len(ranges):
+        raise Failed(f"{len(told)} runs of {len(ranges)}")
+    return told
+
+
+def granted(refuser: str, rows: list[str]) -> int:
+    """How many requests the rows make, where each is granted."""
+    [run] = runs(refuser, rows, ["0"])
+    for wanted, answer in zip(rows, run.lines):
+        if answer != wanted:
+            raise Failed(f"with all granted: {answer[:300]}, and not {wanted[:300]}")
+    if run.status != 0 or len(run.lines) != len(rows):
+        raise Failed(f"with all granted: status {run.status}, {len(run.lines)} rows")
+    return run.requests
+
+
+def judged(rows: list[str], run: Run) -> str:
+    """How a run with a request refused ended: with want of memory in a row, before a row, or with nothing missing."""
+    others = [(wanted, answer) for wanted, answer in zip(rows, run.lines) if answer != wanted]
+    if run.status == ENDED and not others and len(run.lines) < len(rows):
+        return "early"
+    if run.status != 0 or len(run.lines) != len(rows):
+        raise Failed(f"status {run.status}, {len(run.lines)} of {len(rows)} rows")
+    if not others:
+        return "whole"
+    wanted, answer = others[0]
+    if wanted.startswith("registry\t"):
+        # Its registry wasn't set, so the rows below it are about another.
+        del others[1:]
+    asked = wanted.partition(" -> ")[0]
+    if len(others) > 1 or answer not in [f"{asked} -> {told}" for told in NO_MEMORY]:
+        raise Failed(f"{len(others)} rows: {answer[:300]}")
+    return "row"
+
+
+def swept(refuser: str, rows: list[str]) -> Counter[str]:
+    """How the runs ended in which each request is refused, one a run."""
+    total = granted(refuser, rows)
+    counts: Counter[str] = Counter()
+    again = []
+    for number, run in enumerate(runs(refuser, rows, [str(number) for number in range(1, total + 1)]), start=1):
+        how = judged(rows, run)
+        counts[how] += 1
+        if how == "whole":
+            again.append(f"{number}-{number + 1}")
+    if again:
+        for numbers, run in zip(again, runs(refuser, rows, again)):
+            if judged(rows, run) == "whole":
+                raise Failed(f"nothing is missing with requests {numbers} refused")
+    return counts
+
+
+def ask_quiet(refuser: str, rows: list[str]) -> int:
+    """Rows whose calls ask for no memory: where none is made, there are as many requests."""
+    made = granted(refuser, rows)
+    set_up = granted(refuser, [re.sub("^quiet", "stand", row) for row in rows])
+    if made != set_up:
+        raise Failed(f"the calls make {made - set_up} requests: {rows[0]}")
+    return sum(row.startswith("quiet") for row in rows)
+
+
+def ask_falling(refuser: str, rows: list[str]) -> str:
+    """A map of many falling keys: `encode` makes fewer requests than it has keys, and gives the bytes where that with the number
+    KEYS_REQUEST is refused; the other encoder makes one for each key, and tells want of memory."""
+    stand, encode, entries = ([row] for row in rows)
+    set_up = granted(refuser, stand)
+    told = []
+    for row, how in ((encode, "whole"), (entries, "row")):
+        requests = granted(refuser, row) - set_up
+        [run] = runs(refuser, row, [str(set_up + KEYS_REQUEST)])
+        if judged(row, run) != how or (requests < KEYS_REQUEST) != (how == "whole"):
+            raise Failed(f"{row[0][:80]}: {requests} requests, {run.lines}")
+        told.append(f"{requests} by {row[0].split()[0]}")
+    return ", ".join(told)
+
+
+def quoted(text: bytes) -> str:
+    """A text as code has it; bytes that are none stand as a word of digits."""
+    try:
+        signs = text.decode().replace("\\", "\\\\").replace('"', '\\"').replace("\n", "\\n")
+    except UnicodeDecodeError:
+        return f"0x{text.hex()}"
+    return f'"{signs}"'
+
+
+def unrolled(word: str) -> str:
+    """`(3*ab)` stands for ababab."""
+    return re.sub(r"\((\d+)\*([^)]*)\)", lambda group: int(group[1]) * group[2], word)
+
+
+def failing_job(words: list[str], answer: str) -> Iterator[str]:
+    """The job of a row `run`, with each read and each write failing in turn, and with one failing that isn't made."""
+    given, *job = words
+    status, text = re.fullmatch(r'(\d) "(.*)"', answer).groups()
+    line = text.replace('\\"', '"').replace("\\n", "\n").replace("\\\\", "\\").encode()
+    is_unread = job[0] in ("check", "grows") or (given == "0x" and job[0] == "encode") or "BadPath" in answer
+    reads = 0 if is_unread else len(b"" if given == "0x" else unrolled(given).encode()) + 1
+    asked = "\t".join(job)
+    for call in range(1, reads + 1):
+        yield f'failing_run\t{given}\t{call}\t-\t{asked} -> 4 ""fault: read, read'
+    yield f"failing_run\t{given}\t{reads + 1}\t-\t{asked} -> {answer}"
+    for call in range(1, len(line) + 1):
+        yield f"failing_run\t{given}\t-\t{call}\t{asked} -> 4 {quoted(line[: call - 1])}fault: write"
+    yield f"failing_run\t{given}\t-\t{len(line) + 1}\t{asked} -> {answer}"
+
+
+def failing_value(words: list[str], answer: str) -> Iterator[str]:
+    """The bytes of a row `encode`, written to a sink that takes a byte a call, with each call failing in turn."""
+    data = bytes.fromhex(answer.removeprefix("0x"))
+    asked = "\t".join(words)
+    for call in range(1, len(data) + 1):
+        yield f"write\t{asked}\t1\t{call} -> Write {call - 1} 0x{data[: call - 1].hex()}, failed"
+    yield f"write\t{asked}\t1\t{len(data) + 1} -> {len(data)} {answer}"
+
+
+def failing_bytes(words: list[str], answer: str) -> Iterator[str]:
+    """The value of a row `verdict` at the front of a source that gives a byte a call, and as all of it, which takes a call more."""
+    asked = "\t".join(words)
+    length = int(answer.removeprefix("ok "))
+    for question, calls in (("failing_front", length), ("failing", length + 1)):
+        for call in range(1, calls + 1):
+            yield f"{question}\t{asked}\t{call} -> Read, failed"
+        yield f"{question}\t{asked}\t{calls + 1} -> {answer}"
+
+
+def failing_rows(rows: list[str]) -> Iterator[str]:
+    for row in rows:
+        asked, _, answer = row.partition(" -> ")
+        kind, *words = asked.split("\t")
+        if kind == "registry":
+            yield row
+        elif kind == "run":
+            yield from failing_job(words, answer)
+        elif kind == "encode" and answer.startswith("0x"):
+            yield from failing_value(words, answer)
+        elif kind == "verdict" and answer == f"ok {len(words[1]) // 2 - 1}":
+            yield from failing_bytes(words, answer)
+
+
+def groups_of(text: str) -> list[list[str]]:
+    """The rows below each blank line."""
+    groups = ([line for line in group.split("\n") if not line.startswith("#")] for group in text.strip().split("\n\n"))
+    return [group for group in groups if group]
+
+
+def main(refuser: str) -> None:
+    groups = groups_of((CALLS / "memory.rows").read_text(encoding="utf-8"))
+    quiet = [group for group in groups if any(row.startswith("quiet") for row in group)]
+    [falling] = [group for group in groups if group[0].startswith("stand_value")]
+    others = [group for group in groups if group not in quiet and group != falling]
+    counts: Counter[str] = Counter()
+    with ThreadPoolExecutor(os.cpu_count()) as lanes:
+        for found in lanes.map(lambda rows: swept(refuser, rows), others):
+            counts += found
+    print(f"memory: {sum(map(len, others))} rows of calls: {counts.total()} requests, each refused in turn; "
+          f"{counts['whole']} of them with the next one, too; {counts['early']} before a row")
+    failing = [row for group in others for row in ["registry\t{} -> ok 0", *failing_rows(group)]]
+    granted(refuser, failing)
+    print(f"memory: {len(failing)} rows on reads and writes that fail in turn")
+    print(f"memory: {sum(ask_quiet(refuser, rows) for rows in quiet)} rows of calls that make no request")
+    print(f"memory: {KEYS_REQUEST} requests and more at 300 falling keys: {ask_falling(refuser, falling)}")
+
+
+if __name__ == "__main__":
+    try:
+        main(sys.argv[1])
+    except Failed as what:
+        sys.exit(f"memory: FAILED: {what}")
