@@ -11,7 +11,7 @@ use Rattle.bcs_decode_source.proofs.Going.{Refuses-whole}
 abbrev pub with_front : List ℕ → Read (List ℕ) → Read (List ℕ)
 with_front xs r = follow r (λ ys. give (xs ++ ys))
 
-bytes_split : (k n p m : ℕ) (b : List ℕ) → k ≤ n → bytes_here n p m b ≡ follow (bytes_here k p m b) (λ xs q l c. with_front xs (bytes_here (n - k) q l c))
+pub bytes_split : (k n p m : ℕ) (b : List ℕ) → k ≤ n → bytes_here n p m b ≡ follow (bytes_here k p m b) (λ xs q l c. with_front xs (bytes_here (n - k) q l c))
 unfolding bytes_here give
 bytes_split k n p m b h = elim (cases_lt (length b) k) [
   | inl short ↦ rw (lt-ltb (length b) k short, lt-ltb (length b) n (omega arith)) refl

@@ -5,7 +5,7 @@ use Rattle.std.proofs.lemmas.Bool.{le-ltb, lt-ltb, cases_lt}
 use Rattle.std.proofs.lemmas.List.{drop-drop, take_at, drop_at, length-take-le, append-nil, map_push}
 use Rattle.std.specs.Int.{byte_len, from_le_bytes, cast_signed}
 use Rattle.bcs_num.specs.Le.{width_of}
-use Rattle.bcs_num.specs.declared.width.Width.TheVariants.{W1, W2, W4, W8, W16}
+use Rattle.bcs_num.proofs.LeReading.{byte_len_within}
 use Rattle.bcs_registry_model.specs.Whole.{whole_len, whole_shape}
 use Rattle.bcs_registry_model.specs.declared.whole_number.WholeNumber.{WholeNumber}
 use Rattle.bcs_registry_model.specs.declared.whole_number.WholeNumber.TheVariants.{Unsigned, Signed}
@@ -154,17 +154,9 @@ numbers_none f n i vs c d p q lt none h =
 
 -- ---- the numbers of a block
 
-pub wide : (f : WholeNumber) → (0 < whole_len f) × (whole_len f ≤ 16)
-wide (Unsigned W1) = (omega arith, omega arith)
-wide (Unsigned W2) = (omega arith, omega arith)
-wide (Unsigned W4) = (omega arith, omega arith)
-wide (Unsigned W8) = (omega arith, omega arith)
-wide (Unsigned W16) = (omega arith, omega arith)
-wide (Signed W1) = (omega arith, omega arith)
-wide (Signed W2) = (omega arith, omega arith)
-wide (Signed W4) = (omega arith, omega arith)
-wide (Signed W8) = (omega arith, omega arith)
-wide (Signed W16) = (omega arith, omega arith)
+wide : (f : WholeNumber) → 0 < whole_len f
+wide (Unsigned w) = (byte_len_within (width_of w)).0
+wide (Signed w) = (byte_len_within (width_of w)).0
 
 -- the numbers so far, and those that the bytes left hold, are all
 abbrev pub PushedSoFar : WholeNumber → List Value → List ℕ → List Tree → Type 0
@@ -172,7 +164,7 @@ PushedSoFar f vs rest all = (k : ℕ) × (length rest ≡ k * whole_len f) × (m
 
 pub pushed_more : (f : WholeNumber) (vs : List Value) (rest : List ℕ) (all : List Tree) (v : Value) → whole_len f ≤ length rest → tree_of v ≡ number_of f (take (whole_len f) rest)
     → PushedSoFar f vs rest all → PushedSoFar f (vs ++ v ∷ []) (drop (whole_len f) rest) all
-pushed_more f vs rest all v long is (zero, left, whole) = absurd (let none : 0 * whole_len f ≡ 0 = omega arith in omega (arith, none, (wide f).0))
+pushed_more f vs rest all v long is (zero, left, whole) = absurd (let none : 0 * whole_len f ≡ 0 = omega arith in omega (arith, none, wide f))
 pushed_more f vs rest all v long is (suc k, left, whole) =
     let w = whole_len f in (
       k,

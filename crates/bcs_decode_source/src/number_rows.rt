@@ -1,18 +1,16 @@
 //! Lists of whole numbers from a source, in one loop.
 ghost use Rattle.std.specs.Prelude.{◌≡◌, ℕ, ◌*◌, ◌<◌, ◌≤◌, ◌++◌, ◌⊎◌, [], length, map, take, vec_capacity, OnOk, IfSome, None};
-ghost use Rattle.bcs_num.specs.Le.{width_of};
 ghost use Rattle.bcs_registry_model.specs.Whole.{whole_len, whole_shape};
 ghost use Rattle.bcs_value_model.specs.View.{items_trees, tree_of};
 ghost use Rattle.bcs_decode_source.specs.Numbers.{number_of, numbers};
 ghost use Rattle.bcs_decode_source.specs.Reads.{Ready, Reads, room_for};
 ghost use Rattle.bcs_decode_source.specs.Sees.{leaf_here, row_leaf};
-ghost use Rattle.std.specs.Int.{byte_len, from_le_bytes, cast_signed};
 
 use crate::bytes::read_exact;
 use crate::reader::Reader;
 use bcs_decode_spec::{DecodeFault, Reason, Stop};
 use bcs_io::ByteSource;
-use bcs_num::Width;
+use bcs_num::{front_signed, front_unsigned};
 use bcs_registry_model::WholeNumber;
 use bcs_value_model::Value;
 use std::alloc::AllocError;
@@ -86,32 +84,4 @@ fn front_number(format: WholeNumber, bytes: &[u8]) -> Option<Value>
         WholeNumber::Unsigned(width) => Some(Value::Unsigned(front_unsigned(width, bytes)?)),
         WholeNumber::Signed(width) => Some(Value::Signed(front_signed(width, bytes)?)),
     }
-}
-
-#[inline(always)]
-fn front_unsigned(width: Width, bytes: &[u8]) -> Option<u128>
-    ensures found { IfSome result (λ n. (byte_len (width_of width) ≤ length bytes.now) × (n ≡ from_le_bytes (width_of width) (take (byte_len (width_of width)) bytes.now))) }
-    ensures none { result ≡ None → length bytes.now < byte_len (width_of width) }
-{
-    Some(match width {
-        Width::W1 => u128::from(u8::from_le_bytes(*bytes.first_chunk()?)),
-        Width::W2 => u128::from(u16::from_le_bytes(*bytes.first_chunk()?)),
-        Width::W4 => u128::from(u32::from_le_bytes(*bytes.first_chunk()?)),
-        Width::W8 => u128::from(u64::from_le_bytes(*bytes.first_chunk()?)),
-        Width::W16 => u128::from_le_bytes(*bytes.first_chunk()?),
-    })
-}
-
-#[inline(always)]
-fn front_signed(width: Width, bytes: &[u8]) -> Option<i128>
-    ensures found { IfSome result (λ z. (byte_len (width_of width) ≤ length bytes.now) × (z ≡ cast_signed (width_of width) (from_le_bytes (width_of width) (take (byte_len (width_of width)) bytes.now)))) }
-    ensures none { result ≡ None → length bytes.now < byte_len (width_of width) }
-{
-    Some(match width {
-        Width::W1 => i128::from(i8::from_le_bytes(*bytes.first_chunk()?)),
-        Width::W2 => i128::from(i16::from_le_bytes(*bytes.first_chunk()?)),
-        Width::W4 => i128::from(i32::from_le_bytes(*bytes.first_chunk()?)),
-        Width::W8 => i128::from(i64::from_le_bytes(*bytes.first_chunk()?)),
-        Width::W16 => i128::from_le_bytes(*bytes.first_chunk()?),
-    })
 }

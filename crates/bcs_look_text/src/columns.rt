@@ -1,8 +1,7 @@
 //! Numbers and hexadecimal digits, and the blanks that make columns of them.
-ghost use Rattle.std.specs.Prelude.{◌≡◌, ◌+◌, ◌^◌, ◌++◌, ◌∷◌, [], List, ℕ, OnOk, decimal, length};
+ghost use Rattle.std.specs.Prelude.{◌≡◌, ◌++◌, ◌∷◌, [], List, ℕ, OnOk, decimal, length};
 ghost use Rattle.std.specs.Fmt.{signed_decimal};
 ghost use Rattle.std.specs.Int.{cast_signed};
-ghost use mir.Val.{bits};
 ghost use Rattle.hex.specs.Hex.{encode_lower};
 ghost use Rattle.bcs_num.specs.Le.{width_of};
 ghost use Rattle.bcs_look_text.specs.Columns.{blanks, left_in, right_in};
@@ -34,25 +33,12 @@ pub fn put_decimal(number: u128, out: &mut Vec<u8>) -> Result<(), AllocError>
 pub fn put_signed(width: Width, bits: u128, out: &mut Vec<u8>) -> Result<(), AllocError>
     ensures { OnOk result (out.new.items ≡ out.old.items ++ signed_decimal (cast_signed (width_of width) bits)) }
 {
-    let all_ones = all_ones(width);
+    let all_ones = width.greatest_unsigned();
     if bits <= all_ones / 2 {
         return put_decimal(bits, out);
     }
     out.push(b'-')?;
     put_decimal(all_ones.saturating_sub(bits) + 1, out)
-}
-
-/// The greatest number of so many bits.
-fn all_ones(width: Width) -> u128
-    ensures { result + 1 ≡ 2 ^ bits (width_of width) }
-{
-    match width {
-        Width::W1 => u128::from(u8::MAX),
-        Width::W2 => u128::from(u16::MAX),
-        Width::W4 => u128::from(u32::MAX),
-        Width::W8 => u128::from(u64::MAX),
-        Width::W16 => u128::MAX,
-    }
 }
 
 /// Appends a place by its decimal digits, at the right end of a column.

@@ -1,5 +1,5 @@
 //! Telling of what has no values inside. No step stands in the cycle of calls.
-ghost use Rattle.std.specs.Prelude.{◌≡◌, ℕ, ◌+◌, ◌-◌, ◌<◌, ◌≤◌, ◌^◌, IfOk, IfSome, None, length, take};
+ghost use Rattle.std.specs.Prelude.{◌≡◌, ℕ, ◌+◌, ◌-◌, ◌<◌, ◌≤◌, ◌^◌, IfOk, length, take};
 ghost use Rattle.bcs_decode_spec.specs.Reading.{bytes_here, items_here, skipping, text_here};
 ghost use Rattle.bcs_decode_slice.specs.Passing.{Passes, Onward, bytes_past, counted_here, flag_past, text_past, whole_here};
 ghost use Rattle.std.specs.Int.{byte_len, from_le_bytes, cast_signed};
@@ -19,7 +19,7 @@ use bcs_decode_slice::cursor::{Cursor, bytes, node, text};
 use bcs_decode_slice::shallow::{counted, flag_value};
 use bcs_decode_slice::whole_row::whole_row;
 use bcs_decode_spec::{Reason, Stop};
-use bcs_num::Width;
+use bcs_num::{Width, front_unsigned};
 
 /// The piece from here to where the cursor stands.
 #[inline(never)]
@@ -183,20 +183,6 @@ pub fn tell_bytes<T: Listener>(
             Err(stop)
         }
     }
-}
-
-/// The number at the front. `None`: there are fewer bytes than it has.
-fn front_unsigned(width: Width, bytes: &[u8]) -> Option<u128>
-    ensures found { IfSome result (λ n. (byte_len (width_of width) ≤ length bytes.now) × (n ≡ from_le_bytes (width_of width) (take (byte_len (width_of width)) bytes.now))) }
-    ensures none { result ≡ None → length bytes.now < byte_len (width_of width) }
-{
-    Some(match width {
-        Width::W1 => u128::from(u8::from_le_bytes(*bytes.first_chunk()?)),
-        Width::W2 => u128::from(u16::from_le_bytes(*bytes.first_chunk()?)),
-        Width::W4 => u128::from(u32::from_le_bytes(*bytes.first_chunk()?)),
-        Width::W8 => u128::from(u64::from_le_bytes(*bytes.first_chunk()?)),
-        Width::W16 => u128::from_le_bytes(*bytes.first_chunk()?),
-    })
 }
 
 /// The number that so many bytes are.
