@@ -1,4 +1,3 @@
-pub mod Common
 pub mod Combine
 pub mod Decodable
 pub mod Encoded

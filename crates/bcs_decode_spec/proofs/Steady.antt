@@ -1,6 +1,18 @@
 -- What later bytes change: where they stop for want of bytes.
-use Rattle.bcs_decode_spec.proofs.Common.{◌≡◌, ◌≢◌, ℕ, zero, suc, ◌+◌, ◌≤◌, List, [], ◌∷◌, ◌++◌, length, take, Option, Some, None, refl, sym, ap, ◌∙◌, append_assoc, arith, inl, inr, ◌⊎◌, length-append, byte_len, uleb, IsLongForm, IsTooLarge, Shape, Shapes, no_shapes, shape, Entries, Content, of, one_of, nothing, Choice, content_at, choice_at, Tree, Bounds, plain, plain_items, plain_pairs, Reason, EndOfInput, BadBool, BadOption, TooDeep, Unsupported, IsDecodable, Accepts, Stopping, NumberStop, LengthStop, AfterLength, BytesStop, TextStop, FlagStop, OptionStop, FailStop, NodeStop, ItemsStop, PairsStop, EntryStop, Misplaced, last_key, ShapeStop, EachStop, ChoiceStop, VariantStop, ContentStop, NamedStop, Stops, StopsAll}
+use Rattle.std.proofs.Common.{◌≡◌, ◌≢◌, ℕ, zero, suc, ◌+◌, ◌≤◌, List, [], ◌∷◌, ◌++◌, length, take, Option, Some, None, refl, sym, ap, ◌∙◌, append_assoc, arith, inl, inr, ◌⊎◌}
+use Rattle.std.proofs.lemmas.List.{length-append}
+use Rattle.std.specs.Int.{byte_len}
+use Rattle.bcs_num.specs.Uleb.{uleb, IsLongForm, IsTooLarge}
 use Rattle.bcs_registry_model.specs.Shape as shape
+use Rattle.bcs_registry_model.specs.Shape.{Shape, Shapes, no_shapes, shape}
+use Rattle.bcs_registry_model.specs.Container.{Entries, Content, of, one_of, nothing, Choice, content_at, choice_at}
+use Rattle.bcs_value_model.specs.Tree.{Tree}
+use Rattle.bcs_value_model.specs.Limits.{Bounds}
+use Rattle.bcs_encode_spec.specs.Plain.{plain, plain_items, plain_pairs}
+use Rattle.bcs_decode_spec.specs.declared.reason.Reason.{Reason}
+use Rattle.bcs_decode_spec.specs.declared.reason.Reason.TheVariants.{EndOfInput, BadBool, BadOption, TooDeep, Unsupported}
+use Rattle.bcs_decode_spec.specs.Accepting.{IsDecodable, Accepts}
+use Rattle.bcs_decode_spec.specs.Stopping.{Stopping, NumberStop, LengthStop, AfterLength, BytesStop, TextStop, FlagStop, OptionStop, FailStop, NodeStop, ItemsStop, PairsStop, EntryStop, Misplaced, last_key, ShapeStop, EachStop, ChoiceStop, VariantStop, ContentStop, NamedStop, Stops, StopsAll}
 use Rattle.bcs_decode_spec.specs.Laws.{VerdictIsStable}
 
 -- a stop for want of bytes is where they end, and any other stays when z comes after them

@@ -3,11 +3,12 @@ use Rattle.std.proofs.Common.{◌≡◌, ℕ, ◌+◌, ◌≤◌, true, cond, Li
 use Rattle.std.specs.List.{All, sum_by}
 use Rattle.std.specs.List.Sorted.{IsPermutation}
 use Rattle.std.specs.Str.{bytes_eq}
-use Rattle.bcs_encode_spec.proofs.Common.{cases_Bool, Below}
+use Rattle.std.proofs.lemmas.Bool.{cases_Bool}
 use Rattle.std.proofs.lemmas.List.Elements.{All-nil, All-cons, All-head, All-tail, All-weaker}
 use Rattle.std.proofs.lemmas.List.Sorted.{All-permutation, sum_by-IsPermutation}
 use Rattle.std.proofs.lemmas.List.Sums.{sum_by-cons}
 use Rattle.bcs_value_model.proofs.Equivalence.{bytes-same, bytes-refl}
+use Rattle.bcs_encode_spec.specs.Canonical.{Below}
 use Rattle.bcs_encode_spec.specs.Entries.{Keyed, EntriesRiseFrom, EntriesRise, HasTwins}
 use Rattle.bcs_encode_spec.proofs.BelowLaws.{Below-irrefl, Below-trans}
 

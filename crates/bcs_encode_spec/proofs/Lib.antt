@@ -1,4 +1,3 @@
-pub mod Common
 pub mod BelowLaws
 pub mod EntryOrder
 pub mod FormLaws

@@ -1,8 +1,14 @@
 -- Each tree is sound or refused, and refused for one reason alone.
 use Rattle.std.proofs.Common.{◌≡◌, Bool, true, false, leb, if◌then◌else◌, Option, Some, None, refl, sym, ◌∙◌, inl, inr, ◌⊎◌}
 use Rattle.std.proofs.lemmas.Bool.{cases_Bool, cases_lt, false≢true, false_from_ne_true, le-leb, lt-leb}
-use Rattle.bcs_encode_spec.proofs.Common.{Shape, Entries, of, Tree, depth, nodes, fits, distinct, Bounds, length_limit, lengths_hold}
+use Rattle.bcs_registry_model.specs.Shape.{Shape}
+use Rattle.bcs_registry_model.specs.Container.{Entries, of}
+use Rattle.bcs_value_model.specs.Tree.{Tree, depth, nodes}
+use Rattle.bcs_value_model.specs.Fits.{fits}
+use Rattle.bcs_value_model.specs.Same.{distinct}
+use Rattle.bcs_value_model.specs.Limits.{Bounds}
 use Rattle.bcs_value_model.proofs.Loosening.{strictly_then_loosely}
+use Rattle.bcs_encode_spec.specs.Lengths.{length_limit, lengths_hold}
 use Rattle.bcs_encode_spec.specs.Sound.{IsSound}
 use Rattle.bcs_encode_spec.specs.Refused.{Refuses}
 use Rattle.bcs_encode_spec.specs.Laws.{OneRefusal, RefusedOrSound}

@@ -7,17 +7,28 @@ use Rattle.std.specs.Fn.{Called, ComparesAs}
 use denote.Ref.{Bor}
 use denote.Param.Members.{Mut}
 use Rattle.std.proofs.lemmas.Fn.{always_returns_same}
-use Rattle.bcs_encode_spec.proofs.Common.{nat_cmp, is_lt, Ordering, Less, Equal, Greater, and_parts, and_from, cases_Bool, false_from_ne_true, uleb, Shape, Entries, Content, of, fits, pairs_fit, same, all_pairs, distinct, pairs_distinct, plain, plain_pairs, Rises, RisesFrom, form_of, pairs_form, place, insert}
+use Rattle.std.specs.Ordering.{nat_cmp, is_lt}
+use Rattle.std.specs.declared.cmp.Ordering.{Ordering}
+use Rattle.std.specs.declared.cmp.Ordering.TheVariants.{Less, Equal, Greater}
 use Rattle.std.specs.Cmp.Lexicographic.{slice_cmp, nat_list_cmp_total}
+use Rattle.std.proofs.lemmas.Bool.{and_parts, and_from, cases_Bool, false_from_ne_true}
 use Rattle.std.proofs.lemmas.List.Sorted.{IsPermutation-sym, ranks_by}
 use Rattle.std.proofs.lemmas.List.Sums.{sum_by-cons}
+use Rattle.bcs_num.specs.Uleb.{uleb}
+use Rattle.bcs_registry_model.specs.Shape.{Shape}
 use Rattle.bcs_registry_model.specs.Shape as shape
+use Rattle.bcs_registry_model.specs.Container.{Entries, Content, of}
 use Rattle.bcs_value_model.specs.Tree.{Tree, pairs, Pairs, no_pairs, pair}
+use Rattle.bcs_value_model.specs.Fits.{fits, pairs_fit}
+use Rattle.bcs_value_model.specs.Same.{same, all_pairs, distinct, pairs_distinct}
 use Rattle.bcs_value_model.proofs.Equivalence.{same-sym, same-trans}
+use Rattle.bcs_encode_spec.specs.Plain.{plain, plain_pairs}
+use Rattle.bcs_encode_spec.specs.Canonical.{Rises, RisesFrom}
 use Rattle.bcs_encode_spec.specs.Entries.{HasBytes, Entry, entry_bytes, EntriesOf, EntriesRiseFrom, EntriesRise, HasTwins, SortedEntries, TwinsRepeat}
 use Rattle.bcs_encode_spec.proofs.BelowLaws.{order, not_below}
 use Rattle.bcs_encode_spec.proofs.EntryOrder.{one, one_same, Once, rising_once, twins_twice, once_moved, In, moved, rising_alike}
 use Rattle.bcs_encode_spec.proofs.UniqueForms.{canonical_same}
+use Rattle.bcs_encode_spec.specs.FormOf.{form_of, pairs_form, place, insert}
 use Rattle.bcs_encode_spec.proofs.FormOf.{insert_fold, same-form_of, fits-form_of, pair_count-pairs_form, form_is_canonical, pairs_form_is_canonical}
 use Rattle.bcs_encode_spec.proofs.FormLaws.{form_of_is_form, form_is_form_of}
 

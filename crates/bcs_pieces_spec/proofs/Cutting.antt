@@ -1,9 +1,15 @@
 -- The pieces of a value cut its bytes.
 use Rattle.std.proofs.Common.{◌≡◌, ℕ, ◌+◌, Bool, true, false, if◌then◌else◌, List, [], ◌∷◌, ◌++◌, length, refl, sym, ap, ap₂, subst, ◌∙◌, append-nil, append_assoc, arith}
-use Rattle.bcs_decode_spec.proofs.Common.{length-append, uleb, le, le_signed, Shape, Shapes, no_shapes, shape, Entries, Field, field_shapes, Tree, Trees, no_trees, tree, Pairs, no_pairs, pair, count, pair_count, plain, plain_items, plain_each, plain_pairs, truth_byte}
+use Rattle.std.proofs.lemmas.List.{length-append}
+use Rattle.bcs_num.specs.Uleb.{uleb}
+use Rattle.bcs_num.specs.Le.{le, le_signed}
 use Rattle.bcs_registry_model.specs.Shape as shape
+use Rattle.bcs_registry_model.specs.Shape.{Shape, Shapes, no_shapes, shape}
 use Rattle.bcs_registry_model.specs.Container as container
+use Rattle.bcs_registry_model.specs.Container.{Entries, Field, field_shapes}
 use Rattle.bcs_value_model.specs.Tree as tree
+use Rattle.bcs_value_model.specs.Tree.{Tree, Trees, no_trees, tree, Pairs, no_pairs, pair, count, pair_count}
+use Rattle.bcs_encode_spec.specs.Plain.{plain, plain_items, plain_each, plain_pairs, truth_byte}
 use Rattle.bcs_pieces_spec.specs.Way.{Way, onto, item, field, inner, opening, variant, key, value}
 use Rattle.bcs_pieces_spec.specs.Piece as piece
 use Rattle.bcs_pieces_spec.specs.Piece.{Piece, Meaning, piece_at, pieces_bytes, Adjoin, Filled, Cut, counted, octets, text_bytes, raw_bytes, elements, entries}

@@ -1,6 +1,8 @@
 -- What was looked up is what a `Content` says, without the names of fields.
-use Rattle.bcs_decode_spec.proofs.Common.{◌≡◌, ℕ, List, Option, Some, None, refl, option_map_or, Entries, Payload, Choice, Container, container_at, choice_numbered, content_at, choice_at, content, payload_shape}
+use Rattle.std.proofs.Common.{◌≡◌, ℕ, List, Option, Some, None, refl}
+use Rattle.std.specs.Option.{option_map_or}
 use Rattle.bcs_registry_model.specs.Container as container
+use Rattle.bcs_registry_model.specs.Container.{Entries, Payload, Choice, Container, container_at, choice_numbered, content_at, choice_at, content, payload_shape}
 use Rattle.bcs_pieces_spec.specs.Held.{nothing, held, carried, held_at, carried_at, unnamed}
 
 unnamed_held : (k : Container) → unnamed (held k) ≡ content k

@@ -1,7 +1,15 @@
 -- Going past a value that stands at the front.
-use Rattle.bcs_decode_spec.proofs.Common.{◌≡◌, ℕ, ◌+◌, ◌-◌, Option, Some, None, List, ◌++◌, length, take, Ok, Err, refl, ap, ap₂, ◌∙◌, append_assoc, arith, length-append, take_at, Shape, Entries, of, Tree, Trees, no_trees, tree, nodes, trees_nodes, count, plain, plain_items, Parser, chain, give, key_after, key_here, items_here, value_here, building, skipping, IsDecodable, AllAre, Follows, ShapeStop, NamedStop}
+use Rattle.std.proofs.Common.{◌≡◌, ℕ, ◌+◌, ◌-◌, Option, Some, None, List, ◌++◌, length, take, Ok, Err, refl, ap, ap₂, ◌∙◌, append_assoc, arith}
+use Rattle.std.proofs.lemmas.List.{length-append, take_at}
+use Rattle.bcs_registry_model.specs.Shape.{Shape}
+use Rattle.bcs_registry_model.specs.Container.{Entries, of}
+use Rattle.bcs_value_model.specs.Tree.{Tree, Trees, no_trees, tree, nodes, trees_nodes, count}
+use Rattle.bcs_encode_spec.specs.Plain.{plain, plain_items}
 use Rattle.bcs_encode_spec.proofs.BelowLaws.{below_less}
+use Rattle.bcs_decode_spec.specs.Reading.{Parser, chain, give, key_after, key_here, items_here, value_here, building, skipping}
 use Rattle.bcs_decode_spec.specs.declared.reason.Reason.{Reason}
+use Rattle.bcs_decode_spec.specs.Accepting.{IsDecodable}
+use Rattle.bcs_decode_spec.specs.Stopping.{AllAre, Follows, ShapeStop, NamedStop}
 use Rattle.bcs_decode_spec.proofs.Skipped.{mapped, forget, forgets, mapped_value}
 use Rattle.bcs_decode_spec.proofs.Values.{exact_value}
 

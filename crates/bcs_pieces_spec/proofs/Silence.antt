@@ -1,6 +1,13 @@
 -- Of a value that has no bytes nothing is told, wherever it stands with the nodes that it has.
-use Rattle.bcs_decode_spec.proofs.Common.{◌≡◌, ◌≤◌, ◌<◌, ℕ, ◌+◌, ◌-◌, List, [], ◌∷◌, ◌++◌, length, Ok, Err, refl, sym, ap, ◌∙◌, arith, length-append, All-nil, Shape, Entries, Tree, nodes, plain, Read, value_here, building, skipping}
+use Rattle.std.proofs.Common.{◌≡◌, ◌≤◌, ◌<◌, ℕ, ◌+◌, ◌-◌, List, [], ◌∷◌, ◌++◌, length, Ok, Err, refl, sym, ap, ◌∙◌, arith}
+use Rattle.std.proofs.lemmas.List.{length-append}
+use Rattle.std.proofs.lemmas.List.Elements.{All-nil}
+use Rattle.bcs_registry_model.specs.Shape.{Shape}
 use Rattle.bcs_registry_model.specs.Container as container
+use Rattle.bcs_registry_model.specs.Container.{Entries}
+use Rattle.bcs_value_model.specs.Tree.{Tree, nodes}
+use Rattle.bcs_encode_spec.specs.Plain.{plain}
+use Rattle.bcs_decode_spec.specs.Reading.{Read, value_here, building, skipping}
 use Rattle.bcs_decode_spec.proofs.Skipped.{mapped, forget, forgets, mapped_value}
 use Rattle.bcs_decode_spec.proofs.Values.{exact_value}
 use Rattle.bcs_pieces_spec.specs.Way.{Way}

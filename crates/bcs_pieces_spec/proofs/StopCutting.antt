@@ -1,8 +1,17 @@
 -- The pieces before a stop cut a front of the bytes.
-use Rattle.bcs_decode_spec.proofs.Common.{◌≡◌, ℕ, zero, suc, ◌+◌, Bool, true, false, if◌then◌else◌, inl, inr, Option, Some, None, List, [], ◌∷◌, ◌++◌, length, refl, sym, ap, ◌∙◌, append_assoc, option_map_or, uleb, Shape, Shapes, no_shapes, shape, Entries, Field, Payload, Choice, Container, container_at, choice_numbered, content, payload_shape, field_shapes, Tree, count, pair_count, Bounds, plain, plain_items, plain_pairs, IsDecodable, Stopping, AfterLength, TextStop, BytesStop, OptionStop, NodeStop, ItemsStop, EntryStop, PairsStop, ShapeStop, EachStop, ChoiceStop, VariantStop, ContentStop, NamedStop, Stops, last_key}
+use Rattle.std.proofs.Common.{◌≡◌, ℕ, zero, suc, ◌+◌, Bool, true, false, if◌then◌else◌, inl, inr, Option, Some, None, List, [], ◌∷◌, ◌++◌, length, refl, sym, ap, ◌∙◌, append_assoc}
+use Rattle.std.specs.Option.{option_map_or}
+use Rattle.bcs_num.specs.Uleb.{uleb}
 use Rattle.bcs_registry_model.specs.Shape as shape
+use Rattle.bcs_registry_model.specs.Shape.{Shape, Shapes, no_shapes, shape}
 use Rattle.bcs_registry_model.specs.Container as container
+use Rattle.bcs_registry_model.specs.Container.{Entries, Field, Payload, Choice, Container, container_at, choice_numbered, content, payload_shape, field_shapes}
+use Rattle.bcs_value_model.specs.Tree.{Tree, count, pair_count}
+use Rattle.bcs_value_model.specs.Limits.{Bounds}
+use Rattle.bcs_encode_spec.specs.Plain.{plain, plain_items, plain_pairs}
 use Rattle.bcs_decode_spec.specs.declared.reason.Reason.{Reason}
+use Rattle.bcs_decode_spec.specs.Accepting.{IsDecodable}
+use Rattle.bcs_decode_spec.specs.Stopping.{Stopping, AfterLength, TextStop, BytesStop, OptionStop, NodeStop, ItemsStop, EntryStop, PairsStop, ShapeStop, EachStop, ChoiceStop, VariantStop, ContentStop, NamedStop, Stops, last_key}
 use Rattle.bcs_pieces_spec.specs.Way.{Way, onto, item, field, inner, opening, variant, key, value}
 use Rattle.bcs_pieces_spec.specs.Piece.{Piece, Counted, Cut, CutsFront, piece_at, counted, option, chosen, text_bytes, raw_bytes, elements, entries}
 use Rattle.bcs_pieces_spec.specs.Told as wanted

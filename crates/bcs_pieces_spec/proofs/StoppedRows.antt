@@ -1,7 +1,15 @@
 -- What is told before a stop, of values in a row.
-use Rattle.bcs_decode_spec.proofs.Common.{◌≡◌, ◌<◌, ℕ, zero, suc, ◌+◌, Bool, true, false, if◌then◌else◌, inl, inr, Option, Some, None, List, [], ◌∷◌, ◌++◌, length, Err, refl, sym, ap, ap₂, ◌∙◌, append_assoc, arith, length-append, Shape, Entries, Tree, Trees, no_trees, tree, Pairs, no_pairs, pair, count, pair_count, nodes, trees_nodes, pairs_nodes, plain, plain_items, plain_pairs, IsDecodable, chain, give, key_here, items_here, skipping, Stopping, AllAre, AllRise, ItemsStop, PairsStop, EntryStop, ShapeStop, NamedStop, last_key}
+use Rattle.std.proofs.Common.{◌≡◌, ◌<◌, ℕ, zero, suc, ◌+◌, Bool, true, false, if◌then◌else◌, inl, inr, Option, Some, None, List, [], ◌∷◌, ◌++◌, length, Err, refl, sym, ap, ap₂, ◌∙◌, append_assoc, arith}
+use Rattle.std.proofs.lemmas.List.{length-append}
+use Rattle.bcs_registry_model.specs.Shape.{Shape}
 use Rattle.bcs_registry_model.specs.Container as container
+use Rattle.bcs_registry_model.specs.Container.{Entries}
+use Rattle.bcs_value_model.specs.Tree.{Tree, Trees, no_trees, tree, Pairs, no_pairs, pair, count, pair_count, nodes, trees_nodes, pairs_nodes}
+use Rattle.bcs_encode_spec.specs.Plain.{plain, plain_items, plain_pairs}
 use Rattle.bcs_decode_spec.specs.declared.reason.Reason.{Reason}
+use Rattle.bcs_decode_spec.specs.Accepting.{IsDecodable}
+use Rattle.bcs_decode_spec.specs.Reading.{chain, give, key_here, items_here, skipping}
+use Rattle.bcs_decode_spec.specs.Stopping.{Stopping, AllAre, AllRise, ItemsStop, PairsStop, EntryStop, ShapeStop, NamedStop, last_key}
 use Rattle.bcs_pieces_spec.specs.Way.{Way, onto, item, key, value}
 use Rattle.bcs_pieces_spec.specs.Told as wanted
 use Rattle.bcs_pieces_spec.specs.Told.{Told, halt, as_told, halted, behind, halt_told}

@@ -1,9 +1,19 @@
 -- What is told before a stop are the pieces that stand before it.
-use Rattle.bcs_decode_spec.proofs.Common.{◌≡◌, ℕ, zero, suc, ◌+◌, ◌-◌, true, if◌then◌else◌, inl, inr, Option, Some, None, List, [], ◌∷◌, ◌++◌, length, take, refl, sym, ap, ap₂, ◌∙◌, arith, take_at, option_map_or, uleb, Shape, Shapes, no_shapes, shape, Entries, Field, Payload, Choice, Container, container_at, choice_numbered, content, payload_shape, field_shapes, nodes, Bounds, plain, number_here, bytes_here, text_here, flag_here, unsigned_here, signed_here, length_here, Stopping, NodeStop, TextStop, BytesStop, FlagStop, OptionStop, AfterLength, ShapeStop, EachStop, ChoiceStop, VariantStop, ContentStop, NamedStop, Stops}
+use Rattle.std.proofs.Common.{◌≡◌, ℕ, zero, suc, ◌+◌, ◌-◌, true, if◌then◌else◌, inl, inr, Option, Some, None, List, [], ◌∷◌, ◌++◌, length, take, refl, sym, ap, ap₂, ◌∙◌, arith}
+use Rattle.std.proofs.lemmas.List.{take_at}
+use Rattle.std.specs.Option.{option_map_or}
+use Rattle.bcs_num.specs.Uleb.{uleb}
 use Rattle.bcs_registry_model.specs.Shape as shape
+use Rattle.bcs_registry_model.specs.Shape.{Shape, Shapes, no_shapes, shape}
 use Rattle.bcs_registry_model.specs.Container as container
+use Rattle.bcs_registry_model.specs.Container.{Entries, Field, Payload, Choice, Container, container_at, choice_numbered, content, payload_shape, field_shapes}
+use Rattle.bcs_value_model.specs.Tree.{nodes}
+use Rattle.bcs_value_model.specs.Limits.{Bounds}
+use Rattle.bcs_encode_spec.specs.Plain.{plain}
 use Rattle.bcs_decode_spec.specs.declared.reason.Reason.{Reason}
 use Rattle.bcs_decode_spec.specs.declared.reason.Reason.TheVariants.{BadBool, BadOption}
+use Rattle.bcs_decode_spec.specs.Reading.{number_here, bytes_here, text_here, flag_here, unsigned_here, signed_here, length_here}
+use Rattle.bcs_decode_spec.specs.Stopping.{Stopping, NodeStop, TextStop, BytesStop, FlagStop, OptionStop, AfterLength, ShapeStop, EachStop, ChoiceStop, VariantStop, ContentStop, NamedStop, Stops}
 use Rattle.bcs_decode_spec.proofs.Numbers.{exact_number, exact_bytes, exact_text, exact_flag, exact_unsigned, exact_signed}
 use Rattle.bcs_pieces_spec.specs.Way.{Way, onto, item, field, inner, opening, variant}
 use Rattle.bcs_pieces_spec.specs.Piece as piece

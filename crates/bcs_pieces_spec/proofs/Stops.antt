@@ -1,8 +1,11 @@
 -- What is told before a stop, of bytes that are read one after another.
 use Rattle.std.proofs.Common.{◌≡◌, ℕ, zero, suc, ◌+◌, ◌-◌, inl, inr, Option, Some, None, List, [], ◌∷◌, ◌++◌, length, take, Ok, Err, refl, ap, ap₂, ◌∙◌, sym, append-nil, arith}
-use Rattle.bcs_decode_spec.proofs.Common.{take_at, uleb, Parser, fail, length_here, key_after, key_here, Stopping, AfterLength, NodeStop, Misplaced}
+use Rattle.std.proofs.lemmas.List.{take_at}
+use Rattle.bcs_num.specs.Uleb.{uleb}
 use Rattle.bcs_encode_spec.proofs.BelowLaws.{same_equal, below_greater}
 use Rattle.bcs_decode_spec.specs.declared.reason.Reason.{Reason}
+use Rattle.bcs_decode_spec.specs.Reading.{Parser, fail, length_here, key_after, key_here}
+use Rattle.bcs_decode_spec.specs.Stopping.{Stopping, AfterLength, NodeStop, Misplaced}
 use Rattle.bcs_decode_spec.proofs.Numbers.{exact_length}
 use Rattle.bcs_pieces_spec.specs.Way.{Way}
 use Rattle.bcs_pieces_spec.specs.Told as wanted

@@ -1,6 +1,7 @@
 -- What is told of bytes that are read one after another.
 use Rattle.std.proofs.Common.{◌≡◌, ℕ, suc, ◌+◌, ◌-◌, Option, List, [], ◌∷◌, ◌++◌, length, take, Ok, Err, append-nil, refl, sym, ap, ap₂, ◌∙◌, append_assoc, arith}
-use Rattle.bcs_decode_spec.proofs.Common.{take_at, Parser, key_here}
+use Rattle.std.proofs.lemmas.List.{take_at}
+use Rattle.bcs_decode_spec.specs.Reading.{Parser, key_here}
 use Rattle.bcs_decode_spec.specs.declared.reason.Reason.{Reason}
 use Rattle.bcs_pieces_spec.specs.Way.{Way}
 use Rattle.bcs_pieces_spec.specs.Piece.{Piece, Meaning, piece_at}

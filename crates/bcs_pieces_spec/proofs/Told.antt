@@ -1,11 +1,28 @@
 -- What is told at a value's bytes are its pieces.
-use Rattle.bcs_decode_spec.proofs.Common.{◌≡◌, ℕ, zero, suc, ◌+◌, ◌-◌, ◌^◌, nat_le, ◌==◌, Bool, true, false, if◌then◌else◌, Option, Some, None, List, [], ◌∷◌, ◌++◌, length, take, drop, refl, sym, ap, ap₂, subst, ◌∙◌, append_assoc, arith, and_parts, leb-true, ltb-true, false≢true, take_at, take-append-drop, Width, option_map_or, uleb, le, le_signed, Shape, Shapes, no_shapes, shape, Entries, Field, Payload, Choice, Container, Content, container_at, choice_numbered, content, content_at, choice_at, payload_shape, field_shapes, Tree, Trees, no_trees, tree, count, pair_count, nodes, trees_nodes, pairs_nodes, all_fit, Bounds, nat-same, number_fits, payload_fits, plain, plain_items, plain_each, plain_pairs, truth_byte, length_limit, all_hold, pairs_hold, IsDecodable, Accepts, length_here, bytes_here, text_here, flag_here, unsigned_here, signed_here}
+use Rattle.std.proofs.Common.{◌≡◌, ℕ, zero, suc, ◌+◌, ◌-◌, ◌^◌, nat_le, ◌==◌, Bool, true, false, if◌then◌else◌, Option, Some, None, List, [], ◌∷◌, ◌++◌, length, take, drop, refl, sym, ap, ap₂, subst, ◌∙◌, append_assoc, arith}
+use Rattle.std.proofs.lemmas.Bool.{and_parts, leb-true, ltb-true, false≢true}
+use Rattle.std.proofs.lemmas.List.{take_at, take-append-drop}
+use Rattle.std.specs.Int.{Width}
 use mir.Val.{bits}
+use Rattle.std.specs.Option.{option_map_or}
+use Rattle.bcs_num.specs.Uleb.{uleb}
+use Rattle.bcs_num.specs.Le.{le, le_signed}
 use Rattle.bcs_num.proofs.Ranges.{holds_signed-is}
 use Rattle.bcs_registry_model.specs.Shape as shape
+use Rattle.bcs_registry_model.specs.Shape.{Shape, Shapes, no_shapes, shape}
 use Rattle.bcs_registry_model.specs.Container as container
+use Rattle.bcs_registry_model.specs.Container.{Entries, Field, Payload, Choice, Container, Content, container_at, choice_numbered, content, content_at, choice_at, payload_shape, field_shapes}
 use Rattle.bcs_value_model.specs.Tree as tree
+use Rattle.bcs_value_model.specs.Tree.{Tree, Trees, no_trees, tree, count, pair_count, nodes, trees_nodes, pairs_nodes}
+use Rattle.bcs_value_model.specs.Fits.{all_fit}
+use Rattle.bcs_value_model.specs.Limits.{Bounds}
+use Rattle.bcs_value_model.proofs.Equivalence.{nat-same}
+use Rattle.bcs_value_model.proofs.VariantFits.{number_fits, payload_fits}
+use Rattle.bcs_encode_spec.specs.Plain.{plain, plain_items, plain_each, plain_pairs, truth_byte}
+use Rattle.bcs_encode_spec.specs.Lengths.{length_limit, all_hold, pairs_hold}
 use Rattle.bcs_decode_spec.specs.declared.reason.Reason.TheVariants.{BadBool, BadOption}
+use Rattle.bcs_decode_spec.specs.Accepting.{IsDecodable, Accepts}
+use Rattle.bcs_decode_spec.specs.Reading.{length_here, bytes_here, text_here, flag_here, unsigned_here, signed_here}
 use Rattle.bcs_decode_spec.proofs.Numbers.{exact_number, exact_length, exact_bytes, exact_text, exact_flag, exact_unsigned, exact_signed}
 use Rattle.bcs_decode_spec.proofs.Decodable.{decodable, EachIs, is_each, are_items, are_pairs}
 use Rattle.bcs_pieces_spec.specs.Way.{Way, onto, item, field, inner, opening, variant}

@@ -1,6 +1,13 @@
 -- What is told of values in a row, at the bytes that they have.
-use Rattle.bcs_decode_spec.proofs.Common.{◌≡◌, ℕ, ◌+◌, Bool, true, false, if◌then◌else◌, Option, Some, List, ◌++◌, length, refl, arith, Shape, Entries, Tree, Trees, no_trees, tree, Pairs, no_pairs, pair, count, pair_count, nodes, trees_nodes, pairs_nodes, plain, plain_items, plain_pairs, IsDecodable, key_here, items_here, skipping, AllAre, AllRise}
+use Rattle.std.proofs.Common.{◌≡◌, ℕ, ◌+◌, Bool, true, false, if◌then◌else◌, Option, Some, List, ◌++◌, length, refl, arith}
+use Rattle.bcs_registry_model.specs.Shape.{Shape}
 use Rattle.bcs_registry_model.specs.Container as container
+use Rattle.bcs_registry_model.specs.Container.{Entries}
+use Rattle.bcs_value_model.specs.Tree.{Tree, Trees, no_trees, tree, Pairs, no_pairs, pair, count, pair_count, nodes, trees_nodes, pairs_nodes}
+use Rattle.bcs_encode_spec.specs.Plain.{plain, plain_items, plain_pairs}
+use Rattle.bcs_decode_spec.specs.Accepting.{IsDecodable}
+use Rattle.bcs_decode_spec.specs.Reading.{key_here, items_here, skipping}
+use Rattle.bcs_decode_spec.specs.Stopping.{AllAre, AllRise}
 use Rattle.bcs_pieces_spec.specs.Way.{Way, onto, item, key, value}
 use Rattle.bcs_pieces_spec.specs.Piece.{piece_at, octets}
 use Rattle.bcs_pieces_spec.specs.Told as wanted

@@ -1,9 +1,12 @@
 -- What the definitions say of some values, by computation.
-use Rattle.bcs_decode_spec.proofs.Common.{◌≡◌, ℕ, true, List, [], ◌∷◌, codes, refl, w8, w16, uleb, no_trees, no_pairs, pair}
+use Rattle.std.proofs.Common.{◌≡◌, ℕ, true, List, [], ◌∷◌, codes, refl}
+use Rattle.std.specs.Int.{w8, w16}
+use Rattle.bcs_num.specs.Uleb.{uleb}
 use Rattle.bcs_num.specs.Le as le_file
 use Rattle.bcs_registry_model.specs.Shape as shape
 use Rattle.bcs_registry_model.specs.Container.{Entries, enumeration, fields}
 use Rattle.bcs_value_model.specs.Tree as tree
+use Rattle.bcs_value_model.specs.Tree.{no_trees, no_pairs, pair}
 use Rattle.bcs_pieces_spec.specs.Way.{Way, item, field, inner, opening, variant, key, value}
 use Rattle.bcs_pieces_spec.specs.Piece.{Piece, Meaning, truth, unsigned, counted, octets, option, chosen, text_bytes, elements, entries}
 use Rattle.bcs_pieces_spec.specs.Held.{of}
