@@ -28,6 +28,8 @@ NO_MEMORY = ("out of memory", "OutOfMemory", '4 ""fault: memory')
 # The status of a program that ends with an error.
 ENDED = 1
 KEYS_REQUEST = 100
+# As many ranges as an environment holds.
+RANGES = 5000
 
 
 class Run(NamedTuple):
@@ -44,6 +46,10 @@ class Failed(Exception):
 
 def runs(refuser: str, rows: list[str], ranges: list[str]) -> list[Run]:
     """A run over the rows for each range of requests, which are refused."""
+    return [run for first in range(0, len(ranges), RANGES) for run in runs_of(refuser, rows, ranges[first : first + RANGES])]
+
+
+def runs_of(refuser: str, rows: list[str], ranges: list[str]) -> list[Run]:
     with tempfile.TemporaryFile() as given, tempfile.TemporaryFile() as put:
         given.write("".join(f"{row.partition(' -> ')[0]}\n" for row in rows).encode())
         given.seek(0)

@@ -29,7 +29,7 @@ pub(crate) fn answer(
         return Err(RowFault::NotUnderstood);
     };
     let limits: &[&str] = match question {
-        "deep" | "write" => &[],
+        "deep" | "write" => &more[..0],
         _ => more,
     };
     let asked = Question::read(alloc, &setting.registry, format, limits)?;
@@ -234,9 +234,9 @@ fn is_printed(
         limits,
     } = question;
     let printed = print_value(alloc, registry, format, limits, value);
-    match (granted(printed, PrintFault::OutOfMemory)?, refused) {
-        (Ok(_) | Err(PrintFault::TooNested), None) => Ok(true),
-        (Err(fault), Some(refused)) => Ok(fault == PrintFault::from(refused)),
-        _ => Ok(false),
+    let fault = granted(printed, PrintFault::OutOfMemory)?.err();
+    match refused {
+        Some(refused) => Ok(fault == Some(PrintFault::from(refused))),
+        None => Ok(fault.is_none() || fault == Some(PrintFault::TooNested)),
     }
 }

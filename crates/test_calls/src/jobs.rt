@@ -49,20 +49,29 @@ fn words_of(alloc: Global, arguments: &[&str]) -> Result<Vec<String>, AllocError
 
 // The job of a command's words without options, and its limits behind them.
 fn work_of(alloc: Global, words: &[&str]) -> Result<Work, RowFault> {
-    let (command, [registry, format, second, path], limits) = match words {
-        ["check", registry] => (Command::Check, [*registry, "", "", ""], &words[..0]),
-        ["grows", older, newer] => (Command::Grows, [*older, "", *newer, ""], &words[..0]),
+    match words {
+        ["check", registry] => work(alloc, Command::Check, registry, ["", "", ""], &[]),
+        ["grows", older, newer] => work(alloc, Command::Grows, older, ["", newer, ""], &[]),
         ["same", registry, format, text, limits @ ..] => {
-            (Command::Same, [*registry, *format, *text, ""], limits)
+            work(alloc, Command::Same, registry, [format, text, ""], limits)
         }
         ["part", registry, format, path, limits @ ..] => {
-            (Command::Part, [*registry, *format, "", *path], limits)
+            work(alloc, Command::Part, registry, [format, "", path], limits)
         }
         [name, registry, format, limits @ ..] => {
-            (command_of(name)?, [*registry, *format, "", ""], limits)
+            work(alloc, command_of(name)?, registry, [format, "", ""], limits)
         }
-        _ => return Err(RowFault::NotUnderstood),
-    };
+        _ => Err(RowFault::NotUnderstood),
+    }
+}
+
+fn work(
+    alloc: Global,
+    command: Command,
+    registry: &str,
+    [format, second, path]: [&str; 3],
+    limits: &[&str],
+) -> Result<Work, RowFault> {
     let Some(limits) = limits_of(limits) else {
         return Err(RowFault::NotUnderstood);
     };

@@ -110,10 +110,15 @@ fn judged(
 ) -> Result<Judged, RowFault> {
     let scanned = granted(scanned, DecodeFault::OutOfMemory)?;
     let decoded = granted(decoded, DecodeFault::OutOfMemory)?;
-    match (scanned, decoded) {
-        (Ok(length), Ok(value)) => Ok(Ok((value, length))),
-        (Err(one), Err(other)) if one == other => Ok(Err(one)),
-        _ => Err(RowFault::Disagreement("scanning")),
+    match decoded {
+        Ok(value) => match scanned {
+            Ok(length) => Ok(Ok((value, length))),
+            Err(_) => Err(RowFault::Disagreement("scanning")),
+        },
+        Err(fault) => {
+            agree(scanned == Err(fault), "scanning")?;
+            Ok(Err(fault))
+        }
     }
 }
 

@@ -26,7 +26,7 @@ pub(crate) fn answer(
     };
     let limits: &[&str] = match question {
         "json" | "text" => more,
-        _ => &[],
+        _ => &more[..0],
     };
     let asked = Question::read(alloc, &setting.registry, format, limits)?;
     match (question, more) {
@@ -43,20 +43,37 @@ pub(crate) fn answer(
 
 // The bytes and the normal text of what the text denotes, or the fault, for which every call refuses the text.
 fn meant(alloc: Global, question: &Question, text: &[u8]) -> Result<String, RowFault> {
-    let bytes = bytes_of(alloc, question, text)?;
-    let normal = normal_of(alloc, question, text)?;
-    let value = value_of(alloc, question, text)?;
-    match (bytes, normal, value) {
-        (Ok(bytes), Ok(normal), Ok(value)) => {
-            agree_on(alloc, question, &value, &bytes, &normal)?;
+    match bytes_of(alloc, question, text)? {
+        Ok(bytes) => {
+            let normal = accepted(alloc, question, text, &bytes)?;
             let word = word_of(alloc, &bytes)?;
             Ok(format!(in alloc; "{word} {normal}")?)
         }
-        (Err(fault), Err(other), Err(third)) if fault == other && fault == third => {
+        Err(fault) => {
+            let other = normal_of(alloc, question, text)?.err();
+            agree(other == Some(fault), "normalise")?;
+            let other = value_of(alloc, question, text)?.err();
+            agree(other == Some(fault), "read_value")?;
             Ok(format!(in alloc; "{fault}")?)
         }
-        _ => Err(RowFault::Disagreement("read_value")),
     }
+}
+
+// The normal text of what has these bytes.
+fn accepted(
+    alloc: Global,
+    question: &Question,
+    text: &[u8],
+    bytes: &[u8],
+) -> Result<String, RowFault> {
+    let Ok(normal) = normal_of(alloc, question, text)? else {
+        return Err(RowFault::Disagreement("normalise"));
+    };
+    let Ok(value) = value_of(alloc, question, text)? else {
+        return Err(RowFault::Disagreement("read_value"));
+    };
+    agree_on(alloc, question, &value, bytes, &normal)?;
+    Ok(normal)
 }
 
 // The normal text has the same bytes, and is its own normal text; and so the value and the bytes are printed.
