@@ -4,3 +4,4 @@ pub mod PrintedRows
 pub mod Places
 pub mod SentRows
 pub mod ShownBack
+pub mod Wide

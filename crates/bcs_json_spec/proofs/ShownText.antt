@@ -60,7 +60,7 @@ byte_text registry (shape.unsigned w8) ts h is = hex_utf8 (trees_bytes ts) (byte
 byte_text registry _ ts h is = absurd (false≢true is)
 
 -- a width that isn't wide has at most 32 bits
-narrow : (w : Width) → is_wide w ≡ false → 2 ^ bits w ≤ 2 ^ 32
+pub narrow : (w : Width) → is_wide w ≡ false → 2 ^ bits w ≤ 2 ^ 32
 narrow w is = subst (λ n. n ≤ 2 ^ 32) (sym (width_bytes w)) (pow-le-pow_right {n = 256} (omega arith) {i = byte_len w} {j = 4} (ltb-false 4 (byte_len w) is))
 
 module _ (P : Type 0) where
