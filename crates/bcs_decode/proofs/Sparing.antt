@@ -3,7 +3,6 @@ use Rattle.std.proofs.Common.{◌≡◌, ◌≢◌, ◌==◌, ℕ, zero, suc, �
 use Rattle.std.specs.Map.{lookup}
 use Rattle.std.specs.Option.{option_map_or}
 use Rattle.std.proofs.lemmas.Bool.{and_parts}
-use Rattle.bcs_registry_model.specs.Shape as shape
 use Rattle.bcs_registry_model.specs.Shape.{Shape}
 use Rattle.bcs_registry_model.specs.Container.{Entries, Choice, of, one_of, nothing, content_at, choice_at, payload_shape, field_shapes}
 use Rattle.bcs_registry_model.specs.View.{shape_of, formats_shapes, field_of}
