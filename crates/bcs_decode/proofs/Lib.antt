@@ -3,7 +3,6 @@ pub mod Wholes
 pub mod Leading
 pub mod PastBlocks
 pub mod PastEntries
-pub mod PastKeys
 pub mod PastParts
 pub mod PastRows
 pub mod PastTexts

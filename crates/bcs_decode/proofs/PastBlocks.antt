@@ -1,28 +1,28 @@
 -- Bytes that are gone past by blocks.
-use Rattle.std.proofs.Common.{◌≡◌, ℕ, ◌+◌, ◌-◌, ◌≤◌, List, length, take, drop, length-drop, length-take, Ok, Err, inl, inr, refl, ap, ◌∙◌, arith}
+use Rattle.std.proofs.Common.{◌≡◌, ℕ, ◌+◌, ◌-◌, ◌≤◌, List, length, take, length-take, Ok, Err, inl, inr, refl, ap, ◌∙◌, arith}
 use Rattle.std.proofs.lemmas.Bool.{le-ltb, lt-ltb, cases_lt}
-use Rattle.std.proofs.lemmas.List.{drop-drop}
 use Rattle.bcs_decode_spec.specs.declared.reason.Reason.{Reason}
-use Rattle.bcs_decode_spec.specs.Reading.{follow, chain, give, bytes_here}
+use Rattle.bcs_decode_spec.specs.Reading.{Read, follow, chain, give, bytes_here}
+use Rattle.bcs_decode_source.proofs.Blocks.{with_front, bytes_split}
 use Rattle.bcs_decode.specs.Past.{bytes_run}
+
+abbrev bare : Read (List ℕ) → Read (Unit {0})
+bare r = follow r (λ _. give tt)
+
+without : (xs : List ℕ) (r : Read (List ℕ)) → bare (with_front xs r) ≡ bare r
+unfolding give
+without xs (Ok x) = refl
+without xs (Err e) = refl
+
+past : (n : ℕ) (r : Read (List ℕ)) → bare (follow r (λ xs q l c. with_front xs (bytes_here n q l c))) ≡ follow r (λ _. bytes_run n)
+unfolding bytes_run chain
+past n (Ok x) = without x.0 (bytes_here n x.1 x.2 x.3)
+past n (Err e) = refl
 
 module _ (k n p m : ℕ) (b : List ℕ) (few : k ≤ n) where
   bytes_block : bytes_run n p m b ≡ follow (bytes_here k p m b) (λ _. bytes_run (n - k))
-  unfolding bytes_run chain bytes_here give
-  bytes_block = elim (cases_lt (length b) k) [
-    | inl short ↦ rw (lt-ltb (length b) k short, lt-ltb (length b) n (omega arith)) refl
-    | inr long ↦ rw (le-ltb (length b) k long) (elim (cases_lt (length b) n) [
-      | inl less ↦
-          let rest = length-drop k b in
-          let far : p + k + length (drop k b) ≡ p + length b = omega arith in
-          rw (lt-ltb (length b) n less, lt-ltb (length (drop k b)) (n - k) (omega arith), far) refl
-      | inr all ↦
-          let rest = length-drop k b in
-          let whole : k + (n - k) ≡ n = omega arith in
-          let far : p + k + (n - k) ≡ p + n = omega arith in
-          rw (le-ltb (length b) n all, le-ltb (length (drop k b)) (n - k) (omega arith), far, drop-drop (n - k) k b, whole) refl
-    ])
-  ]
+  unfolding bytes_run chain
+  bytes_block = ap bare (bytes_split k n p m b few) ∙ past (n - k) (bytes_here k p m b)
 
   pub bytes_on : (xs : List ℕ) (q l : ℕ) (t : List ℕ) → bytes_here k p m b ≡ Ok (xs, q, l, t) → bytes_run n p m b ≡ bytes_run (n - k) q l t
   bytes_on xs q l t h = bytes_block ∙ rw h refl

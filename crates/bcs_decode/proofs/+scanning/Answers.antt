@@ -26,7 +26,7 @@ use Rattle.bcs_decode.specs.Past.{option_past, items_past, pairs_past}
 use Rattle.bcs_decode.specs.Reaching.{content_has_no_map, named_reaches_no_map, reaches_no_map}
 use Rattle.bcs_decode.proofs.Leading.{leads_ends, leads_done, Reads-bare, Reads-in, Leads-none, Leads-on, Leads-ends, Leads-done, Leads-rest, Leads-stops}
 use Rattle.bcs_decode.proofs.PastEntries.{value_ends, entry_on}
-use Rattle.bcs_decode.proofs.PastKeys.{key_ends, kept_wrong, kept_right}
+use Rattle.bcs_decode_source.proofs.StreamedKeys.{key_stop, kept_wrong, kept_right}
 use Rattle.bcs_decode.proofs.PastParts.{past_Opt, past_Seq, past_TupleArray, past_Map, past_shape, some_is, held_past, absent_is, option_on, items_same, enter_is, enum_ends, enum_unknown, enum_on}
 use Rattle.bcs_decode.proofs.Sparing.{SparesMemory-exit, SparesMemory-on, format_has_no_map, field_has_no_map, choice_has_no_map, named_content}
 use Rattle.bcs_decode.proofs.+scanning.Goals as goal
@@ -402,7 +402,7 @@ maps::next_key-returns-in_err-value-clause-reads g t c =
     let p = err_from_is_err_and c.from_residual.result c.from_residual.ensures.1 in
     record {
       sees = rw (p.1, p.2) (Refuses-whole c.in_err-value.field-0.0 (g.S.ByteSource.content c.args.reader.now.source.now) (g.S.ByteSource.content c.args.reader.now.source.now) c.args.reader.now.at.now (record c.args.reader.now.at.now { is_in_key = true }) (key_here (skip c.args.reader.now.registry.now c.args.depth (shape_of c.args.key.now)) (last_bytes c.args.keys.now.last c.args.reader.now.at.now.kept.items)) (skip c.args.reader.now.registry.now c.args.depth (shape_of c.args.key.now)) (λ told. told)
-          (λ e o told stop. key_ends (skip c.args.reader.now.registry.now c.args.depth (shape_of c.args.key.now)) (last_bytes c.args.keys.now.last c.args.reader.now.at.now.kept.items) c.args.reader.now.at.now.place c.args.reader.now.at.now.nodes (rest_of (g.S.ByteSource.content c.args.reader.now.source.now)) e o stop) c.in_err-value.ensures.reads.sees);
+          (λ e o told stop. key_stop (skip c.args.reader.now.registry.now c.args.depth (shape_of c.args.key.now)) (last_bytes c.args.keys.now.last c.args.reader.now.at.now.kept.items) c.args.reader.now.at.now.place c.args.reader.now.at.now.nodes (rest_of (g.S.ByteSource.content c.args.reader.now.source.now)) e o stop) c.in_err-value.ensures.reads.sees);
       failed = search rules;
       room = search rules;
       goes = search rules;
@@ -415,7 +415,7 @@ maps::next_key-returns-in_err-follow-clause-reads g t c =
     let p = err_from_is_err_and c.from_residual-in_err-follow.result c.from_residual-in_err-follow.ensures.1 in
     record {
       sees = rw (p.1, p.2) (Refuses-judged c.in_err-follow.field-0.0 (g.S.ByteSource.content c.args.reader.now.source.now) c.args.reader.now.at.now (key_here (skip c.args.reader.now.registry.now c.args.depth (shape_of c.args.key.now)) (last_bytes c.args.keys.now.last c.args.reader.now.at.now.kept.items)) _ _
-          (λ e o told wrong. kept_wrong (skip c.args.reader.now.registry.now c.args.depth (shape_of c.args.key.now)) c.args.keys.now.last c.args.keys.now.begun c.len-from.result (g.S.ByteSource.content c.args.reader.now.source.now) (g.S.ByteSource.content c.value.new.reader.source.now) c.args.reader.now.at.now c.value.new.reader.at.now told size c.requires.stands c.in_ok-value.ensures.reads.goes (c.in_ok-value.ensures.reads.sees told).0 e o wrong) c.in_err-follow.ensures.judges);
+          (λ e o told wrong. kept_wrong (skip c.args.reader.now.registry.now c.args.depth (shape_of c.args.key.now)) c.args.keys.now.last c.args.keys.now.begun c.len-from.result (g.S.ByteSource.content c.args.reader.now.source.now) (g.S.ByteSource.content c.value.new.reader.source.now) c.args.reader.now.at.now c.value.new.reader.at.now tt told size c.requires.stands c.in_ok-value.ensures.reads.goes (c.in_ok-value.ensures.reads.sees told).0 e o wrong) c.in_err-follow.ensures.judges);
       failed = search rules;
       room = search rules;
       goes = search rules;
@@ -429,7 +429,7 @@ maps::next_key-returns-clause-reads g t c =
     let key = same_key c.follow.new.keys.last c.follow.new.at.kept.items (drop c.len-from.result c.value.new.reader.at.now.kept.items) c.in_ok-follow.ensures.last in
     record {
       sees = λ told. (let read_key = c.in_ok-value.ensures.reads.sees told in
-          (kept_right (skip c.args.reader.now.registry.now c.args.depth (shape_of c.args.key.now)) c.args.keys.now.last c.args.keys.now.begun c.len-from.result (g.S.ByteSource.content c.args.reader.now.source.now) (g.S.ByteSource.content c.value.new.reader.source.now) c.args.reader.now.at.now c.value.new.reader.at.now told size c.requires.stands c.in_ok-value.ensures.reads.goes read_key.0 c.in_ok-follow.ensures.judges ∙ rw (key, same.place, same.nodes) refl, read_key.1));
+          (kept_right (skip c.args.reader.now.registry.now c.args.depth (shape_of c.args.key.now)) c.args.keys.now.last c.args.keys.now.begun c.len-from.result (g.S.ByteSource.content c.args.reader.now.source.now) (g.S.ByteSource.content c.value.new.reader.source.now) c.args.reader.now.at.now c.value.new.reader.at.now tt told size c.requires.stands c.in_ok-value.ensures.reads.goes read_key.0 c.in_ok-follow.ensures.judges ∙ rw (key, same.place, same.nodes) refl, read_key.1));
       failed = search rules;
       room = search rules;
       goes = AlongMap-key c.args.keys.now.begun (g.S.ByteSource.content c.args.reader.now.source.now) (g.S.ByteSource.content c.value.new.reader.source.now) c.args.reader.now.at.now c.value.new.reader.at.now c.follow.new.at (Stands-begun c.args.keys.now.last c.args.keys.now.begun (length c.args.reader.now.at.now.kept.items) c.requires.stands)
