@@ -1,10 +1,11 @@
 -- From what JSON spells, and from nothing that it spells, to what is read of a whole number.
-use Rattle.std.proofs.Common.{◌≡◌, ℕ, ℤ, pos, negsuc, [], ◌<◌, ◌^◌, Ok, Err, Bool, true, false, refl, arith, rules}
+use Rattle.std.proofs.Common.{◌≡◌, ℕ, ℤ, pos, negsuc, [], ◌^◌, Ok, Err, Bool, true, false, refl, arith, rules}
 use Rattle.std.proofs.lemmas.Bool.Decides.{Decides-ltb}
-use Rattle.std.specs.Int.{Width, w8, w16, w32, w64, w128}
-use mir.Val.{bits, hbits}
+use Rattle.std.specs.Int.{Width, w128}
+use mir.Val.{bits}
 use Rattle.serde_json.specs.Data.{Data, number, string}
 use Rattle.bcs_num.specs.Le.{IsUnsigned, IsSigned}
+use Rattle.bcs_num.proofs.Ranges.{half_most, holds_signed-is, is-holds_signed}
 use Rattle.bcs_value_model.specs.Tree.{unsigned, signed}
 use Rattle.bcs_value_model.specs.View.{tree_of}
 use Rattle.bcs_value_model.specs.declared.value.Value as value
@@ -28,19 +29,11 @@ unsigned_refused w (number x) none = (exact_unsigned [] 0 w (number x)).errs Bad
 unsigned_refused w (string t) none = (exact_unsigned [] 0 w (string t)).errs BadNumber ((λ z s. unsigned_out w (string t) none z (is_unsigned_of w z) refl s), refl)
 unsigned_refused w _ none = refl
 
-below_half : (w : Width) (z : ℤ) → is_signed_of w z ≡ true → IsSigned w z
-below_half w (pos n) h = record { sfits = (Decides-ltb n (2 ^ hbits w)).0 h }
-below_half w (negsuc n) h = record { sfits = (Decides-ltb n (2 ^ hbits w)).0 h }
-
-half_below : (w : Width) (z : ℤ) → IsSigned w z → is_signed_of w z ≡ true
-half_below w (pos n) h = (Decides-ltb n (2 ^ hbits w)).1 h.sfits
-half_below w (negsuc n) h = (Decides-ltb n (2 ^ hbits w)).1 h.sfits
-
 pub signed_told : (w : Width) (j : Data) (z : ℤ) → SpellsWhole j z → IsSigned w z → read_signed w j ≡ Ok (signed z)
-signed_told w j z s h = (exact_signed [] 0 w j).again (signed z) ((s, half_below w z h), omega arith)
+signed_told w j z s h = (exact_signed [] 0 w j).again (signed z) ((s, is-holds_signed w z h), omega arith)
 
 signed_out : (w : Width) (j : Data) → ((z : ℤ) → SpellsWhole j z → ¬ IsSigned w z) → (z : ℤ) (b : Bool) → is_signed_of w z ≡ b → SpellsWhole j z → is_signed_of w z ≡ false
-signed_out w j none z true is s = absurd (none z s (below_half w z is))
+signed_out w j none z true is s = absurd (none z s (holds_signed-is w z is))
 signed_out w j none z false is s = is
 
 pub signed_refused : (w : Width) (j : Data) → ((z : ℤ) → SpellsWhole j z → ¬ IsSigned w z) → read_signed w j ≡ Err (whole_refusal j)
@@ -57,14 +50,7 @@ tree_unsigned n = search (rules, the_lemmas)
 pub tree_signed : (z : ℤ) → tree_of (value.Signed z) ≡ signed z
 tree_signed z = search (rules, the_lemmas)
 
-half_wide : (w : Width) (n : ℕ) → n < 2 ^ hbits w → n < 2 ^ hbits w128
-half_wide w8 n h = omega (arith, h)
-half_wide w16 n h = omega (arith, h)
-half_wide w32 n h = omega (arith, h)
-half_wide w64 n h = omega (arith, h)
-half_wide w128 n h = h
-
 -- a number of a width is one of 128 bits
 pub widen : (w : Width) (z : ℤ) → IsSigned w z → IsSigned w128 z
-widen w (pos n) h = record { sfits = half_wide w n h.sfits }
-widen w (negsuc n) h = record { sfits = half_wide w n h.sfits }
+widen w (pos n) h = record { sfits = omega (arith, h.sfits, half_most w) }
+widen w (negsuc n) h = record { sfits = omega (arith, h.sfits, half_most w) }
