@@ -61,7 +61,8 @@ impl Width {
         self.greatest_unsigned() / 2
     }
 
-    fn greatest_unsigned(self) -> u128
+    /// The greatest value of the width's unsigned type.
+    pub fn greatest_unsigned(self) -> u128
         ensures { result + 1 ≡ 2 ^ bits (width_of self) }
     {
         match self {
