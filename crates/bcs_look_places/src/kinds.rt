@@ -6,6 +6,7 @@ use crate::goals::{Goal, field_called, payload_called};
 use crate::names::Name;
 use crate::wants::{Count, Want};
 use bcs_registry::{Format, Named, VariantFormat};
+use bcs_registry_model::{Kind, Scalar};
 use serde_json::{Map, Value as Json};
 use std::collections::BTreeMap;
 
@@ -22,39 +23,27 @@ pub(crate) fn want<'a>(goal: Goal<'a>, json: &'a Json) -> Option<Want<'a>> {
 }
 
 fn format_want<'a>(format: &Format, json: &'a Json) -> Option<Want<'a>> {
-    let words = match format {
-        Format::TypeName(_) => return None,
-        Format::Opt(_) => return option_want(json),
-        Format::Seq(element) => return list_want(element, json),
-        Format::Map(_, _) if json.is_array() => return None,
-        Format::Tuple(formats) => return row_want(formats.len() as u64, json),
-        Format::TupleArray(element, size) => return array_want(element, *size, json),
-        Format::Bytes => return bytes_want(json),
-        Format::Map(_, _) => "wanted an array of entries, each an array of a key and its value",
-        Format::Unit => "wanted null",
-        Format::Bool => "wanted BOOL, true or false",
-        Format::I8 => "wanted a whole number from -128 to 127 (I8)",
-        Format::I16 => "wanted a whole number from -32768 to 32767 (I16)",
-        Format::I32 => "wanted a whole number from -2147483648 to 2147483647 (I32)",
-        Format::I64 => {
-            "wanted a whole number from -9223372036854775808 to 9223372036854775807 (I64)"
-        }
-        Format::I128 => {
-            "wanted a whole number from -170141183460469231731687303715884105728 to 170141183460469231731687303715884105727 (I128)"
-        }
-        Format::U8 => "wanted a whole number from 0 to 255 (U8)",
-        Format::U16 => "wanted a whole number from 0 to 65535 (U16)",
-        Format::U32 => "wanted a whole number from 0 to 4294967295 (U32)",
-        Format::U64 => "wanted a whole number from 0 to 18446744073709551615 (U64)",
-        Format::U128 => {
-            "wanted a whole number from 0 to 340282366920938463463374607431768211455 (U128)"
-        }
-        Format::F32 => "no value of F32 is supported",
-        Format::F64 => "no value of F64 is supported",
-        Format::Char => "no value of CHAR is supported",
-        Format::Str => "wanted STR, a string",
+    match format.kind() {
+        Kind::Scalar(scalar) => scalar_want(scalar, json),
+        Kind::TypeName(_) => None,
+        Kind::Opt(_) => option_want(json),
+        Kind::Seq(element) => list_want(element, json),
+        Kind::Map(_, _) => map_want(json),
+        Kind::Tuple(formats) => row_want(formats.len() as u64, json),
+        Kind::TupleArray(element, size) => array_want(element, size, json),
+    }
+}
+
+fn scalar_want<'a>(scalar: Scalar, json: &'a Json) -> Option<Want<'a>> {
+    let want = match scalar {
+        Scalar::Unit => Want::Words("wanted null"),
+        Scalar::Bool => Want::Words("wanted BOOL, true or false"),
+        Scalar::Whole(number) => Want::Whole(number),
+        Scalar::Unsupported(_) => Want::Unsupported(scalar.word()),
+        Scalar::Str => Want::Words("wanted STR, a string"),
+        Scalar::Bytes => return bytes_want(json),
     };
-    Some(Want::Words(words))
+    Some(want)
 }
 
 fn bytes_want<'a>(json: &'a Json) -> Option<Want<'a>> {
@@ -66,6 +55,14 @@ fn bytes_want<'a>(json: &'a Json) -> Option<Want<'a>> {
 
 fn digits_want<'a>(text: &'a str) -> Option<Want<'a>> {
     Some(Want::Words(wrong_digits(text.as_bytes())?.words))
+}
+
+fn map_want<'a>(json: &'a Json) -> Option<Want<'a>> {
+    if json.is_array() {
+        None
+    } else {
+        Some(Want::Words("wanted an array of entries, each an array of a key and its value"))
+    }
 }
 
 fn option_want<'a>(json: &'a Json) -> Option<Want<'a>> {

@@ -1,6 +1,7 @@
 //! What was wanted of JSON.
 
 use crate::names::Name;
+use bcs_registry_model::{Scalar, WholeNumber};
 use std::fmt;
 
 /// What was wanted of JSON where it is refused, or what is wrong there.
@@ -8,6 +9,10 @@ use std::fmt;
 pub(crate) enum Want<'a> {
     /// These words.
     Words(&'static str),
+    /// A whole number of these.
+    Whole(WholeNumber),
+    /// Another format than that of this word.
+    Unsupported(&'static str),
     /// Words, and the name that they are about.
     Named(&'static str, Name<'a>),
     /// What the words say, of so many parts.
@@ -28,9 +33,30 @@ impl fmt::Display for Want<'_> {
     fn fmt<W: fmt::Write>(&self, f: &mut fmt::Formatter<W>) -> fmt::Result {
         match self {
             Want::Words(words) => f.write_str(words),
+            Want::Whole(number) => write_whole(*number, f),
+            Want::Unsupported(word) => write!(f, "no value of {word} is supported"),
             Want::Named(words, name) => write!(f, "{words} {name}"),
             Want::Parts(words, count) => write!(f, "{words} {count}"),
             Want::Other(count, found) => write!(f, "wanted {count}, found {found}"),
+        }
+    }
+}
+
+// That a whole number of these was wanted, from the least to the greatest.
+fn write_whole<W: fmt::Write>(number: WholeNumber, f: &mut fmt::Formatter<W>) -> fmt::Result {
+    let word = Scalar::Whole(number).word();
+    match number {
+        WholeNumber::Unsigned(width) => {
+            let greatest = width.greatest_unsigned();
+            write!(f, "wanted a whole number from 0 to {greatest} ({word})")
+        }
+        WholeNumber::Signed(width) => {
+            let greatest = width.greatest_unsigned() / 2;
+            let below = greatest.saturating_add(1);
+            write!(
+                f,
+                "wanted a whole number from -{below} to {greatest} ({word})"
+            )
         }
     }
 }

@@ -4,8 +4,9 @@ use crate::definitions::Definitions;
 use crate::digits::digits_schema;
 use crate::lists::{elements_schema, entries_schema, row_schema};
 use crate::pieces::{no_text, option_schema, type_schema};
-use crate::whole_numbers::{signed, unsigned};
+use crate::whole_numbers::WholeNumbers;
 use bcs_registry::Format;
+use bcs_registry_model::{Kind, Scalar};
 use serde_json::Value;
 use std::alloc::AllocError;
 
@@ -16,39 +17,42 @@ pub(crate) fn format_schema<'r>(
     format: &'r Format,
 ) -> Result<Value, AllocError> {
     let alloc = definitions.alloc;
-    match format {
-        Format::Unit => type_schema(alloc, "null"),
-        Format::Bool => type_schema(alloc, "boolean"),
-        Format::I8 => definitions.whole_number(signed("I8", 0x7f)),
-        Format::I16 => definitions.whole_number(signed("I16", 0x7fff)),
-        Format::I32 => definitions.whole_number(signed("I32", 0x7fff_ffff)),
-        Format::I64 => definitions.whole_number(signed("I64", 0x7fff_ffff_ffff_ffff)),
-        Format::I128 => definitions.whole_number(signed("I128", i128::MAX)),
-        Format::U8 => definitions.whole_number(unsigned("U8", 0xff)),
-        Format::U16 => definitions.whole_number(unsigned("U16", 0xffff)),
-        Format::U32 => definitions.whole_number(unsigned("U32", 0xffff_ffff)),
-        Format::U64 => definitions.whole_number(unsigned("U64", 0xffff_ffff_ffff_ffff)),
-        Format::U128 => definitions.whole_number(unsigned("U128", u128::MAX)),
-        Format::F32 => no_text(alloc, "no value of F32 is supported"),
-        Format::F64 => no_text(alloc, "no value of F64 is supported"),
-        Format::Char => no_text(alloc, "no value of CHAR is supported"),
-        Format::Str => type_schema(alloc, "string"),
-        Format::Bytes => digits_schema(alloc),
-        Format::TypeName(name) => definitions.container(name.as_str()),
-        Format::Opt(content) => option_schema(alloc, format_schema(definitions, content)?),
-        Format::Seq(element) => {
+    match format.kind() {
+        Kind::Scalar(scalar) => scalar_schema(definitions, scalar),
+        Kind::TypeName(name) => definitions.container(name),
+        Kind::Opt(content) => option_schema(alloc, format_schema(definitions, content)?),
+        Kind::Seq(element) => {
             let items = format_schema(definitions, element)?;
             elements_schema(alloc, element, items, None)
         }
-        Format::Map(key, value) => {
+        Kind::Map(key, value) => {
             let key = format_schema(definitions, key)?;
             entries_schema(alloc, key, format_schema(definitions, value)?)
         }
-        Format::Tuple(formats) => formats_schema(definitions, formats),
-        Format::TupleArray(element, size) => {
+        Kind::Tuple(formats) => formats_schema(definitions, formats),
+        Kind::TupleArray(element, size) => {
             let items = format_schema(definitions, element)?;
-            elements_schema(alloc, element, items, Some(*size))
+            elements_schema(alloc, element, items, Some(size))
         }
+    }
+}
+
+/// The schema of a format without parts.
+fn scalar_schema(definitions: &mut Definitions, scalar: Scalar) -> Result<Value, AllocError> {
+    let alloc = definitions.alloc;
+    match scalar {
+        Scalar::Unit => type_schema(alloc, "null"),
+        Scalar::Bool => type_schema(alloc, "boolean"),
+        Scalar::Whole(number) => definitions.whole_number(WholeNumbers::of(number)),
+        Scalar::Unsupported(_) => {
+            let word = scalar.word();
+            no_text(
+                alloc,
+                format!(in alloc; "no value of {word} is supported")?.as_str(),
+            )
+        }
+        Scalar::Str => type_schema(alloc, "string"),
+        Scalar::Bytes => digits_schema(alloc),
     }
 }
 

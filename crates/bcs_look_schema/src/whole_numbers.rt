@@ -2,6 +2,7 @@
 
 use crate::decimals::decimal_pattern;
 use crate::digits::UNPRINTABLE;
+use bcs_registry_model::{Scalar, WholeNumber};
 use serde_json::{Value, json};
 use std::alloc::{AllocError, Global};
 
@@ -14,21 +15,21 @@ pub(crate) struct WholeNumbers {
     pub(crate) greatest: u128,
 }
 
-/// Those from 0 to the greatest.
-pub(crate) fn unsigned(word: &'static str, greatest: u128) -> WholeNumbers {
-    WholeNumbers {
-        word,
-        least: 0,
-        greatest,
-    }
-}
-
-/// Those of two's complement up to the greatest.
-pub(crate) fn signed(word: &'static str, greatest: i128) -> WholeNumbers {
-    WholeNumbers {
-        word,
-        least: !greatest,
-        greatest: greatest.unsigned_abs(),
+impl WholeNumbers {
+    /// Those of the format. Below 0 there is one more than above it.
+    pub(crate) fn of(number: WholeNumber) -> Self {
+        let (least, greatest) = match number {
+            WholeNumber::Unsigned(width) => (0, width.greatest_unsigned()),
+            WholeNumber::Signed(width) => {
+                let greatest = width.greatest_unsigned() / 2;
+                (!(greatest as i128), greatest)
+            }
+        };
+        WholeNumbers {
+            word: Scalar::Whole(number).word(),
+            least,
+            greatest,
+        }
     }
 }
 
