@@ -1,9 +1,9 @@
 //! The plain encoder: each entry of a map has bytes of its own, and they are sorted by their keys' bytes.
 ghost use Rattle.std.specs.Prelude.{map, ◌≡◌, ◌++◌, Ok};
-ghost use Rattle.bcs_registry_model.specs.Container.{Entries, of, content, field_shapes, payload_shape};
+ghost use Rattle.bcs_registry_model.specs.Container.{of, content, field_shapes, payload_shape};
 ghost use Rattle.bcs_registry_model.specs.Shape.{tuple};
 ghost use Rattle.bcs_registry_model.specs.View.{container_of, field_of, formats_shapes, payload_of, shape_of};
-ghost use Rattle.bcs_value_model.specs.Tree.{items as items_tree, signed, unsigned};
+ghost use Rattle.bcs_value_model.specs.Tree.{items as items_tree};
 ghost use Rattle.bcs_value_model.specs.View.{entries_pairs, items_trees, tree_of};
 ghost use Rattle.bcs_encode_walk.specs.Laying.{entry_of};
 ghost use Rattle.bcs_encode_walk.specs.Writing as spec;
@@ -16,8 +16,8 @@ ghost use Rattle.std.specs.Cmp.Lexicographic.{slice_cmp};
 ghost use Rattle.bcs_encode_spec.specs.Entries.{entry_bytes};
 
 use crate::pushing::{push_byte, push_bytes, push_length, push_number, push_signed, push_unsigned};
-use crate::widths::{signed_width, unsigned_width};
 use bcs_encode_spec::EncodeFault;
+use bcs_num::Width;
 use bcs_registry::{Container, Format, Named, Registry, VariantFormat};
 use bcs_value::Value;
 use std::alloc::Global;
@@ -34,10 +34,19 @@ pub fn push_value(
     ensures { Tells result (spec.written registry.now (tree_of value.now) (of (shape_of format.now)) out.old.items) out.new.items }
 {
     match (value, format) {
+        (_, Format::F32 | Format::F64 | Format::Char) => Err(EncodeFault::NotOfFormat),
         (Value::Unit, Format::Unit) => Ok(()),
         (Value::Bool(truth), Format::Bool) => push_byte(u8::from(*truth), out),
-        (Value::Unsigned(number), _) => push_unsigned_at(format, number, out),
-        (Value::Signed(number), _) => push_signed_at(format, number, out),
+        (Value::Unsigned(number), Format::U8) => push_unsigned(Width::W1, *number, out),
+        (Value::Unsigned(number), Format::U16) => push_unsigned(Width::W2, *number, out),
+        (Value::Unsigned(number), Format::U32) => push_unsigned(Width::W4, *number, out),
+        (Value::Unsigned(number), Format::U64) => push_unsigned(Width::W8, *number, out),
+        (Value::Unsigned(number), Format::U128) => push_unsigned(Width::W16, *number, out),
+        (Value::Signed(number), Format::I8) => push_signed(Width::W1, *number, out),
+        (Value::Signed(number), Format::I16) => push_signed(Width::W2, *number, out),
+        (Value::Signed(number), Format::I32) => push_signed(Width::W4, *number, out),
+        (Value::Signed(number), Format::I64) => push_signed(Width::W8, *number, out),
+        (Value::Signed(number), Format::I128) => push_signed(Width::W16, *number, out),
         (Value::Text(text), Format::Str) => push_bytes(text.as_bytes(), out),
         (Value::Bytes(bytes), Format::Bytes) => push_bytes(bytes, out),
         (Value::Absent, Format::Opt(_)) => push_byte(0, out),
@@ -69,28 +78,6 @@ pub fn push_value(
             None => Err(EncodeFault::NotOfFormat),
         },
         _ => Err(EncodeFault::NotOfFormat),
-    }
-}
-
-/// Appends the bytes of an unsigned number at a format, whichever it is.
-#[inline(always)]
-fn push_unsigned_at(format: &Format, number: &u128, out: &mut Vec<u8>) -> Result<(), EncodeFault>
-    ensures { (r : Entries) → Tells result (spec.written r (unsigned number.now) (of (shape_of format.now)) out.old.items) out.new.items }
-{
-    match unsigned_width(format) {
-        Some(width) => push_unsigned(width, *number, out),
-        None => Err(EncodeFault::NotOfFormat),
-    }
-}
-
-/// The same of a signed number.
-#[inline(always)]
-fn push_signed_at(format: &Format, number: &i128, out: &mut Vec<u8>) -> Result<(), EncodeFault>
-    ensures { (r : Entries) → Tells result (spec.written r (signed number.now) (of (shape_of format.now)) out.old.items) out.new.items }
-{
-    match signed_width(format) {
-        Some(width) => push_signed(width, *number, out),
-        None => Err(EncodeFault::NotOfFormat),
     }
 }
 

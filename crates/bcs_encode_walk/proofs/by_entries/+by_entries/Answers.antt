@@ -1,9 +1,5 @@
-use Rattle.std.proofs.Common.{◌∙◌, arith, rules, sym}
+use Rattle.std.proofs.Common.{◌∙◌, arith, rules}
 use Rattle.std.proofs.lemmas.Grind.{common_steps}
-use Rattle.bcs_registry_model.specs.Container.{of}
-use Rattle.bcs_registry_model.specs.View.{shape_of}
-use Rattle.bcs_encode_walk.specs.Writing.{written}
-use Rattle.bcs_encode_walk.proofs.JudgingViews.{at_signed, at_unsigned}
 use Rattle.bcs_encode_walk.proofs.WritingViews.{tells_along, array_refused, array_written, list_written, tuple_written, fields_written, map_written, variant_written, no_variant_written}
 use Rattle.bcs_encode_walk.proofs.by_entries.+by_entries.Goals as goal
 
@@ -41,14 +37,6 @@ pub push_value-returns-in_ok-collect_entries-in-Pairs-Map : goal.push_value-retu
 push_value-returns-in_ok-collect_entries-in-Pairs-Map t c =
     let m = c.in-Pairs-Map in
     tells_along _ _ _ _ (map_written c.args.registry.now c.args.value.now c.args.format.now m.pairs m.key m.value c.len-in-Pairs-Map.result c.args.out.now.items m.is-0 m.is-1 (search rules)) (search rules)
-
-pub push_value-returns-in-Unsigned-default : goal.push_value-returns-in-Unsigned-default
-push_value-returns-in-Unsigned-default t c =
-    tells_along _ _ _ _ (sym (at_unsigned (λ u. written c.args.registry.now u (of (shape_of c.args.format.now)) c.args.out.now.items) c.args.value.now _ c.in-Unsigned-default.is-0)) (c.push_unsigned_at.ensures c.args.registry.now)
-
-pub push_value-returns-in-Signed-default : goal.push_value-returns-in-Signed-default
-push_value-returns-in-Signed-default t c =
-    tells_along _ _ _ _ (sym (at_signed (λ u. written c.args.registry.now u (of (shape_of c.args.format.now)) c.args.out.now.items) c.args.value.now _ c.in-Signed-default.is-0)) (c.push_signed_at.ensures c.args.registry.now)
 
 pub push_content-returns-in-Some : goal.push_content-returns-in-Some
 push_content-returns-in-Some t c =

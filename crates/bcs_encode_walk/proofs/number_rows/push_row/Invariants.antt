@@ -2,7 +2,7 @@ use Rattle.std.proofs.Common.{◌≡◌, ◌+◌, ◌-◌, ◌*◌, ◌≤◌, [
 use Rattle.bcs_value_model.specs.View.{items_trees}
 use Rattle.bcs_registry_model.specs.Whole.{whole_len, whole_shape}
 use Rattle.bcs_encode_walk.specs.Writing.{items_written}
-use Rattle.bcs_encode_walk.proofs.pushing.push_row.Given as goal
+use Rattle.bcs_encode_walk.proofs.number_rows.push_row.Given as goal
 
 abbrev pub invariant-loop-item : goal.invariant-loop-item
 invariant-loop-item l = record {
