@@ -17,29 +17,32 @@ pub(crate) fn format_schema<'r>(
     format: &'r Format,
 ) -> Result<Value, AllocError> {
     let alloc = definitions.alloc;
-    match format.kind() {
-        Kind::Scalar(scalar) => scalar_schema(definitions, scalar),
-        Kind::TypeName(name) => definitions.container(name),
-        Kind::Opt(content) => option_schema(alloc, format_schema(definitions, content)?),
-        Kind::Seq(element) => {
+    match format {
+        Format::TypeName(name) => definitions.container(name.as_str()),
+        Format::Opt(content) => option_schema(alloc, format_schema(definitions, content)?),
+        Format::Seq(element) => {
             let items = format_schema(definitions, element)?;
             elements_schema(alloc, element, items, None)
         }
-        Kind::Map(key, value) => {
+        Format::Map(key, value) => {
             let key = format_schema(definitions, key)?;
             entries_schema(alloc, key, format_schema(definitions, value)?)
         }
-        Kind::Tuple(formats) => formats_schema(definitions, formats),
-        Kind::TupleArray(element, size) => {
+        Format::Tuple(formats) => formats_schema(definitions, formats),
+        Format::TupleArray(element, size) => {
             let items = format_schema(definitions, element)?;
-            elements_schema(alloc, element, items, Some(size))
+            elements_schema(alloc, element, items, Some(*size))
         }
+        _ => scalar_schema(definitions, format),
     }
 }
 
 /// The schema of a format without parts.
-fn scalar_schema(definitions: &mut Definitions, scalar: Scalar) -> Result<Value, AllocError> {
+fn scalar_schema(definitions: &mut Definitions, format: &Format) -> Result<Value, AllocError> {
     let alloc = definitions.alloc;
+    let Kind::Scalar(scalar) = format.kind() else {
+        return no_text(alloc, "the format has parts");
+    };
     match scalar {
         Scalar::Unit => type_schema(alloc, "null"),
         Scalar::Bool => type_schema(alloc, "boolean"),
