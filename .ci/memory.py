@@ -28,6 +28,8 @@ NO_MEMORY = ("out of memory", "OutOfMemory", '4 ""fault: memory')
 # The status of a program that ends with an error.
 ENDED = 1
 KEYS_REQUEST = 100
+# The most runs that may end before a row: what the program asks for as it starts, and for a line that it reads.
+START_REQUESTS, LINE_REQUESTS = 15, 2
 # As many ranges as an environment holds.
 RANGES = 5000
 
@@ -108,6 +110,8 @@ def swept(refuser: str, rows: list[str]) -> Counter[str]:
         for numbers, run in zip(again, runs(refuser, rows, again)):
             if judged(rows, run) == "whole":
                 raise Failed(f"nothing is missing with requests {numbers} refused")
+    if counts["early"] > START_REQUESTS + LINE_REQUESTS * len(rows):
+        raise Failed(f"{counts['early']} runs ended before a row: {rows[0][:300]}")
     return counts
 
 
