@@ -4,4 +4,3 @@ pub mod PrintedRows
 pub mod Places
 pub mod SentRows
 pub mod ShownBack
-pub mod Wide

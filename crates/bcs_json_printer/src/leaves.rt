@@ -10,17 +10,11 @@ ghost use Rattle.serde.specs.declared.name.Case.TheVariants.{AsIs};
 ghost use Rattle.serde_json.specs.Data.{boolean, null, number as json_number, string, unsigned};
 ghost use Rattle.serde_json.specs.Events.{SendsValue};
 ghost use Rattle.serde_json.specs.Find.{of_integer};
-ghost use Rattle.bcs_registry_model.specs.View.{shape_of};
-ghost use Rattle.bcs_value_model.specs.Tree.{no_trees, signed as signed_tree, tree, unsigned as unsigned_tree};
+ghost use Rattle.bcs_value_model.specs.Tree.{no_trees, tree};
 ghost use Rattle.bcs_value_model.specs.View.{items_trees, tree_of};
-ghost use Rattle.bcs_value_model.specs.Fits.{Fits, are_bytes};
+ghost use Rattle.bcs_value_model.specs.Fits.{are_bytes};
 ghost use Rattle.bcs_json_spec.specs.Bytes.{trees_bytes};
-ghost use Rattle.bcs_json_spec.specs.JsonContent.{of};
-ghost use Rattle.bcs_json_spec.specs.Shown.{shown};
-ghost use Rattle.bcs_json_printer.specs.Wide.{is_wide_shape};
 
-use bcs_registry::{Format, Registry};
-use bcs_registry_model::{Kind, Scalar};
 use bcs_value_model::Value;
 use itoa::Buffer;
 use serde::Serializer;
@@ -50,66 +44,9 @@ pub(crate) fn send_text<S: Serializer>(text: &str, out: &mut S) -> Result<(), S:
     out.str(text)
 }
 
-/// An unsigned number of the format: a number, or a string of its digits where the format is wide.
-#[inline(always)]
-#[tactic(auto, using(crate::proofs::Wide::unsigned_shown, crate::proofs::Wide::unsigned_narrow))]
-pub(crate) fn send_unsigned<S: Serializer>(
-    registry: &Registry,
-    format: &Format,
-    number: u128,
-    out: &mut S,
-) -> Result<(), S::Error>
-    requires fits { Fits registry.now (shape_of format.now) (unsigned_tree number) }
-    ensures { OnOk result (SendsValue (shown registry.now (unsigned_tree number) (of (shape_of format.now))) (S.written out.old) (S.written out.new)) }
-{
-    if is_wide(format) {
-        send_wide_unsigned(number, out)
-    } else {
-        send_narrow_unsigned(number, out)
-    }
-}
-
-/// The same of a signed number.
-#[inline(always)]
-#[tactic(auto, using(crate::proofs::Wide::signed_shown, crate::proofs::Wide::signed_narrow))]
-pub(crate) fn send_signed<S: Serializer>(
-    registry: &Registry,
-    format: &Format,
-    number: i128,
-    out: &mut S,
-) -> Result<(), S::Error>
-    requires fits { Fits registry.now (shape_of format.now) (signed_tree number) }
-    ensures { OnOk result (SendsValue (shown registry.now (signed_tree number) (of (shape_of format.now))) (S.written out.old) (S.written out.new)) }
-{
-    if is_wide(format) {
-        send_wide_signed(number, out)
-    } else {
-        send_narrow_signed(number, out)
-    }
-}
-
-/// Whether the values of the format are whole numbers of more than 32 bits.
-#[inline(always)]
-fn is_wide(format: &Format) -> bool
-    ensures { result ≡ is_wide_shape (shape_of format.now) }
-{
-    match format.kind() {
-        Kind::Scalar(Scalar::Whole(number)) => number.byte_len() > 4,
-        Kind::Scalar(
-            Scalar::Unit | Scalar::Bool | Scalar::Unsupported(_) | Scalar::Str | Scalar::Bytes,
-        )
-        | Kind::TypeName(_)
-        | Kind::Opt(_)
-        | Kind::Seq(_)
-        | Kind::Map(_, _)
-        | Kind::Tuple(_)
-        | Kind::TupleArray(_, _) => false,
-    }
-}
-
 /// An unsigned number that `serde_json` holds, as a number.
 #[inline(never)]
-fn send_narrow_unsigned<S: Serializer>(number: u128, out: &mut S) -> Result<(), S::Error>
+pub(crate) fn send_narrow_unsigned<S: Serializer>(number: u128, out: &mut S) -> Result<(), S::Error>
     requires { number < 2 ^ 64 }
     ensures { OnOk result (SendsValue (json_number (unsigned number)) (S.written out.old) (S.written out.new)) }
 {
@@ -118,7 +55,7 @@ fn send_narrow_unsigned<S: Serializer>(number: u128, out: &mut S) -> Result<(), 
 
 /// A signed number of at most 64 bits, as a number.
 #[inline(never)]
-fn send_narrow_signed<S: Serializer>(number: i128, out: &mut S) -> Result<(), S::Error>
+pub(crate) fn send_narrow_signed<S: Serializer>(number: i128, out: &mut S) -> Result<(), S::Error>
     requires { FitsSigned w64 number }
     ensures { OnOk result (SendsValue (json_number (of_integer number)) (S.written out.old) (S.written out.new)) }
 {
@@ -131,7 +68,7 @@ fn send_narrow_signed<S: Serializer>(number: i128, out: &mut S) -> Result<(), S:
 
 /// An unsigned number as a string of its decimal digits.
 #[inline(never)]
-fn send_wide_unsigned<S: Serializer>(number: u128, out: &mut S) -> Result<(), S::Error>
+pub(crate) fn send_wide_unsigned<S: Serializer>(number: u128, out: &mut S) -> Result<(), S::Error>
     ensures { OnOk result (SendsValue (string (decimal number)) (S.written out.old) (S.written out.new)) }
 {
     let mut digits = Buffer::new();
@@ -140,7 +77,7 @@ fn send_wide_unsigned<S: Serializer>(number: u128, out: &mut S) -> Result<(), S:
 
 /// A signed number as a string of its decimal digits, behind a `-` where it is negative.
 #[inline(never)]
-fn send_wide_signed<S: Serializer>(number: i128, out: &mut S) -> Result<(), S::Error>
+pub(crate) fn send_wide_signed<S: Serializer>(number: i128, out: &mut S) -> Result<(), S::Error>
     ensures { OnOk result (SendsValue (string (signed_decimal number)) (S.written out.old) (S.written out.new)) }
 {
     let mut signed_digits = Buffer::new();

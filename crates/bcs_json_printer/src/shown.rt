@@ -14,8 +14,9 @@ ghost use Rattle.bcs_json_spec.specs.Shown.{shown, shown_all, shown_choice, show
 
 use crate::field_order::sent_places;
 use crate::leaves::{
-    close_map, close_seq, open_map, open_seq, send_byte_list, send_bytes, send_name, send_null,
-    send_signed, send_text, send_truth, send_unsigned,
+    close_map, close_seq, open_map, open_seq, send_byte_list, send_bytes, send_name,
+    send_narrow_signed, send_narrow_unsigned, send_null, send_text, send_truth, send_wide_signed,
+    send_wide_unsigned,
 };
 use bcs_registry::{Container, Format, Named, Registry, VariantFormat};
 use bcs_value::has_format;
@@ -83,8 +84,14 @@ fn send_value<S: Serializer>(
 {
     match (value, format) {
         (Value::Bool(truth), Format::Bool) => send_truth(*truth, out),
-        (Value::Unsigned(number), _) => send_unsigned(registry, format, *number, out),
-        (Value::Signed(number), _) => send_signed(registry, format, *number, out),
+        (Value::Unsigned(number), Format::U8 | Format::U16 | Format::U32) => {
+            send_narrow_unsigned(*number, out)
+        }
+        (Value::Unsigned(number), Format::U64 | Format::U128) => send_wide_unsigned(*number, out),
+        (Value::Signed(number), Format::I8 | Format::I16 | Format::I32) => {
+            send_narrow_signed(*number, out)
+        }
+        (Value::Signed(number), Format::I64 | Format::I128) => send_wide_signed(*number, out),
         (Value::Text(text), Format::Str) => send_text(text.as_str(), out),
         (Value::Bytes(bytes), Format::Bytes) => send_bytes(alloc, bytes.as_slice(), out),
         (Value::Present(inner), Format::Opt(content)) => {
