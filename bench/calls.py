@@ -1,10 +1,11 @@
 #!/usr/bin/env python3
-"""Times library calls on the inputs of the benchmark: calls.py INPUTS CALLS [PLAIN]. CALLS is the program `bench_calls`.
+"""Times library calls on the inputs of the benchmark: calls.py INPUTS CALLS [PLAIN]. CALLS is the program `test_calls`.
 Prints the milliseconds of processor time that a call takes: of so many calls in one run, less those of none."""
 
 import os
 import subprocess
 import sys
+import tempfile
 from pathlib import Path
 
 INPUTS = ["records", "numbers", "map", "bytes"]
@@ -13,18 +14,25 @@ COUNT = 10
 RUNS = 3
 
 
-def seconds(words, source):
-    """Processor seconds of the fastest run."""
+def seconds(program, rows):
+    """Processor seconds of the fastest run over these rows, of which the last is the call's."""
     least = float("inf")
     for _ in range(RUNS):
-        with open(source, "rb") as given:
-            process = subprocess.Popen(words, stdin=given, stdout=subprocess.PIPE)
-        answer = process.stdout.read()
+        with tempfile.TemporaryFile() as given:
+            given.write(rows)
+            given.seek(0)
+            process = subprocess.Popen([program], stdin=given, stdout=subprocess.PIPE)
+        answer = process.stdout.read()[-100:].decode(errors="replace")
         _, status, usage = os.wait4(process.pid, 0)
-        if os.waitstatus_to_exitcode(status) != 0 or not answer.strip().isdigit():
-            sys.exit(f"{words[1:3]}: {answer.decode()}")
+        if os.waitstatus_to_exitcode(status) != 0 or not answer.endswith(" bytes\n"):
+            sys.exit(f"{rows[-100:]}: {answer}")
         least = min(least, usage.ru_utime + usage.ru_stime)
     return least
+
+
+def rows_of(registry, call, count, format, text):
+    """The rows of so many calls: words on a line, with tabs between them."""
+    return "".join("\t".join(words) + "\n" for words in [["registry", registry], ["repeat", call, str(count), format, text]]).encode()
 
 
 def plain_calls(plain, registry, format, source):
@@ -41,8 +49,9 @@ def main():
     print("|---|" + "---|" * (len(CALLS) + 1))
     for name in INPUTS:
         format, source = (folder / f"{name}.format").read_text(), folder / f"{name}.json"
-        none = seconds([program, "scan", "0", registry, format], source)
-        taken = [seconds([program, call, str(COUNT), registry, format], source) - none for call in CALLS]
+        text = source.read_text()
+        none = seconds(program, rows_of(registry, "scan", 0, format, text))
+        taken = [seconds(program, rows_of(registry, call, COUNT, format, text)) - none for call in CALLS]
         cells = [f"{max(call, 0) / COUNT * 1e3:.1f}" for call in taken]
         told = plain_calls(plain[0], registry, format, source) if plain else ""
         print(f"| {name} | " + " | ".join(cells) + f" | {told} |", flush=True)

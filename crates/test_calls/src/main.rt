@@ -10,6 +10,7 @@ mod pairs;
 mod parts;
 mod question;
 mod registries;
+mod repeating;
 mod row_fault;
 mod rows;
 mod setting;

@@ -4,8 +4,8 @@ use crate::row_fault::RowFault;
 use crate::setting::Setting;
 use crate::words::unrolled;
 use crate::{
-    encodings, jobs, likeness, numbers, parts, registries, sources, streams, texts, values,
-    verdicts,
+    encodings, jobs, likeness, numbers, parts, registries, repeating, sources, streams, texts,
+    values, verdicts,
 };
 use std::alloc::{AllocError, Global};
 
@@ -61,6 +61,7 @@ fn answered(
         | "quiet_value"
         | "stand_value" => encodings::answer(alloc, setting, question, words),
         "json" | "text" | "same" | "pairs" => texts::answer(alloc, setting, question, words),
+        "repeat" => repeating::answer(alloc, setting, words),
         "run"
         | "failing_run"
         | "line"

@@ -86,18 +86,19 @@ fn agree_on(
 ) -> Result<(), RowFault> {
     let again = bytes_of(alloc, question, normal.as_bytes())?;
     agree(
-        again.is_ok_and(|again| again.as_slice() == bytes),
+        matches!(&again, Ok(again) if again.as_slice() == bytes),
         "the normal text",
     )?;
     let text = normal_of(alloc, question, normal.as_bytes())?;
-    agree(text.is_ok_and(|text| text.as_str() == normal), "normalise")?;
+    agree(is_text(&text, normal), "normalise")?;
     let text = text_of(alloc, question, value)?;
-    agree(
-        text.is_ok_and(|text| text.as_str() == normal),
-        "print_value",
-    )?;
+    agree(is_text(&text, normal), "print_value")?;
     let text = text_of_bytes(alloc, question, bytes)?;
-    agree(text.is_ok_and(|text| text.as_str() == normal), "from_bcs")
+    agree(is_text(&text, normal), "from_bcs")
+}
+
+fn is_text<F>(text: &Result<String, F>, wanted: &str) -> bool {
+    matches!(text, Ok(text) if text.as_str() == wanted)
 }
 
 pub(crate) fn bytes_of(
