@@ -2,5 +2,6 @@ pub mod CommandNames
 pub mod CommandOptions
 pub mod LimitLemmas
 pub mod LineFaultLemmas
+pub mod Program
 pub mod Subcommands
 pub mod Values

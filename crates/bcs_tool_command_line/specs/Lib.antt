@@ -2,5 +2,6 @@ pub mod Jobs
 pub mod LineFaults
 pub mod TakenWords
 pub mod CommandLine
+pub mod Words
 pub mod Files
 pub mod FaultPlaces

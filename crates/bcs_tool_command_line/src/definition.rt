@@ -1,340 +1,321 @@
 //! What words each command takes, in clap's terms.
-ghost use Rattle.std.specs.Prelude.{◌≡◌, IfOk, codes, false, fold};
-ghost use Rattle.clap.specs.Words.{app_of, rule_of, with_rule};
+ghost use Rattle.std.specs.Prelude.{◌≡◌, IfOk, IsOkAnd, false, fold, map};
+ghost use Rattle.clap.specs.Words.{app_of, with_rule};
 ghost use Rattle.clap.specs.declared.builder.command.Command.TheViews.{out-Command};
-ghost use Rattle.bcs_tool_command_line.specs.CommandLine.{bcs_app, check_app, coding_options, color_options, decode_app, encode_app, example_app, explain_app, flag_option, form_options, growth_options, grows_app, input_options, lines_option, normalise_app, number_option, optional, part_app, quiet_option, required, same_app, scan_app, schema_app, show_app, show_options, value_app, value_options, variant_option};
+ghost use Rattle.bcs_tool_command_line.specs.CommandLine.{bcs_app, check_app, command_with, decode_app, encode_app, example_app, explain_app, grows_app, normalise_app, part_app, same_app, scan_app, schema_app, show_app, value_app};
+ghost use Rattle.bcs_tool_command_line.specs.Words.{input_apps, registry_apps, rule_of_word, with_command};
 
 use crate::texts;
 use crate::version::VERSION;
-use clap::{Arg, ArgAction, Command, value_parser};
+use crate::word::Word;
+use clap::Command;
 use std::alloc::{AllocError, Global};
+
+const REGISTRY: Word<'static> = Word::Required("REG", texts::REGISTRY);
+
+const FORMAT: Word<'static> = Word::Required("FORMAT", texts::FORMAT);
+
+const FILE: Word<'static> = Word::Optional("FILE", texts::FILE);
+
+const LINES: Word<'static> = Word::Flag("lines", texts::LINES);
+
+const QUIET: Word<'static> = Word::Flag("quiet", texts::QUIET);
 
 /// The whole command line, of which the first word is the program's own name.
 pub fn bcs_command<'a>(alloc: Global) -> Result<Command<'a>, AllocError>
     ensures { IfOk result (λ c. app_of c ≡ bcs_app) }
 {
-    Command::new(alloc, "bcs")
+    let program = Command::new(alloc, "bcs")
         .about("Binary Canonical Serialization, by a registry of formats")
         .after_help(texts::PROGRAM_END)
         .version(VERSION)
-        .subcommand_required(true)
-        .subcommand(check_command(alloc)?)?
-        .subcommand(grows_command(alloc)?)?
-        .subcommand(show_command(alloc)?)?
-        .subcommand(example_command(alloc)?)?
-        .subcommand(schema_command(alloc)?)?
-        .subcommand(encode_command(alloc)?)?
-        .subcommand(decode_command(alloc)?)?
-        .subcommand(explain_command(alloc)?)?
-        .subcommand(normalise_command(alloc)?)?
-        .subcommand(same_command(alloc)?)?
-        .subcommand(part_command(alloc)?)?
-        .subcommand(scan_command(alloc)?)
+        .subcommand_required(true);
+    with_input_commands(alloc, with_registry_commands(alloc, program)?)
+}
+
+// The commands that need a registry alone.
+fn with_registry_commands<'a>(
+    alloc: Global,
+    program: Command<'a>,
+) -> Result<Command<'a>, AllocError>
+    ensures { IfOk result (λ c. app_of c ≡ fold with_command (app_of program.entry) registry_apps) }
+{
+    let program = with_made(program, check_command(alloc))?;
+    let program = with_made(program, grows_command(alloc))?;
+    let program = with_made(program, show_command(alloc))?;
+    let program = with_made(program, example_command(alloc))?;
+    with_made(program, schema_command(alloc))
+}
+
+// The commands that read a value.
+fn with_input_commands<'a>(alloc: Global, program: Command<'a>) -> Result<Command<'a>, AllocError>
+    ensures { IfOk result (λ c. app_of c ≡ fold with_command (app_of program.entry) input_apps) }
+{
+    let program = with_made(program, encode_command(alloc))?;
+    let program = with_made(program, decode_command(alloc))?;
+    let program = with_made(program, explain_command(alloc))?;
+    let program = with_made(program, normalise_command(alloc))?;
+    let program = with_made(program, same_command(alloc))?;
+    let program = with_made(program, part_command(alloc))?;
+    with_made(program, scan_command(alloc))
+}
+
+// Callers hand on what a command's function gave: the program is dropped in this one place where there is none.
+fn with_made<'a>(
+    program: Command<'a>,
+    command: Result<Command<'a>, AllocError>,
+) -> Result<Command<'a>, AllocError>
+    requires global { IfOk command (λ c. (out-Command c).has_globals ≡ false) }
+    ensures { IfOk result (λ c. IsOkAnd command.entry (λ sub. app_of c ≡ with_command (app_of program.entry) (app_of sub))) }
+{
+    program.subcommand(command?)
 }
 
 fn check_command<'a>(alloc: Global) -> Result<Command<'a>, AllocError>
     ensures app { IfOk result (λ c. app_of c ≡ check_app) }
     ensures global { IfOk result (λ c. (out-Command c).has_globals ≡ false) }
 {
-    Command::new(alloc, "check")
-        .about("Checks a registry and prints how many containers it has")
-        .after_help(texts::CHECK_END)
-        .arg(required_word(alloc, "REG", texts::REGISTRY))?
-        .arg(quiet_option(alloc))
+    command_of(
+        alloc,
+        "check",
+        "Checks a registry and prints how many containers it has",
+        texts::CHECK_END,
+        &[REGISTRY, QUIET],
+    )
 }
 
 fn grows_command<'a>(alloc: Global) -> Result<Command<'a>, AllocError>
     ensures app { IfOk result (λ c. app_of c ≡ grows_app) }
     ensures global { IfOk result (λ c. (out-Command c).has_globals ≡ false) }
 {
-    let command = Command::new(alloc, "grows")
-        .about("Tells whether a registry only adds to an older one")
-        .after_help(texts::GROWS_END)
-        .arg(required_word(alloc, "OLD", texts::OLD_REGISTRY))?
-        .arg(required_word(alloc, "NEW", texts::NEW_REGISTRY))?;
-    with_growth_options(alloc, command)
-}
-
-fn with_growth_options<'a>(alloc: Global, command: Command<'a>) -> Result<Command<'a>, AllocError>
-    requires global { (out-Command command).has_globals ≡ false }
-    ensures app { IfOk result (λ c. app_of c ≡ fold with_rule (app_of command.entry) growth_options) }
-    ensures global { IfOk result (λ c. (out-Command c).has_globals ≡ false) }
-{
-    command
-        .arg(flag(alloc, "list", texts::LIST))?
-        .arg(quiet_option(alloc))
+    command_of(
+        alloc,
+        "grows",
+        "Tells whether a registry only adds to an older one",
+        texts::GROWS_END,
+        &[
+            Word::Required("OLD", texts::OLD_REGISTRY),
+            Word::Required("NEW", texts::NEW_REGISTRY),
+            Word::Flag("list", texts::LIST),
+            QUIET,
+        ],
+    )
 }
 
 fn show_command<'a>(alloc: Global) -> Result<Command<'a>, AllocError>
     ensures app { IfOk result (λ c. app_of c ≡ show_app) }
     ensures global { IfOk result (λ c. (out-Command c).has_globals ≡ false) }
 {
-    let command = Command::new(alloc, "show")
-        .about("Prints a registry for reading, or one container with all that it stands on")
-        .after_help(texts::SHOW_END)
-        .arg(required_word(alloc, "REG", texts::REGISTRY))?
-        .arg(optional_word(alloc, "NAME", texts::CONTAINER))?;
-    with_show_options(alloc, command)
-}
-
-fn with_show_options<'a>(alloc: Global, command: Command<'a>) -> Result<Command<'a>, AllocError>
-    requires global { (out-Command command).has_globals ≡ false }
-    ensures app { IfOk result (λ c. app_of c ≡ fold with_rule (app_of command.entry) show_options) }
-    ensures global { IfOk result (λ c. (out-Command c).has_globals ≡ false) }
-{
-    command
-        .arg(flag(alloc, "json", texts::REGISTRY_JSON))?
-        .arg(quiet_option(alloc))
+    command_of(
+        alloc,
+        "show",
+        "Prints a registry for reading, or one container with all that it stands on",
+        texts::SHOW_END,
+        &[
+            REGISTRY,
+            Word::Optional("NAME", texts::CONTAINER),
+            Word::Flag("json", texts::REGISTRY_JSON),
+            QUIET,
+        ],
+    )
 }
 
 fn example_command<'a>(alloc: Global) -> Result<Command<'a>, AllocError>
     ensures app { IfOk result (λ c. app_of c ≡ example_app) }
     ensures global { IfOk result (λ c. (out-Command c).has_globals ≡ false) }
 {
-    value_command(alloc, "example")?
-        .about("Prints the JSON text of a value of a format, ready to be filled in")
-        .after_help(texts::EXAMPLE_END)
-        .arg(variant_option(alloc))?
-        .arg(flag(alloc, "full", texts::FULL))
+    value_command(
+        alloc,
+        "example",
+        "Prints the JSON text of a value of a format, ready to be filled in",
+        texts::EXAMPLE_END,
+        &[Word::Variant, Word::Flag("full", texts::FULL)],
+    )
 }
 
 fn schema_command<'a>(alloc: Global) -> Result<Command<'a>, AllocError>
     ensures app { IfOk result (λ c. app_of c ≡ schema_app) }
     ensures global { IfOk result (λ c. (out-Command c).has_globals ≡ false) }
 {
-    Command::new(alloc, "schema")
-        .about("Prints a JSON Schema of the JSON texts of a format's values")
-        .after_help(texts::SCHEMA_END)
-        .arg(required_word(alloc, "REG", texts::REGISTRY))?
-        .arg(required_word(alloc, "FORMAT", texts::FORMAT))?
-        .arg(quiet_option(alloc))
+    command_of(
+        alloc,
+        "schema",
+        "Prints a JSON Schema of the JSON texts of a format's values",
+        texts::SCHEMA_END,
+        &[REGISTRY, FORMAT, QUIET],
+    )
 }
 
 fn encode_command<'a>(alloc: Global) -> Result<Command<'a>, AllocError>
     ensures app { IfOk result (λ c. app_of c ≡ encode_app) }
     ensures global { IfOk result (λ c. (out-Command c).has_globals ≡ false) }
 {
-    let command = value_command(alloc, "encode")?
-        .about("Prints the bytes of a value's JSON text")
-        .after_help(texts::ENCODE_END);
-    with_input_options(alloc, command, texts::RAW_OUTPUT, texts::BASE64_OUTPUT)
+    value_command(
+        alloc,
+        "encode",
+        "Prints the bytes of a value's JSON text",
+        texts::ENCODE_END,
+        &[
+            FILE,
+            Word::Flag("raw", texts::RAW_OUTPUT),
+            Word::Flag("base64", texts::BASE64_OUTPUT),
+            LINES,
+        ],
+    )
 }
 
 fn decode_command<'a>(alloc: Global) -> Result<Command<'a>, AllocError>
     ensures app { IfOk result (λ c. app_of c ≡ decode_app) }
     ensures global { IfOk result (λ c. (out-Command c).has_globals ≡ false) }
 {
-    let command = value_command(alloc, "decode")?
-        .about("Prints the JSON text of a value's bytes")
-        .after_help(texts::DECODE_END);
-    with_input_options(alloc, command, texts::RAW_INPUT, texts::BASE64_INPUT)
+    value_command(
+        alloc,
+        "decode",
+        "Prints the JSON text of a value's bytes",
+        texts::DECODE_END,
+        &[
+            FILE,
+            Word::Flag("raw", texts::RAW_INPUT),
+            Word::Flag("base64", texts::BASE64_INPUT),
+            LINES,
+        ],
+    )
 }
 
 fn explain_command<'a>(alloc: Global) -> Result<Command<'a>, AllocError>
     ensures app { IfOk result (λ c. app_of c ≡ explain_app) }
     ensures global { IfOk result (λ c. (out-Command c).has_globals ≡ false) }
 {
-    let command = value_command(alloc, "explain")?
-        .about(
-            "Prints a value's bytes, piece by piece: place, bytes, what they are, and the way to them",
-        )
-        .after_help(texts::EXPLAIN_END);
-    let command = with_coding_options(alloc, command, texts::RAW_INPUT, texts::BASE64_INPUT)?;
-    with_color_options(alloc, with_form_options(alloc, command)?)
-}
-
-// How pieces are printed.
-fn with_form_options<'a>(alloc: Global, command: Command<'a>) -> Result<Command<'a>, AllocError>
-    requires global { (out-Command command).has_globals ≡ false }
-    ensures app { IfOk result (λ c. app_of c ≡ fold with_rule (app_of command.entry) form_options) }
-    ensures global { IfOk result (λ c. (out-Command c).has_globals ≡ false) }
-{
-    command
-        .arg(flag(alloc, "paths", texts::PATHS))?
-        .arg(flag(alloc, "tree", texts::TREE))?
-        .arg(flag(alloc, "json", texts::JSON))
-}
-
-fn with_color_options<'a>(alloc: Global, command: Command<'a>) -> Result<Command<'a>, AllocError>
-    requires global { (out-Command command).has_globals ≡ false }
-    ensures app { IfOk result (λ c. app_of c ≡ fold with_rule (app_of command.entry) color_options) }
-    ensures global { IfOk result (λ c. (out-Command c).has_globals ≡ false) }
-{
-    command
-        .arg(flag(alloc, "color", texts::COLOR))?
-        .arg(flag(alloc, "no-color", texts::NO_COLOR))
+    value_command(
+        alloc,
+        "explain",
+        "Prints a value's bytes, piece by piece: place, bytes, what they are, and the way to them",
+        texts::EXPLAIN_END,
+        &[
+            FILE,
+            Word::Flag("raw", texts::RAW_INPUT),
+            Word::Flag("base64", texts::BASE64_INPUT),
+            Word::Flag("paths", texts::PATHS),
+            Word::Flag("tree", texts::TREE),
+            Word::Flag("json", texts::JSON),
+            Word::Flag("color", texts::COLOR),
+            Word::Flag("no-color", texts::NO_COLOR),
+        ],
+    )
 }
 
 fn normalise_command<'a>(alloc: Global) -> Result<Command<'a>, AllocError>
     ensures app { IfOk result (λ c. app_of c ≡ normalise_app) }
     ensures global { IfOk result (λ c. (out-Command c).has_globals ≡ false) }
 {
-    value_command(alloc, "normalise")?
-        .about("Prints the one normal JSON text of a value's JSON text")
-        .after_help(texts::NORMALISE_END)
-        .arg(optional_word(alloc, "FILE", texts::FILE))?
-        .arg(lines_option(alloc))
+    value_command(
+        alloc,
+        "normalise",
+        "Prints the one normal JSON text of a value's JSON text",
+        texts::NORMALISE_END,
+        &[FILE, LINES],
+    )
 }
 
 fn same_command<'a>(alloc: Global) -> Result<Command<'a>, AllocError>
     ensures app { IfOk result (λ c. app_of c ≡ same_app) }
     ensures global { IfOk result (λ c. (out-Command c).has_globals ≡ false) }
 {
-    value_command(alloc, "same")?
-        .about("Tells whether two JSON texts have the same value")
-        .after_help(texts::SAME_END)
-        .arg(required_word(alloc, "A", texts::FIRST_FILE))?
-        .arg(optional_word(alloc, "B", texts::SECOND_FILE))?
-        .arg(flag(alloc, "lines", texts::LINES_OF_BOTH))
+    value_command(
+        alloc,
+        "same",
+        "Tells whether two JSON texts have the same value",
+        texts::SAME_END,
+        &[
+            Word::Required("A", texts::FIRST_FILE),
+            Word::Optional("B", texts::SECOND_FILE),
+            Word::Flag("lines", texts::LINES_OF_BOTH),
+        ],
+    )
 }
 
 fn part_command<'a>(alloc: Global) -> Result<Command<'a>, AllocError>
     ensures app { IfOk result (λ c. app_of c ≡ part_app) }
     ensures global { IfOk result (λ c. (out-Command c).has_globals ≡ false) }
 {
-    let command = value_command(alloc, "part")?
-        .about("Prints the bytes of a part of a value, out of the value's bytes")
-        .after_help(texts::PART_END)
-        .arg(required_word(alloc, "PATH", texts::PATH))?;
-    with_input_options(alloc, command, texts::RAW_BOTH, texts::BASE64_BOTH)
+    value_command(
+        alloc,
+        "part",
+        "Prints the bytes of a part of a value, out of the value's bytes",
+        texts::PART_END,
+        &[
+            Word::Required("PATH", texts::PATH),
+            FILE,
+            Word::Flag("raw", texts::RAW_BOTH),
+            Word::Flag("base64", texts::BASE64_BOTH),
+            LINES,
+        ],
+    )
 }
 
 fn scan_command<'a>(alloc: Global) -> Result<Command<'a>, AllocError>
     ensures app { IfOk result (λ c. app_of c ≡ scan_app) }
     ensures global { IfOk result (λ c. (out-Command c).has_globals ≡ false) }
 {
-    let command = value_command(alloc, "scan")?
-        .about("Checks the bytes of a value and prints how many there are")
-        .after_help(texts::SCAN_END);
-    with_input_options(alloc, command, texts::RAW_INPUT, texts::BASE64_INPUT)?.arg(flag(
+    value_command(
         alloc,
-        "front",
-        texts::FRONT,
-    ))
+        "scan",
+        "Checks the bytes of a value and prints how many there are",
+        texts::SCAN_END,
+        &[
+            FILE,
+            Word::Flag("raw", texts::RAW_INPUT),
+            Word::Flag("base64", texts::BASE64_INPUT),
+            LINES,
+            Word::Flag("front", texts::FRONT),
+        ],
+    )
 }
 
-// Where the input is from, and how bytes are read and written. `raw` and `base64` are the helps of these options.
-fn with_coding_options<'a>(
+// A command on values of a format, within limits, that takes these words after the format.
+fn value_command<'a>(
     alloc: Global,
-    command: Command<'a>,
-    raw: &'a str,
-    base64: &'a str,
+    name: &'a str,
+    about: &'a str,
+    after_help: &'a str,
+    words: &[Word<'a>],
 ) -> Result<Command<'a>, AllocError>
-    requires global { (out-Command command).has_globals ≡ false }
-    ensures app { IfOk result (λ c. app_of c ≡ fold with_rule (app_of command.entry) coding_options) }
+    ensures app { IfOk result (λ c. app_of c ≡ fold with_rule (value_app name.entry.now) (map rule_of_word words.now)) }
     ensures global { IfOk result (λ c. (out-Command c).has_globals ≡ false) }
 {
-    command
-        .arg(optional_word(alloc, "FILE", texts::FILE))?
-        .arg(flag(alloc, "raw", raw))?
-        .arg(flag(alloc, "base64", base64))
+    let shared = [REGISTRY, FORMAT, Word::Depth, Word::Nodes, QUIET];
+    let command = command_of(alloc, name, about, after_help, &shared)?;
+    with_words(alloc, command, words)
 }
 
-// The same options, and whether each line is an input.
-fn with_input_options<'a>(
+// A command of this name that takes these words, in this order.
+fn command_of<'a>(
     alloc: Global,
-    command: Command<'a>,
-    raw: &'a str,
-    base64: &'a str,
+    name: &'a str,
+    about: &'a str,
+    after_help: &'a str,
+    words: &[Word<'a>],
 ) -> Result<Command<'a>, AllocError>
-    requires global { (out-Command command).has_globals ≡ false }
-    ensures app { IfOk result (λ c. app_of c ≡ fold with_rule (app_of command.entry) input_options) }
-    ensures global { IfOk result (λ c. (out-Command c).has_globals ≡ false) }
-{
-    with_coding_options(alloc, command, raw, base64)?.arg(lines_option(alloc))
-}
-
-// A command on values of a format, within limits.
-fn value_command<'a>(alloc: Global, name: &'a str) -> Result<Command<'a>, AllocError>
-    ensures app { IfOk result (λ c. app_of c ≡ value_app name.entry.now) }
+    ensures app { IfOk result (λ c. app_of c ≡ command_with name.entry.now (map rule_of_word words.now)) }
     ensures global { IfOk result (λ c. (out-Command c).has_globals ≡ false) }
 {
     let command = Command::new(alloc, name)
-        .arg(required_word(alloc, "REG", texts::REGISTRY))?
-        .arg(required_word(alloc, "FORMAT", texts::FORMAT))?;
-    with_value_options(alloc, command)
+        .about(about)
+        .after_help(after_help);
+    with_words(alloc, command, words)
 }
 
-fn with_value_options<'a>(alloc: Global, command: Command<'a>) -> Result<Command<'a>, AllocError>
+fn with_words<'a>(
+    alloc: Global,
+    mut command: Command<'a>,
+    words: &[Word<'a>],
+) -> Result<Command<'a>, AllocError>
     requires global { (out-Command command).has_globals ≡ false }
-    ensures app { IfOk result (λ c. app_of c ≡ fold with_rule (app_of command.entry) value_options) }
+    ensures app { IfOk result (λ c. app_of c ≡ fold with_rule (app_of command.entry) (map rule_of_word words.now)) }
     ensures global { IfOk result (λ c. (out-Command c).has_globals ≡ false) }
 {
-    command
-        .arg(depth_option(alloc))?
-        .arg(nodes_option(alloc))?
-        .arg(quiet_option(alloc))
-}
-
-// A word that has to be there, known by its place.
-fn required_word<'a>(alloc: Global, name: &'a str, help: &'a str) -> Arg<'a>
-    ensures rule { rule_of result ≡ required name.entry.now }
-    ensures global { result.global ≡ false }
-{
-    Arg::new(alloc, name).help(help).required(true)
-}
-
-// A word that may be left out, known by its place.
-fn optional_word<'a>(alloc: Global, name: &'a str, help: &'a str) -> Arg<'a>
-    ensures rule { rule_of result ≡ optional name.entry.now }
-    ensures global { result.global ≡ false }
-{
-    Arg::new(alloc, name).help(help)
-}
-
-fn lines_option<'a>(alloc: Global) -> Arg<'a>
-    ensures rule { rule_of result ≡ lines_option }
-    ensures global { result.global ≡ false }
-{
-    flag(alloc, "lines", texts::LINES)
-}
-
-fn quiet_option<'a>(alloc: Global) -> Arg<'a>
-    ensures rule { rule_of result ≡ quiet_option }
-    ensures global { result.global ≡ false }
-{
-    flag(alloc, "quiet", texts::QUIET)
-}
-
-// An option of this name without a value.
-fn flag<'a>(alloc: Global, name: &'a str, help: &'a str) -> Arg<'a>
-    ensures rule { rule_of result ≡ flag_option name.entry.now }
-    ensures global { result.global ≡ false }
-{
-    Arg::new(alloc, name)
-        .long(name)
-        .action(ArgAction::SetTrue)
-        .help(help)
-}
-
-fn variant_option<'a>(alloc: Global) -> Arg<'a>
-    ensures rule { rule_of result ≡ variant_option }
-    ensures global { result.global ≡ false }
-{
-    Arg::new(alloc, "variant")
-        .long("variant")
-        .value_name("NAME")
-        .help(texts::VARIANT)
-}
-
-fn depth_option<'a>(alloc: Global) -> Arg<'a>
-    ensures rule { rule_of result ≡ number_option (codes "depth") 500 }
-    ensures global { result.global ≡ false }
-{
-    Arg::new(alloc, "depth")
-        .long("depth")
-        .value_name("N")
-        .value_parser(value_parser!(u32).range(..=500))
-        .help("The most containers that may be open at once, at most 500")
-}
-
-fn nodes_option<'a>(alloc: Global) -> Arg<'a>
-    ensures rule { rule_of result ≡ number_option (codes "nodes") 4294967295 }
-    ensures global { result.global ≡ false }
-{
-    Arg::new(alloc, "nodes")
-        .long("nodes")
-        .value_name("N")
-        .value_parser(value_parser!(u32))
-        .help("The most nodes of a value")
+    for word in words {
+        command = command.arg(word.argument(alloc))?;
+    }
+    Ok(command)
 }

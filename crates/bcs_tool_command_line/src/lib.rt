@@ -19,6 +19,7 @@ mod styling;
 mod texts;
 mod unread_file;
 pub mod version;
+mod word;
 mod work;
 
 pub use coding::Coding;

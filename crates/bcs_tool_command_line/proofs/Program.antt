@@ -1,0 +1,12 @@
+-- A program with one command more.
+use Rattle.std.proofs.Common.{◌≡◌, ◌∙◌, ap, ap₂, Result, Ok, Err, IfOk, IsOkAnd}
+use Rattle.std.specs.declared.alloc.AllocError.{AllocError}
+use Rattle.clap.specs.Words.{App, app_of}
+use Rattle.clap.specs.declared.builder.command.Command.{Command}
+use Rattle.bcs_tool_command_line.specs.Words.{with_command}
+
+pub added : {a : App} (b : App) (old new : Command) (made : Result Command AllocError)
+    → IsOkAnd made (λ sub. app_of new ≡ with_command (app_of old) (app_of sub))
+    → app_of old ≡ a → IfOk made (λ sub. app_of sub ≡ b) → app_of new ≡ with_command a b
+added b old new (Ok sub) h above below = h ∙ ap₂ with_command above below
+added b old new (Err e) h above below = absurd h
