@@ -17,7 +17,7 @@ rule_of_word Nodes = number_option (codes "nodes") 4294967295
 abbrev pub with_command : App → App → App
 with_command program command = with_subcommand program command.top
 
--- the commands that need a registry alone
+-- the commands that read no value
 abbrev pub registry_apps : List App
 registry_apps = check_app ∷ grows_app ∷ show_app ∷ example_app ∷ schema_app ∷ []
 

@@ -33,7 +33,7 @@ pub fn bcs_command<'a>(alloc: Global) -> Result<Command<'a>, AllocError>
     with_input_commands(alloc, with_registry_commands(alloc, program)?)
 }
 
-// The commands that need a registry alone.
+// The commands that read no value.
 fn with_registry_commands<'a>(
     alloc: Global,
     program: Command<'a>,
