@@ -1,7 +1,6 @@
 //! A word that a command takes.
-ghost use Rattle.std.specs.Prelude.{◌≡◌, codes, false};
+ghost use Rattle.std.specs.Prelude.{◌≡◌, false};
 ghost use Rattle.clap.specs.Words.{rule_of};
-ghost use Rattle.bcs_tool_command_line.specs.CommandLine.{number_option, variant_option};
 ghost use Rattle.bcs_tool_command_line.specs.Words.{rule_of_word};
 
 use crate::texts;
@@ -38,41 +37,20 @@ impl<'a> Word<'a> {
                 .long(name)
                 .action(ArgAction::SetTrue)
                 .help(help),
-            Word::Variant => variant_option(alloc),
-            Word::Depth => depth_option(alloc),
-            Word::Nodes => nodes_option(alloc),
+            Word::Variant => Arg::new(alloc, "variant")
+                .long("variant")
+                .value_name("NAME")
+                .help(texts::VARIANT),
+            Word::Depth => Arg::new(alloc, "depth")
+                .long("depth")
+                .value_name("N")
+                .value_parser(value_parser!(u32).range(..=500))
+                .help("The most containers that may be open at once, at most 500"),
+            Word::Nodes => Arg::new(alloc, "nodes")
+                .long("nodes")
+                .value_name("N")
+                .value_parser(value_parser!(u32))
+                .help("The most nodes of a value"),
         }
     }
-}
-
-fn variant_option<'a>(alloc: Global) -> Arg<'a>
-    ensures rule { rule_of result ≡ variant_option }
-    ensures global { result.global ≡ false }
-{
-    Arg::new(alloc, "variant")
-        .long("variant")
-        .value_name("NAME")
-        .help(texts::VARIANT)
-}
-
-fn depth_option<'a>(alloc: Global) -> Arg<'a>
-    ensures rule { rule_of result ≡ number_option (codes "depth") 500 }
-    ensures global { result.global ≡ false }
-{
-    Arg::new(alloc, "depth")
-        .long("depth")
-        .value_name("N")
-        .value_parser(value_parser!(u32).range(..=500))
-        .help("The most containers that may be open at once, at most 500")
-}
-
-fn nodes_option<'a>(alloc: Global) -> Arg<'a>
-    ensures rule { rule_of result ≡ number_option (codes "nodes") 4294967295 }
-    ensures global { result.global ≡ false }
-{
-    Arg::new(alloc, "nodes")
-        .long("nodes")
-        .value_name("N")
-        .value_parser(value_parser!(u32))
-        .help("The most nodes of a value")
 }
