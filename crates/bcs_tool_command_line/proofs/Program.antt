@@ -1,5 +1,5 @@
 -- A program with one command more.
-use Rattle.std.proofs.Common.{◌≡◌, ◌∙◌, ap, ap₂, Result, Ok, Err, IfOk, IsOkAnd}
+use Rattle.std.proofs.Common.{◌≡◌, ◌∙◌, ap₂, Result, Ok, Err, IfOk, IsOkAnd}
 use Rattle.std.specs.declared.alloc.AllocError.{AllocError}
 use Rattle.clap.specs.Words.{App, app_of}
 use Rattle.clap.specs.declared.builder.command.Command.{Command}
