@@ -12,6 +12,7 @@ use bcs_decode_source::number::length;
 use bcs_decode_source::reader::Reader;
 use bcs_decode_spec::{DecodeFault, Reason, Stop};
 use bcs_io::ByteSource;
+use bcs_num::GREATEST_LEN;
 
 #[inline(never)]
 pub fn truth<S: ByteSource>(reader: &mut Reader<'_, S>) -> Result<(), DecodeFault>
@@ -28,12 +29,12 @@ pub fn truth<S: ByteSource>(reader: &mut Reader<'_, S>) -> Result<(), DecodeFaul
 #[inline(never)]
 pub fn whole<S: ByteSource>(reader: &mut Reader<'_, S>, width: usize) -> Result<(), DecodeFault>
     requires ready { Ready S.is_failed S.allowance reader.old }
-    requires small { width ≤ 16 }
+    requires small { width ≤ GREATEST_LEN }
     ensures reads { Reads S.content S.is_failed S.allowance (λ x. x) result reader.old (whole_here width) reader.new }
     ensures spares { SparesMemory result reader.old.at.now }
 {
     begin(reader)?;
-    let mut block = [0u8; 16];
+    let mut block = [0u8; GREATEST_LEN];
     read_exact(reader, &mut block[..width])?;
     Ok(())
 }

@@ -9,6 +9,7 @@ use bcs_decode_source::bytes::read_exact;
 use bcs_decode_source::reader::Reader;
 use bcs_decode_spec::{DecodeFault, Reason, Stop};
 use bcs_io::ByteSource;
+use bcs_num::GREATEST_LEN;
 
 /// How many bytes are taken at a time.
 const BLOCK: usize = 512;
@@ -22,7 +23,7 @@ pub fn whole_row<S: ByteSource>(
     count: u64,
 ) -> Result<(), DecodeFault>
     requires ready { Ready S.is_failed S.allowance reader.old }
-    requires small { width ≤ 16 }
+    requires small { width ≤ GREATEST_LEN }
     ensures reads { Reads S.content S.is_failed S.allowance (λ x. x) result reader.old (items_here skipping (whole_here width) count) reader.new }
     ensures spares { SparesMemory result reader.old.at.now }
 {
@@ -45,7 +46,7 @@ pub fn whole_row<S: ByteSource>(
 
 /// How many of so many values are in the next block, where so many nodes may begin. Those without bytes all are.
 fn share(width: usize, left: u64, nodes: u32) -> u32
-    requires small { width ≤ 16 }
+    requires small { width ≤ GREATEST_LEN }
     ensures left { result ≤ left }
     ensures nodes { result ≤ nodes }
     ensures room { result * width ≤ 512 }

@@ -7,12 +7,13 @@ ghost use Rattle.bcs_decode_slice.specs.Passing.{Passes, Onward, skip, whole_her
 
 use crate::cursor::{Cursor, advance, end_of_input};
 use bcs_decode_spec::{Reason, Stop};
+use bcs_num::GREATEST_LEN;
 use bcs_registry_model::{Format, Kind, Scalar};
 
 /// How many bytes each value of the format has, where any bytes will do.
 #[inline(never)]
 pub fn whole_width(format: &Format) -> Option<usize>
-    ensures { IfSome result (λ w. (w ≤ 16) × ((registry : Entries) (d p m : ℕ) (b : List ℕ) → skip registry d (shape_of format.now) p m b ≡ whole_here w p m b)) }
+    ensures { IfSome result (λ w. (w ≤ GREATEST_LEN) × ((registry : Entries) (d p m : ℕ) (b : List ℕ) → skip registry d (shape_of format.now) p m b ≡ whole_here w p m b)) }
 {
     match format.kind() {
         Kind::Scalar(Scalar::Unit) => Some(0),
@@ -31,7 +32,7 @@ pub fn whole_width(format: &Format) -> Option<usize>
 #[inline(never)]
 pub fn whole_row(cursor: &mut Cursor, width: usize, count: u64) -> Result<(), Stop>
     requires room { cursor.old.place + length cursor.old.rest.now < 2 ^ 64 }
-    requires small { width ≤ 16 }
+    requires small { width ≤ GREATEST_LEN }
     ensures passes { Passes (λ x. x) result (items_here skipping (whole_here width) count) cursor.old cursor.new }
     ensures onward { Onward cursor.old cursor.new }
 {

@@ -6,7 +6,7 @@ ghost use Rattle.bcs_num.specs.Uleb.{uleb};
 ghost use Rattle.bcs_encode_walk.specs.Writing.{Tells, length_written, bytes_written, signed_written, unsigned_written};
 
 use bcs_encode_spec::EncodeFault;
-use bcs_num::{LENGTH_LIMIT, Width, put_le, put_le_signed, put_uleb};
+use bcs_num::{GREATEST_LEN, LENGTH_LIMIT, Width, put_le, put_le_signed, put_uleb};
 
 /// Appends one byte.
 pub fn push_byte(byte: u8, out: &mut Vec<u8>) -> Result<(), EncodeFault>
@@ -62,7 +62,7 @@ pub fn push_unsigned(width: Width, number: u128, out: &mut Vec<u8>) -> Result<()
         out.push(number as u8)?;
         return Ok(());
     }
-    let mut bytes = [0; 16];
+    let mut bytes = [0; GREATEST_LEN];
     let len = put_le(width, number, &mut bytes);
     out.extend_from_slice(&bytes[..len])?;
     Ok(())
@@ -80,7 +80,7 @@ pub fn push_signed(width: Width, number: i128, out: &mut Vec<u8>) -> Result<(), 
     if !width.holds_signed(number) {
         return Err(EncodeFault::NotOfFormat);
     }
-    let mut bytes = [0; 16];
+    let mut bytes = [0; GREATEST_LEN];
     let len = put_le_signed(width, number, &mut bytes);
     out.extend_from_slice(&bytes[..len])?;
     Ok(())

@@ -15,4 +15,4 @@ pub use little_endian::{
     front_signed, front_unsigned, put_le, put_le_signed, take_le, take_le_signed,
 };
 pub use uleb::{LENGTH_LIMIT, put_uleb, take_uleb};
-pub use width::Width;
+pub use width::{GREATEST_LEN, Width};

@@ -4,14 +4,14 @@ ghost use Rattle.std.specs.Int.{byte_len, cast_signed, from_le_bytes};
 ghost use Rattle.bcs_num.specs.Le.{width_of, IsUnsigned, IsSigned, le, le_signed};
 
 use crate::fault::NumFault;
-use crate::width::Width;
+use crate::width::{GREATEST_LEN, Width};
 
 /// Writes an unsigned number at the front of `out`, and answers how many bytes it has: those of
 /// the width.
-pub fn put_le(width: Width, n: u128, out: &mut [u8; 16]) -> usize
+pub fn put_le(width: Width, n: u128, out: &mut [u8; GREATEST_LEN]) -> usize
     requires { IsUnsigned (width_of width) n }
     ensures len { result ≡ byte_len (width_of width) }
-    ensures room { result ≤ 16 }
+    ensures room { result ≤ GREATEST_LEN }
     ensures bytes { take result out.new ≡ le (width_of width) n }
     ensures rest { drop result out.new ≡ drop result out.old }
 {
@@ -26,10 +26,10 @@ pub fn put_le(width: Width, n: u128, out: &mut [u8; 16]) -> usize
 
 /// Writes a signed number at the front of `out`, and answers how many bytes it has: those of the
 /// width.
-pub fn put_le_signed(width: Width, n: i128, out: &mut [u8; 16]) -> usize
+pub fn put_le_signed(width: Width, n: i128, out: &mut [u8; GREATEST_LEN]) -> usize
     requires { IsSigned (width_of width) n }
     ensures len { result ≡ byte_len (width_of width) }
-    ensures room { result ≤ 16 }
+    ensures room { result ≤ GREATEST_LEN }
     ensures bytes { take result out.new ≡ le_signed (width_of width) n }
     ensures rest { drop result out.new ≡ drop result out.old }
 {
@@ -37,8 +37,8 @@ pub fn put_le_signed(width: Width, n: i128, out: &mut [u8; 16]) -> usize
     put_le(width, n.cast_unsigned() & width.greatest_unsigned(), out)
 }
 
-fn put_front<const N: usize>(bytes: [u8; N], out: &mut [u8; 16]) -> usize
-    requires { N ≤ 16 }
+fn put_front<const N: usize>(bytes: [u8; N], out: &mut [u8; GREATEST_LEN]) -> usize
+    requires { N ≤ GREATEST_LEN }
     ensures len { result ≡ N }
     ensures after { out.new ≡ bytes.entry ++ drop N out.old }
 {

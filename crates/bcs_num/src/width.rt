@@ -5,6 +5,9 @@ ghost use Rattle.bcs_num.specs.Le as spec;
 ghost use Rattle.bcs_num.specs.Le.{width_of, IsUnsigned, IsSigned};
 ghost use mir.Val.{bits, hbits};
 
+/// How many bytes the widest numbers have.
+pub const GREATEST_LEN: usize = 16;
+
 /// How many bytes a whole number has. The same width serves an unsigned number and a signed one.
 #[derive(Clone, Copy, Debug, PartialEq, Eq)]
 pub enum Width {

@@ -3,9 +3,12 @@
 use crate::row_fault::RowFault;
 use crate::words::{bytes, number, word_of};
 use bcs_num::{
-    Width, parse_signed, parse_unsigned, put_le, put_le_signed, put_uleb, take_le, take_le_signed,
-    take_uleb,
+    GREATEST_LEN, parse_signed, parse_unsigned, put_le, put_le_signed, put_uleb, take_le,
+    take_le_signed, take_uleb,
 };
+use bcs_registry_json::format_text::format_from;
+use bcs_registry_json::json_text::registry_json;
+use bcs_registry_model::WholeNumber;
 use std::alloc::Global;
 
 pub(crate) fn answer(alloc: Global, question: &str, words: &[&str]) -> Result<String, RowFault> {
@@ -34,39 +37,22 @@ fn uleb_taken(alloc: Global, word: &str) -> Result<String, RowFault> {
     }
 }
 
-/// Whole numbers of a width.
-#[derive(Clone, Copy)]
-enum Numbers {
-    Unsigned(Width),
-    Signed(Width),
-}
-
-// The numbers of a format, as of `U8` and `I128`.
-fn numbers_of(format: &str) -> Result<Numbers, RowFault> {
-    match format {
-        "U8" => Ok(Numbers::Unsigned(Width::W1)),
-        "U16" => Ok(Numbers::Unsigned(Width::W2)),
-        "U32" => Ok(Numbers::Unsigned(Width::W4)),
-        "U64" => Ok(Numbers::Unsigned(Width::W8)),
-        "U128" => Ok(Numbers::Unsigned(Width::W16)),
-        "I8" => Ok(Numbers::Signed(Width::W1)),
-        "I16" => Ok(Numbers::Signed(Width::W2)),
-        "I32" => Ok(Numbers::Signed(Width::W4)),
-        "I64" => Ok(Numbers::Signed(Width::W8)),
-        "I128" => Ok(Numbers::Signed(Width::W16)),
-        _ => Err(RowFault::NotUnderstood),
-    }
+// The whole numbers of a format, as of `U8` and `I128`.
+fn numbers_of(alloc: Global, format: &str) -> Result<WholeNumber, RowFault> {
+    let text = format!(in alloc; "\"{format}\"")?;
+    let format = format_from(alloc, &registry_json(alloc, text.as_bytes())?)?;
+    WholeNumber::of(&format).ok_or(RowFault::NotUnderstood)
 }
 
 // The bytes of a number of the format.
 fn put(alloc: Global, format: &str, text: &str) -> Result<String, RowFault> {
-    let mut out = [0xee; 16];
-    let len = match numbers_of(format)? {
-        Numbers::Unsigned(width) => match parse_unsigned(width, text) {
+    let mut out = [0xee; GREATEST_LEN];
+    let len = match numbers_of(alloc, format)? {
+        WholeNumber::Unsigned(width) => match parse_unsigned(width, text) {
             Some(number) => put_le(width, number, &mut out),
             None => return Err(RowFault::NotUnderstood),
         },
-        Numbers::Signed(width) => match parse_signed(width, text) {
+        WholeNumber::Signed(width) => match parse_signed(width, text) {
             Some(number) => put_le_signed(width, number, &mut out),
             None => return Err(RowFault::NotUnderstood),
         },
@@ -77,12 +63,12 @@ fn put(alloc: Global, format: &str, text: &str) -> Result<String, RowFault> {
 // The number of the format that the bytes begin with.
 fn taken(alloc: Global, format: &str, word: &str) -> Result<String, RowFault> {
     let bytes = bytes(alloc, word)?;
-    let taken = match numbers_of(format)? {
-        Numbers::Unsigned(width) => match take_le(width, &bytes) {
+    let taken = match numbers_of(alloc, format)? {
+        WholeNumber::Unsigned(width) => match take_le(width, &bytes) {
             Ok(number) => format!(in alloc; "{number}"),
             Err(fault) => format!(in alloc; "{fault}"),
         },
-        Numbers::Signed(width) => match take_le_signed(width, &bytes) {
+        WholeNumber::Signed(width) => match take_le_signed(width, &bytes) {
             Ok(number) => format!(in alloc; "{number}"),
             Err(fault) => format!(in alloc; "{fault}"),
         },
@@ -92,12 +78,12 @@ fn taken(alloc: Global, format: &str, word: &str) -> Result<String, RowFault> {
 
 // The number of the format whose plain decimal text this is.
 fn parsed(alloc: Global, format: &str, text: &str) -> Result<String, RowFault> {
-    let parsed = match numbers_of(format)? {
-        Numbers::Unsigned(width) => match parse_unsigned(width, text) {
+    let parsed = match numbers_of(alloc, format)? {
+        WholeNumber::Unsigned(width) => match parse_unsigned(width, text) {
             Some(number) => format!(in alloc; "{number}"),
             None => String::from_str(alloc, "none"),
         },
-        Numbers::Signed(width) => match parse_signed(width, text) {
+        WholeNumber::Signed(width) => match parse_signed(width, text) {
             Some(number) => format!(in alloc; "{number}"),
             None => String::from_str(alloc, "none"),
         },
