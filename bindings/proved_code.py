@@ -1,13 +1,17 @@
 #!/usr/bin/env python3
 """Builds the static library of crates/bcs_c over the libraries below it as they stand, which `rt ci` or `rt lib` left built.
 
-    bindings/proved_code.py FILE               makes FILE, the archive, as `rt lib` does in the crate's folder
-    bindings/proved_code.py --program FILE     makes FILE, the object file of the program `bcs`, as `rt run` does
+    bindings/proved_code.py FILE               makes FILE, the archive
+    bindings/proved_code.py --program FILE     makes FILE, the object file of the program `bcs`
     bindings/proved_code.py --module FILE      makes FILE, the LLVM module of the archive's code as text, for other processors
 
 `rt lib` builds anew each library that `rt ci` built, since it keeps only what it built itself. So the gate builds the archive
 by this, over what it has proved a moment before. The crate itself is proved here once more. Where a library isn't there,
 `rt lib` makes them all first.
+
+Archive and program are compiled as `rt` has them compiled, but that no jump lies across a boundary of 32 bytes. Intel's processors
+of 2015 to 2019 are slow at one that does (Intel calls it the erratum of jump conditional code), so a loop took up to 8 % more or
+less time by the place that the linker gave it.
 
 The toolchain hands an LLVM module of the proved code to clang, for x86-64. `--module` keeps it, for the first level of that
 processor, since for later ones it calls what only they have. bindings/web/module and bindings/arm64/build compile it.
@@ -79,8 +83,8 @@ def make_below(kit: pathlib.Path, crate: pathlib.Path) -> None:
         subprocess.run(words, cwd=crate, stdout=subprocess.DEVNULL, check=True)
 
 
-def tools_that_keep_the_module(kit: pathlib.Path, room: pathlib.Path) -> pathlib.Path:
-    """The toolchain's own tools, with a clang that copies the LLVM module aside before it compiles it."""
+def tools_with_clang(kit: pathlib.Path, room: pathlib.Path, before: str, *words: str) -> pathlib.Path:
+    """The toolchain's own tools, with a clang that runs a command of the shell first, and takes these words behind its own."""
     tools = room / "tools"
     (tools / "bin").mkdir(parents=True)
     (tools / "lib").symlink_to(kit / "toolchain/lib")
@@ -88,16 +92,24 @@ def tools_that_keep_the_module(kit: pathlib.Path, room: pathlib.Path) -> pathlib
         if tool.name != "clang":
             (tools / "bin" / tool.name).symlink_to(tool)
     clang = tools / "bin/clang"
-    clang.write_text(f'#!/bin/sh\ncp module.bc "{room}/module.bc" && exec "{kit}/toolchain/bin/clang" "$@"\n')
+    clang.write_text(f'#!/bin/sh\n{before} && exec "{kit}/toolchain/bin/clang" "$@" {" ".join(words)}\n')
     clang.chmod(0o755)
     return tools
+
+
+def make_code(kit: pathlib.Path, file: pathlib.Path, crate: pathlib.Path) -> None:
+    """Makes the file, the crate's archive or object file."""
+    with tempfile.TemporaryDirectory() as folder:
+        tools = tools_with_clang(kit, pathlib.Path(folder), "true", "-mbranches-within-32B-boundaries")
+        prove_and_build(kit, file, tools, crate=crate)
 
 
 def make_module(kit: pathlib.Path, file: pathlib.Path) -> None:
     """Makes the file, the LLVM module as text. The archive that is built on the way is let go."""
     with tempfile.TemporaryDirectory() as folder:
         room = pathlib.Path(folder)
-        prove_and_build(kit, room / "x86.a", tools_that_keep_the_module(kit, room), "--cpu", "x86-64")
+        tools = tools_with_clang(kit, room, f'cp module.bc "{room}/module.bc"')
+        prove_and_build(kit, room / "x86.a", tools, "--cpu", "x86-64")
         clang = [str(kit / "toolchain/bin/clang"), "--no-default-config", "--target=x86_64-unknown-linux-gnu"]
         as_text = ["-S", "-emit-llvm", "-Xclang", "-disable-llvm-passes", "-x", "ir", f"{room}/module.bc"]
         subprocess.run([*clang, *as_text, "-o", str(file)], check=True)
@@ -113,7 +125,7 @@ def main() -> None:
     if option == "--module":
         make_module(kit, file)
     else:
-        prove_and_build(kit, file, kit / "toolchain", crate=crate)
+        make_code(kit, file, crate)
 
 
 if __name__ == "__main__":
