@@ -33,16 +33,25 @@ pub(crate) fn answer(
         _ => more,
     };
     let asked = Question::read(alloc, &setting.registry, format, limits)?;
-    let value = value_of(alloc, value)?;
+    answered(alloc, question, &asked, &value_of(alloc, value)?, more)
+}
+
+fn answered(
+    alloc: Global,
+    question: &str,
+    asked: &Question,
+    value: &Value,
+    more: &[&str],
+) -> Result<String, RowFault> {
     match (question, more) {
-        ("encode", _) => encoded_told(alloc, &asked, &value),
-        ("form", _) => formed(alloc, &asked, &value),
-        ("length", _) => counted(alloc, of_encode(alloc, &asked, &value)?),
-        ("entries", _) => counted(alloc, of_entries(alloc, &asked, &value)?),
-        ("deep", [wanted]) => deep(alloc, &asked, &value, &bytes(alloc, wanted)?),
-        ("write", [piece, fails]) => written(alloc, &asked, &value, [piece, fails]),
+        ("encode", _) => encoded_told(alloc, asked, value),
+        ("form", _) => formed(alloc, asked, value),
+        ("length", _) => counted(alloc, of_encode(alloc, asked, value)?),
+        ("entries", _) => counted(alloc, of_entries(alloc, asked, value)?),
+        ("deep", [wanted]) => deep(alloc, asked, value, wanted),
+        ("write", [piece, fails]) => written(alloc, asked, value, [piece, fails]),
         ("quiet_value", _) => {
-            let _ = encoded(alloc, &asked, &value)?;
+            let _ = encoded(alloc, asked, value)?;
             Ok(String::from_str(alloc, "quiet")?)
         }
         ("stand_value", _) => Ok(String::from_str(alloc, "quiet")?),
@@ -63,14 +72,13 @@ fn deep(
     alloc: Global,
     question: &Question,
     value: &Value,
-    wanted: &[u8],
+    wanted: &str,
 ) -> Result<String, RowFault> {
-    let encoded = encoded(alloc, question, value)?;
-    agree(
-        matches!(&encoded, Ok(bytes) if bytes.as_slice() == wanted),
-        "encode",
-    )?;
-    counted(alloc, encoded)
+    let Ok(encoded) = encoded(alloc, question, value)? else {
+        return Err(RowFault::Disagreement("encode"));
+    };
+    agree(encoded == bytes(alloc, wanted)?, "encode")?;
+    Ok(format!(in alloc; "{} bytes", encoded.len())?)
 }
 
 // What is written to a sink of 64 bytes that takes a piece a call, and fails from a call on.
@@ -87,14 +95,17 @@ fn written(
     } = question;
     let piece = (number(piece)? as usize).max(1);
     let mut sink = PieceSink::<64>::new(piece, call(fails)?);
-    let told = match write(alloc, registry, format, limits, value, &mut sink) {
-        Ok(count) => format!(in alloc; "{count}")?,
-        Err(WriteFault::Write { written }) => format!(in alloc; "Write {written}")?,
-        Err(WriteFault::Encode(fault)) => format!(in alloc; "Encode {fault}")?,
-    };
+    let written = write(alloc, registry, format, limits, value, &mut sink);
     let taken = word_of(alloc, sink.taken())?;
     let failed = if sink.failed() { ", failed" } else { "" };
-    Ok(format!(in alloc; "{told} {taken}{failed}")?)
+    let told = match written {
+        Ok(count) => format!(in alloc; "{count} {taken}{failed}"),
+        Err(WriteFault::Write { written }) => {
+            format!(in alloc; "Write {written} {taken}{failed}")
+        }
+        Err(WriteFault::Encode(fault)) => format!(in alloc; "Encode {fault} {taken}{failed}"),
+    };
+    Ok(told?)
 }
 
 // The canonical form, by the names that values have in code.
@@ -115,21 +126,30 @@ fn encoded_told(alloc: Global, question: &Question, value: &Value) -> Result<Str
 // The bytes or the fault of `encode`, and all other calls have to give the same.
 fn encoded(alloc: Global, question: &Question, value: &Value) -> Result<Encoded, RowFault> {
     let encoded = of_encode(alloc, question, value)?;
-    agree(
-        of_entries(alloc, question, value)? == encoded,
-        "encode_by_entries",
-    )?;
-    agree(of_form(alloc, question, value)? == encoded, "canonicalise")?;
-    agree(of_write(alloc, question, value)? == encoded, "write")?;
-    let refused = match &encoded {
+    agree_on(alloc, question, value, &encoded)?;
+    Ok(encoded)
+}
+
+fn agree_on(
+    alloc: Global,
+    question: &Question,
+    value: &Value,
+    encoded: &Encoded,
+) -> Result<(), RowFault> {
+    let is_same = of_entries(alloc, question, value)? == *encoded;
+    agree(is_same, "encode_by_entries")?;
+    let is_same = of_form(alloc, question, value)? == *encoded;
+    agree(is_same, "canonicalise")?;
+    let is_same = of_write(alloc, question, value)? == *encoded;
+    agree(is_same, "write")?;
+    let refused = match encoded {
         Ok(bytes) => {
             agree(is_decoded(alloc, question, value, bytes)?, "decode_slice")?;
             None
         }
         Err(fault) => Some(*fault),
     };
-    agree(is_printed(alloc, question, value, refused)?, "print_value")?;
-    Ok(encoded)
+    agree(is_printed(alloc, question, value, refused)?, "print_value")
 }
 
 fn of_encode(alloc: Global, question: &Question, value: &Value) -> Result<Encoded, RowFault> {

@@ -10,9 +10,11 @@ use bcs_encode::pieces::PieceSink;
 use bcs_encode::{EncodeFault, WriteFault};
 use bcs_tool::{
     ByteSource, Coding, Command, FileFault, Form, Interruption, LineFault, OpenCause, Paint,
-    PairInterruption, Style, TakeFault, UnreadFile, Work, line, respond, run, run_pairs, take_all,
+    PairInterruption, Report, Style, TakeFault, UnreadFile, Work, line, respond, run, run_pairs,
+    take_all,
 };
 use std::alloc::{AllocError, Global};
+use std::fmt::Display;
 use std::str;
 
 pub(crate) fn answer(rt: &HostRuntime, question: &str, words: &[&str]) -> Result<String, RowFault> {
@@ -116,11 +118,20 @@ fn job(alloc: Global, words: &[&str]) -> Result<String, RowFault> {
 // The status of a job over this input, what is put, and the note where there is one. A call gives or takes a byte, and these
 // fail from calls on. Behind that stands whether the input has failed.
 fn ran(alloc: Global, [input, reads, puts]: [&str; 3], words: &[&str]) -> Result<String, RowFault> {
+    let fails = [call(reads)?, call(puts)?];
     let work = work_of(alloc, words)?;
-    let bytes = bytes(alloc, input)?;
-    let mut source = PieceSource::new(&bytes, 1, call(reads)?);
-    let mut out = PieceSink::<1000>::new(1, call(puts)?);
-    let outcome = run(alloc, &work, &mut source, &mut out);
+    outcome_of(alloc, &work, &bytes(alloc, input)?, fails)
+}
+
+fn outcome_of(
+    alloc: Global,
+    work: &Work,
+    input: &[u8],
+    [reads, puts]: [Option<u64>; 2],
+) -> Result<String, RowFault> {
+    let mut source = PieceSource::new(input, 1, reads);
+    let mut out = PieceSink::<1000>::new(1, puts);
+    let outcome = run(alloc, work, &mut source, &mut out);
     let put = put_text(alloc, out.taken())?;
     let failed = if source.failed() { ", read" } else { "" };
     Ok(format!(in alloc; "{} {put}{}{failed}", outcome.status, outcome.note)?)
@@ -141,10 +152,9 @@ fn responded<S: ByteSource>(
     words: &[&str],
 ) -> Result<String, RowFault> {
     let alloc = rt.alloc();
-    let words = words_of(alloc, words)?;
     let mut out = PieceSink::<100>::new(100, call(puts)?);
     let mut errors = PieceSink::<4000>::new(4000, call(tells)?);
-    let status = respond(rt, &words, input, &mut out, &mut errors);
+    let status = respond(rt, &words_of(alloc, words)?, input, &mut out, &mut errors);
     let told = if status == 3 {
         errors.taken().get(..7).unwrap_or_default()
     } else {
@@ -162,9 +172,10 @@ fn ended(
     fails: [&str; 2],
     words: &[&str],
 ) -> Result<String, RowFault> {
-    let bytes = bytes(rt.alloc(), input)?;
     let piece = (number(piece)? as usize).max(1);
-    let mut source = PieceSource::new(&bytes, piece, call(reads)?);
+    let reads = call(reads)?;
+    let bytes = bytes(rt.alloc(), input)?;
+    let mut source = PieceSource::new(&bytes, piece, reads);
     let told = responded(rt, &mut source, fails, words)?;
     let failed = if source.failed() { ", read" } else { "" };
     Ok(format!(in rt.alloc(); "{told}{failed}")?)
@@ -185,25 +196,41 @@ fn paired(
     [one, other, puts]: [&str; 3],
     format: &str,
 ) -> Result<String, RowFault> {
+    let fails = [call(one)?, call(other)?, call(puts)?];
     let mut work = work_of(alloc, &["same", "{}", format, ""])?;
     work.lines = true;
     let first = bytes(alloc, first)?;
-    let second = bytes(alloc, second)?;
-    let mut one = PieceSource::new(&first, 2, call(one)?);
-    let mut other = PieceSource::new(&second, 2, call(other)?);
-    let mut out = PieceSink::<80>::new(80, call(puts)?);
-    let ended = match run_pairs(alloc, &work, &mut one, &mut other, &mut out) {
-        Ok(report) => format!(in alloc; "{}", report.outcome.status)?,
-        Err(broken) => broken_told(alloc, broken)?,
-    };
-    let put = put_text(alloc, out.taken())?;
-    Ok(format!(in alloc; "{put} {ended}")?)
+    pairs_ended(alloc, &work, &first, &bytes(alloc, second)?, fails)
 }
 
-fn broken_told(alloc: Global, broken: PairInterruption) -> Result<String, AllocError> {
-    let PairInterruption { side, interruption } = broken;
-    let Interruption { fault, answered } = interruption;
-    format!(in alloc; "{} at {side:?} behind {answered}", fault.note())
+fn pairs_ended(
+    alloc: Global,
+    work: &Work,
+    first: &[u8],
+    second: &[u8],
+    [one, other, puts]: [Option<u64>; 3],
+) -> Result<String, RowFault> {
+    let mut one = PieceSource::new(first, 2, one);
+    let mut other = PieceSource::new(second, 2, other);
+    let mut out = PieceSink::<80>::new(80, puts);
+    let ended = run_pairs(alloc, work, &mut one, &mut other, &mut out);
+    ended_told(alloc, out.taken(), ended)
+}
+
+fn ended_told(
+    alloc: Global,
+    put: &[u8],
+    ended: Result<Report, PairInterruption>,
+) -> Result<String, RowFault> {
+    let put = put_text(alloc, put)?;
+    let told = match ended {
+        Ok(report) => format!(in alloc; "{put} {}", report.outcome.status),
+        Err(PairInterruption { side, interruption }) => {
+            let Interruption { fault, answered } = interruption;
+            format!(in alloc; "{put} {} at {side:?} behind {answered}", fault.note())
+        }
+    };
+    Ok(told?)
 }
 
 // The whole of a source, of at most so many bytes, and how many it gave.
@@ -213,19 +240,26 @@ fn taken(
     limit: u32,
     reads: &str,
 ) -> Result<String, RowFault> {
-    let bytes = bytes(alloc, text)?;
     let piece = (number(piece)? as usize).max(1);
-    let mut source = PieceSource::new(&bytes, piece, call(reads)?);
-    let told = match take_all(alloc, &mut source, u64::from(limit)) {
-        Ok(whole) if whole == bytes => String::from_str(alloc, "whole")?,
-        Ok(_) => return Err(RowFault::Disagreement("take_all")),
-        Err(fault) => format!(in alloc; "{fault}")?,
-    };
-    Ok(format!(in alloc; "{told}, {} given", source.given())?)
+    let reads = call(reads)?;
+    let bytes = bytes(alloc, text)?;
+    let mut source = PieceSource::new(&bytes, piece, reads);
+    match take_all(alloc, &mut source, u64::from(limit)) {
+        Ok(whole) if whole == bytes => Ok(format!(in alloc; "whole, {} given", source.given())?),
+        Ok(_) => Err(RowFault::Disagreement("take_all")),
+        Err(fault) => Ok(format!(in alloc; "{fault}, {} given", source.given())?),
+    }
 }
 
 // Faults of files with their numbers, names and notes, and the messages of others.
 fn messages(alloc: Global) -> Result<String, RowFault> {
+    let files = file_messages(alloc)?;
+    let lines = line_messages(alloc)?;
+    let coders = coder_messages(alloc)?;
+    Ok(format!(in alloc; "{files}{lines}{coders}")?)
+}
+
+fn file_messages(alloc: Global) -> Result<String, AllocError> {
     let mut told = String::new(alloc);
     for fault in [
         FileFault::Open,
@@ -233,24 +267,33 @@ fn messages(alloc: Global) -> Result<String, RowFault> {
         FileFault::TooLarge,
         FileFault::OutOfMemory,
     ] {
-        told.push_str(format!(in alloc; "{} {fault} {}; ", fault as u8, fault.note())?.as_str())?;
+        push_message(alloc, &mut told, fault as u8, &fault, fault.note())?;
     }
     for fault in [TakeFault::Read, TakeFault::TooLarge, TakeFault::OutOfMemory] {
-        told.push_str(format!(in alloc; "{} {fault} {}; ", fault as u8, fault.note())?.as_str())?;
+        push_message(alloc, &mut told, fault as u8, &fault, fault.note())?;
     }
-    told.push_str(format!(in alloc;
-        "{}, {}; ",
-        UnreadFile::Unopened(OpenCause::Missing),
-        UnreadFile::Untaken(TakeFault::Read)
-    )?
-    .as_str())?;
-    let [usage, help] = [
-        LineFault::Usage(String::new(alloc)),
-        LineFault::Help(String::new(alloc)),
-    ];
-    told.push_str(format!(in alloc; "{usage}, {help}, {}; ", LineFault::OutOfMemory)?.as_str())?;
-    told.push_str(coder_messages(alloc)?.as_str())?;
     Ok(told)
+}
+
+fn push_message<F: Display>(
+    alloc: Global,
+    told: &mut String,
+    number: u8,
+    fault: &F,
+    note: &str,
+) -> Result<(), AllocError> {
+    told.push_str(format!(in alloc; "{number} {fault} {note}; ")?.as_str())
+}
+
+fn line_messages(alloc: Global) -> Result<String, AllocError> {
+    let unopened = UnreadFile::Unopened(OpenCause::Missing);
+    let untaken = UnreadFile::Untaken(TakeFault::Read);
+    let usage = LineFault::Usage(String::new(alloc));
+    let help = LineFault::Help(String::new(alloc));
+    format!(in alloc;
+        "{unopened}, {untaken}; {usage}, {help}, {}; ",
+        LineFault::OutOfMemory
+    )
 }
 
 fn coder_messages(alloc: Global) -> Result<String, AllocError> {

@@ -21,8 +21,19 @@ pub(crate) fn answer(alloc: Global, setting: &Setting, words: &[&str]) -> Result
     let Ok(bytes) = bytes_of(alloc, &asked, text.as_bytes())? else {
         return Err(RowFault::NotUnderstood);
     };
-    for _ in 0..number(count)? {
-        let length = answered(alloc, call, &asked, &value, &bytes);
+    repeated(alloc, call, number(count)?, &asked, &value, &bytes)
+}
+
+fn repeated(
+    alloc: Global,
+    call: &str,
+    count: u32,
+    asked: &Question,
+    value: &Value,
+    bytes: &[u8],
+) -> Result<String, RowFault> {
+    for _ in 0..count {
+        let length = answered(alloc, call, asked, value, bytes);
         agree(length == Some(bytes.len()), "the call")?;
     }
     Ok(format!(in alloc; "{} bytes", bytes.len())?)

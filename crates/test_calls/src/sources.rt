@@ -22,12 +22,21 @@ pub(crate) fn answer(
         return Err(RowFault::NotUnderstood);
     };
     let asked = Question::read(alloc, &setting.registry, format, &[])?;
-    let input = bytes(alloc, input)?;
-    match (question, fails, input.as_slice()) {
+    answered(alloc, question, &asked, &bytes(alloc, input)?, fails)
+}
+
+fn answered(
+    alloc: Global,
+    question: &str,
+    asked: &Question,
+    input: &[u8],
+    fails: &[&str],
+) -> Result<String, RowFault> {
+    match (question, fails, input) {
         ("failing" | "failing_front", [fails], input) => {
-            of_failing(alloc, question, &asked, input, call(fails)?)
+            of_failing(alloc, question, asked, input, call(fails)?)
         }
-        ("endless", [], [byte, ..]) => of_endless(alloc, &asked, *byte),
+        ("endless", [], [byte, ..]) => of_endless(alloc, asked, *byte),
         _ => Err(RowFault::NotUnderstood),
     }
 }
@@ -43,13 +52,14 @@ fn of_failing(
     let mut source = PieceSource::new(input, 1, fails);
     let mut other = PieceSource::new(input, 1, fails);
     let judged = if question == "failing" {
-        of_whole(alloc, asked, &mut source, &mut other)?
+        of_whole(alloc, asked, &mut source, &mut other)
     } else {
-        of_front(alloc, asked, &mut source, &mut other)?
+        of_front(alloc, asked, &mut source, &mut other)
     };
+    let length = length_of(judged?);
     agree(source.failed() == other.failed(), "failed")?;
     agree(source.given() == other.given(), "given")?;
-    let answer = told(alloc, &length_of(judged))?;
+    let answer = told(alloc, &length)?;
     let failed = if source.failed() { ", failed" } else { "" };
     Ok(format!(in alloc; "{answer}{failed}")?)
 }
@@ -58,9 +68,9 @@ fn of_failing(
 fn of_endless(alloc: Global, asked: &Question, byte: u8) -> Result<String, RowFault> {
     let mut source = RepeatSource::new(byte);
     let mut other = RepeatSource::new(byte);
-    let judged = of_front(alloc, asked, &mut source, &mut other)?;
+    let length = length_of(of_front(alloc, asked, &mut source, &mut other)?);
     agree(source.given() == other.given(), "given")?;
-    let answer = told(alloc, &length_of(judged))?;
+    let answer = told(alloc, &length)?;
     Ok(format!(in alloc; "{answer}, {} given", source.given())?)
 }
 
@@ -109,8 +119,7 @@ fn judged(
     decoded: Result<Value, DecodeFault>,
 ) -> Result<Judged, RowFault> {
     let scanned = granted(scanned, DecodeFault::OutOfMemory)?;
-    let decoded = granted(decoded, DecodeFault::OutOfMemory)?;
-    match decoded {
+    match granted(decoded, DecodeFault::OutOfMemory)? {
         Ok(value) => match scanned {
             Ok(length) => Ok(Ok((value, length))),
             Err(_) => Err(RowFault::Disagreement("scanning")),

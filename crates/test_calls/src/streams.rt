@@ -54,10 +54,18 @@ fn next<S: ByteSource>(alloc: Global, source: &mut S, room: usize) -> Result<Str
 fn nexts<S: ByteSource>(alloc: Global, source: &mut S, rooms: &[&str]) -> Result<String, RowFault> {
     let mut told = String::new(alloc);
     for room in rooms {
-        let given = next(alloc, source, number(room)? as usize)?;
-        push_word(&mut told, given.as_str())?;
+        push_next(alloc, source, number(room)? as usize, &mut told)?;
     }
     Ok(told)
+}
+
+fn push_next<S: ByteSource>(
+    alloc: Global,
+    source: &mut S,
+    room: usize,
+    told: &mut String,
+) -> Result<(), RowFault> {
+    Ok(push_word(told, next(alloc, source, room)?.as_str())?)
 }
 
 fn push_word(told: &mut String, word: &str) -> Result<(), AllocError> {
@@ -73,9 +81,10 @@ fn of_pieces(
     [piece, fails]: [&str; 2],
     rooms: &[&str],
 ) -> Result<String, RowFault> {
-    let bytes = bytes(alloc, text)?;
     let piece = (number(piece)? as usize).max(1);
-    let mut source = PieceSource::new(&bytes, piece, call(fails)?);
+    let fails = call(fails)?;
+    let bytes = bytes(alloc, text)?;
+    let mut source = PieceSource::new(&bytes, piece, fails);
     let told = nexts(alloc, &mut source, rooms)?;
     Ok(format!(in alloc; "{told} given {}", source.given())?)
 }
@@ -150,21 +159,26 @@ fn of_reader(alloc: Global, counts: &[&str]) -> Result<String, RowFault> {
     let mut source = ReadSource::new(&mut reader);
     let mut told = String::new(alloc);
     for _ in 0..=counts.len() {
-        push_word(&mut told, next(alloc, &mut source, 4)?.as_str())?;
+        push_next(alloc, &mut source, 4, &mut told)?;
     }
-    push_word(&mut told, next(alloc, &mut source, 0)?.as_str())?;
+    push_next(alloc, &mut source, 0, &mut told)?;
     Ok(format!(in alloc; "{told} by {}", reader.calls)?)
 }
 
-// How many bytes of a piece a sink takes, or a failure, which it tells from then on.
-fn put<K: ByteSink>(alloc: Global, sink: &mut K, piece: &str) -> Result<String, RowFault> {
+// Pushes how many bytes of a piece a sink takes, or a failure, which it tells from then on.
+fn push_put<K: ByteSink>(
+    alloc: Global,
+    sink: &mut K,
+    piece: &str,
+    told: &mut String,
+) -> Result<(), RowFault> {
     let taken = sink.put(piece.as_bytes());
     if taken.is_err() != sink.failed() {
         return Err(RowFault::Disagreement("failed"));
     }
     match taken {
-        Ok(len) => Ok(format!(in alloc; "{len} ")?),
-        Err(_) => Ok(String::from_str(alloc, "fails ")?),
+        Ok(len) => Ok(told.push_str(format!(in alloc; "{len} ")?.as_str())?),
+        Err(_) => Ok(told.push_str("fails ")?),
     }
 }
 
@@ -174,10 +188,10 @@ fn puts(alloc: Global, [piece, fails]: [&str; 2], pieces: &[&str]) -> Result<Str
     let mut sink = PieceSink::<4>::new(piece, call(fails)?);
     let mut told = String::new(alloc);
     for piece in pieces {
-        told.push_str(put(alloc, &mut sink, piece)?.as_str())?;
+        push_put(alloc, &mut sink, piece, &mut told)?;
     }
-    told.push_str(word_of(alloc, sink.taken())?.as_str())?;
-    Ok(told)
+    let taken = word_of(alloc, sink.taken())?;
+    Ok(format!(in alloc; "{told}{taken}")?)
 }
 
 // A byte a call.
@@ -196,10 +210,10 @@ fn write(alloc: Global, pieces: &[&str]) -> Result<String, RowFault> {
     let mut sink = WriteSink::new(&mut bytes);
     let mut told = String::new(alloc);
     for piece in pieces {
-        told.push_str(put(alloc, &mut sink, piece)?.as_str())?;
+        push_put(alloc, &mut sink, piece, &mut told)?;
     }
-    told.push_str(word_of(alloc, &bytes)?.as_str())?;
-    Ok(told)
+    let taken = word_of(alloc, &bytes)?;
+    Ok(format!(in alloc; "{told}{taken}")?)
 }
 
 // The sink is asked once more than its writer is told, and then with an empty piece.
@@ -208,9 +222,9 @@ fn of_writer(alloc: Global, counts: &[&str]) -> Result<String, RowFault> {
     let mut sink = WriteSink::new(&mut writer);
     let mut told = String::new(alloc);
     for _ in 0..=counts.len() {
-        told.push_str(put(alloc, &mut sink, "abc")?.as_str())?;
+        push_put(alloc, &mut sink, "abc", &mut told)?;
     }
-    told.push_str(put(alloc, &mut sink, "")?.as_str())?;
+    push_put(alloc, &mut sink, "", &mut told)?;
     Ok(format!(in alloc; "{told}by {}", writer.calls)?)
 }
 
@@ -221,19 +235,27 @@ fn lines(
     [piece, fails]: [&str; 2],
     limits: &[&str],
 ) -> Result<String, RowFault> {
-    let bytes = bytes(alloc, text)?;
     let piece = (number(piece)? as usize).max(1);
-    let mut source = PieceSource::new(&bytes, piece, call(fails)?);
-    let mut buffer = LineBuffer::new(alloc);
+    let fails = call(fails)?;
+    let bytes = bytes(alloc, text)?;
+    let mut source = PieceSource::new(&bytes, piece, fails);
     let mut told = String::new(alloc);
+    push_lines(alloc, &mut source, limits, &mut told)?;
+    Ok(told)
+}
+
+fn push_lines<S: ByteSource>(
+    alloc: Global,
+    source: &mut S,
+    limits: &[&str],
+    told: &mut String,
+) -> Result<(), RowFault> {
+    let mut buffer = LineBuffer::new(alloc);
     for limit in limits {
         let limit = u64::from(number(limit)?);
-        push_word(
-            &mut told,
-            line(alloc, &mut buffer, &mut source, limit)?.as_str(),
-        )?;
+        push_word(told, line(alloc, &mut buffer, source, limit)?.as_str())?;
     }
-    Ok(told)
+    Ok(())
 }
 
 // The next line, of a long one its length where it has but the letter x; that there is none; or the fault.

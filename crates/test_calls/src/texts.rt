@@ -21,7 +21,7 @@ pub(crate) fn answer(
     let [format, texts @ ..] = words else {
         return Err(RowFault::NotUnderstood);
     };
-    let [input, more @ ..] = texts else {
+    let [_, more @ ..] = texts else {
         return Err(RowFault::NotUnderstood);
     };
     let limits: &[&str] = match question {
@@ -29,12 +29,21 @@ pub(crate) fn answer(
         _ => &more[..0],
     };
     let asked = Question::read(alloc, &setting.registry, format, limits)?;
-    match (question, more) {
-        ("json", _) => meant(alloc, &asked, &bytes(alloc, input)?),
-        ("text", _) => shown(alloc, &asked, &bytes(alloc, input)?),
-        ("same", [other]) => compared(alloc, &asked, input.as_bytes(), other.as_bytes()),
+    answered(alloc, question, &asked, texts)
+}
+
+fn answered(
+    alloc: Global,
+    question: &str,
+    asked: &Question,
+    texts: &[&str],
+) -> Result<String, RowFault> {
+    match (question, texts) {
+        ("json", [input, ..]) => meant(alloc, asked, &bytes(alloc, input)?),
+        ("text", [input, ..]) => shown(alloc, asked, &bytes(alloc, input)?),
+        ("same", [one, other]) => compared(alloc, asked, one.as_bytes(), other.as_bytes()),
         ("pairs", _) => {
-            let count = agreeing_pairs(alloc, &asked, texts)?;
+            let count = agreeing_pairs(alloc, asked, texts)?;
             Ok(format!(in alloc; "{count} equal")?)
         }
         _ => Err(RowFault::NotUnderstood),
@@ -50,13 +59,22 @@ fn meant(alloc: Global, question: &Question, text: &[u8]) -> Result<String, RowF
             Ok(format!(in alloc; "{word} {normal}")?)
         }
         Err(fault) => {
-            let other = normal_of(alloc, question, text)?.err();
-            agree(other == Some(fault), "normalise")?;
-            let other = value_of(alloc, question, text)?.err();
-            agree(other == Some(fault), "read_value")?;
+            agree_to_refuse(alloc, question, text, fault)?;
             Ok(format!(in alloc; "{fault}")?)
         }
     }
+}
+
+fn agree_to_refuse(
+    alloc: Global,
+    question: &Question,
+    text: &[u8],
+    fault: JsonFault,
+) -> Result<(), RowFault> {
+    let other = normal_of(alloc, question, text)?.err();
+    agree(other == Some(fault), "normalise")?;
+    let other = value_of(alloc, question, text)?.err();
+    agree(other == Some(fault), "read_value")
 }
 
 // The normal text of what has these bytes.
@@ -84,21 +102,24 @@ fn agree_on(
     bytes: &[u8],
     normal: &str,
 ) -> Result<(), RowFault> {
-    let again = bytes_of(alloc, question, normal.as_bytes())?;
-    agree(
-        matches!(&again, Ok(again) if again.as_slice() == bytes),
-        "the normal text",
-    )?;
-    let text = normal_of(alloc, question, normal.as_bytes())?;
-    agree(is_text(&text, normal), "normalise")?;
-    let text = text_of(alloc, question, value)?;
-    agree(is_text(&text, normal), "print_value")?;
-    let text = text_of_bytes(alloc, question, bytes)?;
-    agree(is_text(&text, normal), "from_bcs")
+    let is_same = matches!(
+        bytes_of(alloc, question, normal.as_bytes())?,
+        Ok(again) if again.as_slice() == bytes
+    );
+    agree(is_same, "the normal text")?;
+    let text = normal_of(alloc, question, normal.as_bytes())?.ok();
+    agree_on_text(text, normal, "normalise")?;
+    let text = text_of(alloc, question, value)?.ok();
+    agree_on_text(text, normal, "print_value")?;
+    let text = text_of_bytes(alloc, question, bytes)?.ok();
+    agree_on_text(text, normal, "from_bcs")
 }
 
-fn is_text<F>(text: &Result<String, F>, wanted: &str) -> bool {
-    matches!(text, Ok(text) if text.as_str() == wanted)
+fn agree_on_text(text: Option<String>, wanted: &str, call: &'static str) -> Result<(), RowFault> {
+    match text {
+        Some(text) => agree(text.as_str() == wanted, call),
+        None => Err(RowFault::Disagreement(call)),
+    }
 }
 
 pub(crate) fn bytes_of(

@@ -25,28 +25,22 @@ pub(crate) fn answer(
         return Err(RowFault::NotUnderstood);
     };
     let asked = Question::read(alloc, &setting.registry, format, limits)?;
-    let bytes = words::bytes(alloc, bytes)?;
-    match question {
-        "verdict" => Ok(told(alloc, &encoded_again(alloc, &asked, &bytes)?)?),
-        "scan" => Ok(told(alloc, &scanned(&asked, &bytes)?)?),
-        "changes" => {
-            let count = agreeing_changes(alloc, &asked, &bytes)?;
-            Ok(format!(in alloc; "{count} agree")?)
-        }
-        _ => {
-            ask_quietly(alloc, question, &asked, &bytes)?;
-            Ok(String::from_str(alloc, "quiet")?)
-        }
-    }
+    answered(alloc, question, &asked, &words::bytes(alloc, bytes)?)
 }
 
-fn ask_quietly(
+fn answered(
     alloc: Global,
     question: &str,
     asked: &Question,
     bytes: &[u8],
-) -> Result<(), RowFault> {
+) -> Result<String, RowFault> {
     match question {
+        "verdict" => return Ok(told(alloc, &encoded_again(alloc, asked, bytes)?)?),
+        "scan" => return Ok(told(alloc, &scanned(asked, bytes)?)?),
+        "changes" => {
+            let count = agreeing_changes(alloc, asked, bytes)?;
+            return Ok(format!(in alloc; "{count} agree")?);
+        }
         "quiet" => {
             let _ = verdict(alloc, asked, bytes)?;
         }
@@ -55,7 +49,7 @@ fn ask_quietly(
         }
         _ => {}
     }
-    Ok(())
+    Ok(String::from_str(alloc, "quiet")?)
 }
 
 /// The verdict of all calls, of which `encode` has to give the bytes of the value again.
@@ -72,10 +66,10 @@ pub(crate) fn encoded_again(
     match verdict(alloc, question, bytes)? {
         Ok((value, length)) => {
             let again = encode(alloc, registry, format, limits, &value);
-            let is_front = match granted(again, EncodeFault::OutOfMemory)? {
-                Ok(again) => bytes.starts_with(&again) && length == again.len() as u64,
-                Err(_) => false,
-            };
+            let is_front = matches!(
+                granted(again, EncodeFault::OutOfMemory)?,
+                Ok(again) if bytes.starts_with(&again) && length == again.len() as u64
+            );
             agree(is_front, "encode")?;
             Ok(Ok(length))
         }
@@ -87,11 +81,20 @@ pub(crate) fn encoded_again(
 // calls on sources have to give the same, in pieces of 1, 2 and 3 bytes, and of the whole.
 fn verdict(alloc: Global, question: &Question, bytes: &[u8]) -> Result<Judged, RowFault> {
     let verdict = of_slice(alloc, question, bytes)?;
-    agree_in_pieces(alloc, question, bytes, 1, &verdict)?;
-    agree_in_pieces(alloc, question, bytes, 2, &verdict)?;
-    agree_in_pieces(alloc, question, bytes, 3, &verdict)?;
-    agree_in_pieces(alloc, question, bytes, 65536, &verdict)?;
+    agree_on_sources(alloc, question, bytes, &verdict)?;
     Ok(verdict)
+}
+
+fn agree_on_sources(
+    alloc: Global,
+    question: &Question,
+    bytes: &[u8],
+    verdict: &Judged,
+) -> Result<(), RowFault> {
+    agree_in_pieces(alloc, question, bytes, 1, verdict)?;
+    agree_in_pieces(alloc, question, bytes, 2, verdict)?;
+    agree_in_pieces(alloc, question, bytes, 3, verdict)?;
+    agree_in_pieces(alloc, question, bytes, 65536, verdict)
 }
 
 fn scanned(question: &Question, bytes: &[u8]) -> Result<Result<u64, DecodeFault>, RowFault> {
@@ -124,10 +127,26 @@ fn of_slice(alloc: Global, question: &Question, bytes: &[u8]) -> Result<Judged, 
         Ok((value, length)) => Ok((value, length as u64)),
         Err(fault) => Err(fault),
     };
-    let whole = part(registry, format, limits, bytes, &[]);
-    agree(is_whole(whole, bytes, &verdict), "part")?;
-    agree(is_length(scanned(question, bytes)?, &verdict), "scan")?;
+    agree_without_memory(question, bytes, &verdict)?;
     Ok(verdict)
+}
+
+fn agree_without_memory(
+    question: &Question,
+    bytes: &[u8],
+    verdict: &Judged,
+) -> Result<(), RowFault> {
+    let Question {
+        registry,
+        format,
+        limits,
+    } = question;
+    if !registry.admits(format) {
+        return Err(RowFault::Disagreement("admits"));
+    }
+    let whole = part(registry, format, limits, bytes, &[]);
+    agree(is_whole(whole, bytes, verdict), "part")?;
+    agree(is_length(scanned(question, bytes)?, verdict), "scan")
 }
 
 fn is_whole(part: Result<Option<Part<'_>>, Stop>, bytes: &[u8], verdict: &Judged) -> bool {
@@ -163,19 +182,45 @@ fn agree_in_pieces(
 {
     let mut source = PieceSource::new(bytes, piece, None);
     let mut other = PieceSource::new(bytes, piece, None);
-    let front = of_front(alloc, question, &mut source, &mut other)?;
-    agree(is_same(&front, verdict), "decode_from")?;
-    agree(
-        gave(&source, verdict, 0) && gave(&other, verdict, 0),
-        "given",
-    )?;
+    agree_on_front(alloc, question, &mut source, &mut other, verdict)?;
     let mut source = PieceSource::new(bytes, piece, None);
     let mut other = PieceSource::new(bytes, piece, None);
-    let whole = of_whole(alloc, question, &mut source, &mut other)?;
-    agree(is_same_whole(&whole, verdict, bytes.len()), "decode_all")?;
+    agree_on_whole(
+        alloc,
+        question,
+        &mut source,
+        &mut other,
+        bytes.len(),
+        verdict,
+    )
+}
+
+fn agree_on_front<'a>(
+    alloc: Global,
+    question: &Question,
+    source: &mut PieceSource<'a>,
+    other: &mut PieceSource<'a>,
+    verdict: &Judged,
+) -> Result<(), RowFault> {
+    let is_front = is_same(&of_front(alloc, question, source, other)?, verdict);
+    agree(is_front, "decode_from")?;
+    agree(gave(source, verdict, 0) && gave(other, verdict, 0), "given")
+}
+
+fn agree_on_whole<'a>(
+    alloc: Global,
+    question: &Question,
+    source: &mut PieceSource<'a>,
+    other: &mut PieceSource<'a>,
+    len: usize,
+    verdict: &Judged,
+) -> Result<(), RowFault> {
+    let whole = of_whole(alloc, question, source, other)?;
+    let is_whole = is_same_whole(&whole, verdict, len);
     let behind = u64::from(fault_of(&whole) != fault_of(verdict));
+    agree(is_whole, "decode_all")?;
     agree(
-        gave(&source, verdict, behind) && gave(&other, verdict, behind),
+        gave(source, verdict, behind) && gave(other, verdict, behind),
         "given",
     )
 }
