@@ -17,25 +17,14 @@ pub(crate) fn put_piece_object(
     out: &mut Vec<u8>,
 ) -> Result<(), AllocError> {
     let alloc = *out.allocator();
-    let mut name = Vec::new(alloc);
-    put_way(trail, &mut name)?;
-    let mut path = Vec::new(alloc);
-    put_path(trail, &mut path)?;
-    let mut format = Vec::new(alloc);
-    put_format(trail, bytes.len(), meaning, &mut format)?;
-    let digits = Value::String(hex::encode(alloc, bytes)?);
-    let name = text_value(name)?;
-    let path = path_value(path)?;
-    let value = meaning_value(alloc, bytes.len(), meaning)?;
-    let format = text_value(format)?;
     let object = json!(in alloc; {
-        "bytes": digits,
+        "bytes": (Value::String(hex::encode(alloc, bytes)?)),
         "kind": kind_word(meaning),
-        "name": name,
-        "path": path,
+        "name": (way_value(alloc, trail)?),
+        "path": (word_value(alloc, trail)?),
         "place": place,
-        "value": value,
-        "what": format
+        "value": (meaning_value(alloc, bytes.len(), meaning)?),
+        "what": (format_value(alloc, trail, bytes.len(), meaning)?)
     })?;
     put_object(object, out)
 }
@@ -98,6 +87,30 @@ fn meaning_value(alloc: Global, size: usize, meaning: Meaning<'_>) -> Result<Val
         Meaning::Text(text) => Value::try_from_str(alloc, text),
         Meaning::Bytes(_) | Meaning::Octets => Ok(Value::from(size)),
     }
+}
+
+// What the piece is of, by names.
+fn way_value(alloc: Global, trail: &Trail<'_, '_, '_>) -> Result<Value, AllocError> {
+    let mut way = Vec::new(alloc);
+    put_way(trail, &mut way)?;
+    text_value(way)
+}
+
+fn word_value(alloc: Global, trail: &Trail<'_, '_, '_>) -> Result<Value, AllocError> {
+    let mut path = Vec::new(alloc);
+    put_path(trail, &mut path)?;
+    path_value(path)
+}
+
+fn format_value(
+    alloc: Global,
+    trail: &Trail<'_, '_, '_>,
+    size: usize,
+    meaning: Meaning<'_>,
+) -> Result<Value, AllocError> {
+    let mut format = Vec::new(alloc);
+    put_format(trail, size, meaning, &mut format)?;
+    text_value(format)
 }
 
 // The word PATH, or `null` where no path leads.

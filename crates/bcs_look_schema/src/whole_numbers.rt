@@ -38,22 +38,22 @@ pub(crate) fn whole_number_schema(
     alloc: Global,
     numbers: WholeNumbers,
 ) -> Result<Value, AllocError> {
-    let WholeNumbers {
-        word,
-        least,
-        greatest,
-    } = numbers;
-    let words = format!(in alloc;
-        "a whole number from {least} to {greatest}, or its digits as a string"
-    )?;
-    let pattern = decimal_pattern(alloc, numbers)?;
     json!(in alloc; {
-        "title": word,
-        "description": (words.as_str()),
+        "title": (numbers.word),
+        "description": (Value::String(range_words(alloc, numbers)?)),
         "type": ["integer", "string"],
-        "minimum": (i64::try_from(least).unwrap_or(i64::MIN)),
-        "maximum": (u64::try_from(greatest).unwrap_or(u64::MAX)),
-        "pattern": (pattern.as_str()),
+        "minimum": (i64::try_from(numbers.least).unwrap_or(i64::MIN)),
+        "maximum": (u64::try_from(numbers.greatest).unwrap_or(u64::MAX)),
+        "pattern": (Value::String(decimal_pattern(alloc, numbers)?)),
         "not": {"type": "string", "pattern": UNPRINTABLE}
     })
+}
+
+fn range_words(alloc: Global, numbers: WholeNumbers) -> Result<String, AllocError> {
+    let WholeNumbers {
+        least,
+        greatest,
+        ..
+    } = numbers;
+    format!(in alloc; "a whole number from {least} to {greatest}, or its digits as a string")
 }
