@@ -228,9 +228,6 @@ fn is_decoded(
         format,
         limits,
     } = question;
-    if !registry.admits(format) {
-        return Ok(false);
-    }
     let copy = value.copy(alloc)?;
     let decoded = decode_slice(alloc, registry, format, limits, bytes);
     match granted(decoded, DecodeFault::OutOfMemory)? {

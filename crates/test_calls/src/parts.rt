@@ -30,9 +30,6 @@ fn led(
         format,
         limits,
     } = question;
-    if !registry.admits(format) {
-        return Err(RowFault::Disagreement("admits"));
-    }
     let steps = steps_of(alloc, path)?;
     match part(registry, format, limits, input, &steps) {
         Ok(Some(part)) => found(alloc, input, part),

@@ -1,6 +1,8 @@
 //! A format of a registry, and limits.
+ghost use Rattle.bcs_registry_model.specs.View.{shape_of};
+ghost use Rattle.bcs_registry_model.specs.WellFormed.{Admits};
 
-use crate::row_fault::RowFault;
+use crate::row_fault::{RowFault, agree};
 use crate::words::number;
 use bcs_registry::{Format, Registry};
 use bcs_value::Limits;
@@ -12,6 +14,7 @@ pub(crate) struct Question {
     pub registry: Registry,
     pub format: Format,
     pub limits: Limits,
+    ghost admitted: { Admits registry (shape_of format) },
 }
 
 impl Question {
@@ -24,6 +27,7 @@ impl Question {
     ) -> Result<Question, RowFault> {
         let registry = Registry::read(alloc, registry)?;
         let format = registry.read_format(alloc, format.as_bytes())?;
+        agree(registry.admits(&format), "admits")?;
         match limits_of(limits) {
             Some(limits) => Ok(Question {
                 registry,

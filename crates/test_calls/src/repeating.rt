@@ -85,9 +85,6 @@ fn decoded(alloc: Global, call: &str, asked: &Question, bytes: &[u8]) -> Option<
         format,
         limits,
     } = asked;
-    if !registry.admits(format) {
-        return None;
-    }
     match call {
         "scan" => scan(registry, format, limits, bytes).ok(),
         "decode_slice" => match decode_slice(alloc, registry, format, limits, bytes) {

@@ -86,9 +86,6 @@ pub(crate) fn of_front<S: ByteSource>(
         format,
         limits,
     } = asked;
-    if !registry.admits(format) {
-        return Err(RowFault::Disagreement("admits"));
-    }
     let scanned = scan_from(alloc, registry, format, limits, source);
     let decoded = decode_from(alloc, registry, format, limits, other);
     judged(scanned, decoded)
@@ -106,9 +103,6 @@ pub(crate) fn of_whole<S: ByteSource>(
         format,
         limits,
     } = asked;
-    if !registry.admits(format) {
-        return Err(RowFault::Disagreement("admits"));
-    }
     let scanned = scan_all(alloc, registry, format, limits, source);
     let decoded = decode_all(alloc, registry, format, limits, other);
     judged(scanned, decoded)

@@ -188,9 +188,6 @@ fn text_of_bytes(
         format,
         limits,
     } = question;
-    if !registry.admits(format) {
-        return Err(RowFault::Disagreement("admits"));
-    }
     let text = from_bcs(alloc, registry, format, limits, bytes);
     granted(text, FromFault::OutOfMemory)
 }
@@ -213,9 +210,6 @@ fn is_too_nested(alloc: Global, question: &Question, bytes: &[u8]) -> Result<boo
         format,
         limits,
     } = question;
-    if !registry.admits(format) {
-        return Err(RowFault::Disagreement("admits"));
-    }
     let decoded = decode_slice(alloc, registry, format, limits, bytes);
     match granted(decoded, DecodeFault::OutOfMemory)? {
         Ok((value, _)) => Ok(matches!(

@@ -50,9 +50,6 @@ fn sign(question: &Question, value: &Value) -> Result<&'static str, RowFault> {
         format,
         ..
     } = question;
-    if !registry.admits(format) {
-        return Err(RowFault::Disagreement("admits"));
-    }
     let is_strict = has_format(registry, format, value);
     match (is_strict, fits_loosely(registry, format, value)) {
         (true, true) => Ok("+"),

@@ -36,7 +36,7 @@ fn answered(
 ) -> Result<String, RowFault> {
     match question {
         "verdict" => return Ok(told(alloc, &encoded_again(alloc, asked, bytes)?)?),
-        "scan" => return Ok(told(alloc, &scanned(asked, bytes)?)?),
+        "scan" => return Ok(told(alloc, &scanned(asked, bytes))?),
         "changes" => {
             let count = agreeing_changes(alloc, asked, bytes)?;
             return Ok(format!(in alloc; "{count} agree")?);
@@ -97,18 +97,15 @@ fn agree_on_sources(
     agree_in_pieces(alloc, question, bytes, 65536, verdict)
 }
 
-fn scanned(question: &Question, bytes: &[u8]) -> Result<Result<u64, DecodeFault>, RowFault> {
+fn scanned(question: &Question, bytes: &[u8]) -> Result<u64, DecodeFault> {
     let Question {
         registry,
         format,
         limits,
     } = question;
-    if !registry.admits(format) {
-        return Err(RowFault::Disagreement("admits"));
-    }
     match scan(registry, format, limits, bytes) {
-        Ok(length) => Ok(Ok(length as u64)),
-        Err(stop) => Ok(Err(DecodeFault::Stop(stop))),
+        Ok(length) => Ok(length as u64),
+        Err(stop) => Err(DecodeFault::Stop(stop)),
     }
 }
 
@@ -119,9 +116,6 @@ fn of_slice(alloc: Global, question: &Question, bytes: &[u8]) -> Result<Judged, 
         format,
         limits,
     } = question;
-    if !registry.admits(format) {
-        return Err(RowFault::Disagreement("admits"));
-    }
     let decoded = decode_slice(alloc, registry, format, limits, bytes);
     let verdict = match granted(decoded, DecodeFault::OutOfMemory)? {
         Ok((value, length)) => Ok((value, length as u64)),
@@ -141,12 +135,9 @@ fn agree_without_memory(
         format,
         limits,
     } = question;
-    if !registry.admits(format) {
-        return Err(RowFault::Disagreement("admits"));
-    }
     let whole = part(registry, format, limits, bytes, &[]);
     agree(is_whole(whole, bytes, verdict), "part")?;
-    agree(is_length(scanned(question, bytes)?, verdict), "scan")
+    agree(is_length(scanned(question, bytes), verdict), "scan")
 }
 
 fn is_whole(part: Result<Option<Part<'_>>, Stop>, bytes: &[u8], verdict: &Judged) -> bool {
