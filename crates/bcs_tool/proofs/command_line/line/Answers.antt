@@ -1,4 +1,4 @@
-use Rattle.std.proofs.Common.{◌∙◌, sym}
+use Rattle.std.proofs.Common.{◌∙◌, sym, rules}
 use Rattle.bcs_tool_command_line.specs.CommandLine.{texts_of}
 use Rattle.bcs_tool_command_line.specs.LineFaults.{IsFaultOf}
 use Rattle.bcs_tool_command_line.proofs.LineFaultLemmas.{fault_of_joined, memory_alone, takes_words}
@@ -20,3 +20,6 @@ pub returns-clause-taken : goal.returns-clause-taken
 returns-clause-taken c =
     takes_words (texts_of c.args.words.now) c.in_ok-job.job c.in_ok-job.ensures.job c.in_ok-job.ensures.taken
     (sym c.has_joined.ensures ∙ c.if-has_joined.false)
+
+pub returns-clause-job : goal.returns-clause-job
+returns-clause-job c = search rules

@@ -1,8 +1,9 @@
-use Rattle.std.proofs.Common.{◌≡◌, true, sym, ◌∙◌}
+use Rattle.std.proofs.Common.{◌≡◌, true, sym, ◌∙◌, rules}
 use Rattle.std.proofs.lemmas.Bool.{and_from}
 use Rattle.std.proofs.lemmas.List.{at_drop_all}
 use Rattle.bcs_value_model.specs.Same.{is_within}
 use Rattle.bcs_value_model.specs.View.{entries_pairs}
+use Rattle.bcs_value_model.specs.declared.value.Value.TheFolds.{the_lemmas}
 use Rattle.bcs_value.proofs.Classes.{within_full}
 use Rattle.bcs_value.proofs.SameByViews.{all_same-unlike, is_within-step, same-Pairs}
 use Rattle.bcs_value.proofs.sameness.+same.Goals as goal
@@ -24,3 +25,6 @@ same_pairs-returns-then-not-has_twins t c =
     let w : is_within (entries_pairs c.args.xs.now) (entries_pairs c.args.ys.now) ≡ true =
     c.loop-pair.invariant ∙ at_drop_all (λ zs. is_within (entries_pairs zs) (entries_pairs c.args.ys.now)) c.args.xs.now c.loop-pair.pair-index c.loop-pair-test.false in
     sym (and_from _ _ w (within_full _ _ c.if-xs-ys.true (sym c.has_twins.ensures ∙ c.if-not-has_twins.true) w))
+
+pub same-returns-in-Named-Named : goal.same-returns-in-Named-Named
+same-returns-in-Named-Named t c = search (rules, the_lemmas)

@@ -15,3 +15,6 @@ returns-then-self-clause-ok c = search rules
 
 pub returns-then-self-clause-err : goal.returns-then-self-clause-err
 returns-then-self-clause-err c = search rules
+
+pub returns-clause-count : goal.returns-clause-count
+returns-clause-count c = search rules

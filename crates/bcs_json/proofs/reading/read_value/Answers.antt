@@ -1,0 +1,5 @@
+use Rattle.std.proofs.Common.{rules}
+use Rattle.bcs_json.proofs.reading.read_value.Goals as goal
+
+pub returns-clause-denotes : goal.returns-clause-denotes
+returns-clause-denotes c = search rules
