@@ -98,7 +98,7 @@ module _ {F S K : Type 0} (former : F → Option (List ℕ)) (former_stopped : F
   pub told_pairs : (first : F) (second : S) (out out' : K) (all : Compared) (report : Report) → ReadsInput work
       → AllPaired former former_stopped former_allowance content has_stopped allowance taken is_failed work first second out out' all
       → report.outcome.status ≡ all.tally.status → report.outcome.note.now ≡ []
-      → TellsPlace work.quiet (tally_text all.tally.done all.tally.negative all.tally.refused ++ lacking_text all.ending all.tally.answered) report.place.items
+      → TellsPlace work.options.quiet (tally_text all.tally.done all.tally.negative all.tally.refused ++ lacking_text all.ending all.tally.answered) report.place.items
       → AreCompared former former_stopped former_allowance content has_stopped allowance taken is_failed work first second out out' report
   told_pairs first second out out' all report reads paired status note tells =
       let counted = paired.counted in
@@ -116,5 +116,5 @@ module _ {F S K : Type 0} (former : F → Option (List ℕ)) (former_stopped : F
         output = paired.output;
         put = paired.put;
         responds = subst P (sym (status ∙ counted.status)) (compared all.ending paired.statuses paired.output report.place.items reads paired.answers
-            (subst (λ (t : List ℕ). TellsPlace work.quiet t report.place.items) text tells));
+            (subst (λ (t : List ℕ). TellsPlace work.options.quiet t report.place.items) text tells));
       }

@@ -38,7 +38,7 @@ whole_content (Some xs) None bytes taken end = absurd taken
 whole_content (Some xs) (Some ys) bytes taken end = sym (taken ∙ (ap (λ t. bytes ++ t) end ∙ append-nil bytes))
 
 -- a job that isn't for lines has none, and neither has one that reads no input
-pub no_lines : (work : Work) → work.lines ≡ false → ¬ HasLines work
+pub no_lines : (work : Work) → work.options.lines ≡ false → ¬ HasLines work
 no_lines work whole lines = true≢false (sym lines.0 ∙ whole)
 
 pub no_input_no_lines : (work : Work) → ¬ ReadsInput work → ¬ HasLines work
@@ -142,7 +142,7 @@ module _ {S K : Type 0} (content : S → Option (List ℕ)) (has_stopped : S →
 
   -- all lines were answered, and how many with which status is told
   pub tallied : (input : S) (out out' : K) (tally : Tally) (report : Report) → HasLines work → AllAnswered content has_stopped allowance taken is_failed work input out out' tally
-      → report.outcome.status ≡ tally.status → report.outcome.note.now ≡ [] → TellsPlace work.quiet (tally_text tally.done tally.negative tally.refused) report.place.items
+      → report.outcome.status ≡ tally.status → report.outcome.note.now ≡ [] → TellsPlace work.options.quiet (tally_text tally.done tally.negative tally.refused) report.place.items
       → IsAnswered content has_stopped allowance taken is_failed work input out out' report
   tallied input out out' tally report lines all status note tells =
       let counted = all.counted in
@@ -157,6 +157,6 @@ module _ {S K : Type 0} (content : S → Option (List ℕ)) (has_stopped : S →
           all.bytes,
           all.known,
           subst P (sym (status ∙ counted.status)) (by_line all.statuses all.output report.place.items lines all.answers
-              (subst (λ (t : List ℕ). TellsPlace work.quiet t report.place.items) text tells)),
+              (subst (λ (t : List ℕ). TellsPlace work.options.quiet t report.place.items) text tells)),
         );
       }

@@ -21,7 +21,7 @@ use Rattle.bcs_tool_answers.specs.declared.judging.Asked.{Asked}
 use Rattle.bcs_io.specs.declared.taking.TakeFault.TheVariants as take_fault
 use Rattle.bcs_tool_command_line.specs.declared.work.Report.{Report}
 use Rattle.bcs_tool_command_line.specs.declared.work.Work.{Work}
-use Rattle.bcs_tool_command_line.specs.Jobs.{is_raw}
+use Rattle.bcs_tool_command_line.specs.Jobs.{coding_of, is_raw}
 use Rattle.bcs_tool_command_line.specs.declared.coding.Coding.{Coding}
 use Rattle.bcs_tool_command_line.specs.declared.coding.Coding.TheVariants.{Hexadecimal, Base64, Raw}
 use Rattle.bcs_tool_command_line.specs.declared.command.Command.{Command}
@@ -42,14 +42,14 @@ given_raw Hexadecimal input is = cc
 given_raw Base64 input is = cc
 given_raw Raw input is = refl
 
-module _ (work : Work) (registry : Entries) (s : Shape) (asks : Asks work registry s) (is : work.command ≡ Scan) (raw : is_raw work.coding ≡ true) (unlimited : is_unlimited work ≡ true) where
+module _ (work : Work) (registry : Entries) (s : Shape) (asks : Asks work registry s) (is : work.command ≡ Scan) (raw : is_raw (coding_of work) ≡ true) (unlimited : is_unlimited work ≡ true) where
   asked : (input : List ℕ) → IsAsked work input Scan registry s
   asked input = record { is_command = is; asks = asks; within = λ limited. absurd (true≢false (sym unlimited ∙ limited)) }
 
-  given : (input : List ℕ) → Gives work.coding input input
-  given input = given_raw work.coding input raw
+  given : (input : List ℕ) → Gives (coding_of work) input input
+  given input = given_raw (coding_of work) input raw
 
-  pub counts : (front : Bool) → work.front ≡ front → (content left : Option (List ℕ)) (n : ℕ) → Scans front registry work.limits s content left (Ok n)
+  pub counts : (front : Bool) → work.options.front ≡ front → (content left : Option (List ℕ)) (n : ℕ) → Scans front registry work.limits s content left (Ok n)
       → IfTold content (λ all. Answers work all 0 (count_line n))
   counts front of None left n told = tt
   counts true of (Some all) left n told =
@@ -58,7 +58,7 @@ module _ (work : Work) (registry : Entries) (s : Shape) (asks : Asks work regist
       λ are. let h = told.2 are in
       scanned registry s all n h.0 (asked all) (given all) (subst (λ (m : ℕ). Accepts registry work.limits s all m h.0) (sym told.1) h.1.accepted) (λ whole. told.1)
 
-  pub stops_at : (front : Bool) → work.front ≡ front → (content left : Option (List ℕ)) (stop : Stop) → Scans front registry work.limits s content left (Err (decode_fault.Stop stop))
+  pub stops_at : (front : Bool) → work.options.front ≡ front → (content left : Option (List ℕ)) (stop : Stop) → Scans front registry work.limits s content left (Err (decode_fault.Stop stop))
       → IfTold content (λ all. Answers work all 2 (stop_line stop.reason stop.place))
   stops_at front of None left stop told = tt
   stops_at true of (Some all) left stop told = λ are. scan_stopped registry s all stop.reason stop.place (asked all) (given all) (rw of (told are).0)
@@ -108,23 +108,23 @@ scan_raw command.Part raw is = cc
 scan_raw command.Scan raw is = (refl, is)
 
 module _ (work : Work) (asked : Asked) (asks : IsAskedBy work asked) (streams : Streams work) where
-  pub scanned_count : (content left : Option (List ℕ)) (n : ℕ) (a : Answer) → Scans work.front asked.registry work.limits (shape_of asked.format) content left (Ok n)
+  pub scanned_count : (content left : Option (List ℕ)) (n : ℕ) (a : Answer) → Scans work.options.front asked.registry work.limits (shape_of asked.format) content left (Ok n)
       → Prints a 0 (count_line n) → IsScanned work content a
   scanned_count content left n a told prints =
-      let is = scan_raw work.command (is_raw work.coding) streams.0 in
+      let is = scan_raw work.command (is_raw (coding_of work)) streams.0 in
       is_scanned work content a 0 (count_line n) (omega arith) prints
-      (counts work asked.registry (shape_of asked.format) asks.asks is.0 is.1 streams.0 work.front refl content left n told)
+      (counts work asked.registry (shape_of asked.format) asks.asks is.0 is.1 streams.0 work.options.front refl content left n told)
 
   pub scanned_refusal : {S : Type 0} (content : S → Option (List ℕ)) (has_stopped : S → Bool) (input input' : S) (fault : DecodeFault) (r : Result Answer Interruption)
-      → Scans work.front asked.registry work.limits (shape_of asked.format) (content input) (content input') (Err fault)
+      → Scans work.options.front asked.registry work.limits (shape_of asked.format) (content input) (content input') (Err fault)
       → (fault ≡ decode_fault.Read → has_stopped input' ≡ true) → RefusesScan fault r → AnswersScan content has_stopped work input input' r
   scanned_refusal content has_stopped input input' (decode_fault.Stop stop) (Ok a) told read refuses =
-      let is = scan_raw work.command (is_raw work.coding) streams.0 in
+      let is = scan_raw work.command (is_raw (coding_of work)) streams.0 in
       is_scanned work (content input) a 2 (stop_line stop.reason stop.place) (omega arith) refuses
-      (stops_at work asked.registry (shape_of asked.format) asks.asks is.0 is.1 streams.0 work.front refl (content input) (content input') stop told)
+      (stops_at work asked.registry (shape_of asked.format) asks.asks is.0 is.1 streams.0 work.options.front refl (content input) (content input') stop told)
   scanned_refusal content has_stopped input input' (decode_fault.Stop stop) (Err e) told read refuses =
       let P : Interruption → Type 0 = λ i. AnswersScan content has_stopped work input input' (Err i) in
-      subst P (sym refuses) (gone_at_stop work.front work asked.registry (shape_of asked.format) (content input) (content input') stop told, refl)
+      subst P (sym refuses) (gone_at_stop work.options.front work asked.registry (shape_of asked.format) (content input) (content input') stop told, refl)
   scanned_refusal content has_stopped input input' decode_fault.Read (Ok a) told read refuses = absurd refuses
   scanned_refusal content has_stopped input input' decode_fault.Read (Err e) told read refuses =
       let P : Interruption → Type 0 = λ i. AnswersScan content has_stopped work input input' (Err i) in
@@ -132,7 +132,7 @@ module _ (work : Work) (asked : Asked) (asks : IsAskedBy work asked) (streams : 
   scanned_refusal content has_stopped input input' decode_fault.OutOfMemory (Ok a) told read refuses = absurd refuses
   scanned_refusal content has_stopped input input' decode_fault.OutOfMemory (Err e) told read refuses =
       let P : Interruption → Type 0 = λ i. AnswersScan content has_stopped work input input' (Err i) in
-      subst P (sym refuses) (gone_at_want work.front work asked.registry (shape_of asked.format) (content input) (content input') told, refl)
+      subst P (sym refuses) (gone_at_want work.options.front work asked.registry (shape_of asked.format) (content input) (content input') told, refl)
 
 -- ---- the run
 

@@ -65,7 +65,7 @@ module _ {F : Type 0} (remaining : F → Option (List ℕ)) where
     pub name : List ℕ
     pub status : report.outcome.status ≡ 4
     pub note : report.outcome.note.now ≡ file_note (fault_of unread)
-    pub place : TellsPlace job.quiet (file_place unread name) report.place.items
+    pub place : TellsPlace job.options.quiet (file_place unread name) report.place.items
     pub named : unread ≢ Untaken taking.OutOfMemory → NamesForWork remaining job name
     pub known : IsFaultOfFiles remaining (fault_of unread)
     pub needed : NamesNoFile job → unread ≡ Untaken taking.OutOfMemory
@@ -82,7 +82,7 @@ module _ {S O F : Type 0} (content : S → Option (List ℕ)) (has_stopped : S �
   -- what comes of a job with one input: a run over the standard one, or over a file that was opened; where the file wasn't,
   -- nothing is read, or put
   pub data PerformsOne (work : Work) (file : Option (String Global)) (input input' : S) (out out' : O) (report : Report) : Type 0 where
-    unopened : (name : String Global) → file ≡ Some name → IsUnopened work.quiet (string_bytes name) report → input' ≡ input → out' ≡ out
+    unopened : (name : String Global) → file ≡ Some name → IsUnopened work.options.quiet (string_bytes name) report → input' ≡ input → out' ≡ out
         → PerformsOne work file input input' out out' report
     over_input : file ≡ None → Runs content has_stopped allowance taken is_failed work (origin_text StandardInput) input input' out out' report
         → PerformsOne work file input input' out out' report
@@ -92,8 +92,8 @@ module _ {S O F : Type 0} (content : S → Option (List ℕ)) (has_stopped : S �
 
   -- what comes of one that compares the lines of two files, of which the first has this name, and is opened first
   pub data PerformsPairs (work : Work) (first : List ℕ) (file : Option (String Global)) (input input' : S) (out out' : O) (report : Report) : Type 0 where
-    first_unopened : IsUnopened work.quiet first report → input' ≡ input → out' ≡ out → PerformsPairs work first file input input' out out' report
-    second_unopened : (name : String Global) (lines : ReadSource F) → file ≡ Some name → IsUnopened work.quiet (string_bytes name) report → input' ≡ input → out' ≡ out
+    first_unopened : IsUnopened work.options.quiet first report → input' ≡ input → out' ≡ out → PerformsPairs work first file input input' out out' report
+    second_unopened : (name : String Global) (lines : ReadSource F) → file ≡ Some name → IsUnopened work.options.quiet (string_bytes name) report → input' ≡ input → out' ≡ out
         → PerformsPairs work first file input input' out out' report
     pairs_over_input : (lines lines' : ReadSource F) → file ≡ None
         → PairRuns (λ s. remaining (reader_of s)) failed allowance_of content has_stopped allowance taken is_failed work (file_text first) (origin_text StandardInput)

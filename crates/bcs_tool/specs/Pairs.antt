@@ -29,7 +29,7 @@ pub data RespondsPairs (work : Work) (first second : List ℕ) : ℕ → List �
   -- the job's own words are refused, whatever the contents
   refused : (status : ℕ) (output place : List ℕ) → ¬ ReadsInput work → Answers work [] status output → Places work [] place → RespondsPairs work first second status output place
   -- one answer to each pair of lines; beside stands how many have which status, and which file ends before the other
-  compared : (ending : Ending) (statuses output place : List ℕ) → ReadsInput work → AnswersPairs work (lines_of first) (lines_of second) ending statuses output → TellsPlace work.quiet (pairs_summary ending statuses) place
+  compared : (ending : Ending) (statuses output place : List ℕ) → ReadsInput work → AnswersPairs work (lines_of first) (lines_of second) ending statuses output → TellsPlace work.options.quiet (pairs_summary ending statuses) place
       → RespondsPairs work first second (greatest statuses) output place
 
 -- these are all lines of the content, where that is known
@@ -166,7 +166,7 @@ side_text Second name other = other
 pub record IsBrokenOff (work : Work) (name other : List ℕ) (e : PairInterruption) (report : Report) : Type 0 where
   pub status : report.outcome.status ≡ 4
   pub note : report.outcome.note.now ≡ fault_note e.interruption.fault
-  pub tells : TellsPlace work.quiet (run_place work.lines e.interruption.fault (side_text e.side name other) e.interruption.answered) report.place.items
+  pub tells : TellsPlace work.options.quiet (run_place work.options.lines e.interruption.fault (side_text e.side name other) e.interruption.answered) report.place.items
 
 -- it is the one of a run that went through, or tells where the run was broken off
 abbrev pub IsReportOf : Work → List ℕ → List ℕ → Result Report PairInterruption → Report → Type 0

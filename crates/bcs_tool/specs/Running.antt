@@ -29,17 +29,17 @@ use Rattle.bcs_tool.specs.declared.run_fault.RunFault.TheVariants.{Take, Write}
 
 -- each line of the job's input is an input of its own
 abbrev pub HasLines : Work → Type 0
-HasLines work = (work.lines ≡ true) × ReadsInput work
+HasLines work = (work.options.lines ≡ true) × ReadsInput work
 
 -- the job scans bytes as they are, which are judged as they come and not held
 abbrev pub Streams : Work → Type 0
-Streams work = (is_unlimited work ≡ true) × (work.lines ≡ false) × ReadsInput work
+Streams work = (is_unlimited work ≡ true) × (work.options.lines ≡ false) × ReadsInput work
 
 -- what is put for these bytes, the status, and what the standard error may be told beside: one answer, or one to each line
 pub data Responds (work : Work) (bytes : List ℕ) : ℕ → List ℕ → List ℕ → Type 0 where
   once : (status : ℕ) (output place : List ℕ) → ¬ HasLines work → Answers work bytes status output → Places work bytes place → Responds work bytes status output place
   -- the status is the greatest one; beside stands how many lines have which
-  by_line : (statuses output place : List ℕ) → HasLines work → AnswersAll work (lines_of bytes) statuses output → TellsPlace work.quiet (summary statuses) place
+  by_line : (statuses output place : List ℕ) → HasLines work → AnswersAll work (lines_of bytes) statuses output → TellsPlace work.options.quiet (summary statuses) place
       → Responds work bytes (greatest statuses) output place
 
 -- ---- faults
@@ -202,7 +202,7 @@ module _ {S K : Type 0} (content : S → Option (List ℕ)) (has_stopped : S →
     pub count : ℕ
     pub status : report.outcome.status ≡ 4
     pub note : report.outcome.note.now ≡ fault_note fault
-    pub tells : TellsPlace work.quiet (run_place work.lines fault name count) report.place.items
+    pub tells : TellsPlace work.options.quiet (run_place work.options.lines fault name count) report.place.items
     pub fails : FailsAt work input input' out out' fault count
 
   -- what comes of a run; a job that has no input, or that its own words refuse, leaves the input as it was

@@ -1,7 +1,7 @@
 //! The command line: its words, and the job that they ask for.
 ghost use Rattle.std.specs.Prelude.{◌≡◌, ◌⊎◌, ◌&&◌, IfOk, IfErr, IsOkUnless};
 ghost use Rattle.bcs_tool_command_line.specs.CommandLine.{texts_of};
-ghost use Rattle.bcs_tool_command_line.specs.Jobs.{IsJobOf, is_raw};
+ghost use Rattle.bcs_tool_command_line.specs.Jobs.{IsJobOf, coding, is_raw};
 ghost use Rattle.bcs_tool_command_line.specs.LineFaults.{IsFaultOf, TellsJoined};
 ghost use Rattle.bcs_tool_command_line.specs.TakenWords.{TakesWords};
 
@@ -36,9 +36,9 @@ pub fn line(alloc: Global, words: &[String]) -> Result<Job, LineFault>
 
 // Whether `--raw` and `--lines` stand together. Bytes as they are have no lines.
 fn has_joined(job: &Job) -> bool
-    ensures { result ≡ (is_raw job.now.coding && job.now.lines) }
+    ensures { result ≡ (is_raw (coding job.now.raw job.now.options.base64) && job.now.options.lines) }
 {
-    job.coding.is_raw() && job.lines
+    job.coding().is_raw() && job.options.lines
 }
 
 // The fault of words that join `--raw` and `--lines`.

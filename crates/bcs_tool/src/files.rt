@@ -8,7 +8,7 @@ ghost use Rattle.bcs_tool_command_line.specs.Files.{IsFaultOfFiles, IsFileText, 
 use bcs_io::{ByteSource, ReadSource, TakeFault, take_all};
 use bcs_tool_command_line::limits::SIZE_LIMIT;
 use bcs_tool_command_line::{
-    Command, FileFault, FileRefusal, Inputs, Job, OpenCause, UnreadFile, Work, style_of,
+    Command, FileFault, FileRefusal, Inputs, Job, OpenCause, UnreadFile, Work, WorkOptions, style_of,
 };
 use std::alloc::{AllocError, Global};
 use std::env::Env;
@@ -21,18 +21,41 @@ pub fn read_named<R: Files + AllocGlobal>(rt: &R, name: &str) -> Result<Vec<u8>,
     ensures text { IfOk result (λ v. IsFileText R.File.remaining v.items) }
     ensures fault { IfErr result (IsFaultOfFiles R.File.remaining) }
 {
-    Ok(read_file(rt, name)?)
+    match File::open(rt, name) {
+        Ok(file) => Ok(read_opened(rt.alloc(), &mut ReadSource::new(file))?),
+        Err(_) => Err(FileFault::Open),
+    }
 }
 
-// The same, with the cause where the file wasn't opened.
+// The same, with the cause if the file couldn't be opened.
 fn read_file<R: Files + AllocGlobal>(rt: &R, name: &str) -> Result<Vec<u8>, UnreadFile>
     ensures within { IfOk result (λ v. vec_len v ≤ size_limit) }
     ensures text { IfOk result (λ v. IsFileText R.File.remaining v.items) }
     ensures fault { IfErr result (λ e. IsFaultOfFiles R.File.remaining (fault_of e)) }
 {
+    match read_named(rt, name) {
+        Ok(text) => Ok(text),
+        Err(fault) => Err(unread_file(rt, name, fault)),
+    }
+}
+
+// The fault of the file of this name, with the cause if it couldn't be opened.
+fn unread_file<R: Files + AllocGlobal>(rt: &R, name: &str, fault: FileFault) -> UnreadFile
+    ensures { fault_of result ≡ fault }
+{
+    match fault {
+        FileFault::Open => UnreadFile::Unopened(open_cause(rt, name)),
+        FileFault::Read => UnreadFile::Untaken(TakeFault::Read),
+        FileFault::TooLarge => UnreadFile::Untaken(TakeFault::TooLarge),
+        FileFault::OutOfMemory => UnreadFile::Untaken(TakeFault::OutOfMemory),
+    }
+}
+
+// Why a file of this name, which couldn't be opened before, can't be opened now. Only people read it.
+fn open_cause<R: Files + AllocGlobal>(rt: &R, name: &str) -> OpenCause {
     match File::open(rt, name) {
-        Ok(file) => Ok(read_opened(rt.alloc(), &mut ReadSource::new(file))?),
-        Err(error) => Err(UnreadFile::Unopened(OpenCause::of(error.kind()))),
+        Ok(_) => OpenCause::Other,
+        Err(error) => OpenCause::of(error.kind()),
     }
 }
 
@@ -71,7 +94,7 @@ pub fn read_work<R: Files + Env + AllocGlobal>(
             });
         }
     };
-    let second = match read_second(rt, job.command, job.lines, job.second.as_str()) {
+    let second = match read_second(rt, job.command, job.options.lines, job.second.as_str()) {
         Ok(text) => text,
         Err(reason) => {
             return Err(FileRefusal {
@@ -87,18 +110,21 @@ pub fn read_work<R: Files + Env + AllocGlobal>(
         second,
         format: job.format,
         path: job.path,
-        name: job.name,
-        coding: job.coding,
-        lines: job.lines,
-        front: job.front,
-        list: job.list,
-        full: job.full,
-        quiet: job.quiet,
-        style,
+        raw: job.raw,
         limits: job.limits,
+        options: WorkOptions {
+            name: job.options.name,
+            base64: job.options.base64,
+            lines: job.options.lines,
+            front: job.options.front,
+            list: job.options.list,
+            full: job.options.full,
+            quiet: job.options.quiet,
+            style,
+        },
     };
     let inputs = Inputs {
-        first: first_name(job.command, job.lines, job.second),
+        first: first_name(job.command, job.options.lines, job.second),
         file: job.file,
     };
     Ok((work, inputs))

@@ -24,8 +24,8 @@ pub use bcs_io::{ByteSink, ByteSource, ReadSource, TakeFault, WriteSink, put_all
 pub use bcs_look_text::style::{Form, Paint, Style};
 pub use bcs_tool_answers::laws;
 pub use bcs_tool_command_line::{
-    Coding, Color, Command, FileFault, FileRefusal, Inputs, Job, LineFault, OpenCause, Origin,
-    Outcome, Report, UnreadFile, Work,
+    Coding, Color, Command, FileFault, FileRefusal, Inputs, Job, JobOptions, LineFault, OpenCause,
+    Origin, Outcome, Report, UnreadFile, Work, WorkOptions,
 };
 pub use command_line::line;
 pub use entry::{program, start, words_of};

@@ -24,7 +24,7 @@ pub fn run_lines<S: ByteSource, K: ByteSink>(
     out: &mut K,
 ) -> Result<Report, Interruption>
     requires asked { IsAskedBy work.now asked.now }
-    requires by_line { work.now.lines ≡ true }
+    requires by_line { work.now.options.lines ≡ true }
     ensures { Ends S.content S.is_failed S.allowance K.taken K.is_failed work.now
         input.old input.new out.old out.new result }
 {
@@ -34,7 +34,7 @@ pub fn run_lines<S: ByteSource, K: ByteSink>(
             status: tally.status,
             note: "",
         },
-        place: place_of_tally(alloc, work.quiet, tally),
+        place: place_of_tally(alloc, work.options.quiet, tally),
     })
 }
 
@@ -47,7 +47,7 @@ fn put_lines<S: ByteSource, K: ByteSink>(
     out: &mut K,
 ) -> Result<Tally, Interruption>
     requires asked { IsAskedBy work.now asked.now }
-    requires by_line { work.now.lines ≡ true }
+    requires by_line { work.now.options.lines ≡ true }
     ensures { EndsLines S.content S.is_failed S.allowance K.taken K.is_failed work.now
         input.old input.new out.old out.new result }
 {

@@ -22,7 +22,7 @@ pub fn place_of_pair_interruption(
     first: Origin<'_>,
     second: Origin<'_>,
 ) -> Vec<u8>
-    ensures { TellsPlace work.now.quiet (run_place work.now.lines interruption.interruption.fault
+    ensures { TellsPlace work.now.options.quiet (run_place work.now.options.lines interruption.interruption.fault
         (side_text interruption.side (origin_text first.entry) (origin_text second.entry)) interruption.interruption.answered) result.items }
 {
     let origin = match interruption.side {

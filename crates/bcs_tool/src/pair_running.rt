@@ -37,7 +37,7 @@ pub fn run_pairs<F: ByteSource, S: ByteSource, K: ByteSink>(
                     status: compared.tally.status,
                     note: "",
                 },
-                place: place_of_pairs(alloc, work.quiet, compared),
+                place: place_of_pairs(alloc, work.options.quiet, compared),
             })
         }
     }

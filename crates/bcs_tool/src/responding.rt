@@ -62,7 +62,7 @@ fn perform<R: Files + Env + AllocGlobal, S: ByteSource, O: ByteSink>(
     ensures { Performs S.content S.is_failed S.allowance O.taken O.is_failed R.File.remaining
         job input.old input.new out.old out.new result }
 {
-    let quiet = job.quiet;
+    let quiet = job.options.quiet;
     let (work, inputs) = match read_work(rt, job) {
         Ok(read) => read,
         Err(refusal) => {
@@ -100,7 +100,7 @@ fn perform_one<R: Files + Env + AllocGlobal, S: ByteSource, O: ByteSink>(
             &mut ReadSource::new(file),
             out,
         ),
-        Err(error) => unopened(rt.alloc(), work.quiet, name, error.kind()),
+        Err(error) => unopened(rt.alloc(), work.options.quiet, name, error.kind()),
     }
 }
 
@@ -119,7 +119,7 @@ fn perform_pairs<R: Files + Env + AllocGlobal, S: ByteSource, O: ByteSink>(
     let alloc = rt.alloc();
     let mut lines = match File::open(rt, first) {
         Ok(file) => ReadSource::new(file),
-        Err(error) => return unopened(alloc, work.quiet, first, error.kind()),
+        Err(error) => return unopened(alloc, work.options.quiet, first, error.kind()),
     };
     let origin = Origin::File(first);
     let Some(name) = file else {
@@ -132,7 +132,7 @@ fn perform_pairs<R: Files + Env + AllocGlobal, S: ByteSource, O: ByteSink>(
             let result = run_pairs(alloc, work, &mut lines, &mut ReadSource::new(file), out);
             report_of_pairs(alloc, work, result, origin, Origin::File(name))
         }
-        Err(error) => unopened(alloc, work.quiet, name, error.kind()),
+        Err(error) => unopened(alloc, work.options.quiet, name, error.kind()),
     }
 }
 

@@ -19,9 +19,9 @@ pub fn place_of_interruption(
     interruption: Interruption,
     origin: Origin<'_>,
 ) -> Vec<u8>
-    ensures { TellsPlace work.now.quiet (run_place work.now.lines interruption.fault (origin_text origin.entry) interruption.answered) result.items }
+    ensures { TellsPlace work.now.options.quiet (run_place work.now.options.lines interruption.fault (origin_text origin.entry) interruption.answered) result.items }
 {
-    if work.quiet {
+    if work.options.quiet {
         return Vec::new(alloc);
     }
     match interruption_line(alloc, work, interruption, origin) {
@@ -36,10 +36,10 @@ fn interruption_line(
     interruption: Interruption,
     origin: Origin<'_>,
 ) -> Result<Vec<u8>, AllocError>
-    ensures { IfOk result (λ line. line.items ≡ run_place work.now.lines interruption.fault (origin_text origin.entry) interruption.answered) }
+    ensures { IfOk result (λ line. line.items ≡ run_place work.now.options.lines interruption.fault (origin_text origin.entry) interruption.answered) }
 {
     let mut line = stream_line(alloc, interruption.fault, origin)?;
-    if work.lines {
+    if work.options.lines {
         if !line.is_empty() {
             line.extend_from_slice(b", ")?;
         }

@@ -78,7 +78,7 @@ fn put_answers<S: ByteSource, K: ByteSink>(
     match prepare(alloc, work)? {
         Prepared::Answered(answer) => put_answer(answer, out),
         Prepared::Asked(asked) => {
-            if work.lines {
+            if work.options.lines {
                 run_lines(alloc, work, &asked, input, out)
             } else if is_unlimited(work) {
                 run_scan(alloc, work, &asked, input, out)
@@ -98,7 +98,7 @@ fn run_whole<S: ByteSource, K: ByteSink>(
     out: &mut K,
 ) -> Result<Report, Interruption>
     requires asked { IsAskedBy work.now asked.now }
-    requires whole { work.now.lines ≡ false }
+    requires whole { work.now.options.lines ≡ false }
     ensures { Ends S.content S.is_failed S.allowance K.taken K.is_failed work.now
         input.old input.new out.old out.new result }
 {

@@ -67,7 +67,7 @@ fn scanned<S: ByteSource>(
     input: &mut S,
 ) -> Result<u64, DecodeFault>
     requires admitted { Admits asked.now.registry (shape_of asked.now.format) }
-    ensures told { Scans work.now.front asked.now.registry work.now.limits (shape_of asked.now.format)
+    ensures told { Scans work.now.options.front asked.now.registry work.now.limits (shape_of asked.now.format)
         (S.content input.old) (S.content input.new) result }
     ensures read { IsErrOf result DecodeFault.Read ↔ S.is_failed input.new ≡ true }
 {
@@ -76,7 +76,7 @@ fn scanned<S: ByteSource>(
         format,
         ..
     } = asked;
-    if work.front {
+    if work.options.front {
         scan_from(alloc, registry, format, &work.limits, input)
     } else {
         scan_all(alloc, registry, format, &work.limits, input)

@@ -9,6 +9,7 @@ use Rattle.bcs_decode_parts.specs.Parts.{Step}
 use Rattle.bcs_registry.proofs.OneText.{same_registry}
 use Rattle.bcs_decode_parts.specs.Path.{SpellsPath}
 use Rattle.bcs_decode_parts.proofs.Parts.{one_path}
+use Rattle.bcs_tool_command_line.specs.Jobs.{coding_of}
 use Rattle.bcs_tool_command_line.specs.declared.work.Work.{Work}
 use Rattle.bcs_tool_command_line.specs.declared.command.Command.{Command}
 use Rattle.bcs_tool_command_line.specs.declared.command.Command.TheVariants.{Check, Encode, Decode, Normalise}
@@ -36,7 +37,7 @@ module _ (work : Work) (input : List ℕ) where
   abbrev Late : Command → ℕ → List ℕ → Type 0
   Late Check s p = (r : Entries) × IsRegistry work.registry.items r × (s ≡ 0) × (p ≡ count_line (length r))
   Late command.Grows s p = (r : Entries) × (n : Entries) × IsRegistry work.registry.items r × IsRegistry work.second.items n × Grows r n
-      × (list : List ℕ) × Lists work.list list × (s ≡ 0) × (p ≡ list ++ line_of (codes "grows"))
+      × (list : List ℕ) × Lists work.options.list list × (s ≡ 0) × (p ≡ list ++ line_of (codes "grows"))
   Late command.Show s p = Unit {0}
   Late command.Example s p = Unit {0}
   Late command.Schema s p = Unit {0}
@@ -75,7 +76,7 @@ module _ (work : Work) (input : List ℕ) where
   told (answer.shown r t c h k) = by command.Show 0 t c tt
   told (answer.exampled r f z t a h) = by command.Example z t a.is_command tt
   told (answer.described r f t a) = by command.Schema 0 t a.is_command tt
-  told (answer.encoded r f b a h) = by Encode 0 (printed work.coding b) a.is_command (valued (Encoded work input) Encode r f 0 (printed work.coding b) a (inl (b, h, refl, refl)))
+  told (answer.encoded r f b a h) = by Encode 0 (printed (coding_of work) b) a.is_command (valued (Encoded work input) Encode r f 0 (printed (coding_of work) b) a (inl (b, h, refl, refl)))
   told (answer.normalised r f t a h) = by Normalise 0 (line_of t) a.is_command (valued (Normalised work input) Normalise r f 0 (line_of t) a (inl (t, h, refl, refl)))
   told (answer.refused c r f e (inl is) a h) = by Encode 2 (refusal_line (json_fault_name e)) (a.is_command ∙ is) (valued (Encoded work input) c r f 2 (refusal_line (json_fault_name e)) a (inr (e, h, refl, refl)))
   told (answer.refused c r f e (inr is) a h) = by Normalise 2 (refusal_line (json_fault_name e)) (a.is_command ∙ is) (valued (Normalised work input) c r f 2 (refusal_line (json_fault_name e)) a (inr (e, h, refl, refl)))
@@ -85,20 +86,20 @@ module _ (work : Work) (input : List ℕ) where
   told (answer.too_nested r f b c a g h n) = by Decode 2 (refusal_line (codes "TooNested")) a.is_command (valued (Decoded work input) Decode r f 2 (refusal_line (codes "TooNested")) a (inl (b, g, inr (inr (c, h, n, refl, refl)))))
   told (answer.explained r f b t c a g h) = by command.Explain 0 t a.is_command tt
   told (answer.damaged r f b t e o a g h) = by command.Explain 2 t a.is_command tt
-  told (answer.no_bytes c r f (inl is) a h) = by Decode 2 (refusal_line (given.fault_name work.coding)) (a.is_command ∙ is) (valued (Decoded work input) c r f 2 (refusal_line (given.fault_name work.coding)) a (inr (h, refl, refl)))
-  told (answer.no_bytes c r f (inr (inr (inl is))) a h) = by command.Explain 2 (refusal_line (given.fault_name work.coding)) (a.is_command ∙ is) tt
+  told (answer.no_bytes c r f (inl is) a h) = by Decode 2 (refusal_line (given.fault_name (coding_of work))) (a.is_command ∙ is) (valued (Decoded work input) c r f 2 (refusal_line (given.fault_name (coding_of work))) a (inr (h, refl, refl)))
+  told (answer.no_bytes c r f (inr (inr (inl is))) a h) = by command.Explain 2 (refusal_line (given.fault_name (coding_of work))) (a.is_command ∙ is) tt
   told (answer.no_bytes c r f (inr (inr (inr is))) a h) =
-      by command.Scan 2 (refusal_line (given.fault_name work.coding)) (a.is_command ∙ is) (valued (Scanned work input) c r f 2 (refusal_line (given.fault_name work.coding)) a (inr (h, refl, refl)))
+      by command.Scan 2 (refusal_line (given.fault_name (coding_of work))) (a.is_command ∙ is) (valued (Scanned work input) c r f 2 (refusal_line (given.fault_name (coding_of work))) a (inr (h, refl, refl)))
   told (answer.no_bytes c r f (inr (inl is)) a h) =
       let path = spelled c r f is a in
       let own = subst (λ (k : Command). IsAsked work input k r f) is a in
-      by command.Part 2 (refusal_line (given.fault_name work.coding)) own.is_command (parted r f path.0 2 (refusal_line (given.fault_name work.coding)) own path.1 (inr (h, refl, refl)))
+      by command.Part 2 (refusal_line (given.fault_name (coding_of work))) own.is_command (parted r f path.0 2 (refusal_line (given.fault_name (coding_of work))) own path.1 (inr (h, refl, refl)))
   told (answer.found r f path b n c x a spells g h at) =
-      by command.Part 0 (printed work.coding (plain r x.value x.content)) a.is_command
-      (parted r f path 0 (printed work.coding (plain r x.value x.content)) a spells (inl (b, g, inl (n, c, h, inl (x, at, refl, refl)))))
+      by command.Part 0 (printed (coding_of work) (plain r x.value x.content)) a.is_command
+      (parted r f path 0 (printed (coding_of work) (plain r x.value x.content)) a spells (inl (b, g, inl (n, c, h, inl (x, at, refl, refl)))))
   told (answer.nowhere r f path b n c a spells g h at) =
-      by command.Part 1 (printed_none work.coding) a.is_command
-      (parted r f path 1 (printed_none work.coding) a spells (inl (b, g, inl (n, c, h, inr (at, refl, refl)))))
+      by command.Part 1 (printed_none (coding_of work)) a.is_command
+      (parted r f path 1 (printed_none (coding_of work)) a spells (inl (b, g, inl (n, c, h, inr (at, refl, refl)))))
   told (answer.front_stopped r f b e o a g h) =
       let path = spelled command.Part r f refl a in
       by command.Part 2 (stop_line e o) a.is_command (parted r f path.0 2 (stop_line e o) a path.1 (inl (b, g, inr (e, o, h, refl, refl))))
@@ -118,7 +119,7 @@ module _ (work : Work) (input : List ℕ) where
       let format : g ≡ f = one_format_word r (string_bytes work.format) g f (subst (λ (m : Entries). IsFormat m (string_bytes work.format) g) same b) a in
       one r f h.0.2.orderly s z p q x (subst (λ (i : Shape). P r i z q) format (subst (λ (m : Entries). P m g z q) same y))
 
-  one_late : (c : Command) → IsExact c work.list → IsOne (Late c)
+  one_late : (c : Command) → IsExact c work.options.list → IsOne (Late c)
   one_late Check exact s z p q (r, h, hs, hp) (n, k, ks, kq) =
       (hs ∙ sym ks, hp ∙ ap (λ (m : Entries). count_line (length m)) (same_registry work.registry.items r n h.0 k.0) ∙ sym kq)
   one_late command.Grows exact s z p q (r, n, h, g, w, l, a, hs, hp) (r2, n2, k, i, x, m, b, ks, kq) =
@@ -141,7 +142,7 @@ module _ (work : Work) (input : List ℕ) where
   of_valued : (P : Entries → Shape → ℕ → List ℕ → Type 0) (fault : JobFault) (s : ℕ) (p : List ℕ) → RefusesFormatted work fault → Valued P s p → ⊥
   of_valued P fault s p h (r, f, is, a, x) = not_formatted work fault r f h is a
 
-  not_late : (c : Command) (fault : JobFault) (s : ℕ) (p : List ℕ) → IsExact c work.list → RefusesAt c work fault → Late c s p → ⊥
+  not_late : (c : Command) (fault : JobFault) (s : ℕ) (p : List ℕ) → IsExact c work.options.list → RefusesAt c work fault → Late c s p → ⊥
   not_late Check fault s p exact h (r, is, ks, kq) = not_checked work fault r h is
   not_late command.Grows fault s p exact h (r, n, is, i, g, l, a, ks, kq) = not_grown work fault r n h is i g
   not_late command.Show fault s p exact h k = absurd exact
@@ -155,7 +156,7 @@ module _ (work : Work) (input : List ℕ) where
   not_late command.Scan fault s p exact h k = of_valued (Scanned work input) fault s p h k
   not_late command.Part fault s p exact h (path, spells, (r, f, is, a, x)) = not_parted work fault r f path h is a spells
 
-  one_of_both : (c : Command) (s z : ℕ) (p q : List ℕ) → IsExact c work.list → Early c s p ⊎ Late c s p → Early c z q ⊎ Late c z q → Agrees s p z q
+  one_of_both : (c : Command) (s z : ℕ) (p q : List ℕ) → IsExact c work.options.list → Early c s p ⊎ Late c s p → Early c z q ⊎ Late c z q → Agrees s p z q
   one_of_both c s z p q exact (inl (e, l, h, a, hs, hp)) (inl (g, m, k, b, ks, kq)) =
       let none = a (unlisted c work e exact h) ∙ sym (b (unlisted c work g exact k)) in (
         hs ∙ sym ks,

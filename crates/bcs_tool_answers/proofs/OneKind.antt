@@ -22,6 +22,7 @@ use Rattle.bcs_json_spec.specs.Shown.{shown}
 use Rattle.bcs_json_spec.specs.Texts.{nesting_limit}
 use Rattle.bcs_json_spec.proofs.Lowest.{shown_is_lowest}
 use Rattle.bcs_json_spec.proofs.TextLaws.{denotes_once}
+use Rattle.bcs_tool_command_line.specs.Jobs.{coding_of}
 use Rattle.bcs_tool_command_line.specs.declared.coding.Coding.{Coding}
 use Rattle.bcs_tool_command_line.specs.declared.coding.Coding.TheVariants.{Hexadecimal, Base64, Raw}
 use Rattle.bcs_tool_command_line.specs.declared.work.Work.{Work}
@@ -42,7 +43,7 @@ module _ (work : Work) (input : List ℕ) where
 
   module _ (r : Entries) (f : Shape) where
     abbrev pub Encoded : ℕ → List ℕ → Type 0
-    Encoded s p = ((b : List ℕ) × HasBytes r work.limits f input b × (s ≡ 0) × (p ≡ printed work.coding b)) ⊎ Refused r work.limits f input s p
+    Encoded s p = ((b : List ℕ) × HasBytes r work.limits f input b × (s ≡ 0) × (p ≡ printed (coding_of work) b)) ⊎ Refused r work.limits f input s p
 
     abbrev pub Normalised : ℕ → List ℕ → Type 0
     Normalised s p = ((t : List ℕ) × Normalises r work.limits f input t × (s ≡ 0) × (p ≡ line_of t)) ⊎ Refused r work.limits f input s p
@@ -54,16 +55,16 @@ module _ (work : Work) (input : List ℕ) where
 
     -- where the input gives bytes, what is answered to these; and where it gives none
     abbrev pub Given : (List ℕ → ℕ → List ℕ → Type 0) → ℕ → List ℕ → Type 0
-    Given P s p = ((bytes : List ℕ) × given.Gives work.coding input bytes × P bytes s p)
-        ⊎ (((bytes : List ℕ) → given.Gives work.coding input bytes → ⊥) × (s ≡ 2) × (p ≡ refusal_line (given.fault_name work.coding)))
+    Given P s p = ((bytes : List ℕ) × given.Gives (coding_of work) input bytes × P bytes s p)
+        ⊎ (((bytes : List ℕ) → given.Gives (coding_of work) input bytes → ⊥) × (s ≡ 2) × (p ≡ refusal_line (given.fault_name (coding_of work))))
 
     abbrev pub Decoded : ℕ → List ℕ → Type 0
     Decoded s p = Given Shown s p
 
     -- what is printed of the value at the front of the bytes
     abbrev pub Led : List Step → Tree → ℕ → List ℕ → Type 0
-    Led path c s p = ((x : Part) × (part_at r path (container.of f) c ≡ Some x) × (s ≡ 0) × (p ≡ printed work.coding (plain r x.value x.content)))
-        ⊎ ((part_at r path (container.of f) c ≡ None) × (s ≡ 1) × (p ≡ printed_none work.coding))
+    Led path c s p = ((x : Part) × (part_at r path (container.of f) c ≡ Some x) × (s ≡ 0) × (p ≡ printed (coding_of work) (plain r x.value x.content)))
+        ⊎ ((part_at r path (container.of f) c ≡ None) × (s ≡ 1) × (p ≡ printed_none (coding_of work)))
 
     abbrev pub Fronted : List Step → List ℕ → ℕ → List ℕ → Type 0
     Fronted path bytes s p = ((n : ℕ) × (c : Tree) × Accepts r work.limits f bytes n c × Led path c s p)
@@ -74,8 +75,8 @@ module _ (work : Work) (input : List ℕ) where
 
     -- how many bytes the value has that is scanned
     abbrev pub Counted : List ℕ → ℕ → List ℕ → Type 0
-    Counted bytes s p = ((n : ℕ) × (c : Tree) × Scans r work.limits f bytes work.front n c × (s ≡ 0) × (p ≡ count_line n))
-        ⊎ ((e : Reason) × (o : ℕ) × ScanStops work.front r work.limits f bytes e o × (s ≡ 2) × (p ≡ stop_line e o))
+    Counted bytes s p = ((n : ℕ) × (c : Tree) × Scans r work.limits f bytes work.options.front n c × (s ≡ 0) × (p ≡ count_line n))
+        ⊎ ((e : Reason) × (o : ℕ) × ScanStops work.options.front r work.limits f bytes e o × (s ≡ 2) × (p ≡ stop_line e o))
 
     abbrev pub Scanned : ℕ → List ℕ → Type 0
     Scanned s p = Given Counted s p
@@ -95,7 +96,7 @@ module _ (work : Work) (input : List ℕ) where
         h.is ∙ ap (λ (c : Tree). compact_text (shown r c (of f))) same ∙ sym k.is
 
     pub one_encoded : (s z : ℕ) (p q : List ℕ) → Encoded r f s p → Encoded r f z q → Agrees s p z q
-    one_encoded s z p q (inl (b, h, hs, hp)) (inl (c, k, ks, kq)) = (hs ∙ sym ks, hp ∙ ap (printed work.coding) (one_encoding b c h k) ∙ sym kq)
+    one_encoded s z p q (inl (b, h, hs, hp)) (inl (c, k, ks, kq)) = (hs ∙ sym ks, hp ∙ ap (printed (coding_of work)) (one_encoding b c h k) ∙ sym kq)
     one_encoded s z p q (inl (b, h, hs, hp)) (inr k) = absurd (not_both r work.limits f input h.value z q h.denoted k)
     one_encoded s z p q (inr h) (inl (c, k, ks, kq)) = absurd (not_both r work.limits f input k.value s p k.denoted h)
     one_encoded s z p q (inr h) (inr k) = one_refused r work.limits f orderly input s z p q h k
@@ -142,7 +143,7 @@ module _ (work : Work) (input : List ℕ) where
     one_given_answer : (P : List ℕ → ℕ → List ℕ → Type 0) → ((bytes : List ℕ) (s z : ℕ) (p q : List ℕ) → P bytes s p → P bytes z q → Agrees s p z q)
         → (s z : ℕ) (p q : List ℕ) → Given r f P s p → Given r f P z q → Agrees s p z q
     one_given_answer P one s z p q (inl (b, g, h)) (inl (c, e, k)) =
-        one b s z p q h (subst (λ (bytes : List ℕ). P bytes z q) (one_given work.coding input c b e g) k)
+        one b s z p q h (subst (λ (bytes : List ℕ). P bytes z q) (one_given (coding_of work) input c b e g) k)
     one_given_answer P one s z p q (inl (b, g, h)) (inr (none, ks, kq)) = absurd (none b g)
     one_given_answer P one s z p q (inr (none, hs, hp)) (inl (c, e, k)) = absurd (none c e)
     one_given_answer P one s z p q (inr (none, hs, hp)) (inr (none2, ks, kq)) = (hs ∙ sym ks, hp ∙ sym kq)
@@ -156,7 +157,7 @@ module _ (work : Work) (input : List ℕ) where
     one_led path c s z p q (inl (x, h, hs, hp)) (inl (y, k, ks, kq)) =
         let both : Some x ≡ Some y = sym h ∙ k in
         let same : x ≡ y = cc in
-        (hs ∙ sym ks, hp ∙ ap (λ (t : Part). printed work.coding (plain r t.value t.content)) same ∙ sym kq)
+        (hs ∙ sym ks, hp ∙ ap (λ (t : Part). printed (coding_of work) (plain r t.value t.content)) same ∙ sym kq)
     one_led path c s z p q (inl (x, h, hs, hp)) (inr (k, ks, kq)) = let both : Some x ≡ None = sym h ∙ k in absurd cc
     one_led path c s z p q (inr (h, hs, hp)) (inl (y, k, ks, kq)) = let both : None ≡ Some y = sym h ∙ k in absurd cc
     one_led path c s z p q (inr (h, hs, hp)) (inr (k, ks, kq)) = (hs ∙ sym ks, hp ∙ sym kq)
@@ -178,11 +179,11 @@ module _ (work : Work) (input : List ℕ) where
 
     one_counted : (bytes : List ℕ) (s z : ℕ) (p q : List ℕ) → Counted r f bytes s p → Counted r f bytes z q → Agrees s p z q
     one_counted bytes s z p q (inl (n, c, h, hs, hp)) (inl (m, d, k, ks, kq)) =
-        (hs ∙ sym ks, hp ∙ ap count_line (one_count r work.limits f bytes work.front n m c d h k) ∙ sym kq)
-    one_counted bytes s z p q (inl (n, c, h, hs, hp)) (inr (e, o, k, ks, kq)) = absurd (not_scanned r work.limits f bytes work.front n c e o h k)
-    one_counted bytes s z p q (inr (e, o, h, hs, hp)) (inl (m, d, k, ks, kq)) = absurd (not_scanned r work.limits f bytes work.front m d e o k h)
+        (hs ∙ sym ks, hp ∙ ap count_line (one_count r work.limits f bytes work.options.front n m c d h k) ∙ sym kq)
+    one_counted bytes s z p q (inl (n, c, h, hs, hp)) (inr (e, o, k, ks, kq)) = absurd (not_scanned r work.limits f bytes work.options.front n c e o h k)
+    one_counted bytes s z p q (inr (e, o, h, hs, hp)) (inl (m, d, k, ks, kq)) = absurd (not_scanned r work.limits f bytes work.options.front m d e o k h)
     one_counted bytes s z p q (inr (e, o, h, hs, hp)) (inr (g, i, k, ks, kq)) =
-        let same = one_scan_stop r work.limits f bytes work.front e g o i h k in
+        let same = one_scan_stop r work.limits f bytes work.options.front e g o i h k in
         (hs ∙ sym ks, hp ∙ ap₂ stop_line same.0 same.1 ∙ sym kq)
 
     pub one_scanned : (s z : ℕ) (p q : List ℕ) → Scanned r f s p → Scanned r f z q → Agrees s p z q

@@ -161,7 +161,7 @@ module _ (work : Work) where
       not_both r n e (subst (λ (x : Entries). IsFirstGrowthFault r x e) newer (subst (λ (x : Entries). IsFirstGrowthFault x m e) older h)) g
   not_grown BadPath r n h is i g = h
 
-pub one_refusal : (c : Command) (work : Work) (e g : JobFault) → IsExact c work.list → RefusesAt c work e → RefusesAt c work g → e ≡ g
+pub one_refusal : (c : Command) (work : Work) (e g : JobFault) → IsExact c work.options.list → RefusesAt c work e → RefusesAt c work g → e ≡ g
 one_refusal command.Check work e g exact h k = one_check work e g h k
 one_refusal command.Grows work e g exact h k = one_growth work e g h k
 one_refusal command.Show work e g exact h k = absurd exact
@@ -176,7 +176,7 @@ one_refusal command.Part work e g exact h k = one_part work e g h k
 one_refusal command.Scan work e g exact h k = one_formatted work e g h k
 
 -- before a refusal stands no list, where the output is exact
-pub unlisted : (c : Command) (work : Work) (e : JobFault) → IsExact c work.list → RefusesAt c work e → lists work e ≡ false
+pub unlisted : (c : Command) (work : Work) (e : JobFault) → IsExact c work.options.list → RefusesAt c work e → lists work e ≡ false
 unlisted c work (Registry e) exact h = refl
 unlisted c work BadPath exact h = refl
 unlisted command.Grows work (Growth e) exact h = exact

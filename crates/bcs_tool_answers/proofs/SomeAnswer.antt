@@ -26,6 +26,7 @@ use Rattle.bcs_tool_answers.proofs.ScanAnswers.{some_scan}
 use Rattle.bcs_tool_answers.proofs.SomeInput.{some_given}
 use Rattle.bcs_tool_answers.proofs.SomePair.{judged, some_pair}
 use Rattle.bcs_tool_answers.proofs.SomeRefusal.{named_or_none, some_formatted, some_growth, some_registry}
+use Rattle.bcs_tool_command_line.specs.Jobs.{coding_of}
 use Rattle.bcs_tool_command_line.specs.declared.work.Work.{Work}
 use Rattle.bcs_decode_parts.proofs.SomePath.{some_path}
 use Rattle.bcs_decode_parts.specs.Path.{SpellsPath}
@@ -103,7 +104,7 @@ module _ (work : Work) (input : List ℕ) where
         (_, _, compared r s pair.0 pair.1 asked pair.2)
 
     -- bytes are a value's, of which the text nests within the limit or not, or they stop
-    bytes_answered : IsAsked work input command.Decode r s → (bytes : List ℕ) → AreBytes bytes → Gives work.coding input bytes → Answered
+    bytes_answered : IsAsked work input command.Decode r s → (bytes : List ℕ) → AreBytes bytes → Gives (coding_of work) input bytes → Answered
     bytes_answered asked bytes are given = elim (some_verdict_of_all_is r work.limits s bytes are) [
       | inr h ↦ (_, _, stopped r s bytes h.0 h.1 asked given h.2)
       | inl h ↦ elim (cases_lt nesting_limit (depth (value.shown r h.0 (of s)))) [
@@ -115,26 +116,26 @@ module _ (work : Work) (input : List ℕ) where
     ]
 
     some_decode : AreBytes input → IsAsked work input command.Decode r s → Answered
-    some_decode are asked = elim (some_given input work.coding are) [
+    some_decode are asked = elim (some_given input (coding_of work) are) [
       | inl h ↦ bytes_answered asked h.0 h.1 h.2
       | inr none ↦ (_, _, no_bytes command.Decode r s (inl refl) asked none)
     ]
 
     -- bytes are a value's, or stop being one, and are explained
-    explain_answered : IsAsked work input command.Explain r s → (bytes : List ℕ) → AreBytes bytes → Gives work.coding input bytes → Answered
+    explain_answered : IsAsked work input command.Explain r s → (bytes : List ℕ) → AreBytes bytes → Gives (coding_of work) input bytes → Answered
     explain_answered asked bytes are given = elim (some_verdict_of_all_is r work.limits s bytes are) [
       | inl h ↦ (_, _, explained r s bytes [] h.0 asked given h.1)
       | inr h ↦ (_, _, damaged r s bytes [] h.0 h.1 asked given h.2)
     ]
 
     some_explain : AreBytes input → IsAsked work input command.Explain r s → Answered
-    some_explain are asked = elim (some_given input work.coding are) [
+    some_explain are asked = elim (some_given input (coding_of work) are) [
       | inl h ↦ explain_answered asked h.0 h.1 h.2
       | inr none ↦ (_, _, no_bytes command.Explain r s (inr (inr (inl refl))) asked none)
     ]
 
     -- a value stands at the front of bytes, and the steps lead to a part of it or nowhere; or the bytes stop
-    front_answered : IsAsked work input command.Part r s → (path : List Step) → SpellsPath (string_bytes work.path) path → (bytes : List ℕ) → AreBytes bytes → Gives work.coding input bytes → Answered
+    front_answered : IsAsked work input command.Part r s → (path : List Step) → SpellsPath (string_bytes work.path) path → (bytes : List ℕ) → AreBytes bytes → Gives (coding_of work) input bytes → Answered
     front_answered asked path spells bytes are given = elim (some_verdict_is r work.limits s bytes are) [
       | inr h ↦ (_, _, front_stopped r s bytes h.0 h.1 asked given h.2)
       | inl h ↦ at h.0 h.1 h.2 (part_at r path (container.of s) h.1) refl
@@ -145,20 +146,20 @@ module _ (work : Work) (input : List ℕ) where
         at n c accepted (Some x) is = (_, _, found r s path bytes n c x asked spells given accepted is)
 
     some_part : AreBytes input → (path : List Step) → SpellsPath (string_bytes work.path) path → IsAsked work input command.Part r s → Answered
-    some_part are path spells asked = elim (some_given input work.coding are) [
+    some_part are path spells asked = elim (some_given input (coding_of work) are) [
       | inl h ↦ front_answered asked path spells h.0 h.1 h.2
       | inr none ↦ (_, _, no_bytes command.Part r s (inr (inl refl)) asked none)
     ]
 
     -- a value stands at the front of bytes, and is all of them where all are asked for; or the bytes stop
-    scan_answered : IsAsked work input command.Scan r s → (bytes : List ℕ) → AreBytes bytes → Gives work.coding input bytes → Answered
-    scan_answered asked bytes are given = elim (some_scan r work.limits s bytes work.front are) [
+    scan_answered : IsAsked work input command.Scan r s → (bytes : List ℕ) → AreBytes bytes → Gives (coding_of work) input bytes → Answered
+    scan_answered asked bytes are given = elim (some_scan r work.limits s bytes work.options.front are) [
       | inl h ↦ (_, _, scanned r s bytes h.0 h.1 asked given h.2.0 h.2.1)
       | inr h ↦ (_, _, scan_stopped r s bytes h.0 h.1 asked given h.2)
     ]
 
     some_scanned : AreBytes input → IsAsked work input command.Scan r s → Answered
-    some_scanned are asked = elim (some_given input work.coding are) [
+    some_scanned are asked = elim (some_given input (coding_of work) are) [
       | inl h ↦ scan_answered asked h.0 h.1 h.2
       | inr none ↦ (_, _, no_bytes command.Scan r s (inr (inr (inr refl))) asked none)
     ]

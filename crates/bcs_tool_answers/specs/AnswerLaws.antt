@@ -23,7 +23,7 @@ IsExact other listed = Unit {0}
 
 -- there is at most one answer, where the output is exact
 abbrev pub OneAnswer : Type 0
-OneAnswer = (work : Work) (input : List ℕ) (status other : ℕ) (output again : List ℕ) → IsExact work.command work.list
+OneAnswer = (work : Work) (input : List ℕ) (status other : ℕ) (output again : List ℕ) → IsExact work.command work.options.list
     → Answers work input status output → Answers work input other again → (status ≡ other) × (output ≡ again)
 
 -- and there is one, to each input of bytes within the size
@@ -35,7 +35,7 @@ SomeAnswer = (work : Work) (input : List ℕ) → AreBytes input → IsWithin wo
 
 -- there is at most one answer to the lines of an input, where the output is exact
 abbrev pub OneAnswerALine : Type 0
-OneAnswerALine = (work : Work) (content : List ℕ) (status other : ℕ) (output again : List ℕ) → IsExact work.command work.list
+OneAnswerALine = (work : Work) (content : List ℕ) (status other : ℕ) (output again : List ℕ) → IsExact work.command work.options.list
     → AnswersLines work content status output → AnswersLines work content other again → (status ≡ other) × (output ≡ again)
 
 -- and there is one, to bytes of which each line is within the size

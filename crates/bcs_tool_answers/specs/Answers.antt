@@ -25,6 +25,7 @@ use Rattle.bcs_decode_parts.specs.Path.{SpellsPath}
 use Rattle.bcs_tool_command_line.specs.Files.{size_limit}
 use Rattle.bcs_tool_answers.specs.Input as given
 use Rattle.bcs_tool_answers.specs.Judging.{Asks, IsFormat, IsRegistry, NamesNone, RefusesEarly, is_unlimited, job_fault_name, name_of}
+use Rattle.bcs_tool_command_line.specs.Jobs.{coding_of}
 use Rattle.bcs_tool_command_line.specs.declared.coding.Coding.{Coding}
 use Rattle.bcs_tool_command_line.specs.declared.coding.Coding.TheVariants as coding
 use Rattle.bcs_tool_command_line.specs.declared.command.Command.{Command}
@@ -68,7 +69,7 @@ Lists asked list = asked ≡ false → list ≡ []
 -- of refusals that of growth alone has the list before it
 abbrev pub lists : Work → JobFault → Bool
 lists work (job.Registry fault) = false
-lists work (job.Growth fault) = work.list
+lists work (job.Growth fault) = work.options.list
 lists work job.BadPath = false
 
 -- the input is no larger than is allowed
@@ -117,7 +118,7 @@ pub data Answers (work : Work) (input : List ℕ) : ℕ → List ℕ → Type 0 
   -- `check`: how many containers the registry has
   checked : (registry : Entries) → work.command ≡ command.Check → IsRegistry work.registry.items registry → Answers work input 0 (count_line (length registry))
   -- `grows`: the newer registry keeps all that the older one has; before that stands the list, where it is asked for
-  grown : (older newer : Entries) (list : List ℕ) → work.command ≡ command.Grows → IsRegistry work.registry.items older → IsRegistry work.second.items newer → Grows older newer → Lists work.list list → Answers work input 0 (list ++ line_of (codes "grows"))
+  grown : (older newer : Entries) (list : List ℕ) → work.command ≡ command.Grows → IsRegistry work.registry.items older → IsRegistry work.second.items newer → Grows older newer → Lists work.options.list list → Answers work input 0 (list ++ line_of (codes "grows"))
   -- `show`: a text for reading, where NAME, if it is given, is that of a container
   shown : (registry : Entries) (text : List ℕ) → work.command ≡ command.Show → IsRegistry work.registry.items registry → (NamesNone (name_of work) registry → ⊥) → Answers work input 0 text
   -- `example`: done with an example for reading, or refused since there is none. Only that the words are good is promised
@@ -125,7 +126,7 @@ pub data Answers (work : Work) (input : List ℕ) : ℕ → List ℕ → Type 0 
   -- `schema`: a text for reading, where the words are good
   described : (registry : Entries) (s : Shape) (text : List ℕ) → AsksOfFormat work command.Schema registry s → Answers work input 0 text
   -- `encode`: the bytes of the value that the text denotes
-  encoded : (registry : Entries) (s : Shape) (bytes : List ℕ) → IsAsked work input command.Encode registry s → HasBytes registry work.limits s input bytes → Answers work input 0 (printed work.coding bytes)
+  encoded : (registry : Entries) (s : Shape) (bytes : List ℕ) → IsAsked work input command.Encode registry s → HasBytes registry work.limits s input bytes → Answers work input 0 (printed (coding_of work) bytes)
   -- `normalise`: its normal text
   normalised : (registry : Entries) (s : Shape) (text : List ℕ) → IsAsked work input command.Normalise registry s → Normalises registry work.limits s input text → Answers work input 0 (line_of text)
   -- `encode` and `normalise`: the text is refused
@@ -133,24 +134,24 @@ pub data Answers (work : Work) (input : List ℕ) : ℕ → List ℕ → Type 0 
   -- `same`: what is answered to the job's text and that of the input
   compared : (registry : Entries) (s : Shape) (status : ℕ) (output : List ℕ) → IsAsked work input command.Same registry s → AnswersTexts registry work.limits s work.second.items input status output → Answers work input status output
   -- `decode`: the text of the one value whose bytes the input gives
-  decoded : (registry : Entries) (s : Shape) (bytes text : List ℕ) → IsAsked work input command.Decode registry s → given.Gives work.coding input bytes → ShowsBytes registry work.limits s bytes text → Answers work input 0 (line_of text)
+  decoded : (registry : Entries) (s : Shape) (bytes text : List ℕ) → IsAsked work input command.Decode registry s → given.Gives (coding_of work) input bytes → ShowsBytes registry work.limits s bytes text → Answers work input 0 (line_of text)
   -- `decode`: the bytes stop being a value at a place
-  stopped : (registry : Entries) (s : Shape) (bytes : List ℕ) (reason : Reason) (place : ℕ) → IsAsked work input command.Decode registry s → given.Gives work.coding input bytes → StopsAll registry work.limits s bytes reason place → Answers work input 2 (stop_line reason place)
+  stopped : (registry : Entries) (s : Shape) (bytes : List ℕ) (reason : Reason) (place : ℕ) → IsAsked work input command.Decode registry s → given.Gives (coding_of work) input bytes → StopsAll registry work.limits s bytes reason place → Answers work input 2 (stop_line reason place)
   -- `decode`: they are a value's, and its text would nest deeper than a text may
-  too_nested : (registry : Entries) (s : Shape) (bytes : List ℕ) (c : Tree) → IsAsked work input command.Decode registry s → given.Gives work.coding input bytes → Accepts registry work.limits s bytes (length bytes) c → nesting_limit < depth (value.shown registry c (of s)) → Answers work input 2 (refusal_line (codes "TooNested"))
+  too_nested : (registry : Entries) (s : Shape) (bytes : List ℕ) (c : Tree) → IsAsked work input command.Decode registry s → given.Gives (coding_of work) input bytes → Accepts registry work.limits s bytes (length bytes) c → nesting_limit < depth (value.shown registry c (of s)) → Answers work input 2 (refusal_line (codes "TooNested"))
   -- `explain`: a text for reading, where the input gives the bytes of one value
-  explained : (registry : Entries) (s : Shape) (bytes text : List ℕ) (c : Tree) → IsAsked work input command.Explain registry s → given.Gives work.coding input bytes → Accepts registry work.limits s bytes (length bytes) c → Answers work input 0 text
+  explained : (registry : Entries) (s : Shape) (bytes text : List ℕ) (c : Tree) → IsAsked work input command.Explain registry s → given.Gives (coding_of work) input bytes → Accepts registry work.limits s bytes (length bytes) c → Answers work input 0 text
   -- `explain`: a text for reading, where the bytes stop being a value
-  damaged : (registry : Entries) (s : Shape) (bytes text : List ℕ) (reason : Reason) (place : ℕ) → IsAsked work input command.Explain registry s → given.Gives work.coding input bytes → StopsAll registry work.limits s bytes reason place → Answers work input 2 text
+  damaged : (registry : Entries) (s : Shape) (bytes text : List ℕ) (reason : Reason) (place : ℕ) → IsAsked work input command.Explain registry s → given.Gives (coding_of work) input bytes → StopsAll registry work.limits s bytes reason place → Answers work input 2 text
   -- `decode`, `explain`, `part` and `scan`: the input gives no bytes
-  no_bytes : (asked : Command) (registry : Entries) (s : Shape) → TakesBytes asked → IsAsked work input asked registry s → ((bytes : List ℕ) → given.Gives work.coding input bytes → ⊥) → Answers work input 2 (refusal_line (given.fault_name work.coding))
+  no_bytes : (asked : Command) (registry : Entries) (s : Shape) → TakesBytes asked → IsAsked work input asked registry s → ((bytes : List ℕ) → given.Gives (coding_of work) input bytes → ⊥) → Answers work input 2 (refusal_line (given.fault_name (coding_of work)))
   -- `part`: a value stands at the front of the bytes, and the steps of PATH lead to a part of it, whose bytes these are
-  found : (registry : Entries) (s : Shape) (path : List Step) (bytes : List ℕ) (n : ℕ) (c : Tree) (x : Part) → IsAsked work input command.Part registry s → SpellsPath (string_bytes work.path) path → given.Gives work.coding input bytes → Accepts registry work.limits s bytes n c → part_at registry path (container.of s) c ≡ Some x → Answers work input 0 (printed work.coding (plain registry x.value x.content))
+  found : (registry : Entries) (s : Shape) (path : List Step) (bytes : List ℕ) (n : ℕ) (c : Tree) (x : Part) → IsAsked work input command.Part registry s → SpellsPath (string_bytes work.path) path → given.Gives (coding_of work) input bytes → Accepts registry work.limits s bytes n c → part_at registry path (container.of s) c ≡ Some x → Answers work input 0 (printed (coding_of work) (plain registry x.value x.content))
   -- `part`: they lead nowhere in it
-  nowhere : (registry : Entries) (s : Shape) (path : List Step) (bytes : List ℕ) (n : ℕ) (c : Tree) → IsAsked work input command.Part registry s → SpellsPath (string_bytes work.path) path → given.Gives work.coding input bytes → Accepts registry work.limits s bytes n c → part_at registry path (container.of s) c ≡ None → Answers work input 1 (printed_none work.coding)
+  nowhere : (registry : Entries) (s : Shape) (path : List Step) (bytes : List ℕ) (n : ℕ) (c : Tree) → IsAsked work input command.Part registry s → SpellsPath (string_bytes work.path) path → given.Gives (coding_of work) input bytes → Accepts registry work.limits s bytes n c → part_at registry path (container.of s) c ≡ None → Answers work input 1 (printed_none (coding_of work))
   -- `part`: no value stands at their front, since they stop being one at a place
-  front_stopped : (registry : Entries) (s : Shape) (bytes : List ℕ) (reason : Reason) (place : ℕ) → IsAsked work input command.Part registry s → given.Gives work.coding input bytes → Stops registry work.limits s bytes reason place → Answers work input 2 (stop_line reason place)
+  front_stopped : (registry : Entries) (s : Shape) (bytes : List ℕ) (reason : Reason) (place : ℕ) → IsAsked work input command.Part registry s → given.Gives (coding_of work) input bytes → Stops registry work.limits s bytes reason place → Answers work input 2 (stop_line reason place)
   -- `scan`: a value stands at the front of the bytes, and it is all of them unless the front alone is asked for
-  scanned : (registry : Entries) (s : Shape) (bytes : List ℕ) (n : ℕ) (c : Tree) → IsAsked work input command.Scan registry s → given.Gives work.coding input bytes → Accepts registry work.limits s bytes n c → (work.front ≡ false → n ≡ length bytes) → Answers work input 0 (count_line n)
+  scanned : (registry : Entries) (s : Shape) (bytes : List ℕ) (n : ℕ) (c : Tree) → IsAsked work input command.Scan registry s → given.Gives (coding_of work) input bytes → Accepts registry work.limits s bytes n c → (work.options.front ≡ false → n ≡ length bytes) → Answers work input 0 (count_line n)
   -- `scan`: they stop being one at a place
-  scan_stopped : (registry : Entries) (s : Shape) (bytes : List ℕ) (reason : Reason) (place : ℕ) → IsAsked work input command.Scan registry s → given.Gives work.coding input bytes → ScanStops work.front registry work.limits s bytes reason place → Answers work input 2 (stop_line reason place)
+  scan_stopped : (registry : Entries) (s : Shape) (bytes : List ℕ) (reason : Reason) (place : ℕ) → IsAsked work input command.Scan registry s → given.Gives (coding_of work) input bytes → ScanStops work.options.front registry work.limits s bytes reason place → Answers work input 2 (stop_line reason place)

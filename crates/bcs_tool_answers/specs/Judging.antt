@@ -17,7 +17,7 @@ use Rattle.bcs_tool_command_line.specs.declared.command.Command.{Command}
 use Rattle.bcs_tool_command_line.specs.declared.command.Command.TheVariants as command
 use Rattle.bcs_tool_answers.specs.declared.job_fault.JobFault.{JobFault}
 use Rattle.bcs_tool_answers.specs.declared.job_fault.JobFault.TheVariants as job
-use Rattle.bcs_tool_command_line.specs.Jobs.{is_raw}
+use Rattle.bcs_tool_command_line.specs.Jobs.{coding_of, is_raw}
 use Rattle.bcs_tool_command_line.specs.declared.work.Work.{Work}
 
 -- ---- the names that are printed
@@ -59,7 +59,7 @@ RefusesFormat registry word fault = ((is_json_word word ≡ true) × IsLeastForm
 
 -- that of a container or of a variant
 abbrev pub name_of : Work → Option (List ℕ)
-name_of work = option_map string_bytes work.name
+name_of work = option_map string_bytes work.options.name
 
 -- a name is given that no container has
 abbrev pub NamesNone : Option (List ℕ) → Entries → Type 0
@@ -91,7 +91,7 @@ is_scan other = false
 
 -- the input may have any size: bytes as they are, which are judged as they come
 abbrev pub is_unlimited : Work → Bool
-is_unlimited work = is_scan work.command && is_raw work.coding
+is_unlimited work = is_scan work.command && is_raw (coding_of work)
 
 -- the job works on values of this format of this registry, and its PATH is good where it has one
 pub record Asks (work : Work) (registry : Entries) (s : Shape) : Type 0 where

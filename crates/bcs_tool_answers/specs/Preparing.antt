@@ -21,7 +21,7 @@ pub record IsAskedBy (work : Work) (asked : Asked) : Type 0 where
 
 -- behind any list that may stand before a verdict on growth it answers the job, whatever the input
 abbrev pub IsVerdict : Work → Answer → Type 0
-IsVerdict work a = (list input : List ℕ) → Lists work.list list
+IsVerdict work a = (list input : List ℕ) → Lists work.options.list list
     → Answers work input a.status (list ++ a.output.items) × Places work input a.place.items
 
 -- the job reads no input and has this answer, whatever the input; or it asks for this of its input

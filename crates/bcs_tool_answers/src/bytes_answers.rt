@@ -1,6 +1,7 @@
 //! The answers to the bytes of a value.
 ghost use Rattle.std.specs.Prelude.{◌≡◌, ◌≢◌, ◌≤◌, codes, length, IfOk};
 ghost use Rattle.bcs_tool_command_line.specs.Files.{size_limit};
+ghost use Rattle.bcs_tool_command_line.specs.Jobs.{coding_of};
 ghost use Rattle.bcs_tool_answers.specs.Answers.{TakesBytes, refusal_line};
 ghost use Rattle.bcs_tool_answers.specs.Places.{AnswersBytes, IsAnswer, Tells};
 ghost use Rattle.bcs_tool_answers.specs.Preparing.{IsAskedBy};
@@ -33,7 +34,7 @@ pub fn answer_given(
     requires within { length input.now ≤ size_limit }
     ensures { IfOk result (λ a. IsAnswer work.now input.now a) }
 {
-    match work.coding {
+    match work.coding() {
         Coding::Hexadecimal => answer_digits(alloc, work, asked, input),
         Coding::Base64 => answer_base64(alloc, work, asked, input),
         Coding::Raw => answer_bytes(alloc, work, asked, input),
@@ -47,7 +48,7 @@ fn answer_digits(
     asked: &Asked,
     input: &[u8],
 ) -> Result<Answer, AllocError>
-    requires coding { work.now.coding ≡ Coding.Hexadecimal }
+    requires coding { coding_of work.now ≡ Coding.Hexadecimal }
     requires command { TakesBytes work.now.command }
     requires asked { IsAskedBy work.now asked.now }
     requires within { length input.now ≤ size_limit }
@@ -66,7 +67,7 @@ fn answer_base64(
     asked: &Asked,
     input: &[u8],
 ) -> Result<Answer, AllocError>
-    requires coding { work.now.coding ≡ Coding.Base64 }
+    requires coding { coding_of work.now ≡ Coding.Base64 }
     requires command { TakesBytes work.now.command }
     requires asked { IsAskedBy work.now asked.now }
     requires within { length input.now ≤ size_limit }
@@ -180,11 +181,11 @@ fn answer_explain(
         format,
         ..
     } = asked;
-    let explained = explain_text(alloc, registry, format, &work.limits, work.style, bytes)?;
+    let explained = explain_text(alloc, registry, format, &work.limits, work.options.style, bytes)?;
     let Explanation { text, stop } = explained;
     match stop {
         None => Ok(unplaced(alloc, 0, text)),
-        Some(stop) => damaged(alloc, work.style.form, text, stop),
+        Some(stop) => damaged(alloc, work.options.style.form, text, stop),
     }
 }
 
@@ -206,8 +207,8 @@ fn answer_part(
     } = asked;
     let steps = steps_of(alloc, path.as_slice())?;
     match part(registry, format, &work.limits, bytes, steps.as_slice()) {
-        Ok(Some(part)) => found(alloc, part.bytes, work.coding),
-        Ok(None) => nowhere(alloc, work.coding),
+        Ok(Some(part)) => found(alloc, part.bytes, work.coding()),
+        Ok(None) => nowhere(alloc, work.coding()),
         Err(stop) => answer_stop(alloc, work, asked, bytes, stop),
     }
 }

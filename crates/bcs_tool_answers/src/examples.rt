@@ -34,7 +34,7 @@ fn answer_wish(
     ensures { IfOk result (λ a. (bytes : List ℕ) → IsAnswer work.now bytes a) }
 {
     let wish = Wish {
-        variant: work.name.as_deref(),
+        variant: work.options.name.as_deref(),
         form: form_of(work),
     };
     match example_text(alloc, registry, format, &wish, &work.limits) {
@@ -45,7 +45,7 @@ fn answer_wish(
 
 // What stands in the options, lists and maps of the example.
 fn form_of(work: &Work) -> ExampleForm {
-    if work.full {
+    if work.options.full {
         ExampleForm::Full
     } else {
         ExampleForm::Least

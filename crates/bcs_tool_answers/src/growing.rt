@@ -58,9 +58,9 @@ fn listed(
     answer: Answer,
 ) -> Result<Answer, AllocError>
     ensures { IfOk result (λ a. (a.status ≡ answer.status) × (a.place.items ≡ answer.place.items)
-        × (list : List ℕ) × Lists work.now.list list × (a.output.items ≡ list ++ answer.output.items)) }
+        × (list : List ℕ) × Lists work.now.options.list list × (a.output.items ≡ list ++ answer.output.items)) }
 {
-    if !work.list {
+    if !work.options.list {
         return Ok(answer);
     }
     let found = differences(alloc, older.containers(), newer.containers())?;

@@ -56,7 +56,7 @@ fn place_of_input(
 ) -> Vec<u8>
     ensures { Tells work.now result.items }
 {
-    if work.quiet || work.lines {
+    if work.options.quiet || work.options.lines {
         return Vec::new(alloc);
     }
     let blanks = blanks_before(input);

@@ -20,7 +20,7 @@ use std::alloc::{AllocError, Global};
 pub fn is_unlimited(work: &Work) -> bool
     ensures { result ≡ is_unlimited work.now }
 {
-    work.command == Command::Scan && work.coding.is_raw()
+    work.command == Command::Scan && work.coding().is_raw()
 }
 
 /// How many bytes the value has whose bytes these are, or which stands at their front where that alone is asked for.
@@ -44,12 +44,12 @@ pub fn answer_scan(
 fn scanned(work: &Work, asked: &Asked, bytes: &[u8]) -> Result<usize, Stop>
     requires asked { IsAskedBy work.now asked.now }
     ensures found { IfOk result (λ n. ((c : Tree) × Accepts asked.now.registry work.now.limits (shape_of asked.now.format) bytes.now n c)
-        × (work.now.front ≡ false → n ≡ length bytes.now)) }
-    ensures stops { IfErr result (λ stop. ScanStops work.now.front asked.now.registry work.now.limits (shape_of asked.now.format)
+        × (work.now.options.front ≡ false → n ≡ length bytes.now)) }
+    ensures stops { IfErr result (λ stop. ScanStops work.now.options.front asked.now.registry work.now.limits (shape_of asked.now.format)
         bytes.now stop.reason stop.place) }
 {
     let count = scan(&asked.registry, &asked.format, &work.limits, bytes)?;
-    if work.front || count == bytes.len() {
+    if work.options.front || count == bytes.len() {
         return Ok(count);
     }
     Err(Stop {

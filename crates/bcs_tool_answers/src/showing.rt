@@ -41,7 +41,7 @@ fn judge_show(alloc: Global, work: &Work) -> Result<Registry, JobFault>
 fn names_none(work: &Work, registry: &Registry) -> bool
     ensures { result ≡ true ↔ NamesNone (name_of work.now) registry.now }
 {
-    match work.name.as_deref() {
+    match work.options.name.as_deref() {
         Some(name) => registry.container(name).is_none(),
         None => false,
     }
@@ -49,9 +49,9 @@ fn names_none(work: &Work, registry: &Registry) -> bool
 
 // What is printed of the registry. Its text is there, since the name is that of a container.
 fn registry_text(alloc: Global, work: &Work, registry: &Registry) -> Result<Vec<u8>, AllocError> {
-    let form = match work.style.form {
+    let form = match work.options.style.form {
         Form::Json => RegistryForm::Json,
         Form::Ways | Form::Paths | Form::Tree => RegistryForm::Lines,
     };
-    show_registry(alloc, registry, work.name.as_deref(), form)?.ok_or(AllocError)
+    show_registry(alloc, registry, work.options.name.as_deref(), form)?.ok_or(AllocError)
 }

@@ -35,7 +35,7 @@ fn place_of_stop(alloc: Global, work: &Work, asked: &Asked, bytes: &[u8], stop: 
     requires { IsAskedBy work.now asked.now }
     ensures { Tells work.now result.items }
 {
-    if work.quiet || work.lines {
+    if work.options.quiet || work.options.lines {
         return Vec::new(alloc);
     }
     match halt_line(alloc, work, asked, bytes, stop) {

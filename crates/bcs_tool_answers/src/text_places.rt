@@ -18,7 +18,7 @@ pub fn place_of_refusal(
 ) -> Vec<u8>
     ensures { Tells work.now result.items }
 {
-    if work.quiet || work.lines {
+    if work.options.quiet || work.options.lines {
         return Vec::new(alloc);
     }
     place_of_line(alloc, refusal_line(alloc, work, asked, text, fault))
@@ -28,7 +28,7 @@ pub fn place_of_refusal(
 pub fn place_of_pair(alloc: Global, work: &Work, asked: &Asked, text: &[u8]) -> Vec<u8>
     ensures { Tells work.now result.items }
 {
-    if work.quiet {
+    if work.options.quiet {
         return Vec::new(alloc);
     }
     place_of_line(alloc, pair_line(alloc, work, asked, text))

@@ -49,7 +49,7 @@ fn answer_encode(
     ensures { IfOk result (λ a. IsAnswer work.now text.now a) }
 {
     match to_bcs(alloc, &asked.registry, &asked.format, &work.limits, text) {
-        Ok(bytes) => encoded(alloc, bytes, work.coding),
+        Ok(bytes) => encoded(alloc, bytes, work.coding()),
         Err(fault) => {
             let place = place_of_refusal(alloc, work, asked, text, fault);
             Ok(placed(refused_text(alloc, fault)?, place))

@@ -18,7 +18,7 @@ use std::alloc::{AllocError, Global};
 pub fn place_of_words(alloc: Global, work: &Work, fault: JobFault) -> Vec<u8>
     ensures { Tells work.now result.items }
 {
-    if work.quiet {
+    if work.options.quiet {
         return Vec::new(alloc);
     }
     match words_line(alloc, work, fault) {
@@ -36,7 +36,7 @@ pub fn place_of_difference(
 ) -> Vec<u8>
     ensures { Tells work.now result.items }
 {
-    if work.quiet {
+    if work.options.quiet {
         return Vec::new(alloc);
     }
     match place_of_growth(alloc, older.containers(), newer.containers()) {
@@ -143,7 +143,7 @@ fn format_line(
 
 // The name that no container has.
 fn name_line(alloc: Global, work: &Work) -> Result<Option<Vec<u8>>, RegistryFault> {
-    match work.name.as_deref() {
+    match work.options.name.as_deref() {
         Some(name) => place_of_container(alloc, work.registry.as_slice(), name),
         None => Ok(None),
     }

@@ -1,5 +1,6 @@
 pub mod CommandNames
 pub mod CommandOptions
+pub mod FoundTexts
 pub mod LimitLemmas
 pub mod LineFaultLemmas
 pub mod Program

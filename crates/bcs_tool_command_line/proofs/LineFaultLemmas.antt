@@ -8,7 +8,7 @@ use Rattle.clap.specs.declared.error.kind.ErrorKind.{ErrorKind}
 use Rattle.clap.specs.declared.error.kind.ErrorKind.TheVariants as kind
 use Rattle.clap.proofs.OnLiterals.{clap_on_literals}
 use Rattle.bcs_tool_command_line.specs.CommandLine.{bcs_app}
-use Rattle.bcs_tool_command_line.specs.Jobs.{IsJob, IsJobOf, coding_of, command_named, is_raw, is_set}
+use Rattle.bcs_tool_command_line.specs.Jobs.{IsJob, IsJobOf, coding, coding_found, command_named, is_raw, is_set}
 use Rattle.bcs_tool_command_line.specs.LineFaults.{IsFaultAmong, IsFaultOf, IsFaultOfKind, TellsJoined}
 use Rattle.bcs_tool_command_line.specs.TakenWords.{TakesWords, joins_raw_and_lines}
 use Rattle.bcs_tool_command_line.specs.declared.command.Command.{Command}
@@ -61,24 +61,24 @@ memory_alone words f (inr h) takes = absurd (true≢false (sym h.1 ∙ takes.1))
 -- the job of words tells whether they join `--raw` and `--lines`
 found_job_joins : (found : Option (Text × List Row)) (job : Job)
     → IsSomeAnd found (λ p. IsSomeAnd (command_named p.0) (λ command. IsJob command p.1 job))
-    → (is_raw job.coding && job.lines) ≡ option_map_or (λ p. is_raw (coding_of p.1) && is_set (codes "lines") p.1) found false
+    → (is_raw (coding job.raw job.options.base64) && job.options.lines) ≡ option_map_or (λ p. is_raw (coding_found p.1) && is_set (codes "lines") p.1) found false
 found_job_joins None job h = absurd h
 found_job_joins (Some p) job h = joined_in (command_named p.0) h
   where
     joined_in : (o : Option Command) → IsSomeAnd o (λ command. IsJob command p.1 job)
-        → (is_raw job.coding && job.lines) ≡ (is_raw (coding_of p.1) && is_set (codes "lines") p.1)
+        → (is_raw (coding job.raw job.options.base64) && job.options.lines) ≡ (is_raw (coding_found p.1) && is_set (codes "lines") p.1)
     joined_in None h = absurd h
-    joined_in (Some command) h = ap₂ ◌&&◌ (ap is_raw h.coding) h.lines
+    joined_in (Some command) h = ap₂ ◌&&◌ (ap is_raw (ap₂ coding h.raw h.options.base64)) h.options.lines
 
-job_joins : (words : List Text) (job : Job) → IsJobOf words job → (is_raw job.coding && job.lines) ≡ joins_raw_and_lines words
+job_joins : (words : List Text) (job : Job) → IsJobOf words job → (is_raw (coding job.raw job.options.base64) && job.options.lines) ≡ joins_raw_and_lines words
 job_joins words job h = found_job_joins (subcommand_of bcs_app words) job h
 
 pub takes_words : (words : List Text) (job : Job) → IsJobOf words job → fault_of bcs_app words ≡ []
-    → (is_raw job.coding && job.lines) ≡ false → TakesWords words
+    → (is_raw (coding job.raw job.options.base64) && job.options.lines) ≡ false → TakesWords words
 takes_words words job h none apart = (none, sym (job_joins words job h) ∙ apart)
 
 -- the fault for a job that joins the two
 pub fault_of_joined : (words : List Text) (job : Job) (f : LineFault) → IsJobOf words job → fault_of bcs_app words ≡ []
-    → (is_raw job.coding && job.lines) ≡ true → (f ≡ OutOfMemory) ⊎ TellsJoined f → IsFaultOf words f
+    → (is_raw (coding job.raw job.options.base64) && job.options.lines) ≡ true → (f ≡ OutOfMemory) ⊎ TellsJoined f → IsFaultOf words f
 fault_of_joined words job f h none both (inl e) = subst (IsFaultOf words) (sym e) (inl tt)
 fault_of_joined words job f h none both (inr tells) = inr (none, sym (job_joins words job h) ∙ both, tells)

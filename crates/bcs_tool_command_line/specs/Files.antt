@@ -1,6 +1,7 @@
 -- The files that a job names.
 use Rattle.std.specs.Prelude.{◌≡◌, ◌≢◌, ◌⊎◌, ◌≤◌, ◌<◌, ◌==◌, ℕ, List, [], ◌∷◌, Bool, true, false, codes, length, IfSome, Option, Some, None, string_bytes}
 use Rattle.bcs_io.specs.Notes.{take_note}
+use Rattle.bcs_look_text.specs.declared.style.Form.TheVariants.{Ways}
 use Rattle.bcs_look_text.specs.declared.style.Paint.TheVariants.{Plain, Colored}
 use Rattle.bcs_look_text.specs.declared.style.Style.{Style}
 use Rattle.bcs_tool_command_line.specs.declared.color.Color.TheVariants.{Always, Never}
@@ -15,6 +16,7 @@ use Rattle.bcs_tool_command_line.specs.declared.unread_file.UnreadFile.{UnreadFi
 use Rattle.bcs_tool_command_line.specs.declared.unread_file.UnreadFile.TheVariants.{Unopened, Untaken}
 use Rattle.bcs_tool_command_line.specs.declared.work.Inputs.{Inputs}
 use Rattle.bcs_tool_command_line.specs.declared.work.Work.{Work}
+use Rattle.bcs_tool_command_line.specs.declared.work.WorkOptions.{WorkOptions}
 
 -- the most bytes of an input, and of a registry's text
 abbrev pub size_limit : ℕ
@@ -44,19 +46,31 @@ abbrev pub IsContent : Option (List ℕ) → List ℕ → Type 0
 IsContent None bytes = Unit {0}
 IsContent (Some content) bytes = bytes ≡ content
 
+-- no option is set
+pub record HasNone (options : WorkOptions) : Type 0 where
+  pub name : options.name ≡ None
+  pub base64 : options.base64 ≡ false
+  pub lines : options.lines ≡ false
+  pub front : options.front ≡ false
+  pub list : options.list ≡ false
+  pub full : options.full ≡ false
+  pub quiet : options.quiet ≡ false
+  pub form : options.style.form ≡ Ways
+  pub paint : options.style.paint ≡ Plain
+
 -- the job compares two files line by line, so that A is an input as B is
 abbrev pub ComparesLines : Job → Type 0
-ComparesLines job = (job.command ≡ Same) × (job.lines ≡ true)
+ComparesLines job = (job.command ≡ Same) × (job.options.lines ≡ true)
 
 -- the job's registries are texts themselves, and it has no A but one that is an input, so that no file is read for its work
 abbrev pub NamesNoFile : Job → Type 0
-NamesNoFile job = (is_registry_text (string_bytes job.registry) ≡ true) × (job.command ≡ Same → job.lines ≡ true)
+NamesNoFile job = (is_registry_text (string_bytes job.registry) ≡ true) × (job.command ≡ Same → job.options.lines ≡ true)
     × (job.command ≡ Grows → is_registry_text (string_bytes job.second) ≡ true)
 
 -- the job's second word names the file that its work needs: that of NEW, or of A
 abbrev pub NamesSecond : Job → List ℕ → Type 0
 NamesSecond job name = ((job.command ≡ Grows) × (is_registry_text name ≡ false) × (name ≡ string_bytes job.second))
-    ⊎ ((job.command ≡ Same) × (job.lines ≡ false) × (name ≡ string_bytes job.second))
+    ⊎ ((job.command ≡ Same) × (job.options.lines ≡ false) × (name ≡ string_bytes job.second))
 
 -- the files that a run reads itself: A, where its lines are compared, and that of the input
 pub record IsInputsOf (job : Job) (inputs : Inputs) : Type 0 where
@@ -66,9 +80,9 @@ pub record IsInputsOf (job : Job) (inputs : Inputs) : Type 0 where
 
 -- pieces are printed in the form that the job says, and in color where it says so; where it says nothing of color, either way
 pub record IsStyleOf (job : Job) (style : Style) : Type 0 where
-  pub form : style.form ≡ job.form
-  pub always : job.color ≡ Always → style.paint ≡ Colored
-  pub never : job.color ≡ Never → style.paint ≡ Plain
+  pub form : style.form ≡ job.options.form
+  pub always : job.options.color ≡ Always → style.paint ≡ Colored
+  pub never : job.options.color ≡ Never → style.paint ≡ Plain
 
 -- What files gave. Which file a name opens, no clause of std says: it is known what an opened file gave, and
 -- not which it is.
@@ -125,15 +139,16 @@ module _ {F : Type 0} (remaining : F → Option (List ℕ)) where
   pub record IsWorkOf (job : Job) (work : Work) : Type 0 where
     pub command : work.command ≡ job.command
     pub registry : IsTextOf (string_bytes job.registry) work.registry.items
-    pub second : IsSecondOf job.command job.lines (string_bytes job.second) work.second.items
+    pub second : IsSecondOf job.command job.options.lines (string_bytes job.second) work.second.items
     pub format : work.format ≡ job.format
     pub path : work.path ≡ job.path
-    pub name : work.name ≡ job.name
-    pub coding : work.coding ≡ job.coding
-    pub lines : work.lines ≡ job.lines
-    pub front : work.front ≡ job.front
-    pub list : work.list ≡ job.list
-    pub full : work.full ≡ job.full
-    pub quiet : work.quiet ≡ job.quiet
-    pub style : IsStyleOf job work.style
+    pub raw : work.raw ≡ job.raw
     pub limits : work.limits ≡ job.limits
+    pub name : work.options.name ≡ job.options.name
+    pub base64 : work.options.base64 ≡ job.options.base64
+    pub lines : work.options.lines ≡ job.options.lines
+    pub front : work.options.front ≡ job.options.front
+    pub list : work.options.list ≡ job.options.list
+    pub full : work.options.full ≡ job.options.full
+    pub quiet : work.options.quiet ≡ job.options.quiet
+    pub style : IsStyleOf job work.options.style

@@ -15,6 +15,8 @@ use Rattle.bcs_tool_command_line.specs.declared.color.Color.TheVariants.{Auto, A
 use Rattle.bcs_tool_command_line.specs.declared.command.Command.{Command}
 use Rattle.bcs_tool_command_line.specs.declared.command.Command.TheVariants.{Check, Grows, Show, Example, Schema, Encode, Decode, Explain, Normalise, Same, Part, Scan}
 use Rattle.bcs_tool_command_line.specs.declared.job.Job.{Job}
+use Rattle.bcs_tool_command_line.specs.declared.job.JobOptions.{JobOptions}
+use Rattle.bcs_tool_command_line.specs.declared.work.Work.{Work}
 
 -- the command of a name
 abbrev pub command_named : Text → Option Command
@@ -39,9 +41,17 @@ text_or_empty word = unwrap_or word []
 abbrev pub is_set : Text → List Row → Bool
 is_set name found = bytes_eq (text_or_empty (first_of name found)) (codes "true")
 
--- how bytes are read and written: `--base64` goes before `--raw`
-abbrev pub coding_of : List Row → Coding
-coding_of found = if is_set (codes "base64") found then Base64 else (if is_set (codes "raw") found then Raw else Hexadecimal)
+-- how bytes are read and written, with `--raw` and with `--base64`, which overrides it
+abbrev pub coding : Bool → Bool → Coding
+coding raw base64 = if base64 then Base64 else (if raw then Raw else Hexadecimal)
+
+-- how a work's bytes are read and written
+abbrev pub coding_of : Work → Coding
+coding_of work = coding work.raw work.options.base64
+
+-- how they are read and written, by the arguments that clap found
+abbrev pub coding_found : List Row → Coding
+coding_found found = coding (is_set (codes "raw") found) (is_set (codes "base64") found)
 
 -- they are so as they are
 abbrev pub is_raw : Coding → Bool
@@ -69,7 +79,31 @@ abbrev pub WritesLimits : List Row → Bounds → Type 0
 WritesLimits found limits = WritesLimit 500 (one_of (codes "depth") found) limits.depth
     × WritesLimit 4294967295 (one_of (codes "nodes") found) limits.nodes
 
--- the job of a command, where clap found these words for its arguments
+-- the options, where clap found these arguments
+pub record HasOptions (found : List Row) (options : JobOptions) : Type 0 where
+  pub name : option_map string_bytes options.name ≡ option_or (first_of (codes "NAME") found) (first_of (codes "variant") found)
+  pub base64 : options.base64 ≡ is_set (codes "base64") found
+  pub lines : options.lines ≡ is_set (codes "lines") found
+  pub front : options.front ≡ is_set (codes "front") found
+  pub list : options.list ≡ is_set (codes "list") found
+  pub full : options.full ≡ is_set (codes "full") found
+  pub quiet : options.quiet ≡ is_set (codes "quiet") found
+  pub form : options.form ≡ form_of found
+  pub color : options.color ≡ color_of found
+
+-- no option is set
+pub record HasNoOptions (options : JobOptions) : Type 0 where
+  pub name : options.name ≡ None
+  pub base64 : options.base64 ≡ false
+  pub lines : options.lines ≡ false
+  pub front : options.front ≡ false
+  pub list : options.list ≡ false
+  pub full : options.full ≡ false
+  pub quiet : options.quiet ≡ false
+  pub form : options.form ≡ Ways
+  pub color : options.color ≡ Auto
+
+-- the job of a command, where clap found these arguments
 pub record IsJob (command : Command) (found : List Row) (job : Job) : Type 0 where
   pub same_command : job.command ≡ command
   pub registry : string_bytes job.registry
@@ -77,17 +111,10 @@ pub record IsJob (command : Command) (found : List Row) (job : Job) : Type 0 whe
   pub second : string_bytes job.second ≡ text_or_empty (option_or (first_of (codes "NEW") found) (first_of (codes "A") found))
   pub format : string_bytes job.format ≡ text_or_empty (first_of (codes "FORMAT") found)
   pub path : string_bytes job.path ≡ text_or_empty (first_of (codes "PATH") found)
-  pub name : option_map string_bytes job.name ≡ option_or (first_of (codes "NAME") found) (first_of (codes "variant") found)
   pub file : option_map string_bytes job.file ≡ option_or (first_of (codes "FILE") found) (first_of (codes "B") found)
-  pub coding : job.coding ≡ coding_of found
-  pub lines : job.lines ≡ is_set (codes "lines") found
-  pub front : job.front ≡ is_set (codes "front") found
-  pub list : job.list ≡ is_set (codes "list") found
-  pub full : job.full ≡ is_set (codes "full") found
-  pub quiet : job.quiet ≡ is_set (codes "quiet") found
-  pub form : job.form ≡ form_of found
-  pub color : job.color ≡ color_of found
+  pub raw : job.raw ≡ is_set (codes "raw") found
   pub limits : WritesLimits found job.limits
+  pub options : HasOptions found job.options
 
 -- the job that the words ask for, of which the first is the program's own name: that of the
 -- subcommand that clap finds in them, by its name and its words

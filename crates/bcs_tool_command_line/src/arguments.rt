@@ -2,12 +2,11 @@
 ghost use Rattle.std.specs.Prelude.{◌≡◌, ℕ, IfOk, option_map, string_bytes};
 ghost use Rattle.clap.specs.Words.{found_of, one_of, rows_of};
 ghost use Rattle.bcs_value_model.specs.Limits.{Bounds};
-ghost use Rattle.bcs_tool_command_line.specs.Jobs.{IsJob, WritesLimit, WritesLimits, coding_of as coding_in, color_of as color_in, form_of as form_in, is_set as is_set_in, text_or_empty};
+ghost use Rattle.bcs_tool_command_line.specs.Jobs.{HasOptions, IsJob, WritesLimit, WritesLimits, color_of as color_in, form_of as form_in, is_set as is_set_in, text_or_empty};
 
-use crate::coding::Coding;
 use crate::color::Color;
 use crate::command::Command;
-use crate::job::Job;
+use crate::job::{Job, JobOptions};
 use bcs_look_text::style::Form;
 use bcs_value::Limits;
 use clap::ArgMatches;
@@ -24,9 +23,20 @@ pub fn job_of(alloc: Global, command: Command, given: &ArgMatches<'_>) -> Result
         second: text_of(alloc, given.get_str("NEW").or(given.get_str("A")))?,
         format: text_of(alloc, given.get_str("FORMAT"))?,
         path: text_of(alloc, given.get_str("PATH"))?,
-        name: given_name(alloc, given.get_str("NAME").or(given.get_str("variant")))?,
         file: given_name(alloc, given.get_str("FILE").or(given.get_str("B")))?,
-        coding: coding_of(given),
+        raw: is_set(given, "raw"),
+        limits: limits_of(given),
+        options: options_of(alloc, given)?,
+    })
+}
+
+// What was given in addition.
+fn options_of(alloc: Global, given: &ArgMatches<'_>) -> Result<JobOptions, AllocError>
+    ensures { IfOk result (HasOptions (rows_of (found_of given.now))) }
+{
+    Ok(JobOptions {
+        name: given_name(alloc, given.get_str("NAME").or(given.get_str("variant")))?,
+        base64: is_set(given, "base64"),
         lines: is_set(given, "lines"),
         front: is_set(given, "front"),
         list: is_set(given, "list"),
@@ -34,7 +44,6 @@ pub fn job_of(alloc: Global, command: Command, given: &ArgMatches<'_>) -> Result
         quiet: is_set(given, "quiet"),
         form: form_of(given),
         color: color_of(given),
-        limits: limits_of(given),
     })
 }
 
@@ -43,19 +52,6 @@ fn is_set(given: &ArgMatches<'_>, option: &str) -> bool
     ensures { result ≡ is_set_in option.now (rows_of (found_of given.now)) }
 {
     given.get_str(option).unwrap_or("") == "true"
-}
-
-// How bytes are read and written.
-fn coding_of(given: &ArgMatches<'_>) -> Coding
-    ensures { result ≡ coding_in (rows_of (found_of given.now)) }
-{
-    if is_set(given, "base64") {
-        Coding::Base64
-    } else if is_set(given, "raw") {
-        Coding::Raw
-    } else {
-        Coding::Hexadecimal
-    }
 }
 
 // How pieces are printed.

@@ -1,6 +1,6 @@
 //! How bytes are read and written.
 ghost use Rattle.std.specs.Prelude.{◌≡◌};
-ghost use Rattle.bcs_tool_command_line.specs.Jobs.{is_raw};
+ghost use Rattle.bcs_tool_command_line.specs.Jobs.{coding, is_raw};
 
 /// What stands for a value's bytes in an input, and in an answer.
 #[derive(Clone, Copy, Debug, PartialEq, Eq)]
@@ -14,6 +14,19 @@ pub enum Coding {
 }
 
 impl Coding {
+    /// The coding that `--raw` and `--base64` ask for. `--base64` overrides `--raw`.
+    pub fn of(raw: bool, base64: bool) -> Coding
+        ensures { result ≡ coding raw base64 }
+    {
+        if base64 {
+            Coding::Base64
+        } else if raw {
+            Coding::Raw
+        } else {
+            Coding::Hexadecimal
+        }
+    }
+
     /// Whether the bytes stand there as they are.
     pub fn is_raw(self) -> bool
         ensures { result ≡ is_raw self }

@@ -45,9 +45,22 @@ impl From<UnreadFile> for FileFault {
     fn from(unread: UnreadFile) -> FileFault {
         match unread {
             UnreadFile::Unopened(_) => FileFault::Open,
-            UnreadFile::Untaken(TakeFault::Read) => FileFault::Read,
-            UnreadFile::Untaken(TakeFault::TooLarge) => FileFault::TooLarge,
-            UnreadFile::Untaken(TakeFault::OutOfMemory) => FileFault::OutOfMemory,
+            UnreadFile::Untaken(fault) => FileFault::from(fault),
+        }
+    }
+}
+
+impl From<TakeFault> for FileFault {
+    ghost use Rattle.bcs_tool_command_line.specs.declared.unread_file.UnreadFile.TheVariants.{Untaken};
+    ghost use Rattle.bcs_tool_command_line.specs.Files.{fault_of};
+
+    ghost from_gives = { λ taking result. result ≡ fault_of (Untaken taking) };
+
+    fn from(taking: TakeFault) -> FileFault {
+        match taking {
+            TakeFault::Read => FileFault::Read,
+            TakeFault::TooLarge => FileFault::TooLarge,
+            TakeFault::OutOfMemory => FileFault::OutOfMemory,
         }
     }
 }

@@ -1,4 +1,6 @@
 //! A command with its words.
+ghost use Rattle.std.specs.Prelude.{◌≡◌};
+ghost use Rattle.bcs_tool_command_line.specs.Jobs.{HasNoOptions, coding};
 
 use crate::coding::Coding;
 use crate::color::Color;
@@ -6,40 +8,106 @@ use crate::command::Command;
 use bcs_look_text::style::Form;
 use bcs_value::Limits;
 
-/// What a command line asks for: the command, and its words as they stand. A word that the command
-/// doesn't have is empty.
+/// What a command line asks for: the command and its arguments as they are. An argument that the command doesn't have is
+/// empty.
 #[derive(Debug, Drop)]
 pub struct Job {
     pub command: Command,
-    /// REG, or OLD of `grows`: a registry's text, or the name of its file.
+    /// REG, or OLD of `grows`: a registry's JSON, or the name of its file.
     pub registry: String,
-    /// NEW of `grows`: a registry's text, or the name of its file. A of `same`: the name of a file.
+    /// NEW of `grows`: a registry's JSON, or the name of its file. A of `same`: the name of a file.
     pub second: String,
-    /// FORMAT: a format's JSON text, or a container's name.
+    /// FORMAT: a format's JSON, or a container's name.
     pub format: String,
     /// PATH, the steps to a part of a value.
     pub path: String,
-    /// NAME of `show`: a container's name; or of `--variant`: that of a variant.
-    pub name: Option<String>,
-    /// FILE, or B of `same`: the name of the file to read in place of the standard input.
+    /// FILE, or B of `same`: the name of the file to read instead of standard input.
     pub file: Option<String>,
-    /// `--raw`, `--base64`: how bytes are read and written. Of both the latter is meant.
-    pub coding: Coding,
-    /// Whether `--lines` was given: each line of the input is an input of its own.
-    pub lines: bool,
-    /// Whether `--front` was given: a value is taken at the front of the bytes, and the rest is left.
-    pub front: bool,
-    /// Whether `--list` was given: all differences of two registries are printed first.
-    pub list: bool,
-    /// Whether `--full` was given: an example has one element in each list, map and option.
-    pub full: bool,
-    /// Whether `--quiet` was given: the line that says where a refusal stands is left out.
-    pub quiet: bool,
-    /// `--paths`, `--tree`, `--json`: how pieces are printed. Of several the last one of these is meant. `--json` says
-    /// it of a registry, too.
-    pub form: Form,
-    /// `--color`, `--no-color`: whether they are printed in color. Of both the latter is meant.
-    pub color: Color,
-    /// `--depth` and `--nodes`: what a value may hold. The standard limits where they weren't given.
+    /// `--raw`: bytes are read and written as they are, not as hexadecimal digits.
+    pub raw: bool,
+    /// `--depth` and `--nodes`: what a value may hold. The standard limits if they weren't given.
     pub limits: Limits,
+    /// The arguments of further commands, and the options that only some commands have.
+    pub options: JobOptions,
+}
+
+/// What a command line asks for in addition.
+#[derive(Debug, Drop)]
+pub struct JobOptions {
+    /// NAME of `show`: a container's name; or that of `--variant`: a variant's name.
+    pub name: Option<String>,
+    /// `--base64`: bytes are read and written as base64. It overrides `--raw`.
+    pub base64: bool,
+    /// `--lines`: each line of the input is an input of its own.
+    pub lines: bool,
+    /// `--front`: a value is accepted at the start of the bytes, and the rest is left.
+    pub front: bool,
+    /// `--list`: all differences of two registries are printed first.
+    pub list: bool,
+    /// `--full`: an example has one element in each list, map and option.
+    pub full: bool,
+    /// `--quiet`: the line that says where a refusal occurred is left out.
+    pub quiet: bool,
+    /// `--paths`, `--tree`, `--json`: how pieces are printed; the last of these overrides the others. `--json` applies to a
+    /// registry, too.
+    pub form: Form,
+    /// `--color`, `--no-color`: whether they are printed in color. `--no-color` overrides `--color`.
+    pub color: Color,
+}
+
+impl Job {
+    /// A job without options, from its fields in their order.
+    pub fn new(
+        command: Command,
+        registry: String,
+        second: String,
+        format: String,
+        path: String,
+        file: Option<String>,
+        raw: bool,
+        limits: Limits,
+    ) -> Job
+        ensures words { (result.command ≡ command) × (result.registry ≡ registry) × (result.second ≡ second)
+            × (result.format ≡ format) × (result.path ≡ path) × (result.file ≡ file) }
+        ensures flags { (result.raw ≡ raw) × (result.limits ≡ limits) }
+        ensures options { HasNoOptions result.options }
+    {
+        Job {
+            command,
+            registry,
+            second,
+            format,
+            path,
+            file,
+            raw,
+            limits,
+            options: JobOptions::none(),
+        }
+    }
+
+    /// How bytes are read and written.
+    pub fn coding(&self) -> Coding
+        ensures { result ≡ coding self.now.raw self.now.options.base64 }
+    {
+        Coding::of(self.raw, self.options.base64)
+    }
+}
+
+impl JobOptions {
+    /// None of the options was given.
+    pub fn none() -> JobOptions
+        ensures { HasNoOptions result }
+    {
+        JobOptions {
+            name: None,
+            base64: false,
+            lines: false,
+            front: false,
+            list: false,
+            full: false,
+            quiet: false,
+            form: Form::Ways,
+            color: Color::Auto,
+        }
+    }
 }

@@ -12,13 +12,13 @@ use std::{env, fs};
 pub fn style_of<R: Files + Env + AllocGlobal>(rt: &R, job: &Job) -> Style
     ensures { IsStyleOf job.now result }
 {
-    let paint = match job.color {
+    let paint = match job.options.color {
         Color::Always => Paint::Colored,
         Color::Never => Paint::Plain,
         Color::Auto => usual_paint(rt, job.command),
     };
     Style {
-        form: job.form,
+        form: job.options.form,
         paint,
     }
 }

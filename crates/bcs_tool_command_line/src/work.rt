@@ -1,39 +1,108 @@
 //! What a run is given, and how it ends.
+ghost use Rattle.std.specs.Prelude.{◌≡◌};
+ghost use Rattle.bcs_tool_command_line.specs.Jobs.{coding_of};
+ghost use Rattle.bcs_tool_command_line.specs.Files.{HasNone};
 
 use crate::{Coding, Command};
-use bcs_look_text::style::Style;
+use bcs_look_text::style::{Form, Paint, Style};
 use bcs_value::Limits;
 
 /// A job whose named files were read.
 #[derive(Debug, Drop)]
 pub struct Work {
     pub command: Command,
-    /// The text of REG, or of OLD.
+    /// The JSON of REG, or of OLD.
     pub registry: Vec<u8>,
-    /// The text of NEW, or of A; empty where the command has neither, and where the lines of A are compared.
+    /// The JSON of NEW, or of A; empty if the command has neither, and if the lines of A are compared.
     pub second: Vec<u8>,
-    /// FORMAT as it stands; empty where the command has none.
+    /// FORMAT as it is; empty if the command has none.
     pub format: String,
-    /// PATH as it stands; empty where the command has none.
+    /// PATH as it is; empty if the command has none.
     pub path: String,
-    /// NAME, or what `--variant` names, as it stands; none where neither was given.
+    /// Whether bytes are read and written as they are, not as hexadecimal digits.
+    pub raw: bool,
+    /// What a value may hold.
+    pub limits: Limits,
+    /// What further commands and options ask for.
+    pub options: WorkOptions,
+}
+
+/// What a work asks for in addition.
+#[derive(Debug, Drop)]
+pub struct WorkOptions {
+    /// NAME, or what `--variant` names, as it is; `None` if neither was given.
     pub name: Option<String>,
-    /// How bytes are read and written.
-    pub coding: Coding,
+    /// Whether bytes are read and written as base64, which overrides `raw`.
+    pub base64: bool,
     /// Whether each line of the input is an input of its own.
     pub lines: bool,
-    /// Whether a value is taken at the front of the bytes, and the rest is left.
+    /// Whether a value is accepted at the start of the bytes, and the rest is left.
     pub front: bool,
     /// Whether all differences of two registries are printed first.
     pub list: bool,
     /// Whether an example has one element in each list, map and option.
     pub full: bool,
-    /// Whether the line that says where a refusal or a fault stands is left out.
+    /// Whether the line that says where a refusal or a fault occurred is left out.
     pub quiet: bool,
     /// How pieces are printed, and a registry.
     pub style: Style,
-    /// What a value may hold.
-    pub limits: Limits,
+}
+
+impl Work {
+    /// The work of a job without options, from its fields in their order.
+    pub fn new(
+        command: Command,
+        registry: Vec<u8>,
+        second: Vec<u8>,
+        format: String,
+        path: String,
+        raw: bool,
+        limits: Limits,
+    ) -> Work
+        ensures files { (result.registry ≡ registry) × (result.second ≡ second) }
+        ensures words { (result.command ≡ command) × (result.format ≡ format) × (result.path ≡ path)
+            × (result.raw ≡ raw) × (result.limits ≡ limits) }
+        ensures options { HasNone result.options }
+    {
+        Work {
+            command,
+            registry,
+            second,
+            format,
+            path,
+            raw,
+            limits,
+            options: WorkOptions::none(),
+        }
+    }
+
+    /// How bytes are read and written.
+    pub fn coding(&self) -> Coding
+        ensures { result ≡ coding_of self.now }
+    {
+        Coding::of(self.raw, self.options.base64)
+    }
+}
+
+impl WorkOptions {
+    /// The options of a command line without any.
+    pub fn none() -> WorkOptions
+        ensures { HasNone result }
+    {
+        WorkOptions {
+            name: None,
+            base64: false,
+            lines: false,
+            front: false,
+            list: false,
+            full: false,
+            quiet: false,
+            style: Style {
+                form: Form::Ways,
+                paint: Paint::Plain,
+            },
+        }
+    }
 }
 
 /// The files that a run reads itself.

@@ -9,9 +9,8 @@ use bcs_decode::{DecodeFault, Reason, Stop};
 use bcs_encode::pieces::PieceSink;
 use bcs_encode::{EncodeFault, WriteFault};
 use bcs_tool::{
-    ByteSource, Coding, Command, FileFault, Form, Interruption, LineFault, OpenCause, Paint,
-    PairInterruption, Report, Style, TakeFault, UnreadFile, Work, line, respond, run, run_pairs,
-    take_all,
+    ByteSource, Command, FileFault, Interruption, LineFault, OpenCause, PairInterruption, Report,
+    TakeFault, UnreadFile, Work, line, read_named, respond, run, run_pairs, take_all,
 };
 use std::alloc::{AllocError, Global};
 use std::fmt::Display;
@@ -27,6 +26,7 @@ pub(crate) fn answer(rt: &HostRuntime, question: &str, words: &[&str]) -> Result
         ("ends", [input, piece, reads, puts, tells, words @ ..]) => {
             ended(rt, [input, piece, reads], [puts, tells], words)
         }
+        ("named", [name]) => named(rt, name),
         ("endless_job", words) => ended_endless(rt, words),
         ("pairs_end", [first, second, one, other, puts, format]) => {
             paired(rt.alloc(), [first, second], [one, other, puts], format)
@@ -36,6 +36,15 @@ pub(crate) fn answer(rt: &HostRuntime, question: &str, words: &[&str]) -> Result
         }
         ("messages", []) => messages(rt.alloc()),
         _ => Err(RowFault::NotUnderstood),
+    }
+}
+
+// The digits of what the file of this name holds, or the fault with its note.
+fn named(rt: &HostRuntime, name: &str) -> Result<String, RowFault> {
+    match read_named(rt, name) {
+        Ok(text) => Ok(hex::encode(rt.alloc(), &text)?),
+        Err(FileFault::OutOfMemory) => Err(RowFault::from(AllocError)),
+        Err(fault) => Ok(format!(in rt.alloc(); "{fault}, {}", fault.note())?),
     }
 }
 
@@ -77,25 +86,17 @@ fn work(
     let Some(limits) = limits_of(limits) else {
         return Err(RowFault::NotUnderstood);
     };
-    Ok(Work {
+    let mut work = Work::new(
         command,
-        registry: Vec::from_slice(alloc, registry.as_bytes())?,
-        second: Vec::from_slice(alloc, second.as_bytes())?,
-        format: String::from_str(alloc, format)?,
-        path: String::from_str(alloc, path)?,
-        coding: Coding::Hexadecimal,
-        lines: false,
-        front: false,
-        list: false,
-        full: false,
-        name: None,
-        quiet: true,
-        style: Style {
-            form: Form::Ways,
-            paint: Paint::Plain,
-        },
+        Vec::from_slice(alloc, registry.as_bytes())?,
+        Vec::from_slice(alloc, second.as_bytes())?,
+        String::from_str(alloc, format)?,
+        String::from_str(alloc, path)?,
+        false,
         limits,
-    })
+    );
+    work.options.quiet = true;
+    Ok(work)
 }
 
 fn command_of(name: &str) -> Result<Command, RowFault> {
@@ -198,7 +199,7 @@ fn paired(
 ) -> Result<String, RowFault> {
     let fails = [call(one)?, call(other)?, call(puts)?];
     let mut work = work_of(alloc, &["same", "{}", format, ""])?;
-    work.lines = true;
+    work.options.lines = true;
     let first = bytes(alloc, first)?;
     pairs_ended(alloc, &work, &first, &bytes(alloc, second)?, fails)
 }

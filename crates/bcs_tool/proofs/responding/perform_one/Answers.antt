@@ -16,4 +16,4 @@ returns-in-Ok g c =
 pub returns : goal.returns
 returns g c =
     unopened c.in-Some.name c.in-Some.is
-    (subst (λ (name : List ℕ). IsUnopened c.args.work.now.quiet name c.unopened.result) c.as_str-name.ensures.value c.unopened.ensures) refl refl
+    (subst (λ (name : List ℕ). IsUnopened c.args.work.now.options.quiet name c.unopened.result) c.as_str-name.ensures.value c.unopened.ensures) refl refl

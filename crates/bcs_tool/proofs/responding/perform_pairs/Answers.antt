@@ -24,4 +24,4 @@ pub returns : goal.returns
 returns g c =
     let report = c.unopened-in-Err-open in
     second_unopened c.in-Some.name c.new-lines.result c.in-Some.is
-    (subst (λ (name : List ℕ). IsUnopened c.args.work.now.quiet name report.result) c.as_str-name.ensures.value report.ensures) refl refl
+    (subst (λ (name : List ℕ). IsUnopened c.args.work.now.options.quiet name report.result) c.as_str-name.ensures.value report.ensures) refl refl

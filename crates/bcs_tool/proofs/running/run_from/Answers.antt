@@ -13,7 +13,7 @@ returns-in-Err g c =
         count = e.answered;
         status = c.failed.ensures.status;
         note = c.failed.ensures.note ∙ c.note.ensures;
-        tells = subst (TellsPlace work.quiet (run_place work.lines e.fault (origin_text c.args.origin) e.answered)) (sym c.failed.ensures.place) c.place_of_interruption.ensures;
+        tells = subst (TellsPlace work.options.quiet (run_place work.options.lines e.fault (origin_text c.args.origin) e.answered)) (sym c.failed.ensures.place) c.place_of_interruption.ensures;
         fails = c.in-Err.ensures.ends;
       });
       untouched = c.in-Err.ensures.untouched;

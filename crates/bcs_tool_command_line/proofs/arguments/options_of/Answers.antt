@@ -1,0 +1,24 @@
+use Rattle.std.proofs.Common.{◌≡◌, ◌∙◌, codes, rules}
+use Rattle.clap.specs.Words.{found_of}
+use Rattle.clap.proofs.WalkLemmas.{first_value-rows}
+use Rattle.bcs_tool_command_line.proofs.FoundTexts.{either}
+use Rattle.bcs_tool_command_line.proofs.arguments.options_of.Goals as goal
+
+pub returns : goal.returns
+returns c =
+    let f = found_of c.args.given.now in
+    record {
+      name = c.in_ok-given_name.ensures ∙ either c.get_str.result c.get_str-2.result c.or.result _ _ c.or.ensures (c.get_str.ensures ∙ first_value-rows f (codes "NAME"))
+          (c.get_str-2.ensures ∙ first_value-rows f (codes "variant"));
+      base64 = c.is_set.ensures;
+      lines = c.is_set-2.ensures;
+      front = c.is_set-3.ensures;
+      list = c.is_set-4.ensures;
+      full = c.is_set-5.ensures;
+      quiet = c.is_set-6.ensures;
+      form = c.form_of.ensures;
+      color = c.color_of.ensures;
+    }
+
+pub returns-in_err-given_name : goal.returns-in_err-given_name
+returns-in_err-given_name c = search rules
