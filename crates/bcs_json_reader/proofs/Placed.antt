@@ -3,10 +3,11 @@ use Rattle.std.proofs.Common.{◌≡◌, ◌≢◌, ◌∙◌, List, [], ◌∷�
 use Rattle.std.specs.Result.{result_err}
 use Rattle.std.proofs.lemmas.List.Elements.{All-nil}
 use Rattle.bcs_registry_model.specs.Container.{Entries}
-use Rattle.bcs_json_spec.specs.Place.{Step, Part, parts, fault_at, IsGood, IsPlaceAmong}
+use Rattle.bcs_json_spec.specs.Place.{Step, Part, parts, IsGood, IsPlaceAmong}
 use Rattle.bcs_json_spec.specs.Reading.{Read, Tells}
 use Rattle.bcs_json_spec.specs.declared.json_fault.JsonFault.{JsonFault}
 use Rattle.bcs_json_spec.specs.declared.json_fault.JsonFault.TheVariants.{OutOfMemory}
+use Rattle.bcs_json_spec.proofs.FaultAt.{fault_at, good_of, none_of}
 use Rattle.bcs_json_spec.proofs.Places.{place-here, place-later}
 use Rattle.bcs_json_reader.specs.Refused.{steps, fault_alone, way_of, IsPlaced}
 use Rattle.bcs_json_reader.specs.declared.refusal.Refusal.{Refusal}
@@ -72,9 +73,9 @@ module _ (registry : Entries) where
     placed_here see s (Ok v) r read is fault tells placed same way other = cc
     placed_here see s (Err g) r read is fault tells placed same way other =
         let bad : g.fault ≢ OutOfMemory = subst (λ e. e ≢ OutOfMemory) (err_is r.fault g.fault (fault_alone (Err g)) (sym same) refl) other in
-        way_here s is (not_none g.fault (fault_at registry p.left p.target p.json) (fault ∙ ap result_err (tells bad))) (steps r.way) (steps g.way) way (placed bad)
+        way_here s is (λ good. not_none g.fault (fault_at registry p.left p.target p.json) (fault ∙ ap result_err (tells bad)) (none_of registry p good)) (steps r.way) (steps g.way) way (placed bad)
 
   -- the first part is read
   pub read_later : {A : Type 0} (p : Part) (ps : List Part) (read : Read A) (t : A) → fault_at registry p.left p.target p.json ≡ result_err read → read ≡ Ok t
       → (path : List Step) → IsPlaceAmong registry path ps → IsPlaceAmong registry path (p ∷ ps)
-  read_later p ps read t fault is path h = place-later registry path p ps (fault ∙ ap result_err is) h
+  read_later p ps read t fault is path h = place-later registry path p ps (good_of registry p (fault ∙ ap result_err is)) h

@@ -16,7 +16,8 @@ use Rattle.bcs_registry_model.specs.declared.named.Named.{Named}
 use Rattle.bcs_value_model.specs.Tree.{Tree}
 use Rattle.bcs_json_spec.specs.JsonContent.{of, payload_content}
 use Rattle.bcs_json_spec.specs.Look.{without}
-use Rattle.bcs_json_spec.specs.Place.{Step, item, member, Part, part, parts, entry, item_parts, each_parts, entry_parts, field_parts, option_parts, enum_parts, pair_parts, fault_at, IsPlaceAmong}
+use Rattle.bcs_json_spec.specs.Place.{Step, item, member, Part, part, parts, entry, item_parts, each_parts, entry_parts, field_parts, option_parts, enum_parts, pair_parts, IsPlaceAmong}
+use Rattle.bcs_json_spec.proofs.FaultAt.{fault_at}
 use Rattle.bcs_json_spec.specs.Reading.{Read, Tells, read_content, read_data, read_named, read_pair, read_part}
 use Rattle.bcs_json_reader.specs.Refused.{steps, fault_alone, way_of, IsPlaced}
 use Rattle.bcs_json_reader.specs.declared.refusal.Refusal.{Refusal}

@@ -4,6 +4,7 @@ pub mod LeafVerdicts
 pub mod PartVerdicts
 pub mod Verdict
 pub mod WorkedRows
+pub mod FaultAt
 pub mod Places
 pub mod PlaceFaults
 pub mod SomePlace

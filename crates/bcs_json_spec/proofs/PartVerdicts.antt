@@ -103,7 +103,7 @@ module _ (registry : Entries) (n : ℕ) where
     abbrev PairWithin : Data → Tree × Tree → Type 0
     PairWithin j p = IfTwo (λ a b. Within registry n f a p.0 × Within registry n g b p.1) j
 
-    exact_pair : (j : Data) → Exact (PairWithin j) (PairRefuses (Within registry n f) Q R j) (read_pair q r j)
+    pub exact_pair : (j : Data) → Exact (PairWithin j) (PairRefuses (Within registry n f) Q R j) (read_pair q r j)
     exact_pair (array (item a (item b no_items))) = both (λ s t. (s, t)) (D a) (E b) (λ s t x y. (x, y)) (λ p s. (p.0, p.1, s.0, s.1, refl))
     exact_pair j = refused BadShape refl (λ p s. s)
 

@@ -16,12 +16,12 @@ use Rattle.bcs_json_spec.specs.Bytes.{is_byte}
 use Rattle.bcs_json_spec.specs.JsonContent.{JsonContent, of, fields, one_of, nothing, json_content_at, payload_content}
 use Rattle.bcs_json_spec.specs.Laws.{PlaceIsRefusedAlone}
 use Rattle.bcs_json_spec.specs.Look.{item_count, shape_count, without}
-use Rattle.bcs_json_spec.specs.Place.{Step, item, member, Target, value, entry, Part, part, parts, item_parts, each_parts, entry_parts, field_parts, option_parts, seq_parts, map_parts, tuple_parts, array_parts, struct_parts, enum_parts, pair_parts, shape_parts, named_parts, fault_at, IsGood, IsPlaceAmong, IsRefusedAlone}
+use Rattle.bcs_json_spec.specs.Place.{Step, item, member, Target, value, entry, Part, part, parts, item_parts, each_parts, entry_parts, field_parts, option_parts, seq_parts, map_parts, tuple_parts, array_parts, struct_parts, enum_parts, pair_parts, shape_parts, named_parts, IsGood, IsPlaceAmong, IsRefusedAlone}
 use Rattle.bcs_json_spec.specs.Reading.{Read, follow, read_all, read_array, read_choice, read_content, read_data, read_each, read_enum, read_fields, read_map, read_member, read_named, read_option, read_pair, read_pairs, read_part, read_seq, read_struct, read_tuple}
 use Rattle.bcs_json_spec.specs.declared.json_fault.JsonFault.{JsonFault}
 use Rattle.bcs_json_spec.specs.declared.json_fault.JsonFault.TheVariants.{BadShape}
+use Rattle.bcs_json_spec.proofs.FaultAt.{fault_at, fault_of, good_of, none_of, refused_of}
 use Rattle.bcs_json_spec.proofs.Places.{among, Leads}
-use Rattle.bcs_json_spec.proofs.Verdict.{exact_data}
 
 no_some : {A P : Type 0} (x : A) → None ≡ Some x → P
 no_some x h = cc
@@ -170,7 +170,7 @@ module _ (registry : Entries) (g : JsonFault) where
   past_good : (front ps : List Part) → All (IsGood registry) front → first (front ++ ps) ≡ first ps
   past_good [] ps good = refl
   past_good (p ∷ front) ps good =
-      ap (λ o. option_or o (first (front ++ ps))) (All-head (IsGood registry) p front good) ∙ past_good front ps (All-tail (IsGood registry) p front good)
+      ap (λ o. option_or o (first (front ++ ps))) (none_of registry p (All-head (IsGood registry) p front good)) ∙ past_good front ps (All-tail (IsGood registry) p front good)
 
 same_some : {A : Type 0} (x y : A) (o : Option A) → o ≡ Some x → o ≡ Some y → y ≡ x
 same_some x y o h k = cc
@@ -184,12 +184,12 @@ module _ (registry : Entries) where
       ap Some (same_some e g (fault_at registry d t j) whole (parts_tell registry g d t j tell))
 
   alone : (e : JsonFault) (path : List Step) (d : ℕ) (t : Target) (j : Data) → fault_at registry d t j ≡ Some e → IsPlaceAmong registry path (parts registry d t j) → IsRefusedAlone registry e path d t j
-  alone e [] d t j h good = (h, good)
+  alone e [] d t j h good = (refused_of registry d t j e h, good)
   alone e (s ∷ path) d t j h place =
       let p = place.one in
       let here : fault_at registry p.left p.target p.json ≡ Some e =
-      first_is e d t j place.front p place.back place.split place.good (fault_at registry p.left p.target p.json) refl place.faulty.0 h in
+      first_is e d t j place.front p place.back place.split place.good (fault_at registry p.left p.target p.json) refl (λ none. place.faulty.0 (good_of registry p none)) h in
       (p, among (IsGood registry) (Leads registry s path) (parts registry d t j) place, place.faulty.1, alone e path p.left p.target p.json here place.faulty.2)
 
 pub place_is_refused_alone : PlaceIsRefusedAlone
-place_is_refused_alone registry d f j path e h = alone registry e path d (value f) j (ap result_err ((exact_data registry d f j).errs e h.0)) h.1
+place_is_refused_alone registry d f j path e h = alone registry e path d (value f) j (fault_of registry d (value f) j e h.0) h.1

@@ -13,7 +13,8 @@ use Rattle.bcs_registry_model.specs.Container.{Field, Choice, Entries, choice_ca
 use Rattle.bcs_json_spec.specs.JsonContent.{JsonContent, of, fields, one_of, nothing, json_content_at, payload_content}
 use Rattle.bcs_json_spec.specs.Laws.{SomePlace}
 use Rattle.bcs_json_spec.specs.Look.{item_count, shape_count, without}
-use Rattle.bcs_json_spec.specs.Place.{Step, item, member, Target, value, entry, Part, part, parts, item_parts, each_parts, entry_parts, field_parts, option_parts, seq_parts, map_parts, tuple_parts, array_parts, struct_parts, enum_parts, pair_parts, named_parts, fault_at, IsPlaceAmong}
+use Rattle.bcs_json_spec.specs.Place.{Step, item, member, Target, value, entry, Part, part, parts, item_parts, each_parts, entry_parts, field_parts, option_parts, seq_parts, map_parts, tuple_parts, array_parts, struct_parts, enum_parts, pair_parts, named_parts, IsPlaceAmong}
+use Rattle.bcs_json_spec.proofs.FaultAt.{fault_at, good_of, none_of}
 use Rattle.bcs_json_spec.proofs.Lowest.{found_depth, without_depth}
 use Rattle.bcs_json_spec.proofs.Places.{Inside, place-none, place-here, place-later}
 
@@ -133,8 +134,8 @@ module _ (registry : Entries) where
   some_among : (n : ℕ) → ((p : Part) → depth p.json < n → (path : List Step) × Inside registry path p) → (ps : List Part) → Under n ps → Place ps
   some_among n inside [] h = ([], place-none registry)
   some_among n inside (p ∷ ps) h = elim (fault_at registry p.left p.target p.json) as (λ o. fault_at registry p.left p.target p.json ≡ o → Place (p ∷ ps)) [
-    | None ↦ λ is. let rest = some_among n inside ps (All-tail (IsUnder n) p ps h) in (rest.0, place-later registry rest.0 p ps is rest.1)
-    | Some e ↦ λ is. let here = inside p (All-head (IsUnder n) p ps h) in (p.step ∷ here.0, place-here registry here.0 p ps (λ good. absurd (none-some e (sym good ∙ is))) here.1)
+    | None ↦ λ is. let rest = some_among n inside ps (All-tail (IsUnder n) p ps h) in (rest.0, place-later registry rest.0 p ps (good_of registry p is) rest.1)
+    | Some e ↦ λ is. let here = inside p (All-head (IsUnder n) p ps h) in (p.step ∷ here.0, place-here registry here.0 p ps (λ good. absurd (none-some e (sym (none_of registry p good) ∙ is))) here.1)
   ] refl
 
   some_inside : (n d : ℕ) (t : Target) (j : Data) → depth j < n → Place (parts registry d t j)

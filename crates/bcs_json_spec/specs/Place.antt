@@ -1,7 +1,6 @@
 -- Where JSON is refused: the way down to it, as a JSON Pointer has it (RFC 6901).
-use Rattle.std.specs.Prelude.{◌≡◌, ℕ, zero, suc, List, [], ◌∷◌, codes, Option, None, Some, All, Contains, string_bytes, ◌==◌, if◌then◌else◌}
+use Rattle.std.specs.Prelude.{◌≡◌, ℕ, zero, suc, List, [], ◌∷◌, codes, Option, All, Contains, string_bytes, ◌==◌, if◌then◌else◌}
 use Rattle.std.specs.Option.{option_map_or}
-use Rattle.std.specs.Result.{result_err}
 use Rattle.std.specs.Str.{bytes_eq}
 use Rattle.serde_json.specs.Data.{Data, array, object, Items, no_items, Members, no_members}
 use Rattle.serde_json.specs.Data as json
@@ -12,8 +11,8 @@ use Rattle.bcs_registry_model.specs.Container.{Field, Choice, Entries, choice_ca
 use Rattle.bcs_registry_model.specs.Grows.{IsFirst}
 use Rattle.bcs_json_spec.specs.JsonContent.{JsonContent, of, fields, one_of, nothing, json_content_at, payload_content}
 use Rattle.bcs_json_spec.specs.Look.{item_count, shape_count, without}
-use Rattle.bcs_json_spec.specs.Reading.{read_pair, read_data}
-use Rattle.bcs_json_spec.specs.Refuses.{Refuses}
+use Rattle.bcs_json_spec.specs.Refuses.{Refuses, PairRefuses}
+use Rattle.bcs_json_spec.specs.Spells.{SpellsWithin}
 use Rattle.bcs_json_spec.specs.declared.json_fault.JsonFault.{JsonFault}
 use Rattle.bcs_json_spec.specs.declared.json_step.JsonStep.{JsonStep}
 use Rattle.bcs_json_spec.specs.declared.json_step.JsonStep.TheVariants.{Item, Member}
@@ -128,13 +127,13 @@ module _ (registry : Entries) where
 
   -- ---- the place
 
-  -- what JSON is refused with, if it is
-  abbrev pub fault_at : ℕ → Target → Data → Option JsonFault
-  fault_at d (value f) j = result_err (read_data registry d f j)
-  fault_at d (entry k v) j = result_err (read_pair (read_data registry d (of k)) (read_data registry d (of v)) j)
+  -- the JSON is refused with this fault
+  abbrev pub IsRefusedWith : ℕ → Target → Data → JsonFault → Type 0
+  IsRefusedWith d (value f) j e = Refuses registry d f j e
+  IsRefusedWith d (entry k v) j e = PairRefuses (SpellsWithin registry d (of k)) (Refuses registry d (of k)) (Refuses registry d (of v)) j e
 
   abbrev pub IsGood : Part → Type 0
-  IsGood p = fault_at p.left p.target p.json ≡ None
+  IsGood p = (e : JsonFault) → ¬ IsRefusedWith p.left p.target p.json e
 
   -- the way leads to the first of the parts that is refused, on to the first of its own parts that is, and so on, until
   -- none is
@@ -152,5 +151,5 @@ module _ (registry : Entries) where
 
   -- at the end of the way the JSON is refused with this fault, and no part of it is refused
   abbrev pub IsRefusedAlone : JsonFault → List Step → ℕ → Target → Data → Type 0
-  IsRefusedAlone e [] d t j = (fault_at d t j ≡ Some e) × All IsGood (parts d t j)
+  IsRefusedAlone e [] d t j = IsRefusedWith d t j e × All IsGood (parts d t j)
   IsRefusedAlone e (s ∷ path) d t j = (p : Part) × Contains (parts d t j) p × (p.step ≡ s) × IsRefusedAlone e path p.left p.target p.json
