@@ -103,7 +103,7 @@ fn grows(mut words: Words) -> Told {
 fn ask(call: &str, mut words: Words) -> Result<Told, Error> {
     let registry = Registry::read(words.bytes())?;
     let format = &Format::json(words.bytes());
-    let limits = Limits { depth: words.number(), nodes: words.number() };
+    let limits = Limits { depth: words.number(), nodes: Some(words.number()) };
     let registry = registry.with_limits(limits);
     if call == "check" {
         registry.check(format)?;

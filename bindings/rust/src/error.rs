@@ -51,9 +51,10 @@ pub enum ErrorKind {
     TooNested,
     /// The path isn't one.
     Path,
-    /// Memory ran out.
+    /// Memory ran out, or the thread has too little stack left for a value that nests so deep.
     Memory,
-    /// A type of `serde` has no such value, or its value no JSON: with the feature `serde_json`.
+    /// A value of a `serde` type isn't of the format, or a value of the format isn't one of the type: with the feature
+    /// `serde_json`.
     Type,
 }
 
@@ -75,7 +76,7 @@ impl Error {
 
     /// Where it is refused: of a text a JSON Pointer (RFC 6901), as `/payload/args/1`, which is empty where the text is
     /// refused as a whole; of bytes the way to where they stop by names, as `.payload.args[1]`; of a registry its place as
-    /// the program `bcs` prints it. What is refused else has none.
+    /// the program `bcs` prints it; of a `serde` type a JSON Pointer into the JSON of the value. Everything else has none.
     pub fn pointer(&self) -> Option<&str> {
         self.told.as_deref().map(|told| told.pointer.as_str())
     }
@@ -195,7 +196,8 @@ impl fmt::Display for Error {
             return self.kind.fmt(f);
         };
         let Some(name) = self.name() else {
-            return write!(f, "{}: {}", self.kind.what(), told.expected);
+            let colon = if told.pointer.is_empty() { "" } else { ": " };
+            return write!(f, "{}: {}{colon}{}", self.kind.what(), told.pointer, told.expected);
         };
         let pointer = if told.pointer.is_empty() { "the whole text" } else { &told.pointer };
         write!(f, "{}: {name} at ", self.kind.what())?;
@@ -228,10 +230,10 @@ impl PartialEq<ErrorKind> for Error {
 }
 
 #[cfg(feature = "serde_json")]
-impl From<crate::serde_in::Mismatch> for Error {
-    fn from(mismatch: crate::serde_in::Mismatch) -> Error {
-        let told = Told { pointer: String::new(), expected: mismatch.to_string() };
-        Error { kind: ErrorKind::Type, told: Some(Box::new(told)) }
+impl From<crate::mismatch::Mismatch> for Error {
+    fn from(mismatch: crate::mismatch::Mismatch) -> Error {
+        let told = Told { pointer: mismatch.pointer, expected: mismatch.words };
+        Error { kind: mismatch.kind, told: Some(Box::new(told)) }
     }
 }
 

@@ -25,11 +25,15 @@ mod faults;
 mod format;
 mod json;
 mod limits;
+#[cfg(feature = "serde_json")]
+mod mismatch;
 mod registry;
 #[cfg(feature = "serde_json")]
 mod serde_in;
 #[cfg(feature = "serde_json")]
 mod serde_out;
+#[cfg(feature = "serde_json")]
+mod shapes;
 mod sys;
 #[cfg(feature = "serde_json")]
 mod values;

@@ -12,15 +12,20 @@ use std::sync::Arc;
 /// Its calls give the bytes and the texts of values. A format is a container's name, or a [`Format`]. Texts and bytes are
 /// whatever has bytes: a `&str`, a `String`, a `&[u8]`, a `Vec<u8>`, an array.
 ///
-/// Several threads may use one registry, and a clone of it costs next to nothing.
+/// Any number of threads may use one registry at the same time, and a clone of it costs next to nothing.
+///
+/// The default [`Limits`] allow 16 nodes for each byte that a call reads and 1,000,000 more. Values of the chains' registries
+/// stay far below that; a few bytes that stand for millions of empty values are rejected as `TooManyNodes`.
 #[derive(Clone)]
 pub struct Registry {
     open: Arc<Open>,
     limits: Limits,
+    #[cfg(feature = "serde_json")]
+    pub(crate) shapes: Arc<std::sync::OnceLock<crate::shapes::Shapes>>,
 }
 
 impl Registry {
-    /// Reads a registry's JSON text. The limits are the standard ones.
+    /// Reads a registry's JSON text. The limits are the default ones.
     ///
     /// ```
     /// use bcs_proved::{Error, ErrorKind, Registry, RegistryFault};
@@ -37,7 +42,12 @@ impl Registry {
         let text = text.as_ref();
         let refused = |answer| Error::of(answer).told_by(|what| told(|out| sys::registry_place(what, text, out)));
         let open = Open::read(text).map_err(refused)?;
-        Ok(Registry { open: Arc::new(open), limits: Limits::STANDARD })
+        Ok(Registry {
+            open: Arc::new(open),
+            limits: Limits::default(),
+            #[cfg(feature = "serde_json")]
+            shapes: Arc::default(),
+        })
     }
 
     /// The names of its containers, as they stand in its text.
@@ -48,9 +58,8 @@ impl Registry {
     /// # Ok::<(), bcs_proved::Error>(())
     /// ```
     pub fn names(&self) -> Vec<String> {
-        let text = std::str::from_utf8(self.open.text()).expect("a registry is read from UTF-8");
         let mut names = Vec::new();
-        for (name, _) in json::members(text).expect("a registry is a JSON object") {
+        for (name, _) in json::members(self.text()).expect("a registry is a JSON object") {
             if !names.contains(&name) {
                 names.push(name);
             }
@@ -58,20 +67,20 @@ impl Registry {
         names
     }
 
-    /// The same registry with other limits. A call refuses a depth above 500.
+    /// The same registry with other limits, which are used as they are. Calls reject a depth above 500.
     ///
     /// ```
     /// use bcs_proved::{Error, ErrorKind, Limits, Registry, TextFault};
     ///
     /// let registry = Registry::read(r#"{"Lots":{"NEWTYPESTRUCT":{"SEQ":"U8"}}}"#)?;
-    /// let small = registry.with_limits(Limits { nodes: 4, ..Limits::default() });
+    /// let small = registry.with_limits(Limits { nodes: Some(4), ..Limits::default() });
     /// assert_eq!(small.encode("Lots", "[1,2]")?, [2, 1, 2]);
     /// assert_eq!(small.encode("Lots", "[1,2,3]").unwrap_err(), ErrorKind::Text(TextFault::TooManyNodes));
     /// # Ok::<(), Error>(())
     /// ```
     #[must_use]
     pub fn with_limits(&self, limits: Limits) -> Registry {
-        Registry { open: Arc::clone(&self.open), limits }
+        Registry { limits, ..self.clone() }
     }
 
     /// The limits of its calls.
@@ -92,7 +101,7 @@ impl Registry {
     /// ```
     pub fn check(&self, format: impl Into<Format>) -> Result<(), Error> {
         let format = format.into();
-        done(self.open.check(self.question(&format))).map(drop)
+        done(self.open.check(self.of_text(&format))).map(drop)
     }
 
     /// Says whether a newer registry keeps all that this one has, so that every old value stays one. Enums may have more
@@ -125,8 +134,8 @@ impl Registry {
         let (format, text) = (format.into(), text.as_ref());
         // Digits and names make most texts longer than their bytes.
         let room = text.len().saturating_add(64);
-        let encoded = fill(room, |out| self.open.encode(self.question(&format), text, out));
-        Ok(encoded.map_err(|error| self.of_text(error, &format, text))?.0)
+        let encoded = fill(room, |out| self.open.encode(self.of_text(&format), text, out));
+        Ok(encoded.map_err(|error| self.in_text(error, &format, text))?.0)
     }
 
     /// The one normal JSON text of the value whose bytes these are, all of them.
@@ -142,8 +151,8 @@ impl Registry {
     pub fn decode(&self, format: impl Into<Format>, bytes: impl AsRef<[u8]>) -> Result<String, Error> {
         let (format, bytes) = (format.into(), bytes.as_ref());
         let room = bytes.len().saturating_mul(4).saturating_add(256);
-        let decoded = fill(room, |out| self.open.decode(self.question(&format), bytes, out));
-        Ok(into_text(decoded.map_err(|error| self.of_bytes(error, &format, bytes))?.0))
+        let decoded = fill(room, |out| self.open.decode(self.of_bytes(&format, bytes), bytes, out));
+        Ok(into_text(decoded.map_err(|error| self.in_bytes(error, &format, bytes))?.0))
     }
 
     /// The one normal JSON text of the value that a JSON text denotes.
@@ -159,8 +168,8 @@ impl Registry {
     pub fn normalise(&self, format: impl Into<Format>, text: impl AsRef<[u8]>) -> Result<String, Error> {
         let (format, text) = (format.into(), text.as_ref());
         let room = text.len().saturating_add(64);
-        let normal = fill(room, |out| self.open.normalise(self.question(&format), text, out));
-        Ok(into_text(normal.map_err(|error| self.of_text(error, &format, text))?.0))
+        let normal = fill(room, |out| self.open.normalise(self.of_text(&format), text, out));
+        Ok(into_text(normal.map_err(|error| self.in_text(error, &format, text))?.0))
     }
 
     /// Whether two JSON texts denote equal values, which are those with equal bytes.
@@ -181,10 +190,10 @@ impl Registry {
         second: impl AsRef<[u8]>,
     ) -> Result<bool, Error> {
         let (format, first, second) = (format.into(), first.as_ref(), second.as_ref());
-        let answer = self.open.equal(self.question(&format), first, second);
+        let answer = self.open.equal(self.of_text(&format), first, second);
         let compared = done_unless_no(answer).map_err(|error| {
-            let of_first = self.of_text(error.clone(), &format, first);
-            if of_first.pointer().is_some() { of_first } else { self.of_text(error, &format, second) }
+            let in_first = self.in_text(error.clone(), &format, first);
+            if in_first.pointer().is_some() { in_first } else { self.in_text(error, &format, second) }
         });
         Ok(compared?.is_some())
     }
@@ -200,8 +209,8 @@ impl Registry {
     /// ```
     pub fn scan(&self, format: impl Into<Format>, bytes: impl AsRef<[u8]>) -> Result<usize, Error> {
         let (format, bytes) = (format.into(), bytes.as_ref());
-        let answer = done(self.open.scan(self.question(&format), bytes));
-        Ok(answer.map_err(|error| self.of_bytes(error, &format, bytes))?.length)
+        let answer = done(self.open.scan(self.of_bytes(&format, bytes), bytes));
+        Ok(answer.map_err(|error| self.in_bytes(error, &format, bytes))?.length)
     }
 
     /// The part of the value at the front to which a path leads, or `None` where it leads nowhere.
@@ -227,8 +236,8 @@ impl Registry {
         path: impl AsRef<[u8]>,
     ) -> Result<Option<Part<'b>>, Error> {
         let (format, bytes) = (format.into(), bytes.as_ref());
-        let answer = self.open.part(self.question(&format), bytes, path.as_ref());
-        let found = done_unless_no(answer).map_err(|error| self.of_bytes(error, &format, bytes));
+        let answer = self.open.part(self.of_bytes(&format, bytes), bytes, path.as_ref());
+        let found = done_unless_no(answer).map_err(|error| self.in_bytes(error, &format, bytes));
         Ok(found?.map(|answer| {
             let place = sys::to_place(answer.place);
             Part { place, bytes: &bytes[place..place + answer.length] }
@@ -272,22 +281,36 @@ impl Registry {
         let (format, bytes) = (format.into(), bytes.as_ref());
         // A line of some 110 signs may tell a single byte, and mostly tells more.
         let room = bytes.len().saturating_mul(24).saturating_add(1024);
-        let (text, answer) = fill(room, |out| self.open.explain(self.question(&format), form.number(), bytes, out))?;
+        let question = self.of_bytes(&format, bytes);
+        let (text, answer) = fill(room, |out| self.open.explain(question, form.number(), bytes, out))?;
         Ok(Explanation { text: into_text(text), stop: stop(answer) })
     }
 
-    /// The error of a text, with where it is refused.
-    fn of_text(&self, error: Error, format: &Format, text: &[u8]) -> Error {
-        error.told_by(|what| told(|out| self.open.text_place(self.question(format), what, text, out)))
+    /// The registry's JSON text.
+    pub(crate) fn text(&self) -> &str {
+        std::str::from_utf8(self.open.text()).expect("a registry is read from UTF-8")
+    }
+
+    /// The error of a text, with where it is rejected.
+    fn in_text(&self, error: Error, format: &Format, text: &[u8]) -> Error {
+        error.told_by(|what| told(|out| self.open.text_place(self.of_text(format), what, text, out)))
     }
 
     /// The error of bytes, with the way to where they stop.
-    fn of_bytes(&self, error: Error, format: &Format, bytes: &[u8]) -> Error {
-        error.told_by(|what| told(|out| self.open.stop_place(self.question(format), what, bytes, out)))
+    fn in_bytes(&self, error: Error, format: &Format, bytes: &[u8]) -> Error {
+        error.told_by(|what| told(|out| self.open.stop_place(self.of_bytes(format, bytes), what, bytes, out)))
     }
 
-    fn question<'a>(&self, format: &'a Format) -> Question<'a> {
-        Question { format: format.as_json(), limits: self.limits }
+    /// The parameters of a call that reads JSON.
+    fn of_text<'a>(&self, format: &'a Format) -> Question<'a> {
+        let Limits { depth, .. } = self.limits;
+        Question { format: format.as_json(), depth, nodes: self.limits.nodes_of_text() }
+    }
+
+    /// The parameters of a call that reads these bytes.
+    fn of_bytes<'a>(&self, format: &'a Format, bytes: &[u8]) -> Question<'a> {
+        let Limits { depth, .. } = self.limits;
+        Question { format: format.as_json(), depth, nodes: self.limits.nodes_of_bytes(bytes.len()) }
     }
 }
 

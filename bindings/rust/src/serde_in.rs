@@ -1,68 +1,30 @@
-//! The JSON that spells a value as a value of `serde`: the way back from `serde_out`.
-use serde::de::value::{MapDeserializer, SeqDeserializer, StringDeserializer};
-use serde::de::{self, DeserializeOwned, DeserializeSeed, Deserializer, IntoDeserializer, VariantAccess, Visitor};
+//! The JSON that the library prints, as a value of a `serde` type, by the format: the way back from `serde_out`.
+//!
+//! The format decides what a type gets, and its visitor rejects what isn't of its kind. What a type asks for is looked at
+//! only where visitors accept more: an `f64` would round an integer, a struct would take a tuple's elements by their order,
+//! bytes would take a string, and an `Option` a unit.
+use crate::mismatch::Mismatch;
+use crate::shapes::{At, FIELD_NAME, OCTET, Shape, VOID};
+use serde::de::{self, DeserializeOwned, DeserializeSeed, Deserializer, MapAccess, SeqAccess, VariantAccess, Visitor};
 use serde::forward_to_deserialize_any;
-use serde_json::{Map, Value};
-use std::fmt;
+use serde_json::{Map, Value, map};
+use std::collections::HashMap;
+use std::vec;
 
-/// The value that JSON spells.
-pub(crate) fn value_of<T: DeserializeOwned>(json: Value) -> Result<T, Mismatch> {
-    T::deserialize(FromJson(json))
+/// The value that JSON of a format represents.
+pub(crate) fn value_of<T: DeserializeOwned>(json: Value, at: At) -> Result<T, Mismatch> {
+    T::deserialize(Reader { at, json })
 }
 
-/// Why a type has no such value, or a value no JSON.
-#[derive(Clone, Debug, PartialEq, Eq)]
-pub struct Mismatch(String);
-
-impl Mismatch {
-    pub(crate) fn new(message: impl fmt::Display) -> Mismatch {
-        Mismatch(message.to_string())
-    }
+/// JSON of a format.
+struct Reader<'w> {
+    at: At<'w>,
+    json: Value,
 }
 
-impl fmt::Display for Mismatch {
-    fn fmt(&self, f: &mut fmt::Formatter<'_>) -> fmt::Result {
-        f.write_str(&self.0)
-    }
-}
-
-impl std::error::Error for Mismatch {}
-
-impl de::Error for Mismatch {
-    fn custom<T: fmt::Display>(message: T) -> Mismatch {
-        Mismatch::new(message)
-    }
-}
-
-impl serde::ser::Error for Mismatch {
-    fn custom<T: fmt::Display>(message: T) -> Mismatch {
-        Mismatch::new(message)
-    }
-}
-
-struct FromJson(Value);
-
-impl IntoDeserializer<'_, Mismatch> for FromJson {
-    type Deserializer = FromJson;
-
-    fn into_deserializer(self) -> FromJson {
-        self
-    }
-}
-
-impl FromJson {
-    /// Digits as a number.
-    fn number<'de, V: Visitor<'de>>(self, visitor: V) -> Result<V::Value, Mismatch> {
-        match self.0 {
-            Value::String(digits) => match (digits.parse::<u64>(), digits.parse::<i64>(), digits.parse::<u128>()) {
-                (Ok(number), ..) => visitor.visit_u64(number),
-                (_, Ok(number), _) => visitor.visit_i64(number),
-                (.., Ok(number)) => visitor.visit_u128(number),
-                _ => visitor.visit_i128(digits.parse().map_err(Mismatch::new)?),
-            },
-            json => FromJson(json).deserialize_any(visitor),
-        }
-    }
+/// What can't be: the library prints JSON of the format.
+fn other_json<T>() -> Result<T, Mismatch> {
+    Err(Mismatch::new("the library's JSON isn't of the format"))
 }
 
 fn bytes_of(digits: &str) -> Result<Vec<u8>, Mismatch> {
@@ -70,51 +32,153 @@ fn bytes_of(digits: &str) -> Result<Vec<u8>, Mismatch> {
     (0..digits.len()).step_by(2).map(byte).collect()
 }
 
-fn items(values: Vec<Value>) -> SeqDeserializer<impl Iterator<Item = FromJson>, Mismatch> {
-    SeqDeserializer::new(values.into_iter().map(FromJson))
-}
-
-fn members(members: Map<String, Value>) -> impl Iterator<Item = (String, FromJson)> {
-    members.into_iter().map(|(name, value)| (name, FromJson(value)))
-}
-
-macro_rules! numbers {
-    ($($name:ident)*) => {
-        $(fn $name<V: Visitor<'de>>(self, visitor: V) -> Result<V::Value, Mismatch> { self.number(visitor) })*
+/// An integer, as the first type that has it: each type of `serde` rejects what is out of its range.
+fn visit_integer<'de, V: Visitor<'de>>(json: Value, visitor: V) -> Result<V::Value, Mismatch> {
+    let digits = match json {
+        Value::String(digits) => digits,
+        number => number.to_string(),
     };
+    match (digits.parse::<u64>(), digits.parse::<i64>(), digits.parse::<u128>()) {
+        (Ok(number), ..) => visitor.visit_u64(number),
+        (_, Ok(number), _) => visitor.visit_i64(number),
+        (.., Ok(number)) => visitor.visit_u128(number),
+        _ => visitor.visit_i128(digits.parse().map_err(Mismatch::new)?),
+    }
 }
 
-impl<'de> Deserializer<'de> for FromJson {
-    type Error = Mismatch;
+impl<'w> Reader<'w> {
+    fn entered(self) -> Reader<'w> {
+        Reader { at: self.at.entered(), ..self }
+    }
 
-    fn deserialize_any<V: Visitor<'de>>(self, visitor: V) -> Result<V::Value, Mismatch> {
-        match self.0 {
-            Value::Null => visitor.visit_unit(),
-            Value::Bool(truth) => visitor.visit_bool(truth),
-            Value::Number(number) => match (number.as_u64(), number.as_i64()) {
-                (Some(number), _) => visitor.visit_u64(number),
-                (_, Some(number)) => visitor.visit_i64(number),
-                _ => Err(Mismatch::new("no value is such a number")),
-            },
-            Value::String(text) => visitor.visit_string(text),
-            Value::Array(values) => visitor.visit_seq(items(values)),
-            Value::Object(fields) => visitor.visit_map(MapDeserializer::new(members(fields))),
+    fn unfit<T>(&self, type_is: &str) -> Result<T, Mismatch> {
+        Err(Mismatch::unfit(self.at.entered().shape, type_is))
+    }
+
+    /// What the format has here.
+    fn visit<'de, V: Visitor<'de>>(self, visitor: V) -> Result<V::Value, Mismatch> {
+        let Reader { at, json } = self;
+        match (at.shape, json) {
+            (Shape::Unit, _) => visitor.visit_unit(),
+            (Shape::Bool, Value::Bool(truth)) => visitor.visit_bool(truth),
+            (Shape::Integer(_) | Shape::Octet, json) => visit_integer(json, visitor),
+            (Shape::Str | Shape::FieldName | Shape::Enum(_), Value::String(text)) => visitor.visit_string(text),
+            (Shape::Bytes, Value::String(digits)) => visitor.visit_byte_buf(bytes_of(&digits)?),
+            (Shape::Option(_), json) => Reader { at, json }.visit_option(visitor),
+            (Shape::Struct(parts) | Shape::Enum(parts), Value::Object(members)) => {
+                visit_members(at, parts, members, visitor)
+            }
+            (Shape::Map(pair), Value::Array(entries)) => visit_entries(at.to(pair), entries, visitor),
+            (Shape::Seq(_) | Shape::Array(_) | Shape::Tuple(_), json) => Reader { at, json }.visit_items(visitor),
+            _ => other_json(),
         }
     }
 
-    numbers! {
-        deserialize_i8 deserialize_i16 deserialize_i32 deserialize_i64 deserialize_i128
-        deserialize_u8 deserialize_u16 deserialize_u32 deserialize_u64 deserialize_u128
+    fn visit_option<'de, V: Visitor<'de>>(self, visitor: V) -> Result<V::Value, Mismatch> {
+        let Shape::Option(content) = self.at.shape else {
+            return self.unfit("an Option");
+        };
+        let mut members = match self.json {
+            Value::Null => return visitor.visit_none(),
+            Value::Object(members) => members,
+            _ => return other_json(),
+        };
+        let json = members.remove("some").unwrap_or_default();
+        visitor.visit_some(Reader { at: self.at.to(content), json }).map_err(|error| error.under("some"))
     }
 
-    fn deserialize_option<V: Visitor<'de>>(self, visitor: V) -> Result<V::Value, Mismatch> {
-        match self.0 {
-            Value::Null => visitor.visit_none(),
-            Value::Object(mut members) => match members.remove("some") {
-                Some(value) => visitor.visit_some(FromJson(value)),
-                None => Err(Mismatch::new("an option is null, or an object with the one member some")),
-            },
-            _ => Err(Mismatch::new("an option is null, or an object with the one member some")),
+    fn visit_items<'de, V: Visitor<'de>>(self, visitor: V) -> Result<V::Value, Mismatch> {
+        let parts = match self.at.shape {
+            Shape::Bytes => Parts::Same(&OCTET),
+            Shape::Seq(content) | Shape::Array(content) | Shape::Map(content) => Parts::Same(content),
+            Shape::Tuple(all) => Parts::Own(all),
+            _ => return self.unfit("a list"),
+        };
+        let values: Vec<Value> = match self.json {
+            Value::Array(values) => values,
+            Value::String(digits) => bytes_of(&digits)?.into_iter().map(Value::from).collect(),
+            _ => return other_json(),
+        };
+        let length = values.len();
+        let mut items = Items { at: self.at, parts, values: values.into_iter(), count: 0 };
+        let value = visitor.visit_seq(&mut items)?;
+        match items.values.len() {
+            0 => Ok(value),
+            left => Err(Mismatch::new(format_args!("the type takes {} of {length} elements", length - left))),
+        }
+    }
+}
+
+macro_rules! integers {
+    ($($name:ident: $type_is:literal,)*) => {
+        /// The bytes of `BYTES` are each a `u8`, and no other integer.
+        $(fn $name<V: Visitor<'de>>(self, visitor: V) -> Result<V::Value, Mismatch> {
+            match self.at.shape {
+                Shape::Octet => self.unfit($type_is),
+                _ => self.deserialize_any(visitor),
+            }
+        })*
+    };
+}
+
+macro_rules! nothing {
+    ($($name:ident: $type_is:literal,)*) => {
+        /// No format has such values.
+        $(fn $name<V: Visitor<'de>>(self, _: V) -> Result<V::Value, Mismatch> { self.unfit($type_is) })*
+    };
+}
+
+impl<'de> Deserializer<'de> for Reader<'_> {
+    type Error = Mismatch;
+
+    /// A type that doesn't say what it is, as `serde_json::Value` and what is flattened, can't tell `None` from a `Some` of
+    /// nothing, so it gets neither of two options in one another where the outer one is there.
+    fn deserialize_any<V: Visitor<'de>>(self, visitor: V) -> Result<V::Value, Mismatch> {
+        let reader = self.entered();
+        let shape = reader.at.shape;
+        if matches!(shape, Shape::Option(_)) && reader.json.get("some").is_some_and(Value::is_null) {
+            return reader.unfit("a type for which Some(None) is None");
+        }
+        reader.visit(visitor).map_err(|error: Mismatch| error.of_format(shape))
+    }
+
+    fn deserialize_ignored_any<V: Visitor<'de>>(self, visitor: V) -> Result<V::Value, Mismatch> {
+        visitor.visit_unit()
+    }
+
+    fn is_human_readable(&self) -> bool {
+        false
+    }
+
+    integers! {
+        deserialize_i8: "an i8", deserialize_i16: "an i16", deserialize_i32: "an i32", deserialize_i64: "an i64",
+        deserialize_i128: "an i128", deserialize_u16: "a u16", deserialize_u32: "a u32", deserialize_u64: "a u64",
+        deserialize_u128: "a u128",
+    }
+
+    nothing! { deserialize_f32: "an f32", deserialize_f64: "an f64", deserialize_char: "a char", }
+
+    /// A type that reads strings gets the string that the library prints: decimal or hexadecimal digits, or a variant's name.
+    fn deserialize_string<V: Visitor<'de>>(self, visitor: V) -> Result<V::Value, Mismatch> {
+        match self.json {
+            Value::String(text) => {
+                visitor.visit_string(text).map_err(|error: Mismatch| error.of_format(self.at.entered().shape))
+            }
+            _ => self.deserialize_any(visitor),
+        }
+    }
+
+    fn deserialize_str<V: Visitor<'de>>(self, visitor: V) -> Result<V::Value, Mismatch> {
+        self.deserialize_string(visitor)
+    }
+
+    fn deserialize_byte_buf<V: Visitor<'de>>(self, visitor: V) -> Result<V::Value, Mismatch> {
+        let reader = self.entered();
+        match (reader.at.shape, &reader.json) {
+            (shape, Value::String(digits)) if matches!(shape, Shape::Bytes) || shape.is_octets() => {
+                visitor.visit_byte_buf(bytes_of(digits)?).map_err(|error: Mismatch| error.of_format(shape))
+            }
+            _ => reader.unfit("bytes"),
         }
     }
 
@@ -122,19 +186,18 @@ impl<'de> Deserializer<'de> for FromJson {
         self.deserialize_byte_buf(visitor)
     }
 
-    fn deserialize_byte_buf<V: Visitor<'de>>(self, visitor: V) -> Result<V::Value, Mismatch> {
-        match self.0 {
-            Value::String(digits) => visitor.visit_byte_buf(bytes_of(&digits)?),
-            json => FromJson(json).deserialize_any(visitor),
-        }
+    fn deserialize_option<V: Visitor<'de>>(self, visitor: V) -> Result<V::Value, Mismatch> {
+        self.entered().visit_option(visitor)
     }
 
-    /// Bytes are digits, of which each two are an element.
+    fn deserialize_newtype_struct<V: Visitor<'de>>(self, _: &'static str, visitor: V) -> Result<V::Value, Mismatch> {
+        visitor.visit_newtype_struct(self)
+    }
+
     fn deserialize_seq<V: Visitor<'de>>(self, visitor: V) -> Result<V::Value, Mismatch> {
-        match self.0 {
-            Value::String(digits) => visitor.visit_seq(SeqDeserializer::new(bytes_of(&digits)?.into_iter())),
-            json => FromJson(json).deserialize_any(visitor),
-        }
+        let reader = self.entered();
+        let shape = reader.at.shape;
+        reader.visit_items(visitor).map_err(|error: Mismatch| error.of_format(shape))
     }
 
     fn deserialize_tuple<V: Visitor<'de>>(self, _: usize, visitor: V) -> Result<V::Value, Mismatch> {
@@ -150,23 +213,23 @@ impl<'de> Deserializer<'de> for FromJson {
         self.deserialize_seq(visitor)
     }
 
-    /// A map's entries, each an array of a key and its value.
     fn deserialize_map<V: Visitor<'de>>(self, visitor: V) -> Result<V::Value, Mismatch> {
-        let Value::Array(entries) = self.0 else {
-            return self.deserialize_any(visitor);
-        };
-        let pair = |entry| match entry {
-            Value::Array(pair) => <[Value; 2]>::try_from(pair).ok(),
-            _ => None,
-        };
-        let pairs: Option<Vec<[Value; 2]>> = entries.into_iter().map(pair).collect();
-        let pairs = pairs.ok_or_else(|| Mismatch::new("an entry is an array of a key and its value"))?;
-        let pairs = pairs.into_iter().map(|[key, value]| (FromJson(key), FromJson(value)));
-        visitor.visit_map(MapDeserializer::new(pairs))
+        match self.at.entered().shape {
+            Shape::Map(_) | Shape::Struct(_) => self.deserialize_any(visitor),
+            _ => self.unfit("a map"),
+        }
     }
 
-    fn deserialize_newtype_struct<V: Visitor<'de>>(self, _: &'static str, visitor: V) -> Result<V::Value, Mismatch> {
-        visitor.visit_newtype_struct(self)
+    fn deserialize_struct<V: Visitor<'de>>(
+        self,
+        _: &'static str,
+        _: &'static [&'static str],
+        visitor: V,
+    ) -> Result<V::Value, Mismatch> {
+        match self.at.entered().shape {
+            Shape::Struct(_) => self.deserialize_any(visitor),
+            _ => self.unfit("a struct"),
+        }
     }
 
     fn deserialize_enum<V: Visitor<'de>>(
@@ -175,64 +238,208 @@ impl<'de> Deserializer<'de> for FromJson {
         _: &'static [&'static str],
         visitor: V,
     ) -> Result<V::Value, Mismatch> {
-        let (name, payload) = match self.0 {
-            Value::String(name) => (name, None),
-            Value::Object(members) => {
-                let member = members.into_iter().next();
-                let (name, value) = member.ok_or_else(|| Mismatch::new("a variant has a name"))?;
-                (name, Some(value))
-            }
-            _ => return Err(Mismatch::new("a variant is its name, or an object with one member of that name")),
+        let reader = self.entered();
+        let Shape::Enum(variants) = reader.at.shape else {
+            return reader.unfit("an enum");
         };
-        visitor.visit_enum(Variant { name, payload })
+        let (name, payload) = match reader.json {
+            Value::String(name) => (name, None),
+            Value::Object(members) => match members.into_iter().next() {
+                Some((name, payload)) => (name, Some(payload)),
+                None => return other_json(),
+            },
+            _ => return other_json(),
+        };
+        let at = reader.at.to(variants.get(&name).unwrap_or(&VOID));
+        let shape = reader.at.shape;
+        visitor.visit_enum(Variant { at, name, payload }).map_err(|error: Mismatch| error.of_format(shape))
     }
 
-    forward_to_deserialize_any! { bool f32 f64 char str string unit unit_struct struct identifier ignored_any }
+    forward_to_deserialize_any! { bool u8 unit unit_struct identifier }
 }
 
-struct Variant {
+/// The formats of a list's elements.
+enum Parts<'w> {
+    Same(&'w Shape),
+    Own(&'w [Shape]),
+}
+
+struct Items<'w> {
+    at: At<'w>,
+    parts: Parts<'w>,
+    values: vec::IntoIter<Value>,
+    count: usize,
+}
+
+impl<'de> SeqAccess<'de> for Items<'_> {
+    type Error = Mismatch;
+
+    fn next_element_seed<T: DeserializeSeed<'de>>(&mut self, seed: T) -> Result<Option<T::Value>, Mismatch> {
+        let Some(json) = self.values.next() else {
+            return Ok(None);
+        };
+        let shape = match self.parts {
+            Parts::Same(shape) => shape,
+            Parts::Own(all) => all.get(self.count).unwrap_or(&VOID),
+        };
+        let place = self.count;
+        self.count += 1;
+        let element = seed.deserialize(Reader { at: self.at.to(shape), json });
+        element.map(Some).map_err(|error| error.under(place))
+    }
+
+    fn size_hint(&self) -> Option<usize> {
+        Some(self.values.len())
+    }
+}
+
+/// The members of an object, for fields or for the one variant.
+struct Members<'w> {
+    at: At<'w>,
+    parts: &'w HashMap<String, Shape>,
+    members: map::IntoIter,
+    next: Option<(String, Value)>,
+}
+
+fn visit_members<'de, V: Visitor<'de>>(
+    at: At,
+    parts: &HashMap<String, Shape>,
+    members: Map<String, Value>,
+    visitor: V,
+) -> Result<V::Value, Mismatch> {
+    visitor.visit_map(Members { at, parts, members: members.into_iter(), next: None })
+}
+
+impl<'de> MapAccess<'de> for Members<'_> {
+    type Error = Mismatch;
+
+    fn next_key_seed<K: DeserializeSeed<'de>>(&mut self, seed: K) -> Result<Option<K::Value>, Mismatch> {
+        self.next = self.members.next();
+        let Some((name, _)) = &self.next else {
+            return Ok(None);
+        };
+        seed.deserialize(Reader { at: self.at.to(&FIELD_NAME), json: name.as_str().into() }).map(Some)
+    }
+
+    fn next_value_seed<T: DeserializeSeed<'de>>(&mut self, seed: T) -> Result<T::Value, Mismatch> {
+        let Some((name, json)) = self.next.take() else {
+            return Err(Mismatch::new("a map's value came before its key"));
+        };
+        let shape = self.parts.get(&name).unwrap_or(&VOID);
+        seed.deserialize(Reader { at: self.at.to(shape), json }).map_err(|error| error.under(name))
+    }
+
+    fn size_hint(&self) -> Option<usize> {
+        Some(self.members.len())
+    }
+}
+
+/// The entries of a map, each an array of a key and its value.
+struct Entries<'w> {
+    pair: At<'w>,
+    entries: vec::IntoIter<Value>,
+    value: Option<Value>,
+    count: usize,
+}
+
+fn visit_entries<'de, V: Visitor<'de>>(pair: At, entries: Vec<Value>, visitor: V) -> Result<V::Value, Mismatch> {
+    visitor.visit_map(Entries { pair, entries: entries.into_iter(), value: None, count: 0 })
+}
+
+impl Entries<'_> {
+    /// Reads a half of the entry: 0 is the key, and 1 the value.
+    fn half<'de, T: DeserializeSeed<'de>>(&self, half: usize, json: Value, seed: T) -> Result<T::Value, Mismatch> {
+        let Shape::Tuple(halves) = self.pair.shape else {
+            return other_json();
+        };
+        let half_of = Reader { at: self.pair.to(&halves[half]), json };
+        seed.deserialize(half_of).map_err(|error| error.under(half).under(self.count))
+    }
+}
+
+impl<'de> MapAccess<'de> for Entries<'_> {
+    type Error = Mismatch;
+
+    fn next_key_seed<K: DeserializeSeed<'de>>(&mut self, seed: K) -> Result<Option<K::Value>, Mismatch> {
+        let Some(entry) = self.entries.next() else {
+            return Ok(None);
+        };
+        let Some([key, value]) = entry_of(entry) else {
+            return other_json();
+        };
+        self.value = Some(value);
+        self.half(0, key, seed).map(Some)
+    }
+
+    fn next_value_seed<T: DeserializeSeed<'de>>(&mut self, seed: T) -> Result<T::Value, Mismatch> {
+        let Some(json) = self.value.take() else {
+            return Err(Mismatch::new("a map's value came before its key"));
+        };
+        let value = self.half(1, json, seed);
+        self.count += 1;
+        value
+    }
+
+    fn size_hint(&self) -> Option<usize> {
+        Some(self.entries.len())
+    }
+}
+
+fn entry_of(json: Value) -> Option<[Value; 2]> {
+    match json {
+        Value::Array(pair) => pair.try_into().ok(),
+        _ => None,
+    }
+}
+
+struct Variant<'w> {
+    /// At the payload.
+    at: At<'w>,
     name: String,
+    /// `None` where the JSON is the name alone.
     payload: Option<Value>,
 }
 
-impl<'de> de::EnumAccess<'de> for Variant {
+impl<'de, 'w> de::EnumAccess<'de> for Variant<'w> {
     type Error = Mismatch;
-    type Variant = Payload;
+    type Variant = Variant<'w>;
 
-    fn variant_seed<V: DeserializeSeed<'de>>(self, seed: V) -> Result<(V::Value, Payload), Mismatch> {
-        let name: StringDeserializer<Mismatch> = self.name.into_deserializer();
-        Ok((seed.deserialize(name)?, Payload(self.payload)))
+    fn variant_seed<V: DeserializeSeed<'de>>(self, seed: V) -> Result<(V::Value, Variant<'w>), Mismatch> {
+        let name = Reader { at: self.at.to(&FIELD_NAME), json: self.name.as_str().into() };
+        Ok((seed.deserialize(name)?, self))
     }
 }
 
-struct Payload(Option<Value>);
-
-impl Payload {
-    fn json(self) -> Result<FromJson, Mismatch> {
-        self.0.map(FromJson).ok_or_else(|| Mismatch::new("the variant carries something"))
+impl<'w> Variant<'w> {
+    fn read<T>(self, read: impl FnOnce(Reader<'w>) -> Result<T, Mismatch>) -> Result<T, Mismatch> {
+        let payload = Reader { at: self.at, json: self.payload.unwrap_or_default() };
+        read(payload).map_err(|error| error.under(self.name))
     }
 }
 
-impl<'de> VariantAccess<'de> for Payload {
+impl<'de> VariantAccess<'de> for Variant<'_> {
     type Error = Mismatch;
 
     fn unit_variant(self) -> Result<(), Mismatch> {
-        if self.0.is_none_or(|payload| payload.is_null()) {
-            Ok(())
-        } else {
-            Err(Mismatch::new("the variant carries nothing"))
+        match self.payload {
+            None => Ok(()),
+            Some(_) => self.read(|payload| payload.entered().unfit("a variant without a payload")),
         }
     }
 
     fn newtype_variant_seed<T: DeserializeSeed<'de>>(self, seed: T) -> Result<T::Value, Mismatch> {
-        seed.deserialize(self.json()?)
+        self.read(|payload| seed.deserialize(payload))
     }
 
     fn tuple_variant<V: Visitor<'de>>(self, _: usize, visitor: V) -> Result<V::Value, Mismatch> {
-        self.json()?.deserialize_seq(visitor)
+        self.read(|payload| payload.deserialize_seq(visitor))
     }
 
-    fn struct_variant<V: Visitor<'de>>(self, _: &'static [&'static str], visitor: V) -> Result<V::Value, Mismatch> {
-        self.json()?.deserialize_any(visitor)
+    fn struct_variant<V: Visitor<'de>>(
+        self,
+        fields: &'static [&'static str],
+        visitor: V,
+    ) -> Result<V::Value, Mismatch> {
+        self.read(|payload| payload.deserialize_struct("", fields, visitor))
     }
 }

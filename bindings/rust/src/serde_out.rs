@@ -1,95 +1,256 @@
-//! Values of `serde` as the JSON that spells them: an option is null or an object, a map an array of entries, bytes are
-//! digits, and numbers beyond 64 bits are strings.
-use crate::serde_in::Mismatch;
+//! Values of `serde` types as the JSON that the library reads, by the format: what isn't of the format's kind is rejected
+//! here, and everything else (ranges, lengths, fields, variants) by the library.
+use crate::mismatch::Mismatch;
+use crate::shapes::{At, FIELD_NAME, OCTET, Shape, VOID};
 use serde::ser::{self, Serialize, Serializer};
-use serde_json::{Map, Value};
+use std::collections::HashMap;
+use std::fmt::{self, Write};
 
 /// The JSON of a value.
-pub(crate) fn json_of<T: Serialize + ?Sized>(value: &T) -> Result<Value, Mismatch> {
-    value.serialize(ToJson)
+pub(crate) fn json_of<T: Serialize + ?Sized>(value: &T, at: At) -> Result<String, Mismatch> {
+    let mut out = String::new();
+    value.serialize(Writer { at, nested: 0, out: &mut out })?;
+    Ok(out)
 }
 
-struct ToJson;
+/// How deep arrays and objects may nest, which the library checks, too. Here it keeps a value from exhausting the stack.
+const NESTING: u32 = 100;
 
-/// Items, of a variant if there is one.
-pub(crate) struct Items(Option<&'static str>, Vec<Value>);
+/// What the library rejects wherever it is: it stands where a value is rejected in any case.
+const NO_VALUE: &str = "0.5";
 
-/// Fields, of a variant if there is one.
-pub(crate) struct Fields(Option<&'static str>, Map<String, Value>);
+/// What a value is.
+#[derive(Clone, Copy, PartialEq)]
+enum Kind {
+    Unit,
+    Bool,
+    Integer,
+    Text,
+    Bytes,
+    None,
+    Variant,
+    /// What no format has.
+    Float,
+    Char,
+}
 
-/// The entries of a map, and the key of the next one.
-pub(crate) struct Entries(Vec<Value>, Option<Value>);
+/// Whether a value of this kind without parts is one of the format's kind.
+fn fits(shape: &Shape, kind: Kind) -> bool {
+    match kind {
+        Kind::Unit => matches!(shape, Shape::Unit),
+        Kind::Bool => matches!(shape, Shape::Bool),
+        Kind::Integer => matches!(shape, Shape::Integer(_)),
+        Kind::Text => {
+            matches!(shape, Shape::Str | Shape::FieldName | Shape::Integer(_) | Shape::Enum(_))
+                || fits(shape, Kind::Bytes)
+        }
+        Kind::Bytes => matches!(shape, Shape::Bytes) || shape.is_octets(),
+        Kind::None => matches!(shape, Shape::Option(_)),
+        Kind::Variant => matches!(shape, Shape::Enum(_)),
+        Kind::Float | Kind::Char => false,
+    }
+}
 
-fn of_variant(variant: Option<&'static str>, value: Value) -> Value {
+/// A JSON string.
+struct Quoted<'t>(&'t str);
+
+impl fmt::Display for Quoted<'_> {
+    fn fmt(&self, f: &mut fmt::Formatter<'_>) -> fmt::Result {
+        f.write_str(&serde_json::to_string(self.0).map_err(|_| fmt::Error)?)
+    }
+}
+
+/// A JSON string of hexadecimal digits.
+struct Digits<'t>(&'t [u8]);
+
+impl fmt::Display for Digits<'_> {
+    fn fmt(&self, f: &mut fmt::Formatter<'_>) -> fmt::Result {
+        f.write_char('"')?;
+        self.0.iter().try_for_each(|byte| write!(f, "{byte:02x}"))?;
+        f.write_char('"')
+    }
+}
+
+/// Writes a value of the format.
+pub(crate) struct Writer<'w> {
+    at: At<'w>,
+    /// How many arrays and objects are open.
+    nested: u32,
+    out: &'w mut String,
+}
+
+impl<'w> Writer<'w> {
+    /// Writes a value without parts.
+    fn put(self, kind: Kind, found: &str, json: impl fmt::Display) -> Result<(), Mismatch> {
+        match self.at.entered().shape {
+            Shape::Void => self.out.push_str(NO_VALUE),
+            shape if fits(shape, kind) => write!(self.out, "{json}").map_err(Mismatch::new)?,
+            shape => return Err(Mismatch::unfit(shape, found)),
+        }
+        Ok(())
+    }
+
+    /// Opens an array or an object.
+    fn open(&mut self, sign: char) -> Result<(), Mismatch> {
+        if self.nested == NESTING {
+            return Err(Mismatch::too_nested());
+        }
+        self.nested += 1;
+        self.out.push(sign);
+        Ok(())
+    }
+
+    /// Writes an object with one member.
+    fn put_member<T: Serialize + ?Sized>(mut self, name: &str, shape: &'w Shape, value: &T) -> Result<(), Mismatch> {
+        self.open('{')?;
+        write!(self.out, "{}:", Quoted(name)).map_err(Mismatch::new)?;
+        let part = Writer { at: self.at.to(shape), nested: self.nested, out: &mut *self.out };
+        value.serialize(part).map_err(|error| error.under(name))?;
+        self.out.push('}');
+        Ok(())
+    }
+
+    /// At the payload of a variant, whose object is open then. `end_variant` closes it.
+    fn variant(mut self, name: &str) -> Result<Writer<'w>, Mismatch> {
+        let at = self.at.entered();
+        self.at = match at.shape {
+            Shape::Enum(variants) => at.to(variants.get(name).unwrap_or(&VOID)),
+            Shape::Void => at,
+            shape => return Err(Mismatch::unfit(shape, "a variant")),
+        };
+        self.open('{')?;
+        write!(self.out, "{}:", Quoted(name)).map_err(Mismatch::new)?;
+        Ok(self)
+    }
+
+    fn items(mut self, found: &str, variant: Option<&'static str>) -> Result<Items<'w>, Mismatch> {
+        self.at = self.at.entered();
+        let parts = match self.at.shape {
+            Shape::Seq(content) | Shape::Array(content) | Shape::Map(content) => Parts::Same(content),
+            Shape::Tuple(all) => Parts::Own(all),
+            Shape::Bytes => Parts::Same(&OCTET),
+            Shape::Void => Parts::Void,
+            shape => return Err(Mismatch::unfit(shape, found)),
+        };
+        match parts {
+            Parts::Same(Shape::Octet) => self.out.push('"'),
+            Parts::Void => self.out.push_str(NO_VALUE),
+            _ => self.open('[')?,
+        }
+        Ok(Items { writer: self, parts, count: 0, variant })
+    }
+
+    fn fields(mut self, found: &str, variant: Option<&'static str>) -> Result<Fields<'w>, Mismatch> {
+        self.at = self.at.entered();
+        let fields = match self.at.shape {
+            Shape::Struct(fields) => Some(fields),
+            Shape::Void => None,
+            shape => return Err(Mismatch::unfit(shape, found)),
+        };
+        match fields {
+            Some(_) => self.open('{')?,
+            None => self.out.push_str(NO_VALUE),
+        }
+        Ok(Fields { writer: self, fields, count: 0, known: 0, variant })
+    }
+}
+
+/// Closes the object of a variant, if there is one.
+fn end_variant(variant: Option<&str>, out: &mut String) {
+    if variant.is_some() {
+        out.push('}');
+    }
+}
+
+/// The error of a part, below the variant that has it.
+fn in_variant(variant: Option<&str>, error: Mismatch) -> Mismatch {
     match variant {
-        Some(name) => Value::Object(Map::from_iter([(name.to_owned(), value)])),
-        None => value,
+        Some(name) => error.under(name),
+        None => error,
     }
 }
 
 macro_rules! numbers {
-    ($($name:ident: $number:ty,)*) => {
-        $(fn $name(self, number: $number) -> Result<Value, Mismatch> { Ok(number.into()) })*
+    ($($name:ident: $number:ty, $kind:ident, $found:literal, $json:literal;)*) => {
+        $(fn $name(self, number: $number) -> Result<(), Mismatch> {
+            self.put(Kind::$kind, $found, format_args!($json, number))
+        })*
     };
 }
 
-impl Serializer for ToJson {
-    type Ok = Value;
+impl<'w> Serializer for Writer<'w> {
+    type Ok = ();
     type Error = Mismatch;
-    type SerializeSeq = Items;
-    type SerializeTuple = Items;
-    type SerializeTupleStruct = Items;
-    type SerializeTupleVariant = Items;
-    type SerializeMap = Entries;
-    type SerializeStruct = Fields;
-    type SerializeStructVariant = Fields;
+    type SerializeSeq = Items<'w>;
+    type SerializeTuple = Items<'w>;
+    type SerializeTupleStruct = Items<'w>;
+    type SerializeTupleVariant = Items<'w>;
+    type SerializeMap = Entries<'w>;
+    type SerializeStruct = Fields<'w>;
+    type SerializeStructVariant = Fields<'w>;
 
     numbers! {
-        serialize_bool: bool,
-        serialize_i8: i8, serialize_i16: i16, serialize_i32: i32, serialize_i64: i64,
-        serialize_u8: u8, serialize_u16: u16, serialize_u32: u32, serialize_u64: u64,
-        serialize_f32: f32, serialize_f64: f64,
-        serialize_str: &str,
+        serialize_bool: bool, Bool, "a bool", "{}";
+        serialize_i8: i8, Integer, "an i8", "{}";
+        serialize_i16: i16, Integer, "an i16", "{}";
+        serialize_i32: i32, Integer, "an i32", "{}";
+        serialize_i64: i64, Integer, "an i64", "{}";
+        serialize_i128: i128, Integer, "an i128", "\"{}\"";
+        serialize_u16: u16, Integer, "a u16", "{}";
+        serialize_u32: u32, Integer, "a u32", "{}";
+        serialize_u64: u64, Integer, "a u64", "{}";
+        serialize_u128: u128, Integer, "a u128", "\"{}\"";
+        serialize_f32: f32, Float, "an f32", "{}";
+        serialize_f64: f64, Float, "an f64", "{}";
+        serialize_char: char, Char, "a char", "{}";
     }
 
-    fn serialize_i128(self, number: i128) -> Result<Value, Mismatch> {
-        Ok(number.to_string().into())
+    /// Registries have the binary form of types that have two, such as addresses.
+    fn is_human_readable(&self) -> bool {
+        false
     }
 
-    fn serialize_u128(self, number: u128) -> Result<Value, Mismatch> {
-        Ok(number.to_string().into())
+    fn serialize_u8(self, number: u8) -> Result<(), Mismatch> {
+        match self.at.shape {
+            Shape::Octet => write!(self.out, "{number:02x}").map_err(Mismatch::new),
+            _ => self.put(Kind::Integer, "a u8", number),
+        }
     }
 
-    fn serialize_char(self, character: char) -> Result<Value, Mismatch> {
-        Ok(character.to_string().into())
+    fn serialize_str(self, text: &str) -> Result<(), Mismatch> {
+        self.put(Kind::Text, "a string", Quoted(text))
     }
 
-    fn serialize_bytes(self, bytes: &[u8]) -> Result<Value, Mismatch> {
-        Ok(bytes.iter().map(|byte| format!("{byte:02x}")).collect::<String>().into())
+    fn serialize_bytes(self, bytes: &[u8]) -> Result<(), Mismatch> {
+        self.put(Kind::Bytes, "bytes", Digits(bytes))
     }
 
-    fn serialize_none(self) -> Result<Value, Mismatch> {
-        Ok(Value::Null)
+    fn serialize_none(self) -> Result<(), Mismatch> {
+        self.put(Kind::None, "None", "null")
     }
 
-    fn serialize_some<T: Serialize + ?Sized>(self, value: &T) -> Result<Value, Mismatch> {
-        Ok(of_variant(Some("some"), json_of(value)?))
+    fn serialize_some<T: Serialize + ?Sized>(mut self, value: &T) -> Result<(), Mismatch> {
+        self.at = self.at.entered();
+        match self.at.shape {
+            Shape::Option(content) => self.put_member("some", content, value),
+            _ => self.put(Kind::None, "Some", "null"),
+        }
     }
 
-    fn serialize_unit(self) -> Result<Value, Mismatch> {
-        Ok(Value::Null)
+    fn serialize_unit(self) -> Result<(), Mismatch> {
+        self.put(Kind::Unit, "()", "null")
     }
 
-    fn serialize_unit_struct(self, _: &'static str) -> Result<Value, Mismatch> {
-        Ok(Value::Null)
+    fn serialize_unit_struct(self, _: &'static str) -> Result<(), Mismatch> {
+        self.put(Kind::Unit, "a unit struct", "null")
     }
 
-    fn serialize_unit_variant(self, _: &'static str, _: u32, variant: &'static str) -> Result<Value, Mismatch> {
-        Ok(variant.into())
+    fn serialize_unit_variant(self, _: &'static str, _: u32, variant: &'static str) -> Result<(), Mismatch> {
+        self.put(Kind::Variant, "a variant", Quoted(variant))
     }
 
-    fn serialize_newtype_struct<T: Serialize + ?Sized>(self, _: &'static str, value: &T) -> Result<Value, Mismatch> {
-        json_of(value)
+    fn serialize_newtype_struct<T: Serialize + ?Sized>(self, _: &'static str, value: &T) -> Result<(), Mismatch> {
+        value.serialize(self)
     }
 
     fn serialize_newtype_variant<T: Serialize + ?Sized>(
@@ -98,20 +259,24 @@ impl Serializer for ToJson {
         _: u32,
         variant: &'static str,
         value: &T,
-    ) -> Result<Value, Mismatch> {
-        Ok(of_variant(Some(variant), json_of(value)?))
+    ) -> Result<(), Mismatch> {
+        let payload = self.variant(variant)?;
+        let part = Writer { out: &mut *payload.out, ..payload };
+        value.serialize(part).map_err(|error| error.under(variant))?;
+        payload.out.push('}');
+        Ok(())
     }
 
-    fn serialize_seq(self, _: Option<usize>) -> Result<Items, Mismatch> {
-        Ok(Items(None, Vec::new()))
+    fn serialize_seq(self, _: Option<usize>) -> Result<Items<'w>, Mismatch> {
+        self.items("a list", None)
     }
 
-    fn serialize_tuple(self, _: usize) -> Result<Items, Mismatch> {
-        Ok(Items(None, Vec::new()))
+    fn serialize_tuple(self, _: usize) -> Result<Items<'w>, Mismatch> {
+        self.items("a tuple", None)
     }
 
-    fn serialize_tuple_struct(self, _: &'static str, _: usize) -> Result<Items, Mismatch> {
-        Ok(Items(None, Vec::new()))
+    fn serialize_tuple_struct(self, _: &'static str, _: usize) -> Result<Items<'w>, Mismatch> {
+        self.items("a tuple struct", None)
     }
 
     fn serialize_tuple_variant(
@@ -120,16 +285,23 @@ impl Serializer for ToJson {
         _: u32,
         variant: &'static str,
         _: usize,
-    ) -> Result<Items, Mismatch> {
-        Ok(Items(Some(variant), Vec::new()))
+    ) -> Result<Items<'w>, Mismatch> {
+        self.variant(variant)?.items("a tuple", Some(variant)).map_err(|error| error.under(variant))
     }
 
-    fn serialize_map(self, _: Option<usize>) -> Result<Entries, Mismatch> {
-        Ok(Entries(Vec::new(), None))
+    fn serialize_map(mut self, _: Option<usize>) -> Result<Entries<'w>, Mismatch> {
+        self.at = self.at.entered();
+        match self.at.shape {
+            Shape::Map(pair) => {
+                self.open('[')?;
+                Ok(Entries::Pairs { writer: self, pair, count: 0, has_key: false })
+            }
+            _ => Ok(Entries::Fields { fields: self.fields("a map", None)?, name: None }),
+        }
     }
 
-    fn serialize_struct(self, _: &'static str, _: usize) -> Result<Fields, Mismatch> {
-        Ok(Fields(None, Map::new()))
+    fn serialize_struct(self, _: &'static str, _: usize) -> Result<Fields<'w>, Mismatch> {
+        self.fields("a struct", None)
     }
 
     fn serialize_struct_variant(
@@ -138,24 +310,67 @@ impl Serializer for ToJson {
         _: u32,
         variant: &'static str,
         _: usize,
-    ) -> Result<Fields, Mismatch> {
-        Ok(Fields(Some(variant), Map::new()))
+    ) -> Result<Fields<'w>, Mismatch> {
+        self.variant(variant)?.fields("a struct", Some(variant)).map_err(|error| error.under(variant))
+    }
+}
+
+/// The formats of a list's elements.
+#[derive(Clone, Copy)]
+enum Parts<'w> {
+    Same(&'w Shape),
+    Own(&'w [Shape]),
+    Void,
+}
+
+/// Writes a list, of a variant if there is one.
+pub(crate) struct Items<'w> {
+    writer: Writer<'w>,
+    parts: Parts<'w>,
+    count: usize,
+    variant: Option<&'static str>,
+}
+
+impl Items<'_> {
+    fn item<T: Serialize + ?Sized>(&mut self, value: &T) -> Result<(), Mismatch> {
+        let shape = match self.parts {
+            Parts::Same(shape) => shape,
+            Parts::Own(all) => all.get(self.count).unwrap_or(&VOID),
+            Parts::Void => return Ok(()),
+        };
+        let Writer { at, nested, out } = &mut self.writer;
+        if self.count > 0 && !matches!(shape, Shape::Octet) {
+            out.push(',');
+        }
+        let part = Writer { at: at.to(shape), nested: *nested, out };
+        value.serialize(part).map_err(|error| in_variant(self.variant, error.under(self.count)))?;
+        self.count += 1;
+        Ok(())
+    }
+
+    fn finish(self) {
+        match self.parts {
+            Parts::Same(Shape::Octet) => self.writer.out.push('"'),
+            Parts::Void => {}
+            _ => self.writer.out.push(']'),
+        }
+        end_variant(self.variant, self.writer.out);
     }
 }
 
 macro_rules! items {
     ($($part:ident: $trait:ident,)*) => {
-        $(impl ser::$trait for Items {
-            type Ok = Value;
+        $(impl ser::$trait for Items<'_> {
+            type Ok = ();
             type Error = Mismatch;
 
             fn $part<T: Serialize + ?Sized>(&mut self, value: &T) -> Result<(), Mismatch> {
-                self.1.push(json_of(value)?);
-                Ok(())
+                self.item(value)
             }
 
-            fn end(self) -> Result<Value, Mismatch> {
-                Ok(of_variant(self.0, Value::Array(self.1)))
+            fn end(self) -> Result<(), Mismatch> {
+                self.finish();
+                Ok(())
             }
         })*
     };
@@ -168,19 +383,60 @@ items! {
     serialize_field: SerializeTupleVariant,
 }
 
+/// Writes fields, of a variant if there is one.
+pub(crate) struct Fields<'w> {
+    writer: Writer<'w>,
+    /// `None` where the library rejects every value.
+    fields: Option<&'w HashMap<String, Shape>>,
+    count: usize,
+    /// How many of them the registry has.
+    known: usize,
+    variant: Option<&'static str>,
+}
+
+impl Fields<'_> {
+    fn field<T: Serialize + ?Sized>(&mut self, name: &str, value: &T) -> Result<(), Mismatch> {
+        let Some(fields) = self.fields else {
+            return Ok(());
+        };
+        let shape = fields.get(name).unwrap_or(&VOID);
+        self.known += usize::from(fields.contains_key(name));
+        let Writer { at, nested, out } = &mut self.writer;
+        let comma = if self.count > 0 { "," } else { "" };
+        write!(out, "{comma}{}:", Quoted(name)).map_err(Mismatch::new)?;
+        let part = Writer { at: at.to(shape), nested: *nested, out };
+        value.serialize(part).map_err(|error| in_variant(self.variant, error.under(name)))?;
+        self.count += 1;
+        Ok(())
+    }
+
+    /// Of two members with one name the library reads the last. So a field that comes twice is rejected here: either there
+    /// are more than the registry has, or another is missing.
+    fn finish(self) -> Result<(), Mismatch> {
+        if let Some(fields) = self.fields {
+            if self.known > fields.len() {
+                let error = Mismatch::new("STRUCT takes each field once");
+                return Err(in_variant(self.variant, error));
+            }
+            self.writer.out.push('}');
+        }
+        end_variant(self.variant, self.writer.out);
+        Ok(())
+    }
+}
+
 macro_rules! fields {
     ($($trait:ident,)*) => {
-        $(impl ser::$trait for Fields {
-            type Ok = Value;
+        $(impl ser::$trait for Fields<'_> {
+            type Ok = ();
             type Error = Mismatch;
 
             fn serialize_field<T: Serialize + ?Sized>(&mut self, name: &'static str, value: &T) -> Result<(), Mismatch> {
-                self.1.insert(name.to_owned(), json_of(value)?);
-                Ok(())
+                self.field(name, value)
             }
 
-            fn end(self) -> Result<Value, Mismatch> {
-                Ok(of_variant(self.0, Value::Object(self.1)))
+            fn end(self) -> Result<(), Mismatch> {
+                self.finish()
             }
         })*
     };
@@ -188,22 +444,91 @@ macro_rules! fields {
 
 fields! { SerializeStruct, SerializeStructVariant, }
 
-impl ser::SerializeMap for Entries {
-    type Ok = Value;
+/// Writes a map: an array of pairs, or the fields of a struct, which is a map if it has flattened parts.
+pub(crate) enum Entries<'w> {
+    Pairs { writer: Writer<'w>, pair: &'w Shape, count: usize, has_key: bool },
+    Fields { fields: Fields<'w>, name: Option<String> },
+}
+
+impl Entries<'_> {
+    fn has_key(&self) -> bool {
+        match self {
+            Entries::Pairs { has_key, .. } => *has_key,
+            Entries::Fields { name, .. } => name.is_some(),
+        }
+    }
+}
+
+/// A key or a value of a map's entry.
+fn put_half<T: Serialize + ?Sized>(
+    writer: &mut Writer,
+    pair: &Shape,
+    half: usize,
+    count: usize,
+    value: &T,
+) -> Result<(), Mismatch> {
+    let Shape::Tuple(halves) = pair else {
+        return Err(Mismatch::new("a map's entry is a pair"));
+    };
+    let part = Writer { at: writer.at.to(&halves[half]), nested: writer.nested, out: &mut *writer.out };
+    value.serialize(part).map_err(|error| error.under(half).under(count))
+}
+
+impl ser::SerializeMap for Entries<'_> {
+    type Ok = ();
     type Error = Mismatch;
 
     fn serialize_key<T: Serialize + ?Sized>(&mut self, key: &T) -> Result<(), Mismatch> {
-        self.1 = Some(json_of(key)?);
+        if self.has_key() {
+            return Err(Mismatch::new("a map's key has no value"));
+        }
+        match self {
+            Entries::Pairs { writer, pair, count, has_key } => {
+                if *count > 0 {
+                    writer.out.push(',');
+                }
+                writer.open('[')?;
+                put_half(writer, pair, 0, *count, key)?;
+                writer.out.push(',');
+                *has_key = true;
+            }
+            Entries::Fields { fields, name } => {
+                let mut text = String::new();
+                let at = fields.writer.at.to(&FIELD_NAME);
+                key.serialize(Writer { at, nested: fields.writer.nested, out: &mut text })?;
+                *name = Some(serde_json::from_str(&text).map_err(Mismatch::new)?);
+            }
+        }
         Ok(())
     }
 
     fn serialize_value<T: Serialize + ?Sized>(&mut self, value: &T) -> Result<(), Mismatch> {
-        let key = self.1.take().ok_or_else(|| Mismatch::new("a map's value came before its key"))?;
-        self.0.push(Value::Array(vec![key, json_of(value)?]));
-        Ok(())
+        if !self.has_key() {
+            return Err(Mismatch::new("a map's value came before its key"));
+        }
+        match self {
+            Entries::Pairs { writer, pair, count, has_key } => {
+                put_half(writer, pair, 1, *count, value)?;
+                writer.out.push(']');
+                writer.nested -= 1;
+                *count += 1;
+                *has_key = false;
+                Ok(())
+            }
+            Entries::Fields { fields, name } => fields.field(&name.take().unwrap_or_default(), value),
+        }
     }
 
-    fn end(self) -> Result<Value, Mismatch> {
-        Ok(Value::Array(self.0))
+    fn end(self) -> Result<(), Mismatch> {
+        if self.has_key() {
+            return Err(Mismatch::new("a map's key has no value"));
+        }
+        match self {
+            Entries::Pairs { writer, .. } => {
+                writer.out.push(']');
+                Ok(())
+            }
+            Entries::Fields { fields, .. } => fields.finish(),
+        }
     }
 }

@@ -1,11 +1,7 @@
-//! The library's calls, as its header `bcs.h` declares them, over slices. All that is unsafe in this crate stands here.
+//! The library's calls, as its header `bcs.h` declares them, over slices. This module holds all unsafe code of the crate.
 #![allow(unsafe_code)]
 
-use crate::limits::Limits;
-use std::ffi::c_void;
-use std::marker::PhantomData;
-use std::ptr;
-use std::sync::{Mutex, PoisonError};
+use std::ptr::{self, NonNull};
 
 // How a call went: `enum bcs_status`.
 pub(crate) const DONE: u32 = 0;
@@ -32,20 +28,10 @@ pub(crate) const WANTED: u32 = 1;
 /// The one fault of `enum bcs_fault` that belongs to no enum of `faults`, beside that of a path, which its status tells.
 pub(crate) const SHOWN_TOO_NESTED: u32 = 501;
 
-/// `bcs_handle`: the place where a registry is open between calls. It is closed where it goes.
+/// `bcs_handle`: an open registry. Only the library looks inside.
 #[repr(C)]
-pub(crate) struct Handle {
-    registry: *mut c_void,
-}
-
-/// `bcs_handle_ask`: what a call on an open registry is asked for, beside its input.
-#[repr(C)]
-struct HandleAsk<'a> {
-    format: *const u8,
-    format_length: usize,
-    depth: u32,
-    nodes: u32,
-    borrowed: PhantomData<&'a [u8]>,
+struct Handle {
+    opaque: [u8; 0],
 }
 
 /// `bcs_answer`: what a call answers.
@@ -59,54 +45,81 @@ pub(crate) struct Answer {
 }
 
 unsafe extern "C" {
-    fn bcs_open(handle: &mut Handle, registry: *const u8, registry_length: usize) -> Answer;
-    fn bcs_close(handle: &mut Handle);
+    fn bcs_open(handle: *mut *mut Handle, registry: *const u8, registry_length: usize) -> Answer;
+    fn bcs_close(handle: *mut Handle);
     fn bcs_grows(older: *const u8, older_length: usize, newer: *const u8, newer_length: usize) -> Answer;
-    fn bcs_handle_check(handle: &mut Handle, ask: &HandleAsk<'_>) -> Answer;
+    fn bcs_handle_check(handle: *mut Handle, format: *const u8, format_length: usize, depth: u32, nodes: u32)
+    -> Answer;
     fn bcs_handle_to_bcs(
-        handle: &mut Handle,
-        ask: &HandleAsk<'_>,
+        handle: *mut Handle,
+        format: *const u8,
+        format_length: usize,
+        depth: u32,
+        nodes: u32,
         text: *const u8,
         text_length: usize,
         out: *mut u8,
         out_length: usize,
     ) -> Answer;
     fn bcs_handle_from_bcs(
-        handle: &mut Handle,
-        ask: &HandleAsk<'_>,
+        handle: *mut Handle,
+        format: *const u8,
+        format_length: usize,
+        depth: u32,
+        nodes: u32,
         bytes: *const u8,
         bytes_length: usize,
         out: *mut u8,
         out_length: usize,
     ) -> Answer;
     fn bcs_handle_normalise(
-        handle: &mut Handle,
-        ask: &HandleAsk<'_>,
+        handle: *mut Handle,
+        format: *const u8,
+        format_length: usize,
+        depth: u32,
+        nodes: u32,
         text: *const u8,
         text_length: usize,
         out: *mut u8,
         out_length: usize,
     ) -> Answer;
     fn bcs_handle_compare(
-        handle: &mut Handle,
-        ask: &HandleAsk<'_>,
+        handle: *mut Handle,
+        format: *const u8,
+        format_length: usize,
+        depth: u32,
+        nodes: u32,
         first: *const u8,
         first_length: usize,
         second: *const u8,
         second_length: usize,
     ) -> Answer;
-    fn bcs_handle_scan(handle: &mut Handle, ask: &HandleAsk<'_>, bytes: *const u8, bytes_length: usize) -> Answer;
+    fn bcs_handle_scan(
+        handle: *mut Handle,
+        format: *const u8,
+        format_length: usize,
+        depth: u32,
+        nodes: u32,
+        bytes: *const u8,
+        bytes_length: usize,
+    ) -> Answer;
     fn bcs_handle_part(
-        handle: &mut Handle,
-        ask: &HandleAsk<'_>,
+        handle: *mut Handle,
+        format: *const u8,
+        format_length: usize,
+        depth: u32,
+        nodes: u32,
         bytes: *const u8,
         bytes_length: usize,
         path: *const u8,
         path_length: usize,
     ) -> Answer;
     fn bcs_handle_explain(
-        handle: &mut Handle,
-        ask: &HandleAsk<'_>,
+        handle: *mut Handle,
+        format: *const u8,
+        format_length: usize,
+        depth: u32,
+        nodes: u32,
         form: u32,
         bytes: *const u8,
         bytes_length: usize,
@@ -114,8 +127,11 @@ unsafe extern "C" {
         out_length: usize,
     ) -> Answer;
     fn bcs_handle_text_place(
-        handle: &mut Handle,
-        ask: &HandleAsk<'_>,
+        handle: *mut Handle,
+        format: *const u8,
+        format_length: usize,
+        depth: u32,
+        nodes: u32,
         what: u32,
         text: *const u8,
         text_length: usize,
@@ -123,8 +139,11 @@ unsafe extern "C" {
         out_length: usize,
     ) -> Answer;
     fn bcs_handle_stop_place(
-        handle: &mut Handle,
-        ask: &HandleAsk<'_>,
+        handle: *mut Handle,
+        format: *const u8,
+        format_length: usize,
+        depth: u32,
+        nodes: u32,
         what: u32,
         bytes: *const u8,
         bytes_length: usize,
@@ -142,53 +161,62 @@ unsafe extern "C" {
     fn bcs_fault_name(fault: u32, out: *mut u8, out_length: usize) -> Answer;
 }
 
-/// What a call is asked for, beside the registry and its input.
+/// The parameters of a call, apart from the registry and the input.
 #[derive(Clone, Copy)]
 pub(crate) struct Question<'a> {
     pub(crate) format: &'a [u8],
-    pub(crate) limits: Limits,
+    pub(crate) depth: u32,
+    pub(crate) nodes: u32,
 }
 
-// What each `SAFETY` below rests on: the calls are safe for any input, as long as each pointer with its length is one of a
-// slice, an output overlaps nothing else, and a handle is null or as the calls left it, and one call's at a time. A Rust
-// slice is that, its pointer is never null, even where it is empty, and `&mut` says that nothing else refers to what is
-// behind it. Nothing that is handed over is kept, but for the registry in a handle, which has memory of its own.
+// What each `SAFETY` below relies on. The header allows any input for its calls if each pointer and length describe readable
+// memory, an output is writable and overlaps nothing else that is passed, and a handle is open. A Rust slice is such memory,
+// and its pointer is never null, even if it is empty. `&mut` rules out any other reference to the output. No call keeps a
+// pointer after it returns: an open registry has memory of its own.
 
-// SAFETY: a handle is all that refers to its registry, and no call minds on which thread it is.
-unsafe impl Send for Handle {}
-
-impl Handle {
-    fn open(text: &[u8]) -> Result<Handle, Answer> {
-        let mut handle = Handle { registry: ptr::null_mut() };
-        // SAFETY: the handle is new, and the text is borrowed for the call.
-        let answer = unsafe { bcs_open(&mut handle, text.as_ptr(), text.len()) };
-        if answer.status == DONE { Ok(handle) } else { Err(answer) }
-    }
-}
-
-impl Drop for Handle {
-    fn drop(&mut self) {
-        // SAFETY: the handle is as the calls left it.
-        unsafe { bcs_close(self) }
-    }
-}
-
-/// A registry that was read. A call takes a handle in which it is open, and puts it back. Where others have all of them it
-/// opens one more, so there are as many as calls were made at once.
+/// An open registry. It is closed when the last owner drops it, so after the last call.
 pub(crate) struct Open {
+    handle: NonNull<Handle>,
     text: Box<[u8]>,
-    free: Mutex<Vec<Handle>>,
+}
+
+// SAFETY: the library opens, uses and closes a handle on any thread; it keeps nothing of one in a thread's own memory.
+unsafe impl Send for Open {}
+
+// SAFETY: the header allows any number of threads to use one handle at the same time. The one call that may not overlap with
+// others is `bcs_close`, and `drop` has the `Open` to itself.
+unsafe impl Sync for Open {}
+
+impl Drop for Open {
+    fn drop(&mut self) {
+        // SAFETY: `read` opened the handle, nothing else closes it, and no call borrows it any more.
+        unsafe { bcs_close(self.handle.as_ptr()) }
+    }
+}
+
+/// A call on an open registry: the parameters that all of them have, and then its own.
+macro_rules! ask {
+    ($call:ident($open:ident, $question:ident $(, $parameter:expr)*)) => {
+        $call(
+            $open.handle.as_ptr(),
+            $question.format.as_ptr(),
+            $question.format.len(),
+            $question.depth,
+            $question.nodes,
+            $($parameter),*
+        )
+    };
 }
 
 impl Open {
     pub(crate) fn read(text: &[u8]) -> Result<Open, Answer> {
-        let handle = Handle::open(text)?;
-        Ok(Open { text: text.into(), free: Mutex::new(vec![handle]) })
-    }
-
-    pub(crate) fn check(&self, question: Question) -> Answer {
-        // SAFETY: the slices that `ask` points to are borrowed for the call.
-        self.with(question, |handle, ask| unsafe { bcs_handle_check(handle, ask) })
+        let mut handle = ptr::null_mut();
+        // SAFETY: the call writes a handle or null to `handle`, and the text is borrowed for the call.
+        let answer = unsafe { bcs_open(&mut handle, text.as_ptr(), text.len()) };
+        match NonNull::new(handle) {
+            Some(handle) if answer.status == DONE => Ok(Open { handle, text: text.into() }),
+            _ => Err(answer),
+        }
     }
 
     pub(crate) fn grows(&self, newer: &Open) -> Answer {
@@ -197,98 +225,65 @@ impl Open {
         unsafe { bcs_grows(older.as_ptr(), older.len(), newer.as_ptr(), newer.len()) }
     }
 
+    pub(crate) fn check(&self, question: Question) -> Answer {
+        // SAFETY: the handle is open, and the slices are borrowed for the call.
+        unsafe { ask!(bcs_handle_check(self, question)) }
+    }
+
     pub(crate) fn encode(&self, question: Question, text: &[u8], out: &mut [u8]) -> Answer {
-        // SAFETY: the slices are borrowed for the call, `out` alone for writing.
-        self.with(question, |handle, ask| unsafe {
-            bcs_handle_to_bcs(handle, ask, text.as_ptr(), text.len(), out.as_mut_ptr(), out.len())
-        })
+        // SAFETY: the handle is open, and the slices are borrowed for the call, `out` for writing.
+        unsafe { ask!(bcs_handle_to_bcs(self, question, text.as_ptr(), text.len(), out.as_mut_ptr(), out.len())) }
     }
 
     pub(crate) fn decode(&self, question: Question, bytes: &[u8], out: &mut [u8]) -> Answer {
-        // SAFETY: the slices are borrowed for the call, `out` alone for writing.
-        self.with(question, |handle, ask| unsafe {
-            bcs_handle_from_bcs(handle, ask, bytes.as_ptr(), bytes.len(), out.as_mut_ptr(), out.len())
-        })
+        // SAFETY: the handle is open, and the slices are borrowed for the call, `out` for writing.
+        unsafe { ask!(bcs_handle_from_bcs(self, question, bytes.as_ptr(), bytes.len(), out.as_mut_ptr(), out.len())) }
     }
 
     pub(crate) fn normalise(&self, question: Question, text: &[u8], out: &mut [u8]) -> Answer {
-        // SAFETY: the slices are borrowed for the call, `out` alone for writing.
-        self.with(question, |handle, ask| unsafe {
-            bcs_handle_normalise(handle, ask, text.as_ptr(), text.len(), out.as_mut_ptr(), out.len())
-        })
+        // SAFETY: the handle is open, and the slices are borrowed for the call, `out` for writing.
+        unsafe { ask!(bcs_handle_normalise(self, question, text.as_ptr(), text.len(), out.as_mut_ptr(), out.len())) }
     }
 
     pub(crate) fn equal(&self, question: Question, first: &[u8], second: &[u8]) -> Answer {
-        // SAFETY: the slices are borrowed for the call.
-        self.with(question, |handle, ask| unsafe {
-            bcs_handle_compare(handle, ask, first.as_ptr(), first.len(), second.as_ptr(), second.len())
-        })
+        // SAFETY: the handle is open, and the slices are borrowed for the call.
+        unsafe { ask!(bcs_handle_compare(self, question, first.as_ptr(), first.len(), second.as_ptr(), second.len())) }
     }
 
     pub(crate) fn scan(&self, question: Question, bytes: &[u8]) -> Answer {
-        // SAFETY: the slices are borrowed for the call.
-        self.with(question, |handle, ask| unsafe { bcs_handle_scan(handle, ask, bytes.as_ptr(), bytes.len()) })
+        // SAFETY: the handle is open, and the slices are borrowed for the call.
+        unsafe { ask!(bcs_handle_scan(self, question, bytes.as_ptr(), bytes.len())) }
     }
 
     pub(crate) fn part(&self, question: Question, bytes: &[u8], path: &[u8]) -> Answer {
-        // SAFETY: the slices are borrowed for the call.
-        self.with(question, |handle, ask| unsafe {
-            bcs_handle_part(handle, ask, bytes.as_ptr(), bytes.len(), path.as_ptr(), path.len())
-        })
+        // SAFETY: the handle is open, and the slices are borrowed for the call.
+        unsafe { ask!(bcs_handle_part(self, question, bytes.as_ptr(), bytes.len(), path.as_ptr(), path.len())) }
     }
 
     pub(crate) fn explain(&self, question: Question, form: u32, bytes: &[u8], out: &mut [u8]) -> Answer {
-        // SAFETY: the slices are borrowed for the call, `out` alone for writing.
-        self.with(question, |handle, ask| unsafe {
-            bcs_handle_explain(handle, ask, form, bytes.as_ptr(), bytes.len(), out.as_mut_ptr(), out.len())
-        })
+        // SAFETY: the handle is open, and the slices are borrowed for the call, `out` for writing.
+        unsafe {
+            ask!(bcs_handle_explain(self, question, form, bytes.as_ptr(), bytes.len(), out.as_mut_ptr(), out.len()))
+        }
     }
 
     pub(crate) fn text_place(&self, question: Question, what: u32, text: &[u8], out: &mut [u8]) -> Answer {
-        // SAFETY: the slices are borrowed for the call, `out` alone for writing.
-        self.with(question, |handle, ask| unsafe {
-            bcs_handle_text_place(handle, ask, what, text.as_ptr(), text.len(), out.as_mut_ptr(), out.len())
-        })
+        // SAFETY: the handle is open, and the slices are borrowed for the call, `out` for writing.
+        unsafe {
+            ask!(bcs_handle_text_place(self, question, what, text.as_ptr(), text.len(), out.as_mut_ptr(), out.len()))
+        }
     }
 
     pub(crate) fn stop_place(&self, question: Question, what: u32, bytes: &[u8], out: &mut [u8]) -> Answer {
-        // SAFETY: the slices are borrowed for the call, `out` alone for writing.
-        self.with(question, |handle, ask| unsafe {
-            bcs_handle_stop_place(handle, ask, what, bytes.as_ptr(), bytes.len(), out.as_mut_ptr(), out.len())
-        })
+        // SAFETY: the handle is open, and the slices are borrowed for the call, `out` for writing.
+        unsafe {
+            ask!(bcs_handle_stop_place(self, question, what, bytes.as_ptr(), bytes.len(), out.as_mut_ptr(), out.len()))
+        }
     }
 
     /// The registry's text.
     pub(crate) fn text(&self) -> &[u8] {
         &self.text
-    }
-
-    /// Makes a call with a handle that nobody else has.
-    fn with(&self, question: Question, call: impl FnOnce(&mut Handle, &HandleAsk) -> Answer) -> Answer {
-        let ask = HandleAsk {
-            format: question.format.as_ptr(),
-            format_length: question.format.len(),
-            depth: question.limits.depth,
-            nodes: question.limits.nodes,
-            borrowed: PhantomData,
-        };
-        let mut handle = match self.take() {
-            Ok(handle) => handle,
-            Err(answer) => return answer,
-        };
-        let answer = call(&mut handle, &ask);
-        self.change(|free| free.push(handle));
-        answer
-    }
-
-    fn take(&self) -> Result<Handle, Answer> {
-        // The lock is let go before a handle is opened, which takes longer than most calls.
-        let free = self.change(Vec::pop);
-        free.map_or_else(|| Handle::open(&self.text), Ok)
-    }
-
-    fn change<T>(&self, by: impl FnOnce(&mut Vec<Handle>) -> T) -> T {
-        by(&mut self.free.lock().unwrap_or_else(PoisonError::into_inner))
     }
 }
 

@@ -4,6 +4,7 @@ use crate::format::Format;
 use crate::registry::Registry;
 use crate::serde_in::value_of;
 use crate::serde_out::json_of;
+use crate::shapes::{At, Shape, read_registry};
 use serde::Serialize;
 use serde::de::DeserializeOwned;
 use serde_json::Value;
@@ -63,7 +64,13 @@ impl Registry {
     /// # Ok::<(), bcs_proved::Error>(())
     /// ```
     pub fn to_bytes<T: Serialize + ?Sized>(&self, format: impl Into<Format>, value: &T) -> Result<Vec<u8>, Error> {
-        self.encode_value(format, &json_of(value)?)
+        let format = format.into();
+        let shape = Shape::read(format.as_json());
+        match json_of(value, self.at(&shape)) {
+            Ok(text) => self.encode(format, text),
+            // A format that the registry doesn't have is reported before what the value is.
+            Err(mismatch) => self.check(format).and(Err(mismatch.into())),
+        }
     }
 
     /// The value whose bytes these are, all of them, as a type that `serde` knows.
@@ -72,6 +79,13 @@ impl Registry {
         format: impl Into<Format>,
         bytes: impl AsRef<[u8]>,
     ) -> Result<T, Error> {
-        Ok(value_of(self.decode_value(format, bytes)?)?)
+        let format = format.into();
+        let json = self.decode_value(&format, bytes)?;
+        let shape = Shape::read(format.as_json());
+        Ok(value_of(json, self.at(&shape))?)
+    }
+
+    fn at<'w>(&'w self, shape: &'w Shape) -> At<'w> {
+        At::new(shape, self.shapes.get_or_init(|| read_registry(self.text())), self.limits().depth)
     }
 }

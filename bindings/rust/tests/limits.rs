@@ -22,8 +22,9 @@ fn chain_text(links: usize) -> String {
 
 #[test]
 fn the_standard_limits_are_the_greatest() {
-    assert_eq!(Limits::default(), Limits { depth: 500, nodes: u32::MAX });
-    assert_eq!(plain().limits(), Limits::STANDARD);
+    assert_eq!(Limits::STANDARD, Limits { depth: 500, nodes: Some(u32::MAX) });
+    assert_eq!(Limits::default(), Limits { depth: 500, nodes: None });
+    assert_eq!(plain().limits(), Limits::default());
     assert_eq!(chains().scan("Chain", chain(500)), Ok(500));
     let stop = Stop { reason: Reason::TooDeep, place: 500 };
     assert_eq!(chains().scan("Chain", chain(501)).unwrap_err(), ErrorKind::Bytes(stop));
@@ -45,8 +46,8 @@ fn a_smaller_depth_refuses() {
 fn fewer_nodes_refuse() {
     // A list is a node, and each of its elements is one.
     let list = &Format::json(r#"{"SEQ":"U8"}"#);
-    let four = plain().with_limits(Limits { nodes: 4, ..Limits::default() });
-    let three = plain().with_limits(Limits { nodes: 3, ..Limits::default() });
+    let four = plain().with_limits(Limits { nodes: Some(4), ..Limits::default() });
+    let three = plain().with_limits(Limits { nodes: Some(3), ..Limits::default() });
     let stop = Stop { reason: Reason::TooManyNodes, place: 3 };
     assert_eq!(four.decode(list, [3, 0, 1, 2]).unwrap(), r#""000102""#);
     assert_eq!(three.decode(list, [3, 0, 1, 2]).unwrap_err(), ErrorKind::Bytes(stop));

@@ -1,7 +1,6 @@
 //! The declarations beside the library's header and its names of faults.
-use super::{Answer, Handle, HandleAsk, Open, Question};
+use super::Answer;
 use crate::faults::{GrowthFault, Reason, RegistryFault, TextFault};
-use crate::limits::Limits;
 use crate::sys;
 use std::collections::BTreeMap;
 use std::mem::{offset_of, size_of};
@@ -16,13 +15,6 @@ fn header_folder() -> PathBuf {
 #[test]
 fn layouts_are_those_of_the_header() {
     let layouts = [
-        ("sizeof(bcs_handle)", size_of::<Handle>(), 8),
-        ("offsetof(bcs_handle, registry)", offset_of!(Handle, registry), 0),
-        ("sizeof(bcs_handle_ask)", size_of::<HandleAsk>(), 24),
-        ("offsetof(bcs_handle_ask, format)", offset_of!(HandleAsk, format), 0),
-        ("offsetof(bcs_handle_ask, format_length)", offset_of!(HandleAsk, format_length), 8),
-        ("offsetof(bcs_handle_ask, depth)", offset_of!(HandleAsk, depth), 16),
-        ("offsetof(bcs_handle_ask, nodes)", offset_of!(HandleAsk, nodes), 20),
         ("sizeof(bcs_answer)", size_of::<Answer>(), 24),
         ("offsetof(bcs_answer, status)", offset_of!(Answer, status), 0),
         ("offsetof(bcs_answer, fault)", offset_of!(Answer, fault), 4),
@@ -149,18 +141,4 @@ fn names_are_those_of_the_library() {
     }
     // 6 of registries, 4 of growth, 13 of texts, 14 of bytes, and those of a shown text and of a path.
     assert_eq!(named, 39);
-}
-
-/// Calls one after another share a handle, and calls at once have one each.
-#[test]
-fn there_are_as_many_handles_as_calls_at_once() {
-    let open = Open::read(b"{}").unwrap();
-    let question = Question { format: br#""U8""#, limits: Limits::STANDARD };
-    for _ in 0..3 {
-        assert_eq!(open.scan(question, &[7]).length, 1);
-        assert_eq!(open.change(|free| free.len()), 1);
-    }
-    let answer = open.with(question, |_, _| open.with(question, |_, _| open.check(question)));
-    assert_eq!(answer.status, sys::DONE);
-    assert_eq!(open.change(|free| free.len()), 3);
 }
