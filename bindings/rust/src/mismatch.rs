@@ -10,7 +10,8 @@ pub struct Mismatch {
     pub(crate) kind: ErrorKind,
     pub(crate) pointer: String,
     pub(crate) words: String,
-    names_format: bool,
+    /// Whether the words name the format, which the innermost one that a type refuses adds.
+    pub(crate) names_format: bool,
 }
 
 impl Mismatch {

@@ -27,6 +27,14 @@ fn other_json<T>() -> Result<T, Mismatch> {
     Err(Mismatch::new("the library's JSON isn't of the format"))
 }
 
+/// What a type read of some elements, if it read all of them.
+fn whole<T>(value: T, length: usize, left: usize) -> Result<T, Mismatch> {
+    match left {
+        0 => Ok(value),
+        _ => Err(Mismatch::new(format_args!("the type takes {} of {length} elements", length - left))),
+    }
+}
+
 fn bytes_of(digits: &str) -> Result<Vec<u8>, Mismatch> {
     let byte = |place| u8::from_str_radix(digits.get(place..place + 2).unwrap_or("?"), 16).map_err(Mismatch::new);
     (0..digits.len()).step_by(2).map(byte).collect()
@@ -63,14 +71,12 @@ impl<'w> Reader<'w> {
             (Shape::Bool, Value::Bool(truth)) => visitor.visit_bool(truth),
             (Shape::Integer(_) | Shape::Octet, json) => visit_integer(json, visitor),
             (Shape::Str | Shape::FieldName | Shape::Enum(_), Value::String(text)) => visitor.visit_string(text),
-            (Shape::Bytes, Value::String(digits)) => visitor.visit_byte_buf(bytes_of(&digits)?),
             (Shape::Option(_), json) => Reader { at, json }.visit_option(visitor),
             (Shape::Struct(parts) | Shape::Enum(parts), Value::Object(members)) => {
                 visit_members(at, parts, members, visitor)
             }
-            (Shape::Map(pair), Value::Array(entries)) => visit_entries(at.to(pair), entries, visitor),
-            (Shape::Seq(_) | Shape::Array(_) | Shape::Tuple(_), json) => Reader { at, json }.visit_items(visitor),
-            _ => other_json(),
+            (Shape::Map(entry), Value::Array(entries)) => visit_entries(at.to(entry), entries, visitor),
+            (_, json) => Reader { at, json }.visit_items(visitor),
         }
     }
 
@@ -84,7 +90,11 @@ impl<'w> Reader<'w> {
             _ => return other_json(),
         };
         let json = members.remove("some").unwrap_or_default();
-        visitor.visit_some(Reader { at: self.at.to(content), json }).map_err(|error| error.under("some"))
+        let content = Reader { at: self.at.to(content), json };
+        // A type that isn't an option rejects this one, and not what it holds.
+        visitor
+            .visit_some(content)
+            .map_err(|error: Mismatch| if error.names_format { error.under("some") } else { error })
     }
 
     fn visit_items<'de, V: Visitor<'de>>(self, visitor: V) -> Result<V::Value, Mismatch> {
@@ -92,6 +102,7 @@ impl<'w> Reader<'w> {
             Shape::Bytes => Parts::Same(&OCTET),
             Shape::Seq(content) | Shape::Array(content) | Shape::Map(content) => Parts::Same(content),
             Shape::Tuple(all) => Parts::Own(all),
+            Shape::Entry(halves) => Parts::Own(&halves[..]),
             _ => return self.unfit("a list"),
         };
         let values: Vec<Value> = match self.json {
@@ -102,10 +113,7 @@ impl<'w> Reader<'w> {
         let length = values.len();
         let mut items = Items { at: self.at, parts, values: values.into_iter(), count: 0 };
         let value = visitor.visit_seq(&mut items)?;
-        match items.values.len() {
-            0 => Ok(value),
-            left => Err(Mismatch::new(format_args!("the type takes {} of {length} elements", length - left))),
-        }
+        whole(value, length, items.values.len())
     }
 }
 
@@ -187,7 +195,9 @@ impl<'de> Deserializer<'de> for Reader<'_> {
     }
 
     fn deserialize_option<V: Visitor<'de>>(self, visitor: V) -> Result<V::Value, Mismatch> {
-        self.entered().visit_option(visitor)
+        let reader = self.entered();
+        let shape = reader.at.shape;
+        reader.visit_option(visitor).map_err(|error| error.of_format(shape))
     }
 
     fn deserialize_newtype_struct<V: Visitor<'de>>(self, _: &'static str, visitor: V) -> Result<V::Value, Mismatch> {
@@ -307,7 +317,10 @@ fn visit_members<'de, V: Visitor<'de>>(
     members: Map<String, Value>,
     visitor: V,
 ) -> Result<V::Value, Mismatch> {
-    visitor.visit_map(Members { at, parts, members: members.into_iter(), next: None })
+    let length = members.len();
+    let mut members = Members { at, parts, members: members.into_iter(), next: None };
+    let value = visitor.visit_map(&mut members)?;
+    whole(value, length, members.members.len())
 }
 
 impl<'de> MapAccess<'de> for Members<'_> {
@@ -336,23 +349,26 @@ impl<'de> MapAccess<'de> for Members<'_> {
 
 /// The entries of a map, each an array of a key and its value.
 struct Entries<'w> {
-    pair: At<'w>,
+    entry: At<'w>,
     entries: vec::IntoIter<Value>,
     value: Option<Value>,
     count: usize,
 }
 
-fn visit_entries<'de, V: Visitor<'de>>(pair: At, entries: Vec<Value>, visitor: V) -> Result<V::Value, Mismatch> {
-    visitor.visit_map(Entries { pair, entries: entries.into_iter(), value: None, count: 0 })
+fn visit_entries<'de, V: Visitor<'de>>(entry: At, entries: Vec<Value>, visitor: V) -> Result<V::Value, Mismatch> {
+    let length = entries.len();
+    let mut entries = Entries { entry, entries: entries.into_iter(), value: None, count: 0 };
+    let value = visitor.visit_map(&mut entries)?;
+    whole(value, length, entries.entries.len())
 }
 
 impl Entries<'_> {
     /// Reads a half of the entry: 0 is the key, and 1 the value.
     fn half<'de, T: DeserializeSeed<'de>>(&self, half: usize, json: Value, seed: T) -> Result<T::Value, Mismatch> {
-        let Shape::Tuple(halves) = self.pair.shape else {
+        let Shape::Entry(halves) = self.entry.shape else {
             return other_json();
         };
-        let half_of = Reader { at: self.pair.to(&halves[half]), json };
+        let half_of = Reader { at: self.entry.to(&halves[half]), json };
         seed.deserialize(half_of).map_err(|error| error.under(half).under(self.count))
     }
 }

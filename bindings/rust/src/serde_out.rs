@@ -128,6 +128,7 @@ impl<'w> Writer<'w> {
         let parts = match self.at.shape {
             Shape::Seq(content) | Shape::Array(content) | Shape::Map(content) => Parts::Same(content),
             Shape::Tuple(all) => Parts::Own(all),
+            Shape::Entry(halves) => Parts::Own(&halves[..]),
             Shape::Bytes => Parts::Same(&OCTET),
             Shape::Void => Parts::Void,
             shape => return Err(Mismatch::unfit(shape, found)),
@@ -292,9 +293,9 @@ impl<'w> Serializer for Writer<'w> {
     fn serialize_map(mut self, _: Option<usize>) -> Result<Entries<'w>, Mismatch> {
         self.at = self.at.entered();
         match self.at.shape {
-            Shape::Map(pair) => {
+            Shape::Map(entry) => {
                 self.open('[')?;
-                Ok(Entries::Pairs { writer: self, pair, count: 0, has_key: false })
+                Ok(Entries::Pairs { writer: self, entry, count: 0, has_key: false })
             }
             _ => Ok(Entries::Fields { fields: self.fields("a map", None)?, name: None }),
         }
@@ -446,7 +447,7 @@ fields! { SerializeStruct, SerializeStructVariant, }
 
 /// Writes a map: an array of pairs, or the fields of a struct, which is a map if it has flattened parts.
 pub(crate) enum Entries<'w> {
-    Pairs { writer: Writer<'w>, pair: &'w Shape, count: usize, has_key: bool },
+    Pairs { writer: Writer<'w>, entry: &'w Shape, count: usize, has_key: bool },
     Fields { fields: Fields<'w>, name: Option<String> },
 }
 
@@ -462,13 +463,13 @@ impl Entries<'_> {
 /// A key or a value of a map's entry.
 fn put_half<T: Serialize + ?Sized>(
     writer: &mut Writer,
-    pair: &Shape,
+    entry: &Shape,
     half: usize,
     count: usize,
     value: &T,
 ) -> Result<(), Mismatch> {
-    let Shape::Tuple(halves) = pair else {
-        return Err(Mismatch::new("a map's entry is a pair"));
+    let Shape::Entry(halves) = entry else {
+        return Err(Mismatch::unfit(entry, "a map"));
     };
     let part = Writer { at: writer.at.to(&halves[half]), nested: writer.nested, out: &mut *writer.out };
     value.serialize(part).map_err(|error| error.under(half).under(count))
@@ -483,15 +484,16 @@ impl ser::SerializeMap for Entries<'_> {
             return Err(Mismatch::new("a map's key has no value"));
         }
         match self {
-            Entries::Pairs { writer, pair, count, has_key } => {
+            Entries::Pairs { writer, entry, count, has_key } => {
                 if *count > 0 {
                     writer.out.push(',');
                 }
                 writer.open('[')?;
-                put_half(writer, pair, 0, *count, key)?;
+                put_half(writer, entry, 0, *count, key)?;
                 writer.out.push(',');
                 *has_key = true;
             }
+            Entries::Fields { fields: Fields { fields: None, .. }, name } => *name = Some(String::new()),
             Entries::Fields { fields, name } => {
                 let mut text = String::new();
                 let at = fields.writer.at.to(&FIELD_NAME);
@@ -507,8 +509,8 @@ impl ser::SerializeMap for Entries<'_> {
             return Err(Mismatch::new("a map's value came before its key"));
         }
         match self {
-            Entries::Pairs { writer, pair, count, has_key } => {
-                put_half(writer, pair, 1, *count, value)?;
+            Entries::Pairs { writer, entry, count, has_key } => {
+                put_half(writer, entry, 1, *count, value)?;
                 writer.out.push(']');
                 writer.nested -= 1;
                 *count += 1;

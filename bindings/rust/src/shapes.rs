@@ -14,8 +14,10 @@ pub(crate) enum Shape {
     Option(Box<Shape>),
     Seq(Box<Shape>),
     Array(Box<Shape>),
-    /// The `Tuple` of a key and its value.
+    /// The `Entry` of each key.
     Map(Box<Shape>),
+    /// A key and its value.
+    Entry(Box<[Shape; 2]>),
     Tuple(Vec<Shape>),
     Struct(HashMap<String, Shape>),
     Enum(HashMap<String, Shape>),
@@ -74,8 +76,8 @@ impl Shape {
             "SEQ" => Shape::Seq(boxed(part)?),
             "TUPLEARRAY" => Shape::Array(boxed(part.get("CONTENT")?)?),
             "MAP" => {
-                let pair = [part.get("KEY")?, part.get("VALUE")?].map(Shape::of);
-                Shape::Map(Box::new(Shape::Tuple(pair.into_iter().collect::<Option<_>>()?)))
+                let entry = [Shape::of(part.get("KEY")?)?, Shape::of(part.get("VALUE")?)?];
+                Shape::Map(Box::new(Shape::Entry(Box::new(entry))))
             }
             "TUPLE" | "TUPLESTRUCT" => Shape::Tuple(all(part)?),
             "NEWTYPE" | "NEWTYPESTRUCT" => Shape::of(part)?,
@@ -110,7 +112,7 @@ impl Shape {
             Shape::Option(_) => "OPTION",
             Shape::Seq(_) => "SEQ",
             Shape::Array(_) => "TUPLEARRAY",
-            Shape::Map(_) => "MAP",
+            Shape::Map(_) | Shape::Entry(_) => "MAP",
             Shape::Tuple(_) => "TUPLE",
             Shape::Struct(_) | Shape::FieldName => "STRUCT",
             Shape::Enum(_) => "ENUM",
@@ -131,6 +133,7 @@ impl Shape {
             Shape::Option(_) => "an Option",
             Shape::Seq(_) | Shape::Array(_) => "a list",
             Shape::Map(_) => "a map",
+            Shape::Entry(_) => "a pair for each entry",
             Shape::Tuple(_) => "a tuple",
             Shape::Struct(_) => "a struct",
             Shape::FieldName => "a string for each field's name",

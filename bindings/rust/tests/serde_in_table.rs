@@ -1,0 +1,401 @@
+//! Each kind of format as each `serde` type: its value, or a rejection that names the format.
+#![cfg(feature = "serde_json")]
+
+use bcs_proved::{ErrorKind, Format, Registry};
+use serde::Deserialize;
+use serde::de::{DeserializeOwned, Deserializer, IgnoredAny, MapAccess, SeqAccess, Visitor};
+use serde_json::Value;
+use std::collections::BTreeMap;
+use std::fmt::{self, Debug};
+use std::marker::PhantomData;
+
+mod common;
+#[path = "common/formats.rs"]
+mod formats;
+use common::bytes;
+use formats::{FORMATS, registry_with};
+
+/// A value of each format, by its bytes. `None`: it has none.
+const SAMPLES: [(&str, Option<&str>); 30] = [
+    ("UNIT", Some("")),
+    ("BOOL", Some("01")),
+    ("I8", Some("fe")),
+    ("I16", Some("feff")),
+    ("I32", Some("feffffff")),
+    ("I64", Some("feffffffffffffff")),
+    ("I128", Some("feffffffffffffffffffffffffffffff")),
+    ("U8", Some("07")),
+    ("U16", Some("0700")),
+    ("U32", Some("07000000")),
+    ("U64", Some("0700000000000000")),
+    ("U128", Some("07000000000000000000000000000000")),
+    ("F32", None),
+    ("F64", None),
+    ("CHAR", None),
+    ("STR", Some("0137")),
+    ("BYTES", Some("0112")),
+    ("U8?", Some("0107")),
+    ("U8??", Some("0100")),
+    ("[U16]", Some("0201000200")),
+    ("[U8]", Some("020102")),
+    ("{STR: U8}", Some("01013701")),
+    ("{U8: BOOL}", Some("010701")),
+    ("(U8, BOOL)", Some("0701")),
+    ("[U16; 2]", Some("01000200")),
+    ("[U8; 2]", Some("0102")),
+    ("Nothing", Some("")),
+    ("Pair", Some("0701")),
+    ("Point", Some("010200")),
+    ("Shape", Some("010700000000000000")),
+];
+
+/// A type with what its value is at some formats, as it prints for debugging. Everywhere else the type is rejected, at the
+/// pointer that the second list has, or at the value itself.
+fn row<T: DeserializeOwned + Debug>(cells: &[(&str, &str)], parts: &[(&str, &str)]) {
+    let type_is = std::any::type_name::<T>();
+    for ((name, json, _), (sample, digits)) in FORMATS.into_iter().zip(SAMPLES) {
+        assert_eq!(name, sample);
+        let registry = registry_with(json);
+        let input = bytes(digits.unwrap_or_default());
+        let told = registry.from_bytes::<T>(Format::json(json), &input);
+        let in_field = registry.from_bytes::<Field<T>>("Field", &input);
+        let label = format!("{name} as {type_is}");
+        if digits.is_none() {
+            assert_eq!(told.unwrap_err().name(), Some("Unsupported"), "{label}");
+            continue;
+        }
+        assert_eq!(format!("{:?}", registry.from_bytes::<T>("Whole", &input)), format!("{told:?}"), "{label}");
+        if let Some((_, value)) = cells.iter().find(|(at, _)| *at == name) {
+            let value = (*value).to_owned();
+            assert_eq!(told.map(|value| format!("{value:?}")), Ok(value.clone()), "{label}");
+            assert_eq!(in_field.map(|field| format!("{:?}", field.x)), Ok(value), "{label}");
+            continue;
+        }
+        let pointer = parts.iter().find(|(at, _)| *at == name).map_or("", |(_, pointer)| pointer);
+        for (error, before) in [(told.map(drop), ""), (in_field.map(drop), "/x")] {
+            let error = error.expect_err(&label);
+            assert_eq!(error.kind(), ErrorKind::Type, "{label}: {error}");
+            assert_eq!(error.pointer(), Some(&*format!("{before}{pointer}")), "{label}: {error}");
+            let words = error.expected().unwrap();
+            let is_of_format = words.contains(" takes ") || words.contains("(the format is ");
+            assert!(is_of_format || words.contains("any variant of untagged enum"), "{label}: {words}");
+        }
+    }
+    for (at, _) in cells.iter().chain(parts) {
+        assert!(FORMATS.iter().any(|(name, ..)| name == at), "no format is named {at}");
+    }
+}
+
+#[derive(Deserialize, Debug)]
+struct Field<T> {
+    x: T,
+}
+
+const UNSIGNED: [(&str, &str); 5] = [("U8", "7"), ("U16", "7"), ("U32", "7"), ("U64", "7"), ("U128", "7")];
+const SIGNED: [(&str, &str); 5] = [("I8", "-2"), ("I16", "-2"), ("I32", "-2"), ("I64", "-2"), ("I128", "-2")];
+
+#[test]
+fn integers_and_bools() {
+    row::<bool>(&[("BOOL", "true")], &[]);
+    row::<u8>(&UNSIGNED, &[]);
+    row::<u16>(&UNSIGNED, &[]);
+    row::<u32>(&UNSIGNED, &[]);
+    row::<u64>(&UNSIGNED, &[]);
+    row::<u128>(&UNSIGNED, &[]);
+    let both = [UNSIGNED, SIGNED].concat();
+    row::<i8>(&both, &[]);
+    row::<i16>(&both, &[]);
+    row::<i32>(&both, &[]);
+    row::<i64>(&both, &[]);
+    row::<i128>(&both, &[]);
+}
+
+#[test]
+fn no_format_is_a_float_or_a_char() {
+    row::<f32>(&[], &[]);
+    row::<f64>(&[], &[]);
+    row::<char>(&[], &[]);
+}
+
+#[test]
+fn the_greatest_integers_come_back() {
+    fn same<T: DeserializeOwned + Debug + PartialEq>(format: &str, digits: &str, value: T) {
+        assert_eq!(Registry::read("{}").unwrap().from_bytes::<T>(format, bytes(digits)), Ok(value));
+    }
+    same(r#""U64""#, "ffffffffffffffff", u64::MAX);
+    same(r#""I64""#, "0000000000000080", i64::MIN);
+    same(r#""U128""#, "ffffffffffffffffffffffffffffffff", u128::MAX);
+    same(r#""U128""#, "00000000000000000100000000000000", 1_u128 << 64);
+    same(r#""I128""#, "00000000000000000000000000000080", i128::MIN);
+    same(r#""I128""#, "ffffffffffffffffffffffffffffff7f", i128::MAX);
+    same(r#""I128""#, "ffffffffffffff7fffffffffffffffff", i128::from(i64::MIN) - 1);
+    let map = r#"{"MAP":{"KEY":"U128","VALUE":"UNIT"}}"#;
+    same(map, "01ffffffffffffffffffffffffffffffff", BTreeMap::from([(u128::MAX, ())]));
+}
+
+/// What `serde_bytes` has: bytes that are bytes for `serde`.
+#[derive(Debug)]
+struct ByteBuf(#[allow(dead_code, reason = "it is printed")] Vec<u8>);
+
+impl<'de> Deserialize<'de> for ByteBuf {
+    fn deserialize<D: Deserializer<'de>>(deserializer: D) -> Result<ByteBuf, D::Error> {
+        deserializer.deserialize_byte_buf(ByteVisitor)
+    }
+}
+
+/// It takes as much as that of `serde_bytes`.
+struct ByteVisitor;
+
+impl<'de> Visitor<'de> for ByteVisitor {
+    type Value = ByteBuf;
+
+    fn expecting(&self, f: &mut fmt::Formatter) -> fmt::Result {
+        f.write_str("bytes")
+    }
+
+    fn visit_byte_buf<E>(self, bytes: Vec<u8>) -> Result<ByteBuf, E> {
+        Ok(ByteBuf(bytes))
+    }
+
+    fn visit_string<E>(self, text: String) -> Result<ByteBuf, E> {
+        Ok(ByteBuf(text.into()))
+    }
+
+    fn visit_seq<A: SeqAccess<'de>>(self, mut seq: A) -> Result<ByteBuf, A::Error> {
+        let mut bytes = Vec::new();
+        while let Some(byte) = seq.next_element()? {
+            bytes.push(byte);
+        }
+        Ok(ByteBuf(bytes))
+    }
+}
+
+/// The cells of a type that reads two integers, for which the value is this.
+fn two(value: &str) -> [(&str, &str); 4] {
+    ["[U16]", "[U8]", "[U16; 2]", "[U8; 2]"].map(|name| (name, value))
+}
+
+/// Where a list of integers stops: at the bool of a pair, and at a map's first entry.
+const NO_INTEGERS: [(&str, &str); 4] =
+    [("(U8, BOOL)", "/1"), ("Pair", "/1"), ("{STR: U8}", "/0"), ("{U8: BOOL}", "/0")];
+
+#[test]
+fn strings_and_bytes() {
+    let strings = [
+        ("STR", r#""7""#),
+        ("I64", r#""-2""#),
+        ("I128", r#""-2""#),
+        ("U64", r#""7""#),
+        ("U128", r#""7""#),
+        ("BYTES", r#""12""#),
+        ("[U8]", r#""0102""#),
+        ("[U8; 2]", r#""0102""#),
+    ];
+    row::<String>(&strings, &[]);
+    let bytes = [("BYTES", "ByteBuf([18])"), ("[U8]", "ByteBuf([1, 2])"), ("[U8; 2]", "ByteBuf([1, 2])")];
+    row::<ByteBuf>(&bytes, &[]);
+    row::<Vec<u8>>(&[&two("[1, 2]")[..], &[("BYTES", "[18]")]].concat(), &NO_INTEGERS);
+}
+
+#[test]
+fn options_and_units() {
+    row::<Option<u8>>(&[("U8?", "Some(7)")], &[("U8??", "/some")]);
+    row::<Option<Option<u8>>>(&[("U8??", "Some(None)")], &[("U8?", "/some")]);
+    row::<Option<()>>(&[], &[("U8?", "/some"), ("U8??", "/some")]);
+    row::<()>(&[("UNIT", "()"), ("Nothing", "()")], &[]);
+    row::<Nothing>(&[("UNIT", "Nothing"), ("Nothing", "Nothing")], &[]);
+    row::<PhantomData<u8>>(&[("UNIT", "PhantomData<u8>"), ("Nothing", "PhantomData<u8>")], &[]);
+    row::<Id>(&UNSIGNED.map(|(name, _)| (name, "Id(7)")), &[]);
+    let registry = Registry::read("{}").unwrap();
+    let nested = r#"{"OPTION":{"OPTION":"U8"}}"#;
+    for (digits, value) in [("00", None), ("0100", Some(None)), ("010107", Some(Some(7_u8)))] {
+        assert_eq!(registry.from_bytes::<Option<Option<u8>>>(nested, bytes(digits)), Ok(value));
+    }
+}
+
+#[derive(Deserialize, Debug)]
+struct Nothing;
+
+#[derive(Deserialize, Debug)]
+#[allow(dead_code, reason = "it is printed")]
+struct Id(u64);
+
+#[derive(Deserialize, Debug)]
+#[allow(dead_code, reason = "it is printed")]
+struct Pair(u8, bool);
+
+#[test]
+fn lists_are_read_to_their_end() {
+    let no_integers = [&NO_INTEGERS[..], &[("BYTES", "/0")]].concat();
+    row::<Vec<u64>>(&two("[1, 2]"), &no_integers);
+    row::<[u16; 2]>(&two("[1, 2]"), &no_integers);
+    row::<[u16; 3]>(&[], &no_integers);
+    let entries = [("{STR: U8}", "/0"), ("{U8: BOOL}", "/0")];
+    row::<[u16; 1]>(&[], &[&entries[..], &[("BYTES", "/0")]].concat());
+    row::<(u8,)>(&[("BYTES", "(18,)")], &entries);
+    let no_bool = ["[U16]", "[U8]", "[U16; 2]", "[U8; 2]"].map(|name| (name, "/1"));
+    let parts = [&entries[..], &no_bool].concat();
+    row::<(u8, bool)>(&[("(U8, BOOL)", "(7, true)"), ("Pair", "(7, true)")], &parts);
+    row::<Pair>(&[("(U8, BOOL)", "Pair(7, true)"), ("Pair", "Pair(7, true)")], &parts);
+    let no_pairs = ["[U16]", "[U8]", "[U16; 2]", "[U8; 2]", "BYTES", "(U8, BOOL)", "Pair"].map(|name| (name, "/0"));
+    let no_pairs = [&no_pairs[..], &[("{U8: BOOL}", "/0/0")]].concat();
+    row::<Vec<(String, u8)>>(&[("{STR: U8}", r#"[("7", 1)]"#)], &no_pairs);
+}
+
+#[test]
+fn maps_keep_their_keys() {
+    let fields = ("Point", r#"{"x": 1, "y": 2}"#);
+    row::<BTreeMap<String, u8>>(&[("{STR: U8}", r#"{"7": 1}"#), fields], &[("{U8: BOOL}", "/0/0")]);
+    row::<BTreeMap<u8, bool>>(&[("{U8: BOOL}", "{7: true}")], &[("{STR: U8}", "/0/0")]);
+    row::<BTreeMap<char, u8>>(&[], &[("{STR: U8}", "/0/0"), ("{U8: BOOL}", "/0/0")]);
+    row::<BTreeMap<u8, u8>>(&[], &[("{STR: U8}", "/0/0"), ("{U8: BOOL}", "/0/1")]);
+    row::<BTreeMap<Shape, u8>>(&[], &[("{STR: U8}", "/0/0"), ("{U8: BOOL}", "/0/0")]);
+}
+
+#[derive(Deserialize, Debug)]
+#[allow(dead_code, reason = "it is printed")]
+struct Point {
+    x: u8,
+    y: u16,
+}
+
+/// With the types of a tuple's elements, in their order.
+#[derive(Deserialize, Debug)]
+#[allow(dead_code, reason = "it is printed")]
+struct Positional {
+    x: u8,
+    y: bool,
+}
+
+#[derive(Deserialize, Debug)]
+#[allow(dead_code, reason = "it is printed")]
+struct Flat {
+    x: u8,
+    #[serde(flatten)]
+    rest: Y,
+}
+
+#[derive(Deserialize, Debug)]
+#[allow(dead_code, reason = "it is printed")]
+struct Y {
+    y: u16,
+}
+
+#[derive(Deserialize, Debug, PartialEq, Eq, PartialOrd, Ord)]
+enum Shape {
+    Dot,
+    Circle(u64),
+    Rest(u8, u16),
+    Named { side: u16 },
+}
+
+#[derive(Deserialize, Debug)]
+#[serde(untagged)]
+#[allow(dead_code, reason = "it is printed")]
+enum Untagged {
+    Number(u64),
+    Text(String),
+}
+
+#[test]
+fn structs_and_variants() {
+    row::<Point>(&[("Point", "Point { x: 1, y: 2 }")], &[]);
+    row::<Positional>(&[], &[("Point", "/y")]);
+    row::<Flat>(&[("Point", "Flat { x: 1, rest: Y { y: 2 } }")], &[]);
+    row::<Shape>(&[("Shape", "Circle(7)")], &[]);
+    let numbers = UNSIGNED.map(|(name, _)| (name, "Number(7)"));
+    row::<Untagged>(&[&numbers[..], &[("STR", r#"Text("7")"#)]].concat(), &[]);
+}
+
+/// The variants of the registry's enum with other payloads.
+#[derive(Deserialize, Debug)]
+#[allow(dead_code, reason = "it is printed")]
+enum Other {
+    Dot(u8),
+    Circle,
+    Rest(u8),
+    Named(u8, u16),
+}
+
+/// Fewer variants than the registry has.
+#[derive(Deserialize, Debug, PartialEq)]
+enum Less {
+    Dot,
+}
+
+#[test]
+fn each_payload_comes_back() {
+    let registry = registry_with(r#""UNIT""#);
+    let rows = [
+        ("00", Shape::Dot, "/Dot"),
+        ("010700000000000000", Shape::Circle(7), "/Circle"),
+        ("02010200", Shape::Rest(1, 2), "/Rest"),
+        ("030102", Shape::Named { side: 513 }, "/Named"),
+    ];
+    for (digits, value, pointer) in rows {
+        assert_eq!(registry.from_bytes("Shape", bytes(digits)), Ok(value), "{digits}");
+        let error = registry.from_bytes::<Other>("Shape", bytes(digits)).unwrap_err();
+        assert_eq!((error.kind(), error.pointer()), (ErrorKind::Type, Some(pointer)), "{error}");
+    }
+    assert_eq!(registry.from_bytes("Shape", [0]), Ok(Less::Dot));
+    assert_eq!(registry.from_bytes("Shape", [0]), Ok("Dot".to_owned()));
+    let error = registry.from_bytes::<Less>("Shape", bytes("010700000000000000")).unwrap_err();
+    assert!(error.to_string().contains("unknown variant `Circle`"), "{error}");
+}
+
+#[test]
+fn types_without_a_hint_get_what_the_format_has() {
+    let signed = SIGNED.map(|(name, _)| (name, "Number(-2)"));
+    let numbers = [UNSIGNED.map(|(name, _)| (name, "Number(7)")), signed].concat();
+    let lists = two("Array [Number(1), Number(2)]");
+    let cells = [
+        ("UNIT", "Null"),
+        ("Nothing", "Null"),
+        ("BOOL", "Bool(true)"),
+        ("STR", r#"String("7")"#),
+        ("BYTES", "Array [Number(18)]"),
+        ("U8?", "Number(7)"),
+        ("(U8, BOOL)", "Array [Number(7), Bool(true)]"),
+        ("Pair", "Array [Number(7), Bool(true)]"),
+        ("{STR: U8}", r#"Object {"7": Number(1)}"#),
+        ("Point", r#"Object {"x": Number(1), "y": Number(2)}"#),
+        ("Shape", r#"Object {"Circle": Number(7)}"#),
+    ];
+    // `Some(None)` would be `Null`, as `None` is.
+    row::<Value>(&[&numbers[..], &lists, &cells].concat(), &[("{U8: BOOL}", "/0/0")]);
+    let with_values = SAMPLES.iter().filter(|(_, digits)| digits.is_some());
+    row::<IgnoredAny>(&with_values.map(|(name, _)| (*name, "IgnoredAny")).collect::<Vec<_>>(), &[]);
+}
+
+/// A type that reads the first element and leaves the rest.
+#[derive(Debug)]
+struct First;
+
+impl<'de> Deserialize<'de> for First {
+    fn deserialize<D: Deserializer<'de>>(deserializer: D) -> Result<First, D::Error> {
+        deserializer.deserialize_any(First)
+    }
+}
+
+impl<'de> Visitor<'de> for First {
+    type Value = First;
+
+    fn expecting(&self, f: &mut fmt::Formatter) -> fmt::Result {
+        f.write_str("elements")
+    }
+
+    fn visit_seq<A: SeqAccess<'de>>(self, mut seq: A) -> Result<First, A::Error> {
+        seq.next_element::<IgnoredAny>()?;
+        Ok(First)
+    }
+
+    fn visit_map<A: MapAccess<'de>>(self, mut map: A) -> Result<First, A::Error> {
+        map.next_entry::<IgnoredAny, IgnoredAny>()?;
+        Ok(First)
+    }
+}
+
+#[test]
+fn elements_that_are_left_are_an_error() {
+    row::<First>(&["BYTES", "{STR: U8}", "{U8: BOOL}", "Shape"].map(|name| (name, "First")), &[]);
+}
