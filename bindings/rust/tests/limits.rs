@@ -83,3 +83,37 @@ fn a_registry_keeps_its_own_limits() {
     assert!(copy.scan("Chain", chain(2)).is_err());
     assert_eq!(registry.scan("Chain", chain(2)), Ok(2));
 }
+
+/// The default number of nodes is 1,000,000 and 16 for each byte.
+#[test]
+fn the_default_grows_with_the_bytes() {
+    let units = &Format::json(r#"{"TUPLE":["BYTES",{"SEQ":"UNIT"}]}"#);
+    // The tuple, the bytes, the list, and its units; 3 bytes for the length of the units, and 1 or 2 for that of the bytes.
+    let input = |octets: usize, units: u32| {
+        let length = |number: u32| {
+            let digits = |shift| (number >> shift) as u8;
+            vec![digits(0) | 0x80, (digits(7) | 0x80), digits(14) & 0x7f]
+        };
+        [length(octets as u32 | 1 << 14), vec![0; octets | 1 << 14], length(units)].concat()
+    };
+    for octets in [0, 1000] {
+        let nodes = 1_000_000 + 16 * input(octets, 0).len() as u32;
+        let greatest = input(octets, nodes - 3);
+        assert_eq!(plain().scan(units, &greatest), Ok(greatest.len()));
+        assert_eq!(plain().scan(units, input(octets, nodes - 2)).unwrap_err().name(), Some("TooManyNodes"));
+        let bytes_and_more = [greatest.clone(), vec![0; 100]].concat();
+        assert_eq!(plain().scan(units, bytes_and_more), Ok(greatest.len()));
+    }
+}
+
+/// JSON is as large as what it becomes, so its nodes have no other limit by default.
+#[test]
+fn the_default_of_texts_is_the_greatest() {
+    let units = &Format::json(r#"{"SEQ":"UNIT"}"#);
+    let text = format!("[null{}]", ",null".repeat(1_199_999));
+    let encoded = plain().encode(units, &text).unwrap();
+    assert_eq!(encoded, [0x80, 0x9f, 0x49]);
+    assert_eq!(plain().decode(units, &encoded).unwrap_err().name(), Some("TooManyNodes"));
+    let trusting = plain().with_limits(Limits::STANDARD);
+    assert_eq!(trusting.decode(units, &encoded).unwrap(), text);
+}

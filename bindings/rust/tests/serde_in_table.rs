@@ -157,7 +157,7 @@ impl<'de> Visitor<'de> for ByteVisitor {
         Ok(ByteBuf(bytes))
     }
 
-    fn visit_string<E>(self, text: String) -> Result<ByteBuf, E> {
+    fn visit_str<E>(self, text: &str) -> Result<ByteBuf, E> {
         Ok(ByteBuf(text.into()))
     }
 

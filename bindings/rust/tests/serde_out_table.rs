@@ -491,6 +491,7 @@ struct Larger {
 struct Smaller {
     x: u8,
     #[serde(skip)]
+    #[allow(dead_code, reason = "the struct has it, and its JSON doesn't")]
     y: u16,
 }
 

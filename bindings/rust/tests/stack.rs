@@ -46,3 +46,55 @@ fn eight_mebibytes_are_enough_for_500_containers() {
 fn two_mebibytes_are_enough_for_100_containers() {
     judge_on_stack(2, 100);
 }
+
+/// What calls answer on a stack of this many KiB.
+fn on_stack<T: Send + 'static>(kibibytes: usize, calls: impl FnOnce() -> T + Send + 'static) -> T {
+    thread::Builder::new().stack_size(kibibytes << 10).spawn(calls).unwrap().join().unwrap()
+}
+
+/// A thread with less stack gets an error for what is too deep, and nothing crashes.
+#[test]
+fn a_small_stack_is_no_crash() {
+    for kibibytes in [64, 96, 128, 256, 512, 1024, 2048, 4096] {
+        for level in LEVELS {
+            let (registry, bytes) = (chain_of(level), chain(500));
+            let length = bytes.len();
+            let (scanned, part, decoded) = on_stack(kibibytes, move || {
+                let part = registry.part("Chain", &bytes, ".").map(|part| part.unwrap().bytes.len());
+                (registry.scan("Chain", &bytes), part, registry.decode("Chain", &bytes))
+            });
+            let label = format!("{kibibytes} KiB, {level:?}");
+            assert!([Ok(length), Err(ErrorKind::Memory.into())].contains(&scanned), "{label}: {scanned:?}");
+            assert!([Ok(length), Err(ErrorKind::Memory.into())].contains(&part), "{label}: {part:?}");
+            let decoded = decoded.unwrap_err();
+            assert!([ErrorKind::TooNested, ErrorKind::Memory].contains(&decoded.kind()), "{label}: {decoded}");
+        }
+    }
+}
+
+/// In a list of links each is a container in the one before. 128 KiB hold some of them, and 1 MiB as many as JSON may nest.
+#[test]
+fn a_small_stack_is_enough_for_what_fits() {
+    let registry = Registry::read(r#"{"Chain":{"STRUCT":[{"next":{"OPTION":{"TYPENAME":"Chain"}}}]}}"#).unwrap();
+    let bytes = |containers: usize| [vec![1; containers - 1], vec![0]].concat();
+    let text = |containers: usize| {
+        r#"{"next":{"some":"#.repeat(containers - 1) + r#"{"next":null}"# + &"}}".repeat(containers - 1)
+    };
+    for (kibibytes, few) in [(128, 3), (256, 10), (1024, 50), (2048, 50), (8192, 50)] {
+        let registry = registry.clone();
+        on_stack(kibibytes, move || {
+            assert_eq!(registry.encode("Chain", text(few)), Ok(bytes(few)), "{kibibytes} KiB");
+            assert_eq!(registry.decode("Chain", bytes(few)), Ok(text(few)), "{kibibytes} KiB");
+            assert_eq!(registry.normalise("Chain", text(few)), Ok(text(few)), "{kibibytes} KiB");
+            assert_eq!(registry.equal("Chain", text(few), text(few)), Ok(true), "{kibibytes} KiB");
+            for call in [registry.encode("Chain", text(50)).map(drop), registry.decode("Chain", bytes(50)).map(drop)] {
+                assert!([Ok(()), Err(ErrorKind::Memory.into())].contains(&call), "{kibibytes} KiB: {call:?}");
+            }
+            // What is refused on every stack is refused for what it is.
+            let error = registry.scan("Chain", [vec![1; 2], vec![2]].concat()).unwrap_err();
+            assert_eq!((error.name(), error.place()), (Some("BadOption"), Some(2)), "{kibibytes} KiB");
+            let shallow = registry.with_limits(Limits { depth: 2, ..Limits::default() });
+            assert_eq!(shallow.scan("Chain", bytes(3)).unwrap_err().name(), Some("TooDeep"), "{kibibytes} KiB");
+        });
+    }
+}

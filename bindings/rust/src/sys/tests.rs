@@ -1,11 +1,13 @@
 //! The declarations beside the library's header and its names of faults.
 use super::Answer;
 use crate::faults::{GrowthFault, Reason, RegistryFault, TextFault};
+use crate::limits::Limits;
 use crate::sys;
 use std::collections::BTreeMap;
 use std::mem::{offset_of, size_of};
 use std::path::PathBuf;
 use std::process::Command;
+use std::sync::atomic::{AtomicU32, Ordering};
 use std::{env, fs};
 
 fn header_folder() -> PathBuf {
@@ -27,12 +29,63 @@ fn layouts_are_those_of_the_header() {
     }
 }
 
+#[test]
+fn default_nodes_are_those_of_the_header() {
+    let lengths = [0, 5, 1 << 20, 268_372_955, 268_372_956, usize::MAX];
+    let expressions = lengths.map(|length| format!("(size_t)bcs_nodes_for({length}u)"));
+    let told = ask_c_compiler(&expressions.each_ref().map(String::as_str));
+    assert_eq!(told, lengths.map(|length| Limits::default().nodes_of_bytes(length) as usize));
+}
+
+/// A C compiler accepts this crate's declarations beside those of the header only if their types are the same.
+#[test]
+fn declarations_are_those_of_the_header() {
+    let source = include_str!("../sys.rs");
+    let block = source.split_once("unsafe extern \"C\" {").unwrap().1.split_once("\n}").unwrap().0;
+    let calls = block.split(';').filter_map(|call| call.split_once("fn ").map(|(_, call)| c_declaration(call)));
+    let calls: Vec<String> = calls.collect();
+    // Those that open, close and grow a registry, ten on a handle, and those of places and names.
+    assert_eq!(calls.len(), 15);
+    assert_eq!(calls[1], "void bcs_close(bcs_handle *);");
+    run_c(&calls.concat(), "");
+}
+
+/// `name(parameter: type, ..) -> Answer` in C.
+fn c_declaration(call: &str) -> String {
+    let (name, rest) = call.split_once('(').unwrap();
+    let (parameters, answer) = rest.split_once(')').unwrap();
+    let answer = if answer.trim() == "-> Answer" { "bcs_answer" } else { "void" };
+    let parameters = parameters.split(',').filter_map(|parameter| parameter.split_once(": "));
+    let types: Vec<&str> = parameters.map(|(_, of_rust)| c_type(of_rust.trim())).collect();
+    format!("{answer} {name}({});", types.join(", "))
+}
+
+fn c_type(of_rust: &str) -> &'static str {
+    match of_rust {
+        "*const u8" => "const uint8_t *",
+        "*mut u8" => "uint8_t *",
+        "*mut Handle" => "bcs_handle *",
+        "*mut *mut Handle" => "bcs_handle **",
+        "u32" => "uint32_t",
+        "usize" => "size_t",
+        _ => panic!("no type of C is known for {of_rust}"),
+    }
+}
+
 /// What a C compiler says of expressions, by the header.
 fn ask_c_compiler(expressions: &[&str]) -> Vec<usize> {
-    let folder = env::temp_dir().join(format!("bcs-layouts-{}", std::process::id()));
-    fs::create_dir_all(&folder).unwrap();
     let lines: String = expressions.iter().map(|it| format!("printf(\"%zu\\n\", {it});\n")).collect();
-    let source = format!("#include <bcs.h>\n#include <stdio.h>\nint main(void) {{\n{lines}return 0;\n}}\n");
+    run_c("", &lines).lines().map(|line| line.parse().unwrap()).collect()
+}
+
+/// What a program in C prints that has these declarations and lines.
+fn run_c(declarations: &str, lines: &str) -> String {
+    static RUNS: AtomicU32 = AtomicU32::new(0);
+    let run = RUNS.fetch_add(1, Ordering::Relaxed);
+    let folder = env::temp_dir().join(format!("bcs-layouts-{}-{run}", std::process::id()));
+    fs::create_dir_all(&folder).unwrap();
+    let source =
+        format!("#include <bcs.h>\n#include <stdio.h>\n{declarations}\nint main(void) {{\n{lines}return 0;\n}}\n");
     fs::write(folder.join("layouts.c"), source).unwrap();
     let compiler = env::var("CC").unwrap_or("cc".into());
     let status = Command::new(&compiler)
@@ -46,7 +99,7 @@ fn ask_c_compiler(expressions: &[&str]) -> Vec<usize> {
     assert!(status.success(), "{compiler} compiles the header");
     let output = Command::new(folder.join("layouts")).output().unwrap();
     fs::remove_dir_all(&folder).unwrap();
-    String::from_utf8(output.stdout).unwrap().lines().map(|line| line.parse().unwrap()).collect()
+    String::from_utf8(output.stdout).unwrap()
 }
 
 /// The constants that the header's enums name, with their numbers.
