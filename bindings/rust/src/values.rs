@@ -9,6 +9,15 @@ use serde::Serialize;
 use serde::de::DeserializeOwned;
 use serde_json::Value;
 
+/// Whether arrays and objects nest more than so many levels deep.
+fn nests(value: &Value, levels: u32) -> bool {
+    match value {
+        Value::Array(values) => levels == 0 || values.iter().any(|value| nests(value, levels - 1)),
+        Value::Object(members) => levels == 0 || members.values().any(|value| nests(value, levels - 1)),
+        _ => false,
+    }
+}
+
 /// With the feature `serde_json`.
 impl Registry {
     /// The bytes of the value that a JSON value denotes. Numbers beyond 64 bits stand in it as strings.
@@ -23,6 +32,10 @@ impl Registry {
     /// # Ok::<(), bcs_proved::Error>(())
     /// ```
     pub fn encode_value(&self, format: impl Into<Format>, value: &Value) -> Result<Vec<u8>, Error> {
+        if nests(value, 127) {
+            // Writing it would exhaust the stack. The library rejects any text that nests so deep.
+            return self.encode(format, "[".repeat(128) + &"]".repeat(128));
+        }
         self.encode(format, value.to_string())
     }
 
@@ -42,9 +55,11 @@ impl Registry {
         Ok(serde_json::from_str(&text).expect("a normal text is JSON"))
     }
 
-    /// The bytes of a value of a type that `serde` knows. A struct is a STRUCT, a newtype a NEWTYPESTRUCT, a tuple struct a
-    /// TUPLESTRUCT, an enum an ENUM by the names of its variants, a `HashMap` or `BTreeMap` a MAP. BYTES are what
-    /// `serde` takes for bytes, as with the crate `serde_bytes`; a `Vec<u8>` is a SEQ of U8.
+    /// The bytes of a value of a `serde` type, by the format: each part has to be of the format's kind, and none is guessed.
+    /// Anything else is rejected with its JSON Pointer, as [`ErrorKind::Type`](crate::ErrorKind::Type). The README of this
+    /// crate has a table of what each format takes.
+    ///
+    /// `serialize` is called with `is_human_readable` false, since registries have the binary form of types.
     ///
     /// ```
     /// use bcs_proved::Registry;
@@ -61,6 +76,9 @@ impl Registry {
     /// let bytes = registry.to_bytes("Payment", &payment)?;
     /// assert_eq!(bytes, b"\x03bob\x07\0\0\0\0\0\0\0");
     /// assert_eq!(registry.from_bytes::<Payment>("Payment", &bytes)?, payment);
+    ///
+    /// let error = registry.to_bytes("Payment", &("bob", 7)).unwrap_err();
+    /// assert_eq!(error.to_string(), "the type doesn't fit: STRUCT takes a struct, not a tuple");
     /// # Ok::<(), bcs_proved::Error>(())
     /// ```
     pub fn to_bytes<T: Serialize + ?Sized>(&self, format: impl Into<Format>, value: &T) -> Result<Vec<u8>, Error> {
@@ -73,7 +91,22 @@ impl Registry {
         }
     }
 
-    /// The value whose bytes these are, all of them, as a type that `serde` knows.
+    /// The value whose bytes these are, all of them, as a `serde` type. A type of another kind than the format is rejected with
+    /// the JSON Pointer of the part, as [`ErrorKind::Type`](crate::ErrorKind::Type); so is one that leaves elements unread.
+    ///
+    /// ```
+    /// use bcs_proved::{ErrorKind, Registry};
+    ///
+    /// let registry = Registry::read("{}")?;
+    /// let pair = r#"{"TUPLE":["U8","U64"]}"#;
+    /// let bytes = [7, 8, 0, 0, 0, 0, 0, 0, 0];
+    /// assert_eq!(registry.from_bytes::<(u8, u64)>(pair, bytes)?, (7, 8));
+    ///
+    /// let error = registry.from_bytes::<(u8, f64)>(pair, bytes).unwrap_err();
+    /// assert_eq!((error.kind(), error.pointer()), (ErrorKind::Type, Some("/1")));
+    /// assert_eq!(error.expected(), Some("U64 takes an integer, not an f64"));
+    /// # Ok::<(), bcs_proved::Error>(())
+    /// ```
     pub fn from_bytes<T: DeserializeOwned>(
         &self,
         format: impl Into<Format>,
