@@ -233,7 +233,7 @@ impl PartialEq<ErrorKind> for Error {
 impl From<crate::mismatch::Mismatch> for Error {
     fn from(mismatch: crate::mismatch::Mismatch) -> Error {
         let told = Told { pointer: mismatch.pointer, expected: mismatch.words };
-        Error { kind: mismatch.kind, told: Some(Box::new(told)) }
+        Error { kind: mismatch.kind, told: (mismatch.kind != ErrorKind::Memory).then(|| Box::new(told)) }
     }
 }
 

@@ -31,6 +31,11 @@ impl Mismatch {
         Mismatch { kind: ErrorKind::Text(fault), ..Mismatch::new(fault.meaning()) }
     }
 
+    /// The thread has too little stack for a value that nests so deep.
+    pub(crate) fn out_of_stack() -> Mismatch {
+        Mismatch { kind: ErrorKind::Memory, ..Mismatch::new("") }
+    }
+
     /// The same of a member or an element. The library reports `TooNested` for the whole value, so this does, too.
     pub(crate) fn under(mut self, step: impl fmt::Display) -> Mismatch {
         if self.kind == ErrorKind::Type {

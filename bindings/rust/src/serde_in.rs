@@ -90,7 +90,7 @@ impl<'w> Reader<'w> {
             _ => return other_json(),
         };
         let json = members.remove("some").unwrap_or_default();
-        let content = Reader { at: self.at.to(content), json };
+        let content = Reader { at: self.at.part(content)?, json };
         // A type that isn't an option rejects this one, and not what it holds.
         visitor
             .visit_some(content)
@@ -294,7 +294,7 @@ impl<'de> SeqAccess<'de> for Items<'_> {
         };
         let place = self.count;
         self.count += 1;
-        let element = seed.deserialize(Reader { at: self.at.to(shape), json });
+        let element = seed.deserialize(Reader { at: self.at.part(shape)?, json });
         element.map(Some).map_err(|error| error.under(place))
     }
 
@@ -339,7 +339,7 @@ impl<'de> MapAccess<'de> for Members<'_> {
             return Err(Mismatch::new("a map's value came before its key"));
         };
         let shape = self.parts.get(&name).unwrap_or(&VOID);
-        seed.deserialize(Reader { at: self.at.to(shape), json }).map_err(|error| error.under(name))
+        seed.deserialize(Reader { at: self.at.part(shape)?, json }).map_err(|error| error.under(name))
     }
 
     fn size_hint(&self) -> Option<usize> {
@@ -368,7 +368,7 @@ impl Entries<'_> {
         let Shape::Entry(halves) = self.entry.shape else {
             return other_json();
         };
-        let half_of = Reader { at: self.entry.to(&halves[half]), json };
+        let half_of = Reader { at: self.entry.part(&halves[half])?, json };
         seed.deserialize(half_of).map_err(|error| error.under(half).under(self.count))
     }
 }

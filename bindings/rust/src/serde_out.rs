@@ -104,7 +104,7 @@ impl<'w> Writer<'w> {
     fn put_member<T: Serialize + ?Sized>(mut self, name: &str, shape: &'w Shape, value: &T) -> Result<(), Mismatch> {
         self.open('{')?;
         write!(self.out, "{}:", Quoted(name)).map_err(Mismatch::new)?;
-        let part = Writer { at: self.at.to(shape), nested: self.nested, out: &mut *self.out };
+        let part = Writer { at: self.at.part(shape)?, nested: self.nested, out: &mut *self.out };
         value.serialize(part).map_err(|error| error.under(name))?;
         self.out.push('}');
         Ok(())
@@ -343,7 +343,7 @@ impl Items<'_> {
         if self.count > 0 && !matches!(shape, Shape::Octet) {
             out.push(',');
         }
-        let part = Writer { at: at.to(shape), nested: *nested, out };
+        let part = Writer { at: at.part(shape)?, nested: *nested, out };
         value.serialize(part).map_err(|error| in_variant(self.variant, error.under(self.count)))?;
         self.count += 1;
         Ok(())
@@ -405,7 +405,7 @@ impl Fields<'_> {
         let Writer { at, nested, out } = &mut self.writer;
         let comma = if self.count > 0 { "," } else { "" };
         write!(out, "{comma}{}:", Quoted(name)).map_err(Mismatch::new)?;
-        let part = Writer { at: at.to(shape), nested: *nested, out };
+        let part = Writer { at: at.part(shape)?, nested: *nested, out };
         value.serialize(part).map_err(|error| in_variant(self.variant, error.under(name)))?;
         self.count += 1;
         Ok(())
@@ -471,7 +471,7 @@ fn put_half<T: Serialize + ?Sized>(
     let Shape::Entry(halves) = entry else {
         return Err(Mismatch::unfit(entry, "a map"));
     };
-    let part = Writer { at: writer.at.to(&halves[half]), nested: writer.nested, out: &mut *writer.out };
+    let part = Writer { at: writer.at.part(&halves[half])?, nested: writer.nested, out: &mut *writer.out };
     value.serialize(part).map_err(|error| error.under(half).under(count))
 }
 

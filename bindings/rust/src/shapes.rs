@@ -1,4 +1,5 @@
 //! The formats of a registry, for walking them together with a value of a `serde` type.
+use crate::mismatch::Mismatch;
 use serde_json::Value;
 use std::collections::HashMap;
 
@@ -150,17 +151,30 @@ pub(crate) struct At<'w> {
     shapes: &'w Shapes,
     /// How many more containers may be opened.
     depth: u32,
+    /// How many parts the walk went into.
+    levels: u32,
+    /// Whether the thread has stack left for a call of the library, which is more than some levels need.
+    has_stack: &'w dyn Fn() -> bool,
 }
 
 impl<'w> At<'w> {
-    pub(crate) fn new(shape: &'w Shape, shapes: &'w Shapes, depth: u32) -> At<'w> {
+    pub(crate) fn new(shape: &'w Shape, shapes: &'w Shapes, depth: u32, has_stack: &'w dyn Fn() -> bool) -> At<'w> {
         // The library rejects a larger depth. The bound keeps newtypes that name themselves from being followed for long.
-        At { shape, shapes, depth: depth.min(500) }
+        At { shape, shapes, depth: depth.min(500), levels: 0, has_stack }
     }
 
-    /// At a part.
+    /// At another format of the same level: a variant's payload, or a name.
     pub(crate) fn to(self, shape: &'w Shape) -> At<'w> {
         At { shape, ..self }
+    }
+
+    /// At a part. Each level calls the code of a type, so every few levels the stack is looked at.
+    pub(crate) fn part(self, shape: &'w Shape) -> Result<At<'w>, Mismatch> {
+        let levels = self.levels + 1;
+        if levels % 8 == 0 && !(self.has_stack)() {
+            return Err(Mismatch::out_of_stack());
+        }
+        Ok(At { shape, levels, ..self })
     }
 
     /// At what the containers hold that open here.

@@ -1,5 +1,5 @@
 //! Values as `serde_json` holds them.
-use crate::error::Error;
+use crate::error::{Error, ErrorKind};
 use crate::format::Format;
 use crate::registry::Registry;
 use crate::serde_in::value_of;
@@ -84,7 +84,7 @@ impl Registry {
     pub fn to_bytes<T: Serialize + ?Sized>(&self, format: impl Into<Format>, value: &T) -> Result<Vec<u8>, Error> {
         let format = format.into();
         let shape = Shape::read(format.as_json());
-        match json_of(value, self.at(&shape)) {
+        match json_of(value, self.at(&shape, &|| self.has_stack())) {
             Ok(text) => self.encode(format, text),
             // A format that the registry doesn't have is reported before what the value is.
             Err(mismatch) => self.check(format).and(Err(mismatch.into())),
@@ -115,10 +115,15 @@ impl Registry {
         let format = format.into();
         let json = self.decode_value(&format, bytes)?;
         let shape = Shape::read(format.as_json());
-        Ok(value_of(json, self.at(&shape))?)
+        Ok(value_of(json, self.at(&shape, &|| self.has_stack()))?)
     }
 
-    fn at<'w>(&'w self, shape: &'w Shape) -> At<'w> {
-        At::new(shape, self.shapes.get_or_init(|| read_registry(self.text())), self.limits().depth)
+    fn at<'w>(&'w self, shape: &'w Shape, has_stack: &'w dyn Fn() -> bool) -> At<'w> {
+        At::new(shape, self.shapes.get_or_init(|| read_registry(self.text())), self.limits().depth, has_stack)
+    }
+
+    /// Whether the thread has stack left. Rust doesn't know, and the library does: no call succeeds without some of it.
+    fn has_stack(&self) -> bool {
+        self.check(r#""UNIT""#) != Err(ErrorKind::Memory.into())
     }
 }

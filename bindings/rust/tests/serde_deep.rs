@@ -105,6 +105,36 @@ fn deep_json_is_rejected() {
     assert_eq!(chain().encode_value("Chain", &nested(128)).unwrap_err(), ErrorKind::Text(TextFault::NotJson));
 }
 
+#[derive(serde::Serialize, Deserialize, Debug, PartialEq)]
+struct Link {
+    next: Option<Box<Link>>,
+    amount: u64,
+    memo: String,
+}
+
+/// The code of a type uses the stack before the library does, or after it.
+#[test]
+fn a_small_stack_is_no_crash() {
+    let fields = r#"{"next":{"OPTION":{"TYPENAME":"Link"}}},{"amount":"U64"},{"memo":"STR"}"#;
+    let registry = &Registry::read(format!(r#"{{"Link":{{"STRUCT":[{fields}]}}}}"#)).unwrap();
+    let link = |next| Link { next, amount: 7, memo: "x".into() };
+    let links = &(0..49).fold(link(None), |next, _| link(Some(Box::new(next))));
+    let bytes = &[vec![1; 49], vec![0], [7, 0, 0, 0, 0, 0, 0, 0, 1, b'x'].repeat(50)].concat();
+    for kibibytes in [64, 96, 128, 160, 192, 224, 256, 320, 384, 512, 1024] {
+        let calls = || (registry.to_bytes("Link", links), registry.from_bytes::<Link>("Link", bytes));
+        let (encoded, decoded) = thread::scope(|scope| {
+            thread::Builder::new().stack_size(kibibytes << 10).spawn_scoped(scope, calls).unwrap().join().unwrap()
+        });
+        let memory = || ErrorKind::Memory.into();
+        if kibibytes < 1024 {
+            assert!([Ok(bytes), Err(&memory())].contains(&encoded.as_ref()), "{kibibytes} KiB: {encoded:?}");
+            assert!([Ok(links), Err(&memory())].contains(&decoded.as_ref()), "{kibibytes} KiB: {decoded:?}");
+        } else {
+            assert_eq!((encoded.as_ref(), decoded.as_ref()), (Ok(bytes), Ok(links)));
+        }
+    }
+}
+
 /// A registry in many threads, whose formats are read for the first of them.
 #[test]
 fn threads_share_the_formats() {
