@@ -17,7 +17,7 @@
 //! A registry stands in a file mostly, as `Registry::read(include_str!("registry.json"))?` or
 //! `Registry::read(std::fs::read("registry.json")?)?`.
 //!
-//! With the feature `serde_json` values come in and go out as `serde_json::Value` too.
+//! With the feature `serde_json`, values may also be a `serde_json::Value` or of your own `serde` types.
 
 mod error;
 mod explanation;
@@ -45,7 +45,7 @@ pub use format::Format;
 pub use limits::Limits;
 pub use registry::{Part, Registry};
 
-/// The examples of the README are tested with those of the crate.
-#[cfg(doctest)]
+/// The examples of the README are tested with those of the crate. One of them needs the feature.
+#[cfg(all(doctest, feature = "serde_json"))]
 #[doc = include_str!("../README.md")]
 struct Readme;

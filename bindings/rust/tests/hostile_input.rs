@@ -15,10 +15,13 @@ fn peak_memory() -> u64 {
 
 /// Each call that reads bytes.
 fn stops(registry: &Registry, format: &Format) -> Vec<Result<Stop, Error>> {
-    let rejected = |error: Error| match error.kind() {
-        ErrorKind::Bytes(stop) => Ok(stop),
+    // 1,000,080 nodes are the list and 1,000,079 values, so the value of this number is one too many. Finding that out reads
+    // the bytes once more, with the same limits.
+    let rejected = |error: Error| match (error.kind(), error.pointer()) {
+        (ErrorKind::Bytes(stop), Some("[1000079]")) => Ok(stop),
         _ => Err(error),
     };
+    #[allow(unused_mut, reason = "the feature serde_json has more calls")]
     let mut stops = vec![
         rejected(registry.decode(format, BYTES).unwrap_err()),
         rejected(registry.scan(format, BYTES).unwrap_err()),
