@@ -14,7 +14,7 @@ use std::alloc::Global;
 
 /// Whether the registry, the format and the limits are good.
 #[unsafe(no_mangle)]
-pub extern "C" fn bcs_check(alloc: Global, ask: &Ask) -> Answer
+pub extern "C" fn bcs_c_check(alloc: Global, ask: &Ask) -> Answer
     ensures answers { Answers (by_texts ask.now) result (λ r l s. result ≡ plain Done) }
     ensures good { Whatever (by_texts ask.now) (λ r l s. IsUnlessMemory result (plain Done)) }
 {

@@ -18,7 +18,7 @@ use std::alloc::Global;
 
 /// The input piece by piece, at the front of the output. Where it stops being a value, the answer tells so too.
 #[unsafe(no_mangle)]
-pub extern "C" fn bcs_explain(
+pub extern "C" fn bcs_c_explain(
     alloc: Global,
     ask: &Ask,
     form: u32,

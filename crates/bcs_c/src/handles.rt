@@ -37,7 +37,7 @@ use std::alloc::Global;
 
 /// Reads a registry and keeps it in the handle, in the place of one that was open.
 #[unsafe(no_mangle)]
-pub extern "C" fn bcs_open(alloc: Global, handle: &mut Handle, registry: &[u8]) -> Answer
+pub extern "C" fn bcs_c_open(alloc: Global, handle: &mut Handle, registry: &[u8]) -> Answer
     ensures answers { AnswersOpening registry.now handle.old.registry handle.new.registry result }
     ensures good { (r : Entries) → IsRegistry registry.now r → IsUnlessMemory result (plain Done) }
 {
@@ -49,7 +49,7 @@ pub extern "C" fn bcs_open(alloc: Global, handle: &mut Handle, registry: &[u8]) 
 
 /// Lets the registry go that is open, if one is.
 #[unsafe(no_mangle)]
-pub extern "C" fn bcs_close(alloc: Global, handle: &mut Handle)
+pub extern "C" fn bcs_c_close(alloc: Global, handle: &mut Handle)
     ensures { handle.new.registry ≡ None }
 {
     handle.close(alloc);
@@ -57,7 +57,7 @@ pub extern "C" fn bcs_close(alloc: Global, handle: &mut Handle)
 
 /// Whether the format and the limits are good.
 #[unsafe(no_mangle)]
-pub extern "C" fn bcs_handle_check(alloc: Global, handle: &mut Handle, ask: &HandleAsk) -> Answer
+pub extern "C" fn bcs_c_handle_check(alloc: Global, handle: &mut Handle, ask: &HandleAsk) -> Answer
     ensures answers { Answers (on_handle handle.old.registry ask.now) result (λ r l s. result ≡ plain Done) }
     ensures good { Whatever (on_handle handle.old.registry ask.now) (λ r l s. IsUnlessMemory result (plain Done)) }
     ensures kept { handle.new.registry ≡ handle.old.registry }
@@ -72,7 +72,7 @@ pub extern "C" fn bcs_handle_check(alloc: Global, handle: &mut Handle, ask: &Han
 
 /// The bytes of the value that a JSON text denotes, at the front of the output.
 #[unsafe(no_mangle)]
-pub extern "C" fn bcs_handle_to_bcs(
+pub extern "C" fn bcs_c_handle_to_bcs(
     alloc: Global,
     handle: &mut Handle,
     ask: &HandleAsk,
@@ -93,7 +93,7 @@ pub extern "C" fn bcs_handle_to_bcs(
 
 /// The text of the value whose bytes are the whole input, at the front of the output.
 #[unsafe(no_mangle)]
-pub extern "C" fn bcs_handle_from_bcs(
+pub extern "C" fn bcs_c_handle_from_bcs(
     alloc: Global,
     handle: &mut Handle,
     ask: &HandleAsk,
@@ -114,7 +114,7 @@ pub extern "C" fn bcs_handle_from_bcs(
 
 /// The one normal text of what a JSON text denotes, at the front of the output.
 #[unsafe(no_mangle)]
-pub extern "C" fn bcs_handle_normalise(
+pub extern "C" fn bcs_c_handle_normalise(
     alloc: Global,
     handle: &mut Handle,
     ask: &HandleAsk,
@@ -135,7 +135,7 @@ pub extern "C" fn bcs_handle_normalise(
 
 /// Whether two JSON texts denote equal values.
 #[unsafe(no_mangle)]
-pub extern "C" fn bcs_handle_compare(
+pub extern "C" fn bcs_c_handle_compare(
     alloc: Global,
     handle: &mut Handle,
     ask: &HandleAsk,
@@ -155,7 +155,7 @@ pub extern "C" fn bcs_handle_compare(
 
 /// How many bytes the value at the front of the input has.
 #[unsafe(no_mangle)]
-pub extern "C" fn bcs_handle_scan(
+pub extern "C" fn bcs_c_handle_scan(
     alloc: Global,
     handle: &mut Handle,
     ask: &HandleAsk,
@@ -178,7 +178,7 @@ pub extern "C" fn bcs_handle_scan(
 
 /// Where the part of the value at the front of the input stands to which the path leads.
 #[unsafe(no_mangle)]
-pub extern "C" fn bcs_handle_part(
+pub extern "C" fn bcs_c_handle_part(
     alloc: Global,
     handle: &mut Handle,
     ask: &HandleAsk,
@@ -202,7 +202,7 @@ pub extern "C" fn bcs_handle_part(
 
 /// The input piece by piece, at the front of the output. Where it stops being a value, the answer tells so too.
 #[unsafe(no_mangle)]
-pub extern "C" fn bcs_handle_explain(
+pub extern "C" fn bcs_c_handle_explain(
     alloc: Global,
     handle: &mut Handle,
     ask: &HandleAsk,
@@ -224,7 +224,7 @@ pub extern "C" fn bcs_handle_explain(
 
 /// Where a JSON text is refused, or what was wanted there, at the front of the output.
 #[unsafe(no_mangle)]
-pub extern "C" fn bcs_handle_text_place(
+pub extern "C" fn bcs_c_handle_text_place(
     alloc: Global,
     handle: &mut Handle,
     ask: &HandleAsk,
@@ -246,7 +246,7 @@ pub extern "C" fn bcs_handle_text_place(
 
 /// The way to where bytes stop being a value, or what was wanted there, at the front of the output.
 #[unsafe(no_mangle)]
-pub extern "C" fn bcs_handle_stop_place(
+pub extern "C" fn bcs_c_handle_stop_place(
     alloc: Global,
     handle: &mut Handle,
     ask: &HandleAsk,

@@ -11,7 +11,7 @@ use crate::status::Status;
 
 /// The name of the fault that has this number, at the front of the output.
 #[unsafe(no_mangle)]
-pub extern "C" fn bcs_fault_name(fault: u32, out: &mut [u8]) -> Answer
+pub extern "C" fn bcs_c_fault_name(fault: u32, out: &mut [u8]) -> Answer
     ensures answers { AnswersName fault out.old out.new result }
     ensures untouched { result.status ≢ status_number Done → out.new ≡ out.old }
 {

@@ -27,7 +27,7 @@ use std::alloc::Global;
 
 /// Where the part of the value at the front of the input stands to which the path leads.
 #[unsafe(no_mangle)]
-pub extern "C" fn bcs_part(alloc: Global, ask: &Ask, bytes: &[u8], path: &[u8]) -> Answer
+pub extern "C" fn bcs_c_part(alloc: Global, ask: &Ask, bytes: &[u8], path: &[u8]) -> Answer
     ensures answers { Answers (by_texts ask.now) result (λ r l s. AnswersPart r l s bytes.now path.now result) }
     ensures only { Whatever (by_texts ask.now) (λ r l s. (steps : Steps) (n : ℕ) (c : Tree) → IsPath path.now steps → Accepts r l s bytes.now n c
         → result ≢ plain Memory → Finds r bytes.now (part_at r steps (of s) c) result) }

@@ -26,7 +26,7 @@ use std::alloc::{AllocError, Global};
 
 /// Where a JSON text is refused, or what was wanted there, at the front of the output.
 #[unsafe(no_mangle)]
-pub extern "C" fn bcs_text_place(
+pub extern "C" fn bcs_c_text_place(
     alloc: Global,
     ask: &Ask,
     what: u32,
@@ -124,7 +124,7 @@ fn words_of_text(alloc: Global, asked: &Asked, text: &[u8], fault: JsonFault) ->
 
 /// The way to where bytes stop being a value, or what was wanted there, at the front of the output.
 #[unsafe(no_mangle)]
-pub extern "C" fn bcs_stop_place(
+pub extern "C" fn bcs_c_stop_place(
     alloc: Global,
     ask: &Ask,
     what: u32,
@@ -165,7 +165,7 @@ pub(crate) fn place_of_stop(
 
 /// Where the text of a registry is refused, or what was wanted there, at the front of the output.
 #[unsafe(no_mangle)]
-pub extern "C" fn bcs_registry_place(
+pub extern "C" fn bcs_c_registry_place(
     alloc: Global,
     what: u32,
     registry: &[u8],

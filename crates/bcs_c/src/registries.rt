@@ -40,7 +40,7 @@ pub(crate) fn read_format(alloc: Global, registry: &Registry, text: &[u8]) -> Re
 
 /// Whether the newer registry is the older one grown. The older one is read first.
 #[unsafe(no_mangle)]
-pub extern "C" fn bcs_grows(alloc: Global, older: &[u8], newer: &[u8]) -> Answer
+pub extern "C" fn bcs_c_grows(alloc: Global, older: &[u8], newer: &[u8]) -> Answer
     ensures answers { AnswersTwo older.now newer.now result }
     ensures grown { (r q : Entries) → IsRegistry older.now r → IsRegistry newer.now q → Grows r q → IsUnlessMemory result (plain Done) }
     ensures broken { (r q : Entries) (e : GrowthFault) → IsRegistry older.now r → IsRegistry newer.now q → IsFirstGrowthFault r q e

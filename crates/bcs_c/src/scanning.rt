@@ -23,7 +23,7 @@ use std::alloc::Global;
 
 /// How many bytes the value at the front of the input has.
 #[unsafe(no_mangle)]
-pub extern "C" fn bcs_scan(alloc: Global, ask: &Ask, bytes: &[u8]) -> Answer
+pub extern "C" fn bcs_c_scan(alloc: Global, ask: &Ask, bytes: &[u8]) -> Answer
     ensures answers { Answers (by_texts ask.now) result (λ r l s. AnswersScan r l s bytes.now result) }
     ensures only { Whatever (by_texts ask.now) (λ r l s. (n : ℕ) (c : Tree) → Accepts r l s bytes.now n c → IsUnlessMemory result (sized Done n)) }
     ensures stopped { Whatever (by_texts ask.now) (λ r l s. (e : Reason) (o : ℕ) → Stops r l s bytes.now e o → IsUnlessMemory result (stop_at e o)) }

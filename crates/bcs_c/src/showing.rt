@@ -18,7 +18,7 @@ use std::alloc::Global;
 
 /// The text of the value whose bytes are the whole input, at the front of the output.
 #[unsafe(no_mangle)]
-pub extern "C" fn bcs_from_bcs(alloc: Global, ask: &Ask, bytes: &[u8], out: &mut [u8]) -> Answer
+pub extern "C" fn bcs_c_from_bcs(alloc: Global, ask: &Ask, bytes: &[u8], out: &mut [u8]) -> Answer
     ensures answers { Answers (by_texts ask.now) result (λ r l s. AnswersBytes r l s bytes.now out.old out.new result) }
     ensures untouched { result.status ≢ status_number Done → out.new ≡ out.old }
 {

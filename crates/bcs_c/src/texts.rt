@@ -19,7 +19,7 @@ use std::alloc::Global;
 
 /// The bytes of the value that a JSON text denotes, at the front of the output.
 #[unsafe(no_mangle)]
-pub extern "C" fn bcs_to_bcs(alloc: Global, ask: &Ask, text: &[u8], out: &mut [u8]) -> Answer
+pub extern "C" fn bcs_c_to_bcs(alloc: Global, ask: &Ask, text: &[u8], out: &mut [u8]) -> Answer
     ensures answers { Answers (by_texts ask.now) result (λ r l s. AnswersText r l s (HasBytes r l s text.now) text.now out.old out.new result) }
     ensures untouched { result.status ≢ status_number Done → out.new ≡ out.old }
 {
@@ -52,7 +52,7 @@ pub(crate) fn text_bytes(
 
 /// The one normal text of what a JSON text denotes, at the front of the output.
 #[unsafe(no_mangle)]
-pub extern "C" fn bcs_normalise(alloc: Global, ask: &Ask, text: &[u8], out: &mut [u8]) -> Answer
+pub extern "C" fn bcs_c_normalise(alloc: Global, ask: &Ask, text: &[u8], out: &mut [u8]) -> Answer
     ensures answers { Answers (by_texts ask.now) result (λ r l s. AnswersText r l s (Normalises r l s text.now) text.now out.old out.new result) }
     ensures untouched { result.status ≢ status_number Done → out.new ≡ out.old }
 {
@@ -85,7 +85,7 @@ pub(crate) fn normal_text(
 
 /// Whether two JSON texts denote equal values.
 #[unsafe(no_mangle)]
-pub extern "C" fn bcs_compare(alloc: Global, ask: &Ask, first: &[u8], second: &[u8]) -> Answer
+pub extern "C" fn bcs_c_compare(alloc: Global, ask: &Ask, first: &[u8], second: &[u8]) -> Answer
     ensures { Answers (by_texts ask.now) result (λ r l s. AnswersTexts r l s first.now second.now result) }
 {
     match read_registry(alloc, ask.registry, Status::Registry) {

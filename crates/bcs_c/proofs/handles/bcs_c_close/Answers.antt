@@ -1,0 +1,5 @@
+use Rattle.std.proofs.Common.{rules}
+use Rattle.bcs_c.proofs.handles.bcs_c_close.Goals as goal
+
+pub returns : goal.returns
+returns c = search rules

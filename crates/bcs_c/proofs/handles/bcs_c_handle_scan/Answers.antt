@@ -1,0 +1,21 @@
+use Rattle.std.proofs.Common.{◌≡◌, Some, rules}
+use Rattle.bcs_c.proofs.Once.{answers_handle, whatever_handle}
+use Rattle.bcs_c.proofs.handles.bcs_c_handle_scan.Goals as goal
+
+pub returns-clause-answers : goal.returns-clause-answers
+returns-clause-answers c =
+    let is : Some c.deref.result.now ≡ c.args.handle.now.registry = cc (c.deref.ensures, c.in-Some.ensures.taken) in
+    answers_handle c.args.ask.now c.deref.result.now c.args.handle.now.registry is c.value_length-answer.result _ c.value_length-answer.ensures.answers
+
+pub returns-clause-only : goal.returns-clause-only
+returns-clause-only c =
+    let is : Some c.deref.result.now ≡ c.args.handle.now.registry = cc (c.deref.ensures, c.in-Some.ensures.taken) in
+    whatever_handle c.args.ask.now c.deref.result.now c.args.handle.now.registry is _ c.value_length-answer.ensures.only
+
+pub returns-clause-stopped : goal.returns-clause-stopped
+returns-clause-stopped c =
+    let is : Some c.deref.result.now ≡ c.args.handle.now.registry = cc (c.deref.ensures, c.in-Some.ensures.taken) in
+    whatever_handle c.args.ask.now c.deref.result.now c.args.handle.now.registry is _ c.value_length-answer.ensures.stopped
+
+pub returns-clause-kept : goal.returns-clause-kept
+returns-clause-kept c = search rules

@@ -1,0 +1,25 @@
+use Rattle.std.proofs.Common.{ap}
+use Rattle.bcs_c.specs.declared.handle.Handle.{Handle}
+use Rattle.bcs_registry.specs.Faults.{IsLeastFault}
+use Rattle.bcs_c.specs.Opened.{opened, refused}
+use Rattle.bcs_c.specs.declared.status.Status.TheVariants.{Registry}
+use Rattle.bcs_c.proofs.Once.{registry_stands}
+use Rattle.bcs_c.proofs.Refusals.{registry_refused}
+use Rattle.bcs_c.proofs.handles.bcs_c_open.Goals as goal
+
+pub returns-in-Ok-clause-answers : goal.returns-in-Ok-clause-answers
+returns-in-Ok-clause-answers c = let x = c.in-Ok.ensures.opened in opened x.0 (x.2, x.3) x.1 c.plain.ensures
+
+pub returns-in-Err-clause-answers : goal.returns-in-Err-clause-answers
+returns-in-Err-clause-answers c =
+    let why =
+    registry_refused (IsLeastFault c.args.registry.now) Registry c.in-Err.fault c.registry_refusal.result c.in-Err.ensures.fault c.registry_refusal.ensures.memory c.registry_refusal.ensures.refusal
+    in
+    refused why (ap (λ (h : Handle). h.registry) c.in-Err.ensures.kept)
+
+pub returns-in-Err-clause-good : goal.returns-in-Err-clause-good
+returns-in-Err-clause-good c r is memory =
+    let why =
+    registry_refused (IsLeastFault c.args.registry.now) Registry c.in-Err.fault c.registry_refusal.result c.in-Err.ensures.fault c.registry_refusal.ensures.memory c.registry_refusal.ensures.refusal
+    in
+    absurd (memory (registry_stands c.args.registry.now r Registry c.registry_refusal.result is why))

@@ -1,5 +1,0 @@
-use Rattle.std.proofs.Common.{rules}
-use Rattle.bcs_c.proofs.handles.bcs_close.Goals as goal
-
-pub returns : goal.returns
-returns c = search rules

@@ -1,0 +1,22 @@
+use Rattle.bcs_c.specs.Asking.{no_registry, refused}
+use Rattle.bcs_c.specs.declared.status.Status.TheVariants.{Registry}
+use Rattle.bcs_c.proofs.Once.{answers_text, registry_stands, whatever_text}
+use Rattle.bcs_c.proofs.scanning.bcs_c_scan.Goals as goal
+
+pub returns-in-Ok-clause-answers : goal.returns-in-Ok-clause-answers
+returns-in-Ok-clause-answers c = answers_text c.args.ask.now c.in-Ok.registry c.in-Ok.ensures.ok c.rest.result c.value_length.result _ c.rest.ensures c.value_length.ensures.answers
+
+pub returns-in-Err-clause-answers : goal.returns-in-Err-clause-answers
+returns-in-Err-clause-answers c = refused (no_registry c.in-Err.ensures.err)
+
+pub returns-in-Ok-clause-only : goal.returns-in-Ok-clause-only
+returns-in-Ok-clause-only c = whatever_text c.args.ask.now c.in-Ok.registry c.in-Ok.ensures.ok c.rest.result _ c.rest.ensures c.value_length.ensures.only
+
+pub returns-in-Err-clause-only : goal.returns-in-Err-clause-only
+returns-in-Err-clause-only c r l s h n t accepts memory = absurd (memory (registry_stands c.args.ask.now.registry.now r Registry c.in-Err.answer h.has c.in-Err.ensures.err))
+
+pub returns-in-Ok-clause-stopped : goal.returns-in-Ok-clause-stopped
+returns-in-Ok-clause-stopped c = whatever_text c.args.ask.now c.in-Ok.registry c.in-Ok.ensures.ok c.rest.result _ c.rest.ensures c.value_length.ensures.stopped
+
+pub returns-in-Err-clause-stopped : goal.returns-in-Err-clause-stopped
+returns-in-Err-clause-stopped c r l s h e o stops memory = absurd (memory (registry_stands c.args.ask.now.registry.now r Registry c.in-Err.answer h.has c.in-Err.ensures.err))
