@@ -41,10 +41,3 @@ struct tried rattle_realloc(void *block, size_t kept, size_t length, size_t alig
 void rattle_dealloc(void *block) {
     free(block);
 }
-
-/* The version of the library, as BCS_VERSION of bcs.h has it; the tests compare them. It isn't of the heap, but this file is
-   in each of the libraries. */
-const char *bcs_version(void);
-const char *bcs_version(void) {
-    return "0.1.0";
-}

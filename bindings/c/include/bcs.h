@@ -1,67 +1,51 @@
-/* bcs: Binary Canonical Serialization (BCS) of JSON texts, by serde-reflection registries.
+/* bcs: Binary Canonical Serialization (BCS) of JSON documents, driven by serde-reflection registries.
 
-   The calls are proved: crates/bcs_c/README.md says what of each. Every call is safe for any input, always returns, and
-   may run on several threads at once; calls on one open registry take turns. What a call is handed stays the caller's,
-   and nothing of it is kept, but for a registry that bcs_open reads into a handle.
+   The calls are a thin layer of C over proved code; crates/bcs_c/README.md says what is proved. Every call is safe for any
+   input and always returns. Any number of threads may make calls at the same time, on the same handle too. Inputs stay the
+   caller's: no call keeps a pointer to them, and bcs_open copies the registry.
 
-   Bytes are handed over as a pointer and a length. The pointer may be null where the length is 0. An output overlaps
-   nothing else that is handed over. */
+   Bytes are passed as a pointer and a length. The pointer may be null if the length is 0. An output must not overlap anything
+   else that is passed.
+
+   A call finds out how much stack its thread has left, and lowers the depth to what fits. If the value needs more than that,
+   the answer is BCS_MEMORY. bindings/c/README.md says how much stack a call needs, and where the system doesn't know it. */
 #ifndef BCS_H
 #define BCS_H
 
 #include <stddef.h>
 #include <stdint.h>
 
-/* Of this header. */
+/* The version of this header. */
 #define BCS_VERSION "0.1.0"
 
 #ifdef __cplusplus
 extern "C" {
 #endif
 
-/* What a call is asked for, beside its input. */
-typedef struct bcs_ask {
-    const uint8_t *registry; /* the JSON text of a registry */
-    size_t registry_length;
-    const uint8_t *format; /* the JSON text of a format of it: "U8", {"TYPENAME":"Transaction"} */
-    size_t format_length;
-    uint32_t depth; /* how many containers may be open at once: at most 500, BCS_DEPTH */
-    uint32_t nodes; /* how many nodes a value may have: BCS_NODES lets all through */
-} bcs_ask;
-
+/* The limits that most calls take. `depth`: how many containers may be open at once, at most BCS_DEPTH. `nodes`: how many
+   nodes a value may have. BCS_NODES doesn't restrict it; bcs_nodes_for is the better limit for bytes from strangers. */
 #define BCS_DEPTH 500
 #define BCS_NODES UINT32_MAX
 
-/* The place of the caller's where a registry is open between calls: {0} before its first bcs_open, and from then on as the
-   calls leave it. It isn't copied, and one call at a time has it. It holds memory until bcs_close. */
-typedef struct bcs_handle {
-    void *registry; /* null where no registry is open */
-} bcs_handle;
-
-/* What a call on an open registry is asked for, beside its input: as in bcs_ask. */
-typedef struct bcs_handle_ask {
-    const uint8_t *format; /* the JSON text of a format of the open registry */
-    size_t format_length;
-    uint32_t depth;
-    uint32_t nodes;
-} bcs_handle_ask;
+/* An open registry. Any number of threads may use one at the same time. Close it after the last call. */
+typedef struct bcs_handle bcs_handle;
 
 /* How a call went. */
 enum bcs_status {
-    BCS_DONE = 0,     /* it is done, or the answer is yes */
+    BCS_DONE = 0,     /* the call succeeded, or the answer is yes */
     BCS_SHORT = 1,    /* the output is too short: `length` bytes are needed, and nothing was written */
-    BCS_REGISTRY = 2, /* the registry is refused; of two, the older one */
+    BCS_REGISTRY = 2, /* the registry is refused; of two registries, the older one */
     BCS_FORMAT = 3,   /* the format is refused */
     BCS_LIMITS = 4,   /* the depth is above 500 */
     BCS_REFUSED = 5,  /* the input is refused */
-    BCS_MEMORY = 6,   /* memory ran out */
+    BCS_MEMORY = 6,   /* out of memory, or the thread has too little stack */
     BCS_NO = 7,       /* the answer is no: the values differ, or the path leads nowhere */
-    BCS_PATH = 8,     /* the path is none */
-    BCS_NEWER = 9,    /* of two registries the newer one is refused */
-    BCS_CLOSED = 10   /* no registry is open in the handle */
+    BCS_PATH = 8,     /* the path is invalid */
+    BCS_NEWER = 9,    /* the newer of two registries is refused */
+    BCS_CLOSED = 10   /* the handle is null */
 };
 
-/* Why something is refused. bcs_fault_name gives the name. */
+/* Why something is refused. bcs_fault_text and bcs_fault_name return its name. */
 enum bcs_fault {
     BCS_FAULT_NONE = 0,
     /* of a registry, or of a format */
@@ -71,7 +55,7 @@ enum bcs_fault {
     BCS_REGISTRY_TOO_NESTED = 104,
     BCS_REGISTRY_REPEATED_NAME = 105,
     BCS_REGISTRY_UNKNOWN_NAME = 106,
-    /* of a registry that another one doesn't grow to */
+    /* of a newer registry that doesn't keep what the older one has */
     BCS_GROWTH_MISSING = 201,
     BCS_GROWTH_CHANGED = 202,
     BCS_GROWTH_VARIANT_MISSING = 203,
@@ -90,7 +74,7 @@ enum bcs_fault {
     BCS_TEXT_TOO_MANY_NODES = 311,
     BCS_TEXT_TOO_LONG = 312,
     BCS_TEXT_REPEATED_KEY = 313,
-    /* of the bytes of a value: why they stop being one, at `place` */
+    /* of bytes: why they stop being a value, at `place` */
     BCS_STOP_END_OF_INPUT = 401,
     BCS_STOP_BAD_BOOL = 402,
     BCS_STOP_BAD_OPTION = 403,
@@ -105,7 +89,7 @@ enum bcs_fault {
     BCS_STOP_TRAILING_BYTES = 412,
     BCS_STOP_TOO_MANY_NODES = 413,
     BCS_STOP_UNSUPPORTED = 414,
-    /* of bytes that are a value's, whose text would nest more than 100 deep */
+    /* of bytes that encode a value whose JSON would nest more than 100 deep */
     BCS_SHOWN_TOO_NESTED = 501,
     /* of a path */
     BCS_PATH_BAD_PATH = 601
@@ -113,113 +97,137 @@ enum bcs_fault {
 
 /* How bcs_explain prints. */
 enum bcs_form {
-    BCS_WAYS = 0,  /* a line for each piece: place, bytes, kind, the way to it by names */
-    BCS_PATHS = 1, /* the same, and the path that bcs_part takes */
-    BCS_TREE = 2,  /* set in, by how deep the piece stands */
-    BCS_JSON = 3   /* a JSON object a line */
+    BCS_WAYS = 0,  /* a line for each piece: place, bytes, kind, and the names that lead to it */
+    BCS_PATHS = 1, /* the same, followed by the path for bcs_part */
+    BCS_TREE = 2,  /* indented by the depth of the piece */
+    BCS_JSON = 3   /* a JSON object per line */
 };
 
-/* What is told of a refusal. */
+/* What bcs_text_place, bcs_stop_place and bcs_registry_place report about a refusal. */
 enum bcs_what {
     BCS_WHERE = 0, /* where it is */
-    BCS_WANTED = 1 /* what was wanted there, or what is wrong with it, in words for people; they may change */
+    BCS_WANTED = 1 /* what was expected there, or what is wrong with it; this text is for people and may change */
 };
 
 typedef struct bcs_answer {
     uint32_t status; /* enum bcs_status */
-    uint32_t fault;  /* enum bcs_fault; 0 where nothing is refused */
-    uint64_t place;  /* where bytes stop being a value, or where a part begins, in bytes from the front; else 0 */
-    size_t length;   /* at BCS_DONE and BCS_SHORT, how many bytes there are; else 0 */
+    uint32_t fault;  /* enum bcs_fault; 0 if nothing is refused */
+    uint64_t place;  /* the offset where bytes stop being a value, or where a part begins; otherwise 0 */
+    size_t length;   /* with BCS_DONE and BCS_SHORT, the number of bytes; otherwise 0 */
 } bcs_answer;
 
-/* Whether the registry and the format are good: BCS_DONE, or what is refused. */
-bcs_answer bcs_check(const bcs_ask *ask);
+/* ---- Calls that take the text of a registry. They read it each time, which takes longer than most values do. */
 
-/* Whether the newer registry keeps all that the older one has, so that every old value stays one: BCS_DONE; BCS_REFUSED
-   with a BCS_GROWTH_.. fault; BCS_REGISTRY or BCS_NEWER where one of them is no registry. */
+/* Whether the registry and the format are valid: BCS_DONE, or what is refused. */
+bcs_answer bcs_check(const uint8_t *registry, size_t registry_length, const uint8_t *format, size_t format_length,
+                     uint32_t depth, uint32_t nodes);
+
+/* Whether the newer registry keeps everything that the older one has, so that every old value stays valid: BCS_DONE;
+   BCS_REFUSED with a BCS_GROWTH_.. fault; BCS_REGISTRY or BCS_NEWER if one of them isn't a valid registry. */
 bcs_answer bcs_grows(const uint8_t *older, size_t older_length, const uint8_t *newer, size_t newer_length);
 
-/* The bytes of the value that a JSON text denotes. */
-bcs_answer bcs_to_bcs(const bcs_ask *ask, const uint8_t *text, size_t text_length, uint8_t *out, size_t out_length);
+/* The bytes of the value that a JSON document represents. */
+bcs_answer bcs_to_bcs(const uint8_t *registry, size_t registry_length, const uint8_t *format, size_t format_length,
+                      uint32_t depth, uint32_t nodes, const uint8_t *text, size_t text_length, uint8_t *out,
+                      size_t out_length);
 
-/* The one normal JSON text of the value whose bytes are the whole input. */
-bcs_answer bcs_from_bcs(const bcs_ask *ask, const uint8_t *bytes, size_t bytes_length, uint8_t *out, size_t out_length);
+/* The one normal JSON document of the value that the whole input encodes. */
+bcs_answer bcs_from_bcs(const uint8_t *registry, size_t registry_length, const uint8_t *format, size_t format_length,
+                        uint32_t depth, uint32_t nodes, const uint8_t *bytes, size_t bytes_length, uint8_t *out,
+                        size_t out_length);
 
-/* The one normal JSON text of the value that a JSON text denotes. */
-bcs_answer bcs_normalise(const bcs_ask *ask, const uint8_t *text, size_t text_length, uint8_t *out, size_t out_length);
+/* The one normal JSON document of the value that a JSON document represents. */
+bcs_answer bcs_normalise(const uint8_t *registry, size_t registry_length, const uint8_t *format, size_t format_length,
+                         uint32_t depth, uint32_t nodes, const uint8_t *text, size_t text_length, uint8_t *out,
+                         size_t out_length);
 
-/* Whether two JSON texts denote equal values: BCS_DONE, or BCS_NO. */
-bcs_answer bcs_compare(const bcs_ask *ask, const uint8_t *first, size_t first_length, const uint8_t *second,
+/* Whether two JSON documents represent equal values: BCS_DONE, or BCS_NO. */
+bcs_answer bcs_compare(const uint8_t *registry, size_t registry_length, const uint8_t *format, size_t format_length,
+                       uint32_t depth, uint32_t nodes, const uint8_t *first, size_t first_length, const uint8_t *second,
                        size_t second_length);
 
-/* How many bytes the value at the front of the input has: `length`. */
-bcs_answer bcs_scan(const bcs_ask *ask, const uint8_t *bytes, size_t bytes_length);
+/* How many bytes the value at the beginning of the input has: `length`. */
+bcs_answer bcs_scan(const uint8_t *registry, size_t registry_length, const uint8_t *format, size_t format_length,
+                    uint32_t depth, uint32_t nodes, const uint8_t *bytes, size_t bytes_length);
 
-/* Where the part of the value at the front of the input stands to which the path leads: `place`, and `length` bytes.
-   BCS_NO: the path leads nowhere. A path is as `bcs part` has it: "." for the whole, or steps such as inner/2/inner or
-   key:0161, in which the key's bytes stand as hexadecimal digits. */
-bcs_answer bcs_part(const bcs_ask *ask, const uint8_t *bytes, size_t bytes_length, const uint8_t *path,
+/* Where the part is to which the path leads, in the value at the beginning of the input: `place`, and `length` bytes. BCS_NO:
+   the path leads nowhere. Paths are those of `bcs part`: "." for the whole value, or steps such as inner/2/inner or key:0161,
+   where the key's bytes are hexadecimal digits. */
+bcs_answer bcs_part(const uint8_t *registry, size_t registry_length, const uint8_t *format, size_t format_length,
+                    uint32_t depth, uint32_t nodes, const uint8_t *bytes, size_t bytes_length, const uint8_t *path,
                     size_t path_length);
 
-/* The input piece by piece, as `bcs explain` prints it, without colours and without its last line `refused: ..`; `form` is
-   one of enum bcs_form, and any other number is as BCS_WAYS. Damage is no refusal here: it stands in the text, and `fault`
-   and `place` tell it. */
-bcs_answer bcs_explain(const bcs_ask *ask, uint32_t form, const uint8_t *bytes, size_t bytes_length, uint8_t *out,
-                       size_t out_length);
+/* The input piece by piece, as `bcs explain` prints it, without colours and without its last line `refused: ..`. `form` is
+   one of enum bcs_form; any other number means BCS_WAYS. Damaged bytes aren't an error here: the text shows the damage, and
+   `fault` and `place` report it. */
+bcs_answer bcs_explain(const uint8_t *registry, size_t registry_length, const uint8_t *format, size_t format_length,
+                       uint32_t depth, uint32_t nodes, uint32_t form, const uint8_t *bytes, size_t bytes_length,
+                       uint8_t *out, size_t out_length);
 
-/* Where a JSON text is refused: BCS_DONE, or BCS_NO where it is not. With BCS_WHERE it is a JSON Pointer (RFC 6901), in UTF-8
-   and without the escapes of JSON: /payload/args/1; it is empty where the text is refused as a whole. `what` is one of enum
-   bcs_what, and any other number is as BCS_WHERE. Where a call on two texts refuses one, ask for each. */
-bcs_answer bcs_text_place(const bcs_ask *ask, uint32_t what, const uint8_t *text, size_t text_length, uint8_t *out,
-                          size_t out_length);
+/* Where a JSON document is refused: BCS_DONE, or BCS_NO if it isn't. With BCS_WHERE it is a JSON Pointer (RFC 6901) in UTF-8
+   without JSON escapes, such as /payload/args/1; it is empty if the document is refused as a whole. `what` is one of enum
+   bcs_what; any other number means BCS_WHERE. If bcs_compare refuses one of two documents, ask for each. */
+bcs_answer bcs_text_place(const uint8_t *registry, size_t registry_length, const uint8_t *format, size_t format_length,
+                          uint32_t depth, uint32_t nodes, uint32_t what, const uint8_t *text, size_t text_length,
+                          uint8_t *out, size_t out_length);
 
-/* Where bytes stop being a value, all of them: BCS_DONE, or BCS_NO where they are one. With BCS_WHERE it is the way there by
-   names, as bcs_explain has it: .payload::EntryFunction.args[1]. It is printable ASCII. */
-bcs_answer bcs_stop_place(const bcs_ask *ask, uint32_t what, const uint8_t *bytes, size_t bytes_length, uint8_t *out,
-                          size_t out_length);
+/* Where bytes stop being a value, if the whole input is read: BCS_DONE, or BCS_NO if they are one. With BCS_WHERE it is the
+   way there by names, as bcs_explain has it: .payload::EntryFunction.args[1]. It is printable ASCII. */
+bcs_answer bcs_stop_place(const uint8_t *registry, size_t registry_length, const uint8_t *format, size_t format_length,
+                          uint32_t depth, uint32_t nodes, uint32_t what, const uint8_t *bytes, size_t bytes_length,
+                          uint8_t *out, size_t out_length);
 
-/* Where the text of a registry is refused: BCS_DONE, or BCS_NO where it is not. With BCS_WHERE it is the place as the program
+/* Where the text of a registry is refused: BCS_DONE, or BCS_NO if it isn't. With BCS_WHERE it is the place as the program
    `bcs` prints it: Shape, variant 2 Circle, field side. It is printable ASCII. */
 bcs_answer bcs_registry_place(uint32_t what, const uint8_t *registry, size_t registry_length, uint8_t *out,
                               size_t out_length);
 
-/* Reads a registry and keeps it in the handle, in the place of one that was open: BCS_DONE. BCS_REGISTRY: it is refused,
-   and the handle is as it was. Reading takes longer than most values do, so whoever has many values reads it once. */
-bcs_answer bcs_open(bcs_handle *handle, const uint8_t *registry, size_t registry_length);
+/* ---- Handles: read a registry once, and use it for many values. */
 
-/* Lets the registry go that is open, if one is, and gives its memory back. */
+/* Reads a registry. BCS_DONE: *handle is a new handle, which needs memory until bcs_close. Otherwise *handle is NULL. */
+bcs_answer bcs_open(bcs_handle **handle, const uint8_t *registry, size_t registry_length);
+
+/* Frees a handle. No call may be using it, and none may use it afterwards. NULL is allowed. */
 void bcs_close(bcs_handle *handle);
 
-/* The calls above on the registry that is open, which stays open. Each answers what the call over the registry's text does;
-   BCS_CLOSED where none is open. */
-bcs_answer bcs_handle_check(bcs_handle *handle, const bcs_handle_ask *ask);
-bcs_answer bcs_handle_to_bcs(bcs_handle *handle, const bcs_handle_ask *ask, const uint8_t *text, size_t text_length,
-                             uint8_t *out, size_t out_length);
-bcs_answer bcs_handle_from_bcs(bcs_handle *handle, const bcs_handle_ask *ask, const uint8_t *bytes, size_t bytes_length,
-                               uint8_t *out, size_t out_length);
-bcs_answer bcs_handle_normalise(bcs_handle *handle, const bcs_handle_ask *ask, const uint8_t *text, size_t text_length,
-                                uint8_t *out, size_t out_length);
-bcs_answer bcs_handle_compare(bcs_handle *handle, const bcs_handle_ask *ask, const uint8_t *first, size_t first_length,
-                              const uint8_t *second, size_t second_length);
-bcs_answer bcs_handle_scan(bcs_handle *handle, const bcs_handle_ask *ask, const uint8_t *bytes, size_t bytes_length);
-bcs_answer bcs_handle_part(bcs_handle *handle, const bcs_handle_ask *ask, const uint8_t *bytes, size_t bytes_length,
-                           const uint8_t *path, size_t path_length);
-bcs_answer bcs_handle_explain(bcs_handle *handle, const bcs_handle_ask *ask, uint32_t form, const uint8_t *bytes,
-                              size_t bytes_length, uint8_t *out, size_t out_length);
-bcs_answer bcs_handle_text_place(bcs_handle *handle, const bcs_handle_ask *ask, uint32_t what, const uint8_t *text,
-                                 size_t text_length, uint8_t *out, size_t out_length);
-bcs_answer bcs_handle_stop_place(bcs_handle *handle, const bcs_handle_ask *ask, uint32_t what, const uint8_t *bytes,
-                                 size_t bytes_length, uint8_t *out, size_t out_length);
+/* Each answers what the call above with the registry's text answers; BCS_CLOSED if the handle is NULL. */
+bcs_answer bcs_handle_check(bcs_handle *handle, const uint8_t *format, size_t format_length, uint32_t depth,
+                            uint32_t nodes);
+bcs_answer bcs_handle_to_bcs(bcs_handle *handle, const uint8_t *format, size_t format_length, uint32_t depth,
+                             uint32_t nodes, const uint8_t *text, size_t text_length, uint8_t *out, size_t out_length);
+bcs_answer bcs_handle_from_bcs(bcs_handle *handle, const uint8_t *format, size_t format_length, uint32_t depth,
+                               uint32_t nodes, const uint8_t *bytes, size_t bytes_length, uint8_t *out,
+                               size_t out_length);
+bcs_answer bcs_handle_normalise(bcs_handle *handle, const uint8_t *format, size_t format_length, uint32_t depth,
+                                uint32_t nodes, const uint8_t *text, size_t text_length, uint8_t *out,
+                                size_t out_length);
+bcs_answer bcs_handle_compare(bcs_handle *handle, const uint8_t *format, size_t format_length, uint32_t depth,
+                              uint32_t nodes, const uint8_t *first, size_t first_length, const uint8_t *second,
+                              size_t second_length);
+bcs_answer bcs_handle_scan(bcs_handle *handle, const uint8_t *format, size_t format_length, uint32_t depth,
+                           uint32_t nodes, const uint8_t *bytes, size_t bytes_length);
+bcs_answer bcs_handle_part(bcs_handle *handle, const uint8_t *format, size_t format_length, uint32_t depth,
+                           uint32_t nodes, const uint8_t *bytes, size_t bytes_length, const uint8_t *path,
+                           size_t path_length);
+bcs_answer bcs_handle_explain(bcs_handle *handle, const uint8_t *format, size_t format_length, uint32_t depth,
+                              uint32_t nodes, uint32_t form, const uint8_t *bytes, size_t bytes_length, uint8_t *out,
+                              size_t out_length);
+bcs_answer bcs_handle_text_place(bcs_handle *handle, const uint8_t *format, size_t format_length, uint32_t depth,
+                                 uint32_t nodes, uint32_t what, const uint8_t *text, size_t text_length, uint8_t *out,
+                                 size_t out_length);
+bcs_answer bcs_handle_stop_place(bcs_handle *handle, const uint8_t *format, size_t format_length, uint32_t depth,
+                                 uint32_t nodes, uint32_t what, const uint8_t *bytes, size_t bytes_length, uint8_t *out,
+                                 size_t out_length);
+
+/* ---- Names, versions and conversions. */
 
 /* The name of a fault, as the program `bcs` prints it: "BadBool". BCS_NO: no fault has the number. */
 bcs_answer bcs_fault_name(uint32_t fault, uint8_t *out, size_t out_length);
 
-/* ---- Beside the proved calls. libbcs_c.a, for a heap of your own, has no bcs_version; the rest stands here whole. */
-
-/* The version of the library, as BCS_VERSION has that of the header. */
+/* The version of the library, as BCS_VERSION is that of the header. */
 const char *bcs_version(void);
 
-/* The same name as a text of C, which is always there. Null: no fault has the number. */
+/* The name of a fault as a C string that is always there. NULL: no fault has the number. */
 static inline const char *bcs_fault_text(uint32_t fault) {
     switch (fault) {
     case BCS_REGISTRY_NOT_JSON:
@@ -265,16 +273,17 @@ static inline const char *bcs_fault_text(uint32_t fault) {
     }
 }
 
-/* The JSON text of a format by the program's rule: a word that begins with { or " is one, and any other is a container's
-   name, which is escaped here. It gives how many bytes the text has. Where that is above out_length, so many of them are
-   written, and there is no format yet. */
-static inline size_t bcs_format(const char *word, uint8_t *out, size_t out_length) {
-    const int is_name = word[0] != '{' && word[0] != '"';
+/* The JSON of a format, by the program's rule: a word that begins with { or " is JSON already, and any other is the name of a
+   container, which is escaped here. Returns how many bytes the JSON has. If that is above out_length, only the first
+   out_length bytes are written, and they aren't a format yet. */
+static inline size_t bcs_format(const char *word, size_t word_length, uint8_t *out, size_t out_length) {
+    const int is_name = word_length == 0 || (word[0] != '{' && word[0] != '"');
     const char *const parts[3] = {is_name ? "{\"TYPENAME\":\"" : "", word, is_name ? "\"}" : ""};
+    const size_t lengths[3] = {is_name ? 13 : 0, word_length, is_name ? 2 : 0};
     size_t length = 0;
     for (int part = 0; part < 3; part++) {
-        for (const char *at = parts[part]; *at != 0; at++) {
-            const unsigned char sign = (unsigned char)*at;
+        for (size_t at = 0; at < lengths[part]; at++) {
+            const unsigned char sign = (unsigned char)parts[part][at];
             const int is_escaped = is_name && part == 1 && (sign < 0x20 || sign == '"' || sign == '\\');
             const char escape[6] = {'\\', 'u', '0', '0', "0123456789abcdef"[sign / 16], "0123456789abcdef"[sign % 16]};
             for (size_t i = 0; i < (is_escaped ? sizeof escape : 1); i++, length++) {
@@ -287,8 +296,15 @@ static inline size_t bcs_format(const char *word, uint8_t *out, size_t out_lengt
     return length;
 }
 
-/* Whether this processor has what the code needs on x86-64, which is the level x86-64-v2. The loader tests it for the dynamic
-   library. A program that is linked with the static one asks before its first call. */
+/* A limit on nodes for bytes of this length, which no ordinary value reaches: 16 nodes a byte, and a million. Values whose
+   elements need no bytes can have 4294967295 nodes in five bytes, so set a limit for bytes from strangers. */
+static inline uint32_t bcs_nodes_for(size_t bytes_length) {
+    const size_t spare = 1000000;
+    return bytes_length > (UINT32_MAX - spare) / 16 ? UINT32_MAX : (uint32_t)(16 * bytes_length + spare);
+}
+
+/* Whether this processor can run the code, which needs the level x86-64-v2 on x86-64. For the dynamic library the loader checks
+   this. A program with the static library checks it before its first call. */
 static inline int bcs_is_supported(void) {
 #if defined(__x86_64__) && defined(__GNUC__)
     __builtin_cpu_init();

@@ -1,0 +1,85 @@
+/* The calls of crates/bcs_c, which are proved. library.c makes the calls of bcs.h of them, and nothing else uses this header.
+   tests/header.py compares it with the crate, whose README says what is proved of each call.
+
+   Every call is safe for any input and may run on several threads at once, but only one call at a time may use a handle. */
+#ifndef BCS_PROVED_H
+#define BCS_PROVED_H
+
+#include "include/bcs.h"
+
+/* A library that has these calls inside doesn't show them. */
+#ifdef __GNUC__
+#pragma GCC visibility push(hidden)
+#endif
+
+/* What a call over the text of a registry is asked for, besides its input. */
+typedef struct bcs_c_ask {
+    const uint8_t *registry;
+    size_t registry_length;
+    const uint8_t *format;
+    size_t format_length;
+    uint32_t depth;
+    uint32_t nodes;
+} bcs_c_ask;
+
+/* A place for a registry that stays open between calls. It is {0} before the first bcs_c_open. */
+typedef struct bcs_c_handle {
+    void *registry; /* null if no registry is open */
+} bcs_c_handle;
+
+/* What a call on an open registry is asked for, besides its input. */
+typedef struct bcs_c_handle_ask {
+    const uint8_t *format;
+    size_t format_length;
+    uint32_t depth;
+    uint32_t nodes;
+} bcs_c_handle_ask;
+
+bcs_answer bcs_c_check(const bcs_c_ask *ask);
+bcs_answer bcs_c_grows(const uint8_t *older, size_t older_length, const uint8_t *newer, size_t newer_length);
+bcs_answer bcs_c_to_bcs(const bcs_c_ask *ask, const uint8_t *text, size_t text_length, uint8_t *out, size_t out_length);
+bcs_answer bcs_c_from_bcs(const bcs_c_ask *ask, const uint8_t *bytes, size_t bytes_length, uint8_t *out,
+                          size_t out_length);
+bcs_answer bcs_c_normalise(const bcs_c_ask *ask, const uint8_t *text, size_t text_length, uint8_t *out,
+                           size_t out_length);
+bcs_answer bcs_c_compare(const bcs_c_ask *ask, const uint8_t *first, size_t first_length, const uint8_t *second,
+                         size_t second_length);
+bcs_answer bcs_c_scan(const bcs_c_ask *ask, const uint8_t *bytes, size_t bytes_length);
+bcs_answer bcs_c_part(const bcs_c_ask *ask, const uint8_t *bytes, size_t bytes_length, const uint8_t *path,
+                      size_t path_length);
+bcs_answer bcs_c_explain(const bcs_c_ask *ask, uint32_t form, const uint8_t *bytes, size_t bytes_length, uint8_t *out,
+                         size_t out_length);
+bcs_answer bcs_c_text_place(const bcs_c_ask *ask, uint32_t what, const uint8_t *text, size_t text_length, uint8_t *out,
+                            size_t out_length);
+bcs_answer bcs_c_stop_place(const bcs_c_ask *ask, uint32_t what, const uint8_t *bytes, size_t bytes_length,
+                            uint8_t *out, size_t out_length);
+bcs_answer bcs_c_registry_place(uint32_t what, const uint8_t *registry, size_t registry_length, uint8_t *out,
+                                size_t out_length);
+bcs_answer bcs_c_open(bcs_c_handle *handle, const uint8_t *registry, size_t registry_length);
+void bcs_c_close(bcs_c_handle *handle);
+bcs_answer bcs_c_handle_check(bcs_c_handle *handle, const bcs_c_handle_ask *ask);
+bcs_answer bcs_c_handle_to_bcs(bcs_c_handle *handle, const bcs_c_handle_ask *ask, const uint8_t *text,
+                               size_t text_length, uint8_t *out, size_t out_length);
+bcs_answer bcs_c_handle_from_bcs(bcs_c_handle *handle, const bcs_c_handle_ask *ask, const uint8_t *bytes,
+                                 size_t bytes_length, uint8_t *out, size_t out_length);
+bcs_answer bcs_c_handle_normalise(bcs_c_handle *handle, const bcs_c_handle_ask *ask, const uint8_t *text,
+                                  size_t text_length, uint8_t *out, size_t out_length);
+bcs_answer bcs_c_handle_compare(bcs_c_handle *handle, const bcs_c_handle_ask *ask, const uint8_t *first,
+                                size_t first_length, const uint8_t *second, size_t second_length);
+bcs_answer bcs_c_handle_scan(bcs_c_handle *handle, const bcs_c_handle_ask *ask, const uint8_t *bytes,
+                             size_t bytes_length);
+bcs_answer bcs_c_handle_part(bcs_c_handle *handle, const bcs_c_handle_ask *ask, const uint8_t *bytes,
+                             size_t bytes_length, const uint8_t *path, size_t path_length);
+bcs_answer bcs_c_handle_explain(bcs_c_handle *handle, const bcs_c_handle_ask *ask, uint32_t form, const uint8_t *bytes,
+                                size_t bytes_length, uint8_t *out, size_t out_length);
+bcs_answer bcs_c_handle_text_place(bcs_c_handle *handle, const bcs_c_handle_ask *ask, uint32_t what,
+                                   const uint8_t *text, size_t text_length, uint8_t *out, size_t out_length);
+bcs_answer bcs_c_handle_stop_place(bcs_c_handle *handle, const bcs_c_handle_ask *ask, uint32_t what,
+                                   const uint8_t *bytes, size_t bytes_length, uint8_t *out, size_t out_length);
+bcs_answer bcs_c_fault_name(uint32_t fault, uint8_t *out, size_t out_length);
+
+#ifdef __GNUC__
+#pragma GCC visibility pop
+#endif
+
+#endif
