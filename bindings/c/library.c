@@ -1,6 +1,5 @@
-/* The calls of bcs.h, over the proved calls of proved.h. This file adds what the proved code can't do: handles that threads
-   share, and a depth that fits on the stack of the thread. It needs nothing but the heap, and where there is one a C library
-   that knows the bounds of a thread's stack. */
+/* The calls of bcs.h, made of the proved calls of proved.h. This file adds handles that threads share, and a depth that fits on
+   the thread's stack. It needs the heap, as the proved code does, and uses what the C library knows about stacks. */
 #include "proved.h"
 #include <stdbool.h>
 
@@ -17,23 +16,17 @@ static bcs_answer plain(uint32_t status) {
     return answer;
 }
 
-/* ---- The stack. */
-
-/* The stack of a thread, from its lowest address to the one above its highest. The lowest bytes are in reserve. */
-struct stack {
-    bool is_asked;
-    uintptr_t bottom, top, reserve;
-};
+/* ---- The stack that is left. */
 
 #ifdef __linux__
-/* What <pthread.h> and others declare: the files of dist/ are compiled without a system's headers. Before glibc 2.34 some of these
-   are in libpthread, which a program need not have. */
+/* What <pthread.h> and other headers declare: the files of dist/ are compiled without those of a system. Some of these functions
+   may be missing: before glibc 2.34 a program has the first ones only if it is linked with libpthread. */
 #define IF_THERE __attribute__((weak))
 struct attributes {
     long words[16]; /* pthread_attr_t has 7 or 8 */
 };
 struct limit {
-    unsigned long current, greatest;
+    unsigned long current, highest;
 };
 IF_THERE unsigned long pthread_self(void);
 IF_THERE int pthread_getattr_np(unsigned long thread, struct attributes *attributes);
@@ -54,62 +47,58 @@ IF_THERE long syscall(long number, ...);
 #define CALL_GETTID 178
 #endif
 
-/* Not all of a thread's stack is for this library: Java protects pages at its end, and signal handlers run on it. */
+/* What is left for others at the end of a stack: Java protects pages there, and signal handlers may run. */
 #define RESERVE (32 << 10)
 
-/* musl knows only as much of the main thread's stack as was used so far. It grows until, together with the pages above that
-   hold the program's arguments, it is as long as the limit. */
-static bool grows(void) {
+/* A thread's stack goes from `bottom` up to `top`. Both are 0 if that is unknown. */
+struct stack {
+    bool is_looked_up;
+    uintptr_t bottom, top, reserve;
+};
+
+/* Whether this is the main thread under musl, which knows only the part of its stack that was used so far. */
+static bool is_main_of_musl(void) {
     return gnu_get_libc_version == NULL && getrlimit != NULL && getpagesize != NULL && mincore != NULL && getpid != NULL &&
            syscall != NULL && getpid() == syscall(CALL_GETTID);
 }
 
-static struct stack whole(struct stack stack) {
+/* Where the main thread's stack ends when it has grown up to its limit. The pages above `top`, which hold the program's
+   arguments, count too. */
+static uintptr_t bottom_of_main(uintptr_t top) {
     struct limit limit;
     unsigned char answer;
-    uintptr_t end = stack.top;
-    if (getrlimit(LIMIT_OF_STACK, &limit) != 0) {
-        limit.current = end;
+    while (mincore((void *)top, 1, &answer) == 0) {
+        top += (uintptr_t)getpagesize();
     }
-    while (mincore((void *)end, 1, &answer) == 0) {
-        end += (uintptr_t)getpagesize();
-    }
-    stack.bottom = limit.current < end ? end - limit.current : 0;
-    return stack;
+    return getrlimit(LIMIT_OF_STACK, &limit) == 0 && limit.current < top ? top - limit.current : 0;
 }
 
-static struct stack find_stack(void) {
-    const struct stack unknown = {true, 0, 0, 0};
+static struct stack look_up_stack(void) {
+    struct stack stack = {true, 0, 0, 0};
     struct attributes attributes;
     void *bottom = NULL;
     size_t length = 0, guard = 0;
     if (pthread_self == NULL || pthread_getattr_np == NULL || pthread_attr_getstack == NULL ||
         pthread_attr_getguardsize == NULL || pthread_attr_destroy == NULL ||
         pthread_getattr_np(pthread_self(), &attributes) != 0) {
-        return unknown;
+        return stack;
     }
-    const bool is_told = pthread_attr_getstack(&attributes, &bottom, &length) == 0 &&
-                         pthread_attr_getguardsize(&attributes, &guard) == 0;
+    if (pthread_attr_getstack(&attributes, &bottom, &length) == 0 &&
+        pthread_attr_getguardsize(&attributes, &guard) == 0) {
+        stack.top = (uintptr_t)bottom + length;
+        stack.bottom = guard == 0 && is_main_of_musl() ? bottom_of_main(stack.top) : (uintptr_t)bottom;
+        stack.reserve = guard + RESERVE;
+    }
     pthread_attr_destroy(&attributes);
-    if (!is_told) {
-        return unknown;
-    }
-    const struct stack found = {true, (uintptr_t)bottom, (uintptr_t)bottom + length, guard + RESERVE};
-    return guard == 0 && grows() ? whole(found) : found;
+    return stack;
 }
-#else
-static struct stack find_stack(void) {
-    const struct stack unknown = {true, 0, 0, 0};
-    return unknown;
-}
-#endif
 
-/* How many bytes of stack a call may use: SIZE_MAX if that is unknown, as on a stack that isn't the thread's own. */
+/* How many bytes of stack a call may use. SIZE_MAX: unknown, also on a stack that isn't the thread's own. */
 static size_t stack_left(void) {
     static __thread struct stack stack;
     const uintptr_t here = (uintptr_t)__builtin_frame_address(0);
-    if (!stack.is_asked) {
-        stack = find_stack();
+    if (!stack.is_looked_up) {
+        stack = look_up_stack();
     }
     if (here < stack.bottom || here >= stack.top) {
         return SIZE_MAX;
@@ -117,62 +106,129 @@ static size_t stack_left(void) {
     const size_t left = here - stack.bottom;
     return left > stack.reserve ? left - stack.reserve : 0;
 }
+#else
+static size_t stack_left(void) {
+    return SIZE_MAX;
+}
+#endif
 
-/* What a call needs of the stack, as measured: see README.md. */
-#define FIXED (64 << 10)
-#define PER_CONTAINER 1024
-#define PER_LEVEL 460
+/* ---- The stack that a call needs. */
+
+/* In bytes, and at least 15 % more than was measured: see README.md. */
+enum need {
+    FIXED = 28 << 10,        /* any call */
+    READ_NESTING = 912,      /* reading JSON: for each array or object in another */
+    BYTES_CONTAINER = 768,   /* walking through bytes: for each open container */
+    BYTES_LEVEL = 464,       /* and for each level of its format */
+    TEXT_CONTAINER = 1168,   /* walking through or printing the JSON of a value: for each open container */
+    NESTING_CONTAINER = 848, /* and for each one that nests in the JSON */
+    TEXT_LEVEL = 1536,       /* and for each level, as long as that nests */
+};
+
 #define MOST_LEVELS 32
+#define MOST_NESTING_READ 128
+#define MOST_NESTING_OF_VALUES 100
 
-static size_t fixed_need(size_t format_levels) {
-    return FIXED + format_levels * PER_LEVEL;
+static size_t least(size_t one, size_t other) {
+    return one < other ? one : other;
 }
 
-static size_t container_need(size_t levels) {
-    return PER_CONTAINER + levels * PER_LEVEL;
+static size_t greatest(size_t one, size_t other) {
+    return one < other ? other : one;
 }
 
-/* The greatest nesting of brackets, which no format in this JSON exceeds; at most the levels that a format may have. */
-static size_t levels_in(const uint8_t *json, size_t length) {
-    size_t open = 0, most = 0;
-    bool is_string = false;
-    for (size_t at = 0; at < length; at++) {
-        if (is_string && json[at] == '\\') {
-            at++;
-        } else if (json[at] == '"') {
-            is_string = !is_string;
-        } else if (!is_string && (json[at] == '{' || json[at] == '[')) {
-            open++;
-            most = open > most ? open : most;
-        } else if (!is_string && (json[at] == '}' || json[at] == ']') && open > 0) {
-            open--;
+/* For a value with `depth` open containers, each with formats of `levels` levels. */
+static size_t need_of_value(size_t depth, size_t levels, size_t format_levels) {
+    const size_t all_levels = depth * levels + format_levels;
+    const size_t bytes = depth * BYTES_CONTAINER + all_levels * BYTES_LEVEL;
+    const size_t text = depth * TEXT_CONTAINER + least(depth, MOST_NESTING_OF_VALUES) * NESTING_CONTAINER +
+                        least(all_levels, MOST_NESTING_OF_VALUES) * TEXT_LEVEL;
+    return FIXED + greatest(bytes, text);
+}
+
+/* How deep JSON nests, and how many levels its formats have. Both are upper bounds up to the point where it stops being JSON. */
+struct shape {
+    size_t nesting, levels;
+};
+
+/* Whether an object with this member may be a level of a format. */
+static bool is_level(const uint8_t *name, size_t length) {
+    static const char *const words[] = {"OPTION", "SEQ", "MAP", "TUPLE", "TUPLEARRAY"};
+    for (size_t number = 0; number < sizeof words / sizeof *words; number++) {
+        size_t same = 0;
+        while (same < length && words[number][same] != 0 && name[same] == (uint8_t)words[number][same]) {
+            same++;
+        }
+        if (same == length ? words[number][same] == 0 : name[same] == '\\') {
+            return true;
         }
     }
-    return most < MOST_LEVELS ? most : MOST_LEVELS;
+    return false;
+}
+
+/* Where the string ends whose first character is at this place. */
+static size_t end_of_string(const uint8_t *json, size_t length, size_t at) {
+    while (at < length && json[at] != '"') {
+        at += json[at] == '\\' ? 2 : 1;
+    }
+    return least(at, length);
+}
+
+static struct shape shape_of(const uint8_t *json, size_t length) {
+    bool is_marked[MOST_NESTING_READ + 1] = {false};
+    struct shape most = {0, 0};
+    size_t open = 0, levels = 0;
+    for (size_t at = 0; at < length && open < MOST_NESTING_READ; at++) {
+        if (json[at] == '"') {
+            const size_t end = end_of_string(json, length, at + 1);
+            if (!is_marked[open] && is_level(json + at + 1, end - at - 1)) {
+                is_marked[open] = true;
+                levels++;
+            }
+            at = end;
+        } else if (json[at] == '{' || json[at] == '[') {
+            is_marked[++open] = false;
+        } else if ((json[at] == '}' || json[at] == ']') && open > 0) {
+            levels -= is_marked[open--];
+        }
+        most.nesting = greatest(most.nesting, open);
+        most.levels = greatest(most.levels, levels);
+    }
+    most.levels = open == MOST_NESTING_READ ? MOST_LEVELS : least(most.levels, MOST_LEVELS);
+    return most;
+}
+
+static bool fits_reading(size_t left, size_t nesting) {
+    return left >= FIXED + nesting * READ_NESTING;
+}
+
+/* Whether there is stack to read this JSON. That needs no look at it if there is enough for any JSON. */
+static bool can_read(size_t left, const uint8_t *json, size_t length) {
+    return fits_reading(left, MOST_NESTING_READ) || fits_reading(left, shape_of(json, length).nesting);
 }
 
 /* ---- Handles. */
 
 #define SLOTS 32
 
-/* One reader at a time has a slot, so that the proved code never sees two calls on one handle at once. A slot has a cache line
-   of its own. */
+/* An open registry for one call at a time. Each is as long as a cache line, so that threads don't slow each other down. */
 struct slot {
     bcs_c_handle proved;
     bool is_taken;
     char padding[64 - sizeof(bcs_c_handle) - sizeof(bool)];
 };
 
+/* A slot opens the registry when it is used for the first time. */
 struct bcs_handle {
     struct slot slots[SLOTS];
-    size_t levels;
+    struct shape shape;
     size_t length;
     uint8_t registry[];
 };
 
 bcs_answer bcs_open(bcs_handle **handle, const uint8_t *registry, size_t registry_length) {
     *handle = NULL;
-    if (stack_left() < FIXED) {
+    if (!can_read(stack_left(), registry, registry_length)) {
         return plain(BCS_MEMORY);
     }
     bcs_c_handle proved = {NULL};
@@ -191,7 +247,7 @@ bcs_answer bcs_open(bcs_handle **handle, const uint8_t *registry, size_t registr
         made->slots[number].is_taken = false;
     }
     made->slots[0].proved = proved;
-    made->levels = levels_in(registry, registry_length);
+    made->shape = shape_of(registry, registry_length);
     made->length = registry_length;
     for (size_t at = 0; at < registry_length; at++) {
         made->registry[at] = registry[at];
@@ -212,13 +268,14 @@ void bcs_close(bcs_handle *handle) {
 
 /* ---- Calls. */
 
-/* A call in progress: the open registry that it has for itself, and what is asked for. */
+/* A call in progress. */
 struct use {
-    struct slot *slot; /* NULL: `own` is open, and closed at the end */
+    struct slot *slot;    /* NULL: the call opens the registry for itself, in `own` */
     bcs_c_handle own;
-    bcs_c_handle *proved;
+    bcs_c_handle *proved; /* where the registry is open */
     bcs_c_handle_ask ask;
-    bool is_lowered;
+    size_t left;          /* of the stack, at the beginning */
+    bool is_lowered;      /* whether the depth in `ask` is below the caller's */
 };
 
 static void release(struct use *use) {
@@ -229,7 +286,7 @@ static void release(struct use *use) {
     }
 }
 
-/* Takes the first free slot of a handle; if none is free, the call opens the registry for itself. */
+/* Takes the first free slot, if there is one. */
 static void take_slot(struct use *use, bcs_handle *handle) {
     for (size_t number = 0; number < SLOTS && use->slot == NULL; number++) {
         struct slot *const slot = &handle->slots[number];
@@ -241,30 +298,37 @@ static void take_slot(struct use *use, bcs_handle *handle) {
     }
 }
 
-/* Lowers the depth to what fits, if not all does; false if not even depth 0 fits. */
-static bool limit_depth(bcs_c_handle_ask *ask, size_t left, size_t levels) {
-    const size_t fixed = fixed_need(levels_in(ask->format, ask->format_length));
-    if (left < fixed) {
+/* Lowers the depth to what the stack has room for. Returns false if it hasn't even for a value without containers. */
+static bool fit_depth(bcs_c_handle_ask *ask, size_t left, struct shape registry) {
+    const struct shape format = shape_of(ask->format, ask->format_length);
+    if (!fits_reading(left, greatest(registry.nesting, format.nesting)) ||
+        left < need_of_value(0, registry.levels, format.levels)) {
         return false;
     }
-    const size_t depth = (left - fixed) / container_need(levels);
-    if (depth < ask->depth && ask->depth <= BCS_DEPTH) {
-        ask->depth = (uint32_t)depth;
+    size_t depth = 0;
+    for (size_t step = 256; step > 0 && ask->depth <= BCS_DEPTH; step /= 2) {
+        if (depth + step <= ask->depth && left >= need_of_value(depth + step, registry.levels, format.levels)) {
+            depth += step;
+        }
     }
+    ask->depth = ask->depth <= BCS_DEPTH ? (uint32_t)depth : ask->depth;
     return true;
 }
 
-/* Begins a call on a handle, or without a handle on the text of a registry. */
+/* Begins a call on a handle or, if that is NULL, on the text of a registry. */
 static bcs_answer begin(struct use *use, bcs_handle *handle, const uint8_t *registry, size_t registry_length,
                         const bcs_c_handle_ask *ask) {
+    const size_t left = stack_left();
     use->slot = NULL;
     use->own.registry = NULL;
     use->proved = &use->own;
     use->ask = *ask;
-    const size_t left = stack_left();
-    if (left < fixed_need(MOST_LEVELS) + BCS_DEPTH * container_need(MOST_LEVELS) &&
-        !limit_depth(&use->ask, left, handle != NULL ? handle->levels : levels_in(registry, registry_length))) {
-        return plain(BCS_MEMORY);
+    use->left = left;
+    if (left < need_of_value(BCS_DEPTH, MOST_LEVELS, MOST_LEVELS)) {
+        const struct shape shape = handle != NULL ? handle->shape : shape_of(registry, registry_length);
+        if (!fit_depth(&use->ask, left, shape)) {
+            return plain(BCS_MEMORY);
+        }
     }
     use->is_lowered = use->ask.depth < ask->depth;
     if (handle != NULL) {
@@ -286,48 +350,43 @@ static bool is_too_deep(bcs_answer answer) {
     return answer.fault == BCS_TEXT_TOO_DEEP || answer.fault == BCS_STOP_TOO_DEEP;
 }
 
-/* Ends a call. A TooDeep of a lowered depth is for want of stack. */
+/* Ends a call. If the depth was lowered, TooDeep means that the stack is too small. */
 static bcs_answer end(struct use *use, bcs_answer answer) {
     release(use);
     return use->is_lowered && is_too_deep(answer) ? plain(BCS_MEMORY) : answer;
 }
 
-/* These three put a refusal into their output, so that a TooDeep of a lowered depth is looked for first. */
-static bcs_answer explain(struct use *use, uint32_t form, const uint8_t *bytes, size_t bytes_length, uint8_t *out,
-                          size_t out_length) {
-    if (use->is_lowered) {
-        const bcs_answer answer = bcs_c_handle_scan(use->proved, &use->ask, bytes, bytes_length);
-        if (is_too_deep(answer)) {
-            return answer;
-        }
-    }
-    return bcs_c_handle_explain(use->proved, &use->ask, form, bytes, bytes_length, out, out_length);
+static bcs_answer scan_if_lowered(struct use *use, const uint8_t *bytes, size_t bytes_length) {
+    return use->is_lowered ? bcs_c_handle_scan(use->proved, &use->ask, bytes, bytes_length) : plain(BCS_DONE);
 }
 
-static bcs_answer text_place(struct use *use, uint32_t what, const uint8_t *text, size_t text_length, uint8_t *out,
-                             size_t out_length) {
-    if (use->is_lowered) {
-        const bcs_answer answer = bcs_c_handle_to_bcs(use->proved, &use->ask, text, text_length, NULL, 0);
-        if (is_too_deep(answer)) {
-            return answer;
-        }
-    }
-    return bcs_c_handle_text_place(use->proved, &use->ask, what, text, text_length, out, out_length);
+/* The next three write about a refusal. If the depth was lowered, they first make sure that it isn't TooDeep; if it is, that is
+   their answer. */
+static bcs_answer explain(struct use *use, uint32_t form, const uint8_t *bytes, size_t bytes_length, uint8_t *out,
+                          size_t out_length) {
+    const bcs_answer scanned = scan_if_lowered(use, bytes, bytes_length);
+    return is_too_deep(scanned)
+               ? scanned
+               : bcs_c_handle_explain(use->proved, &use->ask, form, bytes, bytes_length, out, out_length);
 }
 
 static bcs_answer stop_place(struct use *use, uint32_t what, const uint8_t *bytes, size_t bytes_length, uint8_t *out,
                              size_t out_length) {
-    if (use->is_lowered) {
-        const bcs_answer answer = bcs_c_handle_scan(use->proved, &use->ask, bytes, bytes_length);
-        if (is_too_deep(answer)) {
-            return answer;
-        }
-    }
-    return bcs_c_handle_stop_place(use->proved, &use->ask, what, bytes, bytes_length, out, out_length);
+    const bcs_answer scanned = scan_if_lowered(use, bytes, bytes_length);
+    return is_too_deep(scanned)
+               ? scanned
+               : bcs_c_handle_stop_place(use->proved, &use->ask, what, bytes, bytes_length, out, out_length);
 }
 
-/* Each call is there twice: over the text of a registry, which is opened for the call, and on a handle. PARAMETERS begin with a
-   comma if there are any, and CALL is what is made of `use`. */
+static bcs_answer text_place(struct use *use, uint32_t what, const uint8_t *text, size_t text_length, uint8_t *out,
+                             size_t out_length) {
+    const bcs_answer coded = use->is_lowered ? bcs_c_handle_to_bcs(use->proved, &use->ask, text, text_length, NULL, 0)
+                                             : plain(BCS_DONE);
+    return is_too_deep(coded) ? coded
+                              : bcs_c_handle_text_place(use->proved, &use->ask, what, text, text_length, out, out_length);
+}
+
+/* Defines a call twice: with the text of a registry, and with a handle. */
 #define FORMAT_AND_LIMITS const uint8_t *format, size_t format_length, uint32_t depth, uint32_t nodes
 #define IN(input) , const uint8_t *input, size_t input##_length
 #define NUMBER(name) , uint32_t name
@@ -346,26 +405,36 @@ static bcs_answer stop_place(struct use *use, uint32_t what, const uint8_t *byte
         return begun.status == BCS_DONE ? end(&use, CALL) : begun;                                                     \
     }
 
+#define IF_READ(input, call) (can_read(use.left, input, input##_length) ? (call) : plain(BCS_MEMORY))
+
 BOTH(check, , bcs_c_handle_check(use.proved, &use.ask))
-BOTH(to_bcs, IN(text) OUT, bcs_c_handle_to_bcs(use.proved, &use.ask, text, text_length, out, out_length))
+BOTH(to_bcs, IN(text) OUT,
+     IF_READ(text, bcs_c_handle_to_bcs(use.proved, &use.ask, text, text_length, out, out_length)))
 BOTH(from_bcs, IN(bytes) OUT, bcs_c_handle_from_bcs(use.proved, &use.ask, bytes, bytes_length, out, out_length))
-BOTH(normalise, IN(text) OUT, bcs_c_handle_normalise(use.proved, &use.ask, text, text_length, out, out_length))
+BOTH(normalise, IN(text) OUT,
+     IF_READ(text, bcs_c_handle_normalise(use.proved, &use.ask, text, text_length, out, out_length)))
 BOTH(compare, IN(first) IN(second),
-     bcs_c_handle_compare(use.proved, &use.ask, first, first_length, second, second_length))
+     IF_READ(first, IF_READ(second, bcs_c_handle_compare(use.proved, &use.ask, first, first_length, second,
+                                                         second_length))))
 BOTH(scan, IN(bytes), bcs_c_handle_scan(use.proved, &use.ask, bytes, bytes_length))
 BOTH(part, IN(bytes) IN(path), bcs_c_handle_part(use.proved, &use.ask, bytes, bytes_length, path, path_length))
 BOTH(explain, NUMBER(form) IN(bytes) OUT, explain(&use, form, bytes, bytes_length, out, out_length))
-BOTH(text_place, NUMBER(what) IN(text) OUT, text_place(&use, what, text, text_length, out, out_length))
+BOTH(text_place, NUMBER(what) IN(text) OUT,
+     IF_READ(text, text_place(&use, what, text, text_length, out, out_length)))
 BOTH(stop_place, NUMBER(what) IN(bytes) OUT, stop_place(&use, what, bytes, bytes_length, out, out_length))
 
 bcs_answer bcs_grows(const uint8_t *older, size_t older_length, const uint8_t *newer, size_t newer_length) {
-    return stack_left() < FIXED ? plain(BCS_MEMORY) : bcs_c_grows(older, older_length, newer, newer_length);
+    const size_t left = stack_left();
+    return can_read(left, older, older_length) && can_read(left, newer, newer_length)
+               ? bcs_c_grows(older, older_length, newer, newer_length)
+               : plain(BCS_MEMORY);
 }
 
 bcs_answer bcs_registry_place(uint32_t what, const uint8_t *registry, size_t registry_length, uint8_t *out,
                               size_t out_length) {
-    return stack_left() < FIXED ? plain(BCS_MEMORY)
-                                : bcs_c_registry_place(what, registry, registry_length, out, out_length);
+    return can_read(stack_left(), registry, registry_length)
+               ? bcs_c_registry_place(what, registry, registry_length, out, out_length)
+               : plain(BCS_MEMORY);
 }
 
 bcs_answer bcs_fault_name(uint32_t fault, uint8_t *out, size_t out_length) {
