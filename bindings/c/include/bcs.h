@@ -279,7 +279,7 @@ static inline const char *bcs_fault_text(uint32_t fault) {
 static inline size_t bcs_format(const char *word, size_t word_length, uint8_t *out, size_t out_length) {
     const int is_name = word_length == 0 || (word[0] != '{' && word[0] != '"');
     const char *const parts[3] = {is_name ? "{\"TYPENAME\":\"" : "", word, is_name ? "\"}" : ""};
-    const size_t lengths[3] = {is_name ? 13 : 0, word_length, is_name ? 2 : 0};
+    const size_t lengths[3] = {(size_t)(is_name ? 13 : 0), word_length, (size_t)(is_name ? 2 : 0)};
     size_t length = 0;
     for (int part = 0; part < 3; part++) {
         for (size_t at = 0; at < lengths[part]; at++) {

@@ -1,4 +1,4 @@
-/* What the header has beside the proved calls, and pointers to no bytes. */
+/* The functions that the header defines itself, the version, and null pointers to no bytes. */
 #include "jobs.h"
 
 static void faults_have_their_names(void) {
@@ -12,74 +12,96 @@ static void faults_have_their_names(void) {
     CHECK(bcs_fault_text(UINT32_MAX) == NULL);
 }
 
-static void is_format(const char *word, const char *wanted) {
-    const size_t length = strlen(wanted);
-    uint8_t *out = guarded(length);
-    memset(out, UNTOUCHED, length);
-    CHECK(bcs_format(word, out, length) == length && is_text(out, length, wanted));
-    unguard(out, length);
-    for (size_t room = 0; room < length; room++) {
+static void is_format(struct slice word, struct slice wanted) {
+    uint8_t *out = guarded(wanted.length);
+    memset(out, UNTOUCHED, wanted.length);
+    const struct slice copy = slice_of((const char *)word.at, word.length);
+    CHECK(bcs_format((const char *)copy.at, copy.length, out, wanted.length) == wanted.length);
+    CHECK(memcmp(out, wanted.at, wanted.length) == 0);
+    unguard(out, wanted.length);
+    for (size_t room = 0; room < wanted.length; room++) {
         uint8_t *less = guarded(room);
-        CHECK(bcs_format(word, less, room) == length && memcmp(less, wanted, room) == 0);
+        CHECK(bcs_format((const char *)copy.at, copy.length, less, room) == wanted.length);
+        CHECK(memcmp(less, wanted.at, room) == 0);
         unguard(less, room);
     }
+    drop(copy);
 }
 
 static void formats_are_as_the_program_has_them(void) {
-    is_format("Payment", "{\"TYPENAME\":\"Payment\"}");
-    is_format("\"U8\"", "\"U8\"");
-    is_format("{\"SEQ\":\"U8\"}", "{\"SEQ\":\"U8\"}");
-    is_format("", "{\"TYPENAME\":\"\"}");
-    is_format("a\"\\\n\x1f/\xc3\xa9", "{\"TYPENAME\":\"a\\u0022\\u005c\\u000a\\u001f/\xc3\xa9\"}");
-    const char registry[] = "{\"a\\\"\\n\":\"UNITSTRUCT\"}";
+    static const struct {
+        struct slice word, wanted;
+    } formats[] = {
+        {OF("Payment"), OF("{\"TYPENAME\":\"Payment\"}")},
+        {OF("\"U8\""), OF("\"U8\"")},
+        {OF("{\"SEQ\":\"U8\"}"), OF("{\"SEQ\":\"U8\"}")},
+        {OF("{\0}"), OF("{\0}")},
+        {OF(""), OF("{\"TYPENAME\":\"\"}")},
+        {OF("a\0b"), OF("{\"TYPENAME\":\"a\\u0000b\"}")},
+        {OF("\0{"), OF("{\"TYPENAME\":\"\\u0000{\"}")},
+        {OF("a\"\\\n\x1f/\xc3\xa9"), OF("{\"TYPENAME\":\"a\\u0022\\u005c\\u000a\\u001f/\xc3\xa9\"}")},
+    };
+    for (size_t row = 0; row < sizeof formats / sizeof *formats; row++) {
+        is_format(formats[row].word, formats[row].wanted);
+    }
+    CHECK(bcs_format(NULL, 0, NULL, 0) == 15);
     uint8_t format[100];
-    const size_t length = bcs_format("a\"\n", format, sizeof format);
-    const bcs_ask ask = {(const uint8_t *)registry, sizeof registry - 1, format, length, BCS_DEPTH, BCS_NODES};
-    CHECK(bcs_check(&ask).status == BCS_DONE);
+    const size_t length = bcs_format("a\"\n\0", 4, format, sizeof format);
+    const struct job job = {CHECKS, OF("{\"a\\\"\\n\\u0000\":\"UNITSTRUCT\"}"), {format, length}, {NULL, 0}, {NULL, 0}, STANDARD, 0};
+    CHECK(make(&job, NULL, 0).status == BCS_DONE);
 }
 
-/* A pointer to no bytes may be null, and is as any other. */
+/* 16 nodes a byte and a million, as long as that is a number of 32 bits: 4294967295 = 16 * 268372955 + 1000000 + 15. */
+static void nodes_are_bounded(void) {
+    static const struct {
+        size_t length;
+        uint32_t nodes;
+    } rows[] = {
+        {0, 1000000},           {1, 1000016},           {5, 1000080},           {1000000, 17000000},
+        {268372955, 4294967280}, {268372956, 4294967295}, {268435456, 4294967295}, {SIZE_MAX, 4294967295},
+    };
+    for (size_t row = 0; row < sizeof rows / sizeof *rows; row++) {
+        CHECK(bcs_nodes_for(rows[row].length) == rows[row].nodes);
+    }
+    /* Five bytes that spell 2147483647 units are refused at once. */
+    const struct job units = {SCAN, OF("{}"), OF("{\"SEQ\":\"UNIT\"}"), OF("\xff\xff\xff\xff\x07"), {NULL, 0},
+                              BCS_DEPTH, bcs_nodes_for(5), 0};
+    const bcs_answer answer = make(&units, NULL, 0);
+    CHECK(answer.status == BCS_REFUSED && answer.fault == BCS_STOP_TOO_MANY_NODES);
+}
+
+/* A pointer to no bytes may be null, and means the same as any other. */
 static void null_is_no_bytes(void) {
-    const uint8_t *const unit = (const uint8_t *)"\"UNIT\"", *const none = (const uint8_t *)"{}";
-    const bcs_ask ask = {none, 2, unit, 6, BCS_DEPTH, BCS_NODES};
-    const bcs_ask no_registry = {NULL, 0, unit, 6, BCS_DEPTH, BCS_NODES};
-    const bcs_ask no_format = {none, 2, NULL, 0, BCS_DEPTH, BCS_NODES};
-    const bcs_handle_ask rest = {unit, 6, BCS_DEPTH, BCS_NODES};
+    static const struct {
+        enum call call;
+        uint32_t status, fault;
+        size_t length;
+    } rows[] = {
+        {TO_BCS, BCS_REFUSED, BCS_TEXT_NOT_JSON, 0},   {FROM_BCS, BCS_SHORT, 0, 4},
+        {NORMALISE, BCS_REFUSED, BCS_TEXT_NOT_JSON, 0}, {COMPARE, BCS_REFUSED, BCS_TEXT_NOT_JSON, 0},
+        {SCAN, BCS_DONE, 0, 0},                        {PART, BCS_PATH, BCS_PATH_BAD_PATH, 0},
+        {EXPLAIN, BCS_DONE, 0, 0},                     {TEXT_PLACE, BCS_DONE, 0, 0},
+        {STOP_PLACE, BCS_NO, 0, 0},
+    };
+    const struct slice none = {NULL, 0};
+    for (size_t row = 0; row < sizeof rows / sizeof *rows; row++) {
+        const struct job job = {rows[row].call, OF("{}"), OF("\"UNIT\""), none, none, STANDARD, 0};
+        const bcs_answer wanted = {rows[row].status, rows[row].fault, 0, rows[row].length};
+        CHECK(are_same(make(&job, NULL, 0), wanted) && are_same(make_by(ON_HANDLE, &job, NULL, 0), wanted));
+    }
     uint8_t out[300];
-    bcs_answer answer = bcs_check(&no_registry);
-    CHECK(answer.status == BCS_REGISTRY && answer.fault == BCS_REGISTRY_NOT_JSON);
-    answer = bcs_check(&no_format);
-    CHECK(answer.status == BCS_FORMAT && answer.fault == BCS_REGISTRY_NOT_JSON);
+    const struct job null = {TO_BCS, OF("{}"), OF("\"UNIT\""), OF("null"), none, STANDARD, 0};
+    CHECK(are_same(make(&null, NULL, 0), (bcs_answer){.status = BCS_DONE}));
+    const struct job unit = {FROM_BCS, OF("{}"), OF("\"UNIT\""), none, none, STANDARD, 0};
+    CHECK(are_same(make(&unit, out, sizeof out), (bcs_answer){.length = 4}) && is_text(out, 4, "null"));
+    const struct job no_registry = {CHECKS, none, OF("\"UNIT\""), none, none, STANDARD, 0};
+    const struct job no_format = {CHECKS, OF("{}"), none, none, none, STANDARD, 0};
+    const bcs_answer not_json = {BCS_FORMAT, BCS_REGISTRY_NOT_JSON, 0, 0};
+    CHECK(are_same(make(&no_format, NULL, 0), not_json) && are_same(make_by(ON_HANDLE, &no_format, NULL, 0), not_json));
+    CHECK(are_same(make(&no_registry, NULL, 0), (bcs_answer){BCS_REGISTRY, BCS_REGISTRY_NOT_JSON, 0, 0}));
     CHECK(bcs_grows(NULL, 0, NULL, 0).status == BCS_REGISTRY);
-    CHECK(bcs_to_bcs(&ask, NULL, 0, out, sizeof out).fault == BCS_TEXT_NOT_JSON);
-    answer = bcs_to_bcs(&ask, (const uint8_t *)"null", 4, NULL, 0);
-    CHECK(answer.status == BCS_DONE && answer.length == 0);
-    answer = bcs_from_bcs(&ask, NULL, 0, out, sizeof out);
-    CHECK(answer.status == BCS_DONE && is_text(out, answer.length, "null"));
-    answer = bcs_from_bcs(&ask, NULL, 0, NULL, 0);
-    CHECK(answer.status == BCS_SHORT && answer.length == 4);
-    CHECK(bcs_normalise(&ask, NULL, 0, NULL, 0).fault == BCS_TEXT_NOT_JSON);
-    CHECK(bcs_compare(&ask, NULL, 0, NULL, 0).fault == BCS_TEXT_NOT_JSON);
-    CHECK(bcs_scan(&ask, NULL, 0).status == BCS_DONE);
-    CHECK(bcs_part(&ask, NULL, 0, NULL, 0).status == BCS_PATH);
-    CHECK(bcs_explain(&ask, BCS_WAYS, NULL, 0, NULL, 0).status == BCS_DONE);
-    CHECK(bcs_text_place(&ask, BCS_WHERE, NULL, 0, NULL, 0).status == BCS_DONE);
-    CHECK(bcs_stop_place(&ask, BCS_WHERE, NULL, 0, NULL, 0).status == BCS_NO);
     CHECK(bcs_registry_place(BCS_WHERE, NULL, 0, NULL, 0).status == BCS_SHORT);
     CHECK(bcs_fault_name(BCS_STOP_BAD_BOOL, NULL, 0).status == BCS_SHORT);
-    bcs_handle handle = {0};
-    CHECK(bcs_open(&handle, NULL, 0).status == BCS_REGISTRY);
-    CHECK(bcs_open(&handle, none, 2).status == BCS_DONE);
-    CHECK(bcs_handle_to_bcs(&handle, &rest, NULL, 0, NULL, 0).fault == BCS_TEXT_NOT_JSON);
-    CHECK(bcs_handle_from_bcs(&handle, &rest, NULL, 0, NULL, 0).status == BCS_SHORT);
-    CHECK(bcs_handle_normalise(&handle, &rest, NULL, 0, NULL, 0).fault == BCS_TEXT_NOT_JSON);
-    CHECK(bcs_handle_compare(&handle, &rest, NULL, 0, NULL, 0).fault == BCS_TEXT_NOT_JSON);
-    CHECK(bcs_handle_scan(&handle, &rest, NULL, 0).status == BCS_DONE);
-    CHECK(bcs_handle_part(&handle, &rest, NULL, 0, NULL, 0).status == BCS_PATH);
-    CHECK(bcs_handle_explain(&handle, &rest, BCS_TREE, NULL, 0, NULL, 0).status == BCS_DONE);
-    CHECK(bcs_handle_text_place(&handle, &rest, BCS_WHERE, NULL, 0, NULL, 0).status == BCS_DONE);
-    CHECK(bcs_handle_stop_place(&handle, &rest, BCS_WHERE, NULL, 0, NULL, 0).status == BCS_NO);
-    bcs_close(&handle);
 }
 
 int main(void) {
@@ -87,6 +109,7 @@ int main(void) {
     CHECK(bcs_is_supported());
     faults_have_their_names();
     formats_are_as_the_program_has_them();
+    nodes_are_bounded();
     null_is_no_bytes();
     return 0;
 }

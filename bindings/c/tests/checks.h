@@ -69,8 +69,4 @@ static inline bool are_untouched(const uint8_t *bytes, size_t length) {
     return true;
 }
 
-static inline bcs_ask ask_of(struct slice registry, struct slice format) {
-    return (bcs_ask){registry.at, registry.length, format.at, format.length, BCS_DEPTH, BCS_NODES};
-}
-
 #endif

@@ -102,12 +102,12 @@ static struct job job_of(char *words[WORDS], size_t count) {
     return job;
 }
 
-/* The handle, and the text of the registry that is open in it. */
-static bcs_handle handle;
+/* The handle, and the text of its registry. */
+static bcs_handle *handle;
 static struct slice open_text;
 
 static bool is_open(struct slice registry) {
-    return handle.registry != NULL && registry.length == open_text.length &&
+    return handle != NULL && registry.length == open_text.length &&
            memcmp(registry.at, open_text.at, registry.length) == 0;
 }
 
@@ -116,6 +116,7 @@ static bcs_answer open_for(const struct job *job) {
     if (is_open(job->registry)) {
         return (bcs_answer){.status = BCS_DONE};
     }
+    bcs_close(handle);
     const bcs_answer answer = bcs_open(&handle, job->registry.at, job->registry.length);
     if (answer.status == BCS_DONE) {
         free((void *)open_text.at);
@@ -132,7 +133,7 @@ static bcs_answer make_in(enum way way, const struct job *job, uint8_t *out, siz
         return make(job, out, room);
     }
     const bcs_answer opened = open_for(job);
-    return opened.status == BCS_DONE ? make_on(&handle, job, out, room) : opened;
+    return opened.status == BCS_DONE ? make_on(handle, job, out, room) : opened;
 }
 
 /* Makes the call, and once more with as much room as it says. */
@@ -191,7 +192,7 @@ int main(int count, char **arguments) {
         const bcs_answer answer = make_whole(way, &job, &out, &room);
         tell(&job, answer, out);
     }
-    bcs_close(&handle);
+    bcs_close(handle);
     free((void *)open_text.at);
     free(line);
     free(out);

@@ -1,5 +1,5 @@
-/* A handle from before its first registry to after its last. That calls on one answer what calls by texts do is tried by
-   make_guarded, in calls.c and refusals.c. */
+/* Handles from bcs_open to bcs_close. make_guarded tests in calls.c and refusals.c that calls on a handle answer what those with
+   the registry's text do, and threads.c uses handles on several threads. */
 #include "jobs.h"
 
 #define ON_VALUE(the_call, its_input) \
@@ -25,13 +25,17 @@ static const struct {
 };
 #define ROOM 200
 
-static void is_open(bcs_handle *handle, struct slice registry) {
-    const bcs_answer answer = bcs_open(handle, registry.at, registry.length);
-    CHECK(are_same(answer, (bcs_answer){.status = BCS_DONE}));
-    CHECK(handle->registry != NULL);
+static bcs_handle *open_one(struct slice registry) {
+    /* The handle keeps no pointer to the text. */
+    const struct slice copy = slice_of((const char *)registry.at, registry.length);
+    bcs_handle *handle = NULL;
+    CHECK(are_same(bcs_open(&handle, copy.at, copy.length), (bcs_answer){.status = BCS_DONE}));
+    CHECK(handle != NULL);
+    drop(copy);
+    return handle;
 }
 
-/* Each call on the handle, twice, since each leaves the registry open. */
+/* Each call on the handle, twice, since a call leaves the handle as it was. */
 static void has_number(bcs_handle *handle) {
     uint8_t out[ROOM];
     for (size_t row = 0; row < 2 * (sizeof jobs / sizeof *jobs); row++) {
@@ -40,64 +44,56 @@ static void has_number(bcs_handle *handle) {
         memset(out, UNTOUCHED, ROOM);
         CHECK(make_on(handle, job, out, ROOM).status == BCS_DONE);
         CHECK(memcmp(out, output.at, output.length) == 0 && are_untouched(out + output.length, ROOM - output.length));
-        CHECK(handle->registry != NULL);
     }
 }
 
-/* No call has a registry. That is told before all that is refused beside. */
-static void is_closed(bcs_handle *handle) {
+static void has_truth(bcs_handle *handle) {
+    const struct job seven = {ON_VALUE(SCAN, "\x07")};
+    CHECK(are_same(make_on(handle, &seven, NULL, 0), (bcs_answer){.status = BCS_REFUSED, .fault = BCS_STOP_BAD_BOOL}));
+}
+
+/* Without a handle that is the answer, whatever else is refused. */
+static void null_is_closed(void) {
     uint8_t out[ROOM];
-    CHECK(handle->registry == NULL);
     for (size_t row = 0; row < sizeof jobs / sizeof *jobs; row++) {
         struct job job = jobs[row].job;
         for (size_t time = 0; time < 2; time++) {
             memset(out, UNTOUCHED, ROOM);
-            CHECK(are_same(make_on(handle, &job, out, ROOM), (bcs_answer){.status = BCS_CLOSED}));
-            CHECK(are_untouched(out, ROOM) && handle->registry == NULL);
+            CHECK(are_same(make_on(NULL, &job, out, ROOM), (bcs_answer){.status = BCS_CLOSED}));
+            CHECK(are_untouched(out, ROOM));
             job.format = (struct slice)OF("{");
             job.depth = BCS_DEPTH + 1;
         }
     }
+    bcs_close(NULL);
+}
+
+static void refused_registries_open_nothing(void) {
+    bcs_handle *const before = open_one(number), *handle = before;
+    CHECK(are_same(bcs_open(&handle, no_registry.at, no_registry.length),
+                   (bcs_answer){.status = BCS_REGISTRY, .fault = BCS_REGISTRY_BAD_SHAPE}));
+    CHECK(handle == NULL);
+    handle = before;
+    CHECK(are_same(bcs_open(&handle, NULL, 0), (bcs_answer){.status = BCS_REGISTRY, .fault = BCS_REGISTRY_NOT_JSON}));
+    CHECK(handle == NULL);
+    has_number(before);
+    bcs_close(before);
 }
 
 int main(void) {
-    bcs_handle handle = {0};
-    is_closed(&handle);
-    bcs_close(&handle);
-    is_closed(&handle);
-    CHECK(are_same(bcs_open(&handle, no_registry.at, no_registry.length),
-                   (bcs_answer){.status = BCS_REGISTRY, .fault = BCS_REGISTRY_BAD_SHAPE}));
-    is_closed(&handle);
-
-    is_open(&handle, number);
-    has_number(&handle);
-    CHECK(are_same(bcs_open(&handle, no_registry.at, no_registry.length),
-                   (bcs_answer){.status = BCS_REGISTRY, .fault = BCS_REGISTRY_BAD_SHAPE}));
-    has_number(&handle);
-
-    /* Another registry takes the place of the one that is open, which goes. */
-    uint8_t out[ROOM];
-    const struct job seven = {ON_VALUE(SCAN, "\x07")};
-    is_open(&handle, truth);
-    CHECK(are_same(make_on(&handle, &seven, out, ROOM),
-                   (bcs_answer){.status = BCS_REFUSED, .fault = BCS_STOP_BAD_BOOL}));
-    is_open(&handle, number);
-    has_number(&handle);
-
-    /* Handles side by side don't mind one another. */
-    bcs_handle other = {0};
-    is_open(&other, truth);
-    has_number(&handle);
-    bcs_close(&other);
-    has_number(&handle);
-    is_closed(&other);
-
-    bcs_close(&handle);
-    is_closed(&handle);
-    bcs_close(&handle);
-    is_closed(&handle);
-    is_open(&handle, number);
-    has_number(&handle);
-    bcs_close(&handle);
+    null_is_closed();
+    refused_registries_open_nothing();
+    bcs_handle *one = open_one(number), *other = open_one(truth), *third = open_one(number);
+    has_number(one);
+    has_truth(other);
+    bcs_close(other);
+    has_number(one);
+    bcs_close(one);
+    has_number(third);
+    other = open_one(truth);
+    has_truth(other);
+    has_number(third);
+    bcs_close(third);
+    bcs_close(other);
     return 0;
 }

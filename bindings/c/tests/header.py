@@ -1,5 +1,6 @@
-"""Compares include/bcs.h with the proved crate's sources: the names of the calls and their parameters, the fields of the
-structs, and the numbers of statuses, faults and forms. That the structs' fields stand where they should is in layout.c.
+"""Compares proved.h with the proved crate's sources: the names of the calls and their parameters, and the fields of the structs;
+and the numbers of statuses, faults and forms in include/bcs.h, and the fields of an answer. layout.c has the offsets of the
+fields. That library.c defines the calls that bcs.h declares is checked by the compiler, and by `test` that it defines them all.
 
     python3 bindings/c/tests/header.py [CRATE]      CRATE: the folder of the crate; without it crates/bcs_c
 """
@@ -15,10 +16,10 @@ ROOT = HERE.parent.parent.parent
 # How a number's type is written in C.
 NUMBERS = {"u32": "uint32_t", "u64": "uint64_t", "usize": "size_t"}
 # Structs that calls are handed.
-STRUCTS = {"&Ask": "bcs_ask", "&HandleAsk": "bcs_handle_ask"}
+STRUCTS = {"&Ask": "bcs_c_ask", "&HandleAsk": "bcs_c_handle_ask"}
 # What a call gives back.
 RESULTS = {"Answer": "bcs_answer", "": "void"}
-# The header tells what the crate's pointer in a handle leads to.
+# The header says what the crate's pointer in a handle points to.
 NAMES_IN_HANDLE = {"void *pointer": "void *registry"}
 # With what the header's names of an enum of the crate begin.
 FRONTS = {
@@ -52,7 +53,7 @@ def declared(name: str, written: str) -> list[str]:
     if written in STRUCTS:
         return [f"const {STRUCTS[written]} *{name}"]
     if written == "&mut Handle":
-        return [f"bcs_handle *{name}"]
+        return [f"bcs_c_handle *{name}"]
     if written == "*mut u8":
         return [f"void *{name}"]
     if written == "Global":
@@ -91,7 +92,12 @@ def structs_of(code: str) -> dict[str, list[str]]:
     """The fields that C sees, which a ghost isn't."""
     structs = re.findall(r"#\[repr\(C\)\]\s*(?:#\[[^\]]*\]\s*)*pub struct (\w+)(?:<'a>)? \{(.*?)\n\}", code, re.DOTALL)
     fields = {name: re.sub(r"(pub )?ghost .*|\bpub ", "", body) for name, body in structs}
-    return {f"bcs_{in_capitals(name).lower()}": declared_all(body) for name, body in fields.items()}
+    return {name_of_struct(name): declared_all(body) for name, body in fields.items()}
+
+
+def name_of_struct(name: str) -> str:
+    """Answers are in the public header too."""
+    return "bcs_answer" if name == "Answer" else f"bcs_c_{in_capitals(name).lower()}"
 
 
 def of_crate(folder: pathlib.Path) -> Interface:
@@ -105,7 +111,7 @@ def of_crate(folder: pathlib.Path) -> Interface:
     if len(exported) != exports:
         sys.exit(f"header: FAILED: of {exports} exports {len(exported)} are of the one form that is known")
     structs = structs_of(code)
-    structs["bcs_handle"] = [NAMES_IN_HANDLE[field] for field in structs["bcs_handle"]]
+    structs["bcs_c_handle"] = [NAMES_IN_HANDLE[field] for field in structs["bcs_c_handle"]]
     others = {OTHER_FAULTS[name]: int(number) for name, number in re.findall(r"\bFault::(\w+) => (\d+)", code)}
     return Interface(
         calls={name: [RESULTS[result], *declared_all(parameters)] for name, parameters, result in exported},
@@ -126,15 +132,23 @@ def enum_of(header: str, name: str) -> dict[str, int]:
     return {constant: int(number) for constant, number in re.findall(r"(\w+) = (\d+)", body[1])}
 
 
-def of_header(file: pathlib.Path) -> Interface:
-    header = re.sub(r"/\*.*?\*/", "", file.read_text(encoding="utf-8"), flags=re.DOTALL)
-    calls = re.findall(r"\b(bcs_answer|void) (bcs_\w+)\((.*?)\);", header, re.DOTALL)
+def code_of(file: pathlib.Path) -> str:
+    return re.sub(r"/\*.*?\*/", "", file.read_text(encoding="utf-8"), flags=re.DOTALL)
+
+
+def structs_declared(header: str) -> dict[str, list[str]]:
     structs = re.findall(r"typedef struct \w+ \{(.*?)\} (\w+);", header, re.DOTALL)
+    return {name: [one_blank(field) for field in body.split(";") if field.strip()] for body, name in structs}
+
+
+def of_headers(proved: pathlib.Path, public: pathlib.Path) -> Interface:
+    calls = re.findall(r"\b(bcs_answer|void) (bcs_\w+)\((.*?)\);", code_of(proved), re.DOTALL)
+    header = code_of(public)
     faults = enum_of(header, "bcs_fault")
     assert faults.pop("BCS_FAULT_NONE") == 0
     return Interface(
         calls={name: [result, *map(one_blank, parameters.split(","))] for result, name, parameters in calls},
-        structs={name: [one_blank(field) for field in body.split(";") if field.strip()] for body, name in structs},
+        structs=structs_declared(code_of(proved)) | structs_declared(header),
         statuses=enum_of(header, "bcs_status"),
         faults=faults,
         forms=enum_of(header, "bcs_form"),
@@ -153,7 +167,7 @@ def differences(header: Interface, crate: Interface) -> list[str]:
 
 def main(words: list[str]) -> int:
     crate = of_crate(pathlib.Path(words[0]) if words else ROOT / "crates/bcs_c")
-    header = of_header(HERE.parent / "include/bcs.h")
+    header = of_headers(HERE.parent / "proved.h", HERE.parent / "include/bcs.h")
     found = differences(header, crate)
     for difference in found:
         print(f"header: FAILED: {difference}")

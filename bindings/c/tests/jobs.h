@@ -25,35 +25,38 @@ enum way { BY_TEXTS, ON_HANDLE };
 #define TEN(words) words words words words words words words words words words
 #define HUNDRED(words) TEN(TEN(words))
 
+/* What comes before the input of a call. */
+#define FORMAT_AND_LIMITS(job) (job)->format.at, (job)->format.length, (job)->depth, (job)->nodes
+#define WITH_TEXTS(job) (job)->registry.at, (job)->registry.length, FORMAT_AND_LIMITS(job)
+#define WITH_HANDLE(handle, job) (handle), FORMAT_AND_LIMITS(job)
+
 static inline bcs_answer make(const struct job *job, uint8_t *out, size_t room) {
     const struct slice input = job->input, second = job->second;
-    const bcs_ask ask = {job->registry.at,   job->registry.length, job->format.at,
-                         job->format.length, job->depth,           job->nodes};
     switch (job->call) {
     case CHECKS:
-        return bcs_check(&ask);
+        return bcs_check(WITH_TEXTS(job));
     case GROWS:
         return bcs_grows(input.at, input.length, second.at, second.length);
     case TO_BCS:
-        return bcs_to_bcs(&ask, input.at, input.length, out, room);
+        return bcs_to_bcs(WITH_TEXTS(job), input.at, input.length, out, room);
     case FROM_BCS:
-        return bcs_from_bcs(&ask, input.at, input.length, out, room);
+        return bcs_from_bcs(WITH_TEXTS(job), input.at, input.length, out, room);
     case NORMALISE:
-        return bcs_normalise(&ask, input.at, input.length, out, room);
+        return bcs_normalise(WITH_TEXTS(job), input.at, input.length, out, room);
     case COMPARE:
-        return bcs_compare(&ask, input.at, input.length, second.at, second.length);
+        return bcs_compare(WITH_TEXTS(job), input.at, input.length, second.at, second.length);
     case SCAN:
-        return bcs_scan(&ask, input.at, input.length);
+        return bcs_scan(WITH_TEXTS(job), input.at, input.length);
     case PART:
-        return bcs_part(&ask, input.at, input.length, second.at, second.length);
+        return bcs_part(WITH_TEXTS(job), input.at, input.length, second.at, second.length);
     case EXPLAIN:
-        return bcs_explain(&ask, job->number, input.at, input.length, out, room);
+        return bcs_explain(WITH_TEXTS(job), job->number, input.at, input.length, out, room);
     case FAULT_NAME:
         return bcs_fault_name(job->number, out, room);
     case TEXT_PLACE:
-        return bcs_text_place(&ask, job->number, input.at, input.length, out, room);
+        return bcs_text_place(WITH_TEXTS(job), job->number, input.at, input.length, out, room);
     case STOP_PLACE:
-        return bcs_stop_place(&ask, job->number, input.at, input.length, out, room);
+        return bcs_stop_place(WITH_TEXTS(job), job->number, input.at, input.length, out, room);
     case REGISTRY_PLACE:
         return bcs_registry_place(job->number, input.at, input.length, out, room);
     }
@@ -68,28 +71,27 @@ static inline bool is_on_registry(const struct job *job) {
 /* The same on the registry that is open. */
 static inline bcs_answer make_on(bcs_handle *handle, const struct job *job, uint8_t *out, size_t room) {
     const struct slice input = job->input, second = job->second;
-    const bcs_handle_ask ask = {job->format.at, job->format.length, job->depth, job->nodes};
     switch (job->call) {
     case CHECKS:
-        return bcs_handle_check(handle, &ask);
+        return bcs_handle_check(WITH_HANDLE(handle, job));
     case TO_BCS:
-        return bcs_handle_to_bcs(handle, &ask, input.at, input.length, out, room);
+        return bcs_handle_to_bcs(WITH_HANDLE(handle, job), input.at, input.length, out, room);
     case FROM_BCS:
-        return bcs_handle_from_bcs(handle, &ask, input.at, input.length, out, room);
+        return bcs_handle_from_bcs(WITH_HANDLE(handle, job), input.at, input.length, out, room);
     case NORMALISE:
-        return bcs_handle_normalise(handle, &ask, input.at, input.length, out, room);
+        return bcs_handle_normalise(WITH_HANDLE(handle, job), input.at, input.length, out, room);
     case COMPARE:
-        return bcs_handle_compare(handle, &ask, input.at, input.length, second.at, second.length);
+        return bcs_handle_compare(WITH_HANDLE(handle, job), input.at, input.length, second.at, second.length);
     case SCAN:
-        return bcs_handle_scan(handle, &ask, input.at, input.length);
+        return bcs_handle_scan(WITH_HANDLE(handle, job), input.at, input.length);
     case PART:
-        return bcs_handle_part(handle, &ask, input.at, input.length, second.at, second.length);
+        return bcs_handle_part(WITH_HANDLE(handle, job), input.at, input.length, second.at, second.length);
     case EXPLAIN:
-        return bcs_handle_explain(handle, &ask, job->number, input.at, input.length, out, room);
+        return bcs_handle_explain(WITH_HANDLE(handle, job), job->number, input.at, input.length, out, room);
     case TEXT_PLACE:
-        return bcs_handle_text_place(handle, &ask, job->number, input.at, input.length, out, room);
+        return bcs_handle_text_place(WITH_HANDLE(handle, job), job->number, input.at, input.length, out, room);
     case STOP_PLACE:
-        return bcs_handle_stop_place(handle, &ask, job->number, input.at, input.length, out, room);
+        return bcs_handle_stop_place(WITH_HANDLE(handle, job), job->number, input.at, input.length, out, room);
     case GROWS:
     case FAULT_NAME:
     case REGISTRY_PLACE:
@@ -98,19 +100,17 @@ static inline bcs_answer make_on(bcs_handle *handle, const struct job *job, uint
     abort();
 }
 
-/* Opens the registry for this one call. Where it is refused, that is the answer. */
+/* Opens the registry for this one call. If it is refused, that is the answer. */
 static inline bcs_answer make_opened(const struct job *job, uint8_t *out, size_t room) {
-    bcs_handle handle = {0};
+    bcs_handle *handle = (bcs_handle *)out; /* so that it matters that a refusal sets it to NULL */
     bcs_answer answer = bcs_open(&handle, job->registry.at, job->registry.length);
     if (answer.status == BCS_DONE) {
-        CHECK(answer.fault == BCS_FAULT_NONE && answer.place == 0 && answer.length == 0 && handle.registry != NULL);
-        answer = make_on(&handle, job, out, room);
-        CHECK(handle.registry != NULL);
+        CHECK(answer.fault == BCS_FAULT_NONE && answer.place == 0 && answer.length == 0 && handle != NULL);
+        answer = make_on(handle, job, out, room);
     } else {
-        CHECK(handle.registry == NULL);
+        CHECK(handle == NULL);
     }
-    bcs_close(&handle);
-    CHECK(handle.registry == NULL);
+    bcs_close(handle);
     return answer;
 }
 

@@ -166,26 +166,25 @@ static void sweep_both(enum way way, size_t row) {
     CHECK(jobs[row].job.call == FAULT_NAME ? count == 0 : together > 0);
 }
 
-/* A registry that can't be opened for want of memory leaves the one that is open, which then answers as before. */
-static void older_registry_stays(void) {
+/* A handle is there whole or not at all, also if its own block can't be had; and each of its slots opens the registry for
+   itself, which leaves the others as they are. */
+static void opening(void) {
     const struct job *job = &jobs[0].job;
-    const struct slice newer = OF("{\"C\":\"UNITSTRUCT\"}");
-    uint8_t out[1];
-    bcs_handle handle = {0};
     unsigned long number = 0;
     bcs_answer answer = {.status = BCS_MEMORY};
-    refused = 0;
-    CHECK(bcs_open(&handle, job->registry.at, job->registry.length).status == BCS_DONE);
+    bcs_handle *handle = NULL;
     while (answer.status == BCS_MEMORY) {
         requests = 0;
         refused = ++number;
-        answer = bcs_open(&handle, newer.at, newer.length);
-        refused = 0;
-        const bool is_older = make_on(&handle, job, out, 0).status == BCS_DONE;
-        CHECK(is_older == (answer.status == BCS_MEMORY));
+        answer = bcs_open(&handle, job->registry.at, job->registry.length);
+        CHECK((handle == NULL) == (answer.status == BCS_MEMORY));
+        CHECK(answer.status == BCS_DONE || (are_same(answer, (bcs_answer){.status = BCS_MEMORY}) && blocks == 0));
     }
-    CHECK(answer.status == BCS_DONE && number > 1);
-    bcs_close(&handle);
+    CHECK(answer.status == BCS_DONE && requests == number - 1 && number > 2);
+    refused = 0;
+    uint8_t out[1];
+    CHECK(make_on(handle, job, out, 0).status == BCS_DONE);
+    bcs_close(handle);
     CHECK(blocks == 0);
 }
 
@@ -196,6 +195,6 @@ int main(void) {
             sweep_both(ON_HANDLE, row);
         }
     }
-    older_registry_stays();
+    opening();
     return 0;
 }

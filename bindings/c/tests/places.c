@@ -8,9 +8,6 @@
 #define POINT "{\"TYPENAME\":\"Point\"}"
 #define SHAPE "{\"TYPENAME\":\"Shape\"}"
 
-typedef bcs_answer place_call(const bcs_ask *, uint32_t, const uint8_t *, size_t, uint8_t *, size_t);
-typedef bcs_answer handle_call(bcs_handle *, const bcs_handle_ask *, uint32_t, const uint8_t *, size_t, uint8_t *, size_t);
-
 /* What is refused, with its format, and what is told of it. */
 struct refused {
     struct slice format, input;
@@ -62,28 +59,26 @@ static void is_told(bcs_answer answer, const uint8_t *out, size_t room, const ch
 
 #define ROOM 300
 
-static void told_of(const struct refused *row, uint32_t what, const char *words, place_call *call, handle_call *on) {
+static void told_of(const struct refused *row, enum call call, uint32_t what, const char *words) {
     const struct slice registry = text(REGISTRY);
-    const bcs_ask ask = {registry.at, registry.length, row->format.at, row->format.length, row->depth, row->nodes};
-    const bcs_handle_ask rest = {row->format.at, row->format.length, row->depth, row->nodes};
-    bcs_handle handle = {0};
+    const struct job job = {call, registry, row->format, row->input, {NULL, 0}, row->depth, row->nodes, what};
+    bcs_handle *handle;
     CHECK(bcs_open(&handle, registry.at, registry.length).status == BCS_DONE);
     uint8_t *out = guarded(ROOM);
     memset(out, UNTOUCHED, ROOM);
-    is_told(call(&ask, what, row->input.at, row->input.length, out, ROOM), out, ROOM, words);
+    is_told(make(&job, out, ROOM), out, ROOM, words);
     memset(out, UNTOUCHED, ROOM);
-    is_told(on(&handle, &rest, what, row->input.at, row->input.length, out, ROOM), out, ROOM, words);
+    is_told(make_on(handle, &job, out, ROOM), out, ROOM, words);
     if (words[0] != 0) {
         const size_t little = strlen(words) - 1;
         memset(out, UNTOUCHED, ROOM);
-        const bcs_answer answer = call(&ask, what, row->input.at, row->input.length, out, little);
+        const bcs_answer answer = make(&job, out, little);
         CHECK(answer.status == BCS_SHORT && answer.length == strlen(words) && are_untouched(out, ROOM));
-        CHECK(are_same(on(&handle, &rest, what, row->input.at, row->input.length, out, little), answer));
+        CHECK(are_same(make_on(handle, &job, out, little), answer));
         CHECK(are_untouched(out, ROOM));
     }
-    bcs_close(&handle);
-    const bcs_answer closed = on(&handle, &rest, what, row->input.at, row->input.length, out, ROOM);
-    CHECK(closed.status == BCS_CLOSED);
+    bcs_close(handle);
+    CHECK(make_on(NULL, &job, out, ROOM).status == BCS_CLOSED);
     unguard(out, ROOM);
     drop(registry);
 }
@@ -102,34 +97,36 @@ static void told_of_registry(const struct refused *row, uint32_t what, const cha
 static void others(void) {
     uint8_t out[ROOM];
     memset(out, UNTOUCHED, ROOM);
-    struct slice registry = OF(REGISTRY), good = OF("\"U8\""), bad = OF("\"u8\"");
-    bcs_ask ask = ask_of(registry, good);
-    CHECK(bcs_text_place(&ask, BCS_WHERE, (const uint8_t *)"7", 1, out, ROOM).status == BCS_NO);
-    CHECK(bcs_stop_place(&ask, BCS_WHERE, (const uint8_t *)"7", 1, out, ROOM).status == BCS_NO);
-    CHECK(bcs_registry_place(BCS_WANTED, registry.at, registry.length, out, ROOM).status == BCS_NO);
-    ask.depth = BCS_DEPTH + 1;
-    CHECK(bcs_text_place(&ask, BCS_WHERE, (const uint8_t *)"x", 1, out, ROOM).status == BCS_LIMITS);
-    ask = ask_of(registry, bad);
-    const bcs_answer format = bcs_stop_place(&ask, BCS_WHERE, NULL, 0, out, ROOM);
+    struct job job = {TEXT_PLACE, OF(REGISTRY), OF("\"U8\""), OF("7"), {NULL, 0}, STANDARD, BCS_WHERE};
+    CHECK(make(&job, out, ROOM).status == BCS_NO);
+    job.call = STOP_PLACE;
+    CHECK(make(&job, out, ROOM).status == BCS_NO);
+    CHECK(bcs_registry_place(BCS_WANTED, job.registry.at, job.registry.length, out, ROOM).status == BCS_NO);
+    job.call = TEXT_PLACE;
+    job.depth = BCS_DEPTH + 1;
+    CHECK(make(&job, out, ROOM).status == BCS_LIMITS);
+    job = (struct job){STOP_PLACE, job.registry, OF("\"u8\""), {NULL, 0}, {NULL, 0}, STANDARD, BCS_WHERE};
+    const bcs_answer format = make(&job, out, ROOM);
     CHECK(format.status == BCS_FORMAT && format.fault == BCS_REGISTRY_BAD_SHAPE);
-    ask = ask_of(bad, good);
-    const bcs_answer refused = bcs_text_place(&ask, BCS_WANTED, NULL, 0, out, ROOM);
+    const struct slice registry = job.registry;
+    job = (struct job){TEXT_PLACE, job.format, OF("\"U8\""), {NULL, 0}, {NULL, 0}, STANDARD, BCS_WANTED};
+    const bcs_answer refused = make(&job, out, ROOM);
     CHECK(refused.status == BCS_REGISTRY && refused.fault == BCS_REGISTRY_BAD_SHAPE);
     CHECK(are_untouched(out, ROOM));
     /* Any other number is as BCS_WHERE. */
-    ask = ask_of(registry, (struct slice)OF(POINT));
-    const bcs_answer where = bcs_text_place(&ask, UINT32_MAX, (const uint8_t *)"{\"x\":true,\"~/\":[]}", 18, out, ROOM);
+    job = (struct job){TEXT_PLACE, registry, OF(POINT), OF("{\"x\":true,\"~/\":[]}"), {NULL, 0}, STANDARD, UINT32_MAX};
+    const bcs_answer where = make(&job, out, ROOM);
     CHECK(where.status == BCS_DONE && is_text(out, where.length, "/x"));
 }
 
 int main(void) {
     for (size_t row = 0; row < COUNT(texts); row++) {
-        told_of(&texts[row], BCS_WHERE, texts[row].where, bcs_text_place, bcs_handle_text_place);
-        told_of(&texts[row], BCS_WANTED, texts[row].wanted, bcs_text_place, bcs_handle_text_place);
+        told_of(&texts[row], TEXT_PLACE, BCS_WHERE, texts[row].where);
+        told_of(&texts[row], TEXT_PLACE, BCS_WANTED, texts[row].wanted);
     }
     for (size_t row = 0; row < COUNT(stops); row++) {
-        told_of(&stops[row], BCS_WHERE, stops[row].where, bcs_stop_place, bcs_handle_stop_place);
-        told_of(&stops[row], BCS_WANTED, stops[row].wanted, bcs_stop_place, bcs_handle_stop_place);
+        told_of(&stops[row], STOP_PLACE, BCS_WHERE, stops[row].where);
+        told_of(&stops[row], STOP_PLACE, BCS_WANTED, stops[row].wanted);
     }
     for (size_t row = 0; row < COUNT(registries); row++) {
         told_of_registry(&registries[row], BCS_WHERE, registries[row].where);

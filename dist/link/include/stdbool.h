@@ -1,2 +1,4 @@
 #pragma once
 #define bool _Bool
+#define false 0
+#define true 1
