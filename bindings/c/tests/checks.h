@@ -31,6 +31,14 @@ static inline uint8_t *guarded(size_t length) {
     return memory + (room - length);
 }
 
+/* Memory of whole pages with none below. */
+static inline uint8_t *guarded_below(size_t length) {
+    const size_t page = (size_t)sysconf(_SC_PAGESIZE);
+    uint8_t *memory = mmap(NULL, page + length, PROT_READ | PROT_WRITE, MAP_PRIVATE | MAP_ANONYMOUS, -1, 0);
+    CHECK(memory != MAP_FAILED && mprotect(memory, page, PROT_NONE) == 0);
+    return memory + page;
+}
+
 static inline void unguard(const uint8_t *memory, size_t length) {
     const size_t page = (size_t)sysconf(_SC_PAGESIZE);
     const size_t room = (length + page - 1) / page * page;

@@ -148,13 +148,6 @@ static bcs_answer make_whole(enum way way, const struct job *job, uint8_t **out,
     return answer;
 }
 
-static bool has_output(const struct job *job, bcs_answer answer) {
-    const bool is_written = job->call == TO_BCS || job->call == FROM_BCS || job->call == NORMALISE ||
-                            job->call == EXPLAIN || job->call == FAULT_NAME || job->call == TEXT_PLACE ||
-                            job->call == STOP_PLACE || job->call == REGISTRY_PLACE;
-    return is_written && answer.status == BCS_DONE;
-}
-
 static void tell(const struct job *job, bcs_answer answer, const uint8_t *out) {
     uint8_t name[40] = "-";
     size_t length = 1;
@@ -166,7 +159,7 @@ static void tell(const struct job *job, bcs_answer answer, const uint8_t *out) {
     CHECK(answer.status < COUNT(status_words) && answer.status != BCS_SHORT);
     printf("%s\t%.*s\t%llu\t%zu\t", status_words[answer.status], (int)length, (const char *)name,
            (unsigned long long)answer.place, answer.length);
-    for (size_t place = 0; has_output(job, answer) && place < answer.length; place++) {
+    for (size_t place = 0; answer.status == BCS_DONE && has_output(job) && place < answer.length; place++) {
         printf("%02x", out[place]);
     }
     printf("\n");

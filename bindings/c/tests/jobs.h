@@ -14,6 +14,12 @@ struct job {
     uint32_t depth, nodes, number;
 };
 
+/* Whether the call has an output. */
+static inline bool has_output(const struct job *job) {
+    return job->call == TO_BCS || job->call == FROM_BCS || job->call == NORMALISE || job->call == EXPLAIN ||
+           job->call == FAULT_NAME || job->call == TEXT_PLACE || job->call == STOP_PLACE || job->call == REGISTRY_PLACE;
+}
+
 /* How a call has its registry. */
 enum way { BY_TEXTS, ON_HANDLE };
 

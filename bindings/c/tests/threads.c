@@ -1,10 +1,10 @@
-/* Eight threads make all calls at once, by texts and each on a handle of its own, and each gets the answers that one thread
-   alone got before. */
+/* More threads than a handle has slots make all calls at once, with the registry's text and on one handle, and each gets the
+   answers that one thread alone got before. */
 #include "jobs.h"
 #include <pthread.h>
 
-#define THREADS 8
-#define ROUNDS 200
+#define THREADS 40
+#define ROUNDS 50
 #define ROOM 2000
 
 #define REGISTRY \
@@ -29,6 +29,10 @@ static const struct {
     {{ON_VALUE(SCAN, BYTES_OF_IT "!")}, BCS_DONE},
     {{ON_VALUE(PART, BYTES_OF_IT), .second = OF("inner/2/key:0162")}, BCS_DONE},
     {{ON_VALUE(EXPLAIN, BYTES_OF_IT), .number = BCS_JSON}, BCS_DONE},
+    {{ON_VALUE(EXPLAIN, BYTES_OF_IT), .number = BCS_TREE}, BCS_DONE},
+    {{ON_VALUE(TEXT_PLACE, "{\"to\":1}"), .number = BCS_WHERE}, BCS_DONE},
+    {{ON_VALUE(STOP_PLACE, BYTES_OF_IT "!"), .number = BCS_WANTED}, BCS_DONE},
+    {{.call = REGISTRY_PLACE, .input = OF("{"), .number = BCS_WANTED}, BCS_DONE},
     {{.call = FAULT_NAME, .number = BCS_STOP_BAD_UTF8}, BCS_DONE},
 };
 #define JOBS (sizeof jobs / sizeof *jobs)
@@ -37,12 +41,11 @@ static const struct {
 static bcs_answer answers[JOBS];
 static uint8_t outputs[JOBS][ROOM];
 
+static bcs_handle *handle;
+
 /* Threads begin at different jobs, so that different calls meet. */
 static void *make_all(void *first) {
-    const struct slice registry = OF(REGISTRY);
     uint8_t out[ROOM];
-    bcs_handle handle = {0};
-    CHECK(bcs_open(&handle, registry.at, registry.length).status == BCS_DONE);
     for (size_t round = 0; round < ROUNDS; round++) {
         for (size_t step = 0; step < JOBS; step++) {
             const size_t row = (step + *(const size_t *)first) % JOBS;
@@ -51,12 +54,11 @@ static void *make_all(void *first) {
             CHECK(memcmp(out, outputs[row], sizeof out) == 0);
             if (is_on_registry(&jobs[row].job)) {
                 memset(out, UNTOUCHED, sizeof out);
-                CHECK(are_same(make_on(&handle, &jobs[row].job, out, sizeof out), answers[row]));
+                CHECK(are_same(make_on(handle, &jobs[row].job, out, sizeof out), answers[row]));
                 CHECK(memcmp(out, outputs[row], sizeof out) == 0);
             }
         }
     }
-    bcs_close(&handle);
     return NULL;
 }
 
@@ -66,6 +68,8 @@ int main(void) {
         answers[row] = make(&jobs[row].job, outputs[row], ROOM);
         CHECK(answers[row].status == jobs[row].status);
     }
+    const struct slice registry = OF(REGISTRY);
+    CHECK(bcs_open(&handle, registry.at, registry.length).status == BCS_DONE);
     pthread_t threads[THREADS];
     size_t firsts[THREADS];
     for (size_t number = 0; number < THREADS; number++) {
@@ -75,5 +79,6 @@ int main(void) {
     for (size_t number = 0; number < THREADS; number++) {
         CHECK(pthread_join(threads[number], NULL) == 0);
     }
+    bcs_close(handle);
     return 0;
 }

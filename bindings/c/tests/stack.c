@@ -1,0 +1,338 @@
+/* Deep values on small stacks. Each call answers what it answers on a thread of 8 MiB, or BCS_MEMORY, and leaves the end of the
+   stack alone; with 8 MiB it never answers BCS_MEMORY. `stack threads REGISTRY FORMAT BYTES` tries threads of all sizes, and an
+   ordinary value, which has to work on all but the smallest. `stack main` tries the main thread. */
+#include "jobs.h"
+#include <pthread.h>
+#include <ucontext.h>
+
+#define KIB ((size_t)1 << 10)
+#define MIB ((size_t)1 << 20)
+#define ENOUGH (8 * MIB)
+
+/* What no call uses, at the end of a stack. */
+#define RESERVE (32 * KIB)
+
+/* A text that grows. */
+struct text {
+    char *at;
+    size_t length, room;
+};
+
+static void add(struct text *text, const char *words, size_t length) {
+    if (text->length + length > text->room) {
+        text->room = 2 * (text->length + length);
+        text->at = realloc(text->at, text->room);
+        CHECK(text->at != NULL);
+    }
+    memcpy(text->at + text->length, words, length);
+    text->length += length;
+}
+
+static void add_words(struct text *text, const char *words) {
+    add(text, words, strlen(words));
+}
+
+static void add_often(struct text *text, const char *words, size_t times) {
+    for (size_t time = 0; time < times; time++) {
+        add_words(text, words);
+    }
+}
+
+/* A format or a container with one part: its JSON before and behind the part's, its bytes before the part's, and the value's
+   JSON before and behind the part's, in so many arrays and objects. */
+struct link {
+    const char *before, *behind;
+    struct slice bytes;
+    const char *text_before, *text_behind;
+    size_t nesting;
+};
+
+static const struct link levels[] = {
+    {"{\"OPTION\":", "}", OF("\1"), "{\"some\":", "}", 1},
+    {"{\"SEQ\":", "}", OF("\1"), "[", "]", 1},
+    {"{\"MAP\":{\"KEY\":", ",\"VALUE\":\"UNIT\"}}", OF("\1"), "[[", ",null]]", 2},
+    {"{\"MAP\":{\"KEY\":\"UNIT\",\"VALUE\":", "}}", OF("\1"), "[[null,", "]]", 2},
+    {"{\"TUPLE\":[\"UNIT\",", "]}", OF(""), "[null,", "]", 1},
+    {"{\"TUPLEARRAY\":{\"CONTENT\":", ",\"SIZE\":1}}", OF(""), "[", "]", 1},
+};
+static const struct link containers[] = {
+    {"{\"NEWTYPESTRUCT\":", "}", OF(""), "", "", 0},
+    {"{\"STRUCT\":[{\"f\":", "}]}", OF(""), "{\"f\":", "}", 1},
+    {"{\"ENUM\":{\"0\":{\"V\":{\"NEWTYPE\":", "}}}}", OF("\0"), "{\"V\":", "}", 1},
+    {"{\"ENUM\":{\"0\":{\"V\":{\"STRUCT\":[{\"f\":", "}]}}}}", OF("\0"), "{\"V\":{\"f\":", "}}", 2},
+};
+static const size_t counts_of_levels[] = {0, 1, 8, 32};
+static const size_t counts_of_containers[] = {1, 6, 50, 500};
+#define COUNT(table) (sizeof(table) / sizeof *(table))
+
+/* Containers in one another, with so many levels between each two, and the innermost one without a part. */
+struct chain {
+    struct text registry, bytes, text;
+    size_t containers, levels, nesting;
+    bcs_handle *handle;
+};
+
+static struct chain chain_of(const struct link *container, const struct link *level, size_t count, size_t count_of_levels) {
+    struct chain chain = {.containers = count, .levels = count_of_levels};
+    add_words(&chain.registry, "{");
+    for (size_t number = 1; number < count; number++) {
+        char name[40];
+        snprintf(name, sizeof name, "\"C%zu\":", number);
+        add_words(&chain.registry, name);
+        add_words(&chain.registry, container->before);
+        add_often(&chain.registry, level->before, count_of_levels);
+        snprintf(name, sizeof name, "{\"TYPENAME\":\"C%zu\"}", number + 1);
+        add_words(&chain.registry, name);
+        add_often(&chain.registry, level->behind, count_of_levels);
+        add_words(&chain.registry, container->behind);
+        add_words(&chain.registry, ",");
+        add(&chain.bytes, (const char *)container->bytes.at, container->bytes.length);
+        for (size_t at = 0; at < count_of_levels; at++) {
+            add(&chain.bytes, (const char *)level->bytes.at, level->bytes.length);
+        }
+        add_words(&chain.text, container->text_before);
+        add_often(&chain.text, level->text_before, count_of_levels);
+    }
+    char last[40];
+    snprintf(last, sizeof last, "\"C%zu\":\"UNITSTRUCT\"}", count);
+    add_words(&chain.registry, last);
+    add_words(&chain.text, "null");
+    for (size_t number = 1; number < count; number++) {
+        add_often(&chain.text, level->text_behind, count_of_levels);
+        add_words(&chain.text, container->text_behind);
+    }
+    chain.nesting = (count - 1) * (container->nesting + count_of_levels * level->nesting);
+    CHECK(bcs_open(&chain.handle, (const uint8_t *)chain.registry.at, chain.registry.length).status == BCS_DONE);
+    return chain;
+}
+
+static void drop_chain(struct chain *chain) {
+    bcs_close(chain->handle);
+    free(chain->registry.at);
+    free(chain->bytes.at);
+    free(chain->text.at);
+}
+
+#define ROOM (4 * MIB)
+static const enum call calls[] = {CHECKS,  TO_BCS,  FROM_BCS, NORMALISE,  COMPARE,    SCAN,       PART,
+                                  EXPLAIN, EXPLAIN, EXPLAIN,  TEXT_PLACE, TEXT_PLACE, STOP_PLACE, STOP_PLACE};
+static const uint32_t numbers[] = {0, 0, 0, 0, 0, 0, 0, BCS_WAYS, BCS_TREE, BCS_JSON, BCS_WHERE, BCS_WANTED, BCS_WHERE, BCS_WANTED};
+
+static bool takes_text(enum call call) {
+    return call == TO_BCS || call == NORMALISE || call == COMPARE || call == TEXT_PLACE;
+}
+
+static struct job job_of(const struct chain *chain, size_t call, uint32_t depth) {
+    struct job job = {.call = calls[call], .format = OF("{\"TYPENAME\":\"C1\"}"), .depth = depth, .nodes = BCS_NODES};
+    job.number = numbers[call];
+    job.registry = (struct slice){(const uint8_t *)chain->registry.at, chain->registry.length};
+    job.input = (struct slice){(const uint8_t *)chain->bytes.at, chain->bytes.length};
+    if (takes_text(job.call)) {
+        job.input = (struct slice){(const uint8_t *)chain->text.at, chain->text.length};
+    }
+    job.second = job.call == PART ? (struct slice)OF(".") : job.input;
+    return job;
+}
+
+/* Each line of `explain` has the way to its piece. */
+static bool takes_long(const struct chain *chain, enum call call) {
+    return call == EXPLAIN && chain->containers * (chain->levels + 1) > 500;
+}
+
+/* What is known of an answer without asking a thread of 8 MiB: a value of so many containers is one at this depth, and refused
+   at one less. */
+static void is_right(const struct chain *chain, const struct job *job, bcs_answer answer, const uint8_t *out) {
+    const bool is_deep_enough = job->depth >= chain->containers, nests = chain->nesting > 100;
+    if (job->call == SCAN || (job->call == TO_BCS && !nests)) {
+        CHECK(is_deep_enough ? answer.status == BCS_DONE && answer.length == chain->bytes.length
+                             : answer.fault == (job->call == SCAN ? BCS_STOP_TOO_DEEP : BCS_TEXT_TOO_DEEP));
+    }
+    if (job->call == TO_BCS && !nests && is_deep_enough && answer.length > 0) {
+        CHECK(memcmp(out, chain->bytes.at, answer.length) == 0);
+    }
+    if (job->call == FROM_BCS) {
+        CHECK(!is_deep_enough ? answer.fault == BCS_STOP_TOO_DEEP
+              : nests         ? answer.fault == BCS_SHOWN_TOO_NESTED
+                              : is_text(out, answer.length, chain->text.at) || answer.length == chain->text.length);
+    }
+}
+
+/* A stack that a thread has, with no page below, and the answers that were got on it. */
+struct trial {
+    uint8_t *stack;
+    size_t size;
+    const struct chain *chain;
+    bcs_answer answers[2][2][COUNT(calls)]; /* by way, by depth, by call */
+    unsigned long sums[2][2][COUNT(calls)]; /* of the outputs */
+    unsigned long as_wanted, memory;
+};
+
+static void paint(struct trial *trial) {
+    memset(trial->stack, UNTOUCHED, RESERVE);
+}
+
+static unsigned long sum_of(const uint8_t *out, size_t length) {
+    unsigned long sum = 5381;
+    for (size_t place = 0; place < length; place++) {
+        sum = 33 * sum + out[place];
+    }
+    return sum;
+}
+
+static uint8_t *output;
+
+/* Makes a call. What BCS_MEMORY leaves of the output is what was there. */
+static void try_call(struct trial *trial, enum way way, size_t depth, size_t call) {
+    const struct chain *chain = trial->chain;
+    const struct job job = job_of(chain, call, (uint32_t)(chain->containers - depth));
+    if (takes_long(chain, job.call) || (way == BY_TEXTS && chain->containers > 6)) {
+        return;
+    }
+    memset(output, UNTOUCHED, 100);
+    const bcs_answer answer = way == BY_TEXTS ? make(&job, output, ROOM) : make_on(chain->handle, &job, output, ROOM);
+    CHECK(trial->stack == NULL || are_untouched(trial->stack, RESERVE));
+    trial->answers[way][depth][call] = answer;
+    trial->sums[way][depth][call] = sum_of(output, answer.status == BCS_DONE && has_output(&job) ? answer.length : 0);
+    if (answer.status == BCS_MEMORY) {
+        CHECK(are_same(answer, (bcs_answer){.status = BCS_MEMORY}) && are_untouched(output, 100));
+    } else {
+        is_right(chain, &job, answer, output);
+    }
+}
+
+static void *try_calls(void *data) {
+    struct trial *trial = data;
+    memset(trial->answers, 0, sizeof trial->answers);
+    memset(trial->sums, 0, sizeof trial->sums);
+    for (size_t call = 0; call < COUNT(calls); call++) {
+        for (size_t depth = 0; depth < 2; depth++) {
+            try_call(trial, BY_TEXTS, depth, call);
+            try_call(trial, ON_HANDLE, depth, call);
+        }
+    }
+    return NULL;
+}
+
+static void on_thread(struct trial *trial) {
+    pthread_attr_t attributes;
+    pthread_t thread;
+    CHECK(pthread_attr_init(&attributes) == 0);
+    if (trial->stack != NULL) {
+        paint(trial);
+        CHECK(pthread_attr_setstack(&attributes, trial->stack, trial->size) == 0);
+    } else {
+        CHECK(pthread_attr_setstacksize(&attributes, trial->size) == 0);
+    }
+    CHECK(pthread_create(&thread, &attributes, try_calls, trial) == 0);
+    CHECK(pthread_join(thread, NULL) == 0 && pthread_attr_destroy(&attributes) == 0);
+}
+
+/* Another stack, of which the system knows nothing, so that the depth is as asked. */
+static ucontext_t here, there;
+static struct trial *of_there;
+
+static void run_there(void) {
+    try_calls(of_there);
+}
+
+static void *on_coroutine(void *trial) {
+    of_there = trial;
+    CHECK(getcontext(&there) == 0);
+    there.uc_stack.ss_size = ENOUGH + MIB;
+    there.uc_stack.ss_sp = mmap(NULL, there.uc_stack.ss_size, PROT_READ | PROT_WRITE, MAP_PRIVATE | MAP_ANONYMOUS, -1, 0);
+    there.uc_link = &here;
+    CHECK(there.uc_stack.ss_sp != MAP_FAILED);
+    makecontext(&there, run_there, 0);
+    CHECK(swapcontext(&here, &there) == 0);
+    CHECK(munmap(there.uc_stack.ss_sp, there.uc_stack.ss_size) == 0);
+    return NULL;
+}
+
+/* Counts what a trial has in common with one of 8 MiB. The rest has to be BCS_MEMORY. */
+static void compare(struct trial *trial, const struct trial *wanted, bool has_enough) {
+    for (size_t number = 0; number < 4 * COUNT(calls); number++) {
+        const size_t way = number % 2, depth = number / 2 % 2, call = number / 4;
+        const bcs_answer answer = trial->answers[way][depth][call], other = wanted->answers[way][depth][call];
+        const bool is_as_wanted = are_same(answer, other) && trial->sums[way][depth][call] == wanted->sums[way][depth][call];
+        if (!is_as_wanted && (answer.status != BCS_MEMORY || has_enough)) {
+            fprintf(stderr, "stack: %zu KiB, %zu containers, %zu levels, call %zu: status %u, fault %u, and not %u, %u: %.200s\n",
+                    trial->size / KIB, trial->chain->containers, trial->chain->levels, call, answer.status, answer.fault,
+                    other.status, other.fault, trial->chain->registry.at);
+            exit(1);
+        }
+        CHECK(other.status != BCS_MEMORY);
+        trial->as_wanted += is_as_wanted;
+        trial->memory += !is_as_wanted;
+    }
+}
+
+static const size_t sizes[] = {64 * KIB, 128 * KIB, 256 * KIB, 512 * KIB, MIB, 2 * MIB, ENOUGH};
+
+static void try_sizes(struct trial trials[COUNT(sizes)], struct chain chain) {
+    struct trial wanted = {.size = ENOUGH, .chain = &chain};
+    on_thread(&wanted);
+    for (size_t number = 0; number < COUNT(sizes); number++) {
+        trials[number].chain = &chain;
+        on_thread(&trials[number]);
+        compare(&trials[number], &wanted, sizes[number] == ENOUGH);
+    }
+    struct trial beside = {.size = 128 * KIB, .chain = &chain};
+    pthread_attr_t attributes;
+    pthread_t thread;
+    CHECK(pthread_attr_init(&attributes) == 0 && pthread_attr_setstacksize(&attributes, beside.size) == 0);
+    CHECK(pthread_create(&thread, &attributes, on_coroutine, &beside) == 0 && pthread_join(thread, NULL) == 0);
+    compare(&beside, &wanted, true);
+    drop_chain(&chain);
+}
+
+/* Each chain in turn. */
+static void with_chains(struct trial *trials, void (*act)(struct trial *, struct chain)) {
+    for (size_t container = 0; container < COUNT(containers); container++) {
+        for (size_t level = 0; level < COUNT(levels); level++) {
+            for (size_t l = level == 0 ? 0 : 1; l < COUNT(counts_of_levels); l++) {
+                for (size_t c = 0; c < COUNT(counts_of_containers); c++) {
+                    act(trials, chain_of(&containers[container], &levels[level], counts_of_containers[c], counts_of_levels[l]));
+                }
+            }
+        }
+    }
+}
+
+static void on_threads(void) {
+    static struct trial trials[COUNT(sizes)];
+    for (size_t number = 0; number < COUNT(sizes); number++) {
+        trials[number].size = sizes[number];
+        trials[number].stack = guarded_below(sizes[number]);
+    }
+    with_chains(trials, try_sizes);
+    for (size_t number = 0; number < COUNT(sizes); number++) {
+        printf("stack: %zu KiB: %lu calls as with 8 MiB, %lu BCS_MEMORY\n", sizes[number] / KIB, trials[number].as_wanted,
+               trials[number].memory);
+    }
+}
+
+static void try_main(struct trial *trials, struct chain chain) {
+    struct trial wanted = {.size = ENOUGH, .chain = &chain};
+    (void)trials;
+    on_thread(&wanted);
+    struct trial trial = {.chain = &chain};
+    try_calls(&trial);
+    compare(&trial, &wanted, false);
+    trials->as_wanted += trial.as_wanted;
+    trials->memory += trial.memory;
+    drop_chain(&chain);
+}
+
+int main(int count, char **arguments) {
+    output = malloc(ROOM);
+    CHECK(output != NULL);
+    if (count == 2 && strcmp(arguments[1], "main") == 0) {
+        struct trial all = {.size = 0};
+        with_chains(&all, try_main);
+        printf("stack: main thread: %lu calls as with 8 MiB, %lu BCS_MEMORY\n", all.as_wanted, all.memory);
+    } else {
+        on_threads();
+    }
+    free(output);
+    return 0;
+}
