@@ -1,6 +1,8 @@
-/* Deep values on small stacks. Each call answers what it answers on a thread of 8 MiB, or BCS_MEMORY, and leaves the end of the
-   stack alone; with 8 MiB it never answers BCS_MEMORY. `stack threads REGISTRY FORMAT BYTES` tries threads of all sizes, and an
-   ordinary value, which has to work on all but the smallest. `stack main` tries the main thread. */
+/* Deep values on small stacks. Each call answers what it answers on a thread of 8 MiB, or BCS_MEMORY, and doesn't touch the end of
+   the stack. With 8 MiB it never answers BCS_MEMORY.
+
+       stack threads EXAMPLES    on threads of all sizes; a transfer of Aptos has to work on all but the smallest
+       stack main                on the main thread */
 #include "jobs.h"
 #include <pthread.h>
 #include <ucontext.h>
@@ -200,10 +202,17 @@ static void try_call(struct trial *trial, enum way way, size_t depth, size_t cal
     }
 }
 
+/* No answer yet has this status. */
+#define NOT_ASKED UINT32_MAX
+
+static void forget(struct trial *trial) {
+    memset(trial->answers, 0xff, sizeof trial->answers);
+    memset(trial->sums, 0, sizeof trial->sums);
+}
+
 static void *try_calls(void *data) {
     struct trial *trial = data;
-    memset(trial->answers, 0, sizeof trial->answers);
-    memset(trial->sums, 0, sizeof trial->sums);
+    forget(trial);
     for (size_t call = 0; call < COUNT(calls); call++) {
         for (size_t depth = 0; depth < 2; depth++) {
             try_call(trial, BY_TEXTS, depth, call);
@@ -213,7 +222,7 @@ static void *try_calls(void *data) {
     return NULL;
 }
 
-static void on_thread(struct trial *trial) {
+static void on_thread(struct trial *trial, void *(*act)(void *)) {
     pthread_attr_t attributes;
     pthread_t thread;
     CHECK(pthread_attr_init(&attributes) == 0);
@@ -223,7 +232,7 @@ static void on_thread(struct trial *trial) {
     } else {
         CHECK(pthread_attr_setstacksize(&attributes, trial->size) == 0);
     }
-    CHECK(pthread_create(&thread, &attributes, try_calls, trial) == 0);
+    CHECK(pthread_create(&thread, &attributes, act, trial) == 0);
     CHECK(pthread_join(thread, NULL) == 0 && pthread_attr_destroy(&attributes) == 0);
 }
 
@@ -253,6 +262,10 @@ static void compare(struct trial *trial, const struct trial *wanted, bool has_en
     for (size_t number = 0; number < 4 * COUNT(calls); number++) {
         const size_t way = number % 2, depth = number / 2 % 2, call = number / 4;
         const bcs_answer answer = trial->answers[way][depth][call], other = wanted->answers[way][depth][call];
+        if (other.status == NOT_ASKED) {
+            CHECK(answer.status == NOT_ASKED);
+            continue;
+        }
         const bool is_as_wanted = are_same(answer, other) && trial->sums[way][depth][call] == wanted->sums[way][depth][call];
         if (!is_as_wanted && (answer.status != BCS_MEMORY || has_enough)) {
             fprintf(stderr, "stack: %zu KiB, %zu containers, %zu levels, call %zu: status %u, fault %u, and not %u, %u: %.200s\n",
@@ -270,10 +283,10 @@ static const size_t sizes[] = {64 * KIB, 128 * KIB, 256 * KIB, 512 * KIB, MIB, 2
 
 static void try_sizes(struct trial trials[COUNT(sizes)], struct chain chain) {
     struct trial wanted = {.size = ENOUGH, .chain = &chain};
-    on_thread(&wanted);
+    on_thread(&wanted, try_calls);
     for (size_t number = 0; number < COUNT(sizes); number++) {
         trials[number].chain = &chain;
-        on_thread(&trials[number]);
+        on_thread(&trials[number], try_calls);
         compare(&trials[number], &wanted, sizes[number] == ENOUGH);
     }
     struct trial beside = {.size = 128 * KIB, .chain = &chain};
@@ -298,6 +311,91 @@ static void with_chains(struct trial *trials, void (*act)(struct trial *, struct
     }
 }
 
+/* ---- JSON that nests. */
+
+/* Arrays or objects in one another, as a registry, a format, or the text of a value. */
+static void *read_nested(void *data) {
+    struct trial *trial = data;
+    forget(trial);
+    const struct slice json = {(const uint8_t *)trial->chain->text.at, trial->chain->text.length};
+    const struct job jobs[] = {
+        {CHECKS, json, OF("\"U8\""), OF(""), OF(""), STANDARD, 0},
+        {CHECKS, OF("{}"), json, OF(""), OF(""), STANDARD, 0},
+        {NORMALISE, OF("{}"), OF("\"U8\""), json, OF(""), STANDARD, 0},
+        {COMPARE, OF("{}"), OF("\"U8\""), OF("7"), json, STANDARD, 0},
+        {TEXT_PLACE, OF("{}"), OF("\"U8\""), json, OF(""), STANDARD, BCS_WANTED},
+        {GROWS, OF(""), OF(""), json, json, STANDARD, 0},
+        {REGISTRY_PLACE, OF(""), OF(""), json, OF(""), STANDARD, BCS_WANTED},
+    };
+    for (size_t row = 0; row < COUNT(jobs); row++) {
+        trial->answers[0][0][row] = make(&jobs[row], output, ROOM);
+        CHECK(trial->stack == NULL || are_untouched(trial->stack, RESERVE));
+    }
+    return NULL;
+}
+
+static void nested(struct trial trials[COUNT(sizes)]) {
+    static const char *const brackets[][2] = {{"[", "]"}, {"{\"SEQ\":", "}"}};
+    static const size_t nestings[] = {1, 50, 100, 126, 127, 128, 1000};
+    for (size_t number = 0; number < COUNT(brackets) * COUNT(nestings); number++) {
+        struct chain chain = {.levels = nestings[number / 2]};
+        add_often(&chain.text, brackets[number % 2][0], chain.levels);
+        add_words(&chain.text, "7");
+        add_often(&chain.text, brackets[number % 2][1], chain.levels);
+        struct trial wanted = {.size = ENOUGH, .chain = &chain};
+        on_thread(&wanted, read_nested);
+        for (size_t size = 0; size < COUNT(sizes); size++) {
+            trials[size].chain = &chain;
+            on_thread(&trials[size], read_nested);
+            compare(&trials[size], &wanted, sizes[size] == ENOUGH);
+        }
+        free(chain.text.at);
+    }
+}
+
+/* ---- An ordinary value. */
+
+static const char *examples;
+
+static struct slice example(const char *name) {
+    char path[1000];
+    snprintf(path, sizeof path, "%s/%s", examples, name);
+    FILE *file = fopen(path, "rb");
+    CHECK(file != NULL);
+    uint8_t *bytes = malloc(100000);
+    CHECK(bytes != NULL);
+    const struct slice found = {bytes, fread(bytes, 1, 100000, file)};
+    CHECK(fclose(file) == 0 && found.length > 0 && found.length < 100000);
+    return found;
+}
+
+/* The transfer's text to bytes, to its normal text, and to the same bytes; and all other calls on them. */
+static void *transfer(void *data) {
+    (void)data;
+    const struct slice registry = example("aptos_registry.json"), text = example("aptos_transfer.json");
+    struct job job = {TO_BCS, registry, OF("{\"TYPENAME\":\"RawTransaction\"}"), text, text, STANDARD, 0};
+    uint8_t bytes[1000], normal[1000];
+    const bcs_answer coded = make(&job, bytes, sizeof bytes);
+    CHECK(coded.status == BCS_DONE);
+    job.call = FROM_BCS;
+    job.input = (struct slice){bytes, coded.length};
+    const bcs_answer shown = make(&job, normal, sizeof normal);
+    CHECK(shown.status == BCS_DONE);
+    for (size_t call = 0; call < COUNT(calls); call++) {
+        const bool is_text = takes_text(calls[call]);
+        job.call = calls[call];
+        job.number = numbers[call];
+        job.input = is_text ? (struct slice){normal, shown.length} : (struct slice){bytes, coded.length};
+        job.second = job.call == PART ? (struct slice)OF(".") : text;
+        const bool is_asked_why = job.call == TEXT_PLACE || job.call == STOP_PLACE;
+        CHECK(make(&job, output, ROOM).status == (is_asked_why ? BCS_NO : BCS_DONE));
+        CHECK(make_by(ON_HANDLE, &job, output, ROOM).status == (is_asked_why ? BCS_NO : BCS_DONE));
+    }
+    free((void *)registry.at);
+    free((void *)text.at);
+    return NULL;
+}
+
 static void on_threads(void) {
     static struct trial trials[COUNT(sizes)];
     for (size_t number = 0; number < COUNT(sizes); number++) {
@@ -305,6 +403,10 @@ static void on_threads(void) {
         trials[number].stack = guarded_below(sizes[number]);
     }
     with_chains(trials, try_sizes);
+    nested(trials);
+    for (size_t number = 1; number < COUNT(sizes); number++) {
+        on_thread(&trials[number], transfer);
+    }
     for (size_t number = 0; number < COUNT(sizes); number++) {
         printf("stack: %zu KiB: %lu calls as with 8 MiB, %lu BCS_MEMORY\n", sizes[number] / KIB, trials[number].as_wanted,
                trials[number].memory);
@@ -314,7 +416,7 @@ static void on_threads(void) {
 static void try_main(struct trial *trials, struct chain chain) {
     struct trial wanted = {.size = ENOUGH, .chain = &chain};
     (void)trials;
-    on_thread(&wanted);
+    on_thread(&wanted, try_calls);
     struct trial trial = {.chain = &chain};
     try_calls(&trial);
     compare(&trial, &wanted, false);
@@ -325,12 +427,14 @@ static void try_main(struct trial *trials, struct chain chain) {
 
 int main(int count, char **arguments) {
     output = malloc(ROOM);
-    CHECK(output != NULL);
-    if (count == 2 && strcmp(arguments[1], "main") == 0) {
+    CHECK(output != NULL && count > 1);
+    if (strcmp(arguments[1], "main") == 0) {
         struct trial all = {.size = 0};
         with_chains(&all, try_main);
         printf("stack: main thread: %lu calls as with 8 MiB, %lu BCS_MEMORY\n", all.as_wanted, all.memory);
     } else {
+        CHECK(count == 3);
+        examples = arguments[2];
         on_threads();
     }
     free(output);
