@@ -7,11 +7,6 @@
 
 #include "include/bcs.h"
 
-/* A library that has these calls inside doesn't show them. */
-#ifdef __GNUC__
-#pragma GCC visibility push(hidden)
-#endif
-
 /* What a call over the text of a registry is asked for, besides its input. */
 typedef struct bcs_c_ask {
     const uint8_t *registry;
@@ -77,9 +72,5 @@ bcs_answer bcs_c_handle_text_place(bcs_c_handle *handle, const bcs_c_handle_ask 
 bcs_answer bcs_c_handle_stop_place(bcs_c_handle *handle, const bcs_c_handle_ask *ask, uint32_t what,
                                    const uint8_t *bytes, size_t bytes_length, uint8_t *out, size_t out_length);
 bcs_answer bcs_c_fault_name(uint32_t fault, uint8_t *out, size_t out_length);
-
-#ifdef __GNUC__
-#pragma GCC visibility pop
-#endif
 
 #endif
