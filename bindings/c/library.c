@@ -151,15 +151,16 @@ struct shape {
     size_t nesting, levels;
 };
 
-/* Whether an object with this member may be a level of a format. */
+/* Whether an object with this member may be a level of a format. A name with an escape may be any. */
 static bool is_level(const uint8_t *name, size_t length) {
     static const char *const words[] = {"OPTION", "SEQ", "MAP", "TUPLE", "TUPLEARRAY"};
     for (size_t number = 0; number < sizeof words / sizeof *words; number++) {
+        const char *const word = words[number];
         size_t same = 0;
-        while (same < length && words[number][same] != 0 && name[same] == (uint8_t)words[number][same]) {
+        while (same < length && word[same] != 0 && name[same] == (uint8_t)word[same]) {
             same++;
         }
-        if (same == length ? words[number][same] == 0 : name[same] == '\\') {
+        if (same == length ? word[same] == 0 : name[same] == '\\') {
             return true;
         }
     }
@@ -183,16 +184,15 @@ static struct shape shape_of(const uint8_t *json, size_t length) {
             const size_t end = end_of_string(json, length, at + 1);
             if (!is_marked[open] && is_level(json + at + 1, end - at - 1)) {
                 is_marked[open] = true;
-                levels++;
+                most.levels = greatest(most.levels, ++levels);
             }
             at = end;
         } else if (json[at] == '{' || json[at] == '[') {
             is_marked[++open] = false;
+            most.nesting = greatest(most.nesting, open);
         } else if ((json[at] == '}' || json[at] == ']') && open > 0) {
             levels -= is_marked[open--];
         }
-        most.nesting = greatest(most.nesting, open);
-        most.levels = greatest(most.levels, levels);
     }
     most.levels = open == MOST_NESTING_READ ? MOST_LEVELS : least(most.levels, MOST_LEVELS);
     return most;
@@ -324,7 +324,7 @@ static bcs_answer begin(struct use *use, bcs_handle *handle, const uint8_t *regi
     use->proved = &use->own;
     use->ask = *ask;
     use->left = left;
-    if (left < need_of_value(BCS_DEPTH, MOST_LEVELS, MOST_LEVELS)) {
+    if (left < need_of_value(least(ask->depth, BCS_DEPTH), MOST_LEVELS, MOST_LEVELS)) {
         const struct shape shape = handle != NULL ? handle->shape : shape_of(registry, registry_length);
         if (!fit_depth(&use->ask, left, shape)) {
             return plain(BCS_MEMORY);
