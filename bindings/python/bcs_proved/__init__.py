@@ -7,10 +7,10 @@
     >>> registry.decode("Payment", bytes.fromhex("03626f620700000000000000"))
     {'amount': '7', 'to': 'bob'}
 
-A value is what `json` makes of its JSON: a struct is a dict, a MAP a list of pairs, BYTES a string of hexadecimal digits (or
-`bytes`, where they are handed over), and whole numbers of 64 and 128 bits come as strings of digits. With `native=True`
-they come as `int`, and BYTES and lists of U8 as `bytes`, so that what was encoded comes back. The methods with `_text` in
-their names take and give the JSON text itself.
+A value is what `json` makes of its JSON: a struct is a dict, a MAP a list of pairs, BYTES a string of hexadecimal digits, and
+whole numbers of 64 and 128 bits come as strings of digits. With `native=True` they come as `int`, and BYTES and lists of U8
+as `bytes`. The format decides what `encode` accepts at each place: `bytes` at BYTES and lists of U8, an `int` at a number, and
+so on; any other type raises ValueTypeError. The methods with `_text` in their names read and return the JSON text itself.
 
 A format is a container's name, as "Payment"; or a text that begins with `{` or `"`, as '"U8"' or '{"SEQ":"U8"}', or a dict,
 as {"SEQ": "U8"}, which are its JSON.
@@ -27,9 +27,10 @@ import functools
 import json
 import os
 import pathlib
-import re
 import weakref
-from typing import Any, Callable, Mapping, NamedTuple, Optional, TypeVar, Union
+from typing import Any, Callable, Mapping, NamedTuple, Optional, Union
+
+from . import values
 
 __all__ = [
     "BcsError",
@@ -46,6 +47,7 @@ __all__ = [
     "RegistryError",
     "Text",
     "TextError",
+    "ValueTypeError",
 ]
 
 Text = Union[str, bytes]
@@ -96,6 +98,11 @@ class TextError(BcsError):
     what = "no value of the format"
 
 
+class ValueTypeError(TextError, TypeError):
+    """A value has a type that its format doesn't accept, such as `bytes` at a U64. It is raised before the library is called.
+    `pointer` is the JSON Pointer of the value, and `expected` names the types: "U64 takes an int, not bytes"."""
+
+
 class BytesError(BcsError):
     """The bytes are no value of the format, or one whose text would nest too deep, which has no place."""
 
@@ -108,21 +115,28 @@ class PathError(BcsError):
     what = "no path"
 
 
+_MOST_NODES = 4294967295
+
+
 @dataclasses.dataclass(frozen=True)
 class Limits:
-    """How many containers may be open at once, and how many nodes a value may have."""
+    """How many containers may be open at once, and how many nodes a value may have. Without `nodes`, methods that read bytes
+    allow 16 nodes for each byte and 1,000,000 more, and the others allow 4294967295."""
 
     depth: int = 500
-    nodes: int = 4294967295
+    nodes: Optional[int] = None
 
     def __post_init__(self) -> None:
         if not 0 <= self.depth <= 500:
             raise ValueError(f"a depth is from 0 to 500, and this is {self.depth}")
-        if not 0 <= self.nodes <= 4294967295:
-            raise ValueError(f"a number of nodes is from 0 to 4294967295, and this is {self.nodes}")
+        if self.nodes is not None and not 0 <= self.nodes <= _MOST_NODES:
+            raise ValueError(f"a number of nodes is from 0 to {_MOST_NODES}, and this is {self.nodes}")
 
-
-STANDARD_LIMITS = Limits()
+    @classmethod
+    def standard(cls) -> Limits:
+        """The limits of the specification: 500 containers and 4294967295 nodes. Five bytes can have that many nodes, which
+        take some gigabytes of memory, so don't use these limits for bytes from strangers."""
+        return cls(nodes=_MOST_NODES)
 
 
 class Form(enum.IntEnum):
@@ -143,23 +157,6 @@ class Part(NamedTuple):
 
     place: int
     data: bytes
-
-
-class _Handle(ctypes.Structure):
-    """bcs_handle of bcs.h."""
-
-    _fields_ = [("registry", ctypes.c_void_p)]
-
-
-class _Ask(ctypes.Structure):
-    """bcs_handle_ask of bcs.h."""
-
-    _fields_ = [
-        ("format", ctypes.c_char_p),
-        ("format_length", ctypes.c_size_t),
-        ("depth", ctypes.c_uint32),
-        ("nodes", ctypes.c_uint32),
-    ]
 
 
 class _Answer(ctypes.Structure):
@@ -194,14 +191,15 @@ class _Status(enum.IntEnum):
     CLOSED = 10
 
 
-# What bytes are handed over as: a pointer and a length. A pointer to no bytes isn't null.
+# Bytes are a pointer and a length. A pointer to no bytes isn't null.
 _IN = [ctypes.c_char_p, ctypes.c_size_t]
 _OUT = [ctypes.c_void_p, ctypes.c_size_t]
-_HANDLE = [ctypes.POINTER(_Handle)]
-_ASK = [*_HANDLE, ctypes.POINTER(_Ask)]
+_HANDLE = [ctypes.c_void_p]
+# a handle, a format, a depth and a number of nodes
+_ASK = [*_HANDLE, *_IN, ctypes.c_uint32, ctypes.c_uint32]
 _CALLS: dict[str, list[Any]] = {
     "bcs_grows": _IN + _IN,
-    "bcs_open": _HANDLE + _IN,
+    "bcs_open": [ctypes.POINTER(ctypes.c_void_p)] + _IN,
     "bcs_close": _HANDLE,
     "bcs_handle_check": _ASK,
     "bcs_handle_to_bcs": _ASK + _IN + _OUT,
@@ -218,7 +216,6 @@ _CALLS: dict[str, list[Any]] = {
 }
 # enum bcs_what of bcs.h.
 _WHERE, _WANTED = 0, 1
-_Result = TypeVar("_Result")
 # What tells of a refusal where it is, or what was wanted there, by its answer and its output.
 _Told = Callable[[int], "tuple[_Answer, bytes]"]
 
@@ -320,157 +317,32 @@ def _bytes_of(data: Data) -> bytes:
     return data if isinstance(data, bytes) else memoryview(data).tobytes()
 
 
-def _jsonable(value: Any) -> Any:
-    """JSON's readers hold whole numbers of 64 bits, so a wider one goes as the string of its digits."""
-    if isinstance(value, int) and not isinstance(value, bool):
-        return int(value) if -(2**63) <= value < 2**64 else str(int(value))
-    if isinstance(value, (list, tuple)):
-        return [_jsonable(part) for part in value]
-    if isinstance(value, Mapping):
-        return {name: _jsonable(part) for name, part in value.items()}
-    return value
-
-
-def _of_json(value: Any) -> Any:
-    """What stands in JSON for a value that `json` doesn't know. Of anything else, memoryview raises TypeError."""
-    return dict(value) if isinstance(value, Mapping) else _bytes_of(value).hex()
-
-
-_JSON = json.JSONEncoder(allow_nan=False, check_circular=False, default=_of_json, separators=(",", ":"))
-# A whole number within JSON that may have more than 64 bits, or a part of a string that looks so.
-_WIDE = re.compile(r"[\[:,]-?\d{19}")
-
-
-def _json_of(value: Any) -> bytes:
-    text = _JSON.encode(value)
-    if _WIDE.search(text) or isinstance(value, int):
-        text = _JSON.encode(_jsonable(value))
-    return text.encode()
-
-
 @functools.lru_cache(maxsize=1000)
 def _json_of_name(format: str) -> bytes:
     """A text that begins as JSON does is a format's JSON, and any other a container's name."""
-    return _bytes_of_text(format) if format[:1] in ("{", '"') else _json_of({"TYPENAME": format})
+    return _bytes_of_text(format) if format[:1] in ("{", '"') else values.json_of_format({"TYPENAME": format})
 
 
 def _json_of_format(format: Format) -> bytes:
     if isinstance(format, str):
         return _json_of_name(format)
-    return _json_of(format) if isinstance(format, Mapping) else _bytes_of(format)
+    return values.json_of_format(format) if isinstance(format, Mapping) else _bytes_of(format)
 
 
-_WIDE_NUMBERS = {"U64", "U128", "I64", "I128"}
+# A format's JSON with its length, a depth and a number of nodes.
+_Ask = tuple[bytes, int, int, int]
 
 
-class _Native:
-    """Goes through a format and the JSON of one of its values together, which the library made. JSON nests at most 100 deep,
-    and names that hold one another without nesting take a turn of the loop each."""
-
-    def __init__(self, containers: Mapping[str, Any]) -> None:
-        self._containers = containers
-
-    def value(self, format: Any, found: Any) -> Any:
-        while not isinstance(format, str):
-            ((kind, inner),) = format.items()
-            if kind != "TYPENAME":
-                return self._part(kind, inner, found)
-            container = self._containers[inner]
-            if container == "UNITSTRUCT":
-                return found
-            ((kind, inner),) = container.items()
-            if kind != "NEWTYPESTRUCT":
-                return self._content(kind, inner, found)
-            format = inner
-        if format in _WIDE_NUMBERS:
-            return int(found)
-        return bytes.fromhex(found) if format == "BYTES" else found
-
-    def _part(self, kind: str, inner: Any, found: Any) -> Any:
-        if kind == "OPTION":
-            return None if found is None else {"some": self.value(inner, found["some"])}
-        if kind == "TUPLE":
-            return self._row(inner, found)
-        if kind == "MAP":
-            return [[self.value(inner["KEY"], key), self.value(inner["VALUE"], held)] for key, held in found]
-        element = inner["CONTENT"] if kind == "TUPLEARRAY" else inner
-        return bytes.fromhex(found) if isinstance(found, str) else [self.value(element, part) for part in found]
-
-    def _content(self, kind: str, inner: Any, found: Any) -> Any:
-        if kind == "NEWTYPE":
-            return self.value(inner, found)
-        if kind in ("TUPLESTRUCT", "TUPLE"):
-            return self._row(inner, found)
-        if kind == "STRUCT":
-            return {name: self.value(of, found[name]) for field in inner for name, of in field.items()}
-        return found if isinstance(found, str) else self._variant(inner, found)
-
-    def _variant(self, variants: Mapping[str, Any], found: Any) -> Any:
-        ((name, payload),) = found.items()
-        (carried,) = [variant[name] for variant in variants.values() if name in variant]
-        ((kind, inner),) = carried.items()
-        return {name: self._content(kind, inner, payload)}
-
-    def _row(self, formats: list[Any], found: list[Any]) -> list[Any]:
-        return [self.value(format, part) for format, part in zip(formats, found)]
-
-
-def _close_all(library: Library, free: list[_Handle]) -> None:
-    """Others may take handles out at the same time."""
-    while True:
-        try:
-            handle = free.pop()
-        except IndexError:
-            return
-        library.calls["bcs_close"](handle)
-
-
-class _Handles:
-    """The library's handles in which a registry is open. A call takes one and puts it back. Where others have all of them it
-    opens one more, so there are as many as calls were made at once. A list's append and pop need no lock."""
+class _Handle:
+    """An open registry of the library. A call refers to it while it runs, and so does the registry until it is closed. The
+    last of them to let go frees it."""
 
     def __init__(self, library: Library, text: bytes) -> None:
-        self._library = library
-        self._text = text
-        self._free = [self._opened()]
-        self._is_closed = False
-        weakref.finalize(self, _close_all, library, self._free)
-
-    def _opened(self) -> _Handle:
-        handle = _Handle()
-        answer = self._library.ask("bcs_open", handle, self._text, len(self._text))
-        self._library.done(answer, RegistryError, self._library.registry_place(self._text))
-        return handle
-
-    def _taken(self) -> _Handle:
-        if self._is_closed:
-            raise ValueError("the registry is closed")
-        try:
-            return self._free.pop()
-        except IndexError:
-            return self._opened()
-
-    def ask(self, name: str, *words: Any) -> _Answer:
-        """Makes a call without an output."""
-        return self._with(lambda handle: self._library.ask(name, handle, *words))
-
-    def put(self, name: str, room: int, *words: Any) -> tuple[_Answer, bytes]:
-        """Makes a call with an output of this room, and once more where that is too short."""
-        return self._with(lambda handle: self._library.put(name, room, handle, *words))
-
-    def _with(self, call: Callable[[_Handle], _Result]) -> _Result:
-        handle = self._taken()
-        try:
-            return call(handle)
-        finally:
-            self._free.append(handle)
-            if self._is_closed:
-                self.close()
-
-    def close(self) -> None:
-        """A handle that a call has now is closed when it is put back."""
-        self._is_closed = True
-        _close_all(self._library, self._free)
+        self.pointer = ctypes.c_void_p()
+        answer = library.ask("bcs_open", ctypes.byref(self.pointer), text, len(text))
+        library.done(answer, RegistryError, library.registry_place(text))
+        # (calls of daemon threads may still run when Python exits)
+        weakref.finalize(self, library.calls["bcs_close"], self.pointer).atexit = False
 
 
 class Registry:
@@ -491,13 +363,13 @@ class Registry:
         if isinstance(text, os.PathLike):
             self._text = pathlib.Path(text).read_bytes()
         else:
-            self._text = _json_of(text) if isinstance(text, Mapping) else _bytes_of_text(text)
+            self._text = values.json_of_format(text) if isinstance(text, Mapping) else _bytes_of_text(text)
         if library is None:
             self._library = _standard_library()
         else:
             self._library = library if isinstance(library, Library) else Library(library)
-        self._handles = _Handles(self._library, self._text)
-        self._native: Optional[_Native] = None
+        self._handle: Optional[_Handle] = _Handle(self._library, self._text)
+        self._known_formats: dict[bytes, values.Format] = {}
 
     def __reduce__(self) -> tuple[Any, ...]:
         own = None if self._library is _standard_library() else self._library.path
@@ -514,12 +386,21 @@ class Registry:
 
     @functools.cached_property
     def _containers(self) -> dict[str, Any]:
-        containers: dict[str, Any] = json.loads(self._text)
+        containers: dict[str, Any] = json.loads(self._text.decode())
         return containers
 
+    @functools.cached_property
+    def _formats(self) -> values.Formats:
+        return values.Formats(self._containers)
+
+    @functools.cached_property
+    def _native(self) -> values.Native:
+        return values.Native(self._containers)
+
     def close(self) -> None:
-        """Gives the registry's memory back. From then on all methods but `grows` and `growth_fault` raise ValueError."""
-        self._handles.close()
+        """Frees the registry's memory, once no call of another thread uses it any more. Afterwards all methods except `grows`
+        and `growth_fault` raise ValueError."""
+        self._handle = None
 
     def __enter__(self) -> Registry:
         return self
@@ -529,8 +410,7 @@ class Registry:
 
     def check(self, format: Format) -> None:
         """Raises FormatError where the format isn't one of the registry."""
-        answer = self._handles.ask("bcs_handle_check", self._ask(format, STANDARD_LIMITS))
-        self._library.done(answer, FormatError)
+        self._check(_json_of_format(format))
 
     def grows(self, newer: Registry) -> bool:
         """Whether the newer registry keeps all that this one has, so that every old value stays one."""
@@ -545,50 +425,53 @@ class Registry:
         self._library.done(answer, RegistryError, self._library.registry_place(refused))
         return None
 
-    def encode(self, format: Format, value: Any, limits: Limits = STANDARD_LIMITS) -> bytes:
-        """The bytes of a value. Raises TextError where it is none of the format."""
-        return self.encode_text(format, _json_of(value), limits)
+    def encode(self, format: Format, value: Any, limits: Optional[Limits] = None) -> bytes:
+        """The bytes of a value. Raises TextError if it isn't a value of the format, and ValueTypeError, which is one of these,
+        if a part of it has a type that the format doesn't accept there."""
+        json_of_format = _json_of_format(format)
+        return self._put_text("bcs_handle_to_bcs", json_of_format, self._json_of(json_of_format, value), limits)
 
-    def encode_text(self, format: Format, text: Text, limits: Limits = STANDARD_LIMITS) -> bytes:
+    def encode_text(self, format: Format, text: Text, limits: Optional[Limits] = None) -> bytes:
         """The bytes of the value that a JSON text denotes. Raises TextError where it denotes none of the format."""
-        return self._put_text("bcs_handle_to_bcs", format, text, limits)
+        return self._put_text("bcs_handle_to_bcs", _json_of_format(format), _bytes_of_text(text), limits)
 
-    def decode(self, format: Format, data: Data, limits: Limits = STANDARD_LIMITS, *, native: bool = False) -> Any:
+    def decode(self, format: Format, data: Data, limits: Optional[Limits] = None, *, native: bool = False) -> Any:
         """The value whose bytes these are. Raises BytesError where they are no value's, or not one's alone.
 
         With `native`, whole numbers are `int`, and BYTES and lists of U8 `bytes`."""
-        found = json.loads(self.decode_text(format, data, limits))
-        if not native:
-            return found
-        if self._native is None:
-            self._native = _Native(self._containers)
-        return self._native.value(json.loads(_json_of_format(format)), found)
+        json_of_format = _json_of_format(format)
+        found = json.loads(self.decode_text(json_of_format, data, limits))
+        return self._native.value(json.loads(json_of_format), found) if native else found
 
-    def decode_text(self, format: Format, data: Data, limits: Limits = STANDARD_LIMITS) -> str:
+    def decode_text(self, format: Format, data: Data, limits: Optional[Limits] = None) -> str:
         """The one normal JSON text of the value whose bytes these are. Raises BytesError as `decode` does."""
         data = _bytes_of(data)
-        ask = self._ask(format, limits)
-        answer, text = self._handles.put("bcs_handle_from_bcs", 4 * len(data) + 100, ask, data, len(data))
+        ask = self._ask(_json_of_format(format), limits, data)
+        answer, text = self._put("bcs_handle_from_bcs", 4 * len(data) + 100, ask, data, len(data))
         self._library.done(answer, BytesError, self._told("bcs_handle_stop_place", ask, data))
         return text.decode()
 
-    def normalise(self, format: Format, value: Any, limits: Limits = STANDARD_LIMITS) -> Any:
+    def normalise(self, format: Format, value: Any, limits: Optional[Limits] = None) -> Any:
         """The value as `decode` gives it. Raises TextError where it is none of the format."""
-        return json.loads(self.normalise_text(format, _json_of(value), limits))
+        json_of_format = _json_of_format(format)
+        text = self._json_of(json_of_format, value)
+        return json.loads(self._put_text("bcs_handle_normalise", json_of_format, text, limits))
 
-    def normalise_text(self, format: Format, text: Text, limits: Limits = STANDARD_LIMITS) -> str:
+    def normalise_text(self, format: Format, text: Text, limits: Optional[Limits] = None) -> str:
         """The one normal JSON text of the value that a JSON text denotes. Raises TextError where it denotes none."""
-        return self._put_text("bcs_handle_normalise", format, text, limits).decode()
+        return self._put_text("bcs_handle_normalise", _json_of_format(format), _bytes_of_text(text), limits).decode()
 
-    def equal(self, format: Format, first: Any, second: Any, limits: Limits = STANDARD_LIMITS) -> bool:
+    def equal(self, format: Format, first: Any, second: Any, limits: Optional[Limits] = None) -> bool:
         """Whether two values are equal, maps being finite maps. Raises TextError where one is none of the format."""
-        return self.equal_text(format, _json_of(first), _json_of(second), limits)
+        json_of_format = _json_of_format(format)
+        one, other = (self._json_of(json_of_format, value) for value in (first, second))
+        return self.equal_text(json_of_format, one, other, limits)
 
-    def equal_text(self, format: Format, first: Text, second: Text, limits: Limits = STANDARD_LIMITS) -> bool:
+    def equal_text(self, format: Format, first: Text, second: Text, limits: Optional[Limits] = None) -> bool:
         """Whether two JSON texts denote equal values. Raises TextError where one denotes none of the format."""
         one, other = _bytes_of_text(first), _bytes_of_text(second)
-        ask = self._ask(format, limits)
-        answer = self._handles.ask("bcs_handle_compare", ask, one, len(one), other, len(other))
+        ask = self._ask(_json_of_format(format), limits)
+        answer = self._call("bcs_handle_compare", ask, one, len(one), other, len(other))
         if answer.status == _Status.NO:
             return False
 
@@ -599,51 +482,84 @@ class Registry:
         self._library.done(answer, TextError, told)
         return True
 
-    def scan(self, format: Format, data: Data, limits: Limits = STANDARD_LIMITS) -> int:
+    def scan(self, format: Format, data: Data, limits: Optional[Limits] = None) -> int:
         """How many bytes the value at the front has. Raises BytesError where there is none."""
         data = _bytes_of(data)
-        ask = self._ask(format, limits)
-        answer = self._handles.ask("bcs_handle_scan", ask, data, len(data))
+        ask = self._ask(_json_of_format(format), limits, data)
+        answer = self._call("bcs_handle_scan", ask, data, len(data))
         self._library.done(answer, BytesError, self._told("bcs_handle_stop_place", ask, data))
         return answer.length
 
-    def part(self, format: Format, data: Data, path: str, limits: Limits = STANDARD_LIMITS) -> Optional[Part]:
+    def part(self, format: Format, data: Data, path: str, limits: Optional[Limits] = None) -> Optional[Part]:
         """The part of the value at the front to which a path leads, or None where it leads nowhere. A path is "." for the
         whole, or steps such as "2/inner/key:0161/0". Raises BytesError, or PathError where the path is none."""
         data, steps = _bytes_of(data), _bytes_of_text(path)
-        ask = self._ask(format, limits)
-        answer = self._handles.ask("bcs_handle_part", ask, data, len(data), steps, len(steps))
+        ask = self._ask(_json_of_format(format), limits, data)
+        answer = self._call("bcs_handle_part", ask, data, len(data), steps, len(steps))
         if answer.status == _Status.NO:
             return None
         self._library.done(answer, BytesError, self._told("bcs_handle_stop_place", ask, data))
         return Part(answer.place, data[answer.place : answer.place + answer.length])
 
-    def explain(self, format: Format, data: Data, limits: Limits = STANDARD_LIMITS) -> list[dict[str, Any]]:
+    def explain(self, format: Format, data: Data, limits: Optional[Limits] = None) -> list[dict[str, Any]]:
         """The pieces of bytes, a dict for each with "place", "bytes", "kind", "what", "value", "name" and "path". Last stands
         {"end": N}, or where the bytes stop being a value a dict with "refused", "place", "want", "name" and "path"."""
         return [json.loads(line) for line in self.explain_text(format, data, Form.JSON, limits).split("\n")[:-1]]
 
     def explain_text(
-        self, format: Format, data: Data, form: Form = Form.WAYS, limits: Limits = STANDARD_LIMITS
+        self, format: Format, data: Data, form: Form = Form.WAYS, limits: Optional[Limits] = None
     ) -> str:
         """The pieces of bytes as lines, as `bcs explain` prints them. Damage is no error here: it stands in the last line."""
         data = _bytes_of(data)
+        ask = self._ask(_json_of_format(format), limits, data)
         room = min(100 * len(data) + 1000, 1000000)
-        answer, text = self._handles.put("bcs_handle_explain", room, self._ask(format, limits), int(form), data, len(data))
+        answer, text = self._put("bcs_handle_explain", room, ask, int(form), data, len(data))
         self._library.done(answer, BytesError)
         return text.decode()
 
-    def _ask(self, format: Format, limits: Limits) -> _Ask:
-        text = _json_of_format(format)
-        return _Ask(text, len(text), limits.depth, limits.nodes)
+    def _json_of(self, format: bytes, value: Any) -> bytes:
+        """The JSON of a value. The library's answer about the format comes before what is wrong with the value."""
+        known = self._known_formats.get(format)
+        if known is None:
+            self._check(format)
+            if len(self._known_formats) >= 1000:
+                self._known_formats.clear()
+            known = self._known_formats[format] = self._formats.format(json.loads(format.decode()))
+        try:
+            return values.json_of(known, value)
+        except values.Rejected as fault:
+            error = ValueTypeError if fault.is_type else TextError
+            raise error(fault.reason, None, fault.pointer, fault.expected) from fault.__cause__
 
-    def _put_text(self, call: str, format: Format, text: Text, limits: Limits) -> bytes:
-        text = _bytes_of_text(text)
+    def _check(self, format: bytes) -> None:
+        self._library.done(self._call("bcs_handle_check", self._ask(format, None)), FormatError)
+
+    def _ask(self, format: bytes, limits: Optional[Limits], read: Optional[bytes] = None) -> _Ask:
+        """`read` are the bytes that a call reads, if it doesn't read a text."""
+        limits = limits or Limits()
+        nodes = _MOST_NODES if read is None else min(16 * len(read) + 1_000_000, _MOST_NODES)
+        return format, len(format), limits.depth, nodes if limits.nodes is None else limits.nodes
+
+    def _open_handle(self) -> _Handle:
+        handle = self._handle
+        if handle is None:
+            raise ValueError("the registry is closed")
+        return handle
+
+    def _call(self, name: str, ask: _Ask, *words: Any) -> _Answer:
+        handle = self._open_handle()
+        return self._library.ask(name, handle.pointer, *ask, *words)
+
+    def _put(self, name: str, room: int, ask: _Ask, *words: Any) -> tuple[_Answer, bytes]:
+        handle = self._open_handle()
+        return self._library.put(name, room, handle.pointer, *ask, *words)
+
+    def _put_text(self, call: str, format: bytes, text: bytes, limits: Optional[Limits]) -> bytes:
         ask = self._ask(format, limits)
-        answer, output = self._handles.put(call, 2 * len(text) + 100, ask, text, len(text))
+        answer, output = self._put(call, 2 * len(text) + 100, ask, text, len(text))
         self._library.done(answer, TextError, self._told("bcs_handle_text_place", ask, text))
         return output
 
     def _told(self, call: str, ask: _Ask, data: bytes) -> _Told:
         """What tells where these bytes or this text is refused."""
-        return lambda what: self._handles.put(call, 200, ask, what, data, len(data))
+        return lambda what: self._put(call, 200, ask, what, data, len(data))

@@ -16,6 +16,7 @@ from bcs_proved import (
     Registry,
     RegistryError,
     TextError,
+    ValueTypeError,
 )
 
 PAYMENT = {"Payment": {"STRUCT": [{"to": "STR"}, {"amount": "U64"}]}}
@@ -172,13 +173,11 @@ class Refused(unittest.TestCase):
     def test_values(self) -> None:
         for format, value, reason in [
             ('"U8"', 256, "BadNumber"),
-            ('"U8"', 1.0, "BadNumber"),
-            ('"U8"', True, "BadShape"),
             ('"U128"', 2**128, "BadNumber"),
-            ('"BOOL"', 1, "BadShape"),
             ('"BYTES"', "c0d", "BadHex"),
             ('"STR"', "\udc80", "NotJson"),
             ('"F64"', 1.5, "Unsupported"),
+            ('"F64"', float("nan"), "Unsupported"),
             ("Payment", {"to": "bob"}, "MissingField"),
             ("Payment", {"to": "bob", "amount": 7, "x": 0}, "UnknownField"),
             (MAP, [["a", 1], ["a", 2]], "RepeatedKey"),
@@ -188,8 +187,10 @@ class Refused(unittest.TestCase):
             self.refuses(TextError, reason, None, self.registry.equal, format, value, value)
         self.refuses(TextError, "NotJson", None, self.registry.encode_text, '"U8"', "x")
         self.refuses(TextError, "NotJson", None, self.registry.encode_text, '"STR"', b'"\xff"')
-        with self.assertRaises(ValueError):
-            self.registry.encode('"F64"', float("nan"))
+        for format, value in [('"U8"', 1.0), ('"U8"', True), ('"BOOL"', 1), ('"STR"', b"bob"), ("Payment", [1])]:
+            self.refuses(ValueTypeError, "BadType", None, self.registry.encode, format, value)
+            self.refuses(ValueTypeError, "BadType", None, self.registry.normalise, format, value)
+            self.refuses(ValueTypeError, "BadType", None, self.registry.equal, format, value, value)
 
     def test_bytes(self) -> None:
         rows: list[tuple[Format, str, str, int]] = [

@@ -48,7 +48,7 @@ class Handles(unittest.TestCase):
         self.assertEqual(registry.encode(NUMBER, 7), b"\x07")
         self.assertEqual(self.library.counts, (1, 0))
 
-    def test_calls_at_once_have_one_each(self) -> None:
+    def test_calls_at_once_share_one(self) -> None:
         registry = Registry("{}", self.library)
         all_are_there = threading.Barrier(8)
         scan = self.library.calls["bcs_handle_scan"]
@@ -64,9 +64,9 @@ class Handles(unittest.TestCase):
                 thread.start()
             for thread in threads:
                 thread.join()
-            self.assertEqual(self.library.counts, (8, 0))
+            self.assertEqual(self.library.counts, (1, 0))
         registry.close()
-        self.assertEqual(self.library.counts, (8, 8))
+        self.assertEqual(self.library.counts, (1, 1))
 
     def test_a_refused_registry_holds_none(self) -> None:
         with self.assertRaises(RegistryError):
@@ -95,6 +95,32 @@ class Handles(unittest.TestCase):
         self.library.calls["bcs_handle_scan"] = close_and_scan
         self.assertEqual(registry.scan(NUMBER, b"\x07"), 1)
         self.assertEqual(self.library.counts, (1, 1))
+
+    def test_closing_while_other_threads_call(self) -> None:
+        """The last of eight calls frees the handle, and later ones raise."""
+        registry = Registry("{}", self.library)
+        all_are_there, may_go = threading.Barrier(9), threading.Event()
+        scan = self.library.calls["bcs_handle_scan"]
+        scanned: list[int] = []
+
+        def scan_late(*words: Any) -> Any:
+            all_are_there.wait(60)
+            may_go.wait(60)
+            return scan(*words)
+
+        self.library.calls["bcs_handle_scan"] = scan_late
+        threads = [threading.Thread(target=lambda: scanned.append(registry.scan(NUMBER, b"\x07"))) for _ in range(8)]
+        for thread in threads:
+            thread.start()
+        all_are_there.wait(60)
+        registry.close()
+        with self.assertRaisesRegex(ValueError, "closed"):
+            registry.encode(NUMBER, 7)
+        self.assertEqual(self.library.counts, (1, 0))
+        may_go.set()
+        for thread in threads:
+            thread.join()
+        self.assertEqual((scanned, self.library.counts), ([1] * 8, (1, 1)))
 
     def test_a_registry_that_goes_is_closed(self) -> None:
         registry = Registry("{}", self.library)

@@ -29,12 +29,12 @@ class Places(unittest.TestCase):
             ("Point", {"x": 1}, "", "no member is called ~/"),
             ("Shape", {"Circle": "x"}, "/Circle", "wanted a whole number from 0 to 18446744073709551615 (U64)"),
             ("Shape", "Disc", "", "no variant is called Disc"),
-            ('"BOOL"', 7, "", "wanted BOOL, true or false"),
             ({"MAP": {"KEY": "U8", "VALUE": "U8"}}, [[1, 2], [1, 3]], "", "two keys of a map are equal"),
         ]:
             refused = self.tells(TextError, pointer, expected, self.registry.encode, format, value)
             self.assertIn(expected, str(refused))
             self.tells(TextError, pointer, expected, self.registry.normalise, format, value)
+        self.tells(TextError, "", "wanted BOOL, true or false", self.registry.encode_text, '"BOOL"', "7")
         told = self.tells(TextError, "", "line 1, column 1: serde_json stops reading there", self.registry.encode_text, '"U8"', "x")
         self.assertEqual(told.reason, "NotJson")
 

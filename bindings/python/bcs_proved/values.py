@@ -1,0 +1,546 @@
+"""Python's values and the JSON of docs/FORMAT.md: a format decides what each value becomes, so that none is guessed.
+
+`Formats` reads the formats of one registry, and `json_of` writes the JSON of a value of one. `Native` is the way back.
+"""
+
+from __future__ import annotations
+
+import itertools
+import json
+import operator
+from collections.abc import Mapping
+from typing import Any, Iterator, Optional, Union
+
+__all__ = ["Format", "Formats", "Native", "Rejected", "json_of", "json_of_format"]
+
+# JSON of a value nests at most this deep.
+_NESTING = 100
+# That of a registry or format nests less deep than this.
+_FORMAT_NESTING = 130
+# What is wider is out of the range of every format, and too slow to print.
+_WIDEST = 128
+# A part of a value, with its step in a JSON Pointer and its format.
+_Part = tuple[Union[str, int], "Format", Any]
+_Parts = Optional[Iterator[_Part]]
+# (`ensure_ascii` would turn two lone surrogates into one character)
+_quoted = json.JSONEncoder(ensure_ascii=False).encode
+
+
+class Rejected(Exception):
+    """A value isn't handed over: it has another type than its format takes, where `found` is that type, or it is too wide or
+    nests too deep for any format. `pointer` is its JSON Pointer."""
+
+    def __init__(self, reason: str, expected: str, found: Optional[type] = None) -> None:
+        super().__init__(reason, expected, found)
+        self.reason = reason
+        self.expected = expected if found is None else f"{expected}, not {_name_of(found)}"
+        self.is_type = found is not None
+        self.pointer = ""
+
+
+def _name_of(found: type) -> str:
+    return found.__qualname__ if found.__module__ == "builtins" else f"{found.__module__}.{found.__qualname__}"
+
+
+class Format:
+    """Writes the JSON of the values of a format."""
+
+    takes = ""
+
+    def open(self, value: Any, out: list[str]) -> _Parts:
+        """Writes a scalar, or gives the parts of an array or object, which writes its own signs between them. A value is read
+        once, before the parts are gone through, since they may run code of the caller."""
+        raise NotImplementedError
+
+    def resolved(self) -> Format:
+        """The format itself, or of a container what it holds."""
+        return self
+
+    def wrong(self, value: Any) -> Rejected:
+        return Rejected("BadType", self.takes, type(value))
+
+
+def json_of(format: Format, value: Any) -> bytes:
+    """The JSON of a value. Raises Rejected. Nothing here recurses, so a small stack will do."""
+    out: list[str] = []
+    levels: list[Iterator[_Part]] = [iter([("", format, value)])]
+    steps: list[Union[str, int]] = [""]
+    try:
+        while levels:
+            for steps[-1], format, value in levels[-1]:
+                parts = format.open(value, out)
+                if parts is not None:
+                    levels.append(parts)
+                    steps.append("")
+                    break
+            else:
+                levels.pop()
+                steps.pop()
+            if len(levels) > _NESTING + 1:
+                del steps[1:]
+                raise Rejected("TooNested", f"arrays and objects nest more than {_NESTING} deep")
+    except Rejected as fault:
+        fault.pointer = "".join(f"/{str(step).replace('~', '~0').replace('/', '~1')}" for step in steps[1:])
+        raise
+    # (what isn't Unicode is refused by the library, as no JSON)
+    return "".join(out).encode("utf-8", "surrogatepass")
+
+
+def _text_of(value: str) -> str:
+    """The JSON of a string, also of one whose class prints it otherwise."""
+    return _quoted(value if type(value) is str else str.__str__(value))
+
+
+def _items_of(value: Any) -> Optional[list[Any]]:
+    """A list's or tuple's items as they are now, also of a subclass with an `__iter__` of its own."""
+    if isinstance(value, list):
+        return list.copy(value)
+    return [*tuple.__iter__(value)] if isinstance(value, tuple) else None
+
+
+def _view_of(value: Any) -> Optional[memoryview]:
+    try:
+        return memoryview(value)
+    except (TypeError, ValueError, BufferError):
+        return None
+
+
+def _is_octets(view: memoryview) -> bool:
+    return view.ndim == 1 and view.itemsize == 1 and view.format.lstrip("@=<>!") in ("B", "c")
+
+
+def _octets_of(value: Any) -> Optional[str]:
+    """The hexadecimal digits of a row of bytes; of a single number that has a buffer there are none, nor of a masked array."""
+    if isinstance(value, bytes):
+        return bytes.hex(value)
+    view = _view_of(value)
+    if view is None:
+        return None
+    with view:
+        return view.tobytes().hex() if _is_octets(view) and not hasattr(value, "mask") else None
+
+
+def _elements_of(value: Any) -> Optional[list[Any]]:
+    """What iterating over an array gives, where that is as much as its buffer has. A row of bytes is no array of numbers."""
+    view = _view_of(value)
+    if view is None:
+        return None
+    with view:
+        if view.ndim == 0 or _is_octets(view):
+            return None
+        count = view.shape[0] if view.shape else 0
+    try:
+        found = list(itertools.islice(value, count + 1))
+    except (TypeError, NotImplementedError):
+        return None
+    return found if len(found) == count else None
+
+
+class _Unit(Format):
+    takes = "UNIT takes None"
+
+    def open(self, value: Any, out: list[str]) -> _Parts:
+        if value is not None:
+            raise self.wrong(value)
+        out.append("null")
+        return None
+
+
+class _Bool(Format):
+    takes = "BOOL takes a bool"
+
+    def open(self, value: Any, out: list[str]) -> _Parts:
+        if value is not True and value is not False:
+            raise self.wrong(value)
+        out.append("true" if value else "false")
+        return None
+
+
+class _Text(Format):
+    takes = "STR takes a str"
+
+    def open(self, value: Any, out: list[str]) -> _Parts:
+        if not isinstance(value, str):
+            raise self.wrong(value)
+        out.append(_text_of(value))
+        return None
+
+
+class _Bytes(Format):
+    takes = "BYTES takes bytes or hexadecimal digits"
+
+    def open(self, value: Any, out: list[str]) -> _Parts:
+        if isinstance(value, str):
+            out.append(_text_of(value))
+            return None
+        digits = _octets_of(value)
+        if digits is None:
+            raise self.wrong(value)
+        out.append(f'"{digits}"')
+        return None
+
+
+class _Unsupported(Format):
+    """`F32`, `F64`, `CHAR`, and newtypes that hold themselves. The library refuses what is there, whatever it is."""
+
+    def open(self, value: Any, out: list[str]) -> _Parts:
+        out.append("null")
+        return None
+
+
+class _Number(Format):
+    """Whole numbers go as strings of digits, since JSON's own end at 64 bits."""
+
+    def __init__(self, word: str) -> None:
+        self._word = word
+        self.takes = f"{word} takes an int"
+
+    def open(self, value: Any, out: list[str]) -> _Parts:
+        if type(value) is int:
+            number = value
+        elif isinstance(value, str):
+            out.append(_text_of(value))
+            return None
+        else:
+            number = self._int_of(value)
+        if number.bit_length() > _WIDEST:
+            raise self._out_of_range()
+        out.append(f'"{number}"')
+        return None
+
+    def _int_of(self, value: Any) -> int:
+        if isinstance(value, int) and not isinstance(value, bool):
+            return int.__index__(value)
+        # (numpy's own truth values have an __index__ in older versions)
+        if type(value).__name__ in ("bool", "bool_"):
+            raise self.wrong(value)
+        try:
+            return int.__index__(operator.index(value))
+        except TypeError as fault:
+            raise self.wrong(value) from fault
+
+    def _out_of_range(self) -> Rejected:
+        bits, least = int(self._word[1:]), 0
+        if self._word[0] == "I":
+            bits, least = bits - 1, -(2 ** (bits - 1))
+        return Rejected("BadNumber", f"wanted a whole number from {least} to {2**bits - 1} ({self._word})")
+
+
+class _List(Format):
+    """SEQ and TUPLEARRAY. The library counts the items of the latter."""
+
+    def __init__(self, word: str, element: Format, is_of_octets: bool) -> None:
+        self._element = element
+        self._is_of_octets = is_of_octets
+        self.takes = f"{word} of U8 takes bytes, hexadecimal digits or a list of int" if is_of_octets else f"{word} takes a list"
+
+    def open(self, value: Any, out: list[str]) -> _Parts:
+        items = _items_of(value)
+        if items is None and self._is_of_octets:
+            digits = value if isinstance(value, str) else _octets_of(value)
+            if digits is not None:
+                out.append(_text_of(digits))
+                return None
+        if items is None and isinstance(self._element.resolved(), (_Number, _List)):
+            items = _elements_of(value)
+        if items is None:
+            raise self.wrong(value)
+        if not (isinstance(self._element, _Number) and _are_plain(items)):
+            return self._parts(items, out)
+        out.append('["' + '","'.join(map(str, items)) + '"]' if items else "[]")
+        return None
+
+    def _parts(self, items: list[Any], out: list[str]) -> Iterator[_Part]:
+        out.append("[")
+        for number, item in enumerate(items):
+            if number:
+                out.append(",")
+            yield number, self._element, item
+        out.append("]")
+
+
+def _are_plain(items: list[Any]) -> bool:
+    """Whether these are ints that aren't too wide. Most lists of numbers are, and then they are written at once."""
+    return {*map(type, items)} <= {int} and max(map(int.bit_length, items), default=0) <= _WIDEST
+
+
+class _Row(Format):
+    """TUPLE, a tuple struct, a tuple variant's payload, and an entry of a MAP."""
+
+    def __init__(self, formats: list[Format], takes: str) -> None:
+        self._formats = formats
+        self.takes = takes
+
+    def open(self, value: Any, out: list[str]) -> _Parts:
+        items = _items_of(value)
+        if items is None:
+            raise self.wrong(value)
+        return self._parts(items, out)
+
+    def _parts(self, items: list[Any], out: list[str]) -> Iterator[_Part]:
+        """Of another number of items the library is told that number alone, and refuses it."""
+        out.append("[")
+        formats = self._formats if len(items) == len(self._formats) else [_UNSUPPORTED] * len(items)
+        for number, (format, item) in enumerate(zip(formats, items)):
+            if number:
+                out.append(",")
+            yield number, format, item
+        out.append("]")
+
+
+class _Map(Format):
+    takes = "MAP takes a dict or a list of pairs"
+
+    def __init__(self, key: Format, value: Format) -> None:
+        self._entries = _List("MAP", _Row([key, value], "an entry of a MAP takes a pair"), False)
+
+    def open(self, value: Any, out: list[str]) -> _Parts:
+        if isinstance(value, Mapping):
+            value = [(key, value[key]) for key in [*value]]
+        elif not isinstance(value, (list, tuple)):
+            raise self.wrong(value)
+        return self._entries.open(value, out)
+
+
+class _Object(Format):
+    """What is an object in JSON."""
+
+    _word = ""
+
+    def _members_of(self, value: Any) -> dict[str, Any]:
+        """The members as they are now. `True`, `None` and `1.0` are no names."""
+        if type(value) is dict:
+            members = value.copy()
+        elif isinstance(value, Mapping):
+            members = {name: value[name] for name in [*value]}
+        else:
+            raise self.wrong(value)
+        kinds = {*map(type, members)}
+        if kinds <= {str}:
+            return members
+        for kind in kinds:
+            if not issubclass(kind, str):
+                raise Rejected("BadType", f"{self._word} takes names that are str", kind)
+        return {str.__str__(name): part for name, part in members.items()}
+
+
+class _Struct(_Object):
+    """A struct, and a struct variant's payload. The library finds the fields that are missing and those that are unknown."""
+
+    _word = "STRUCT"
+    takes = "STRUCT takes a dict"
+
+    def __init__(self, fields: list[tuple[str, Format]]) -> None:
+        self._fields = [(name, f"{_quoted(name)}:", format) for name, format in fields]
+
+    def open(self, value: Any, out: list[str]) -> _Parts:
+        return self._parts(self._members_of(value), out)
+
+    def _parts(self, members: dict[str, Any], out: list[str]) -> Iterator[_Part]:
+        before = "{"
+        for name, head, format in self._fields:
+            if name in members:
+                out.append(before + head)
+                before = ","
+                yield name, format, members.pop(name)
+        for name in members:
+            out.append(f"{before}{_quoted(name)}:null")
+            before = ","
+        out.append("}" if before == "," else "{}")
+
+
+class _Tagged(_Object):
+    """OPTION and enums: a name or None, or an object with one member. The library knows the names, and refuses others."""
+
+    def __init__(self, word: str, variants: dict[str, Format]) -> None:
+        self._word = word
+        self._variants = variants
+        self._is_option = word == "OPTION"
+        takes = 'None or {"some": value}' if self._is_option else "a variant's name or a dict of one variant"
+        self.takes = f"{word} takes {takes}"
+
+    def open(self, value: Any, out: list[str]) -> _Parts:
+        if value is None and self._is_option:
+            out.append("null")
+        elif isinstance(value, str) and not self._is_option:
+            out.append(_text_of(value))
+        else:
+            return self._parts(self._members_of(value), out)
+        return None
+
+    def _parts(self, members: dict[str, Any], out: list[str]) -> Iterator[_Part]:
+        before = "{"
+        for name, part in members.items():
+            out.append(f"{before}{_quoted(name)}:")
+            before = ","
+            yield name, self._variants.get(name, _UNSUPPORTED) if len(members) == 1 else _UNSUPPORTED, part
+        out.append("}" if members else "{}")
+
+
+class _Named(Format):
+    """A container. It is read when a value comes to it, since containers may hold themselves."""
+
+    def __init__(self, formats: Formats, name: str) -> None:
+        self._formats = formats
+        self._name = name
+        self._held: Optional[Format] = None
+
+    def open(self, value: Any, out: list[str]) -> _Parts:
+        return (self._held or self.resolved()).open(value, out)
+
+    def resolved(self) -> Format:
+        if self._held is None:
+            self._held = self._formats.container(self._name)
+        return self._held
+
+
+_UNSUPPORTED = _Unsupported()
+_WORDS: dict[str, Format] = {
+    **{"UNIT": _Unit(), "BOOL": _Bool(), "STR": _Text(), "BYTES": _Bytes()},
+    **{word: _Number(word) for word in (f"{sign}{8 << width}" for sign in "UI" for width in range(5))},
+    **{word: _UNSUPPORTED for word in ("CHAR", "F32", "F64")},
+}
+
+
+class Formats:
+    """The formats of a registry, which the library has taken, as it has each format that is asked for."""
+
+    def __init__(self, containers: Mapping[str, Any]) -> None:
+        self._containers = containers
+        self._named: dict[str, Format] = {}
+
+    def format(self, format: Any) -> Format:
+        """Of a format's JSON."""
+        if isinstance(format, str):
+            return _WORDS[format]
+        ((kind, inner),) = format.items()
+        if kind == "TYPENAME":
+            return self._named.setdefault(inner, _Named(self, inner))
+        if kind == "OPTION":
+            return _Tagged(kind, {"some": self.format(inner)})
+        if kind == "TUPLE":
+            return self._row(kind, inner)
+        if kind == "MAP":
+            return _Map(self.format(inner["KEY"]), self.format(inner["VALUE"]))
+        element = inner["CONTENT"] if kind == "TUPLEARRAY" else inner
+        return _List(kind, self.format(element), element == "U8")
+
+    def container(self, name: str) -> Format:
+        """What a container holds. Newtypes that hold one another don't nest, so they take a turn of the loop each."""
+        seen = set()
+        while name not in seen:
+            seen.add(name)
+            container = self._containers[name]
+            if container == "UNITSTRUCT":
+                return _WORDS["UNIT"]
+            ((kind, inner),) = container.items()
+            if kind != "NEWTYPESTRUCT":
+                return self._content(kind, inner)
+            if isinstance(inner, str) or "TYPENAME" not in inner:
+                return self.format(inner)
+            name = inner["TYPENAME"]
+        return _UNSUPPORTED
+
+    def _content(self, kind: str, inner: Any) -> Format:
+        if kind == "NEWTYPE":
+            return self.format(inner)
+        if kind in ("TUPLESTRUCT", "TUPLE"):
+            return self._row(kind, inner)
+        if kind == "STRUCT":
+            return _Struct([(name, self.format(format)) for field in inner for name, format in field.items()])
+        carried = {name: payload for variant in inner.values() for name, payload in variant.items()}
+        return _Tagged(kind, {name: self._payload(payload) for name, payload in carried.items()})
+
+    def _payload(self, payload: Any) -> Format:
+        if isinstance(payload, str):
+            return _WORDS[payload]
+        ((kind, inner),) = payload.items()
+        return self._content(kind, inner)
+
+    def _row(self, kind: str, formats: list[Any]) -> Format:
+        return _Row([self.format(format) for format in formats], f"{kind} takes a list or tuple")
+
+
+def json_of_format(format: Mapping[str, Any]) -> bytes:
+    """The JSON of a registry or of a format."""
+    return json.dumps(_plain(format, _FORMAT_NESTING), allow_nan=False, separators=(",", ":")).encode()
+
+
+def _plain(value: Any, room: int) -> Any:
+    """What `json` prints without guesses. The library refuses what nests too deep for it, so that isn't followed to its end."""
+    if room == 0:
+        return None
+    if isinstance(value, Mapping):
+        named = [(_name_in_format(name), _plain(value[name], room - 1)) for name in value]
+        if len(named) > len(dict(named)):
+            raise TypeError("two names of a registry or format are equal")
+        return dict(named)
+    if isinstance(value, (list, tuple)):
+        return [_plain(part, room - 1) for part in value]
+    if value is None or isinstance(value, (bool, int, float, str)):
+        return value
+    raise TypeError(f"a registry or format has dicts, lists, str and int, and no {_name_of(type(value))}")
+
+
+def _name_in_format(name: Any) -> str:
+    """Names are str; the numbers of an enum's variants may be int."""
+    if isinstance(name, int) and not isinstance(name, bool):
+        return str(int.__index__(name))
+    if not isinstance(name, str):
+        raise TypeError(f"names in a registry or format are str, not {_name_of(type(name))}")
+    return str.__str__(name)
+
+
+_WIDE_NUMBERS = {"U64", "U128", "I64", "I128"}
+
+
+class Native:
+    """Goes through a format and the JSON of one of its values together, which the library made. JSON nests at most 100 deep,
+    and names that hold one another without nesting take a turn of the loop each."""
+
+    def __init__(self, containers: Mapping[str, Any]) -> None:
+        self._containers = containers
+
+    def value(self, format: Any, found: Any) -> Any:
+        while not isinstance(format, str):
+            ((kind, inner),) = format.items()
+            if kind != "TYPENAME":
+                return self._part(kind, inner, found)
+            container = self._containers[inner]
+            if container == "UNITSTRUCT":
+                return found
+            ((kind, inner),) = container.items()
+            if kind != "NEWTYPESTRUCT":
+                return self._content(kind, inner, found)
+            format = inner
+        if format in _WIDE_NUMBERS:
+            return int(found)
+        return bytes.fromhex(found) if format == "BYTES" else found
+
+    def _part(self, kind: str, inner: Any, found: Any) -> Any:
+        if kind == "OPTION":
+            return None if found is None else {"some": self.value(inner, found["some"])}
+        if kind == "TUPLE":
+            return self._row(inner, found)
+        if kind == "MAP":
+            return [[self.value(inner["KEY"], key), self.value(inner["VALUE"], held)] for key, held in found]
+        element = inner["CONTENT"] if kind == "TUPLEARRAY" else inner
+        return bytes.fromhex(found) if isinstance(found, str) else [self.value(element, part) for part in found]
+
+    def _content(self, kind: str, inner: Any, found: Any) -> Any:
+        if kind == "NEWTYPE":
+            return self.value(inner, found)
+        if kind in ("TUPLESTRUCT", "TUPLE"):
+            return self._row(inner, found)
+        if kind == "STRUCT":
+            return {name: self.value(of, found[name]) for field in inner for name, of in field.items()}
+        return found if isinstance(found, str) else self._variant(inner, found)
+
+    def _variant(self, variants: Mapping[str, Any], found: Any) -> Any:
+        ((name, payload),) = found.items()
+        (carried,) = [variant[name] for variant in variants.values() if name in variant]
+        ((kind, inner),) = carried.items()
+        return {name: self._content(kind, inner, payload)}
+
+    def _row(self, formats: list[Any], found: list[Any]) -> list[Any]:
+        return [self.value(format, part) for format, part in zip(formats, found)]
