@@ -19,6 +19,8 @@ _NESTING = 100
 _FORMAT_NESTING = 130
 # What is wider is out of the range of every format, and too slow to print.
 _WIDEST = 128
+# What arrays of numbers or of objects are of. Floats and truth values are rejected one by one.
+_ITEMS = {*"bBhHiIlLqQnN", "O", *"efdg?"}
 # A part of a value, with its step in a JSON Pointer and its format.
 _Part = tuple[Union[str, int], "Format", Any]
 _Parts = Optional[Iterator[_Part]]
@@ -99,18 +101,26 @@ def _items_of(value: Any) -> Optional[list[Any]]:
 
 
 def _view_of(value: Any) -> Optional[memoryview]:
+    """The buffer of an array of any kind. What has no length is a single number or date, though it may have a buffer."""
+    if not hasattr(type(value), "__len__"):
+        return None
     try:
         return memoryview(value)
     except (TypeError, ValueError, BufferError):
         return None
 
 
+def _item_of(view: memoryview) -> str:
+    """The format of an item of a buffer, in the words of the module `struct`."""
+    return view.format.lstrip("@=<>!")
+
+
 def _is_octets(view: memoryview) -> bool:
-    return view.ndim == 1 and view.itemsize == 1 and view.format.lstrip("@=<>!") in ("B", "c")
+    return view.ndim == 1 and view.itemsize == 1 and _item_of(view) in ("B", "c")
 
 
 def _octets_of(value: Any) -> Optional[str]:
-    """The hexadecimal digits of a row of bytes; of a single number that has a buffer there are none, nor of a masked array."""
+    """The hexadecimal digits of a bytes-like object. A masked array isn't one, since it hides some of its items."""
     if isinstance(value, bytes):
         return bytes.hex(value)
     view = _view_of(value)
@@ -121,14 +131,14 @@ def _octets_of(value: Any) -> Optional[str]:
 
 
 def _elements_of(value: Any) -> Optional[list[Any]]:
-    """What iterating over an array gives, where that is as much as its buffer has. A row of bytes is no array of numbers."""
+    """The elements of an array of numbers or of objects, by iterating over it. Bytes-like objects are no such arrays."""
     view = _view_of(value)
     if view is None:
         return None
     with view:
-        if view.ndim == 0 or _is_octets(view):
+        if not view.shape or _is_octets(view) or _item_of(view) not in _ITEMS:
             return None
-        count = view.shape[0] if view.shape else 0
+        count = view.shape[0]
     try:
         found = list(itertools.islice(value, count + 1))
     except (TypeError, NotImplementedError):
