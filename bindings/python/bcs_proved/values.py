@@ -331,7 +331,10 @@ class _Object(Format):
         for kind in kinds:
             if not issubclass(kind, str):
                 raise Rejected("BadType", f"{self._word} takes names that are str", kind)
-        return {str.__str__(name): part for name, part in members.items()}
+        named = {str.__str__(name): part for name, part in members.items()}
+        if len(named) < len(members):
+            raise self.wrong(value)
+        return named
 
 
 class _Struct(_Object):
@@ -472,24 +475,29 @@ class Formats:
 
 
 def json_of_format(format: Mapping[str, Any]) -> bytes:
-    """The JSON of a registry or of a format."""
-    return json.dumps(_plain(format, _FORMAT_NESTING), allow_nan=False, separators=(",", ":")).encode()
+    """The JSON of a registry or of a format, of which a copy is made, so that `json` needn't guess either."""
+    copied: list[Any] = [format]
+    inner: list[tuple[Any, int]] = [(copied, 0)]
+    while inner:
+        copy, depth = inner.pop()
+        for place, part in copy.items() if isinstance(copy, dict) else enumerate(copy):
+            if isinstance(part, (Mapping, list, tuple)):
+                # (a format may hold itself, and what nests so deep is refused whatever it is)
+                copy[place] = _copy_of(part) if depth < _FORMAT_NESTING else None
+                inner.append((copy[place] or [], depth + 1))
+            elif not (part is None or isinstance(part, (bool, int, float, str))):
+                raise TypeError(f"a registry or format has dicts, lists, str and int, and no {_name_of(type(part))}")
+    text = json.dumps(copied[0], allow_nan=False, ensure_ascii=False, separators=(",", ":"))
+    return text.encode("utf-8", "surrogatepass")
 
 
-def _plain(value: Any, room: int) -> Any:
-    """What `json` prints without guesses. The library refuses what nests too deep for it, so that isn't followed to its end."""
-    if room == 0:
-        return None
-    if isinstance(value, Mapping):
-        named = [(_name_in_format(name), _plain(value[name], room - 1)) for name in value]
-        if len(named) > len(dict(named)):
-            raise TypeError("two names of a registry or format are equal")
-        return dict(named)
-    if isinstance(value, (list, tuple)):
-        return [_plain(part, room - 1) for part in value]
-    if value is None or isinstance(value, (bool, int, float, str)):
-        return value
-    raise TypeError(f"a registry or format has dicts, lists, str and int, and no {_name_of(type(value))}")
+def _copy_of(part: Any) -> Any:
+    if not isinstance(part, Mapping):
+        return _items_of(part)
+    copy = {_name_in_format(name): part[name] for name in [*part]}
+    if len(copy) < len(part):
+        raise TypeError("two names of a registry or format are equal")
+    return copy
 
 
 def _name_in_format(name: Any) -> str:
