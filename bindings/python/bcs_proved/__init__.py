@@ -1,4 +1,4 @@
-"""Canonical bytes (BCS) of JSON, by serde-reflection registries. What is called is proved; this module hands over bytes.
+"""Encodes values as canonical bytes (BCS) and back, using serde-reflection registries and a proved library.
 
     >>> from bcs_proved import Registry
     >>> registry = Registry({"Payment": {"STRUCT": [{"to": "STR"}, {"amount": "U64"}]}})
@@ -12,10 +12,10 @@ whole numbers of 64 and 128 bits come as strings of digits. With `native=True` t
 as `bytes`. The format decides what `encode` accepts at each place: `bytes` at BYTES and lists of U8, an `int` at a number, and
 so on; any other type raises ValueTypeError. The methods with `_text` in their names read and return the JSON text itself.
 
-A format is a container's name, as "Payment"; or a text that begins with `{` or `"`, as '"U8"' or '{"SEQ":"U8"}', or a dict,
-as {"SEQ": "U8"}, which are its JSON.
+A format is a container's name, such as "Payment"; or its JSON, which begins with `{` or `"`, such as '"U8"' or '{"SEQ":"U8"}';
+or a dict, such as {"SEQ": "U8"}.
 
-Calls may run on several threads at once, also of one registry, and let other threads run.
+Any number of threads may use one registry at the same time. Calls release the GIL.
 """
 
 from __future__ import annotations

@@ -1,6 +1,6 @@
-"""Python's values and the JSON of docs/FORMAT.md: a format decides what each value becomes, so that none is guessed.
+"""Converts Python values to the JSON of docs/FORMAT.md. The format decides what each value becomes, so no value is guessed.
 
-`Formats` reads the formats of one registry, and `json_of` writes the JSON of a value of one. `Native` is the way back.
+`Formats` reads the formats of a registry, `json_of` converts a value of one of them, and `Native` converts back.
 """
 
 from __future__ import annotations
@@ -13,13 +13,13 @@ from typing import Any, Iterator, Optional, Union
 
 __all__ = ["Format", "Formats", "Native", "Rejected", "json_of", "json_of_format"]
 
-# JSON of a value nests at most this deep.
+# The JSON of a value nests at most this deep.
 _NESTING = 100
-# That of a registry or format nests less deep than this.
+# The library rejects a registry or format that nests deeper, whatever is in it.
 _FORMAT_NESTING = 130
-# What is wider is out of the range of every format, and too slow to print.
+# No format has wider numbers, and Python doesn't print very wide ones.
 _WIDEST = 128
-# What arrays of numbers or of objects are of. Floats and truth values are rejected one by one.
+# The items of arrays that are read element by element, in the words of the module `struct`. "O" is any object.
 _ITEMS = {*"bBhHiIlLqQnN", "O", *"efdg?"}
 # A part of a value, with its step in a JSON Pointer and its format.
 _Part = tuple[Union[str, int], "Format", Any]
@@ -29,8 +29,8 @@ _quoted = json.JSONEncoder(ensure_ascii=False).encode
 
 
 class Rejected(Exception):
-    """A value isn't handed over: it has another type than its format takes, where `found` is that type, or it is too wide or
-    nests too deep for any format. `pointer` is its JSON Pointer."""
+    """A value isn't passed to the library: its type is none that the format takes, and then `found` is that type; or it is too
+    wide or nests too deep for any format. `pointer` is its JSON Pointer."""
 
     def __init__(self, reason: str, expected: str, found: Optional[type] = None) -> None:
         super().__init__(reason, expected, found)
@@ -45,17 +45,17 @@ def _name_of(found: type) -> str:
 
 
 class Format:
-    """Writes the JSON of the values of a format."""
+    """Converts the values of one format."""
 
     takes = ""
 
     def open(self, value: Any, out: list[str]) -> _Parts:
-        """Writes a scalar, or gives the parts of an array or object, which writes its own signs between them. A value is read
-        once, before the parts are gone through, since they may run code of the caller."""
+        """Writes a scalar, or returns the parts of an array or object, which writes brackets and commas as they are taken. The
+        value itself is copied first, since converting its parts may run the caller's code."""
         raise NotImplementedError
 
     def resolved(self) -> Format:
-        """The format itself, or of a container what it holds."""
+        """What a container holds, or else the format itself."""
         return self
 
     def wrong(self, value: Any) -> Rejected:
@@ -63,7 +63,7 @@ class Format:
 
 
 def json_of(format: Format, value: Any) -> bytes:
-    """The JSON of a value. Raises Rejected. Nothing here recurses, so a small stack will do."""
+    """The JSON of a value. Raises Rejected. It doesn't recurse, so deep values need no stack."""
     out: list[str] = []
     levels: list[Iterator[_Part]] = [iter([("", format, value)])]
     steps: list[Union[str, int]] = [""]
@@ -84,24 +84,24 @@ def json_of(format: Format, value: Any) -> bytes:
     except Rejected as fault:
         fault.pointer = "".join(f"/{str(step).replace('~', '~0').replace('/', '~1')}" for step in steps[1:])
         raise
-    # (what isn't Unicode is refused by the library, as no JSON)
+    # (the library rejects lone surrogates, which aren't UTF-8 and so not JSON)
     return "".join(out).encode("utf-8", "surrogatepass")
 
 
 def _text_of(value: str) -> str:
-    """The JSON of a string, also of one whose class prints it otherwise."""
+    """The JSON of a string, even if its class has another `__str__`."""
     return _quoted(value if type(value) is str else str.__str__(value))
 
 
 def _items_of(value: Any) -> Optional[list[Any]]:
-    """A list's or tuple's items as they are now, also of a subclass with an `__iter__` of its own."""
+    """A copy of the items of a list or tuple, even if its class has another `__iter__`."""
     if isinstance(value, list):
         return list.copy(value)
     return [*tuple.__iter__(value)] if isinstance(value, tuple) else None
 
 
 def _view_of(value: Any) -> Optional[memoryview]:
-    """The buffer of an array of any kind. What has no length is a single number or date, though it may have a buffer."""
+    """The buffer of an array. numpy's and ctypes' single numbers and dates have buffers too, but no length."""
     if not hasattr(type(value), "__len__"):
         return None
     try:
@@ -111,7 +111,7 @@ def _view_of(value: Any) -> Optional[memoryview]:
 
 
 def _item_of(view: memoryview) -> str:
-    """The format of an item of a buffer, in the words of the module `struct`."""
+    """What an item of a buffer is, whatever its byte order."""
     return view.format.lstrip("@=<>!")
 
 
@@ -131,7 +131,7 @@ def _octets_of(value: Any) -> Optional[str]:
 
 
 def _elements_of(value: Any) -> Optional[list[Any]]:
-    """The elements of an array of numbers or of objects, by iterating over it. Bytes-like objects are no such arrays."""
+    """The elements of an array. Bytes-like objects aren't arrays of numbers."""
     view = _view_of(value)
     if view is None:
         return None
@@ -191,7 +191,7 @@ class _Bytes(Format):
 
 
 class _Unsupported(Format):
-    """`F32`, `F64`, `CHAR`, and newtypes that hold themselves. The library refuses what is there, whatever it is."""
+    """`F32`, `F64`, `CHAR`, and newtypes that hold themselves. The library rejects every value of these."""
 
     def open(self, value: Any, out: list[str]) -> _Parts:
         out.append("null")
@@ -199,7 +199,7 @@ class _Unsupported(Format):
 
 
 class _Number(Format):
-    """Whole numbers go as strings of digits, since JSON's own end at 64 bits."""
+    """Numbers become strings of digits, since the library's JSON numbers end at 64 bits."""
 
     def __init__(self, word: str) -> None:
         self._word = word
@@ -221,7 +221,7 @@ class _Number(Format):
     def _int_of(self, value: Any) -> int:
         if isinstance(value, int) and not isinstance(value, bool):
             return int.__index__(value)
-        # (numpy's own truth values have an __index__ in older versions)
+        # (numpy.bool_ has an __index__ in some versions)
         if type(value).__name__ in ("bool", "bool_"):
             raise self.wrong(value)
         try:
@@ -237,7 +237,7 @@ class _Number(Format):
 
 
 class _List(Format):
-    """SEQ and TUPLEARRAY. The library counts the items of the latter."""
+    """SEQ and TUPLEARRAY. The library checks the number of items."""
 
     def __init__(self, word: str, element: Format, is_of_octets: bool) -> None:
         self._element = element
@@ -270,7 +270,7 @@ class _List(Format):
 
 
 def _are_plain(items: list[Any]) -> bool:
-    """Whether these are ints that aren't too wide. Most lists of numbers are, and then they are written at once."""
+    """Whether all are ints that aren't too wide. Most lists of numbers are, and they are converted much faster."""
     return {*map(type, items)} <= {int} and max(map(int.bit_length, items), default=0) <= _WIDEST
 
 
@@ -288,7 +288,7 @@ class _Row(Format):
         return self._parts(items, out)
 
     def _parts(self, items: list[Any], out: list[str]) -> Iterator[_Part]:
-        """Of another number of items the library is told that number alone, and refuses it."""
+        """If the number of items is wrong, the library gets nulls, and rejects their number."""
         out.append("[")
         formats = self._formats if len(items) == len(self._formats) else [_UNSUPPORTED] * len(items)
         for number, (format, item) in enumerate(zip(formats, items)):
@@ -313,12 +313,12 @@ class _Map(Format):
 
 
 class _Object(Format):
-    """What is an object in JSON."""
+    """Formats whose JSON is an object."""
 
     _word = ""
 
     def _members_of(self, value: Any) -> dict[str, Any]:
-        """The members as they are now. `True`, `None` and `1.0` are no names."""
+        """A copy of the members. Names are str: `True`, `None` and `1.0` aren't converted."""
         if type(value) is dict:
             members = value.copy()
         elif isinstance(value, Mapping):
@@ -338,7 +338,7 @@ class _Object(Format):
 
 
 class _Struct(_Object):
-    """A struct, and a struct variant's payload. The library finds the fields that are missing and those that are unknown."""
+    """A struct, and a struct variant's payload. The library rejects missing and unknown fields."""
 
     _word = "STRUCT"
     takes = "STRUCT takes a dict"
@@ -363,7 +363,7 @@ class _Struct(_Object):
 
 
 class _Tagged(_Object):
-    """OPTION and enums: a name or None, or an object with one member. The library knows the names, and refuses others."""
+    """OPTION and enums: None or a name, or an object with one member. The library rejects unknown names."""
 
     def __init__(self, word: str, variants: dict[str, Format]) -> None:
         self._word = word
@@ -391,7 +391,7 @@ class _Tagged(_Object):
 
 
 class _Named(Format):
-    """A container. It is read when a value comes to it, since containers may hold themselves."""
+    """A container. It is read when the first value needs it, since containers may hold themselves."""
 
     def __init__(self, formats: Formats, name: str) -> None:
         self._formats = formats
@@ -416,7 +416,7 @@ _WORDS: dict[str, Format] = {
 
 
 class Formats:
-    """The formats of a registry, which the library has taken, as it has each format that is asked for."""
+    """The formats of a registry. The library has checked the registry, and each format that is asked for."""
 
     def __init__(self, containers: Mapping[str, Any]) -> None:
         self._containers = containers
@@ -439,7 +439,7 @@ class Formats:
         return _List(kind, self.format(element), element == "U8")
 
     def container(self, name: str) -> Format:
-        """What a container holds. Newtypes that hold one another don't nest, so they take a turn of the loop each."""
+        """What a container holds. The loop follows newtypes of newtypes."""
         seen = set()
         while name not in seen:
             seen.add(name)
@@ -475,14 +475,14 @@ class Formats:
 
 
 def json_of_format(format: Mapping[str, Any]) -> bytes:
-    """The JSON of a registry or of a format, of which a copy is made, so that `json` needn't guess either."""
+    """The JSON of a registry or of a format. It is copied first, since `json` would turn `True` and `None` into names."""
     copied: list[Any] = [format]
     inner: list[tuple[Any, int]] = [(copied, 0)]
     while inner:
         copy, depth = inner.pop()
         for place, part in copy.items() if isinstance(copy, dict) else enumerate(copy):
             if isinstance(part, (Mapping, list, tuple)):
-                # (a format may hold itself, and what nests so deep is refused whatever it is)
+                # (a dict may hold itself)
                 copy[place] = _copy_of(part) if depth < _FORMAT_NESTING else None
                 inner.append((copy[place] or [], depth + 1))
             elif not (part is None or isinstance(part, (bool, int, float, str))):
@@ -501,7 +501,7 @@ def _copy_of(part: Any) -> Any:
 
 
 def _name_in_format(name: Any) -> str:
-    """Names are str; the numbers of an enum's variants may be int."""
+    """Names are str. The numbers of an enum's variants may be int."""
     if isinstance(name, int) and not isinstance(name, bool):
         return str(int.__index__(name))
     if not isinstance(name, str):
@@ -513,8 +513,8 @@ _WIDE_NUMBERS = {"U64", "U128", "I64", "I128"}
 
 
 class Native:
-    """Goes through a format and the JSON of one of its values together, which the library made. JSON nests at most 100 deep,
-    and names that hold one another without nesting take a turn of the loop each."""
+    """Walks through a format and the JSON of one of its values, which the library made. It recurses at most 100 levels deep,
+    like the JSON; the loop follows newtypes of newtypes."""
 
     def __init__(self, containers: Mapping[str, Any]) -> None:
         self._containers = containers

@@ -218,6 +218,13 @@ class Structure(ctypes.Structure):
     _fields_ = [("x", ctypes.c_uint8)]
 
 
+class Packed(ctypes.Structure):
+    """Its buffer calls an item of five bytes a single byte."""
+
+    _pack_ = 1
+    _fields_ = [("x", ctypes.c_uint8), ("y", ctypes.c_uint32)]
+
+
 class Loud(int):
     """An int that calls itself another one."""
 
@@ -372,6 +379,8 @@ BUFFERS: dict[str, Value] = {
     "c_bool * 2": Value((ctypes.c_bool * 2)(True), f"{HERE}.c_bool_Array_2", rejected_array("bool")),
     "c_double * 2": Value((ctypes.c_double * 2)(), f"{HERE}.c_double_Array_2", rejected_array("float")),
     "Structure * 2": Value((Structure * 2)(), f"{HERE}.Structure_Array_2", {}),
+    "Packed": Value(Packed(1, 2), f"{HERE}.Packed", {}),
+    "Packed * 2": Value((Packed * 2)(), f"{HERE}.Packed_Array_2", rejected_array(f"{HERE}.Packed")),
     "a string buffer": Value(ctypes.create_string_buffer(b"bob"), "ctypes.c_char_Array_4", octets(b"bob\0")),
 }
 NUMPY: dict[str, Value] = {
