@@ -329,6 +329,10 @@ def _json_of_format(format: Format) -> bytes:
     return values.json_of_format(format) if isinstance(format, Mapping) else _bytes_of(format)
 
 
+def _nodes_of(limits: Optional[Limits], most: int) -> int:
+    return most if limits is None or limits.nodes is None else limits.nodes
+
+
 # A format's JSON with its length, a depth and a number of nodes.
 _Ask = tuple[bytes, int, int, int]
 
@@ -429,7 +433,7 @@ class Registry:
         """The bytes of a value. Raises TextError if it isn't a value of the format, and ValueTypeError, which is one of these,
         if a part of it has a type that the format doesn't accept there."""
         json_of_format = _json_of_format(format)
-        return self._put_text("bcs_handle_to_bcs", json_of_format, self._json_of(json_of_format, value), limits)
+        return self._put_text("bcs_handle_to_bcs", json_of_format, self._json_of(json_of_format, value, limits), limits)
 
     def encode_text(self, format: Format, text: Text, limits: Optional[Limits] = None) -> bytes:
         """The bytes of the value that a JSON text denotes. Raises TextError where it denotes none of the format."""
@@ -454,7 +458,7 @@ class Registry:
     def normalise(self, format: Format, value: Any, limits: Optional[Limits] = None) -> Any:
         """The value as `decode` gives it. Raises TextError where it is none of the format."""
         json_of_format = _json_of_format(format)
-        text = self._json_of(json_of_format, value)
+        text = self._json_of(json_of_format, value, limits)
         return json.loads(self._put_text("bcs_handle_normalise", json_of_format, text, limits))
 
     def normalise_text(self, format: Format, text: Text, limits: Optional[Limits] = None) -> str:
@@ -464,7 +468,7 @@ class Registry:
     def equal(self, format: Format, first: Any, second: Any, limits: Optional[Limits] = None) -> bool:
         """Whether two values are equal, maps being finite maps. Raises TextError where one is none of the format."""
         json_of_format = _json_of_format(format)
-        one, other = (self._json_of(json_of_format, value) for value in (first, second))
+        one, other = (self._json_of(json_of_format, value, limits) for value in (first, second))
         return self.equal_text(json_of_format, one, other, limits)
 
     def equal_text(self, format: Format, first: Text, second: Text, limits: Optional[Limits] = None) -> bool:
@@ -517,7 +521,7 @@ class Registry:
         self._library.done(answer, BytesError)
         return text.decode()
 
-    def _json_of(self, format: bytes, value: Any) -> bytes:
+    def _json_of(self, format: bytes, value: Any, limits: Optional[Limits]) -> bytes:
         """The JSON of a value. The library's answer about the format comes before what is wrong with the value."""
         known = self._known_formats.get(format)
         if known is None:
@@ -526,7 +530,7 @@ class Registry:
                 self._known_formats.clear()
             known = self._known_formats[format] = self._formats.format(json.loads(format.decode()))
         try:
-            return values.json_of(known, value)
+            return values.json_of(known, value, _nodes_of(limits, _MOST_NODES))
         except values.Rejected as fault:
             error = ValueTypeError if fault.is_type else TextError
             raise error(fault.reason, None, fault.pointer, fault.expected) from fault.__cause__
@@ -536,9 +540,8 @@ class Registry:
 
     def _ask(self, format: bytes, limits: Optional[Limits], read: Optional[bytes] = None) -> _Ask:
         """`read` are the bytes that a call reads, if it doesn't read a text."""
-        limits = limits or Limits()
-        nodes = _MOST_NODES if read is None else min(16 * len(read) + 1_000_000, _MOST_NODES)
-        return format, len(format), limits.depth, nodes if limits.nodes is None else limits.nodes
+        most = _MOST_NODES if read is None else min(16 * len(read) + 1_000_000, _MOST_NODES)
+        return format, len(format), Limits.depth if limits is None else limits.depth, _nodes_of(limits, most)
 
     def _open_handle(self) -> _Handle:
         handle = self._handle

@@ -62,9 +62,12 @@ class Format:
         return Rejected("BadType", self.takes, type(value))
 
 
-def json_of(format: Format, value: Any) -> bytes:
-    """The JSON of a value. Raises Rejected. It doesn't recurse, so deep values need no stack."""
+def json_of(format: Format, value: Any, nodes: int) -> bytes:
+    """The JSON of a value, unless it surely has more nodes than this. Raises Rejected. It doesn't recurse, so deep values need
+    no stack."""
     out: list[str] = []
+    # (a node has at most four pieces of text, like an empty list that is the key or value in a map)
+    most = 4 * nodes + 4
     levels: list[Iterator[_Part]] = [iter([("", format, value)])]
     steps: list[Union[str, int]] = [""]
     try:
@@ -81,6 +84,9 @@ def json_of(format: Format, value: Any) -> bytes:
             if len(levels) > _NESTING + 1:
                 del steps[1:]
                 raise Rejected("TooNested", f"arrays and objects nest more than {_NESTING} deep")
+            if len(out) > most:
+                del steps[1:]
+                raise Rejected("TooManyNodes", f"the value has more nodes than --nodes allows, {nodes}")
     except Rejected as fault:
         fault.pointer = "".join(f"/{str(step).replace('~', '~0').replace('/', '~1')}" for step in steps[1:])
         raise
@@ -386,7 +392,7 @@ class _Tagged(_Object):
         for name, part in members.items():
             out.append(f"{before}{_quoted(name)}:")
             before = ","
-            yield name, self._variants.get(name, _UNSUPPORTED) if len(members) == 1 else _UNSUPPORTED, part
+            yield name, self._variants.get(name, _UNSUPPORTED), part
         out.append("}" if members else "{}")
 
 

@@ -249,6 +249,17 @@ class Nesting(unittest.TestCase):
         with self.assertRaises(RegistryError):
             Registry({"A": format_of_itself})
 
+    def test_shared_parts(self) -> None:
+        """61 lists are 2**60 nodes, if each is in the next one twice. A limit on nodes holds before they are all converted."""
+        value: list[Any] = []
+        for _ in range(60):
+            value = [value, value]
+        for call in [self.registry.encode, self.registry.normalise]:
+            with self.assertRaises(TextError) as raised:
+                call("T", value, Limits(nodes=10000))
+            self.assertEqual((raised.exception.reason, raised.exception.pointer), ("TooManyNodes", ""))
+            self.assertEqual(raised.exception.expected, "the value has more nodes than --nodes allows, 10000")
+
     def test_depth(self) -> None:
         """The library reads 100 levels of JSON, and values have as many: here each level is one of its text."""
         for levels in [99, 100, 101, 102, 5000]:

@@ -8,7 +8,7 @@ from typing import Any, Callable
 
 import numpy
 
-from bcs_proved import Registry
+from bcs_proved import Limits, Registry, TextError
 
 SEED, REGISTRIES, VALUES = 20260, 400, 12
 LEAVES = ["UNIT", "BOOL", "STR", "BYTES", *(f"{sign}{width}" for sign in "UI" for width in (8, 16, 32, 64, 128))]
@@ -75,14 +75,19 @@ def a_registry(draw: random.Random) -> dict[str, Any]:
 
 
 class Drawn:
-    """A value as `decode` with `native` gives it, the same value in other types, and its bytes."""
+    """A value as `decode` with `native` returns it, the same value in other types, its bytes, and how many nodes it has."""
 
-    def __init__(self, native: Any, dressed: Any, data: bytes) -> None:
-        self.native, self.dressed, self.data = native, dressed, data
+    def __init__(self, native: Any, dressed: Any, data: bytes, nodes: int = 1) -> None:
+        self.native, self.dressed, self.data, self.nodes = native, dressed, data, nodes
 
 
 def joined(parts: list[Drawn]) -> bytes:
     return b"".join(part.data for part in parts)
+
+
+def with_nodes(parts: list[Drawn]) -> int:
+    """Of a node that has these parts."""
+    return 1 + sum(part.nodes for part in parts)
 
 
 class Values:
@@ -95,7 +100,8 @@ class Values:
             return self._leaf(format)
         ((kind, inner),) = format.items()
         if kind == "TYPENAME":
-            return self._content(self._registry[inner])
+            held = self._content(self._registry[inner])
+            return Drawn(held.native, held.dressed, held.data, 1 + held.nodes)
         if kind == "OPTION":
             return self._option(inner)
         if kind == "TUPLE":
@@ -151,11 +157,12 @@ class Values:
         if self._draw.random() < 0.3:
             return Drawn(None, None, b"\0")
         held = self.value(inner)
-        return Drawn({"some": held.native}, {"some": held.dressed}, b"\1" + held.data)
+        return Drawn({"some": held.native}, {"some": held.dressed}, b"\1" + held.data, 1 + held.nodes)
 
     def _row(self, formats: list[Any]) -> Drawn:
         parts = [self.value(format) for format in formats]
-        return Drawn([part.native for part in parts], self._sequence([part.dressed for part in parts]), joined(parts))
+        dressed = self._sequence([part.dressed for part in parts])
+        return Drawn([part.native for part in parts], dressed, joined(parts), with_nodes(parts))
 
     def _sequence(self, parts: list[Any]) -> Any:
         return self._draw.choice([list, tuple])(parts)
@@ -163,18 +170,20 @@ class Values:
     def _list(self, format: Any, length: int, head: bytes) -> Drawn:
         parts = [self.value(format) for _ in range(length)]
         natives = [part.native for part in parts]
+        dressed: list[Any]
         data = head + joined(parts)
         if format == "U8":
             octets = bytes(natives)
-            return Drawn(octets, self._draw.choice([self._octets(octets), natives, tuple(part.dressed for part in parts)]), data)
-        dressed: list[Any] = [self._sequence([part.dressed for part in parts])]
+            dressed = [self._octets(octets), natives, tuple(part.dressed for part in parts)]
+            return Drawn(octets, self._draw.choice(dressed), data, with_nodes(parts))
+        dressed = [self._sequence([part.dressed for part in parts])]
         word = format if isinstance(format, str) else ""
         if word in NUMPY:
             dressed.append(numpy.array(natives, NUMPY[word]))
         if word in ARRAYS:
             code = ARRAYS[word]
             dressed += [array.array(code, natives), memoryview(array.array(code, natives))]
-        return Drawn(natives, self._draw.choice(dressed), data)
+        return Drawn(natives, self._draw.choice(dressed), data, with_nodes(parts))
 
     def _map(self, key: Any, value: Any) -> Drawn:
         """The entries rise by the bytes of their keys, which differ."""
@@ -185,7 +194,8 @@ class Values:
         if isinstance(key, str) and key not in ("UNIT", "BYTES") and self._draw.random() < 0.5:
             dressed = {one.native: other.dressed for one, other in mixed}
         data = uleb(len(entries)) + b"".join(one.data + other.data for one, other in entries)
-        return Drawn([[one.native, other.native] for one, other in entries], dressed, data)
+        nodes = with_nodes([part for entry in entries for part in entry])
+        return Drawn([[one.native, other.native] for one, other in entries], dressed, data, nodes)
 
     def _content(self, held: Any) -> Drawn:
         if isinstance(held, str):
@@ -200,16 +210,17 @@ class Values:
         parts = {name: self.value(format) for field in inner for name, format in field.items()}
         mixed = self._draw.sample(list(parts), len(parts))
         native = {name: part.native for name, part in parts.items()}
-        return Drawn(native, {name: parts[name].dressed for name in mixed}, joined(list(parts.values())))
+        drawn = list(parts.values())
+        return Drawn(native, {name: parts[name].dressed for name in mixed}, joined(drawn), with_nodes(drawn))
 
     def _enum(self, variants: dict[str, Any]) -> Drawn:
         number, variant = self._draw.choice(list(variants.items()))
         ((name, payload),) = variant.items()
         head = uleb(int(number))
         if payload == "UNIT":
-            return Drawn(name, self._draw.choice([name, {name: None}]), head)
+            return Drawn(name, self._draw.choice([name, {name: None}]), head, 2)
         held = self._content(payload)
-        return Drawn({name: held.native}, {name: held.dressed}, head + held.data)
+        return Drawn({name: held.native}, {name: held.dressed}, head + held.data, 1 + held.nodes)
 
 
 class There(unittest.TestCase):
@@ -234,6 +245,10 @@ class There(unittest.TestCase):
         self.assertEqual(registry.decode(format, drawn.data, native=True), drawn.native, said)
         self.assertEqual(registry.encode(format, registry.decode(format, drawn.data)), drawn.data, said)
         self.assertTrue(registry.equal(format, drawn.dressed, drawn.native), said)
+        self.assertEqual(registry.encode(format, drawn.dressed, Limits(nodes=drawn.nodes)), drawn.data, said)
+        with self.assertRaises(TextError, msg=said) as raised:
+            registry.encode(format, drawn.dressed, Limits(nodes=drawn.nodes - 1))
+        self.assertEqual((raised.exception.reason, raised.exception.pointer), ("TooManyNodes", ""), said)
 
 
 if __name__ == "__main__":
