@@ -4,7 +4,7 @@ import pickle
 import unittest
 from typing import Any, Optional
 
-from bcs_proved import BcsError, BytesError, Registry, RegistryError, TextError
+from bcs_proved import BcsError, BytesError, Registry, RegistryError, TextError, ValueTypeError
 
 SHAPES = {
     "Point": {"STRUCT": [{"x": "U8"}, {"~/": {"SEQ": "BYTES"}}]},
@@ -34,6 +34,8 @@ class Places(unittest.TestCase):
             refused = self.tells(TextError, pointer, expected, self.registry.encode, format, value)
             self.assertIn(expected, str(refused))
             self.tells(TextError, pointer, expected, self.registry.normalise, format, value)
+        types = "BYTES takes bytes or hexadecimal digits, not int"
+        self.tells(ValueTypeError, "/~0~1/1", types, self.registry.encode, "Point", {"x": 1, "~/": [b"", 7]})
         self.tells(TextError, "", "wanted BOOL, true or false", self.registry.encode_text, '"BOOL"', "7")
         told = self.tells(TextError, "", "line 1, column 1: serde_json stops reading there", self.registry.encode_text, '"U8"', "x")
         self.assertEqual(told.reason, "NotJson")

@@ -429,6 +429,11 @@ LISTS: dict[str, Value] = {
     "[True, True]": Value([True, True], "list", rejected_list("bool")),
     "[1.0, 2.0]": Value([1.0, 2.0], "list", rejected_list("float")),
     "[None, None]": Value([None, None], "list", rejected_list("NoneType")),
+    "[10**5000, 1]": Value(
+        [10**5000, 1],
+        "list",
+        {**rejected_list("int"), **array_of("int", 10**5000, 1), **{column: Refusal("BadNumber", "/0") for column in ["TUPLE", "Pair"]}},
+    ),
     "two bytes objects": Value([b"\1", b"\2"], "list", {**rejected_list("bytes"), "SEQ SEQ U8": "0201010102"}),
     "[1, b'x']": Value(
         [1, b"x"],
