@@ -313,8 +313,10 @@ def _bytes_of_text(text: Text) -> bytes:
 
 
 def _bytes_of(data: Data) -> bytes:
-    """Of anything else, as a number or a text, memoryview raises TypeError."""
-    return data if isinstance(data, bytes) else memoryview(data).tobytes()
+    octets = values.octets_of(data)
+    if octets is None:
+        raise TypeError(f"bytes are needed here, not {values.name_of(type(data))}")
+    return octets
 
 
 @functools.lru_cache(maxsize=1000)

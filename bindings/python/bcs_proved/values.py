@@ -11,7 +11,7 @@ import operator
 from collections.abc import Mapping
 from typing import Any, Iterator, Optional, Union
 
-__all__ = ["Format", "Formats", "Native", "Rejected", "json_of", "json_of_format"]
+__all__ = ["Format", "Formats", "Native", "Rejected", "json_of", "json_of_format", "name_of", "octets_of"]
 
 # The JSON of a value nests at most this deep.
 _NESTING = 100
@@ -35,12 +35,12 @@ class Rejected(Exception):
     def __init__(self, reason: str, expected: str, found: Optional[type] = None) -> None:
         super().__init__(reason, expected, found)
         self.reason = reason
-        self.expected = expected if found is None else f"{expected}, not {_name_of(found)}"
+        self.expected = expected if found is None else f"{expected}, not {name_of(found)}"
         self.is_type = found is not None
         self.pointer = ""
 
 
-def _name_of(found: type) -> str:
+def name_of(found: type) -> str:
     return found.__qualname__ if found.__module__ == "builtins" else f"{found.__module__}.{found.__qualname__}"
 
 
@@ -125,15 +125,23 @@ def _is_octets(view: memoryview) -> bool:
     return view.ndim == 1 and view.itemsize == 1 and _item_of(view) in ("B", "c")
 
 
-def _octets_of(value: Any) -> Optional[str]:
-    """The hexadecimal digits of a bytes-like object. A masked array isn't one, since it hides some of its items."""
+def octets_of(value: Any) -> Optional[bytes]:
+    """The bytes of a bytes-like object. A masked array isn't one, since it hides some of its items."""
     if isinstance(value, bytes):
-        return bytes.hex(value)
+        return bytes.__getitem__(value, slice(None))
     view = _view_of(value)
     if view is None:
         return None
     with view:
-        return view.tobytes().hex() if _is_octets(view) and not hasattr(value, "mask") else None
+        return view.tobytes() if _is_octets(view) and not hasattr(value, "mask") else None
+
+
+def _digits_of(value: Any) -> Optional[str]:
+    """The JSON of bytes, or of a string of their hexadecimal digits."""
+    if isinstance(value, str):
+        return _text_of(value)
+    octets = octets_of(value)
+    return None if octets is None else f'"{octets.hex()}"'
 
 
 def _elements_of(value: Any) -> Optional[list[Any]]:
@@ -186,13 +194,10 @@ class _Bytes(Format):
     takes = "BYTES takes bytes or hexadecimal digits"
 
     def open(self, value: Any, out: list[str]) -> _Parts:
-        if isinstance(value, str):
-            out.append(_text_of(value))
-            return None
-        digits = _octets_of(value)
+        digits = _digits_of(value)
         if digits is None:
             raise self.wrong(value)
-        out.append(f'"{digits}"')
+        out.append(digits)
         return None
 
 
@@ -252,11 +257,10 @@ class _List(Format):
 
     def open(self, value: Any, out: list[str]) -> _Parts:
         items = _items_of(value)
-        if items is None and self._is_of_octets:
-            digits = value if isinstance(value, str) else _octets_of(value)
-            if digits is not None:
-                out.append(_text_of(digits))
-                return None
+        digits = _digits_of(value) if items is None and self._is_of_octets else None
+        if digits is not None:
+            out.append(digits)
+            return None
         if items is None and isinstance(self._element.resolved(), (_Number, _List)):
             items = _elements_of(value)
         if items is None:
@@ -492,7 +496,7 @@ def json_of_format(format: Mapping[str, Any]) -> bytes:
                 copy[place] = _copy_of(part) if depth < _FORMAT_NESTING else None
                 inner.append((copy[place] or [], depth + 1))
             elif not (part is None or isinstance(part, (bool, int, float, str))):
-                raise TypeError(f"a registry or format has dicts, lists, str and int, and no {_name_of(type(part))}")
+                raise TypeError(f"a registry or format has dicts, lists, str and int, and no {name_of(type(part))}")
     text = json.dumps(copied[0], allow_nan=False, ensure_ascii=False, separators=(",", ":"))
     return text.encode("utf-8", "surrogatepass")
 
@@ -511,7 +515,7 @@ def _name_in_format(name: Any) -> str:
     if isinstance(name, int) and not isinstance(name, bool):
         return str(int.__index__(name))
     if not isinstance(name, str):
-        raise TypeError(f"names in a registry or format are str, not {_name_of(type(name))}")
+        raise TypeError(f"names in a registry or format are str, not {name_of(type(name))}")
     return str.__str__(name)
 
 

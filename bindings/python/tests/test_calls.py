@@ -1,5 +1,7 @@
 """What the methods of bcs_proved answer and raise. The answers are from docs/FORMAT.md."""
 
+import array
+import ctypes
 import json
 import unittest
 from typing import Any
@@ -212,9 +214,10 @@ class Refused(unittest.TestCase):
 
     def test_what_is_no_text_and_no_bytes(self) -> None:
         """Python makes five zeros of `bytes(5)`."""
-        words: list[Any] = [5, None, [1]]
+        words: list[Any] = [5, None, [1], array.array("H", [7]), ctypes.c_uint64(7), memoryview(b"\1\2\3\4").cast("B", [2, 2])]
         for word in words:
-            for call in [self.registry.decode, self.registry.scan, self.registry.explain, self.registry.encode_text]:
+            calls: list[Any] = [self.registry.decode, self.registry.scan, self.registry.explain, self.registry.encode_text]
+            for call in calls:
                 with self.assertRaises(TypeError):
                     call('"BYTES"', word)
             with self.assertRaises(TypeError):
