@@ -156,6 +156,25 @@ class Refused(unittest.TestCase):
         ]:
             self.refuses(RegistryError, reason, None, Registry, text)
 
+    def test_types_in_registries(self) -> None:
+        """`json` would make names of `True` and `None`, and text of bytes."""
+        registries: list[tuple[Any, str]] = [
+            ({True: "UNITSTRUCT"}, "names in a registry or format are str, not bool"),
+            ({None: "UNITSTRUCT"}, "names in a registry or format are str, not NoneType"),
+            ({1.0: "UNITSTRUCT"}, "names in a registry or format are str, not float"),
+            ({b"A": "UNITSTRUCT"}, "names in a registry or format are str, not bytes"),
+            ({"A": b"UNITSTRUCT"}, "a registry or format has dicts, lists, str and int, and no bytes"),
+            ({"A": {"NEWTYPESTRUCT": {"SEQ": b"U8"}}}, "a registry or format has dicts, lists, str and int, and no bytes"),
+            ({"A": {"TUPLESTRUCT": {"U8"}}}, "a registry or format has dicts, lists, str and int, and no set"),
+            ({"A": {"ENUM": {0: {"A": "UNIT"}, "0": {"B": "UNIT"}}}}, "two names of a registry or format are equal"),
+        ]
+        for registry, words in registries:
+            with self.assertRaises(TypeError) as raised:
+                Registry(registry)
+            self.assertEqual(str(raised.exception), words)
+            with self.assertRaises(TypeError):
+                self.registry.encode(registry, 7)
+
     def test_formats(self) -> None:
         formats: list[tuple[Format, str]] = [
             ("U8", "UnknownName"),

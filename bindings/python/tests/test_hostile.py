@@ -1,6 +1,7 @@
 """Values that run code while they are converted, that hold themselves or nest without end, bytes that need much memory, and
 threads with small stacks."""
 
+import array
 import ctypes
 import json
 import os
@@ -101,12 +102,21 @@ class OtherBytes(bytes):
         return "ff"
 
 
-class EndlessArray(bytearray):
-    """A buffer of no octets would be read by iterating over it."""
-
+class EndlessBytes(bytearray):
     def __iter__(self) -> Iterator[int]:
         while True:
             yield 9
+
+
+class EndlessArray(array.array):  # type: ignore[type-arg]
+    def __iter__(self) -> Iterator[int]:
+        while True:
+            yield 9
+
+
+class ShortArray(array.array):  # type: ignore[type-arg]
+    def __iter__(self) -> Iterator[int]:
+        yield 9
 
 
 class Reentrant(unittest.TestCase):
@@ -211,10 +221,12 @@ class Reentrant(unittest.TestCase):
         self.assertEqual(self.registry.encode({"SEQ": "U8"}, OtherList([1, 2])), b"\2\1\2")
         self.assertEqual(self.registry.encode({"TUPLE": ["U8"]}, OtherList([1])), b"\1")
         self.assertEqual(self.registry.encode('"BYTES"', OtherBytes(b"ab")), b"\2ab")
-        self.assertEqual(self.registry.encode({"SEQ": "U8"}, EndlessArray(b"ab")), b"\2ab")
+        self.assertEqual(self.registry.encode({"SEQ": "U8"}, EndlessBytes(b"ab")), b"\2ab")
         self.assertEqual(self.registry.encode("Payment", {OtherText("amount"): 7, OtherText("to"): OtherText("bob")}), BOB_BYTES)
         wrong: list[tuple[Any, Any]] = [
-            ({"SEQ": "U16"}, EndlessArray(b"ab")),
+            ({"SEQ": "U16"}, EndlessBytes(b"ab")),
+            ({"SEQ": "U16"}, EndlessArray("H", [1, 2])),
+            ({"SEQ": "U16"}, ShortArray("H", [1, 2])),
             ("Payment", {"amount": 7, Impostor(): "bob"}),
             ("Payment", {"amount": 7, OtherText("to"): "bob", OtherText("to"): "eve"}),
         ]
