@@ -1,58 +1,156 @@
--- An answer hangs on the arguments alone, and what a process keeps is its own: so all are immutable and parallel safe. Where the
--- first argument is a name, it stands for the text in bcs_registries.
+-- The owner of a database can plant functions, operators and types in the schemas that a superuser's commands search. So every
+-- name in this file has its schema, and every argument its type: nothing that is planted matches as well as what is meant.
 \echo Use "CREATE EXTENSION bcs" to load this file. \quit
 
-CREATE FUNCTION bcs_decode(registry text, format text, bytes bytea, nodes bigint DEFAULT 1000000, depth integer DEFAULT 100)
-    RETURNS jsonb AS 'MODULE_PATHNAME', 'bcs_pg_decode' LANGUAGE C IMMUTABLE STRICT PARALLEL SAFE COST 200;
-CREATE FUNCTION bcs_decode_json(registry text, format text, bytes bytea, nodes bigint DEFAULT 1000000, depth integer DEFAULT 100)
-    RETURNS json AS 'MODULE_PATHNAME', 'bcs_pg_decode_json' LANGUAGE C IMMUTABLE STRICT PARALLEL SAFE COST 100;
+-- With the text of a registry, which is of the type json. The arguments alone decide the answer.
+CREATE FUNCTION @extschema@.bcs_decode(registry pg_catalog.json, format pg_catalog.text, bytes pg_catalog.bytea,
+    nodes pg_catalog.int8 DEFAULT 65536, depth pg_catalog.int4 DEFAULT 100)
+    RETURNS pg_catalog.jsonb AS 'MODULE_PATHNAME', 'bcs_pg_decode'
+    LANGUAGE C IMMUTABLE STRICT PARALLEL SAFE COST 200;
+CREATE FUNCTION @extschema@.bcs_decode_json(registry pg_catalog.json, format pg_catalog.text, bytes pg_catalog.bytea,
+    nodes pg_catalog.int8 DEFAULT 65536, depth pg_catalog.int4 DEFAULT 100)
+    RETURNS pg_catalog.json AS 'MODULE_PATHNAME', 'bcs_pg_decode_json'
+    LANGUAGE C IMMUTABLE STRICT PARALLEL SAFE COST 100;
+CREATE FUNCTION @extschema@.bcs_encode(registry pg_catalog.json, format pg_catalog.text, value pg_catalog.jsonb,
+    nodes pg_catalog.int8 DEFAULT 65536, depth pg_catalog.int4 DEFAULT 100)
+    RETURNS pg_catalog.bytea AS 'MODULE_PATHNAME', 'bcs_pg_encode'
+    LANGUAGE C IMMUTABLE STRICT PARALLEL SAFE COST 100;
+CREATE FUNCTION @extschema@.bcs_encode_json(registry pg_catalog.json, format pg_catalog.text, value pg_catalog.json,
+    nodes pg_catalog.int8 DEFAULT 65536, depth pg_catalog.int4 DEFAULT 100)
+    RETURNS pg_catalog.bytea AS 'MODULE_PATHNAME', 'bcs_pg_encode_json'
+    LANGUAGE C IMMUTABLE STRICT PARALLEL SAFE COST 100;
+CREATE FUNCTION @extschema@.bcs_encode_json(registry pg_catalog.json, format pg_catalog.text, value pg_catalog.text,
+    nodes pg_catalog.int8 DEFAULT 65536, depth pg_catalog.int4 DEFAULT 100)
+    RETURNS pg_catalog.bytea AS 'MODULE_PATHNAME', 'bcs_pg_encode_json'
+    LANGUAGE C IMMUTABLE STRICT PARALLEL SAFE COST 100;
+CREATE FUNCTION @extschema@.bcs_normalise(registry pg_catalog.json, format pg_catalog.text, value pg_catalog.json,
+    nodes pg_catalog.int8 DEFAULT 65536, depth pg_catalog.int4 DEFAULT 100)
+    RETURNS pg_catalog.json AS 'MODULE_PATHNAME', 'bcs_pg_normalise'
+    LANGUAGE C IMMUTABLE STRICT PARALLEL SAFE COST 200;
+CREATE FUNCTION @extschema@.bcs_normalise(registry pg_catalog.json, format pg_catalog.text, value pg_catalog.text,
+    nodes pg_catalog.int8 DEFAULT 65536, depth pg_catalog.int4 DEFAULT 100)
+    RETURNS pg_catalog.json AS 'MODULE_PATHNAME', 'bcs_pg_normalise'
+    LANGUAGE C IMMUTABLE STRICT PARALLEL SAFE COST 200;
+CREATE FUNCTION @extschema@.bcs_equal(registry pg_catalog.json, format pg_catalog.text,
+    one pg_catalog.json, other pg_catalog.json,
+    nodes pg_catalog.int8 DEFAULT 65536, depth pg_catalog.int4 DEFAULT 100)
+    RETURNS pg_catalog.bool AS 'MODULE_PATHNAME', 'bcs_pg_equal'
+    LANGUAGE C IMMUTABLE STRICT PARALLEL SAFE COST 200;
+CREATE FUNCTION @extschema@.bcs_equal(registry pg_catalog.json, format pg_catalog.text,
+    one pg_catalog.text, other pg_catalog.text,
+    nodes pg_catalog.int8 DEFAULT 65536, depth pg_catalog.int4 DEFAULT 100)
+    RETURNS pg_catalog.bool AS 'MODULE_PATHNAME', 'bcs_pg_equal'
+    LANGUAGE C IMMUTABLE STRICT PARALLEL SAFE COST 200;
+CREATE FUNCTION @extschema@.bcs_is(registry pg_catalog.json, format pg_catalog.text, bytes pg_catalog.bytea,
+    nodes pg_catalog.int8 DEFAULT 65536, depth pg_catalog.int4 DEFAULT 100)
+    RETURNS pg_catalog.bool AS 'MODULE_PATHNAME', 'bcs_pg_is'
+    LANGUAGE C IMMUTABLE STRICT PARALLEL SAFE COST 20;
+CREATE FUNCTION @extschema@.bcs_fault(registry pg_catalog.json, format pg_catalog.text, bytes pg_catalog.bytea,
+    nodes pg_catalog.int8 DEFAULT 65536, depth pg_catalog.int4 DEFAULT 100)
+    RETURNS pg_catalog.jsonb AS 'MODULE_PATHNAME', 'bcs_pg_fault'
+    LANGUAGE C IMMUTABLE STRICT PARALLEL SAFE COST 60;
+CREATE FUNCTION @extschema@.bcs_scan(registry pg_catalog.json, format pg_catalog.text, bytes pg_catalog.bytea,
+    nodes pg_catalog.int8 DEFAULT 65536, depth pg_catalog.int4 DEFAULT 100)
+    RETURNS pg_catalog.int8 AS 'MODULE_PATHNAME', 'bcs_pg_scan'
+    LANGUAGE C IMMUTABLE STRICT PARALLEL SAFE COST 20;
+CREATE FUNCTION @extschema@.bcs_part(registry pg_catalog.json, format pg_catalog.text,
+    bytes pg_catalog.bytea, path pg_catalog.text,
+    nodes pg_catalog.int8 DEFAULT 65536, depth pg_catalog.int4 DEFAULT 100)
+    RETURNS pg_catalog.bytea AS 'MODULE_PATHNAME', 'bcs_pg_part'
+    LANGUAGE C IMMUTABLE STRICT PARALLEL SAFE COST 20;
+CREATE FUNCTION @extschema@.bcs_part_place(registry pg_catalog.json, format pg_catalog.text,
+    bytes pg_catalog.bytea, path pg_catalog.text,
+    nodes pg_catalog.int8 DEFAULT 65536, depth pg_catalog.int4 DEFAULT 100)
+    RETURNS pg_catalog.int8 AS 'MODULE_PATHNAME', 'bcs_pg_part_place'
+    LANGUAGE C IMMUTABLE STRICT PARALLEL SAFE COST 20;
+CREATE FUNCTION @extschema@.bcs_explain(registry pg_catalog.json, format pg_catalog.text,
+    bytes pg_catalog.bytea, form pg_catalog.text DEFAULT 'ways'::pg_catalog.text,
+    nodes pg_catalog.int8 DEFAULT 4096, depth pg_catalog.int4 DEFAULT 100)
+    RETURNS pg_catalog.text AS 'MODULE_PATHNAME', 'bcs_pg_explain'
+    LANGUAGE C IMMUTABLE STRICT PARALLEL SAFE COST 500;
 
-CREATE FUNCTION bcs_encode(registry text, format text, value jsonb, nodes bigint DEFAULT 1000000, depth integer DEFAULT 100)
-    RETURNS bytea AS 'MODULE_PATHNAME', 'bcs_pg_encode' LANGUAGE C IMMUTABLE STRICT PARALLEL SAFE COST 100;
-CREATE FUNCTION bcs_encode_json(registry text, format text, value json, nodes bigint DEFAULT 1000000, depth integer DEFAULT 100)
-    RETURNS bytea AS 'MODULE_PATHNAME', 'bcs_pg_encode_json' LANGUAGE C IMMUTABLE STRICT PARALLEL SAFE COST 100;
-CREATE FUNCTION bcs_encode_json(registry text, format text, value text, nodes bigint DEFAULT 1000000, depth integer DEFAULT 100)
-    RETURNS bytea AS 'MODULE_PATHNAME', 'bcs_pg_encode_json' LANGUAGE C IMMUTABLE STRICT PARALLEL SAFE COST 100;
+-- With the text of a registry or a name in bcs_registries, whose text may change. The planner replaces a call with a constant
+-- text, which isn't a name, by one of the functions above, so that indexes can use it.
+CREATE FUNCTION @extschema@.bcs_support(pg_catalog.internal)
+    RETURNS pg_catalog.internal AS 'MODULE_PATHNAME', 'bcs_pg_support'
+    LANGUAGE C STRICT;
+CREATE FUNCTION @extschema@.bcs_decode(registry pg_catalog.text, format pg_catalog.text, bytes pg_catalog.bytea,
+    nodes pg_catalog.int8 DEFAULT 65536, depth pg_catalog.int4 DEFAULT 100)
+    RETURNS pg_catalog.jsonb AS 'MODULE_PATHNAME', 'bcs_pg_decode'
+    LANGUAGE C STABLE SUPPORT @extschema@.bcs_support STRICT PARALLEL SAFE COST 200;
+CREATE FUNCTION @extschema@.bcs_decode_json(registry pg_catalog.text, format pg_catalog.text, bytes pg_catalog.bytea,
+    nodes pg_catalog.int8 DEFAULT 65536, depth pg_catalog.int4 DEFAULT 100)
+    RETURNS pg_catalog.json AS 'MODULE_PATHNAME', 'bcs_pg_decode_json'
+    LANGUAGE C STABLE SUPPORT @extschema@.bcs_support STRICT PARALLEL SAFE COST 100;
+CREATE FUNCTION @extschema@.bcs_encode(registry pg_catalog.text, format pg_catalog.text, value pg_catalog.jsonb,
+    nodes pg_catalog.int8 DEFAULT 65536, depth pg_catalog.int4 DEFAULT 100)
+    RETURNS pg_catalog.bytea AS 'MODULE_PATHNAME', 'bcs_pg_encode'
+    LANGUAGE C STABLE SUPPORT @extschema@.bcs_support STRICT PARALLEL SAFE COST 100;
+CREATE FUNCTION @extschema@.bcs_encode_json(registry pg_catalog.text, format pg_catalog.text, value pg_catalog.json,
+    nodes pg_catalog.int8 DEFAULT 65536, depth pg_catalog.int4 DEFAULT 100)
+    RETURNS pg_catalog.bytea AS 'MODULE_PATHNAME', 'bcs_pg_encode_json'
+    LANGUAGE C STABLE SUPPORT @extschema@.bcs_support STRICT PARALLEL SAFE COST 100;
+CREATE FUNCTION @extschema@.bcs_encode_json(registry pg_catalog.text, format pg_catalog.text, value pg_catalog.text,
+    nodes pg_catalog.int8 DEFAULT 65536, depth pg_catalog.int4 DEFAULT 100)
+    RETURNS pg_catalog.bytea AS 'MODULE_PATHNAME', 'bcs_pg_encode_json'
+    LANGUAGE C STABLE SUPPORT @extschema@.bcs_support STRICT PARALLEL SAFE COST 100;
+CREATE FUNCTION @extschema@.bcs_normalise(registry pg_catalog.text, format pg_catalog.text, value pg_catalog.json,
+    nodes pg_catalog.int8 DEFAULT 65536, depth pg_catalog.int4 DEFAULT 100)
+    RETURNS pg_catalog.json AS 'MODULE_PATHNAME', 'bcs_pg_normalise'
+    LANGUAGE C STABLE SUPPORT @extschema@.bcs_support STRICT PARALLEL SAFE COST 200;
+CREATE FUNCTION @extschema@.bcs_normalise(registry pg_catalog.text, format pg_catalog.text, value pg_catalog.text,
+    nodes pg_catalog.int8 DEFAULT 65536, depth pg_catalog.int4 DEFAULT 100)
+    RETURNS pg_catalog.json AS 'MODULE_PATHNAME', 'bcs_pg_normalise'
+    LANGUAGE C STABLE SUPPORT @extschema@.bcs_support STRICT PARALLEL SAFE COST 200;
+CREATE FUNCTION @extschema@.bcs_equal(registry pg_catalog.text, format pg_catalog.text,
+    one pg_catalog.json, other pg_catalog.json,
+    nodes pg_catalog.int8 DEFAULT 65536, depth pg_catalog.int4 DEFAULT 100)
+    RETURNS pg_catalog.bool AS 'MODULE_PATHNAME', 'bcs_pg_equal'
+    LANGUAGE C STABLE SUPPORT @extschema@.bcs_support STRICT PARALLEL SAFE COST 200;
+CREATE FUNCTION @extschema@.bcs_equal(registry pg_catalog.text, format pg_catalog.text,
+    one pg_catalog.text, other pg_catalog.text,
+    nodes pg_catalog.int8 DEFAULT 65536, depth pg_catalog.int4 DEFAULT 100)
+    RETURNS pg_catalog.bool AS 'MODULE_PATHNAME', 'bcs_pg_equal'
+    LANGUAGE C STABLE SUPPORT @extschema@.bcs_support STRICT PARALLEL SAFE COST 200;
+CREATE FUNCTION @extschema@.bcs_is(registry pg_catalog.text, format pg_catalog.text, bytes pg_catalog.bytea,
+    nodes pg_catalog.int8 DEFAULT 65536, depth pg_catalog.int4 DEFAULT 100)
+    RETURNS pg_catalog.bool AS 'MODULE_PATHNAME', 'bcs_pg_is'
+    LANGUAGE C STABLE SUPPORT @extschema@.bcs_support STRICT PARALLEL SAFE COST 20;
+CREATE FUNCTION @extschema@.bcs_fault(registry pg_catalog.text, format pg_catalog.text, bytes pg_catalog.bytea,
+    nodes pg_catalog.int8 DEFAULT 65536, depth pg_catalog.int4 DEFAULT 100)
+    RETURNS pg_catalog.jsonb AS 'MODULE_PATHNAME', 'bcs_pg_fault'
+    LANGUAGE C STABLE SUPPORT @extschema@.bcs_support STRICT PARALLEL SAFE COST 60;
+CREATE FUNCTION @extschema@.bcs_scan(registry pg_catalog.text, format pg_catalog.text, bytes pg_catalog.bytea,
+    nodes pg_catalog.int8 DEFAULT 65536, depth pg_catalog.int4 DEFAULT 100)
+    RETURNS pg_catalog.int8 AS 'MODULE_PATHNAME', 'bcs_pg_scan'
+    LANGUAGE C STABLE SUPPORT @extschema@.bcs_support STRICT PARALLEL SAFE COST 20;
+CREATE FUNCTION @extschema@.bcs_part(registry pg_catalog.text, format pg_catalog.text,
+    bytes pg_catalog.bytea, path pg_catalog.text,
+    nodes pg_catalog.int8 DEFAULT 65536, depth pg_catalog.int4 DEFAULT 100)
+    RETURNS pg_catalog.bytea AS 'MODULE_PATHNAME', 'bcs_pg_part'
+    LANGUAGE C STABLE SUPPORT @extschema@.bcs_support STRICT PARALLEL SAFE COST 20;
+CREATE FUNCTION @extschema@.bcs_part_place(registry pg_catalog.text, format pg_catalog.text,
+    bytes pg_catalog.bytea, path pg_catalog.text,
+    nodes pg_catalog.int8 DEFAULT 65536, depth pg_catalog.int4 DEFAULT 100)
+    RETURNS pg_catalog.int8 AS 'MODULE_PATHNAME', 'bcs_pg_part_place'
+    LANGUAGE C STABLE SUPPORT @extschema@.bcs_support STRICT PARALLEL SAFE COST 20;
+CREATE FUNCTION @extschema@.bcs_explain(registry pg_catalog.text, format pg_catalog.text,
+    bytes pg_catalog.bytea, form pg_catalog.text DEFAULT 'ways'::pg_catalog.text,
+    nodes pg_catalog.int8 DEFAULT 4096, depth pg_catalog.int4 DEFAULT 100)
+    RETURNS pg_catalog.text AS 'MODULE_PATHNAME', 'bcs_pg_explain'
+    LANGUAGE C STABLE SUPPORT @extschema@.bcs_support STRICT PARALLEL SAFE COST 500;
 
-CREATE FUNCTION bcs_normalise(registry text, format text, value json, nodes bigint DEFAULT 1000000, depth integer DEFAULT 100)
-    RETURNS json AS 'MODULE_PATHNAME', 'bcs_pg_normalise' LANGUAGE C IMMUTABLE STRICT PARALLEL SAFE COST 200;
-CREATE FUNCTION bcs_normalise(registry text, format text, value text, nodes bigint DEFAULT 1000000, depth integer DEFAULT 100)
-    RETURNS json AS 'MODULE_PATHNAME', 'bcs_pg_normalise' LANGUAGE C IMMUTABLE STRICT PARALLEL SAFE COST 200;
-
-CREATE FUNCTION bcs_equal(registry text, format text, one json, other json,
-    nodes bigint DEFAULT 1000000, depth integer DEFAULT 100)
-    RETURNS boolean AS 'MODULE_PATHNAME', 'bcs_pg_equal' LANGUAGE C IMMUTABLE STRICT PARALLEL SAFE COST 200;
-CREATE FUNCTION bcs_equal(registry text, format text, one text, other text,
-    nodes bigint DEFAULT 1000000, depth integer DEFAULT 100)
-    RETURNS boolean AS 'MODULE_PATHNAME', 'bcs_pg_equal' LANGUAGE C IMMUTABLE STRICT PARALLEL SAFE COST 200;
-
-CREATE FUNCTION bcs_is(registry text, format text, bytes bytea, nodes bigint DEFAULT 1000000, depth integer DEFAULT 100)
-    RETURNS boolean AS 'MODULE_PATHNAME', 'bcs_pg_is' LANGUAGE C IMMUTABLE STRICT PARALLEL SAFE COST 20;
-CREATE FUNCTION bcs_fault(registry text, format text, bytes bytea, nodes bigint DEFAULT 1000000, depth integer DEFAULT 100)
-    RETURNS jsonb AS 'MODULE_PATHNAME', 'bcs_pg_fault' LANGUAGE C IMMUTABLE STRICT PARALLEL SAFE COST 20;
-CREATE FUNCTION bcs_scan(registry text, format text, bytes bytea, nodes bigint DEFAULT 1000000, depth integer DEFAULT 100)
-    RETURNS bigint AS 'MODULE_PATHNAME', 'bcs_pg_scan' LANGUAGE C IMMUTABLE STRICT PARALLEL SAFE COST 20;
-
-CREATE FUNCTION bcs_part(registry text, format text, bytes bytea, path text,
-    nodes bigint DEFAULT 1000000, depth integer DEFAULT 100)
-    RETURNS bytea AS 'MODULE_PATHNAME', 'bcs_pg_part' LANGUAGE C IMMUTABLE STRICT PARALLEL SAFE COST 20;
-CREATE FUNCTION bcs_part_place(registry text, format text, bytes bytea, path text,
-    nodes bigint DEFAULT 1000000, depth integer DEFAULT 100)
-    RETURNS bigint AS 'MODULE_PATHNAME', 'bcs_pg_part_place' LANGUAGE C IMMUTABLE STRICT PARALLEL SAFE COST 20;
-CREATE FUNCTION bcs_explain(registry text, format text, bytes bytea, form text DEFAULT 'ways',
-    nodes bigint DEFAULT 1000000, depth integer DEFAULT 100)
-    RETURNS text AS 'MODULE_PATHNAME', 'bcs_pg_explain' LANGUAGE C IMMUTABLE STRICT PARALLEL SAFE COST 500;
-
--- Registries by name. All processes close what they have open of it when a change commits.
-CREATE TABLE bcs_registries (
-    name text PRIMARY KEY CHECK (name ~ '^[A-Za-z_]'),
-    registry text NOT NULL CHECK (registry ~ '^\s*[{]' AND bcs_is(registry, '"UNIT"', ''))
+-- Registries by name. When a change is committed, every process closes the ones that it has open.
+CREATE TABLE @extschema@.bcs_registries (
+    name pg_catalog.text PRIMARY KEY CHECK (name OPERATOR(pg_catalog.~) '^[A-Za-z_]'::pg_catalog.text),
+    registry pg_catalog.text NOT NULL CHECK (registry OPERATOR(pg_catalog.~) '^\s*[{]'::pg_catalog.text
+        AND @extschema@.bcs_is(registry, '"UNIT"'::pg_catalog.text, ''::pg_catalog.bytea, 1::pg_catalog.int8, 0::pg_catalog.int4))
 );
-GRANT SELECT ON bcs_registries TO PUBLIC;
-SELECT pg_catalog.pg_extension_config_dump('bcs_registries', '');
+GRANT SELECT ON TABLE @extschema@.bcs_registries TO PUBLIC;
+SELECT pg_catalog.pg_extension_config_dump('@extschema@.bcs_registries'::pg_catalog.regclass, ''::pg_catalog.text);
 
-CREATE FUNCTION bcs_registries_changed() RETURNS trigger
+CREATE FUNCTION @extschema@.bcs_registries_changed() RETURNS pg_catalog.trigger
     AS 'MODULE_PATHNAME', 'bcs_pg_registries_changed' LANGUAGE C;
-CREATE TRIGGER changed AFTER INSERT OR UPDATE OR DELETE OR TRUNCATE ON bcs_registries
-    FOR EACH STATEMENT EXECUTE FUNCTION bcs_registries_changed();
-ALTER TABLE bcs_registries ENABLE ALWAYS TRIGGER changed;
+CREATE TRIGGER changed AFTER INSERT OR UPDATE OR DELETE OR TRUNCATE ON @extschema@.bcs_registries
+    FOR EACH STATEMENT EXECUTE FUNCTION @extschema@.bcs_registries_changed();
+ALTER TABLE @extschema@.bcs_registries ENABLE ALWAYS TRIGGER changed;

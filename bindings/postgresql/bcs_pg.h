@@ -1,4 +1,4 @@
-/* What the files of the extension share. README.md says what the functions give. */
+/* What the files of the extension share. README.md describes the functions. */
 #ifndef BCS_PG_H
 #define BCS_PG_H
 
@@ -8,41 +8,45 @@
 
 #include "words.h"
 
-/* A registry that is open in this process. Its text and the memory of its handle stand in a context of their own. */
+/* A registry that is open in this process. Its text and the memory of its handle are in a context of their own. */
 typedef struct Registry
 {
-	uint64		number;			/* 0 where none is open: no two have one */
+	uint64		number;			/* unique; 0 if none is open */
 	uint64		used;			/* when it was used last */
 	MemoryContext context;
-	struct piece text;			/* as the queries have it: JSON, or a name of bcs_registries */
-	bcs_handle	handle;
+	bool		is_name;		/* of bcs_registries, and no JSON */
+	struct piece text;			/* as the queries have it: JSON, or the name */
+	bcs_handle *handle;
 } Registry;
 
-/* What a function is asked. */
+/* The arguments of a function. */
 typedef struct Question
 {
-	Registry   *registry;
-	bcs_handle_ask ask;
+	struct ask	ask;
+	bool		is_capped;		/* bcs.max_nodes allows fewer nodes than the query does */
 	struct piece input;
 	struct piece second;
 	uint32		form;			/* of pieces */
 } Question;
 
-/* question.c: the arguments. `inputs` is how many stand between the format and the limits. */
+/* question.c: the arguments. `inputs` is how many there are between the format and the limits. */
+extern void define_settings(void);
 extern Question question_of_bytes(FunctionCallInfo fcinfo, int inputs);
 extern Question question_of_text(FunctionCallInfo fcinfo, int inputs);
 extern Question question_of_jsonb(FunctionCallInfo fcinfo, int inputs);
+extern void cap_nodes(Question *question, int weight);
 extern struct piece utf8_of(struct piece text);
 extern struct piece argument(FunctionCallInfo fcinfo, int place);
 
 /* registries.c: the registry of the first argument. */
-extern Registry *registry_of_call(FunctionCallInfo fcinfo);
+extern bcs_handle *registry_of_call(FunctionCallInfo fcinfo);
+extern bool is_registry_name(struct piece text);
 extern void watch_names(void);
 
-/* refusal.c: raises what an answer refuses of a question, and of the text of a registry, in UTF-8. And why and where bytes stop,
- * in UTF-8, which is ASCII here. */
-extern pg_attribute_noreturn() void refuse(Question *question, bcs_answer answer);
+/* refusal.c: raises the error for what an answer refuses of a question, or of the text of a registry in UTF-8. And the JSON that
+ * says why and where bytes stop being a value. */
+extern pg_attribute_noreturn() void refuse(const Question *question, bcs_answer answer);
 extern pg_attribute_noreturn() void refuse_registry(struct piece text, bcs_answer answer);
-extern const char *json_of_stop(Question *question, bcs_answer answer);
+extern const char *json_of_stop(const Question *question, bcs_answer answer);
 
 #endif

@@ -1,7 +1,8 @@
-/* PostgreSQL's functions over the proved calls of bcs.h. README.md says what each gives; what stands here isn't proved. */
+/* PostgreSQL's functions over the proved calls of bcs.h. README.md describes them; this code isn't proved. */
 #include "bcs_pg.h"
 
 #include "mb/pg_wchar.h"
+#include "miscadmin.h"
 #include "utils/builtins.h"
 #include "utils/jsonb.h"
 #include "utils/memutils.h"
@@ -13,49 +14,62 @@ void		_PG_init(void);
 void
 _PG_init(void)
 {
-	if (!has_processor())
+	if (!bcs_is_supported())
 		ereport(ERROR,
 				(errcode(ERRCODE_FEATURE_NOT_SUPPORTED), errmsg("bcs needs a processor of the level x86-64-v2")));
+	define_settings();
 	watch_names();
 }
 
+/* A call doesn't look for signals, so each is followed by this. */
+static bcs_answer
+ended(bcs_answer answer)
+{
+	CHECK_FOR_INTERRUPTS();
+	return answer;
+}
+
 /* The calls that write an answer. */
-typedef bcs_answer Writing(Question *question, uint8_t *out, size_t room);
+typedef bcs_answer Writing(const Question *question, uint8_t *out, size_t room);
 
 static bcs_answer
-write_text(Question *question, uint8_t *out, size_t room)
+write_text(const Question *question, uint8_t *out, size_t room)
 {
-	return bcs_handle_from_bcs(&question->registry->handle, &question->ask, question->input.at, question->input.length,
-							   out, room);
+	return bcs_handle_from_bcs(ASK(&question->ask), PIECE(question->input), out, room);
 }
 
 static bcs_answer
-write_bytes(Question *question, uint8_t *out, size_t room)
+write_bytes(const Question *question, uint8_t *out, size_t room)
 {
-	return bcs_handle_to_bcs(&question->registry->handle, &question->ask, question->input.at, question->input.length,
-							 out, room);
+	return bcs_handle_to_bcs(ASK(&question->ask), PIECE(question->input), out, room);
 }
 
 static bcs_answer
-write_normal(Question *question, uint8_t *out, size_t room)
+write_normal(const Question *question, uint8_t *out, size_t room)
 {
-	return bcs_handle_normalise(&question->registry->handle, &question->ask, question->input.at, question->input.length,
-								out, room);
+	return bcs_handle_normalise(ASK(&question->ask), PIECE(question->input), out, room);
 }
 
+/* Printing a piece takes as long as other calls take for 16 nodes. */
+#define NODES_OF_PIECE 16
+
+/* Pieces that end where bcs.max_nodes stops them aren't those that the query asks for. */
 static bcs_answer
-write_pieces(Question *question, uint8_t *out, size_t room)
+write_pieces(const Question *question, uint8_t *out, size_t room)
 {
-	return bcs_handle_explain(&question->registry->handle, &question->ask, question->form, question->input.at,
-							  question->input.length, out, room);
+	bcs_answer	answer = bcs_handle_explain(ASK(&question->ask), question->form, PIECE(question->input), out, room);
+
+	if (question->is_capped && is_beyond_nodes(answer.fault))
+		answer.status = BCS_REFUSED;
+	return answer;
 }
 
-/* The longest answer: a value of the server's, with a zero behind it. */
+/* The longest answer: a value of the server, with a zero behind it. */
 #define MOST_ROOM (MaxAllocSize - VARHDRSZ - 1)
 
-/* What a call writes, as a value with a zero behind it. Where the room isn't enough, the call says how much is. */
+/* What a call writes, as a value with a zero behind it. If the room is too small, the call returns how much it needs. */
 static struct varlena *
-written(Question *question, Writing *call, size_t room)
+written(const Question *question, Writing *call, size_t room)
 {
 	for (;;)
 	{
@@ -64,7 +78,7 @@ written(Question *question, Writing *call, size_t room)
 
 		room = Min(room, MOST_ROOM);
 		out = palloc(VARHDRSZ + room + 1);
-		answer = call(question, (uint8_t *) VARDATA(out), room);
+		answer = ended(call(question, (uint8_t *) VARDATA(out), room));
 		if (answer.status == BCS_DONE)
 		{
 			SET_VARSIZE(out, VARHDRSZ + answer.length);
@@ -80,7 +94,7 @@ written(Question *question, Writing *call, size_t room)
 	}
 }
 
-/* A text of the proved code in the encoding of the database, with a zero behind it, too. */
+/* A UTF-8 text in the encoding of the database, with a zero behind it. */
 static struct varlena *
 server_text(struct varlena *utf8)
 {
@@ -158,22 +172,22 @@ Datum
 bcs_pg_equal(PG_FUNCTION_ARGS)
 {
 	Question	question = question_of_text(fcinfo, 2);
-	bcs_answer	answer = bcs_handle_compare(&question.registry->handle, &question.ask, question.input.at,
-											question.input.length, question.second.at, question.second.length);
+	bcs_answer	answer = ended(bcs_handle_compare(ASK(&question.ask), PIECE(question.input), PIECE(question.second)));
 
 	if (answer.status != BCS_DONE && answer.status != BCS_NO)
 		refuse(&question, answer);
 	PG_RETURN_BOOL(answer.status == BCS_DONE);
 }
 
-/* How far the value at the front of the bytes goes, or why it stops. */
+/* Where the value at the beginning of the bytes ends, or why and where they stop being one. What stops at bcs.max_nodes may be a
+ * value within the nodes of the query, so it is an error and no verdict: the setting changes no answer of an immutable
+ * function. */
 static bcs_answer
-verdict(Question *question)
+verdict(const Question *question)
 {
-	bcs_answer	answer = bcs_handle_scan(&question->registry->handle, &question->ask, question->input.at,
-										 question->input.length);
+	bcs_answer	answer = ended(bcs_handle_scan(ASK(&question->ask), PIECE(question->input)));
 
-	if (answer.status != BCS_DONE && !is_stop(answer))
+	if (answer.status != BCS_DONE && (!is_stop(answer) || (question->is_capped && is_beyond_nodes(answer.fault))))
 		refuse(question, answer);
 	return answer;
 }
@@ -215,12 +229,11 @@ bcs_pg_fault(PG_FUNCTION_ARGS)
 	PG_RETURN_DATUM(DirectFunctionCall1(jsonb_in, CStringGetDatum(json_of_stop(&question, answer))));
 }
 
-/* Where the part stands to which a path leads: BCS_DONE, or BCS_NO. */
+/* Where the part is to which a path leads: BCS_DONE, or BCS_NO. */
 static bcs_answer
-part_of(Question *question)
+part_of(const Question *question)
 {
-	bcs_answer	answer = bcs_handle_part(&question->registry->handle, &question->ask, question->input.at,
-										 question->input.length, question->second.at, question->second.length);
+	bcs_answer	answer = ended(bcs_handle_part(ASK(&question->ask), PIECE(question->input), PIECE(question->second)));
 
 	if (answer.status != BCS_DONE && answer.status != BCS_NO)
 		refuse(question, answer);
@@ -260,6 +273,7 @@ bcs_pg_explain(PG_FUNCTION_ARGS)
 {
 	Question	question = question_of_bytes(fcinfo, 2);
 
+	cap_nodes(&question, NODES_OF_PIECE);
 	if (!is_form(question.second, &question.form))
 		ereport(ERROR,
 				(errcode(ERRCODE_INVALID_PARAMETER_VALUE), errmsg("bcs: a form is ways, paths, tree or json")));

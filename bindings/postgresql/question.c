@@ -1,18 +1,34 @@
-/* The arguments of the functions, as the calls take them. */
+/* The arguments of the functions, as the calls take them, and the setting that limits them. */
 #include "bcs_pg.h"
+
+#include <limits.h>
 
 #include "lib/stringinfo.h"
 #include "mb/pg_wchar.h"
 #include "miscadmin.h"
 #include "tcop/tcopprot.h"
+#include "utils/guc.h"
 #include "utils/jsonb.h"
 
-/* How much of the stack a call takes at most, and for each container that is open: 73 kB were measured for reading a registry,
- * and 12.5 kB for a container with formats of 32 levels, which is the most that there are. */
+/* bcs.max_nodes. With its default, which is also that of the argument nodes, no call takes 50 ms for its nodes: see README.md. */
+#define STANDARD_MAX_NODES 65536
+static int	max_nodes = STANDARD_MAX_NODES;
+
+void
+define_settings(void)
+{
+	DefineCustomIntVariable("bcs.max_nodes", "Limits the argument nodes of the functions of the extension bcs.",
+							"-1 allows the whole range.", &max_nodes, STANDARD_MAX_NODES, -1, INT_MAX, PGC_SUSET, 0,
+							NULL, NULL, NULL);
+	MarkGUCPrefixReserved("bcs");
+}
+
+/* How much of the stack a call takes at most, and in addition each container that is open: 73 kB were measured for reading a
+ * registry, and 12.5 kB for a container with formats of 32 levels, which is the maximum. */
 #define STACK_OF_CALL (128 * 1024)
 #define STACK_OF_CONTAINER (13 * 1024)
 
-/* A call can't look at how deep the stack is, so it is looked at before, for the deepest value that the limit lets through. */
+/* A call can't check how deep the stack is, so this checks it before, for the deepest value that the limit allows. */
 static void
 check_stack(uint32 depth)
 {
@@ -35,7 +51,7 @@ check_stack(uint32 depth)
 				 errhint("A smaller depth takes less. The server's limit is max_stack_depth, now %d kB.", max_stack_depth)));
 }
 
-/* An argument that is a text, or bytes, where it stands. */
+/* An argument that is a text, or bytes, without a copy if it is stored as it is. */
 struct piece
 argument(FunctionCallInfo fcinfo, int place)
 {
@@ -44,7 +60,7 @@ argument(FunctionCallInfo fcinfo, int place)
 	return (struct piece) {(const uint8_t *) VARDATA_ANY(value), VARSIZE_ANY_EXHDR(value)};
 }
 
-/* A text in UTF-8, where it stands if it is. */
+/* A text in UTF-8, without a copy if it is UTF-8 already. */
 struct piece
 utf8_of(struct piece text)
 {
@@ -59,13 +75,23 @@ utf8_of(struct piece text)
 static struct piece
 format_of(struct piece format)
 {
-	char	   *json;
+	const struct piece word = utf8_of(format);
+	char	   *json = palloc(write_format(word, NULL));
 
-	format = utf8_of(format);
-	if (!is_name(format))
-		return format;
-	json = palloc(FORMAT_ROOM(format.length));
-	return (struct piece) {(const uint8_t *) json, write_format(format, json)};
+	return (struct piece) {(const uint8_t *) json, write_format(word, json)};
+}
+
+/* Lowers the nodes of a call of which one takes as long as `weight` nodes of the others. */
+void
+cap_nodes(Question *question, int weight)
+{
+	const int64 most = max_nodes < 0 ? BCS_NODES : max_nodes / weight;
+
+	if (question->ask.nodes > most)
+	{
+		question->ask.nodes = most;
+		question->is_capped = true;
+	}
 }
 
 static Question
@@ -73,20 +99,21 @@ question_of_call(FunctionCallInfo fcinfo, int inputs)
 {
 	const int64 nodes = PG_GETARG_INT64(2 + inputs);
 	const int32 depth = PG_GETARG_INT32(3 + inputs);
-	const struct piece format = format_of(argument(fcinfo, 1));
+	Question	question = {.ask = {.depth = depth, .nodes = nodes}};
 
 	if (nodes < 0 || nodes > BCS_NODES || depth < 0 || depth > BCS_DEPTH)
 		ereport(ERROR,
 				(errcode(ERRCODE_INVALID_PARAMETER_VALUE),
 				 errmsg("bcs: nodes are from 0 to 4294967295, and a depth is from 0 to 500")));
+	CHECK_FOR_INTERRUPTS();
 	check_stack(depth);
-	return (Question) {
-		.registry = registry_of_call(fcinfo),
-		.ask = {format.at, format.length, depth, nodes},
-	};
+	cap_nodes(&question, 1);
+	question.ask.format = format_of(argument(fcinfo, 1));
+	question.ask.handle = registry_of_call(fcinfo);
+	return question;
 }
 
-/* Of two inputs the second is a text. */
+/* If there are two inputs, the second is a text. */
 Question
 question_of_bytes(FunctionCallInfo fcinfo, int inputs)
 {

@@ -1,7 +1,9 @@
-/* What is refused, as an error with a SQLSTATE. */
+/* Refusals as errors with a SQLSTATE, and as JSON. */
 #include "bcs_pg.h"
 
+#include "lib/stringinfo.h"
 #include "miscadmin.h"
+#include "utils/json.h"
 
 static int
 sqlstate_of(bcs_answer answer)
@@ -16,57 +18,13 @@ sqlstate_of(bcs_answer answer)
 static pg_attribute_noreturn() void
 raise_memory(void)
 {
-	/* A session that is to be cancelled or ended got no memory, and this ends it. */
+	/* A session that is cancelled or ended got no memory, and this ends it. */
 	CHECK_FOR_INTERRUPTS();
 	ereport(ERROR, (errcode(ERRCODE_OUT_OF_MEMORY), errmsg("out of memory"), errdetail("In a call of bcs.")));
 	pg_unreachable();
 }
 
-/* The pieces of damaged bytes, of which `line` is the last, with a zero behind it, and BCS_DONE. BCS_SHORT where they take too
- * much, and BCS_MEMORY: then the line is empty. */
-static uint32
-explain(Question *question, uint8_t **pieces, struct piece *line)
-{
-	bcs_answer	answer = {.status = BCS_SHORT, .length = room_of_pieces(question->input.length)};
-
-	*pieces = NULL;
-	while (is_to_ask_again(answer))
-	{
-		const size_t room = answer.length;
-
-		if (*pieces != NULL)
-			pfree(*pieces);
-		*pieces = palloc(room + 1);
-		answer = bcs_handle_explain(&question->registry->handle, &question->ask, BCS_JSON, question->input.at,
-									question->input.length, *pieces, room);
-	}
-	*line = (struct piece) {*pieces, 0};
-	if (answer.status == BCS_DONE)
-	{
-		*line = last_line((struct piece) {*pieces, answer.length});
-		(*pieces)[line->at + line->length - *pieces] = '\0';
-	}
-	return answer.status;
-}
-
-/* Why and where bytes stop, as the last line of `bcs explain --json`; without the way where that takes too much. */
-const char *
-json_of_stop(Question *question, bcs_answer answer)
-{
-	uint8_t    *pieces;
-	struct piece line;
-	char		name[NAME_ROOM];
-	uint32		status = explain(question, &pieces, &line);
-
-	if (status == BCS_DONE)
-		return (const char *) line.at;
-	if (status != BCS_SHORT)
-		refuse(question, (bcs_answer) {.status = status});
-	name_fault(answer.fault, name);
-	return psprintf("{\"place\":" UINT64_FORMAT ",\"refused\":\"%s\"}", answer.place, name);
-}
-
-/* What is told of a place, with a zero behind it; nothing where it takes too much. */
+/* What the library reports about the place, with a zero behind it; nothing if that is too long. */
 static struct piece
 told(const struct refused *refused, uint32 what)
 {
@@ -81,6 +39,7 @@ told(const struct refused *refused, uint32 what)
 			pfree(out);
 		out = palloc(room + 1);
 		answer = tell_place(refused, what, out, room);
+		CHECK_FOR_INTERRUPTS();
 	}
 	if (answer.status == BCS_MEMORY)
 		raise_memory();
@@ -88,6 +47,32 @@ told(const struct refused *refused, uint32 what)
 		answer.length = 0;
 	out[answer.length] = '\0';
 	return (struct piece) {out, answer.length};
+}
+
+/* Why and where bytes stop being a value, in printable ASCII. */
+const char *
+json_of_stop(const Question *question, bcs_answer answer)
+{
+	const struct refused refused = {answer, &question->ask, question->input, question->second};
+	const struct piece where = told(&refused, BCS_WHERE);
+	const char *wanted = what_was_wanted((const char *) told(&refused, BCS_WANTED).at);
+	StringInfoData json;
+
+	initStringInfo(&json);
+	appendStringInfo(&json, "{\"place\":" UINT64_FORMAT ",\"refused\":\"%s\"", answer.place,
+					 bcs_fault_text(answer.fault));
+	if (where.length != 0)
+	{
+		appendStringInfoString(&json, ",\"name\":");
+		escape_json(&json, (const char *) where.at);
+	}
+	if (wanted[0] != '\0')
+	{
+		appendStringInfoString(&json, ",\"want\":");
+		escape_json(&json, wanted);
+	}
+	appendStringInfoChar(&json, '}');
+	return json.data;
 }
 
 /* The place behind the fault's name, in printable ASCII, which is the same in each encoding of a database. */
@@ -110,33 +95,34 @@ place_told(const struct refused *refused)
 }
 
 static pg_attribute_noreturn() void
-raise_refusal(const struct refused *refused)
+raise_refusal(const struct refused *refused, bool is_capped)
 {
-	const bool	has_place = is_placed(refused->answer);
+	const bcs_answer answer = refused->answer;
+	const bool	has_place = is_placed(answer);
 	const char *words = "";
 	const char *place = "";
-	char		name[NAME_ROOM];
 
-	if (refused->answer.status == BCS_MEMORY)
+	if (answer.status == BCS_MEMORY)
 		raise_memory();
-	name_fault(refused->answer.fault, name);
 	if (has_place)
 		place = place_told(refused);
-	if (has_place && !is_stop(refused->answer))
+	if (has_place && !is_stop(answer))
 		words = (const char *) told(refused, BCS_WANTED).at;
 	ereport(ERROR,
-			(errcode(sqlstate_of(refused->answer)),
-			 errmsg("bcs: %s: %s%s", what_is_refused(refused->answer), name, place),
-			 words[0] != '\0' ? errdetail_internal("%s", words) : 0));
+			(errcode(sqlstate_of(answer)),
+			 errmsg("bcs: %s: %s%s", what_is_refused(answer), bcs_fault_text(answer.fault), place),
+			 words[0] != '\0' ? errdetail_internal("%s", words) : 0,
+			 is_capped && is_beyond_nodes(answer.fault) ?
+			 errhint("The setting bcs.max_nodes allows %u nodes here, and a superuser can change it.", refused->ask->nodes) : 0));
 	pg_unreachable();
 }
 
 void
-refuse(Question *question, bcs_answer answer)
+refuse(const Question *question, bcs_answer answer)
 {
-	const struct refused refused = {answer, &question->registry->handle, &question->ask, question->input, question->second};
+	const struct refused refused = {answer, &question->ask, question->input, question->second};
 
-	raise_refusal(&refused);
+	raise_refusal(&refused, question->is_capped);
 }
 
 void
@@ -144,5 +130,5 @@ refuse_registry(struct piece text, bcs_answer answer)
 {
 	const struct refused refused = {.answer = answer, .input = text};
 
-	raise_refusal(&refused);
+	raise_refusal(&refused, false);
 }

@@ -1,5 +1,6 @@
 /* Registries that are open in this process: each is read once, and then found by its text, or by its name in the table
- * bcs_registries. A backend has one thread, so one call at a time uses a handle. */
+ * bcs_registries. A function whose first argument is of the type text takes both, and one of the type json only the text of a
+ * registry: no change of the table changes its answers. Nothing here names an object by a search path, and no SQL is run. */
 #include "bcs_pg.h"
 
 #include "access/genam.h"
@@ -8,6 +9,7 @@
 #include "catalog/pg_type.h"
 #include "commands/trigger.h"
 #include "mb/pg_wchar.h"
+#include "miscadmin.h"
 #include "utils/builtins.h"
 #include "utils/fmgroids.h"
 #include "utils/inval.h"
@@ -25,12 +27,14 @@ static bool have_names_changed = false;
 /* What a call in a query keeps for its next row. */
 typedef struct Kept
 {
+	bool		takes_names;
+	bool		is_constant;	/* the argument is the same in all rows */
 	Registry   *registry;
 	uint64		number;
 } Kept;
 
 /* A name begins with a letter or _, which no JSON of a registry does. */
-static bool
+bool
 is_registry_name(struct piece text)
 {
 	return text.length > 0 && (isalpha(text.at[0]) || text.at[0] == '_') && !IS_HIGHBIT_SET(text.at[0]);
@@ -39,12 +43,12 @@ is_registry_name(struct piece text)
 static void
 close_registry(Registry *registry)
 {
-	bcs_close(&registry->handle);
+	bcs_close(registry->handle);
 	MemoryContextDelete(registry->context);
 	*registry = (Registry) {0};
 }
 
-/* A call may be using a registry when this comes, so it is noted alone. */
+/* A call may be using a registry when this comes, so this only takes a note. */
 static void
 note_change(Datum argument, Oid relation)
 {
@@ -66,12 +70,12 @@ close_changed_names(void)
 	have_names_changed = false;
 	for (int place = 0; place < MOST_OPEN; place++)
 	{
-		if (registries[place].number != 0 && is_registry_name(registries[place].text))
+		if (registries[place].number != 0 && registries[place].is_name)
 			close_registry(&registries[place]);
 	}
 }
 
-/* All processes are told of a change of the table when its transaction commits. */
+/* All processes learn of a change of the table when its transaction commits. */
 PG_FUNCTION_INFO_V1(bcs_pg_registries_changed);
 
 Datum
@@ -93,8 +97,8 @@ refuse_name(struct piece name)
 	pg_unreachable();
 }
 
-/* The text of a name in the table, which stands in the function's schema. The newest snapshot is used, as for a catalog: with
- * that of the query an older text could stay open after the change was told. */
+/* The text of a name in the table, which is in the function's schema. The newest snapshot is used, as for a catalog: with that of
+ * the query an older text could stay open after the change was reported. */
 static struct piece
 text_of_name(FunctionCallInfo fcinfo, struct piece name)
 {
@@ -128,17 +132,21 @@ text_of_name(FunctionCallInfo fcinfo, struct piece name)
 	return (struct piece) {(const uint8_t *) VARDATA(registry), VARSIZE(registry) - VARHDRSZ};
 }
 
-/* Opens a registry in a context of its own, which goes with the query's where something is refused. */
+/* Opens a registry in a context of its own, which is deleted with that of the query if there is an error. */
 static Registry
-open_registry(FunctionCallInfo fcinfo, struct piece text)
+open_registry(FunctionCallInfo fcinfo, struct piece text, bool is_name)
 {
-	const struct piece json = utf8_of(is_registry_name(text) ? text_of_name(fcinfo, text) : text);
-	Registry	registry = {.context = AllocSetContextCreate(CurrentMemoryContext, "bcs registry", ALLOCSET_DEFAULT_SIZES)};
+	const struct piece json = utf8_of(is_name ? text_of_name(fcinfo, text) : text);
+	Registry	registry = {
+		.context = AllocSetContextCreate(CurrentMemoryContext, "bcs registry", ALLOCSET_DEFAULT_SIZES),
+		.is_name = is_name,
+	};
 	MemoryContext outer = MemoryContextSwitchTo(registry.context);
 	char	   *kept = pnstrdup((const char *) text.at, text.length);
 	bcs_answer	answer = bcs_open(&registry.handle, json.at, json.length);
 
 	MemoryContextSwitchTo(outer);
+	CHECK_FOR_INTERRUPTS();
 	if (answer.status != BCS_DONE)
 		refuse_registry(json, answer);
 	registry.text = (struct piece) {(const uint8_t *) kept, text.length};
@@ -148,21 +156,21 @@ open_registry(FunctionCallInfo fcinfo, struct piece text)
 }
 
 static bool
-has_text(const Registry *registry, struct piece text)
+is_open(const Registry *registry, struct piece text, bool is_name)
 {
-	return registry->number != 0 && registry->text.length == text.length &&
+	return registry->number != 0 && registry->is_name == is_name && registry->text.length == text.length &&
 		memcmp(registry->text.at, text.at, text.length) == 0;
 }
 
-/* The place of a registry that is open, or else of one to open: an empty one, or of the one not used for longest. */
+/* The place of a registry that is open, or else the place for it: an empty one, or that of the one not used for longest. */
 static Registry *
-place_of(struct piece text)
+place_of(struct piece text, bool is_name)
 {
 	Registry   *oldest = &registries[0];
 
 	for (int place = 0; place < MOST_OPEN; place++)
 	{
-		if (has_text(&registries[place], text))
+		if (is_open(&registries[place], text, is_name))
 			return &registries[place];
 		if (registries[place].used < oldest->used)
 			oldest = &registries[place];
@@ -171,13 +179,13 @@ place_of(struct piece text)
 }
 
 static Registry *
-registry_of(FunctionCallInfo fcinfo, struct piece text)
+registry_of(FunctionCallInfo fcinfo, struct piece text, bool is_name)
 {
-	Registry   *registry = place_of(text);
+	Registry   *registry = place_of(text, is_name);
 
-	if (!has_text(registry, text))
+	if (!is_open(registry, text, is_name))
 	{
-		const Registry opened = open_registry(fcinfo, text);
+		const Registry opened = open_registry(fcinfo, text, is_name);
 
 		if (registry->number != 0)
 			close_registry(registry);
@@ -187,22 +195,39 @@ registry_of(FunctionCallInfo fcinfo, struct piece text)
 	return registry;
 }
 
-/* Where the argument is the same in all rows of a query, it is looked at once. */
-Registry *
+static Kept *
+kept_of_call(FunctionCallInfo fcinfo)
+{
+	FmgrInfo   *function = fcinfo->flinfo;
+	Oid		   *types;
+	int			count;
+	Kept	   *kept;
+
+	if (function->fn_extra == NULL)
+	{
+		(void) get_func_signature(function->fn_oid, &types, &count);
+		kept = MemoryContextAllocZero(function->fn_mcxt, sizeof *kept);
+		kept->takes_names = types[0] == TEXTOID;
+		kept->is_constant = get_fn_expr_arg_stable(function, 0);
+		function->fn_extra = kept;
+	}
+	return function->fn_extra;
+}
+
+/* If the argument is the same in all rows of a query, it is looked at once. */
+bcs_handle *
 registry_of_call(FunctionCallInfo fcinfo)
 {
-	Kept	   *kept = fcinfo->flinfo->fn_extra;
-	Registry   *registry;
+	Kept	   *kept = kept_of_call(fcinfo);
 
 	close_changed_names();
-	if (kept != NULL && kept->registry->number == kept->number)
-		registry = kept->registry;
-	else
-		registry = registry_of(fcinfo, argument(fcinfo, 0));
-	if (kept == NULL && get_fn_expr_arg_stable(fcinfo->flinfo, 0))
-		kept = fcinfo->flinfo->fn_extra = MemoryContextAlloc(fcinfo->flinfo->fn_mcxt, sizeof *kept);
-	if (kept != NULL)
-		*kept = (Kept) {registry, registry->number};
-	registry->used = ++uses;
-	return registry;
+	if (!kept->is_constant || kept->registry == NULL || kept->registry->number != kept->number)
+	{
+		const struct piece text = argument(fcinfo, 0);
+
+		kept->registry = registry_of(fcinfo, text, kept->takes_names && is_registry_name(text));
+		kept->number = kept->registry->number;
+	}
+	kept->registry->used = ++uses;
+	return kept->registry->handle;
 }

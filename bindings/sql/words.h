@@ -1,4 +1,4 @@
-/* What the functions of SQL have in common: their limits, the JSON of a format, and the words of a refusal. */
+/* What the functions of both databases share: limits, what a call is asked, and the text of a refusal. */
 #ifndef BCS_SQL_WORDS_H
 #define BCS_SQL_WORDS_H
 
@@ -6,81 +6,49 @@
 #include <stdbool.h>
 #include <string.h>
 
-/* The limits where a query names none. A few bytes can announce billions of nodes, and a million takes some 80 MB. The depth
-   is that of the deepest JSON text. */
-#define STANDARD_NODES 1000000
-#define STANDARD_DEPTH 100
-
-/* How many registries a process or a connection has open at once, and how much text is made for where a fault is. */
+/* How many registries a process or a connection keeps open, and the longest place of a refusal that is reported. */
 #define MOST_OPEN 16
 #define MOST_EXPLAINED ((size_t)16 << 20)
 
-/* With its ending zero. */
-#define NAME_ROOM 40
-
-/* Of the bytes of a text or of a value. */
+/* Bytes of a text or of a value. */
 struct piece {
     const uint8_t *at;
     size_t length;
 };
 
-/* The static library doesn't test it, and its first call would end the process by an illegal instruction. */
-static inline bool has_processor(void) {
-#if defined(__x86_64__)
-    __builtin_cpu_init();
-    return __builtin_cpu_supports("sse4.2") && __builtin_cpu_supports("popcnt");
-#else
-    return true;
-#endif
+/* What a call on an open registry is asked, apart from its input. The format is JSON. */
+struct ask {
+    bcs_handle *handle;
+    struct piece format;
+    uint32_t depth, nodes;
+};
+
+/* These stand for the parameters of a call. */
+#define PIECE(piece) (piece).at, (piece).length
+#define ASK(ask) (ask)->handle, PIECE((ask)->format), (ask)->depth, (ask)->nodes
+
+/* The JSON of a format: of the name of a container, or of JSON, which begins with { or ". Without an output it only counts. */
+static inline size_t write_format(struct piece format, char *out) {
+    const size_t length = bcs_format((const char *)format.at, format.length, NULL, 0);
+    return out == NULL ? length : bcs_format((const char *)format.at, format.length, (uint8_t *)out, length);
 }
 
-/* JSON begins with { or ", and any other text is a container's name. */
-static inline bool is_name(struct piece format) {
-    return format.length == 0 || (format.at[0] != '{' && format.at[0] != '"');
-}
-
-#define FORMAT_ROOM(name_length) (6 * (name_length) + sizeof "{\"TYPENAME\":\"\"}")
-
-/* Writes the JSON of a container's name, of FORMAT_ROOM bytes at most, and tells its length. */
-static inline size_t write_format(struct piece name, char *out) {
-    static const char digits[] = "0123456789abcdef";
-    const char *const begin = out;
-    out = (char *)memcpy(out, "{\"TYPENAME\":\"", 13) + 13;
-    for (size_t place = 0; place < name.length; place++) {
-        const uint8_t byte = name.at[place];
-        if (byte < 0x20) {
-            out = (char *)memcpy(out, "\\u00", 4) + 4;
-            *out++ = digits[byte >> 4];
-            *out++ = digits[byte & 15];
-            continue;
-        }
-        if (byte == '"' || byte == '\\') {
-            *out++ = '\\';
-        }
-        *out++ = (char)byte;
-    }
-    *out++ = '"';
-    *out++ = '}';
-    return (size_t)(out - begin);
-}
-
-static inline void name_fault(uint32_t fault, char name[NAME_ROOM]) {
-    const bcs_answer answer = bcs_fault_name(fault, (uint8_t *)name, NAME_ROOM - 1);
-    name[answer.status == BCS_DONE ? answer.length : 0] = '\0';
-}
-
-/* Whether it is of bytes, and has a place. */
+/* Whether bytes are refused, at a place. */
 static inline bool is_stop(bcs_answer answer) {
     return answer.status == BCS_REFUSED && answer.fault > 400 && answer.fault < 500;
 }
 
-/* Whether a limit of the call refuses the value. */
-static inline bool is_beyond_limits(uint32_t fault) {
-    return fault == BCS_STOP_TOO_MANY_NODES || fault == BCS_TEXT_TOO_MANY_NODES || fault == BCS_STOP_TOO_DEEP ||
-           fault == BCS_TEXT_TOO_DEEP || fault == BCS_SHOWN_TOO_NESTED;
+/* Whether the limit on nodes refuses the value, and whether any limit of the call does. */
+static inline bool is_beyond_nodes(uint32_t fault) {
+    return fault == BCS_STOP_TOO_MANY_NODES || fault == BCS_TEXT_TOO_MANY_NODES;
 }
 
-/* What stands before the fault's name. */
+static inline bool is_beyond_limits(uint32_t fault) {
+    return is_beyond_nodes(fault) || fault == BCS_STOP_TOO_DEEP || fault == BCS_TEXT_TOO_DEEP ||
+           fault == BCS_SHOWN_TOO_NESTED;
+}
+
+/* The words before the fault's name. */
 static inline const char *what_is_refused(bcs_answer answer) {
     switch (answer.status) {
         case BCS_REGISTRY:
@@ -94,13 +62,13 @@ static inline const char *what_is_refused(bcs_answer answer) {
     }
 }
 
-/* The verdict on the whole of the bytes by that on the value at their front. */
+/* The verdict on all bytes, from that on the value at their beginning. */
 static inline bcs_answer of_whole(bcs_answer front, size_t length) {
     const bcs_answer trailing = {BCS_REFUSED, BCS_STOP_TRAILING_BYTES, front.length, 0};
     return front.status == BCS_DONE && front.length < length ? trailing : front;
 }
 
-/* The number of a form of pieces by its word. */
+/* The number of a form of pieces, from its word. */
 static inline bool is_form(struct piece word, uint32_t *form) {
     static const char *const words[] = {"ways", "paths", "tree", "json"}; /* in the order of enum bcs_form */
     for (uint32_t number = 0; number < 4; number++) {
@@ -112,59 +80,48 @@ static inline bool is_form(struct piece word, uint32_t *form) {
     return false;
 }
 
-/* How much room there is at first for the pieces of bytes, which is often enough. */
+/* The first room for the pieces of bytes, which is often enough. */
 static inline size_t room_of_pieces(size_t length) {
     return length < MOST_EXPLAINED / 256 ? 256 * length + 4096 : MOST_EXPLAINED;
 }
 
-/* Whether it is asked for once more what is told of a refusal, with as much room as that needs. */
+/* Whether to ask again for the place of a refusal, with the room that it needs. */
 static inline bool is_to_ask_again(bcs_answer answer) {
     return answer.status == BCS_SHORT && answer.length <= MOST_EXPLAINED;
 }
 
-/* The last line of pieces in BCS_JSON, without its line feed: of damaged bytes it tells where they stop, and why. */
-static inline struct piece last_line(struct piece pieces) {
-    size_t end = pieces.length, begin;
-    while (end > 0 && pieces.at[end - 1] == '\n') {
-        end--;
-    }
-    begin = end;
-    while (begin > 0 && pieces.at[begin - 1] != '\n') {
-        begin--;
-    }
-    return (struct piece){pieces.at + begin, end - begin};
-}
-
-/* Whether the library tells where it is refused. */
+/* Whether the library reports the place of the refusal. */
 static inline bool is_placed(bcs_answer answer) {
     return answer.status == BCS_REGISTRY || (answer.status == BCS_REFUSED && answer.fault > 300 && answer.fault < 500);
 }
 
-/* What is refused: the text of a registry, bytes, or one of two texts, which are the same where a function has one. */
+/* A refusal: of the text of a registry, of bytes, or of one of two texts, which are the same if a function has only one. */
 struct refused {
     bcs_answer answer;
-    bcs_handle *handle; /* null for a registry */
-    const bcs_handle_ask *ask;
+    const struct ask *ask; /* null for a registry */
     struct piece input, second;
 };
 
-/* How much room there is at first for what is told of a place, which is often enough. */
+/* The first room for the place of a refusal, which is often enough. */
 #define PLACE_ROOM 500
 
-/* What the library tells of the place of what is refused, where it does: BCS_DONE, BCS_SHORT or BCS_MEMORY. */
+/* What the library reports about the place of a refusal: BCS_DONE, BCS_SHORT or BCS_MEMORY. */
 static inline bcs_answer tell_place(const struct refused *refused, uint32_t what, uint8_t *out, size_t room) {
-    const struct piece input = refused->input, second = refused->second;
     bcs_answer told;
     if (refused->answer.status == BCS_REGISTRY) {
-        return bcs_registry_place(what, input.at, input.length, out, room);
+        return bcs_registry_place(what, PIECE(refused->input), out, room);
     }
     if (is_stop(refused->answer)) {
-        return bcs_handle_stop_place(refused->handle, refused->ask, what, input.at, input.length, out, room);
+        return bcs_handle_stop_place(ASK(refused->ask), what, PIECE(refused->input), out, room);
     }
-    told = bcs_handle_text_place(refused->handle, refused->ask, what, input.at, input.length, out, room);
-    return told.status == BCS_NO
-               ? bcs_handle_text_place(refused->handle, refused->ask, what, second.at, second.length, out, room)
-               : told;
+    told = bcs_handle_text_place(ASK(refused->ask), what, PIECE(refused->input), out, room);
+    return told.status == BCS_NO ? bcs_handle_text_place(ASK(refused->ask), what, PIECE(refused->second), out, room) : told;
+}
+
+/* What the library reports of BCS_WANTED for bytes begins with "wanted ", and this returns the rest. */
+static inline const char *what_was_wanted(const char *words) {
+    const size_t length = strlen("wanted ");
+    return strncmp(words, "wanted ", length) == 0 ? words + length : words;
 }
 
 /* The character at the front of UTF-8, and how many bytes it has. */

@@ -59,5 +59,7 @@ SELECT bcs_encode_json('{}', '"STR"', '"a\u0000b"');
 SELECT told($$bcs_decode_json('{}', '"STR"', '\x0161')$$), told($$bcs_decode_json('{}', '"STR"', '\x01ff')$$);
 -- Values of some megabytes, and where one of them stops.
 SELECT length(bcs_decode_json('{}', '"BYTES"', '\x80808002'::bytea || decode(repeat('ab', 4194304), 'hex'))::text);
+SET bcs.max_nodes = -1;
 SELECT bcs_fault('{}', '{"SEQ":"BOOL"}', '\xc0843d'::bytea || decode(repeat('01', 999999) || '02', 'hex'), 2000000);
+RESET bcs.max_nodes;
 SELECT bcs_fault('{}', '{"SEQ":"BOOL"}', '\x904e'::bytea || decode(repeat('01', 9999) || '02', 'hex'));

@@ -38,11 +38,6 @@ INSERT INTO bcs_registries
     SELECT 'long', '{"A":{"STRUCT":[' || string_agg('{"' || md5(n::text) || '":"U8"}', ',' ORDER BY n) || ']}}'
     FROM generate_series(1, 5000) AS n;
 SELECT bcs_decode('long', 'A', decode(repeat('07', 5000), 'hex')) ->> md5('4999');
--- In another schema it is found, too; and with a search path of the user's.
-CREATE SCHEMA elsewhere;
-ALTER EXTENSION bcs SET SCHEMA elsewhere;
-SELECT elsewhere.bcs_is('payments', 'Payment', '\x03626f620700000000000000');
-ALTER EXTENSION bcs SET SCHEMA public;
 -- Anyone may use a registry, and its owner alone changes it.
 CREATE ROLE reader;
 SET ROLE reader;
@@ -52,3 +47,11 @@ RESET ROLE;
 DROP ROLE reader;
 TRUNCATE bcs_registries;
 SELECT told($$bcs_is('payments', 'Payment', '\x00')$$);
+-- In another schema a name is found as well, whatever the search path is.
+SET client_min_messages = warning;
+DROP EXTENSION bcs CASCADE;
+CREATE SCHEMA elsewhere;
+CREATE EXTENSION bcs SCHEMA elsewhere;
+INSERT INTO elsewhere.bcs_registries VALUES ('payments', payments());
+SELECT elsewhere.bcs_is('payments', 'Payment', '\x03626f620700000000000000');
+DROP EXTENSION bcs;
