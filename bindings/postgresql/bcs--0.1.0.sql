@@ -4,68 +4,68 @@
 
 -- With the text of a registry, which is of the type json. The arguments alone decide the answer.
 CREATE FUNCTION @extschema@.bcs_decode(registry pg_catalog.json, format pg_catalog.text, bytes pg_catalog.bytea,
-    nodes pg_catalog.int8 DEFAULT 65536, depth pg_catalog.int4 DEFAULT 100)
+    nodes pg_catalog.int8 DEFAULT 50000, depth pg_catalog.int4 DEFAULT 100)
     RETURNS pg_catalog.jsonb AS 'MODULE_PATHNAME', 'bcs_pg_decode'
     LANGUAGE C IMMUTABLE STRICT PARALLEL SAFE COST 200;
 CREATE FUNCTION @extschema@.bcs_decode_json(registry pg_catalog.json, format pg_catalog.text, bytes pg_catalog.bytea,
-    nodes pg_catalog.int8 DEFAULT 65536, depth pg_catalog.int4 DEFAULT 100)
+    nodes pg_catalog.int8 DEFAULT 50000, depth pg_catalog.int4 DEFAULT 100)
     RETURNS pg_catalog.json AS 'MODULE_PATHNAME', 'bcs_pg_decode_json'
     LANGUAGE C IMMUTABLE STRICT PARALLEL SAFE COST 100;
 CREATE FUNCTION @extschema@.bcs_encode(registry pg_catalog.json, format pg_catalog.text, value pg_catalog.jsonb,
-    nodes pg_catalog.int8 DEFAULT 65536, depth pg_catalog.int4 DEFAULT 100)
+    nodes pg_catalog.int8 DEFAULT 50000, depth pg_catalog.int4 DEFAULT 100)
     RETURNS pg_catalog.bytea AS 'MODULE_PATHNAME', 'bcs_pg_encode'
     LANGUAGE C IMMUTABLE STRICT PARALLEL SAFE COST 100;
 CREATE FUNCTION @extschema@.bcs_encode_json(registry pg_catalog.json, format pg_catalog.text, value pg_catalog.json,
-    nodes pg_catalog.int8 DEFAULT 65536, depth pg_catalog.int4 DEFAULT 100)
+    nodes pg_catalog.int8 DEFAULT 50000, depth pg_catalog.int4 DEFAULT 100)
     RETURNS pg_catalog.bytea AS 'MODULE_PATHNAME', 'bcs_pg_encode_json'
     LANGUAGE C IMMUTABLE STRICT PARALLEL SAFE COST 100;
 CREATE FUNCTION @extschema@.bcs_encode_json(registry pg_catalog.json, format pg_catalog.text, value pg_catalog.text,
-    nodes pg_catalog.int8 DEFAULT 65536, depth pg_catalog.int4 DEFAULT 100)
+    nodes pg_catalog.int8 DEFAULT 50000, depth pg_catalog.int4 DEFAULT 100)
     RETURNS pg_catalog.bytea AS 'MODULE_PATHNAME', 'bcs_pg_encode_json'
     LANGUAGE C IMMUTABLE STRICT PARALLEL SAFE COST 100;
 CREATE FUNCTION @extschema@.bcs_normalise(registry pg_catalog.json, format pg_catalog.text, value pg_catalog.json,
-    nodes pg_catalog.int8 DEFAULT 65536, depth pg_catalog.int4 DEFAULT 100)
+    nodes pg_catalog.int8 DEFAULT 50000, depth pg_catalog.int4 DEFAULT 100)
     RETURNS pg_catalog.json AS 'MODULE_PATHNAME', 'bcs_pg_normalise'
     LANGUAGE C IMMUTABLE STRICT PARALLEL SAFE COST 200;
 CREATE FUNCTION @extschema@.bcs_normalise(registry pg_catalog.json, format pg_catalog.text, value pg_catalog.text,
-    nodes pg_catalog.int8 DEFAULT 65536, depth pg_catalog.int4 DEFAULT 100)
+    nodes pg_catalog.int8 DEFAULT 50000, depth pg_catalog.int4 DEFAULT 100)
     RETURNS pg_catalog.json AS 'MODULE_PATHNAME', 'bcs_pg_normalise'
     LANGUAGE C IMMUTABLE STRICT PARALLEL SAFE COST 200;
 CREATE FUNCTION @extschema@.bcs_equal(registry pg_catalog.json, format pg_catalog.text,
     one pg_catalog.json, other pg_catalog.json,
-    nodes pg_catalog.int8 DEFAULT 65536, depth pg_catalog.int4 DEFAULT 100)
+    nodes pg_catalog.int8 DEFAULT 50000, depth pg_catalog.int4 DEFAULT 100)
     RETURNS pg_catalog.bool AS 'MODULE_PATHNAME', 'bcs_pg_equal'
     LANGUAGE C IMMUTABLE STRICT PARALLEL SAFE COST 200;
 CREATE FUNCTION @extschema@.bcs_equal(registry pg_catalog.json, format pg_catalog.text,
     one pg_catalog.text, other pg_catalog.text,
-    nodes pg_catalog.int8 DEFAULT 65536, depth pg_catalog.int4 DEFAULT 100)
+    nodes pg_catalog.int8 DEFAULT 50000, depth pg_catalog.int4 DEFAULT 100)
     RETURNS pg_catalog.bool AS 'MODULE_PATHNAME', 'bcs_pg_equal'
     LANGUAGE C IMMUTABLE STRICT PARALLEL SAFE COST 200;
 CREATE FUNCTION @extschema@.bcs_is(registry pg_catalog.json, format pg_catalog.text, bytes pg_catalog.bytea,
-    nodes pg_catalog.int8 DEFAULT 65536, depth pg_catalog.int4 DEFAULT 100)
+    nodes pg_catalog.int8 DEFAULT 50000, depth pg_catalog.int4 DEFAULT 100)
     RETURNS pg_catalog.bool AS 'MODULE_PATHNAME', 'bcs_pg_is'
     LANGUAGE C IMMUTABLE STRICT PARALLEL SAFE COST 20;
 CREATE FUNCTION @extschema@.bcs_fault(registry pg_catalog.json, format pg_catalog.text, bytes pg_catalog.bytea,
-    nodes pg_catalog.int8 DEFAULT 65536, depth pg_catalog.int4 DEFAULT 100)
+    nodes pg_catalog.int8 DEFAULT 50000, depth pg_catalog.int4 DEFAULT 100)
     RETURNS pg_catalog.jsonb AS 'MODULE_PATHNAME', 'bcs_pg_fault'
     LANGUAGE C IMMUTABLE STRICT PARALLEL SAFE COST 60;
 CREATE FUNCTION @extschema@.bcs_scan(registry pg_catalog.json, format pg_catalog.text, bytes pg_catalog.bytea,
-    nodes pg_catalog.int8 DEFAULT 65536, depth pg_catalog.int4 DEFAULT 100)
+    nodes pg_catalog.int8 DEFAULT 50000, depth pg_catalog.int4 DEFAULT 100)
     RETURNS pg_catalog.int8 AS 'MODULE_PATHNAME', 'bcs_pg_scan'
     LANGUAGE C IMMUTABLE STRICT PARALLEL SAFE COST 20;
 CREATE FUNCTION @extschema@.bcs_part(registry pg_catalog.json, format pg_catalog.text,
     bytes pg_catalog.bytea, path pg_catalog.text,
-    nodes pg_catalog.int8 DEFAULT 65536, depth pg_catalog.int4 DEFAULT 100)
+    nodes pg_catalog.int8 DEFAULT 50000, depth pg_catalog.int4 DEFAULT 100)
     RETURNS pg_catalog.bytea AS 'MODULE_PATHNAME', 'bcs_pg_part'
     LANGUAGE C IMMUTABLE STRICT PARALLEL SAFE COST 20;
 CREATE FUNCTION @extschema@.bcs_part_place(registry pg_catalog.json, format pg_catalog.text,
     bytes pg_catalog.bytea, path pg_catalog.text,
-    nodes pg_catalog.int8 DEFAULT 65536, depth pg_catalog.int4 DEFAULT 100)
+    nodes pg_catalog.int8 DEFAULT 50000, depth pg_catalog.int4 DEFAULT 100)
     RETURNS pg_catalog.int8 AS 'MODULE_PATHNAME', 'bcs_pg_part_place'
     LANGUAGE C IMMUTABLE STRICT PARALLEL SAFE COST 20;
 CREATE FUNCTION @extschema@.bcs_explain(registry pg_catalog.json, format pg_catalog.text,
     bytes pg_catalog.bytea, form pg_catalog.text DEFAULT 'ways'::pg_catalog.text,
-    nodes pg_catalog.int8 DEFAULT 4096, depth pg_catalog.int4 DEFAULT 100)
+    nodes pg_catalog.int8 DEFAULT 3125, depth pg_catalog.int4 DEFAULT 100)
     RETURNS pg_catalog.text AS 'MODULE_PATHNAME', 'bcs_pg_explain'
     LANGUAGE C IMMUTABLE STRICT PARALLEL SAFE COST 500;
 
@@ -75,68 +75,68 @@ CREATE FUNCTION @extschema@.bcs_support(pg_catalog.internal)
     RETURNS pg_catalog.internal AS 'MODULE_PATHNAME', 'bcs_pg_support'
     LANGUAGE C STRICT;
 CREATE FUNCTION @extschema@.bcs_decode(registry pg_catalog.text, format pg_catalog.text, bytes pg_catalog.bytea,
-    nodes pg_catalog.int8 DEFAULT 65536, depth pg_catalog.int4 DEFAULT 100)
+    nodes pg_catalog.int8 DEFAULT 50000, depth pg_catalog.int4 DEFAULT 100)
     RETURNS pg_catalog.jsonb AS 'MODULE_PATHNAME', 'bcs_pg_decode'
     LANGUAGE C STABLE SUPPORT @extschema@.bcs_support STRICT PARALLEL SAFE COST 200;
 CREATE FUNCTION @extschema@.bcs_decode_json(registry pg_catalog.text, format pg_catalog.text, bytes pg_catalog.bytea,
-    nodes pg_catalog.int8 DEFAULT 65536, depth pg_catalog.int4 DEFAULT 100)
+    nodes pg_catalog.int8 DEFAULT 50000, depth pg_catalog.int4 DEFAULT 100)
     RETURNS pg_catalog.json AS 'MODULE_PATHNAME', 'bcs_pg_decode_json'
     LANGUAGE C STABLE SUPPORT @extschema@.bcs_support STRICT PARALLEL SAFE COST 100;
 CREATE FUNCTION @extschema@.bcs_encode(registry pg_catalog.text, format pg_catalog.text, value pg_catalog.jsonb,
-    nodes pg_catalog.int8 DEFAULT 65536, depth pg_catalog.int4 DEFAULT 100)
+    nodes pg_catalog.int8 DEFAULT 50000, depth pg_catalog.int4 DEFAULT 100)
     RETURNS pg_catalog.bytea AS 'MODULE_PATHNAME', 'bcs_pg_encode'
     LANGUAGE C STABLE SUPPORT @extschema@.bcs_support STRICT PARALLEL SAFE COST 100;
 CREATE FUNCTION @extschema@.bcs_encode_json(registry pg_catalog.text, format pg_catalog.text, value pg_catalog.json,
-    nodes pg_catalog.int8 DEFAULT 65536, depth pg_catalog.int4 DEFAULT 100)
+    nodes pg_catalog.int8 DEFAULT 50000, depth pg_catalog.int4 DEFAULT 100)
     RETURNS pg_catalog.bytea AS 'MODULE_PATHNAME', 'bcs_pg_encode_json'
     LANGUAGE C STABLE SUPPORT @extschema@.bcs_support STRICT PARALLEL SAFE COST 100;
 CREATE FUNCTION @extschema@.bcs_encode_json(registry pg_catalog.text, format pg_catalog.text, value pg_catalog.text,
-    nodes pg_catalog.int8 DEFAULT 65536, depth pg_catalog.int4 DEFAULT 100)
+    nodes pg_catalog.int8 DEFAULT 50000, depth pg_catalog.int4 DEFAULT 100)
     RETURNS pg_catalog.bytea AS 'MODULE_PATHNAME', 'bcs_pg_encode_json'
     LANGUAGE C STABLE SUPPORT @extschema@.bcs_support STRICT PARALLEL SAFE COST 100;
 CREATE FUNCTION @extschema@.bcs_normalise(registry pg_catalog.text, format pg_catalog.text, value pg_catalog.json,
-    nodes pg_catalog.int8 DEFAULT 65536, depth pg_catalog.int4 DEFAULT 100)
+    nodes pg_catalog.int8 DEFAULT 50000, depth pg_catalog.int4 DEFAULT 100)
     RETURNS pg_catalog.json AS 'MODULE_PATHNAME', 'bcs_pg_normalise'
     LANGUAGE C STABLE SUPPORT @extschema@.bcs_support STRICT PARALLEL SAFE COST 200;
 CREATE FUNCTION @extschema@.bcs_normalise(registry pg_catalog.text, format pg_catalog.text, value pg_catalog.text,
-    nodes pg_catalog.int8 DEFAULT 65536, depth pg_catalog.int4 DEFAULT 100)
+    nodes pg_catalog.int8 DEFAULT 50000, depth pg_catalog.int4 DEFAULT 100)
     RETURNS pg_catalog.json AS 'MODULE_PATHNAME', 'bcs_pg_normalise'
     LANGUAGE C STABLE SUPPORT @extschema@.bcs_support STRICT PARALLEL SAFE COST 200;
 CREATE FUNCTION @extschema@.bcs_equal(registry pg_catalog.text, format pg_catalog.text,
     one pg_catalog.json, other pg_catalog.json,
-    nodes pg_catalog.int8 DEFAULT 65536, depth pg_catalog.int4 DEFAULT 100)
+    nodes pg_catalog.int8 DEFAULT 50000, depth pg_catalog.int4 DEFAULT 100)
     RETURNS pg_catalog.bool AS 'MODULE_PATHNAME', 'bcs_pg_equal'
     LANGUAGE C STABLE SUPPORT @extschema@.bcs_support STRICT PARALLEL SAFE COST 200;
 CREATE FUNCTION @extschema@.bcs_equal(registry pg_catalog.text, format pg_catalog.text,
     one pg_catalog.text, other pg_catalog.text,
-    nodes pg_catalog.int8 DEFAULT 65536, depth pg_catalog.int4 DEFAULT 100)
+    nodes pg_catalog.int8 DEFAULT 50000, depth pg_catalog.int4 DEFAULT 100)
     RETURNS pg_catalog.bool AS 'MODULE_PATHNAME', 'bcs_pg_equal'
     LANGUAGE C STABLE SUPPORT @extschema@.bcs_support STRICT PARALLEL SAFE COST 200;
 CREATE FUNCTION @extschema@.bcs_is(registry pg_catalog.text, format pg_catalog.text, bytes pg_catalog.bytea,
-    nodes pg_catalog.int8 DEFAULT 65536, depth pg_catalog.int4 DEFAULT 100)
+    nodes pg_catalog.int8 DEFAULT 50000, depth pg_catalog.int4 DEFAULT 100)
     RETURNS pg_catalog.bool AS 'MODULE_PATHNAME', 'bcs_pg_is'
     LANGUAGE C STABLE SUPPORT @extschema@.bcs_support STRICT PARALLEL SAFE COST 20;
 CREATE FUNCTION @extschema@.bcs_fault(registry pg_catalog.text, format pg_catalog.text, bytes pg_catalog.bytea,
-    nodes pg_catalog.int8 DEFAULT 65536, depth pg_catalog.int4 DEFAULT 100)
+    nodes pg_catalog.int8 DEFAULT 50000, depth pg_catalog.int4 DEFAULT 100)
     RETURNS pg_catalog.jsonb AS 'MODULE_PATHNAME', 'bcs_pg_fault'
     LANGUAGE C STABLE SUPPORT @extschema@.bcs_support STRICT PARALLEL SAFE COST 60;
 CREATE FUNCTION @extschema@.bcs_scan(registry pg_catalog.text, format pg_catalog.text, bytes pg_catalog.bytea,
-    nodes pg_catalog.int8 DEFAULT 65536, depth pg_catalog.int4 DEFAULT 100)
+    nodes pg_catalog.int8 DEFAULT 50000, depth pg_catalog.int4 DEFAULT 100)
     RETURNS pg_catalog.int8 AS 'MODULE_PATHNAME', 'bcs_pg_scan'
     LANGUAGE C STABLE SUPPORT @extschema@.bcs_support STRICT PARALLEL SAFE COST 20;
 CREATE FUNCTION @extschema@.bcs_part(registry pg_catalog.text, format pg_catalog.text,
     bytes pg_catalog.bytea, path pg_catalog.text,
-    nodes pg_catalog.int8 DEFAULT 65536, depth pg_catalog.int4 DEFAULT 100)
+    nodes pg_catalog.int8 DEFAULT 50000, depth pg_catalog.int4 DEFAULT 100)
     RETURNS pg_catalog.bytea AS 'MODULE_PATHNAME', 'bcs_pg_part'
     LANGUAGE C STABLE SUPPORT @extschema@.bcs_support STRICT PARALLEL SAFE COST 20;
 CREATE FUNCTION @extschema@.bcs_part_place(registry pg_catalog.text, format pg_catalog.text,
     bytes pg_catalog.bytea, path pg_catalog.text,
-    nodes pg_catalog.int8 DEFAULT 65536, depth pg_catalog.int4 DEFAULT 100)
+    nodes pg_catalog.int8 DEFAULT 50000, depth pg_catalog.int4 DEFAULT 100)
     RETURNS pg_catalog.int8 AS 'MODULE_PATHNAME', 'bcs_pg_part_place'
     LANGUAGE C STABLE SUPPORT @extschema@.bcs_support STRICT PARALLEL SAFE COST 20;
 CREATE FUNCTION @extschema@.bcs_explain(registry pg_catalog.text, format pg_catalog.text,
     bytes pg_catalog.bytea, form pg_catalog.text DEFAULT 'ways'::pg_catalog.text,
-    nodes pg_catalog.int8 DEFAULT 4096, depth pg_catalog.int4 DEFAULT 100)
+    nodes pg_catalog.int8 DEFAULT 3125, depth pg_catalog.int4 DEFAULT 100)
     RETURNS pg_catalog.text AS 'MODULE_PATHNAME', 'bcs_pg_explain'
     LANGUAGE C STABLE SUPPORT @extschema@.bcs_support STRICT PARALLEL SAFE COST 500;
 

@@ -11,7 +11,7 @@
 #include "utils/jsonb.h"
 
 /* bcs.max_nodes. With its default, which is also that of the argument nodes, no call takes 50 ms for its nodes: see README.md. */
-#define STANDARD_MAX_NODES 65536
+#define STANDARD_MAX_NODES 50000
 static int	max_nodes = STANDARD_MAX_NODES;
 
 void

@@ -75,6 +75,7 @@ class Postgresql:
         self.database.autocommit = True
         self.cursor = self.database.cursor()
         self.cursor.execute("set max_stack_depth = '7MB'")
+        self.cursor.execute("set bcs.max_nodes = -1")
 
     def text(self, data):
         try:
@@ -149,10 +150,10 @@ class Calls:
         return "-", place, len(data), b""
 
     def explain(self, *question):
-        """The text, and of damage the fault and its place, which bcs_fault has to tell as the text does."""
+        """The text, and of damage the fault and its place, which bcs_fault has to report as the text does, but for the path."""
         text = self.ask("bcs_explain(?, ?, ?, ?, ?, ?)", *question)
         lines = self.ask("bcs_explain(?, ?, ?, ?, ?, ?)", *question[:4], "json").splitlines()
-        last = json.loads(lines[-1])
+        last = {name: member for name, member in json.loads(lines[-1]).items() if name != "path"}
         fault = self.ask("cast(bcs_fault(?, ?, ?, ?, ?) as text)", *question[:4])
         if (json.loads(fault) if fault else None) != (last if "refused" in last else None):
             raise SystemExit(f"driver: bcs_fault tells {fault}, and bcs_explain {last}")

@@ -3,6 +3,7 @@ memory over many calls; and databases of other encodings. The variables PGHOST a
 extension isn't in its databases yet."""
 
 import contextlib
+import json
 import os
 import pathlib
 import re
@@ -117,10 +118,11 @@ class Names(Database):
         self.assertEqual(refusal(self.other, self.decoded), ("22023", "bcs: no registry is called payments"))
 
     def test_dump(self):
-        """With the names, and an index that uses one."""
+        """With the names, an index that uses a text, and a view that uses a name."""
         run(self.session, "create table transfers (bytes bytea)")
         run(self.session, f"insert into transfers values ('{PAYMENT}')")
-        run(self.session, "create index by_name on transfers ((bcs_decode('payments', 'Payment', bytes) ->> 'to'))")
+        run(self.session, "create index by_text on transfers ((bcs_decode(%s, 'Payment', bytes) ->> 'to'))", PAYMENTS)
+        run(self.session, "create view named as select bcs_decode('payments', 'Payment', bytes) ->> 'to' as recipient from transfers")
         dump = subprocess.run(["pg_dump", self.name], check=True, capture_output=True).stdout
         server = connect("postgres")
         run(server, "drop database if exists restored")
@@ -131,12 +133,19 @@ class Names(Database):
         restored = connect("restored")
         self.addCleanup(restored.close)
         run(restored, "set enable_seqscan = off")
-        found = "select count(*) from transfers where bcs_decode('payments', 'Payment', bytes) ->> 'to' = 'bob'"
-        self.assertEqual(value(restored, found), 1)
+        found = "select count(*) from transfers where bcs_decode(%s, 'Payment', bytes) ->> 'to' = 'bob'"
+        plan = json.dumps(value(restored, "explain (format json) " + found, PAYMENTS))
+        self.assertIn("by_text", plan)
+        self.assertEqual(value(restored, found, PAYMENTS), 1)
+        self.assertEqual(value(restored, "select recipient from named"), "bob")
         self.assertEqual(value(restored, self.decoded), '{"amount":"7","to":"bob"}')
 
 
 class Cancelling(Database):
+    def setUp(self):
+        super().setUp()
+        run(self.session, "set bcs.max_nodes = -1")
+
     def test_timeout(self):
         run(self.session, "set statement_timeout = 300")
         start = time.monotonic()
@@ -159,6 +168,10 @@ class Cancelling(Database):
 
 
 class Memory(Database):
+    def setUp(self):
+        super().setUp()
+        run(self.session, "set bcs.max_nodes = -1")
+
     def test_want_of_memory(self):
         """The error tells it, and the session goes on."""
         pid = value(self.session, "select pg_backend_pid()")

@@ -1,0 +1,199 @@
+"""The owner of a database plants functions, operators and types that the extension might call by mistake, and a superuser then
+uses the extension. Nothing that was planted may run, and the owner may gain no right. PGHOST and PGUSER name the server."""
+
+import unittest
+
+import psycopg2
+from sessions import PAYMENT, PAYMENTS, connect, refusal, run, value
+
+# Types of the arguments of planted functions: each fits a call of the extension's functions in some way.
+SIGNATURES = [
+    "text, text, text", "text, text, bytea", "text, text, bytea, int4", "text, text, bytea, int8", "text, text, bytea, int4, int4",
+    "text, text, json", "text, text, jsonb", "json, text, text", "json, text, bytea", "json, json, json", "jsonb, text, bytea",
+    "varchar, varchar, varchar", "name, name, name", "text, name, bytea", "text, text, text, text", "text, text, bytea, text",
+    "text, text, bytea, text, int4, int4", "anyelement, anyelement, anyelement", "anyelement, text, bytea",
+    "anynonarray, anynonarray, bytea", "VARIADIC text[]", "text, VARIADIC text[]", "regclass, text", "text, text", "name, text",
+    "regclass, unknown_text", "text", "regclass", "internal",
+]
+OPERATORS = ["~", "=", "<>", "->>", "||", "~~", "<", "@>"]
+OPERANDS = ["text, text", "text, varchar", "varchar, text", "name, text", "text, name", "text, bpchar", "json, text", "jsonb, text",
+            "anyelement, anyelement", "anyelement, text", "text, unknown_text"]
+TYPES = ["text", "bytea", "json", "jsonb", "int4", "int8", "bool", "regclass", "trigger", "internal"]
+
+PLANTING = """
+create schema evil;
+create table evil.ran (what pg_catalog.text);
+grant all on schema evil to public;
+grant all on evil.ran to public;
+create domain evil.unknown_text as pg_catalog.text;
+create function evil.gain(what pg_catalog.text) returns boolean language plpgsql as $$ begin
+    insert into evil.ran values (what);
+    begin
+        alter role mallory superuser;
+    exception when insufficient_privilege then
+    end;
+    return true;
+end $$;
+"""
+
+
+def planted(session, statement):
+    """Whether the server accepts a planted object. It refuses some, such as a function of `internal`."""
+    try:
+        run(session, statement)
+        return True
+    except psycopg2.Error:
+        return False
+
+
+def plant(session, names):
+    """Returns how many objects were planted. Those of types come last, since they would hide the types of the others."""
+    run(session, PLANTING)
+    count = 0
+    gain = "language plpgsql as $$ begin perform evil.gain('%s'); return true; end $$"
+    for schema in ["public", "evil"]:
+        run(session, "set search_path = pg_catalog, evil")
+        for name in names:
+            for types in SIGNATURES:
+                head = f'create function {schema}."{name}"({types}) returns boolean '
+                count += planted(session, head + gain % f"{name}({types})")
+        count += planted(session, f"create function {schema}.operate(text, text) returns boolean " + gain % "operate")
+        for types in OPERANDS:
+            planted(session, f"create function {schema}.operate({types}) returns boolean " + gain % f"operate({types})")
+            for operator in OPERATORS:
+                left, right = types.split(", ")
+                words = f"function = {schema}.operate, leftarg = {left}, rightarg = {right}"
+                count += planted(session, f"create operator {schema}.{operator} ({words})")
+        for name in TYPES:
+            check = f"check (evil.gain('type {name}'))"
+            count += planted(session, f'create domain {schema}."{name}" as pg_catalog.text {check}')
+    return count
+
+
+class Rights(unittest.TestCase):
+    """A server with the role `mallory`, who owns a database and no more."""
+
+    def setUp(self):
+        self.server = connect("postgres")
+        self.addCleanup(self.server.close)
+        self.addCleanup(self.forget)
+        self.forget()
+        run(self.server, "create role mallory login")
+        run(self.server, "create database attacked owner mallory")
+        run(self.server, "create database rights")
+        before = connect("rights")
+        run(before, "create extension bcs")
+        names = "select array_agg(distinct proname::text) from pg_proc, pg_depend where objid = pg_proc.oid and deptype = 'e' " \
+                "and classid = 'pg_proc'::regclass and refobjid = (select oid from pg_extension where extname = 'bcs')"
+        self.names = value(before, names) + ["pg_extension_config_dump", "int8", "int4", "text", "bytea", "json", "textregexeq"]
+        before.close()
+
+    def forget(self):
+        for name in ["attacked", "rights"]:
+            run(self.server, f"drop database if exists {name}")
+        run(self.server, "drop role if exists mallory")
+
+    def mallory(self):
+        session = psycopg2.connect(dbname="attacked", user="mallory")
+        session.autocommit = True
+        self.addCleanup(session.close)
+        return session
+
+    def superuser(self):
+        session = connect("attacked")
+        self.addCleanup(session.close)
+        return session
+
+    def use(self, schema, owner):
+        """What a superuser does, where each argument has its type."""
+        session = self.superuser()
+        run(session, f"insert into {schema}.bcs_registries values ('payments', %s)", PAYMENTS)
+        run(session, f"update {schema}.bcs_registries set registry = registry")
+        self.check_harmless(owner)
+        typed = "'{}'::pg_catalog.{}".format
+        for registry in [typed("payments", "text"), typed(PAYMENTS, "text"), typed(PAYMENTS, "json")]:
+            front = f"{registry}, {typed('Payment', 'text')}, "
+            limits = f", {typed(1000, 'int8')}, {typed(100, 'int4')})"
+            data = typed(PAYMENT, "bytea")
+            self.assertIs(value(session, f"select {schema}.bcs_is({front}{data}{limits}"), True)
+            self.assertEqual(value(session, f"select {schema}.bcs_scan({front}{data}{limits}"), 12)
+            self.assertEqual(value(session, f"select {schema}.bcs_decode({front}{data}{limits}"), {"to": "bob", "amount": "7"})
+            text = typed('{"to":"bob","amount":7}', "text")
+            self.assertEqual(bytes(value(session, f"select {schema}.bcs_encode_json({front}{text}{limits}")).hex(), PAYMENT[2:])
+        self.assertEqual(refusal(session, f"insert into {schema}.bcs_registries values ('bad', '7')")[0], "23514")
+        run(session, f"delete from {schema}.bcs_registries")
+        run(session, f"truncate {schema}.bcs_registries")
+        run(session, "drop extension bcs")
+        self.check_harmless(owner)
+
+    def check_harmless(self, owner):
+        self.assertIs(value(self.server, "select rolsuper from pg_roles where rolname = 'mallory'"), False)
+        self.assertEqual(value(owner, "select coalesce(array_agg(distinct what), '{}') from evil.ran"), [])
+
+    def test_planted_objects(self):
+        """Created where the search path leads, which is mallory's schema, in `public`, and in a schema of the superuser's."""
+        owner = self.mallory()
+        run(owner, "alter database attacked set search_path = evil, public, pg_catalog")
+        count = plant(owner, self.names)
+        self.assertGreater(count, 500)
+        owner = self.mallory()
+        run(owner, "set search_path = pg_catalog")
+        for schema, clause in [("evil", ""), ("public", "schema public"), ("own", "schema own")]:
+            with self.subTest(schema=schema):
+                run(self.superuser(), "create schema if not exists own")
+                run(self.superuser(), f"create extension bcs {clause}")
+                self.check_harmless(owner)
+                self.use(schema, owner)
+        self.assertIs(value(self.superuser(), "select evil.gain('the test itself'::pg_catalog.text)"), True)
+        self.assertIs(value(self.server, "select rolsuper from pg_roles where rolname = 'mallory'"), True)
+
+    def test_one_overload(self):
+        """An overload that fits untyped literals better than the extension's function does."""
+        owner = self.mallory()
+        run(owner, PLANTING)
+        run(owner, "create function public.bcs_is(text, text, text) returns boolean language sql as $$ select evil.gain('is') $$")
+        run(self.superuser(), "create extension bcs")
+        self.use("public", owner)
+
+    def test_objects_of_the_extension(self):
+        """The owner of the schema can neither replace them, nor drop them alone, nor write to the table."""
+        owner, session = self.mallory(), self.superuser()
+        run(session, "create extension bcs")
+        run(session, "insert into bcs_registries values ('payments', %s)", PAYMENTS)
+        head = "create or replace function bcs_is(registry text, format text, bytes bytea, nodes int8 default 1, depth int4 default 1)"
+        for statement, state in [
+            (head + " returns boolean language sql as 'select true'", "42501"),
+            ("drop function bcs_is(text, text, bytea, int8, int4)", "2BP01"),
+            ("alter function bcs_is(text, text, bytea, int8, int4) rename to other", "42501"),
+            ("alter function bcs_is(text, text, bytea, int8, int4) immutable", "42501"),
+            ("insert into bcs_registries values ('other', '{}')", "42501"),
+            ("update bcs_registries set registry = '{}'", "42501"),
+            ("create trigger mine after insert on bcs_registries execute function bcs_registries_changed()", "42501"),
+            ("create rule mine as on insert to bcs_registries do instead nothing", "42501"),
+            ("alter table bcs_registries disable trigger changed", "42501"),
+        ]:
+            self.assertEqual((statement, refusal(owner, statement)[0]), (statement, state))
+
+    def test_setting(self):
+        """Nobody but a superuser raises bcs.max_nodes: not before the library is loaded, and not for a role or the database."""
+        run(self.superuser(), "create extension bcs")
+        bomb = """select bcs_scan('{}', '{"SEQ":"UNIT"}', '\\xffffff07', 4294967295)"""
+        for statement in [
+            "set bcs.max_nodes = -1",
+            "alter role mallory set bcs.max_nodes = -1",
+            "alter database attacked set bcs.max_nodes = -1",
+            "select set_config('bcs.max_nodes', '-1', false)",
+        ]:
+            session = self.mallory()
+            refusal(session, statement)
+            self.assertEqual((statement, refusal(session, bomb)[0]), (statement, "54000"))
+            self.assertEqual((statement, refusal(session, statement)[0]), (statement, "42501"))
+            again = self.mallory()
+            self.assertEqual((statement, refusal(again, bomb)[0]), (statement, "54000"))
+        session = self.superuser()
+        run(session, "set bcs.max_nodes = -1")
+        self.assertEqual(value(session, bomb), 4)
+
+
+if __name__ == "__main__":
+    unittest.main()
