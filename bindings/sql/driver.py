@@ -33,8 +33,12 @@ def refusal(message):
     return Answered(STATUSES.get(found[1], "refused"), found[2], place or "0", "0", "")
 
 
+class NoUnicode(bytes):
+    """A text that isn't UTF-8."""
+
+
 class Sqlite:
-    """What is no Unicode goes as a BLOB."""
+    """A text may have any bytes there, and Python gives it those of a BLOB."""
 
     encode, decode = "bcs_encode(?, ?, ?, ?, ?)", "bcs_decode(?, ?, ?, ?, ?)"
 
@@ -50,12 +54,16 @@ class Sqlite:
         try:
             return data.decode()
         except UnicodeDecodeError:
-            return data
+            return NoUnicode(data)
 
     def registry(self, data):
         return self.text(data)
 
     def value(self, expression, *arguments):
+        for place, argument in reversed(list(enumerate(arguments))):
+            if isinstance(argument, NoUnicode):
+                parts = expression.split("?")
+                expression = "?".join(parts[: place + 1]) + "cast(? as text)" + "?".join(parts[place + 1 :])
         try:
             return self.database.execute(f"select {expression}", arguments).fetchone()[0]
         except self.error as fault:

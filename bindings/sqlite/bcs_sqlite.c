@@ -1,8 +1,8 @@
-/* SQLite's functions over the proved calls of bcs.h: chain bytes (BCS) as JSON, and back. README.md says what each gives, and
-   `build` makes it. What stands here isn't proved.
+/* SQLite's functions over the proved calls of bcs.h: chain bytes (BCS) as JSON, and back. README.md describes them, and `build`
+   compiles this code, which isn't proved.
 
    All memory is SQLite's, also that of the proved code, so that the limits of its heap count it. A connection keeps the
-   registries that it used last open, by their texts. It is used by one thread at a time, and so is what it keeps. */
+   registries that it used last open, by their texts. One thread at a time uses it. */
 #include "bcs_sqlite.h"
 SQLITE_EXTENSION_INIT1
 
@@ -11,45 +11,40 @@ SQLITE_EXTENSION_INIT1
 typedef bcs_answer writing(const struct question *question, uint8_t *out, size_t room);
 
 static bcs_answer write_text(const struct question *question, uint8_t *out, size_t room) {
-    return bcs_handle_from_bcs(&question->registry->handle, &question->ask, question->input.at, question->input.length, out,
-                               room);
+    return bcs_handle_from_bcs(ASK(&question->ask), PIECE(question->input), out, room);
 }
 
 static bcs_answer write_bytes(const struct question *question, uint8_t *out, size_t room) {
-    return bcs_handle_to_bcs(&question->registry->handle, &question->ask, question->input.at, question->input.length, out,
-                             room);
+    return bcs_handle_to_bcs(ASK(&question->ask), PIECE(question->input), out, room);
 }
 
 static bcs_answer write_normal(const struct question *question, uint8_t *out, size_t room) {
-    return bcs_handle_normalise(&question->registry->handle, &question->ask, question->input.at, question->input.length, out,
-                                room);
+    return bcs_handle_normalise(ASK(&question->ask), PIECE(question->input), out, room);
 }
 
 static bcs_answer write_pieces(const struct question *question, uint8_t *out, size_t room) {
-    return bcs_handle_explain(&question->registry->handle, &question->ask, question->form, question->input.at,
-                              question->input.length, out, room);
+    return bcs_handle_explain(ASK(&question->ask), question->form, PIECE(question->input), out, room);
 }
 
-/* What a call writes, in memory of SQLite's; null where that ran out. */
-static uint8_t *written(const struct question *question, writing *call, size_t room, bcs_answer *answer) {
-    for (;;) {
+/* What a call writes, in memory of SQLite, of which `most` bytes are the longest value. BCS_SHORT: it is longer. Null: there is
+   no memory, or that. */
+static uint8_t *written(const struct question *question, writing *call, size_t room, size_t most, bcs_answer *answer) {
+    for (room = room < most ? room : most;; room = answer->length) {
         uint8_t *out = sqlite3_malloc64(room);
-        if (out == NULL) {
-            *answer = (bcs_answer){.status = BCS_MEMORY};
-            return NULL;
-        }
-        *answer = call(question, out, room);
+        *answer = out != NULL ? call(question, out, room) : (bcs_answer){.status = BCS_MEMORY};
         if (answer->status != BCS_SHORT) {
             return out;
         }
         sqlite3_free(out);
-        room = answer->length;
+        if (answer->length > most) {
+            return NULL;
+        }
     }
 }
 
 enum kind { A_BLOB, A_TEXT, A_JSON };
 
-/* Hands memory of SQLite's over. */
+/* The answer, in memory that is SQLite's from now on. */
 static void answer_owned(sqlite3_context *context, enum kind kind, uint8_t *out, size_t length) {
     if (kind == A_BLOB) {
         sqlite3_result_blob64(context, out, length, sqlite3_free);
@@ -62,17 +57,20 @@ static void answer_owned(sqlite3_context *context, enum kind kind, uint8_t *out,
 }
 
 static void answer_written(sqlite3_context *context, struct question *question, writing *call, size_t room, enum kind kind) {
+    const int most = sqlite3_limit(sqlite3_context_db_handle(context), SQLITE_LIMIT_LENGTH, -1);
     bcs_answer answer;
-    uint8_t *out = written(question, call, room, &answer);
+    uint8_t *out = written(question, call, room, (size_t)most, &answer);
     if (answer.status == BCS_DONE) {
         answer_owned(context, kind, out, answer.length);
+    } else if (answer.status == BCS_SHORT) {
+        sqlite3_result_error_toobig(context);
     } else {
         sqlite3_free(out);
         refuse(context, question, answer);
     }
 }
 
-/* How much room there is at first for a text, which is often enough, and not more than SQLite gives. */
+/* The first room for a text, which is often enough. */
 static size_t room_of_text(size_t length) {
     return length < (size_t)1 << 28 ? 4 * length + 256 : (size_t)1 << 30;
 }
@@ -104,9 +102,7 @@ static void normalise(sqlite3_context *context, int count, sqlite3_value **value
 static void equal(sqlite3_context *context, int count, sqlite3_value **values) {
     struct question question;
     if (take_question(context, &question, 2, count, values)) {
-        const bcs_answer answer =
-            bcs_handle_compare(&question.registry->handle, &question.ask, question.input.at, question.input.length,
-                               question.second.at, question.second.length);
+        const bcs_answer answer = bcs_handle_compare(ASK(&question.ask), PIECE(question.input), PIECE(question.second));
         if (answer.status == BCS_DONE || answer.status == BCS_NO) {
             sqlite3_result_int(context, answer.status == BCS_DONE);
         } else {
@@ -116,10 +112,9 @@ static void equal(sqlite3_context *context, int count, sqlite3_value **values) {
     }
 }
 
-/* Where a part stands. False: there is no such part, or the refusal is told. */
+/* Where a part is. False: there is no such part, or the refusal is reported. */
 static bool find_part(sqlite3_context *context, struct question *question, bcs_answer *answer) {
-    *answer = bcs_handle_part(&question->registry->handle, &question->ask, question->input.at, question->input.length,
-                              question->second.at, question->second.length);
+    *answer = bcs_handle_part(ASK(&question->ask), PIECE(question->input), PIECE(question->second));
     if (answer->status != BCS_DONE && answer->status != BCS_NO) {
         refuse(context, question, *answer);
     }
@@ -161,7 +156,7 @@ static void explain(sqlite3_context *context, int count, sqlite3_value **values)
 }
 
 static bcs_answer verdict(struct question *question) {
-    return bcs_handle_scan(&question->registry->handle, &question->ask, question->input.at, question->input.length);
+    return bcs_handle_scan(ASK(&question->ask), PIECE(question->input));
 }
 
 static void scan(sqlite3_context *context, int count, sqlite3_value **values) {
@@ -177,26 +172,13 @@ static void scan(sqlite3_context *context, int count, sqlite3_value **values) {
     }
 }
 
-/* Why and where bytes stop, as the last line of `bcs explain --json`; without the way where the pieces take too much. */
 static void answer_fault(sqlite3_context *context, struct question *question, bcs_answer answer) {
-    struct piece line;
-    uint8_t *pieces;
-    char name[NAME_ROOM], *text;
-    const uint32_t status = explain_damage(question, &pieces, &line);
-    if (status == BCS_DONE) {
-        memmove(pieces, line.at, line.length);
-        answer_owned(context, A_JSON, pieces, line.length);
-        return;
-    }
-    sqlite3_free(pieces);
-    name_fault(answer.fault, name);
-    text = status == BCS_SHORT ? sqlite3_mprintf("{\"place\":%llu,\"refused\":\"%s\"}", (unsigned long long)answer.place, name)
-                               : NULL;
-    if (text == NULL) {
+    char *json = json_of_stop(question, answer);
+    if (json == NULL) {
         sqlite3_result_error_nomem(context);
         return;
     }
-    answer_owned(context, A_JSON, (uint8_t *)text, strlen(text));
+    answer_owned(context, A_JSON, (uint8_t *)json, strlen(json));
 }
 
 static void fault(sqlite3_context *context, int count, sqlite3_value **values) {
@@ -225,29 +207,34 @@ static void is(sqlite3_context *context, int count, sqlite3_value **values) {
     }
 }
 
-/* A name, how many inputs stand behind the registry and the format, and the function. */
+/* A name, the number of inputs after the registry and the format, whether the default limits bound the cost, and the function. */
 static const struct {
     const char *name;
     int inputs;
+    bool is_bounded;
     void (*function)(sqlite3_context *, int, sqlite3_value **);
 } functions[] = {
-    {"bcs_decode", 1, decode}, {"bcs_encode", 1, encode},           {"bcs_normalise", 1, normalise}, {"bcs_equal", 2, equal},
-    {"bcs_part", 2, part},     {"bcs_part_place", 2, part_place},   {"bcs_scan", 1, scan},           {"bcs_is", 1, is},
-    {"bcs_fault", 1, fault},   {"bcs_explain", 2, explain},
+    {"bcs_decode", 1, true, decode},       {"bcs_encode", 1, true, encode}, {"bcs_normalise", 1, true, normalise},
+    {"bcs_equal", 2, true, equal},         {"bcs_part", 2, true, part},     {"bcs_part_place", 2, true, part_place},
+    {"bcs_scan", 1, true, scan},           {"bcs_is", 1, true, is},         {"bcs_fault", 1, true, fault},
+    {"bcs_explain", 2, false, explain},
 };
 
-/* A function with none of the limits, with nodes, and with nodes and depth. Where SQLite refuses one, it leaves the connection
-   for it, too. */
+/* A function with no limits, with nodes, and with nodes and depth. If the schema of a hostile file could choose the nodes, a few
+   bytes would take gigabytes: so only those without limits are innocuous. If SQLite refuses a function, it leaves the connection
+   for it as well. */
 static int create_functions(sqlite3 *database, struct connection *connection) {
-    int flags = SQLITE_UTF8 | SQLITE_DETERMINISTIC | SQLITE_INNOCUOUS, status = SQLITE_OK;
-#ifdef SQLITE_RESULT_SUBTYPE /* from 3.45 on a function says that it gives a subtype */
+    int flags = SQLITE_UTF8 | SQLITE_DETERMINISTIC, status = SQLITE_OK;
+#ifdef SQLITE_RESULT_SUBTYPE /* since 3.45 a function declares that its result has a subtype */
     flags |= SQLITE_RESULT_SUBTYPE;
 #endif
     for (size_t number = 0; number < sizeof functions / sizeof *functions; number++) {
         for (int limits = 0; limits <= 2 && status == SQLITE_OK; limits++) {
+            const int innocuous = limits == 0 && functions[number].is_bounded ? SQLITE_INNOCUOUS : 0;
             connection->functions++;
             status = sqlite3_create_function_v2(database, functions[number].name, 2 + functions[number].inputs + limits,
-                                                flags, connection, functions[number].function, NULL, NULL, leave_connection);
+                                                flags | innocuous, connection, functions[number].function, NULL, NULL,
+                                                leave_connection);
         }
     }
     return status;
@@ -260,7 +247,7 @@ int sqlite3_bcssqlite_init(sqlite3 *database, char **message, const sqlite3_api_
     struct connection *connection;
     int status;
     SQLITE_EXTENSION_INIT2(api);
-    if (!has_processor()) {
+    if (!bcs_is_supported()) {
         *message = sqlite3_mprintf("bcs needs a processor of the level x86-64-v2");
         return SQLITE_ERROR;
     }

@@ -1,4 +1,4 @@
-/* What the files of the extension share. README.md says what the functions give. */
+/* What the files of the extension share. README.md describes the functions. */
 #ifndef BCS_SQLITE_H
 #define BCS_SQLITE_H
 
@@ -6,26 +6,30 @@
 
 #include "words.h"
 
-/* A registry that is open, by its text; none where `text` is null. */
+/* The default limits of a query. A few bytes can announce billions of nodes, and a million takes some 80 MB. The depth is that
+   of the deepest JSON document. */
+#define STANDARD_NODES 1000000
+#define STANDARD_DEPTH 100
+
+/* A registry that is open, by its text; none if `text` is null. */
 struct registry {
     uint8_t *text;
     size_t length;
     uint64_t used; /* when it was used last */
-    bcs_handle handle;
+    bcs_handle *handle;
 };
 
-/* What a connection keeps: as long as one of its functions is there. */
+/* What a connection keeps, as long as it has one of the functions. */
 struct connection {
     unsigned functions;
     uint64_t uses;
     struct registry open[MOST_OPEN];
 };
 
-/* What a function is asked. */
+/* The arguments of a function. */
 struct question {
-    struct registry *registry;
-    bcs_handle_ask ask;
-    char *made; /* the format's JSON, where it was made here */
+    struct ask ask;
+    char *format; /* its JSON, in memory of SQLite */
     struct piece input, second;
     uint32_t form; /* of pieces */
 };
@@ -34,17 +38,17 @@ static const struct piece no_bytes = {(const uint8_t *)"", 0};
 
 /* registries.c */
 
-/* A connection without functions; null where there is no memory. */
+/* A connection without functions; null if memory ran out. */
 struct connection *new_connection(void);
-/* For each function that goes: with the last one the connection goes, and its registries. */
+/* For each function that is removed. The last one frees the connection with its registries. */
 void leave_connection(void *connection);
-/* The registry of a text, opened if it isn't; null where it is refused, which is told. */
-struct registry *registry_of(sqlite3_context *context, struct piece text);
+/* The handle of a registry, opened if it isn't yet; null if it is refused, which is reported. */
+bcs_handle *registry_of(sqlite3_context *context, struct piece text);
 
 /* question.c */
 
-/* Reads the arguments: a registry, a format, as many inputs as `inputs` says, and limits. Where they answer false there is
-   nothing more to do: an argument is null, or what is wrong is told. Bytes are a BLOB, so that nobody hands over digits. */
+/* Reads the arguments: a registry, a format, `inputs` inputs, and limits. If these return false, an argument is null, or an error
+   is reported. Each argument has its type: nothing is converted that could be meant otherwise. */
 bool take_question(sqlite3_context *context, struct question *question, int inputs, int count, sqlite3_value **values);
 bool take_question_of_bytes(sqlite3_context *context, struct question *question, int inputs, int count,
                             sqlite3_value **values);
@@ -52,9 +56,10 @@ void drop_question(struct question *question);
 
 /* refusal.c */
 
-/* What a call refuses of a question, and the text of a registry: where it is and what was wanted there is told, too. */
+/* Reports what a call refuses of a question, or of the text of a registry, with the place and what was expected there. */
 void refuse(sqlite3_context *context, const struct question *question, bcs_answer answer);
 void refuse_registry(sqlite3_context *context, struct piece text, bcs_answer answer);
-uint32_t explain_damage(struct question *question, uint8_t **pieces, struct piece *line);
+/* Why and where bytes stop being a value, as JSON in memory of SQLite; null if memory ran out. */
+char *json_of_stop(const struct question *question, bcs_answer answer);
 
 #endif

@@ -1,15 +1,34 @@
-/* The arguments of the functions, as the calls take them. */
+/* The arguments of the functions, as the calls take them. SQLite would convert any value to a text or to bytes; this takes only
+   the types that can't be meant otherwise. */
 #include "bcs_sqlite.h"
 SQLITE_EXTENSION_INIT3
 
-/* Hands over the bytes of a BLOB, or the text of anything else in UTF-8, for which SQLite may have to make room: false where
-   there is none. A pointer to no bytes isn't null. */
-static bool take_piece(sqlite3_value *value, struct piece *piece) {
-    const bool is_blob = sqlite3_value_type(value) == SQLITE_BLOB;
-    const void *at = is_blob ? sqlite3_value_blob(value) : sqlite3_value_text(value);
-    const size_t length = (size_t)sqlite3_value_bytes(value);
-    *piece = at != NULL ? (struct piece){at, length} : no_bytes;
-    return at != NULL || (is_blob && length == 0);
+/* Which types an argument may have, as bits. */
+enum types { BLOB = 1 << SQLITE_BLOB, TEXT = 1 << SQLITE_TEXT, INTEGER = 1 << SQLITE_INTEGER };
+
+/* An argument has another type, or memory ran out. */
+static bool refuse_argument(sqlite3_context *context, const char *message) {
+    if (message != NULL) {
+        sqlite3_result_error(context, message, -1);
+    } else {
+        sqlite3_result_error_nomem(context);
+    }
+    return false;
+}
+
+/* The bytes of a BLOB, or a text in UTF-8, for which SQLite may need memory. A pointer to no bytes isn't null. */
+static bool take_piece(sqlite3_context *context, sqlite3_value *value, int types, const char *message, struct piece *piece) {
+    const int type = sqlite3_value_type(value);
+    const void *at;
+    if (!(types & 1 << type)) {
+        return refuse_argument(context, message);
+    }
+    at = type == SQLITE_BLOB ? sqlite3_value_blob(value) : sqlite3_value_text(value);
+    *piece = (struct piece){at, (size_t)sqlite3_value_bytes(value)};
+    if (at == NULL && type == SQLITE_BLOB && piece->length == 0) {
+        *piece = no_bytes;
+    }
+    return piece->at != NULL || refuse_argument(context, NULL);
 }
 
 static bool are_some_null(int count, sqlite3_value **values) {
@@ -21,11 +40,11 @@ static bool are_some_null(int count, sqlite3_value **values) {
     return false;
 }
 
-/* A limit, or its standard where the query has none. */
+/* A limit, or its default if the query has none. */
 static bool take_limit(int count, sqlite3_value **values, int place, uint32_t most, uint32_t *limit) {
     if (place < count) {
         const sqlite3_int64 number = sqlite3_value_int64(values[place]);
-        if (sqlite3_value_numeric_type(values[place]) != SQLITE_INTEGER || number < 0 || number > most) {
+        if (sqlite3_value_type(values[place]) != SQLITE_INTEGER || number < 0 || number > most) {
             return false;
         }
         *limit = (uint32_t)number;
@@ -33,54 +52,59 @@ static bool take_limit(int count, sqlite3_value **values, int place, uint32_t mo
     return true;
 }
 
-/* Hands the format over as JSON. */
-static bool take_format(struct question *question, struct piece format) {
-    if (is_name(format)) {
-        question->made = sqlite3_malloc64(FORMAT_ROOM(format.length));
-        if (question->made == NULL) {
-            return false;
-        }
-        format = (struct piece){(const uint8_t *)question->made, write_format(format, question->made)};
+static bool take_limits(sqlite3_context *context, struct ask *ask, int place, int count, sqlite3_value **values) {
+    ask->nodes = STANDARD_NODES;
+    ask->depth = STANDARD_DEPTH;
+    return (take_limit(count, values, place, BCS_NODES, &ask->nodes) &&
+            take_limit(count, values, place + 1, BCS_DEPTH, &ask->depth)) ||
+           refuse_argument(context, "bcs: nodes are from 0 to 4294967295, and a depth is from 0 to 500");
+}
+
+/* The registry comes last, since nothing here may close it again. */
+static bool take_ask(sqlite3_context *context, struct question *question, sqlite3_value **values) {
+    struct piece registry, format;
+    if (!take_piece(context, values[0], TEXT | BLOB, "bcs: the registry is neither TEXT nor BLOB", &registry) ||
+        !take_piece(context, values[1], TEXT, "bcs: the format isn't TEXT", &format)) {
+        return false;
     }
-    question->ask.format = format.at;
-    question->ask.format_length = format.length;
-    return true;
+    question->format = sqlite3_malloc64(write_format(format, NULL));
+    if (question->format == NULL) {
+        return refuse_argument(context, NULL);
+    }
+    question->ask.format = (struct piece){(const uint8_t *)question->format, write_format(format, question->format)};
+    question->ask.handle = registry_of(context, registry);
+    if (question->ask.handle == NULL) {
+        drop_question(question);
+    }
+    return question->ask.handle != NULL;
+}
+
+/* `types` are those of the first input. A second one is a text, which with bytes is a path or a form. */
+static bool take_inputs(sqlite3_context *context, struct question *question, int inputs, int types, const char *message,
+                        int count, sqlite3_value **values) {
+    *question = (struct question){.format = NULL};
+    if (are_some_null(count, values) || !take_limits(context, &question->ask, 2 + inputs, count, values) ||
+        !take_piece(context, values[2], types, message, &question->input)) {
+        return false;
+    }
+    question->second = question->input;
+    if (inputs == 2 && types == BLOB) {
+        types = TEXT;
+        message = "bcs: the path or the form isn't TEXT";
+    }
+    return (inputs == 1 || take_piece(context, values[3], types, message, &question->second)) &&
+           take_ask(context, question, values);
 }
 
 bool take_question(sqlite3_context *context, struct question *question, int inputs, int count, sqlite3_value **values) {
-    struct piece registry, format;
-    *question = (struct question){.ask = {.depth = STANDARD_DEPTH, .nodes = STANDARD_NODES}};
-    if (are_some_null(count, values)) {
-        return false;
-    }
-    if (!take_limit(count, values, 2 + inputs, BCS_NODES, &question->ask.nodes) ||
-        !take_limit(count, values, 3 + inputs, BCS_DEPTH, &question->ask.depth)) {
-        sqlite3_result_error(context, "bcs: nodes are from 0 to 4294967295, and a depth is from 0 to 500", -1);
-        return false;
-    }
-    if (!take_piece(values[0], &registry) || !take_piece(values[1], &format) || !take_piece(values[2], &question->input) ||
-        !take_piece(values[1 + inputs], &question->second)) {
-        sqlite3_result_error_nomem(context);
-        return false;
-    }
-    question->registry = registry_of(context, registry);
-    if (question->registry != NULL && !take_format(question, format)) {
-        sqlite3_result_error_nomem(context);
-        return false;
-    }
-    return question->registry != NULL;
+    return take_inputs(context, question, inputs, TEXT | INTEGER, "bcs: the value is neither TEXT nor INTEGER", count, values);
 }
 
 bool take_question_of_bytes(sqlite3_context *context, struct question *question, int inputs, int count,
                             sqlite3_value **values) {
-    const int type = sqlite3_value_type(values[2]);
-    if (type != SQLITE_BLOB && type != SQLITE_NULL) {
-        sqlite3_result_error(context, "bcs: the bytes are no BLOB", -1);
-        return false;
-    }
-    return take_question(context, question, inputs, count, values);
+    return take_inputs(context, question, inputs, BLOB, "bcs: the bytes are no BLOB", count, values);
 }
 
 void drop_question(struct question *question) {
-    sqlite3_free(question->made);
+    sqlite3_free(question->format);
 }

@@ -1,37 +1,16 @@
-/* What is refused, as an error. */
+/* Refusals as errors, and as JSON. */
 #include "bcs_sqlite.h"
 SQLITE_EXTENSION_INIT3
 
-/* The pieces of damaged bytes in SQLite's memory, of which `line` is the last, and BCS_DONE. BCS_SHORT where they take too
-   much, and BCS_MEMORY: then the line is empty. */
-uint32_t explain_damage(struct question *question, uint8_t **pieces, struct piece *line) {
-    bcs_answer answer = {.status = BCS_SHORT, .length = room_of_pieces(question->input.length)};
-    *line = no_bytes;
-    *pieces = NULL;
-    while (is_to_ask_again(answer)) {
-        const size_t room = answer.length;
-        sqlite3_free(*pieces);
-        *pieces = sqlite3_malloc64(room);
-        if (*pieces == NULL) {
-            return BCS_MEMORY;
-        }
-        answer = bcs_handle_explain(&question->registry->handle, &question->ask, BCS_JSON, question->input.at,
-                                    question->input.length, *pieces, room);
-    }
-    if (answer.status == BCS_DONE) {
-        *line = last_line((struct piece){*pieces, answer.length});
-    }
-    return answer.status;
-}
-
-/* What is told of a place, in SQLite's memory, and nothing where it takes too much; null where memory ran out. */
+/* What the library reports about the place, in memory of SQLite with a zero behind it, and nothing if that is too long; null if
+   memory ran out. */
 static uint8_t *told(const struct refused *refused, uint32_t what, size_t *length) {
     bcs_answer answer = {.status = BCS_SHORT, .length = PLACE_ROOM};
     uint8_t *out = NULL;
     while (is_to_ask_again(answer)) {
         const size_t room = answer.length;
         sqlite3_free(out);
-        out = sqlite3_malloc64(room);
+        out = sqlite3_malloc64(room + 1);
         answer = out != NULL ? tell_place(refused, what, out, room) : (bcs_answer){.status = BCS_MEMORY};
     }
     if (answer.status == BCS_MEMORY) {
@@ -39,10 +18,11 @@ static uint8_t *told(const struct refused *refused, uint32_t what, size_t *lengt
         return NULL;
     }
     *length = answer.status == BCS_DONE ? answer.length : 0;
+    out[*length] = '\0';
     return out;
 }
 
-/* The place in printable ASCII: of a text the JSON Pointer, which isn't yet. */
+/* The place in printable ASCII, which the JSON Pointer of a text isn't yet. */
 static char *place_told(const struct refused *refused) {
     size_t length = 0;
     uint8_t *where = told(refused, BCS_WHERE, &length);
@@ -60,7 +40,7 @@ static char *place_told(const struct refused *refused) {
     return text;
 }
 
-/* The words of what is refused; null where memory ran out. */
+/* The text of a refusal; null if memory ran out. */
 static char *message_of(const struct refused *refused, const char *front, const char *name) {
     size_t length = 0;
     char *where, *text = NULL;
@@ -85,10 +65,9 @@ static char *message_of(const struct refused *refused, const char *front, const 
 }
 
 static void tell_refusal(sqlite3_context *context, const struct refused *refused) {
-    char name[NAME_ROOM], *text = NULL;
+    char *text = NULL;
     if (refused->answer.status != BCS_MEMORY) {
-        name_fault(refused->answer.fault, name);
-        text = message_of(refused, what_is_refused(refused->answer), name);
+        text = message_of(refused, what_is_refused(refused->answer), bcs_fault_text(refused->answer.fault));
     }
     if (text == NULL) {
         sqlite3_result_error_nomem(context);
@@ -99,11 +78,50 @@ static void tell_refusal(sqlite3_context *context, const struct refused *refused
 }
 
 void refuse(sqlite3_context *context, const struct question *question, bcs_answer answer) {
-    const struct refused refused = {answer, &question->registry->handle, &question->ask, question->input, question->second};
+    const struct refused refused = {answer, &question->ask, question->input, question->second};
     tell_refusal(context, &refused);
 }
 
 void refuse_registry(sqlite3_context *context, struct piece text, bcs_answer answer) {
     const struct refused refused = {.answer = answer, .input = text};
     tell_refusal(context, &refused);
+}
+
+/* A member of JSON with a text in printable ASCII, unless that is empty. */
+static void append_member(sqlite3_str *json, const char *name, const char *text) {
+    if (*text == '\0') {
+        return;
+    }
+    sqlite3_str_appendf(json, "\"%s\":\"", name);
+    for (; *text != '\0'; text++) {
+        if (*text == '"' || *text == '\\') {
+            sqlite3_str_appendchar(json, 1, '\\');
+        }
+        sqlite3_str_appendchar(json, 1, *text);
+    }
+    sqlite3_str_appendall(json, "\",");
+}
+
+static char *json_with(bcs_answer answer, const char *where, const char *wanted) {
+    sqlite3_str *json = sqlite3_str_new(NULL);
+    sqlite3_str_appendchar(json, 1, '{');
+    append_member(json, "name", where);
+    sqlite3_str_appendf(json, "\"place\":%llu,\"refused\":\"%s\",", (unsigned long long)answer.place,
+                        bcs_fault_text(answer.fault));
+    append_member(json, "want", wanted);
+    return sqlite3_str_finish(json);
+}
+
+char *json_of_stop(const struct question *question, bcs_answer answer) {
+    const struct refused refused = {answer, &question->ask, question->input, question->second};
+    size_t length;
+    char *const where = (char *)told(&refused, BCS_WHERE, &length);
+    char *const wanted = where != NULL ? (char *)told(&refused, BCS_WANTED, &length) : NULL;
+    char *const json = wanted != NULL ? json_with(answer, where, what_was_wanted(wanted)) : NULL;
+    sqlite3_free(where);
+    sqlite3_free(wanted);
+    if (json != NULL) {
+        json[strlen(json) - 1] = '}'; /* in place of the comma */
+    }
+    return json;
 }

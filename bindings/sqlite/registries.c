@@ -1,4 +1,4 @@
-/* The registries that a connection has open, and the heap of the proved code, which is SQLite's. */
+/* The registries that a connection has open, and the heap of the proved code, which is that of SQLite. */
 #include "bcs_sqlite.h"
 SQLITE_EXTENSION_INIT3
 
@@ -13,7 +13,7 @@ static void give_block_back(void *block) {
 }
 
 static void close_registry(struct registry *registry) {
-    bcs_close(&registry->handle);
+    bcs_close(registry->handle);
     sqlite3_free(registry->text);
     *registry = (struct registry){0};
 }
@@ -22,7 +22,7 @@ static bool has_text(const struct registry *registry, struct piece text) {
     return registry->text != NULL && registry->length == text.length && memcmp(registry->text, text.at, text.length) == 0;
 }
 
-/* The place of a registry that is open, or else of one to open: an empty one, or of the one not used for longest. */
+/* The place of a registry that is open, or else the place for it: an empty one, or that of the one not used for longest. */
 static struct registry *place_of(struct connection *connection, struct piece text) {
     struct registry *oldest = &connection->open[0];
     for (size_t number = 0; number < MOST_OPEN; number++) {
@@ -54,7 +54,7 @@ static bcs_answer open_registry(struct registry *registry, struct piece text) {
     return answer;
 }
 
-struct registry *registry_of(sqlite3_context *context, struct piece text) {
+bcs_handle *registry_of(sqlite3_context *context, struct piece text) {
     struct connection *connection = sqlite3_user_data(context);
     struct registry *registry = place_of(connection, text);
     if (!has_text(registry, text)) {
@@ -65,7 +65,7 @@ struct registry *registry_of(sqlite3_context *context, struct piece text) {
         }
     }
     registry->used = ++connection->uses;
-    return registry;
+    return registry->handle;
 }
 
 void leave_connection(void *pointer) {

@@ -129,7 +129,8 @@ class Costs(Measured):
 
 
 class Faults(Measured):
-    """The last byte of a list is bad. That is found by bcs_is, and two walks like it find the place and what was expected."""
+    """The last byte of a list is bad. bcs_fault finds that like bcs_is, and walks twice more for the place and what was expected. Under
+    a long key the way there is long, too."""
 
     def inputs(self, size):
         """A list, and one under a long key, which is part of the way to each of its elements."""
@@ -149,7 +150,7 @@ class Faults(Measured):
                     self.assertEqual((fault["refused"], fault["place"], fault["want"]), ("BadBool", len(data) - 1, "BOOL"))
                     self.assertTrue(fault["name"].endswith(end))
                     judged = self.cost("select bcs_is(%s, %s, %s, 1000000)", *question)[0]
-                    most = 4 * judged + 5
+                    most = 6 * judged + len(data) / 10_000
                     cost = self.cost("select bcs_fault(%s, %s, %s, 1000000)", *question, most=most)[0]
                     self.assertLess(cost, most)
                     print(f"hostile: bcs_fault of {len(data)} bytes took {cost:.1f} ms, and bcs_is {judged:.1f}")

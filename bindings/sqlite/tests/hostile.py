@@ -1,0 +1,181 @@
+"""What hostile input costs: the schema of a file from a stranger, values longer than the connection allows, and faults.
+
+    /usr/bin/python3 bindings/sqlite/tests/hostile.py EXTENSION
+"""
+
+import contextlib
+import ctypes
+import json
+import pathlib
+import sqlite3
+import sys
+import tempfile
+import time
+import unittest
+
+EXTENSION = sys.argv.pop(1)
+ENDLESS = "'{}', '{\"SEQ\":\"UNIT\"}', x'ffffff07'"
+# Each function with the inputs of a bomb, or with other ones.
+FUNCTIONS = {
+    "bcs_decode": ENDLESS, "bcs_is": ENDLESS, "bcs_scan": ENDLESS, "bcs_fault": ENDLESS, "bcs_part": ENDLESS + ", '.'",
+    "bcs_part_place": ENDLESS + ", '.'", "bcs_explain": ENDLESS + ", 'ways'", "bcs_encode": "'{}', '\"U8\"', 7",
+    "bcs_normalise": "'{}', '\"U8\"', 7", "bcs_equal": "'{}', '\"U8\"', 7, 7",
+}
+BOUNDED = FUNCTIONS.keys() - {"bcs_explain"}
+# The places of a schema where an expression is.
+SCHEMAS = {
+    "a view": "create view v as select {} as answer",
+    "a trigger": "create table t (a); create trigger r after insert on t begin select {}; end",
+    "a check": "create table t (a check (coalesce(length({}), 0) >= 0))",
+    "a generated column": "create table t (a, g generated always as ({}) virtual)",
+    "an index": "create table t (a); create index i on t (({}))",
+    "a partial index": "create table t (a); create index i on t (a) where ({}) is null",
+    "a default": "create table t (a, d default ({}))",
+}
+USES = {"a view": "select * from v", "a generated column": "select * from t"}
+
+
+def length(number):
+    """ULEB128, as docs/FORMAT.md has it."""
+    data = bytearray()
+    while number > 127:
+        data.append(number & 127 | 128)
+        number >>= 7
+    return bytes(data) + bytes([number])
+
+
+@contextlib.contextmanager
+def heap(megabytes):
+    """For a while SQLite has no more memory. (Its pragma could only lower the limit.)"""
+    limit = ctypes.CDLL("libsqlite3.so.0").sqlite3_hard_heap_limit64
+    limit.argtypes, limit.restype = [ctypes.c_int64], ctypes.c_int64
+    limit(megabytes * 1000000)
+    try:
+        yield
+    finally:
+        limit(0)
+
+
+def opened(path=":memory:"):
+    database = sqlite3.connect(path)
+    database.enable_load_extension(True)
+    database.load_extension(EXTENSION)
+    return database
+
+
+class Hostile(unittest.TestCase):
+    def setUp(self):
+        folder = tempfile.TemporaryDirectory()
+        self.addCleanup(folder.cleanup)
+        self.path = pathlib.Path(folder.name) / "hostile.db"
+
+    def used(self, schema, expression):
+        """What a file with the schema does in a connection that doesn't trust it: an error, or nothing."""
+        self.path.unlink(missing_ok=True)
+        stranger = opened(self.path)
+        stranger.executescript(SCHEMAS[schema].format(expression))
+        if schema == "a generated column":
+            stranger.execute("insert into t values (7)")
+        stranger.commit()
+        stranger.close()
+        database = opened(self.path)
+        try:
+            database.execute("pragma trusted_schema = off")
+            database.execute(USES.get(schema, "insert into t (a) values (7)")).fetchall()
+            return None
+        except sqlite3.Error as fault:
+            return str(fault)
+        finally:
+            database.close()
+
+    def test_schemas(self):
+        """No function that takes nodes runs, nor bcs_explain; each other one does, and is refused for its nodes at most."""
+        count = 0
+        for schema in SCHEMAS:
+            for name, inputs in FUNCTIONS.items():
+                for limits in ["", ", 4294967295", ", 4294967295, 100", ", 1", ", 1, 1"]:
+                    told = self.used(schema, f"{name}({inputs}{limits})")
+                    if limits == "" and name in BOUNDED:
+                        self.assertTrue(told is None or "TooManyNodes" in told, (schema, name, told))
+                    else:
+                        self.assertIn(f"unsafe use of {name}()", str(told), (schema, name, limits))
+                    count += 1
+        print(f"hostile: {count} expressions in schemas")
+
+    def test_trusted(self):
+        """In the application's own statements all of them run."""
+        database = opened()
+        database.execute("pragma trusted_schema = off")
+        for name, inputs in FUNCTIONS.items():
+            for limits in ["", ", 10", ", 10, 10"]:
+                try:
+                    database.execute(f"select {name}({inputs}{limits})").fetchall()
+                except sqlite3.Error as fault:
+                    self.assertIn("TooManyNodes", str(fault))
+
+    def test_memory(self):
+        """The most that a few bytes take in a schema: the default nodes, all without bytes."""
+        pair = [{"TYPENAME": f"T{number + 1}"} for number in range(40)]
+        doubling = {f"T{number}": {"TUPLESTRUCT": [pair[number], pair[number]]} for number in range(40)}
+        questions = [
+            ("{}", '{"SEQ":"UNIT"}', length(999_999)), ("{}", '{"SEQ":{"SEQ":"UNIT"}}', b"\1" + length(999_998)),
+            (json.dumps({**doubling, "T40": "UNITSTRUCT"}), "T23", b""), (json.dumps({**doubling, "T40": "UNITSTRUCT"}), "T0", b""),
+        ]
+        for question in questions:
+            with heap(100):
+                start = time.process_time()
+                try:
+                    opened().execute("select bcs_decode(?, ?, ?)", question).fetchall()
+                except sqlite3.Error as fault:
+                    self.assertIn("TooManyNodes", str(fault))
+                print(f"hostile: decoding {question[1]} took {time.process_time() - start:.2f} s")
+
+    def test_length(self):
+        """A connection's limit on values is that of the answers, before their memory is asked for."""
+        database = opened()
+        database.setlimit(sqlite3.SQLITE_LIMIT_LENGTH, 100_000)
+        units = "'{}', '{\"SEQ\":\"UNIT\"}', x'bf843d'"
+        with self.assertRaisesRegex(sqlite3.DataError, "too big"):
+            database.execute(f"select bcs_decode({units})")
+        self.assertEqual(database.execute("select length(bcs_decode('{}', '{\"SEQ\":\"UNIT\"}', x'904e'))").fetchone(), (50001,))
+        with self.assertRaisesRegex(sqlite3.DataError, "too big"):
+            database.execute("select bcs_explain('{}', '{\"SEQ\":\"BOOL\"}', x'8827' || zeroblob(5000), 'ways')".replace(
+                "x'8827' || zeroblob(5000)", "?"), [length(5000) + bytes(5000)])
+
+
+class Faults(unittest.TestCase):
+    """The last byte of a list is bad. bcs_fault finds that like bcs_is, and walks twice more for the place and what was expected. Under
+    a long key the way there is long, too."""
+
+    def inputs(self, size):
+        yield '{"SEQ":"BOOL"}', length(size) + b"\1" * (size - 1) + b"\2", f"[{size - 1}]"
+        half = size // 2
+        listed = length(half) + b"\1" * (half - 1) + b"\2"
+        yield '{"MAP":{"KEY":"STR","VALUE":{"SEQ":"BOOL"}}}', b"\1" + length(half) + b"k" * half + listed, f"[{half - 1}]"
+
+    def test_sizes(self):
+        for size in 40_000, 400_000:
+            for format, data, end in self.inputs(size):
+                with self.subTest(size=size, format=format):
+                    self.check(format, data, end)
+
+    def check(self, format, data, end):
+        database = opened()
+        costs = {}
+        for name in "bcs_is", "bcs_fault":
+            runs = []
+            for _ in range(5):
+                start = time.process_time()
+                with heap(8):
+                    answer = database.execute(f"select {name}('{{}}', ?, ?)", [format, data]).fetchone()[0]
+                runs.append(time.process_time() - start)
+            costs[name] = min(runs) * 1000
+        fault = json.loads(answer)
+        self.assertEqual((fault["refused"], fault["place"], fault["want"]), ("BadBool", len(data) - 1, "BOOL"))
+        self.assertTrue(fault["name"].endswith(end))
+        print(f"hostile: bcs_fault of {len(data)} bytes took {costs['bcs_fault']:.1f} ms, and bcs_is {costs['bcs_is']:.1f}")
+        self.assertLess(costs["bcs_fault"], 6 * costs["bcs_is"] + len(data) / 10_000)
+
+
+if __name__ == "__main__":
+    unittest.main()

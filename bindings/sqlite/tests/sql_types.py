@@ -1,0 +1,144 @@
+"""Every type of SQLite at every argument, and every kind of JSON at every format: the right answer, or a rejection. What is right
+is worked out by ../../sql/values.py.
+
+    /usr/bin/python3 bindings/sqlite/tests/sql_types.py EXTENSION
+"""
+
+import json
+import pathlib
+import sqlite3
+import sys
+import unittest
+
+sys.path.append(str(pathlib.Path(__file__).resolve().parents[2] / "sql"))
+from values import FORMATS, REGISTRY, TEXTS, digits_of
+
+EXTENSION = sys.argv.pop(1)
+U64_OF_7 = "07" + "00" * 7
+# A value of each type that could pass for 7, for {} or for U8. Both jsonb's form of 123 and the bytes of 7 are digits as a text.
+VALUES = {
+    "INTEGER": ["7", "-7", "9223372036854775807", "true"],
+    "REAL": ["7.0", "9007199254740993.0", "18446744073709551615", "1e3", "1e400", "-0.0"],
+    "TEXT": ["'7'", "json('7')", "cast(7 as text)", "json_extract('[7]', '$')||''", "cast(x'37' as text)"],
+    "BLOB": ["x'37'", "x'07'", "x''", "x'33313233'", "zeroblob(1)", "cast('7' as blob)", "x'7b7d'"],
+    "NULL": ["null", "json_extract('[null]', '$[0]')"],
+}
+NEITHER = "bcs: the {} is neither {} nor {}".format
+VALUE, PLAIN = NEITHER("value", "TEXT", "INTEGER"), "bcs: the bytes are no BLOB"
+FORMAT, WORD = "bcs: the format isn't TEXT", "bcs: the path or the form isn't TEXT"
+LIMITS = "bcs: nodes are from 0 to 4294967295, and a depth is from 0 to 500"
+OUT_OF_RANGE = ["-7", "9223372036854775807"]
+# A call with a mark, the types that it takes there, and what it says of others.
+CALLS = [
+    ("bcs_encode('{}', '\"U64\"', ?)", ["TEXT", "INTEGER"], VALUE),
+    ("bcs_normalise('{}', '\"U64\"', ?)", ["TEXT", "INTEGER"], VALUE),
+    ("bcs_equal('{}', '\"U64\"', ?, '8')", ["TEXT", "INTEGER"], VALUE),
+    ("bcs_equal('{}', '\"U64\"', '8', ?)", ["TEXT", "INTEGER"], VALUE),
+    *((call, ["BLOB"], PLAIN) for call in [
+        "bcs_decode('{}', '\"U8\"', ?)", "bcs_is('{}', '\"U8\"', ?)", "bcs_scan('{}', '\"U8\"', ?)", "bcs_fault('{}', '\"U8\"', ?)",
+        "bcs_part('{}', '\"U8\"', ?, '.')", "bcs_part_place('{}', '\"U8\"', ?, '.')", "bcs_explain('{}', '\"U8\"', ?, 'json')",
+    ]),
+    *((call, ["TEXT", "BLOB"], NEITHER("registry", "TEXT", "BLOB")) for call in [
+        "bcs_is(?, '\"U8\"', x'07')", "bcs_encode(?, '\"U8\"', 7)",
+    ]),
+    *((call, ["TEXT"], FORMAT) for call in ["bcs_is('{}', ?, x'07')", "bcs_encode('{}', ?, 7)", "bcs_equal('{}', ?, 7, 8)"]),
+    *((call, ["TEXT"], WORD) for call in ["bcs_part('{}', '\"U8\"', x'07', ?)", "bcs_explain('{}', '\"U8\"', x'07', ?)"]),
+    *((call, ["INTEGER"], LIMITS) for call in [
+        "bcs_is('{}', '\"U8\"', x'07', ?)", "bcs_is('{}', '\"U8\"', x'07', 1, ?)", "bcs_encode('{}', '\"U8\"', 7, ?)",
+        "bcs_part('{}', '\"U8\"', x'07', '.', ?)",
+    ]),
+]
+
+
+class Types(unittest.TestCase):
+    encoding = "UTF-8"
+
+    def setUp(self):
+        self.database = sqlite3.connect(":memory:")
+        self.addCleanup(self.database.close)
+        self.database.execute(f"pragma encoding = '{self.encoding}'")
+        self.database.enable_load_extension(True)
+        self.database.load_extension(EXTENSION)
+
+    def told(self, expression, *arguments):
+        """What an expression answers, bytes as digits, or the text of its error."""
+        try:
+            answer = self.database.execute("select " + expression, arguments).fetchone()[0]
+        except sqlite3.OperationalError as fault:
+            return str(fault)
+        return answer.hex() if isinstance(answer, bytes) else answer
+
+    def test_json_at_formats(self):
+        """A value as a text, and as the subtype JSON; what is taken comes back as the same bytes."""
+        count = 0
+        for format in FORMATS:
+            words = REGISTRY, json.dumps(format)
+            for text in TEXTS:
+                right = digits_of(format, text)
+                told = self.told("bcs_encode(?, ?, ?)", *words, text)
+                if right is None:
+                    self.assertTrue(str(told).startswith("bcs: no value of the format: "), (format, text, told))
+                else:
+                    self.assertEqual((format, text, told), (format, text, right))
+                    back = "bcs_encode(?, ?, bcs_decode(?, ?, ?))"
+                    self.assertEqual(self.told(back, *words, *words, bytes.fromhex(right)), right)
+                count += 1
+        print(f"types: {count} JSON values at formats, in {self.encoding}")
+
+    def test_integers(self):
+        """An INTEGER is its digits, at each format."""
+        for format in FORMATS:
+            for number in [0, 1, 7, -7, 255, 256, 2**53 + 1, 2**63 - 1, -(2**63)]:
+                right = digits_of(format, str(number))
+                told = self.told("bcs_encode(?, ?, ?)", REGISTRY, json.dumps(format), number)
+                if right is None:
+                    self.assertTrue(str(told).startswith("bcs: no value of the format: "), (format, number, told))
+                else:
+                    self.assertEqual((format, number, told), (format, number, right))
+
+    def test_types(self):
+        """What has another type is told so, and nothing is converted."""
+        for call, types, message in CALLS:
+            for type, expressions in VALUES.items():
+                for expression in expressions:
+                    told = self.told(call.replace("?", expression))
+                    if type == "NULL":
+                        self.assertIsNone(told, (call, expression))
+                    elif type not in types or (message == LIMITS and expression in OUT_OF_RANGE):
+                        self.assertEqual((call, expression, told), (call, expression, message))
+                    else:
+                        self.assertNotEqual((call, expression, told), (call, expression, message))
+
+    def test_columns(self):
+        """A column converts what is stored in it, and what it made of a text is no other number."""
+        self.database.execute("create table t (t text, i integer, n numeric, r real, b blob)")
+        for written, numeric in [("7", "07"), ("18446744073709551615", VALUE), ("9007199254740993", None), ("1e3", "e803"), ("7.0", "07")]:
+            self.database.execute("delete from t")
+            self.database.execute("insert into t values (?1, ?1, ?1, ?1, ?1)", [written])
+            text = digits_of("U64", written) or "bcs: no value of the format: BadNumber: wanted a whole number from 0 to 18446744073709551615 (U64)"
+            if numeric is None:
+                numeric = text
+            elif numeric != VALUE:
+                numeric = numeric.ljust(16, "0")
+            told = {column: self.told(f"bcs_encode('{{}}', '\"U64\"', {column}) from t") for column in "tinrb"}
+            self.assertEqual((written, told), (written, {"t": text, "i": numeric, "n": numeric, "r": VALUE, "b": text}))
+
+    def test_answers(self):
+        """The right answers of what is taken."""
+        for expression, right in [
+            ("bcs_encode('{}', '\"U64\"', '7')", U64_OF_7), ("bcs_encode('{}', '\"U64\"', 7)", U64_OF_7),
+            ("bcs_encode('{}', '\"U64\"', json('7'))", U64_OF_7), ("bcs_encode('{}', '\"U64\"', json_extract('[7]', '$[0]'))", U64_OF_7),
+            ("bcs_encode('{}', '\"I8\"', -7)", "f9"), ("bcs_encode('{}', '\"U64\"', 9223372036854775807)", "ff" * 7 + "7f"),
+            ("bcs_encode('{}', '\"U64\"', '18446744073709551615')", "ff" * 8), ("bcs_equal('{}', '\"U64\"', 7, '\"7\"')", 1),
+            ("bcs_is(x'7b7d', '\"U8\"', x'07')", 1), ("bcs_is(x'7b7d', '\"U8\"', x'')", 0),
+            ("bcs_decode('{}', '\"STR\"', x'0137')", '"7"'), ("bcs_decode('{}', '\"U8\"', x'37')", "55"),
+        ]:
+            self.assertEqual((expression, self.told(expression)), (expression, right))
+
+
+class Utf16(Types):
+    encoding = "UTF-16"
+
+
+if __name__ == "__main__":
+    unittest.main()
