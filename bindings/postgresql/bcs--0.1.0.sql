@@ -65,7 +65,7 @@ CREATE FUNCTION @extschema@.bcs_part_place(registry pg_catalog.json, format pg_c
     LANGUAGE C IMMUTABLE STRICT PARALLEL SAFE COST 20;
 CREATE FUNCTION @extschema@.bcs_explain(registry pg_catalog.json, format pg_catalog.text,
     bytes pg_catalog.bytea, form pg_catalog.text DEFAULT 'ways'::pg_catalog.text,
-    nodes pg_catalog.int8 DEFAULT 3125, depth pg_catalog.int4 DEFAULT 100)
+    nodes pg_catalog.int8 DEFAULT 6250, depth pg_catalog.int4 DEFAULT 100)
     RETURNS pg_catalog.text AS 'MODULE_PATHNAME', 'bcs_pg_explain'
     LANGUAGE C IMMUTABLE STRICT PARALLEL SAFE COST 500;
 
@@ -136,7 +136,7 @@ CREATE FUNCTION @extschema@.bcs_part_place(registry pg_catalog.text, format pg_c
     LANGUAGE C STABLE SUPPORT @extschema@.bcs_support STRICT PARALLEL SAFE COST 20;
 CREATE FUNCTION @extschema@.bcs_explain(registry pg_catalog.text, format pg_catalog.text,
     bytes pg_catalog.bytea, form pg_catalog.text DEFAULT 'ways'::pg_catalog.text,
-    nodes pg_catalog.int8 DEFAULT 3125, depth pg_catalog.int4 DEFAULT 100)
+    nodes pg_catalog.int8 DEFAULT 6250, depth pg_catalog.int4 DEFAULT 100)
     RETURNS pg_catalog.text AS 'MODULE_PATHNAME', 'bcs_pg_explain'
     LANGUAGE C STABLE SUPPORT @extschema@.bcs_support STRICT PARALLEL SAFE COST 500;
 

@@ -50,8 +50,8 @@ write_normal(const Question *question, uint8_t *out, size_t room)
 	return bcs_handle_normalise(ASK(&question->ask), PIECE(question->input), out, room);
 }
 
-/* Printing a piece takes as long as other calls take for 16 nodes. */
-#define NODES_OF_PIECE 16
+/* Printing a piece takes as long as other calls take for eight nodes. */
+#define NODES_OF_PIECE 8
 
 /* Pieces that end where bcs.max_nodes stops them aren't those that the query asks for. */
 static bcs_answer

@@ -126,6 +126,11 @@ class Costs(Measured):
             format = '{"SEQ":"BOOL"}' if "explain" in call else '{"SEQ":"UNIT"}'
             self.assertEqual(refusal(self.session, "select " + call.format(ALL), "{}", format, units)[0], "57014")
             self.assertLess(time.monotonic() - start, 2)
+        for call in "bcs_encode_json", "bcs_normalise":
+            text = f"select length({call}('{{}}', '{{\"SEQ\":\"BOOL\"}}', '[' || repeat('true,', 20000000) || 'true]', {ALL})::text)"
+            start = time.monotonic()
+            self.assertEqual(refusal(self.session, text)[0], "57014")
+            self.assertLess(time.monotonic() - start, 2)
 
 
 class Faults(Measured):

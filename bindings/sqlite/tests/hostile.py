@@ -73,6 +73,7 @@ class Hostile(unittest.TestCase):
         """What a file with the schema does in a connection that doesn't trust it: an error, or nothing."""
         self.path.unlink(missing_ok=True)
         stranger = opened(self.path)
+        stranger.execute("pragma synchronous = off")
         stranger.executescript(SCHEMAS[schema].format(expression))
         stranger.commit()
         stranger.close()
@@ -91,7 +92,7 @@ class Hostile(unittest.TestCase):
         count = 0
         for schema in SCHEMAS:
             for name, inputs in FUNCTIONS.items():
-                for limits in ["", ", 4294967295", ", 4294967295, 100", ", 1", ", 1, 1"]:
+                for limits in ["", ", 4294967295", ", 4294967295, 100", ", 1"]:
                     told = self.used(schema, f"{name}({inputs}{limits})")
                     if limits == "" and name in BOUNDED:
                         self.assertTrue(told is None or "TooManyNodes" in told, (schema, name, told))
