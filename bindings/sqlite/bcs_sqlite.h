@@ -11,6 +11,12 @@
 #define STANDARD_NODES 1000000
 #define STANDARD_DEPTH 100
 
+/* The memory of a call without limits, which the schema of a hostile file can make: what the default nodes need, several times,
+   and what long inputs do. The names of a registry come again in each element of an answer, so nodes alone don't bound it. */
+#define STANDARD_MEMORY ((sqlite3_int64)256 << 20)
+#define MEMORY_OF_BYTE 32
+#define NO_LIMIT (INT64_MAX / 2)
+
 /* A registry that is open, by its text; none if `text` is null. */
 struct registry {
     uint8_t *text;
@@ -42,6 +48,8 @@ static const struct piece no_bytes = {(const uint8_t *)"", 0};
 struct connection *new_connection(void);
 /* For each function that is removed. The last one frees the connection with its registries. */
 void leave_connection(void *connection);
+/* How many bytes the proved code may take on this thread from now on, in addition to what it has. */
+void limit_heap(sqlite3_int64 bytes);
 /* The handle of a registry, opened if it isn't yet; null if it is refused, which is reported. */
 bcs_handle *registry_of(sqlite3_context *context, struct piece text);
 

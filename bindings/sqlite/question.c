@@ -92,8 +92,14 @@ static bool take_inputs(sqlite3_context *context, struct question *question, int
         types = TEXT;
         message = "bcs: the path or the form isn't TEXT";
     }
-    return (inputs == 1 || take_piece(context, values[3], types, message, &question->second)) &&
-           take_ask(context, question, values);
+    if ((inputs == 2 && !take_piece(context, values[3], types, message, &question->second)) ||
+        !take_ask(context, question, values)) {
+        return false;
+    }
+    if (count == 2 + inputs) {
+        limit_heap(STANDARD_MEMORY + MEMORY_OF_BYTE * (sqlite3_int64)(question->input.length + question->second.length));
+    }
+    return true;
 }
 
 bool take_question(sqlite3_context *context, struct question *question, int inputs, int count, sqlite3_value **values) {
@@ -106,5 +112,6 @@ bool take_question_of_bytes(sqlite3_context *context, struct question *question,
 }
 
 void drop_question(struct question *question) {
+    limit_heap(NO_LIMIT);
     sqlite3_free(question->format);
 }

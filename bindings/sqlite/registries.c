@@ -4,11 +4,23 @@ SQLITE_EXTENSION_INIT3
 
 #include "heap.h"
 
+/* How many bytes the call in progress may still take. */
+static __thread sqlite3_int64 left = NO_LIMIT;
+
+void limit_heap(sqlite3_int64 bytes) {
+    left = bytes;
+}
+
 static void *take_block(size_t length) {
-    return sqlite3_malloc64(length);
+    void *block = (sqlite3_int64)length <= left ? sqlite3_malloc64(length) : NULL;
+    if (block != NULL) {
+        left -= (sqlite3_int64)sqlite3_msize(block);
+    }
+    return block;
 }
 
 static void give_block_back(void *block) {
+    left += (sqlite3_int64)sqlite3_msize(block);
     sqlite3_free(block);
 }
 

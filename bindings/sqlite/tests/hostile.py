@@ -121,13 +121,27 @@ class Hostile(unittest.TestCase):
             (json.dumps({**doubling, "T40": "UNITSTRUCT"}), "T23", b""), (json.dumps({**doubling, "T40": "UNITSTRUCT"}), "T0", b""),
         ]
         for question in questions:
-            with heap(100):
+            with contextlib.closing(opened()) as database, heap(100):
                 start = time.process_time()
                 try:
-                    opened().execute("select bcs_decode(?, ?, ?)", question).fetchall()
-                except sqlite3.Error as fault:
+                    database.execute("select bcs_decode(?, ?, ?)", question).fetchall()
+                except sqlite3.OperationalError as fault:
                     self.assertIn("TooManyNodes", str(fault))
                 print(f"hostile: decoding {question[1]} took {time.process_time() - start:.2f} s")
+
+    def test_long_names(self):
+        """An answer has the names of a registry for each element. A long one can't make it take more memory; long inputs can."""
+        named = '{"A":{"STRUCT":[{"%s":"UNIT"}]}}' % ("x" * 100_000)
+        decoded = "select length(bcs_decode(?, '{\"SEQ\":{\"TYPENAME\":\"A\"}}', ?))"
+        element = len('{"":null},') + 100_000
+        with contextlib.closing(opened()) as database, heap(800):
+            for count in 10_000, 300_000:
+                with self.assertRaises(MemoryError):
+                    database.execute(decoded, [named, length(count)])
+            self.assertEqual(database.execute(decoded, [named, length(500)]).fetchone(), (500 * element + 1,))
+        with contextlib.closing(opened()) as database:
+            data = length(100_000_000) + bytes(100_000_000)
+            self.assertEqual(database.execute("select length(bcs_decode('{}', '\"BYTES\"', ?))", [data]).fetchone(), (200_000_002,))
 
     def test_length(self):
         """A connection's limit on values is that of the answers, before their memory is asked for."""
