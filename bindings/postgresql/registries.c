@@ -10,6 +10,7 @@
 #include "commands/trigger.h"
 #include "mb/pg_wchar.h"
 #include "miscadmin.h"
+#include "nodes/primnodes.h"
 #include "utils/builtins.h"
 #include "utils/fmgroids.h"
 #include "utils/inval.h"
@@ -28,7 +29,7 @@ static bool have_names_changed = false;
 typedef struct Kept
 {
 	bool		takes_names;
-	bool		is_constant;	/* the argument is the same in all rows */
+	bool		is_constant;	/* the argument is the same in all calls */
 	Registry   *registry;
 	uint64		number;
 } Kept;
@@ -195,6 +196,15 @@ registry_of(FunctionCallInfo fcinfo, struct piece text, bool is_name)
 	return registry;
 }
 
+/* A parameter of a query has one value in all of its rows, but PL/pgSQL keeps an expression for calls with other values. */
+static bool
+has_constant_registry(const FmgrInfo *function)
+{
+	const FuncExpr *call = (const FuncExpr *) function->fn_expr;
+
+	return call != NULL && IsA(call, FuncExpr) && IsA(linitial(call->args), Const);
+}
+
 static Kept *
 kept_of_call(FunctionCallInfo fcinfo)
 {
@@ -208,13 +218,13 @@ kept_of_call(FunctionCallInfo fcinfo)
 		(void) get_func_signature(function->fn_oid, &types, &count);
 		kept = MemoryContextAllocZero(function->fn_mcxt, sizeof *kept);
 		kept->takes_names = types[0] == TEXTOID;
-		kept->is_constant = get_fn_expr_arg_stable(function, 0);
+		kept->is_constant = has_constant_registry(function);
 		function->fn_extra = kept;
 	}
 	return function->fn_extra;
 }
 
-/* If the argument is the same in all rows of a query, it is looked at once. */
+/* If the argument is a constant, it is looked at once. */
 bcs_handle *
 registry_of_call(FunctionCallInfo fcinfo)
 {

@@ -48,6 +48,22 @@ SELECT id FROM payments WHERE bcs_decode(registry, 'Payment', bytes) ->> 'to' = 
 SELECT count(*) FROM payments WHERE bcs_decode('payments', 'Payment', bytes) ->> 'from' = 'p77';
 SELECT count(*) FROM payments WHERE bcs_decode('payments', 'Payment', bytes) ->> 'to' = 'p77';
 SELECT count(*) FROM recipients WHERE recipient = 'p77';
+-- PL/pgSQL keeps an expression from call to call, also where the registry is another one.
+DO $$
+DECLARE
+    registry text;
+BEGIN
+    FOREACH registry IN ARRAY array['payments', '{"Payment":{"STRUCT":[{"x":"STR"},{"y":"U64"}]}}', 'payments', payments()] LOOP
+        RAISE NOTICE '% %', bcs_decode(registry, 'Payment', '\x03626f620700000000000000'),
+            bcs_is(registry, 'Payment', '\x03626f620700000000000000');
+    END LOOP;
+    FOREACH registry IN ARRAY array['{"A":{"NEWTYPESTRUCT":"U8"}}', '{"A":{"NEWTYPESTRUCT":"U16"}}', '{"A":{"NEWTYPESTRUCT":"U8"}}'] LOOP
+        RAISE NOTICE '% %', bcs_encode(registry, 'A', '7'), bcs_encode(registry::json, 'A', '7');
+    END LOOP;
+END $$;
+PREPARE either(text) AS SELECT bcs_encode($1, 'A', '7');
+EXECUTE either('{"A":{"NEWTYPESTRUCT":"U8"}}');
+EXECUTE either('{"A":{"NEWTYPESTRUCT":"U16"}}');
 -- A registry of the type json is never a name, also where its JSON begins with a letter.
 INSERT INTO bcs_registries VALUES ('true', '{}');
 SELECT bcs_is('true', '"U8"', '\x07');
