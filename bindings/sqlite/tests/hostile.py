@@ -44,6 +44,13 @@ def length(number):
     return bytes(data) + bytes([number])
 
 
+def taken(is_reset=False):
+    """The most memory that SQLite had at a time."""
+    highwater = ctypes.CDLL("libsqlite3.so.0").sqlite3_memory_highwater
+    highwater.argtypes, highwater.restype = [ctypes.c_int], ctypes.c_int64
+    return highwater(is_reset)
+
+
 @contextlib.contextmanager
 def heap(megabytes):
     """For a while SQLite has no more memory. (Its pragma could only lower the limit.)"""
@@ -134,11 +141,13 @@ class Hostile(unittest.TestCase):
         named = '{"A":{"STRUCT":[{"%s":"UNIT"}]}}' % ("x" * 100_000)
         decoded = "select length(bcs_decode(?, '{\"SEQ\":{\"TYPENAME\":\"A\"}}', ?))"
         element = len('{"":null},') + 100_000
-        with contextlib.closing(opened()) as database, heap(800):
+        with contextlib.closing(opened()) as database:
+            self.assertEqual(database.execute(decoded, [named, length(500)]).fetchone(), (500 * element + 1,))
             for count in 10_000, 300_000:
+                taken(is_reset=True)
                 with self.assertRaises(MemoryError):
                     database.execute(decoded, [named, length(count)])
-            self.assertEqual(database.execute(decoded, [named, length(500)]).fetchone(), (500 * element + 1,))
+                self.assertLess(taken(), 300_000_000)
         with contextlib.closing(opened()) as database:
             data = length(100_000_000) + bytes(100_000_000)
             self.assertEqual(database.execute("select length(bcs_decode('{}', '\"BYTES\"', ?))", [data]).fetchone(), (200_000_002,))
