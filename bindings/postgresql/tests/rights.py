@@ -135,6 +135,7 @@ class Rights(unittest.TestCase):
         owner = self.mallory()
         run(owner, "alter database attacked set search_path = evil, public, pg_catalog")
         count = plant(owner, self.names)
+        print(f"rights: {count} objects planted")
         self.assertGreater(count, 500)
         owner = self.mallory()
         run(owner, "set search_path = pg_catalog")
