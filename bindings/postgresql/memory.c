@@ -1,8 +1,8 @@
-/* The heap of the proved code: the current memory context, so that a query's end gives back what the query took, and the
- * server's own counts of memory have it. No error may be raised here, since it would jump over the proved code: want of memory
- * is told, and raised when the call has ended.
+/* The heap of the proved code: the current memory context, so that the end of a query frees what the query took, and the server
+ * counts it. Nothing here may raise an error, since that would jump over the proved code: a lack of memory is returned, and raised
+ * when the call has ended.
  *
- * A call looks for no signals. So a session that is to be cancelled or ended gets no memory any more, by which the call ends. */
+ * A call doesn't check for signals. So a session that is cancelled or ended gets no more memory, and that ends the call. */
 #include "bcs_pg.h"
 
 #include "miscadmin.h"

@@ -1,8 +1,8 @@
-/* The heap of the proved code over one whose blocks are aligned to 8 bytes, as those of PostgreSQL and SQLite are. What the
-   proved code is promised stands in ../c/heap.c: blocks that are aligned to 16 bytes, and never a null one.
+/* The heap of the proved code over one whose blocks are aligned to 8 bytes, like those of PostgreSQL and SQLite. ../c/heap.c says
+   what the proved code requires: blocks that are aligned to 16 bytes, and never a null one.
 
-   Who includes this defines take_block, which answers null where there is no memory, and give_block_back. Neither may leave
-   by a jump, since the proved code has to end each call by itself. */
+   A file that includes this defines take_block, which returns null if there is no memory, and give_block_back. Neither may leave
+   with a jump, since the proved code has to end each call itself. */
 #ifndef BCS_SQL_HEAP_H
 #define BCS_SQL_HEAP_H
 
@@ -14,7 +14,7 @@
 static void *take_block(size_t length);
 static void give_block_back(void *block);
 
-/* A block, or that there is none. */
+/* A block, or none. */
 struct tried {
     bool ok;
     void *block;
@@ -24,7 +24,7 @@ struct tried rattle_alloc(size_t length, size_t alignment);
 struct tried rattle_realloc(void *block, size_t kept, size_t length, size_t alignment);
 void rattle_dealloc(void *block);
 
-/* A block begins behind the place where it is noted which one was taken for it: 8 or 16 bytes further on. */
+/* Before each block is the address of the one that was taken for it, which begins 8 or 16 bytes earlier. */
 struct tried rattle_alloc(size_t length, size_t alignment) {
     static char nothing[1];
     char *taken = length <= SIZE_MAX - 16 ? take_block(length + 16) : NULL;
@@ -44,7 +44,7 @@ void rattle_dealloc(void *block) {
     give_block_back(taken);
 }
 
-/* Where it fails, the block stays as it was. */
+/* If it fails, the block stays as it was. */
 struct tried rattle_realloc(void *block, size_t kept, size_t length, size_t alignment) {
     const struct tried answer = rattle_alloc(length, alignment);
     if (answer.ok) {
