@@ -3,7 +3,6 @@ name the server."""
 
 import json
 import pathlib
-import time
 import unittest
 
 from sessions import Database, address_space, process_memory, refusal, run, value
@@ -105,32 +104,30 @@ class Costs(Measured):
         run(self.session, "set bcs.max_nodes = -1")
         self.assertIs(value(self.session, bomb.format("bcs_is", ALL)), True)
 
+    def ends(self, state, most, statement, *arguments):
+        """A statement ends so, and takes at most so many milliseconds of processor time, which other processes can't lengthen."""
+        before = self.spent()
+        self.assertEqual(refusal(self.session, statement, *arguments)[0], state)
+        self.assertLess(self.spent() - before, most)
+
     def test_timeout(self):
-        """A query of many calls ends about when it is to end, and one call with all nodes long before."""
+        """A query of many calls ends when it is to end, and one call with all nodes long before."""
         run(self.session, "set statement_timeout = '1s'")
-        start = time.monotonic()
-        self.assertEqual(refusal(self.session, f"select bcs_scan(%s, 'T0', '', {ALL})", doubling(40))[0], "54000")
-        self.assertLess(time.monotonic() - start, 1)
+        self.ends("54000", 100, f"select bcs_scan(%s, 'T0', '', {ALL})", doubling(40))
         calls = f"select count(bcs_is(%s, 'T26', '', {MOST})) from generate_series(1, 1000000) as n"
-        start = time.monotonic()
-        self.assertEqual(refusal(self.session, calls, doubling(40))[0], "57014")
-        self.assertLess(time.monotonic() - start, 2)
+        self.ends("57014", 1200, calls, doubling(40))
 
     def test_building(self):
-        """A call that builds something ends when it is cancelled, also with all nodes."""
+        """A call that builds something ends when it is cancelled, also with all nodes, and with a text of 100 MB."""
         run(self.session, "set bcs.max_nodes = -1")
         run(self.session, "set statement_timeout = '200ms'")
+        units = "{}", '{"SEQ":"UNIT"}', length(100_000_000)
+        truths = "{}", '{"SEQ":"BOOL"}', length(100_000_000) + b"\1" * 1_000_000
         for call in CALLS[4:]:
-            start = time.monotonic()
-            units = length(100_000_000) + (b"\1" * 1_000_000 if "explain" in call else b"")
-            format = '{"SEQ":"BOOL"}' if "explain" in call else '{"SEQ":"UNIT"}'
-            self.assertEqual(refusal(self.session, "select " + call.format(ALL), "{}", format, units)[0], "57014")
-            self.assertLess(time.monotonic() - start, 2)
+            self.ends("57014", 1000, "select " + call.format(ALL), *(truths if "explain" in call else units))
         for call in "bcs_encode_json", "bcs_normalise":
-            text = f"select length({call}('{{}}', '{{\"SEQ\":\"BOOL\"}}', '[' || repeat('true,', 20000000) || 'true]', {ALL})::text)"
-            start = time.monotonic()
-            self.assertEqual(refusal(self.session, text)[0], "57014")
-            self.assertLess(time.monotonic() - start, 2)
+            text = "'[' || repeat('true,', 20000000) || 'true]'"
+            self.ends("57014", 1000, f"select length({call}('{{}}', '{{\"SEQ\":\"BOOL\"}}', {text}, {ALL})::text)")
 
 
 class Faults(Measured):
