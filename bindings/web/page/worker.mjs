@@ -1,5 +1,6 @@
 // What runs beside the page, so that the page never waits: each message is a question, and is answered by one message.
-import { load, BcsError } from '../loader.mjs';
+import { BcsError } from '../errors.mjs';
+import { load } from '../loader.mjs';
 import { bytesOfHex, hexOf } from '../hex.mjs';
 import { blankOf } from './blank.mjs';
 import { laidOut } from './layout.mjs';

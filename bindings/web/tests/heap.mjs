@@ -126,7 +126,7 @@ test('a call in a full memory answers that, and before and behind it the bytes',
   const [text, answer, out] = [heap.put('[1,2,3]'), heap.put(' '.repeat(24)), heap.put(' '.repeat(9))];
   const [DONE, MEMORY] = [0, 6];
   const isAnswered = (status) => {
-    heap.exports.bcs_to_bcs(answer[0], ask, ...text, ...out);
+    heap.exports.bcs_c_to_bcs(answer[0], ask, ...text, ...out);
     assert.equal(new DataView(heap.exports.memory.buffer).getUint32(Number(answer[0]), true), status);
     if (status === DONE) assert.deepEqual([...heap.bytes({ place: Number(out[0]), length: 7 })], [3, 1, 0, 2, 0, 3, 0]);
   };
