@@ -33,8 +33,8 @@ export function valueOf(shapes, shape, text) {
 
 /**
  * Goes through a shape and a value together. It may run the caller's code (getters, proxies), but only before the proved call,
- * and it reads each part once. Where the text is sure to be rejected, for its nesting, its depth or an unknown name, the rest of
- * the value is not read.
+ * and it reads each part once. Below an unknown name and beyond the deepest container the call rejects the text whatever it has
+ * there, so the value is not read there.
  */
 class Writer {
   #shapes;
@@ -100,7 +100,7 @@ class Writer {
 
   #items(shape, value, shapeOf) {
     if (!Array.isArray(value)) this.#reject(shape, value);
-    if (this.#path.length === MOST_NESTED) return '[]';
+    this.#nest();
     const { length } = value;
     let text = '';
     for (let i = 0; i < length; i++) {
@@ -114,13 +114,19 @@ class Writer {
 
   #members(shape, value) {
     if (typeof value !== 'object' || tagOf(value) !== 'Object') this.#reject(shape, value);
-    if (this.#path.length === MOST_NESTED) return '[]';
+    this.#nest();
     const members = Object.keys(value).map((name) => {
       const part = shape.members.get(name);
       const text = stringText(name) ?? this.#reject(shape, value, 'one with half of a surrogate pair in a name');
       return `${text}:${part === undefined ? 'null' : this.#part(name, part, value[name])}`;
     });
     return `{${members.join()}}`;
+  }
+
+  /** The path has a step for each open array or object. A value within itself ends here, too. */
+  #nest() {
+    if (this.#path.length < MOST_NESTED) return;
+    throw this.#error('TooNested', `arrays and objects nest more than ${MOST_NESTED} deep`);
   }
 
   #part(step, shape, value) {
@@ -147,8 +153,12 @@ class Writer {
   }
 
   #reject(shape, value, found = foundIn(value)) {
+    throw this.#error('WrongType', `${shape.name} takes ${takenBy(shape)}, not ${found}`);
+  }
+
+  #error(reason, expected) {
     const pointer = this.#path.map((step) => `/${String(step).replaceAll('~', '~0').replaceAll('/', '~1')}`).join('');
-    throw new BcsError('value', 'WrongType', undefined, { pointer, expected: `${shape.name} takes ${takenBy(shape)}, not ${found}` });
+    return new BcsError('value', reason, undefined, { pointer, expected });
   }
 }
 

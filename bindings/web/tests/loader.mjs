@@ -3,7 +3,7 @@
 import assert from 'node:assert/strict';
 import { readFileSync } from 'node:fs';
 import test from 'node:test';
-import { BcsError, fromBase64, isSupported, load, toBase64 } from '../bcs.mjs';
+import { BcsError, fromBase64, isSupported, Limits, load, toBase64 } from '../bcs.mjs';
 import { bytesOfHex, hexOf } from '../hex.mjs';
 
 const module = await WebAssembly.compile(readFileSync(process.env.BCS_WASM));
@@ -37,11 +37,12 @@ const coded = (registry, format, value, digits, back = value) => {
   assert.deepEqual(registry.decode(format, bytesOfHex(digits)), back);
 };
 
-test('the module imports nothing, and has the calls of the header alone', () => {
+test('the module imports nothing, and has the proved calls alone', () => {
   assert.ok(isSupported());
   assert.deepEqual(WebAssembly.Module.imports(module), []);
-  const header = readFileSync(new URL('../../c/include/bcs.h', import.meta.url), 'utf8');
-  const calls = Array.from(header.matchAll(/^(?:bcs_answer|void) (bcs_\w+)\(/gm), (found) => found[1]);
+  const header = readFileSync(new URL('../../c/proved.h', import.meta.url), 'utf8');
+  const calls = Array.from(header.matchAll(/^(?:bcs_answer|void) (bcs_c_\w+)\(/gm), (found) => found[1]);
+  assert.equal(calls.length, 25);
   const exported = WebAssembly.Module.exports(module).map(({ name }) => name);
   assert.deepEqual(exported.sort(), [...calls, 'memory', 'take_memory', 'give_memory'].sort());
 });
@@ -97,8 +98,8 @@ test('numbers of 128 bits, drawn over the whole range', () => {
 });
 
 test('numbers that JavaScript does not hold exactly are no values', () => {
-  for (const number of [2 ** 53, 1.5, NaN, Infinity]) assert.throws(() => none.encode('"U64"', number), RangeError);
-  for (const value of [undefined, () => 1, Symbol('a')]) assert.throws(() => none.encode('"UNIT"', value), TypeError);
+  for (const number of [2 ** 53, 1.5, NaN, Infinity]) assert.throws(() => none.encode('"U64"', number), refusal('value', 'WrongType'));
+  for (const value of [undefined, () => 1, Symbol('a')]) assert.throws(() => none.encode('"UNIT"', value), refusal('value', 'WrongType'));
 });
 
 test('texts, bytes, lists and options', () => {
@@ -167,7 +168,8 @@ test('refusals by kind, reason and place', () => {
 
 test('half of a surrogate pair is refused, and not changed', () => {
   assert.throws(() => none.encodeText('"STR"', '"\ud800"'), TypeError);
-  assert.throws(() => none.encode('"STR"', '\ud800'), refusal('text', 'NotJson'));
+  assert.throws(() => none.encode('"STR"', '\ud800'), refusal('value', 'WrongType'));
+  assert.throws(() => none.check('{"TYPENAME":"\ud800"}'), TypeError);
   coded(none, '"STR"', '😀', '04f09f9880');
 });
 
@@ -245,8 +247,51 @@ test('where something is refused, and what was wanted there', () => {
   assert.throws(() => bcs.registry('{"S":{"STRUCT":[{"side":{"TYPENAME":"Sid"}}]}}'), told('S, field side', 'no container is called Sid'));
   assert.throws(() => bcs.grows('{}', '{"S":7}'), told('/S', 'wanted a container'));
   assert.throws(() => registry.encode('Point', { x: 256, '~/': [] }), { message: `text refused: BadNumber at /x: ${wanted}` });
-  assert.throws(() => registry.encode('Point', 7), { message: /^text refused: BadShape at the whole text: wanted an object/ });
+  assert.throws(() => registry.encode('Point', 7), { message: 'value refused: WrongType at the whole value: Point takes an object, not number' });
+  assert.throws(() => registry.encodeText('Point', '7'), { message: /^text refused: BadShape at the whole text: wanted an object/ });
   assert.throws(() => registry.decode('Point', []), { message: 'bytes refused: EndOfInput at 0, .x: wanted U8' });
+});
+
+// (five bytes that announce 2147483647 units, which have no bytes)
+const ANNOUNCED = bytesOfHex('ffffffff07');
+
+test('by default bytes have at most 16 nodes a byte, and a million', () => {
+  const calls = ['decode', 'decodeText', 'scan', 'explain', 'explainText'];
+  const start = performance.now();
+  for (const call of calls.slice(0, 3)) assert.throws(() => none[call]({ SEQ: 'UNIT' }, ANNOUNCED), refusal('bytes', 'TooManyNodes', 5));
+  assert.throws(() => none.part({ SEQ: 'UNIT' }, ANNOUNCED, '.'), refusal('bytes', 'TooManyNodes', 5));
+  assert.equal(none.explain({ SEQ: 'UNIT' }, ANNOUNCED).at(-1).refused, 'TooManyNodes');
+  assert.match(none.explainText({ SEQ: 'UNIT' }, ANNOUNCED), /TooManyNodes at 5/);
+  assert.ok(performance.now() - start < 2000, 'two seconds');
+  // A list of `count` units has a node for itself and one for each, and its length has three bytes here.
+  const units = (count) => Uint8Array.of((count & 127) | 128, ((count >> 7) & 127) | 128, count >> 14);
+  const most = 16 * 3 + 1_000_000 - 1;
+  assert.equal(none.scan({ SEQ: 'UNIT' }, units(most)), 3);
+  assert.equal(none.decode({ SEQ: 'UNIT' }, units(most)).length, most);
+  assert.throws(() => none.scan({ SEQ: 'UNIT' }, units(most + 1)), refusal('bytes', 'TooManyNodes', 3));
+  assert.throws(() => none.withLimits({ depth: 9 }).scan({ SEQ: 'UNIT' }, units(most + 1)), refusal('bytes', 'TooManyNodes', 3));
+  assert.equal(none.withLimits({ nodes: most + 2 }).scan({ SEQ: 'UNIT' }, units(most + 1)), 3);
+});
+
+test('what bytes announce takes no memory by default', async () => {
+  const small = await load(withMostPages(readFileSync(process.env.BCS_WASM), 128));
+  const registry = small.registry('{"L":{"NEWTYPESTRUCT":{"SEQ":{"TYPENAME":"E"}}},"E":{"STRUCT":[]},"M":{"NEWTYPESTRUCT":{"SEQ":{"TUPLE":[]}}}}');
+  for (const format of [{ SEQ: 'UNIT' }, 'L', 'M', { SEQ: { TUPLEARRAY: { CONTENT: 'UNIT', SIZE: 1000 } } }]) {
+    for (const call of ['decode', 'scan']) assert.throws(() => registry[call](format, ANNOUNCED), refusal('bytes', 'TooManyNodes', 5));
+  }
+});
+
+test('the limits of the specification by name', () => {
+  assert.deepEqual(Limits.standard(), { depth: 500, nodes: 4294967295 });
+  assert.equal(none.withLimits(Limits.standard()).scan({ SEQ: 'UNIT' }, ANNOUNCED), 5);
+  assert.throws(() => none.withLimits({ nodes: 1 }).withLimits({}).scan({ SEQ: 'UNIT' }, ANNOUNCED), refusal('bytes', 'TooManyNodes', 5));
+  for (const nodes of [null, '7', 1.5, 2 ** 32, 7n, {}, Symbol('a')]) assert.throws(() => none.withLimits({ nodes }), RangeError);
+});
+
+test('texts and values have as many nodes as the specification allows', () => {
+  const count = 1_100_000;
+  assert.equal(none.encodeText({ SEQ: 'UNIT' }, `[${'null,'.repeat(count - 1)}null]`).length, 3);
+  assert.equal(none.encode({ SEQ: 'UNIT' }, new Array(count).fill(null)).length, 3);
 });
 
 test('a registry is read once, closed, and read again where its instance was let go', () => {

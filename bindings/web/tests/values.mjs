@@ -1,0 +1,621 @@
+// What each format takes of JavaScript's types: a table of values by formats, and random values there and back. BCS_WASM names
+// the module. Expected bytes are written out, or made by the small encoder at the end, which follows docs/FORMAT.md alone.
+import assert from 'node:assert/strict';
+import { readFileSync } from 'node:fs';
+import test from 'node:test';
+import { BcsError, load } from '../bcs.mjs';
+import { hexOf } from '../hex.mjs';
+
+const bcs = await load(readFileSync(process.env.BCS_WASM));
+const CONTAINERS = {
+  Nothing: 'UNITSTRUCT',
+  Id: { NEWTYPESTRUCT: 'U64' },
+  Pair: { TUPLESTRUCT: ['U8', 'U8'] },
+  Empty: { STRUCT: [] },
+  Point: { STRUCT: [{ a: 'U8' }] },
+  Shape: { ENUM: { 0: { Dot: 'UNIT' }, 1: { Circle: { NEWTYPE: 'U8' } }, 2: { Box: { TUPLE: ['U8', 'U8'] } }, 3: { Named: { STRUCT: [{ a: 'U8' }] } } } },
+};
+
+// By the name of an integer type: its bytes, and whether it has negative numbers.
+const INTEGERS = {
+  U8: [1, false], U16: [2, false], U32: [4, false], U64: [8, false], U128: [16, false],
+  I8: [1, true], I16: [2, true], I32: [4, true], I64: [8, true], I128: [16, true],
+};
+const OCTETS_OR_LIST = 'bytes, hexadecimal digits or an array';
+const NUMBERS = 'an array or a typed array of integers';
+
+// By the name of a column: its format, and what a rejection says that it takes.
+const COLUMNS = {
+  UNIT: ['UNIT', 'UNIT takes null'],
+  BOOL: ['BOOL', 'BOOL takes a boolean'],
+  STR: ['STR', 'STR takes a string'],
+  BYTES: ['BYTES', 'BYTES takes bytes or hexadecimal digits'],
+  ...Object.fromEntries(Object.keys(INTEGERS).map((name) => [name, [name, `${name} takes an integer`]])),
+  F32: ['F32'], F64: ['F64'], CHAR: ['CHAR'],
+  option: [{ OPTION: 'U8' }, 'OPTION takes null or { some: value }'],
+  octets: [{ SEQ: 'U8' }, `SEQ takes ${OCTETS_OR_LIST}`],
+  twoOctets: [{ TUPLEARRAY: { CONTENT: 'U8', SIZE: 2 } }, `TUPLEARRAY takes ${OCTETS_OR_LIST}`],
+  listI8: [{ SEQ: 'I8' }, `SEQ takes ${NUMBERS}`],
+  listU16: [{ SEQ: 'U16' }, `SEQ takes ${NUMBERS}`],
+  listI64: [{ SEQ: 'I64' }, `SEQ takes ${NUMBERS}`],
+  twoU16: [{ TUPLEARRAY: { CONTENT: 'U16', SIZE: 2 } }, `TUPLEARRAY takes ${NUMBERS}`],
+  texts: [{ SEQ: 'STR' }, 'SEQ takes an array'],
+  ids: [{ SEQ: { TYPENAME: 'Id' } }, 'SEQ takes an array'],
+  tuple: [{ TUPLE: ['U8', 'U8'] }, 'TUPLE takes an array'],
+  none: [{ TUPLE: [] }, 'TUPLE takes an array'],
+  mapSTR: [{ MAP: { KEY: 'STR', VALUE: 'U8' } }, 'MAP takes a Map or an array of pairs'],
+  mapU8: [{ MAP: { KEY: 'U8', VALUE: 'U8' } }, 'MAP takes a Map or an array of pairs'],
+  Nothing: [{ TYPENAME: 'Nothing' }, 'UNIT takes null'],
+  Id: [{ TYPENAME: 'Id' }, 'U64 takes an integer'],
+  Pair: [{ TYPENAME: 'Pair' }, 'Pair takes an array'],
+  Empty: [{ TYPENAME: 'Empty' }, 'Empty takes an object'],
+  Point: [{ TYPENAME: 'Point' }, 'Point takes an object'],
+  Shape: [{ TYPENAME: 'Shape' }, "Shape takes a variant's name or an object with one member"],
+};
+const registry = bcs.registry(JSON.stringify({
+  ...CONTAINERS,
+  ...Object.fromEntries(Object.entries(COLUMNS).map(([name, [format]]) => [`in ${name}`, { STRUCT: [{ v: format }] }])),
+}));
+
+/** In every integer column the number's bytes, or the proved call's verdict on a number out of range. */
+function integers(number) {
+  const cells = Object.entries(INTEGERS).map(([name, [size, isSigned]]) => {
+    const [least, most] = isSigned ? [-(2n ** BigInt(8 * size - 1)), 2n ** BigInt(8 * size - 1) - 1n] : [0n, 2n ** BigInt(8 * size) - 1n];
+    return [name, number < least || number > most ? 'BadNumber' : littleEndian(number, size)];
+  });
+  return { ...Object.fromEntries(cells), Id: Object.fromEntries(cells).U64 };
+}
+
+const NO_INTEGER = Object.fromEntries([...Object.keys(INTEGERS), 'Id'].map((name) => [name, 'BadNumber']));
+/** A string that is the JSON of nothing else. */
+const string = (digits, others) => ({
+  ...NO_INTEGER, STR: digits, BYTES: 'BadHex', octets: 'BadHex', twoOctets: 'BadHex', Shape: 'UnknownVariant', ...others,
+});
+const BYTES_0102 = { BYTES: '020102', octets: '020102', twoOctets: '0102' };
+const at = (pointer, expected) => ({ pointer, expected });
+const eachColumn = (names, cell) => Object.fromEntries(names.map((name) => [name, cell]));
+const LISTS = ['octets', 'twoOctets', 'listI8', 'listU16', 'listI64', 'twoU16'];
+const NUMBERS_1_2 = {
+  octets: '020102', twoOctets: '0102', listI8: '020102', listU16: '0201000200', twoU16: '01000200',
+  listI64: '0201000000000000000200000000000000',
+};
+const ARRAY_1_2 = {
+  ...NUMBERS_1_2, tuple: '0102', Pair: '0102', none: 'BadShape', ids: NUMBERS_1_2.listI64,
+  texts: at('/v/0', 'STR takes a string, not number'),
+  ...eachColumn(['mapSTR', 'mapU8'], at('/v/0', 'an entry of MAP takes an array, not number')),
+};
+/** An object that has no known members. */
+const OTHER_MEMBERS = { Empty: 'UnknownField', Point: 'MissingField', option: 'BadShape', Shape: 'UnknownVariant' };
+const NO_MEMBERS = { Empty: '', Point: 'MissingField', option: 'BadShape', Shape: 'BadShape' };
+const MEMBER_A = { ...OTHER_MEMBERS, Point: '01' };
+
+class Instance {
+  #hidden = 7;
+  a = 1;
+  get b() {
+    return this.#hidden;
+  }
+  toJSON() {
+    return { a: 2 };
+  }
+}
+function detached(object) {
+  structuredClone(object.buffer ?? object, { transfer: [object.buffer ?? object] });
+  return object;
+}
+function cut(buffer, array) {
+  buffer.resize(1);
+  return array;
+}
+function cutArray(IntegerArray) {
+  const buffer = new ArrayBuffer(8, { maxByteLength: 8 });
+  return cut(buffer, new IntegerArray(buffer, 0, 1 + (IntegerArray === Uint8Array)));
+}
+const shared = (...bytes) => {
+  const array = new Uint8Array(new SharedArrayBuffer(bytes.length));
+  array.set(bytes);
+  return array;
+};
+const lying = (IntegerArray, ...numbers) => {
+  const Lying = class extends IntegerArray {
+    get length() { return 1; }
+    get byteLength() { return 1; }
+    [Symbol.iterator]() { return [9].values(); }
+    static get [Symbol.species]() { return Float64Array; }
+  };
+  return new Lying(numbers);
+};
+const sparse = (length, ...items) => Object.assign(new Array(length), items);
+const HALF = 'a string with half of a surrogate pair';
+const WIDE = (number) => `the number ${number}: above 2 ** 53 - 1 only a bigint is exact`;
+
+// A row: what it is, the value, how a rejection calls it, and the cells where it isn't rejected with that: the bytes, the fault of
+// the proved call, or another place and message.
+const ROWS = [
+  ['null', null, 'null', { UNIT: '', Nothing: '', option: '00' }],
+  ['undefined', undefined, 'undefined', {}],
+  ['true', true, 'boolean', { BOOL: '01' }],
+  ['false', false, 'boolean', { BOOL: '00' }],
+  ['0', 0, 'number', integers(0n)],
+  ['-0', -0, 'number', integers(0n)],
+  ['1', 1, 'number', integers(1n)],
+  ['-1', -1, 'number', integers(-1n)],
+  ['200', 200, 'number', integers(200n)],
+  ['2**53-1', 2 ** 53 - 1, 'number', integers(9007199254740991n)],
+  ['-(2**53-1)', -(2 ** 53) + 1, 'number', integers(-9007199254740991n)],
+  ['2**53', 2 ** 53, WIDE('9007199254740992'), {}],
+  ['-2**53', -(2 ** 53), WIDE('-9007199254740992'), {}],
+  ['1e21', 1e21, WIDE('1e+21'), {}],
+  ['1.5', 1.5, 'the number 1.5', {}],
+  ['5e-324', 5e-324, 'the number 5e-324', {}],
+  ['NaN', NaN, 'the number NaN', {}],
+  ['Infinity', Infinity, 'the number Infinity', {}],
+  ['0n', 0n, 'bigint', integers(0n)],
+  ['5000n', 5000n, 'bigint', integers(5000n)],
+  ['2n**64n-1n', 2n ** 64n - 1n, 'bigint', integers(2n ** 64n - 1n)],
+  ['-(2n**127n)', -(2n ** 127n), 'bigint', integers(-(2n ** 127n))],
+  ['2n**128n', 2n ** 128n, 'bigint', integers(2n ** 128n)],
+  ['empty string', '', 'string', string('00', { BYTES: '00', octets: '00', twoOctets: 'BadShape' })],
+  ['"5"', '5', 'string', string('0135', integers(5n))],
+  ['"-1"', '-1', 'string', string('022d31', integers(-1n))],
+  ['"05"', '05', 'string', string('023035', { BYTES: '0105', octets: '0105', twoOctets: 'BadShape' })],
+  ['"0102"', '0102', 'string', string('0430313032', BYTES_0102)],
+  ['"5000"', '5000', 'string', string('0435303030', { ...integers(5000n), BYTES: '025000', octets: '025000', twoOctets: '5000' })],
+  ['"+1"', '+1', 'string', string('022b31')],
+  ['"-0"', '-0', 'string', string('022d30')],
+  ['"1.0"', '1.0', 'string', string('03312e30')],
+  ['"1e3"', '1e3', 'string', string('03316533')],
+  ['"0x10"', '0x10', 'string', string('0430783130')],
+  ['" 1"', ' 1', 'string', string('022031')],
+  ['"5n"', '5n', 'string', string('02356e')],
+  ['"é"', 'é', 'string', string('02c3a9')],
+  ['"null"', 'null', 'string', string('046e756c6c')],
+  ['"Dot"', 'Dot', 'string', string('03446f74', { Shape: '00' })],
+  ['"Circle"', 'Circle', 'string', string('06436972636c65', { Shape: 'BadShape' })],
+  ['half of a pair', 'a\ud800', HALF, {}],
+  ['symbol', Symbol('a'), 'symbol', {}],
+  ['function', () => 1, 'function', {}],
+  ['class', Instance, 'function', {}],
+  ['Date', new Date(0), 'Date', {}],
+  ['Number object', new Number(5), 'Number', {}],
+  ['String object', new String('5'), 'String', {}],
+  ['Boolean object', new Boolean(true), 'Boolean', {}],
+  ['BigInt object', Object(5n), 'BigInt', {}],
+  ['Symbol object', Object(Symbol('a')), 'Symbol', {}],
+  ['[]', [], 'Array', {
+    ...eachColumn(['octets', 'listI8', 'listU16', 'listI64', 'texts', 'ids', 'mapSTR', 'mapU8'], '00'), none: '',
+    ...eachColumn(['twoOctets', 'twoU16', 'tuple', 'Pair'], 'BadShape'),
+  }],
+  ['[1, 2]', [1, 2], 'Array', ARRAY_1_2],
+  ['["1", 2n]', ['1', 2n], 'Array', {
+    ...ARRAY_1_2, texts: at('/v/1', 'STR takes a string, not bigint'),
+    ...eachColumn(['mapSTR', 'mapU8'], at('/v/0', 'an entry of MAP takes an array, not string')),
+  }],
+  ['[[1, 2]]', [[1, 2]], 'Array', {
+    ...Object.fromEntries([...LISTS, 'tuple', 'Pair', 'ids'].map((name) => [name, at('/v/0', `${{ listI8: 'I8', listU16: 'U16', listI64: 'I64', twoU16: 'U16', ids: 'U64' }[name] ?? 'U8'} takes an integer, not Array`)])),
+    texts: at('/v/0', 'STR takes a string, not Array'), none: 'BadShape', mapU8: '010102', mapSTR: at('/v/0/0', 'STR takes a string, not number'),
+  }],
+  ['sparse', sparse(2 ** 32 - 1), 'Array', {
+    ...Object.fromEntries([...LISTS, 'tuple', 'Pair', 'ids'].map((name) => [name, at('/v/0', `${{ listI8: 'I8', listU16: 'U16', listI64: 'I64', twoU16: 'U16', ids: 'U64' }[name] ?? 'U8'} takes an integer, not undefined`)])),
+    texts: at('/v/0', 'STR takes a string, not undefined'), none: RangeError,
+    ...eachColumn(['mapSTR', 'mapU8'], at('/v/0', 'an entry of MAP takes an array, not undefined')),
+  }],
+  ['Uint8Array', Uint8Array.of(1, 2), 'Uint8Array', BYTES_0102],
+  ['Uint8Array of 8 bytes', Uint8Array.of(0x88, 0x13, 0, 0, 0, 0, 0, 0), 'Uint8Array', {
+    BYTES: '088813000000000000', octets: '088813000000000000', twoOctets: 'BadShape',
+  }],
+  ['Uint8ClampedArray', Uint8ClampedArray.of(1, 2), 'Uint8ClampedArray', BYTES_0102],
+  ['Buffer', Buffer.from([1, 2]), 'Uint8Array', BYTES_0102],
+  ['ArrayBuffer', Uint8Array.of(1, 2).buffer, 'ArrayBuffer', BYTES_0102],
+  ['part of a buffer', Uint8Array.of(9, 1, 2, 9).subarray(1, 3), 'Uint8Array', BYTES_0102],
+  ['shared Uint8Array', shared(1, 2), 'Uint8Array', BYTES_0102],
+  ['subclass that lies', lying(Uint8Array, 1, 2), 'Uint8Array', BYTES_0102],
+  ['detached Uint8Array', detached(Uint8Array.of(1, 2)), 'Uint8Array', {
+    BYTES: at('/v', 'BYTES takes bytes or hexadecimal digits, not a detached Uint8Array'),
+    octets: at('/v', `SEQ takes ${OCTETS_OR_LIST}, not a detached Uint8Array`),
+    twoOctets: at('/v', `TUPLEARRAY takes ${OCTETS_OR_LIST}, not a detached Uint8Array`),
+  }],
+  ['Uint8Array beyond its buffer', cutArray(Uint8Array), 'Uint8Array', {
+    BYTES: at('/v', 'BYTES takes bytes or hexadecimal digits, not a detached Uint8Array'),
+    octets: at('/v', `SEQ takes ${OCTETS_OR_LIST}, not a detached Uint8Array`),
+    twoOctets: at('/v', `TUPLEARRAY takes ${OCTETS_OR_LIST}, not a detached Uint8Array`),
+  }],
+  ['detached ArrayBuffer', detached(new ArrayBuffer(2)), 'ArrayBuffer', {
+    BYTES: at('/v', 'BYTES takes bytes or hexadecimal digits, not a detached ArrayBuffer'),
+    octets: at('/v', `SEQ takes ${OCTETS_OR_LIST}, not a detached ArrayBuffer`),
+    twoOctets: at('/v', `TUPLEARRAY takes ${OCTETS_OR_LIST}, not a detached ArrayBuffer`),
+  }],
+  ...[Int8Array, Int16Array, Uint16Array, Int32Array, Uint32Array].map((IntegerArray) => [IntegerArray.name, IntegerArray.of(1, 2), IntegerArray.name, NUMBERS_1_2]),
+  ...[BigInt64Array, BigUint64Array].map((IntegerArray) => [IntegerArray.name, IntegerArray.of(1n, 2n), IntegerArray.name, NUMBERS_1_2]),
+  ['Int8Array of -1', Int8Array.of(-1, 2), 'Int8Array', {
+    octets: 'BadNumber', twoOctets: 'BadNumber', listU16: 'BadNumber', twoU16: 'BadNumber', listI8: '02ff02',
+    listI64: '02ffffffffffffffff0200000000000000',
+  }],
+  ['BigUint64Array of 2**63', BigUint64Array.of(2n ** 63n, 2n), 'BigUint64Array', eachColumn(LISTS, 'BadNumber')],
+  ['subclass of Uint16Array that lies', lying(Uint16Array, 1, 2), 'Uint16Array', NUMBERS_1_2],
+  ['empty Uint16Array', new Uint16Array(), 'Uint16Array', {
+    ...eachColumn(['octets', 'listI8', 'listU16', 'listI64'], '00'), ...eachColumn(['twoOctets', 'twoU16'], 'BadShape'),
+  }],
+  ...[['detached', detached(Uint16Array.of(1, 2))], ['cut', cutArray(Uint16Array)]].map(([what, array]) => [`${what} Uint16Array`, array, 'Uint16Array',
+    Object.fromEntries(LISTS.map((name) => [name, at('/v', `${COLUMNS[name][1]}, not a detached Uint16Array`)])),
+  ]),
+  ['Float32Array', Float32Array.of(1, 2), 'Float32Array', {}],
+  ['Float64Array', Float64Array.of(1, 2), 'Float64Array', {}],
+  ['SharedArrayBuffer', new SharedArrayBuffer(2), 'SharedArrayBuffer', {}],
+  ['DataView', new DataView(new ArrayBuffer(2)), 'DataView', {}],
+  ['WebAssembly.Memory', new WebAssembly.Memory({ initial: 1 }), 'WebAssembly.Memory', {}],
+  ['Map', new Map([['a', 1]]), 'Map', { mapSTR: '01016101', mapU8: 'BadNumber' }],
+  ['Map of numbers', new Map([[2, 1], [1n, '3']]), 'Map', { mapU8: '0201030201', mapSTR: at('/v/0/0', 'STR takes a string, not number') }],
+  ['Map with a key twice', new Map([[1, 1], ['1', 2]]), 'Map', { mapU8: 'RepeatedKey', mapSTR: at('/v/0/0', 'STR takes a string, not number') }],
+  ['empty Map', new Map(), 'Map', { mapU8: '00', mapSTR: '00' }],
+  ['Map with a bad value', new Map([['a', 1], ['b', true]]), 'Map', {
+    mapSTR: at('/v/1/1', 'U8 takes an integer, not boolean'), mapU8: at('/v/1/1', 'U8 takes an integer, not boolean'),
+  }],
+  ['Set', new Set([1, 2]), 'Set', {}],
+  ['WeakMap', new WeakMap(), 'WeakMap', {}],
+  ['{}', {}, 'Object', NO_MEMBERS],
+  ['{ a: 1 }', { a: 1 }, 'Object', MEMBER_A],
+  ['{ a: undefined }', { a: undefined }, 'Object', { ...OTHER_MEMBERS, Point: at('/v/a', 'U8 takes an integer, not undefined') }],
+  ['{ a: 1, b: undefined }', { a: 1, b: undefined }, 'Object', { ...OTHER_MEMBERS, Point: 'UnknownField', Shape: 'BadShape' }],
+  ['{ some: 7 }', { some: 7 }, 'Object', { ...OTHER_MEMBERS, option: '0107' }],
+  ['{ some: null }', { some: null }, 'Object', { ...OTHER_MEMBERS, option: at('/v/some', 'U8 takes an integer, not null') }],
+  ['{ some: 7, more: 1 }', { some: 7, more: 1 }, 'Object', { ...OTHER_MEMBERS, Shape: 'BadShape' }],
+  ['{ Dot: null }', { Dot: null }, 'Object', { ...OTHER_MEMBERS, Shape: '00' }],
+  ['{ Dot: undefined }', { Dot: undefined }, 'Object', { ...OTHER_MEMBERS, Shape: at('/v/Dot', 'UNIT takes null, not undefined') }],
+  ['{ Circle: 7 }', { Circle: 7 }, 'Object', { ...OTHER_MEMBERS, Shape: '0107' }],
+  ['{ Box: [1, 2] }', { Box: [1, 2] }, 'Object', { ...OTHER_MEMBERS, Shape: '020102' }],
+  ['{ Box: bytes }', { Box: Uint8Array.of(1, 2) }, 'Object', { ...OTHER_MEMBERS, Shape: at('/v/Box', 'Shape::Box takes an array, not Uint8Array') }],
+  ['{ Named: .. }', { Named: { a: '1' } }, 'Object', { ...OTHER_MEMBERS, Shape: '0301' }],
+  ['{ Named: Map }', { Named: new Map([['a', 1]]) }, 'Object', { ...OTHER_MEMBERS, Shape: at('/v/Named', 'Shape::Named takes an object, not Map') }],
+  ['{ Dot: null, Circle: 7 }', { Dot: null, Circle: 7 }, 'Object', { ...OTHER_MEMBERS, Shape: 'BadShape' }],
+  ['a half in a name', { 'a\ud800': 1 }, 'Object', Object.fromEntries(['Empty', 'Point', 'option', 'Shape'].map((name) => [
+    name, at('/v', `${COLUMNS[name][1]}, not one with half of a surrogate pair in a name`),
+  ]))],
+  ['own __proto__', JSON.parse('{"__proto__":1}'), 'Object', OTHER_MEMBERS],
+  ['without a prototype', Object.assign(Object.create(null), { a: 1 }), 'Object', MEMBER_A],
+  ['inherited members', Object.create({ a: 1 }), 'Object', NO_MEMBERS],
+  ['hidden members', Object.defineProperty({}, 'a', { value: 1 }), 'Object', NO_MEMBERS],
+  ['members by symbols', { [Symbol('a')]: 1 }, 'Object', NO_MEMBERS],
+  ['class instance with toJSON', new Instance(), 'Object', MEMBER_A],
+  ['own toJSON', { a: 1, toJSON: () => 5 }, 'Object', { ...OTHER_MEMBERS, Point: 'UnknownField', Shape: 'BadShape' }],
+  ['valueOf and toString', { valueOf: () => 5, toString: () => '5' }, 'Object', { ...OTHER_MEMBERS, Shape: 'BadShape' }],
+  ['Symbol.toPrimitive', { [Symbol.toPrimitive]: () => 5 }, 'Object', NO_MEMBERS],
+  ['Symbol.iterator', { *[Symbol.iterator]() { yield 1; } }, 'Object', NO_MEMBERS],
+  ['array-like', { 0: 1, 1: 2, length: 2 }, 'Object', { ...OTHER_MEMBERS, Shape: 'BadShape' }],
+  ['getter', { get a() { return 1; } }, 'Object', MEMBER_A],
+  ['Proxy of an object', new Proxy({ a: 1 }, {}), 'Object', MEMBER_A],
+  ['Proxy of an array', new Proxy([1, 2], {}), 'Array', ARRAY_1_2],
+  ['Proxy of a Map', new Proxy(new Map([['a', 1]]), {}), 'Map', {}],
+  ['Proxy of bytes', new Proxy(Uint8Array.of(1, 2), {}), 'Object', { ...OTHER_MEMBERS, Shape: 'BadShape' }],
+  ['prototype of bytes', Object.create(Uint8Array.prototype), 'Object', NO_MEMBERS],
+  ['prototype of buffers', Object.create(ArrayBuffer.prototype), 'ArrayBuffer', {}],
+  ['prototype of maps', Object.create(Map.prototype), 'Map', {}],
+  ['subclass of Map', new (class extends Map { entries() { return [['b', 2]].values(); } [Symbol.iterator]() { return [['c', 3]].values(); } })([['a', 1]]), 'Map', { mapSTR: '01016101', mapU8: 'BadNumber' }],
+  ['subclass of Array', (class extends Array { *[Symbol.iterator]() { yield 9; } }).of(1, 2), 'Array', ARRAY_1_2],
+  ['other tag', { a: 1, [Symbol.toStringTag]: 'Payment' }, 'Payment', {}],
+  ['Promise', Promise.resolve(1), 'Promise', {}],
+  ['generator', (function* () { yield 1; })(), 'Generator', {}],
+  ['iterator', [1, 2].values(), 'Array Iterator', {}],
+  ['Error', new Error('a'), 'Error', {}],
+  ['RegExp', /a/, 'RegExp', {}],
+  ['arguments', (function () { return arguments; })(1, 2), 'Arguments', {}],
+];
+
+const UNSUPPORTED = new Set(['F32', 'F64', 'CHAR']);
+
+function outcomeOf(column, value) {
+  try {
+    return hexOf(registry.encode(`in ${column}`, { v: value }));
+  } catch (error) {
+    return error;
+  }
+}
+
+function isExpected(outcome, column, found, cell) {
+  if (typeof cell === 'function') return assert.ok(outcome instanceof cell);
+  if (/^([0-9a-f]{2})*$/.test(cell ?? '-')) return assert.equal(outcome, cell);
+  assert.ok(outcome instanceof BcsError, String(outcome));
+  if (typeof cell === 'string') return assert.deepEqual([outcome.kind, outcome.reason], ['text', cell]);
+  const { pointer, expected } = cell ?? at('/v', `${COLUMNS[column][1]}, not ${found}`);
+  assert.deepEqual({ ...outcome }, { name: 'BcsError', kind: 'value', reason: 'WrongType', place: undefined, pointer, expected });
+  assert.equal(outcome.message, `value refused: WrongType at ${pointer}: ${expected}`);
+}
+
+test('every type at every format', () => {
+  let count = 0;
+  for (const [name, value, found, cells] of ROWS) {
+    for (const column of Object.keys(cells)) assert.ok(column in COLUMNS, `${name}: ${column}`);
+    for (const column of Object.keys(COLUMNS)) {
+      const cell = UNSUPPORTED.has(column) ? 'Unsupported' : cells[column];
+      const outcome = outcomeOf(column, value);
+      try {
+        isExpected(outcome, column, found, cell);
+      } catch (error) {
+        error.message = `${name} at ${column}: ${error.message}`;
+        throw error;
+      }
+      count++;
+    }
+  }
+  assert.ok(count === ROWS.length * Object.keys(COLUMNS).length && count > 3000, String(count));
+});
+
+test('no bytes, and no numbers, come from the names and numbers of other types in maps and structs', () => {
+  const payment = bcs.registry('{"P":{"STRUCT":[{"amount":"U64"},{"to":"STR"}]}}');
+  const bytes = Uint8Array.of(0x88, 0x13, 0, 0, 0, 0, 0, 0);
+  assert.throws(() => payment.encode('P', { amount: bytes, to: 'bob' }), {
+    name: 'BcsError', kind: 'value', pointer: '/amount', expected: 'U64 takes an integer, not Uint8Array',
+    message: 'value refused: WrongType at /amount: U64 takes an integer, not Uint8Array',
+  });
+  assert.throws(() => payment.encode('P', { amount: 5000, to: Buffer.from('bob') }), { pointer: '/to', expected: 'STR takes a string, not Uint8Array' });
+  assert.throws(() => payment.encode('P', 7), { message: 'value refused: WrongType at the whole value: P takes an object, not number' });
+  assert.equal(hexOf(payment.encode('P', { to: 'bob', amount: 5000 })), '881300000000000003626f62');
+});
+
+test('pointers have the escapes of JSON Pointer', () => {
+  const odd = bcs.registry(JSON.stringify({ A: { STRUCT: [{ 'a/~b': { MAP: { KEY: 'U8', VALUE: { OPTION: { TYPENAME: 'A' } } } } }] } }));
+  const inner = { 'a/~b': new Map([[1, null], [2, { some: { 'a/~b': [[1, { some: 'x' }]] } }]]) };
+  assert.throws(() => odd.encode('A', inner), { pointer: '/a~1~0b/1/1/some/a~1~0b/0/1/some', expected: 'A takes an object, not string' });
+});
+
+test('values within themselves, deep ones and formats without an end are rejected at once', () => {
+  const deep = bcs.registry('{"T":{"NEWTYPESTRUCT":{"SEQ":{"TYPENAME":"T"}}},"X":{"NEWTYPESTRUCT":{"TYPENAME":"X"}},"S":{"STRUCT":[{"s":{"OPTION":{"TYPENAME":"S"}}}]},"M":{"NEWTYPESTRUCT":{"MAP":{"KEY":{"TYPENAME":"M"},"VALUE":"U8"}}}}');
+  const [list, struct, map] = [[], { s: null }, new Map()];
+  list.push(list, list, 7);
+  struct.s = { some: struct };
+  map.set(map, 7);
+  const isTooNested = (error) => error instanceof BcsError && error.kind === 'value' && error.reason === 'TooNested';
+  for (const [format, value] of [['T', list], ['S', struct], ['M', map]]) assert.throws(() => deep.encode(format, value), isTooNested);
+  const nested = (count) => Array.from({ length: count - 1 }).reduce((inner) => [inner], []);
+  assert.equal(hexOf(deep.encode('T', nested(100))), '01'.repeat(99) + '00');
+  for (const count of [101, 102, 100_000]) assert.throws(() => deep.encode('T', nested(count)), isTooNested);
+  const words = 'arrays and objects nest more than 100 deep';
+  assert.throws(() => deep.encode('T', nested(101)), { pointer: '/0'.repeat(100), expected: words });
+  assert.throws(() => deep.encodeText('T', '['.repeat(101) + ']'.repeat(101)), { reason: 'TooNested', expected: words });
+  assert.throws(() => deep.encode('X', null), (error) => error.kind === 'text' && error.reason === 'TooDeep');
+  let reads = 0;
+  const endless = new Proxy([], { get: (_, name) => (name === 'length' ? 1 : (reads++, endless)) });
+  assert.throws(() => deep.encode('T', endless), isTooNested);
+  assert.equal(reads, 100);
+});
+
+test('bad formats are rejected before a value is read', () => {
+  let reads = 0;
+  const value = new Proxy({}, { get: () => reads++, ownKeys: () => (reads++, []) });
+  for (const format of ['Nope', '{"SEQ":', { SEQ: 'U7' }, '"TYPENAME"', { TYPENAME: 'Nope' }, 7, undefined, null, [], { MAP: {} }]) {
+    assert.throws(() => registry.encode(format, value), (error) => error instanceof BcsError && error.kind === 'format');
+  }
+  assert.throws(() => registry.encode('{"TYPENAME":"\ud800"}', value), TypeError);
+  assert.equal(reads, 0);
+});
+
+test('a format is the JSON that it is, and a name only where it is a string', () => {
+  const named = bcs.registry('{"7":{"NEWTYPESTRUCT":"U8"},"null":{"NEWTYPESTRUCT":"U16"}}');
+  assert.equal(hexOf(named.encode('7', 1)), '01');
+  assert.equal(hexOf(named.encode('null', 1)), '0100');
+  for (const format of [7, null]) assert.throws(() => named.encode(format, 1), (error) => error.kind === 'format');
+});
+
+// Random values there and back, in any of the ways in which `encode` takes them.
+
+let state = 20261128;
+function below(most) {
+  state = (Math.imul(state, 1664525) + 1013904223) >>> 0;
+  return Math.floor((state / 2 ** 32) * most);
+}
+const oneOf = (choices) => choices[below(choices.length)];
+const many = (count, make) => Array.from({ length: count }, make);
+const NAMES = ['a', 'b', '__proto__', 'constructor', 'x~/y', 'é', '', 'toString'];
+const TEXTS = ['', 'a', '0102', '7', 'null', '\u0000', 'é😀', '"\\', '\ufeffa', '\u2028'];
+const LEAVES = ['UNIT', 'BOOL', 'STR', 'BYTES', ...Object.keys(INTEGERS)];
+
+function drawnFormat(levels) {
+  if (levels === 0 || below(3) === 0) return oneOf([...LEAVES, { TYPENAME: oneOf(Object.keys(CONTAINERS)) }]);
+  const part = () => drawnFormat(levels - 1);
+  return oneOf([
+    () => ({ OPTION: part() }),
+    () => ({ SEQ: part() }),
+    () => ({ TUPLE: many(below(4), part) }),
+    () => ({ TUPLEARRAY: { CONTENT: part(), SIZE: below(4) } }),
+    () => ({ MAP: { KEY: part(), VALUE: part() } }),
+  ])();
+}
+
+/** Containers of all kinds over random formats, which hold one another only downwards. */
+function drawnRegistry() {
+  // (a computed name makes an own member, also one called `__proto__`)
+  const fields = () => NAMES.slice(0, 1 + below(NAMES.length)).map((name) => ({ [name]: drawnFormat(2) }));
+  return {
+    ...CONTAINERS,
+    Newtype: { NEWTYPESTRUCT: drawnFormat(2) },
+    Row: { TUPLESTRUCT: many(below(4), () => drawnFormat(2)) },
+    Struct: { STRUCT: fields() },
+    Enum: { ENUM: {
+      0: { [oneOf(NAMES)]: 'UNIT' }, 7: { New: { NEWTYPE: drawnFormat(2) } }, 300: { Two: { TUPLE: many(2, () => drawnFormat(1)) } },
+      4294967295: { Last: { STRUCT: fields() } },
+    } },
+  };
+}
+
+/** A value as `decode` gives it, and the same as one of the things that `encode` takes. */
+class Drawn {
+  constructor(containers) {
+    this.containers = containers;
+  }
+
+  value(format) {
+    if (typeof format === 'string') return this.leaf(format);
+    const [[kind, inner]] = Object.entries(format);
+    switch (kind) {
+      case 'TYPENAME':
+        return this.container(this.containers[inner]);
+      case 'OPTION':
+        return below(2) ? same(null) : this.members([['some', inner]]);
+      case 'SEQ':
+        return this.list(inner, below(5));
+      case 'TUPLEARRAY':
+        return this.list(inner.CONTENT, inner.SIZE);
+      case 'TUPLE':
+        return this.row(inner);
+      default:
+        return this.map(inner);
+    }
+  }
+
+  leaf(word) {
+    switch (word) {
+      case 'UNIT':
+        return same(null);
+      case 'BOOL':
+        return same(below(2) === 1);
+      case 'STR':
+        return same(many(below(3), () => oneOf(TEXTS)).join(''));
+      case 'BYTES':
+        return octets(many(below(5), () => below(256)), false);
+      default:
+        return integer(word);
+    }
+  }
+
+  list(format, count) {
+    if (format === 'U8') return octets(many(count, () => below(256)), true);
+    return paired(many(count, () => this.value(format)));
+  }
+
+  row(formats) {
+    return paired(formats.map((format) => this.value(format)));
+  }
+
+  map({ KEY, VALUE }) {
+    const entries = new Map();
+    for (let i = below(5); i > 0; i--) {
+      const key = this.value(KEY);
+      entries.set(encoded(this.containers, KEY, key.given), [key, this.value(VALUE)]);
+    }
+    const sorted = [...entries].sort(([a], [b]) => (a < b ? -1 : 1)).map(([, entry]) => entry);
+    const given = new Map(sorted.map(([key, held]) => [key.given, held.given]));
+    const taken = sorted.map(([key, held]) => [key.taken, held.taken]).sort(() => below(3) - 1);
+    const isMap = below(2) && new Set(taken.map(([key]) => key)).size === taken.length;
+    return { given, taken: isMap ? new Map(taken) : taken };
+  }
+
+  members(named) {
+    const drawn = named.map(([name, format]) => [name, this.value(format)]);
+    const of = (which) => drawn.map(([name, value]) => [name, value[which]]);
+    return { given: Object.fromEntries(of('given')), taken: Object.fromEntries(of('taken').sort(() => below(3) - 1)) };
+  }
+
+  container(container) {
+    if (container === 'UNITSTRUCT') return same(null);
+    const [[kind, inner]] = Object.entries(container);
+    if (kind !== 'ENUM') return this.content(kind, inner);
+    const [[name, payload]] = Object.entries(oneOf(Object.values(inner)));
+    if (payload === 'UNIT') return { given: name, taken: below(2) ? name : Object.fromEntries([[name, null]]) };
+    const held = this.content(...Object.entries(payload)[0]);
+    return { given: Object.fromEntries([[name, held.given]]), taken: Object.fromEntries([[name, held.taken]]) };
+  }
+
+  content(kind, inner) {
+    if (kind.startsWith('NEWTYPE')) return this.value(inner);
+    return kind.startsWith('TUPLE') ? this.row(inner) : this.members(inner.map((field) => Object.entries(field)[0]));
+  }
+}
+
+const same = (value) => ({ given: value, taken: value });
+const paired = (values) => ({ given: values.map(({ given }) => given), taken: values.map(({ taken }) => taken) });
+
+function octets(numbers, isList) {
+  const given = Uint8Array.from(numbers);
+  const ways = [given, given.buffer, Buffer.from(numbers), Uint8ClampedArray.from(numbers), hexOf(given), hexOf(given).toUpperCase()];
+  return { given, taken: oneOf(isList ? [...ways, numbers, Uint16Array.from(numbers)] : ways) };
+}
+
+function integer(word) {
+  const [size, isSigned] = INTEGERS[word];
+  const bits = BigInt.asUintN(below(8 * size + 1), many(4, () => BigInt(below(2 ** 32))).reduce((high, low) => (high << 32n) | low));
+  const number = isSigned ? BigInt.asIntN(8 * size, bits) : bits;
+  const isSafe = Number.isSafeInteger(Number(number));
+  return { given: size < 8 ? Number(number) : number, taken: oneOf([number, String(number), isSafe ? Number(number) : number]) };
+}
+
+test('random values there and back', () => {
+  let count = 0;
+  for (let i = 0; i < 150; i++) {
+    const containers = drawnRegistry();
+    const drawnIn = bcs.registry(JSON.stringify(containers));
+    for (let j = 0; j < 40; j++, count++) {
+      const format = below(2) ? { TYPENAME: oneOf(Object.keys(containers)) } : drawnFormat(3);
+      const { given, taken } = new Drawn(containers).value(format);
+      const asked = typeof format === 'string' ? JSON.stringify(format) : format;
+      const digits = encoded(containers, format, given);
+      assert.equal(hexOf(drawnIn.encode(asked, taken)), digits, JSON.stringify(format));
+      const bytes = Buffer.from(digits, 'hex');
+      assert.deepEqual(drawnIn.decode(asked, bytes), given);
+      assert.equal(hexOf(drawnIn.encode(asked, drawnIn.decode(asked, bytes))), digits);
+    }
+    drawnIn.close();
+  }
+  assert.equal(count, 6000);
+});
+
+// The encoding of docs/FORMAT.md, as digits.
+
+function littleEndian(number, size) {
+  return BigInt.asUintN(8 * size, BigInt(number)).toString(16).padStart(2 * size, '0').match(/../g).reverse().join('');
+}
+
+function uleb(number) {
+  return number < 128 ? littleEndian(number, 1) : littleEndian((number % 128) + 128, 1) + uleb(Math.floor(number / 128));
+}
+
+function encoded(containers, format, value) {
+  const part = (inner, held) => encoded(containers, inner, held);
+  if (typeof format === 'string') return encodedLeaf(format, value);
+  const [[kind, inner]] = Object.entries(format);
+  switch (kind) {
+    case 'TYPENAME':
+      return encodedContainer(containers[inner], value, part);
+    case 'OPTION':
+      return value === null ? '00' : `01${part(inner, value.some)}`;
+    case 'SEQ':
+      return uleb(value.length) + Array.from(value, (item) => part(inner, item)).join('');
+    case 'TUPLEARRAY':
+      return Array.from(value, (item) => part(inner.CONTENT, item)).join('');
+    case 'TUPLE':
+      return inner.map((each, i) => part(each, value[i])).join('');
+    default:
+      return uleb(value.size) + [...value].map(([key, held]) => [part(inner.KEY, key), part(inner.VALUE, held)]).sort(([a], [b]) => (a < b ? -1 : 1)).flat().join('');
+  }
+}
+
+function encodedLeaf(word, value) {
+  switch (word) {
+    case 'UNIT':
+      return '';
+    case 'BOOL':
+      return value ? '01' : '00';
+    case 'STR':
+    case 'BYTES': {
+      const bytes = Buffer.from(value);
+      return uleb(bytes.length) + bytes.toString('hex');
+    }
+    default:
+      return littleEndian(value, INTEGERS[word][0]);
+  }
+}
+
+function encodedContainer(container, value, part) {
+  if (container === 'UNITSTRUCT') return '';
+  const [[kind, inner]] = Object.entries(container);
+  if (kind !== 'ENUM') return encodedContent(kind, inner, value, part);
+  const name = typeof value === 'string' ? value : Object.keys(value)[0];
+  const [number, variant] = Object.entries(inner).find(([, variant]) => Object.hasOwn(variant, name));
+  if (variant[name] === 'UNIT') return uleb(Number(number));
+  return uleb(Number(number)) + encodedContent(...Object.entries(variant[name])[0], value[name], part);
+}
+
+function encodedContent(kind, inner, value, part) {
+  if (kind.startsWith('NEWTYPE')) return part(inner, value);
+  if (kind.startsWith('TUPLE')) return inner.map((format, i) => part(format, value[i])).join('');
+  return inner.map((field) => Object.entries(field)[0]).map(([name, format]) => part(format, value[name])).join('');
+}
