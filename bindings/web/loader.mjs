@@ -7,7 +7,7 @@ import { isSupported } from './support.mjs';
 import { isWellFormed, textOf, valueOf } from './values.mjs';
 
 const MOST_DEPTH = 500;
-const MOST_NODES = 0xffffffff;
+const ALL_NODES = 0xffffffff;
 const KEPT_FORMATS = 100;
 const SHORT_TEXT = 8192;
 const encoder = new TextEncoder();
@@ -19,12 +19,12 @@ const decoder = new TextDecoder('utf-8', { fatal: true, ignoreBOM: true });
 /** Limits by name, for `withLimits`. */
 export const Limits = Object.freeze({
   /** Those of the specification: the whole range, for bytes too. */
-  standard: () => ({ depth: MOST_DEPTH, nodes: MOST_NODES }),
+  standard: () => ({ depth: MOST_DEPTH, nodes: ALL_NODES }),
 });
 
 /** How many nodes bytes may have without other limits. Five bytes can announce two billion nodes; no real value comes near this. */
 function nodesFor(length) {
-  return Math.min(16 * length + 1_000_000, MOST_NODES);
+  return Math.min(16 * length + 1_000_000, ALL_NODES);
 }
 
 /** Makes the calls out of the module's bytes, a `Response` with them, or a compiled module. */
@@ -257,7 +257,7 @@ class Registry {
     const known = this.#holder.format(format);
     const [one, other] = [bytesOf(first), bytesOf(second)];
     const compared = (calls, ask) => calls.compare(ask, one, other);
-    const answer = this.#answer(known, MOST_NODES, compared, (calls, ask, what) => {
+    const answer = this.#answer(known, ALL_NODES, compared, (calls, ask, what) => {
       const told = calls.textPlace(ask, what, one);
       return told.status === 'no' ? calls.textPlace(ask, what, other) : told;
     });
@@ -292,7 +292,7 @@ class Registry {
   }
 
   #check(format) {
-    this.#answer(format, MOST_NODES, (calls, ask) => calls.check(ask));
+    this.#answer(format, ALL_NODES, (calls, ask) => calls.check(ask));
   }
 
   #decodedText(format, bytes) {
@@ -302,7 +302,7 @@ class Registry {
   #ofText(format, given, call) {
     const text = bytesForCall(given);
     const placing = (calls, ask, what) => calls.textPlace(ask, what, text);
-    return this.#answer(format, MOST_NODES, (calls, ask) => call(calls, ask, text), placing);
+    return this.#answer(format, ALL_NODES, (calls, ask) => call(calls, ask, text), placing);
   }
 
   #ofBytes(format, bytes, call) {

@@ -1,6 +1,6 @@
 // What the declarations let through, and what they refuse: `tsc` reads this, and nothing runs it.
-import { BcsError, fromBase64, isSupported, load, toBase64 } from '../bcs.mjs';
-import type { End, Json, Piece, Registry, Stop, Value } from '../bcs.mjs';
+import { BcsError, fromBase64, isSupported, Limits, load, toBase64 } from '../bcs.mjs';
+import type { End, IntegerArray, Json, Kind, Piece, Registry, Stop, Value, ValueInput } from '../bcs.mjs';
 
 export async function calls(wasm: Uint8Array): Promise<void> {
   if (!isSupported()) return;
@@ -8,6 +8,11 @@ export async function calls(wasm: Uint8Array): Promise<void> {
   await load(fetch('bcs.wasm'));
   const registry: Registry = bcs.registry('{}').withLimits({ depth: 3 });
   bcs.grows('{}', new Uint8Array());
+  const limits: Limits = Limits.standard();
+  const wide: Registry = registry.withLimits(Limits.standard()).withLimits({ depth: limits.depth!, nodes: Limits.standard().nodes });
+  const integers: IntegerArray[] = [Int8Array.of(1), Uint16Array.of(1), BigUint64Array.of(1n)];
+  const inputs: ValueInput[] = [...integers, new Uint8ClampedArray(1), new ArrayBuffer(1), '7', 7, 7n, [['a', 1]], new Map([[1, [null]]])];
+  for (const input of inputs) wide.encode('A', input);
   const name: string | undefined = bcs.faultName(402);
   const bytes: Uint8Array = registry.encode({ SEQ: 'U8' }, [1, 2n, new Uint8Array(), new Map([['a', null]]), { some: true }]);
   const value: Value = registry.decode({ MAP: { KEY: 'STR', VALUE: { OPTION: 'U8' } } }, bytes);
@@ -34,12 +39,21 @@ function tell(piece: Piece | End | Stop): void {
 export function kindOf(error: unknown): string {
   if (!(error instanceof BcsError)) return '';
   const words: (string | undefined)[] = [error.pointer, error.expected];
-  return `${error.kind} ${error.reason} ${error.place ?? ''} ${words.join(' ')}`;
+  const kind: Kind = error.kind === 'value' ? 'text' : error.kind;
+  return `${kind} ${error.reason} ${error.place ?? ''} ${words.join(' ')}`;
 }
 
 export function refused(registry: Registry): void {
   // @ts-expect-error: no value
   registry.encode('A', undefined);
+  // @ts-expect-error: no value
+  registry.encode('A', new Date(0));
+  // @ts-expect-error: no list
+  registry.encode('A', new Set([1]));
+  // @ts-expect-error: no limit
+  registry.withLimits({ nodes: 7n });
+  // @ts-expect-error: the limits can't be changed for others
+  Limits.standard = () => ({ depth: 1, nodes: 1 });
   // @ts-expect-error: no format
   registry.check({ LIST: 'U8' });
   // @ts-expect-error: no word of a format
