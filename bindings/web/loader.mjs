@@ -62,7 +62,8 @@ class Holder {
   #calls;
   #opened;
   #shapes;
-  #formats = new Map();
+  // (apart, since a container may be called `null` or `7`)
+  #formats = { ofStrings: new Map(), ofObjects: new Map() };
 
   constructor(calls, text) {
     this.#calls = calls;
@@ -77,11 +78,14 @@ class Holder {
 
   /** The format that a caller names. Only so many are kept. This may run the caller's code. */
   format(given) {
-    const text = textOfFormat(given);
-    const known = this.#formats.get(text);
+    const isString = typeof given === 'string';
+    const formats = isString ? this.#formats.ofStrings : this.#formats.ofObjects;
+    const word = isString ? given : JSON.stringify(given) ?? '';
+    const known = formats.get(word);
     if (known !== undefined) return known;
+    const text = isString ? textOfFormat(word) : word;
     const format = { text, bytes: encoder.encode(text), shape: undefined };
-    if (this.#formats.size < KEPT_FORMATS) this.#formats.set(text, format);
+    if (formats.size < KEPT_FORMATS) formats.set(word, format);
     return format;
   }
 
@@ -328,7 +332,6 @@ function isUnsigned(number) {
 
 /** As the program has it: a text that begins with `{` or `"` is a format's JSON, and any other a container's name. */
 function textOfFormat(format) {
-  if (typeof format !== 'string') return JSON.stringify(format) ?? '';
   return /^[{"]/.test(format) ? wellFormed(format) : JSON.stringify({ TYPENAME: format });
 }
 

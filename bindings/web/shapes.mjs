@@ -1,13 +1,16 @@
 // The formats of a registry as values are read and written: parsed once, with fields and variants found by their names.
 
+const INTEGERS = new Set(['U8', 'U16', 'U32', 'U64', 'U128', 'I8', 'I16', 'I32', 'I64', 'I128']);
+
 /** The containers of a registry's JSON text by their names. The text has passed the proved check. */
 export function containersOf(registryText) {
   return new Map(Object.entries(JSON.parse(registryText)));
 }
 
 /**
- * Makes shapes of formats. A shape has its `kind`, which is that of the format, except that `TUPLEARRAY` is a `SEQ` too, tuple
- * structs are a `TUPLE` and newtypes what they hold; the `name` that messages use; and its `item`, `parts`, `entry` or `members`.
+ * Makes shapes of formats. A shape has its `kind`, which is that of the format, except that all integers are an `INTEGER`,
+ * `TUPLEARRAY` is a `SEQ` too, tuple structs are a `TUPLE` and newtypes what they hold; the `name` that messages use; and its
+ * `item`, `parts`, `entry` or `members`.
  */
 export class Shapes {
   #containers;
@@ -23,7 +26,7 @@ export class Shapes {
 
   /** The shape of a format that has passed the proved check. */
   of(format) {
-    if (typeof format === 'string') return { kind: format, name: format };
+    if (typeof format === 'string') return { kind: INTEGERS.has(format) ? 'INTEGER' : format, name: format };
     const [[kind, inner]] = Object.entries(format);
     switch (kind) {
       case 'TYPENAME':

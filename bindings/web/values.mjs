@@ -8,8 +8,8 @@ import { copyOfBytes, copyOfIntegers, isMap } from './octets.mjs';
 const MOST_NESTED = 100;
 const MOST_OPEN = 500;
 const WIDE = new Set(['U64', 'U128', 'I64', 'I128']);
-const INTEGERS = new Set(['U8', 'U16', 'U32', 'I8', 'I16', 'I32', ...WIDE]);
 const TAKES = {
+  INTEGER: 'an integer',
   UNIT: 'null',
   BOOL: 'a boolean',
   STR: 'a string',
@@ -82,34 +82,40 @@ class Writer {
         return typeof value === 'boolean' ? String(value) : undefined;
       case 'STR':
         return typeof value === 'string' ? stringText(value) : undefined;
+      case 'INTEGER':
+        return integerText(value);
       case 'BYTES':
         return this.#hexText(shape, value);
       default:
         // (the proved call rejects F32, F64 and CHAR, whatever the text has there)
-        return INTEGERS.has(shape.kind) ? integerText(value) : 'null';
+        return 'null';
     }
   }
 
   #list(shape, value) {
-    const { kind } = shape.item;
-    const digits = kind === 'U8' ? this.#hexText(shape, value) : undefined;
+    const digits = isOctet(shape.item) ? this.#hexText(shape, value) : undefined;
     if (digits !== undefined) return digits;
-    const integers = INTEGERS.has(kind) ? this.#copied(copyOfIntegers, shape, value) : undefined;
+    const integers = shape.item.kind === 'INTEGER' ? this.#copied(copyOfIntegers, shape, value) : undefined;
     return integers === undefined ? this.#items(shape, value, () => shape.item) : `[${integers.join()}]`;
   }
 
   #items(shape, value, shapeOf) {
     if (!Array.isArray(value)) this.#reject(shape, value);
     this.#nest();
-    const { length } = value;
-    let text = '';
+    const [texts, { length }] = [[], value];
+    const depth = this.#path.push(0) - 1;
     for (let i = 0; i < length; i++) {
       const part = shapeOf(i);
       // (items beyond those of a tuple are only counted)
-      if (part === undefined) return `[${text}${',null'.repeat(length - i).slice(i === 0 ? 1 : 0)}]`;
-      text += `${i ? ',' : ''}${this.#part(i, part, value[i])}`;
+      if (part === undefined) {
+        texts.push(`null${',null'.repeat(length - i - 1)}`);
+        break;
+      }
+      this.#path[depth] = i;
+      texts.push(this.value(part, value[i]));
     }
-    return `[${text}]`;
+    this.#path.pop();
+    return `[${texts.join()}]`;
   }
 
   #members(shape, value) {
@@ -162,10 +168,15 @@ class Writer {
   }
 }
 
+/** Whether this is the integer type `U8` itself, lists of which are bytes. */
+function isOctet({ kind, name }) {
+  return kind === 'INTEGER' && name === 'U8';
+}
+
 function takenBy({ kind, item }) {
-  if (kind !== 'SEQ') return TAKES[kind] ?? 'an integer';
-  if (item.kind === 'U8') return 'bytes, hexadecimal digits or an array';
-  return INTEGERS.has(item.kind) ? 'an array or a typed array of integers' : 'an array';
+  if (kind !== 'SEQ') return TAKES[kind];
+  if (isOctet(item)) return 'bytes, hexadecimal digits or an array';
+  return item.kind === 'INTEGER' ? 'an array or a typed array of integers' : 'an array';
 }
 
 function foundIn(value) {
@@ -232,7 +243,7 @@ class Reader {
       case 'ENUM':
         return this.variant(shape, json);
       default:
-        return leaf(shape.kind, json);
+        return leaf(shape.name, json);
     }
   }
 
