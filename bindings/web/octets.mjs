@@ -22,7 +22,7 @@ function has(getter, value) {
 }
 
 export function isMap(value) {
-  return has(mapSize, value);
+  return !Array.isArray(value) && has(mapSize, value);
 }
 
 /**
@@ -31,7 +31,8 @@ export function isMap(value) {
  */
 export function copyOfBytes(value) {
   if (BYTE_ARRAYS.includes(typedArrayTag.call(value))) return new Uint8Array(value);
-  return has(bufferLength, value) ? new Uint8Array(new Uint8Array(value)) : undefined;
+  // (arrays come often, and a getter that fails takes long)
+  return !Array.isArray(value) && has(bufferLength, value) ? new Uint8Array(new Uint8Array(value)) : undefined;
 }
 
 /** The same of a typed array of other integers. */

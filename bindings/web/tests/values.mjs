@@ -3,6 +3,7 @@
 import assert from 'node:assert/strict';
 import { readFileSync } from 'node:fs';
 import test from 'node:test';
+import { runInNewContext } from 'node:vm';
 import { BcsError, load } from '../bcs.mjs';
 import { hexOf } from '../hex.mjs';
 
@@ -290,6 +291,12 @@ const ROWS = [
   ['prototype of bytes', Object.create(Uint8Array.prototype), 'Object', NO_MEMBERS],
   ['prototype of buffers', Object.create(ArrayBuffer.prototype), 'ArrayBuffer', {}],
   ['prototype of maps', Object.create(Map.prototype), 'Map', {}],
+  ['bytes of another realm', runInNewContext('Uint8Array.of(1, 2)'), 'Uint8Array', BYTES_0102],
+  ['buffer of another realm', runInNewContext('Uint8Array.of(1, 2).buffer'), 'ArrayBuffer', BYTES_0102],
+  ['array of another realm', runInNewContext('[1, 2]'), 'Array', ARRAY_1_2],
+  ['map of another realm', runInNewContext("new Map([['a', 1]])"), 'Map', { mapSTR: '01016101', mapU8: 'BadNumber' }],
+  ['object of another realm', runInNewContext('({ a: 1 })'), 'Object', MEMBER_A],
+  ['date of another realm', runInNewContext('new Date(0)'), 'Date', {}],
   ['subclass of Map', new (class extends Map { entries() { return [['b', 2]].values(); } [Symbol.iterator]() { return [['c', 3]].values(); } })([['a', 1]]), 'Map', { mapSTR: '01016101', mapU8: 'BadNumber' }],
   ['subclass of Array', (class extends Array { *[Symbol.iterator]() { yield 9; } }).of(1, 2), 'Array', ARRAY_1_2],
   ['other tag', { a: 1, [Symbol.toStringTag]: 'Payment' }, 'Payment', {}],
