@@ -22,7 +22,7 @@ export const Limits = Object.freeze({
   standard: () => ({ depth: MOST_DEPTH, nodes: ALL_NODES }),
 });
 
-/** How many nodes bytes may have without other limits. Five bytes can announce two billion nodes; no real value comes near this. */
+/** How many nodes bytes may have by default. Five bytes can announce two billion; no real value comes near this limit. */
 function nodesFor(length) {
   return Math.min(16 * length + 1_000_000, ALL_NODES);
 }
@@ -315,7 +315,8 @@ class Registry {
   }
 
   #answer(format, nodes, call, placing) {
-    const ask = { registry: this.#holder.opened, format: format.bytes, depth: this.#limits.depth, nodes: this.#limits.nodes ?? nodes };
+    const limits = { depth: this.#limits.depth, nodes: this.#limits.nodes ?? nodes };
+    const ask = { registry: this.#holder.opened, format: format.bytes, ...limits };
     const placed = placing && ((calls, what) => placing(calls, ask, what));
     return this.#bcs.answerOf((calls) => call(calls, ask), placed);
   }

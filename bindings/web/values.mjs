@@ -7,6 +7,8 @@ import { copyOfBytes, copyOfIntegers, isMap } from './octets.mjs';
 // The limits of docs/FORMAT.md: arrays and objects in one another, and open containers.
 const MOST_NESTED = 100;
 const MOST_OPEN = 500;
+// An array may have a length of billions and take no memory.
+const MOST_COUNTED = 1_000_000;
 const WIDE = new Set(['U64', 'U128', 'I64', 'I128']);
 const TAKES = {
   INTEGER: 'an integer',
@@ -103,19 +105,16 @@ class Writer {
     if (!Array.isArray(value)) this.#reject(shape, value);
     this.#nest();
     const [texts, { length }] = [[], value];
+    // (items beyond those of a tuple are only counted: the proved call reports their number)
+    const surplus = shape.kind === 'TUPLE' ? Math.max(length - shape.parts.length, 0) : 0;
+    if (surplus > MOST_COUNTED) this.#reject(shape, value, 'one with far too many items');
     const depth = this.#path.push(0) - 1;
-    for (let i = 0; i < length; i++) {
-      const part = shapeOf(i);
-      // (items beyond those of a tuple are only counted)
-      if (part === undefined) {
-        texts.push(`null${',null'.repeat(length - i - 1)}`);
-        break;
-      }
+    for (let i = 0; i < length - surplus; i++) {
       this.#path[depth] = i;
-      texts.push(this.value(part, value[i]));
+      texts.push(this.value(shapeOf(i), value[i]));
     }
     this.#path.pop();
-    return `[${texts.join()}]`;
+    return `[${texts.concat(new Array(surplus).fill('null')).join()}]`;
   }
 
   #members(shape, value) {
