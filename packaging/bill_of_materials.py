@@ -5,6 +5,7 @@ from __future__ import annotations
 import hashlib
 import json
 import pathlib
+import re
 import sys
 import time
 from typing import Any
@@ -12,6 +13,16 @@ from typing import Any
 import archives
 import facts
 
+# The licences that the packages contain, as the SPDX list names them.
+LICENCES = {"Apache-2.0", "BSL-1.0", "MIT"}
+
+
+def is_expression(text: str) -> bool:
+    """Whether this is an SPDX expression over these licences."""
+    shape = re.sub(r"[^() ]+", lambda word: "*" if word[0] in LICENCES else word[0].replace("*", "?"), text)
+    while (shorter := re.sub(r"\(\*\)|\* (?:AND|OR) \*", "*", shape)) != shape:
+        shape = shorter
+    return shape == "*"
 
 
 def crates_of(tops: list[str], crates: dict[str, list[str]]) -> dict[str, list[str]]:
@@ -32,6 +43,8 @@ def identity(kind: str, name: str) -> str:
 
 
 def package(kind: str, name: str, version: str, licence: str, copyright_text: str) -> dict[str, Any]:
+    if licence != "NOASSERTION" and not is_expression(licence):
+        sys.exit(f"packages: {name}: '{licence}' isn't an SPDX expression over {', '.join(sorted(LICENCES))}")
     return {
         "SPDXID": identity(kind, name),
         "name": name,

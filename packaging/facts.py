@@ -6,6 +6,7 @@ import hashlib
 import os
 import pathlib
 import re
+import subprocess
 import sys
 from typing import NamedTuple
 
@@ -77,12 +78,26 @@ def glibc_needed(binary: pathlib.Path) -> tuple[int, ...]:
 
 
 def require_whole() -> None:
-    """Ends where a file of dist/ isn't there, or isn't the one that SHA256SUMS has."""
+    """Ends unless the files of dist/ are exactly those that SHA256SUMS lists."""
+    listed = set()
     for line in (DIST / "SHA256SUMS").read_text(encoding="utf-8").splitlines():
         checksum, name = line.split(maxsplit=1)
         path = DIST / name.lstrip("*")
-        if not path.is_file() or hashlib.sha256(path.read_bytes()).hexdigest() != checksum:
+        if path.is_symlink() or not path.is_file() or hashlib.sha256(path.read_bytes()).hexdigest() != checksum:
             sys.exit(f"packages: dist/{name} isn't the file that dist/SHA256SUMS has")
+        listed.add(path)
+    for folder in [NATIVE, ARM, WEB]:
+        for path in sorted(folder.rglob("*")):
+            if not path.is_dir() and path not in listed:
+                sys.exit(f"packages: dist/SHA256SUMS doesn't list {path.relative_to(ROOT)}")
+
+
+def require_current() -> None:
+    """Ends if dist/ was built from other sources than those that are here."""
+    sources = subprocess.run([DIST / "sources"], stdout=subprocess.PIPE, text=True, check=True).stdout.strip()
+    labels = (DIST / "BUILT_FROM").read_text(encoding="utf-8").splitlines()
+    if not sources or labels[1:] != [f"sources {sources}"]:
+        sys.exit("packages: dist/ is older than these sources: run dist/take, or check out the commit that it was built in")
 
 
 def readme(folder: str) -> str:
