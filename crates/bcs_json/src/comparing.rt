@@ -1,5 +1,5 @@
 //! Whether two texts denote the same value.
-ghost use Rattle.std.specs.Prelude.{◌≢◌, ◌⊎◌, IfErr, IfOk};
+ghost use Rattle.std.specs.Prelude.{◌≡◌, ◌≢◌, ◌⊎◌, IfErr, IfOk};
 ghost use Rattle.bcs_registry_model.specs.View.{shape_of};
 ghost use Rattle.bcs_json_spec.specs.Headline.{Compares};
 ghost use Rattle.bcs_json_spec.specs.Texts.{Denotes, RefusesText};
@@ -28,6 +28,8 @@ pub fn compare(
         → RefusesText registry.now limits.now (shape_of format.now) first.now e
         ⊎ (((t : Tree) × Denotes registry.now limits.now (shape_of format.now) first.now t)
         × RefusesText registry.now limits.now (shape_of format.now) second.now e)) }
+    ensures memory { IfErr result (λ e. (t u : Tree) → Denotes registry.now limits.now (shape_of format.now) first.now t
+        → Denotes registry.now limits.now (shape_of format.now) second.now u → e ≡ OutOfMemory) }
 {
     let one = to_bcs(alloc, registry, format, limits, first)?;
     let other = to_bcs(alloc, registry, format, limits, second)?;

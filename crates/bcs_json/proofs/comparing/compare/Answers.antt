@@ -9,3 +9,9 @@ returns-clause-compares c =
     compares c.args.registry.now c.args.limits.now (shape_of c.args.format.now) c.args.first.now c.args.second.now c.in_ok-one.one.items c.in_ok-other.other.items c.eq.result
     c.in_ok-one.ensures.bytes c.in_ok-other.ensures.bytes
     (subst (λ answer. Decides answer (c.in_ok-one.one.items ≡ c.in_ok-other.other.items)) (sym c.eq.ensures) (bytes_eq-Decides c.in_ok-one.one.items c.in_ok-other.other.items))
+
+pub returns-in_err-one-clause-memory : goal.returns-in_err-one-clause-memory
+returns-in_err-one-clause-memory c = λ t u denotes other. c.in_err-one.ensures.memory t denotes
+
+pub returns-in_err-other-clause-memory : goal.returns-in_err-other-clause-memory
+returns-in_err-other-clause-memory c = λ t u denotes other. c.in_err-other.ensures.memory u other
