@@ -35,11 +35,12 @@ def rows_of_tests() -> Iterator[Row]:
 
 
 class Tally:
-    """What was asked so far: rows by their kind, and those that can't be said."""
+    """What was asked so far: rows by their kind, those that can't be said, and those that `--without` skips."""
 
     def __init__(self) -> None:
         self.covered: Counter[str] = Counter()
         self.unsayable: Counter[str] = Counter()
+        self.skipped: Counter[str] = Counter()
         self.failed = 0
 
     def judge(self, kind: str, name: str, asked: Callable[[], str], wanted: str) -> None:
