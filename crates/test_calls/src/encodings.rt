@@ -6,13 +6,11 @@ use crate::row_fault::{RowFault, agree, granted};
 use crate::setting::Setting;
 use crate::value_words::value_of;
 use crate::words::{bytes, call, number, word_of};
-use bcs_decode::{DecodeFault, decode_slice};
-use bcs_encode::pieces::PieceSink;
-use bcs_encode::{
-    ByteSink, EncodeFault, WriteFault, canonicalise, encode, encode_by_entries, write,
+use bcs_codec::pieces::PieceSink;
+use bcs_codec::{
+    ByteSink, DecodeFault, EncodeFault, PrintFault, Value, WriteFault, canonicalise, decode_slice,
+    encode, encode_by_entries, print_value, same, write,
 };
-use bcs_json::{PrintFault, print_value};
-use bcs_value::{Value, same};
 use std::alloc::Global;
 
 /// The bytes of a value, or why it has none.

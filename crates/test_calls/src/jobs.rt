@@ -4,10 +4,8 @@ ghost use Rattle.std.specs.Prelude.{◌≤◌};
 use crate::question::limits_of;
 use crate::row_fault::RowFault;
 use crate::words::{bytes, call, number, word_of};
-use bcs_decode::pieces::{PieceSource, RepeatSource};
-use bcs_decode::{DecodeFault, Reason, Stop};
-use bcs_encode::pieces::PieceSink;
-use bcs_encode::{EncodeFault, WriteFault};
+use bcs_codec::pieces::{PieceSink, PieceSource, RepeatSource};
+use bcs_codec::{DecodeFault, EncodeFault, Reason, Stop, WriteFault};
 use bcs_tool::{
     ByteSource, Command, FileFault, Interruption, LineFault, OpenCause, PairInterruption, Report,
     TakeFault, UnreadFile, Work, line, read_named, respond, run, run_pairs, take_all,

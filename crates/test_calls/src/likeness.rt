@@ -3,7 +3,7 @@
 use crate::row_fault::RowFault;
 use crate::setting::Setting;
 use crate::value_words::{value_of, values_of};
-use bcs_value::{Value, depth, nodes, same};
+use bcs_codec::{Value, depth, nodes, same};
 use std::alloc::Global;
 
 pub(crate) fn answer(

@@ -3,6 +3,7 @@
 
 mod changes;
 mod encodings;
+mod fault_numbers;
 mod jobs;
 mod likeness;
 mod numbers;

@@ -3,8 +3,7 @@
 use crate::question::Question;
 use crate::row_fault::{RowFault, agree};
 use crate::texts::{bytes_of, value_of};
-use bcs_json::compare;
-use bcs_value::same;
+use bcs_codec::{compare, same};
 use std::alloc::Global;
 
 /// How many of the pairs of texts denote equal values, each text with itself among them.

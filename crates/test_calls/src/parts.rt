@@ -4,7 +4,7 @@ use crate::question::Question;
 use crate::row_fault::RowFault;
 use crate::setting::Setting;
 use crate::words::{bytes, word_of};
-use bcs_decode::{Part, Stop, part};
+use bcs_codec::{Part, Stop, part};
 use bcs_decode_parts::{PathStep, read_path, steps_of};
 use std::alloc::Global;
 

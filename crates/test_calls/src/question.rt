@@ -4,8 +4,7 @@ ghost use Rattle.bcs_registry_model.specs.WellFormed.{Admits};
 
 use crate::row_fault::{RowFault, agree};
 use crate::words::number;
-use bcs_registry::{Format, Registry};
-use bcs_value::Limits;
+use bcs_codec::{Format, Limits, Registry};
 use std::alloc::Global;
 
 /// Values of which format of a registry are meant, and within which limits.

@@ -3,7 +3,7 @@
 use crate::row_fault::RowFault;
 use crate::setting::Setting;
 use crate::words::bytes;
-use bcs_registry::Registry;
+use bcs_codec::Registry;
 use bcs_registry_json::format_text::format_from;
 use bcs_registry_json::json_text::registry_json;
 use std::alloc::Global;

@@ -5,9 +5,9 @@ use crate::row_fault::{RowFault, agree};
 use crate::setting::Setting;
 use crate::texts::{bytes_of, value_of};
 use crate::words::number;
-use bcs_decode::{SliceSource, decode_all, decode_slice, scan};
-use bcs_encode::{canonicalise, encode, encode_by_entries};
-use bcs_value::Value;
+use bcs_codec::{
+    SliceSource, Value, canonicalise, decode_all, decode_slice, encode, encode_by_entries, scan,
+};
 use std::alloc::Global;
 
 pub(crate) fn answer(alloc: Global, setting: &Setting, words: &[&str]) -> Result<String, RowFault> {

@@ -1,7 +1,7 @@
 //! Why a row has no answer.
 
+use bcs_codec::RegistryFault;
 use bcs_decode_parts::PathFault;
-use bcs_registry::RegistryFault;
 use hex::FromHexError;
 use std::alloc::{AllocError, AllocFailed};
 use thiserror::Error;

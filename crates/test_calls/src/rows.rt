@@ -4,8 +4,8 @@ use crate::row_fault::RowFault;
 use crate::setting::Setting;
 use crate::words::unrolled;
 use crate::{
-    encodings, jobs, likeness, numbers, parts, registries, repeating, sources, streams, texts,
-    values, verdicts,
+    encodings, fault_numbers, jobs, likeness, numbers, parts, registries, repeating, sources,
+    streams, texts, values, verdicts,
 };
 use std::alloc::{AllocError, Global};
 
@@ -62,6 +62,7 @@ fn answered(
         | "stand_value" => encodings::answer(alloc, setting, question, words),
         "json" | "text" | "same" | "pairs" => texts::answer(alloc, setting, question, words),
         "repeat" => repeating::answer(alloc, setting, words),
+        "fault_numbers" => fault_numbers::answer(alloc, words),
         "run"
         | "failing_run"
         | "line"

@@ -4,9 +4,10 @@ use crate::question::Question;
 use crate::row_fault::{RowFault, agree, granted};
 use crate::setting::Setting;
 use crate::words::{bytes, call};
-use bcs_decode::pieces::{PieceSource, RepeatSource};
-use bcs_decode::{ByteSource, DecodeFault, Stop, decode_all, decode_from, scan_all, scan_from};
-use bcs_value::Value;
+use bcs_codec::pieces::{PieceSource, RepeatSource};
+use bcs_codec::{
+    ByteSource, DecodeFault, Stop, Value, decode_all, decode_from, scan_all, scan_from,
+};
 use std::alloc::{AllocError, Global};
 
 /// A value with its length, or why there is none.

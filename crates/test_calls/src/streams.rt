@@ -3,10 +3,9 @@ ghost use Rattle.std.specs.Prelude.{◌≤◌, IfOk};
 
 use crate::row_fault::RowFault;
 use crate::words::{bytes, call, number, word_of};
-use bcs_io::pieces::{PieceSink, PieceSource, RepeatSource};
-use bcs_io::{
-    ByteSink, ByteSource, LineBuffer, ReadSource, SliceSource, SourceFailed, WriteSink, put_all,
-};
+use bcs_codec::pieces::{PieceSink, PieceSource, RepeatSource};
+use bcs_codec::{ByteSink, ByteSource, ReadSource, SliceSource, SourceFailed, WriteSink};
+use bcs_io::{LineBuffer, put_all};
 use std::alloc::{AllocError, Global};
 use std::io;
 use std::io::{ErrorKind, Read, Write};

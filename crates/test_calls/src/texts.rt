@@ -5,11 +5,10 @@ use crate::question::Question;
 use crate::row_fault::{RowFault, agree, granted};
 use crate::setting::Setting;
 use crate::words::{bytes, word_of};
-use bcs_decode::{DecodeFault, decode_slice};
-use bcs_json::{
-    FromFault, JsonFault, PrintFault, compare, from_bcs, normalise, print_value, read_value, to_bcs,
+use bcs_codec::{
+    DecodeFault, FromFault, JsonFault, PrintFault, Value, compare, decode_slice, from_bcs,
+    normalise, print_value, read_value, to_bcs,
 };
-use bcs_value::Value;
 use std::alloc::Global;
 
 pub(crate) fn answer(

@@ -2,7 +2,7 @@
 
 use crate::row_fault::RowFault;
 use crate::words::number;
-use bcs_value::Value;
+use bcs_codec::Value;
 use std::alloc::Global;
 
 /// The values of words with blanks between them. A word that has parts takes them from the last values before it.

@@ -4,7 +4,7 @@ use crate::question::{Question, limits_of};
 use crate::row_fault::RowFault;
 use crate::setting::Setting;
 use crate::value_words::values_of;
-use bcs_value::{Value, fits_loosely, has_format};
+use bcs_codec::{Value, fits_loosely, has_format};
 use std::alloc::Global;
 
 pub(crate) fn answer(

@@ -7,10 +7,10 @@ use crate::row_fault::{RowFault, agree, granted};
 use crate::setting::Setting;
 use crate::sources::{Judged, fault_of, of_front, of_whole, told};
 use crate::words;
-use bcs_decode::pieces::PieceSource;
-use bcs_decode::{DecodeFault, Part, Reason, Stop, decode_slice, part, scan};
-use bcs_encode::{EncodeFault, encode};
-use bcs_value::same;
+use bcs_codec::pieces::PieceSource;
+use bcs_codec::{
+    DecodeFault, EncodeFault, Part, Reason, Stop, decode_slice, encode, part, same, scan,
+};
 use std::alloc::Global;
 
 /// `quiet` makes calls that ask for no memory, and `quiet_slice` those of them on a slice. `stand` and `stand_slice` make
