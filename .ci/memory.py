@@ -5,7 +5,7 @@
 REFUSER is the library that .ci/refuse.c becomes. Each request for memory of the rows below a blank line is refused in turn, one
 a run: then one row answers want of memory, and all others what they answer else; or the program, which found no room for its
 own words, ends before a row. Where what was asked for had only been a hint, nothing is missing, and the run is made again with
-the next request refused, too.
+the next request refused, too. A group of rows has at most one such request, or as many as its line `# hints: N` says.
 """
 
 import os
@@ -32,6 +32,17 @@ KEYS_REQUEST = 100
 START_REQUESTS, LINE_REQUESTS = 15, 2
 # As many ranges as an environment holds.
 RANGES = 5000
+
+
+# How many requests of a group may be hints, where it doesn't say.
+HINTS = 1
+
+
+class Group(NamedTuple):
+    """Rows that are run at once, and how many of their requests may be hints."""
+
+    rows: list[str]
+    hints: int
 
 
 class Run(NamedTuple):
@@ -77,38 +88,50 @@ def granted(refuser: str, rows: list[str]) -> int:
     return run.requests
 
 
-def judged(rows: list[str], run: Run) -> str:
+def unset_rows(refuser: str, rows: list[str]) -> list[str]:
+    """What the rows answer where the first of them, which sets their registry, isn't asked."""
+    if not rows[0].startswith("registry\t"):
+        return rows
+    [run] = runs(refuser, rows[1:], ["0"])
+    return [rows[0], *run.lines]
+
+
+def judged(rows: list[str], unset: list[str], run: Run) -> str:
     """How a run with a request refused ended: with want of memory in a row, before a row, or with nothing missing."""
-    others = [(wanted, answer) for wanted, answer in zip(rows, run.lines) if answer != wanted]
+    others = [place for place, (wanted, answer) in enumerate(zip(rows, run.lines)) if answer != wanted]
     if run.status == ENDED and not others and len(run.lines) < len(rows):
         return "early"
     if run.status != 0 or len(run.lines) != len(rows):
         raise Failed(f"status {run.status}, {len(run.lines)} of {len(rows)} rows")
     if not others:
         return "whole"
-    wanted, answer = others[0]
-    if wanted.startswith("registry\t"):
-        # Its registry wasn't set, so the rows below it are about another.
-        del others[1:]
-    asked = wanted.partition(" -> ")[0]
-    if len(others) > 1 or answer not in [f"{asked} -> {told}" for told in NO_MEMORY]:
+    first, answer = others[0], run.lines[others[0]]
+    asked = rows[first].partition(" -> ")[0]
+    below = [rows[first + 1 :]]
+    if asked.startswith("registry\t"):
+        # It may not have been set, and then the rows below it are about the registry before.
+        below.append(unset[first + 1 :])
+    if run.lines[first + 1 :] not in below or answer not in [f"{asked} -> {told}" for told in NO_MEMORY]:
         raise Failed(f"{len(others)} rows: {answer[:300]}")
     return "row"
 
 
-def swept(refuser: str, rows: list[str]) -> Counter[str]:
+def swept(refuser: str, group: Group) -> Counter[str]:
     """How the runs ended in which each request is refused, one a run."""
-    total = granted(refuser, rows)
+    rows = group.rows
+    total, unset = granted(refuser, rows), unset_rows(refuser, rows)
     counts: Counter[str] = Counter()
     again = []
     for number, run in enumerate(runs(refuser, rows, [str(number) for number in range(1, total + 1)]), start=1):
-        how = judged(rows, run)
+        how = judged(rows, unset, run)
         counts[how] += 1
         if how == "whole":
             again.append(f"{number}-{number + 1}")
+    if counts["whole"] > group.hints:
+        raise Failed(f"{counts['whole']} runs answer though a request was refused, and at most {group.hints} may: {rows[0][:300]}")
     if again:
         for numbers, run in zip(again, runs(refuser, rows, again)):
-            if judged(rows, run) == "whole":
+            if judged(rows, unset, run) == "whole":
                 raise Failed(f"nothing is missing with requests {numbers} refused")
     if counts["early"] > START_REQUESTS + LINE_REQUESTS * len(rows):
         raise Failed(f"{counts['early']} runs ended before a row: {rows[0][:300]}")
@@ -133,7 +156,7 @@ def ask_falling(refuser: str, rows: list[str]) -> str:
     for row, how in ((encode, "whole"), (entries, "row")):
         requests = granted(refuser, row) - set_up
         [run] = runs(refuser, row, [str(set_up + KEYS_REQUEST)])
-        if judged(row, run) != how or (requests < KEYS_REQUEST) != (how == "whole"):
+        if judged(row, row, run) != how or (requests < KEYS_REQUEST) != (how == "whole"):
             raise Failed(f"{row[0][:80]}: {requests} requests, {run.lines}")
         told.append(f"{requests} by {row[0].split()[0]}")
     return ", ".join(told)
@@ -202,24 +225,28 @@ def failing_rows(rows: list[str]) -> Iterator[str]:
             yield from failing_bytes(words, answer)
 
 
-def groups_of(text: str) -> list[list[str]]:
+def groups_of(text: str) -> list[Group]:
     """The rows below each blank line."""
-    groups = ([line for line in group.split("\n") if not line.startswith("#")] for group in text.strip().split("\n\n"))
-    return [group for group in groups if group]
+    groups = []
+    for group in text.strip().split("\n\n"):
+        hints = re.search(r"^# hints: (\d+)$", group, re.MULTILINE)
+        rows = [line for line in group.split("\n") if not line.startswith("#")]
+        groups.append(Group(rows, int(hints[1]) if hints else HINTS))
+    return [group for group in groups if group.rows]
 
 
 def main(refuser: str) -> None:
     groups = groups_of((CALLS / "memory.rows").read_text(encoding="utf-8"))
-    quiet = [group for group in groups if any(row.startswith("quiet") for row in group)]
-    [falling] = [group for group in groups if group[0].startswith("stand_value")]
-    others = [group for group in groups if group not in quiet and group != falling]
+    quiet = [group.rows for group in groups if any(row.startswith("quiet") for row in group.rows)]
+    [falling] = [group.rows for group in groups if group.rows[0].startswith("stand_value")]
+    others = [group for group in groups if group.rows not in [*quiet, falling]]
     counts: Counter[str] = Counter()
     with ThreadPoolExecutor(os.cpu_count()) as lanes:
-        for found in lanes.map(lambda rows: swept(refuser, rows), others):
+        for found in lanes.map(lambda group: swept(refuser, group), others):
             counts += found
-    print(f"memory: {sum(map(len, others))} rows of calls: {counts.total()} requests, each refused in turn; "
+    print(f"memory: {sum(len(group.rows) for group in others)} rows of calls: {counts.total()} requests, each refused in turn; "
           f"{counts['whole']} of them with the next one, too; {counts['early']} before a row")
-    failing = [row for group in others for row in ["registry\t{} -> ok 0", *failing_rows(group)]]
+    failing = [row for group in others for row in ["registry\t{} -> ok 0", *failing_rows(group.rows)]]
     granted(refuser, failing)
     print(f"memory: {len(failing)} rows on reads and writes that fail in turn")
     print(f"memory: {sum(ask_quiet(refuser, rows) for rows in quiet)} rows of calls that make no request")
