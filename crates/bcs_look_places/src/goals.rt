@@ -2,9 +2,8 @@
 
 use crate::content::Content;
 use bcs_json::JsonStep;
-use bcs_registry::{Format, Named, Registry, VariantFormat};
+use bcs_registry::{Format, Named, Registry};
 use serde_json::Value as Json;
-use std::collections::BTreeMap;
 
 /// What is to stand at a place in JSON.
 #[derive(Clone, Copy)]
@@ -30,7 +29,7 @@ pub(crate) fn spot_at<'a>(
 ) -> Option<Spot<'a>> {
     let mut spot = whole;
     for step in steps {
-        spot = opened(registry, spot)?.inside(step)?;
+        spot = opened(registry, spot)?.inside(registry, step)?;
     }
     Some(spot)
 }
@@ -42,14 +41,15 @@ pub(crate) fn opened<'a>(registry: &'a Registry, spot: Spot<'a>) -> Option<Spot<
         let Goal::Content(Content::One(Format::TypeName(name))) = goal else {
             return Some(Spot { left, goal, json });
         };
-        goal = Goal::Content(Content::from(registry.container(name.as_str())?));
+        let name = name.as_str();
+        goal = Goal::Content(Content::of(name, registry.container(name)?));
     }
     None
 }
 
 impl<'a> Spot<'a> {
     /// Where a step leads, where no name stands.
-    fn inside(self, step: &JsonStep) -> Option<Spot<'a>> {
+    fn inside(self, registry: &Registry, step: &JsonStep) -> Option<Spot<'a>> {
         let (goal, json) = match step {
             JsonStep::Item(number) => {
                 let number = *number as usize;
@@ -57,7 +57,7 @@ impl<'a> Spot<'a> {
             }
             JsonStep::Member(name) => {
                 (
-                    self.goal.member(name.as_str())?,
+                    self.goal.member(registry, name.as_str())?,
                     self.json.get(name.as_str())?,
                 )
             }
@@ -92,11 +92,11 @@ impl<'a> Goal<'a> {
     }
 
     /// What the member of this name is to be.
-    fn member(self, name: &str) -> Option<Goal<'a>> {
+    fn member(self, registry: &Registry, name: &str) -> Option<Goal<'a>> {
         let content = match self {
             Goal::Content(Content::Fields(fields)) => Content::One(field_called(fields, name)?),
-            Goal::Content(Content::Variants(variants)) => {
-                Content::from(payload_called(variants, name)?)
+            Goal::Content(Content::Variants(choices)) => {
+                Content::from(choices.payload(registry, name)?)
             }
             Goal::Content(Content::One(Format::Opt(inner))) if name == "some" => {
                 Content::One(inner)
@@ -107,24 +107,11 @@ impl<'a> Goal<'a> {
     }
 }
 
-/// The format of the field of this name.
-pub(crate) fn field_called<'a>(fields: &'a [Named<Format>], name: &str) -> Option<&'a Format> {
+// The format of the field of this name. All fields before it have members in the JSON, or no step would lead to it.
+fn field_called<'a>(fields: &'a [Named<Format>], name: &str) -> Option<&'a Format> {
     for field in fields {
         if field.name.as_str() == name {
             return Some(&field.value);
-        }
-    }
-    None
-}
-
-/// What the variant of this name carries.
-pub(crate) fn payload_called<'a>(
-    variants: &'a BTreeMap<u32, Named<VariantFormat>>,
-    name: &str,
-) -> Option<&'a VariantFormat> {
-    for variant in variants.values() {
-        if variant.name.as_str() == name {
-            return Some(&variant.value);
         }
     }
     None

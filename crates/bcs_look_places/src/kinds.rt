@@ -1,25 +1,32 @@
 //! What is wanted of JSON where a value of a format is to stand.
 
-use crate::content::Content;
+use crate::content::{Content, Enum};
 use crate::digits::wrong_digits;
-use crate::goals::{Goal, field_called, payload_called};
+use crate::goals::Goal;
 use crate::names::Name;
 use crate::wants::{Count, Want};
-use bcs_registry::{Format, Named, VariantFormat};
+use bcs_registry::{Format, Named, Registry, VariantFormat};
 use bcs_registry_model::{Kind, Scalar};
 use serde_json::{Map, Value as Json};
-use std::collections::BTreeMap;
+use std::alloc::{AllocError, Global};
+use std::collections::BTreeSet;
 
 /// What is wanted, or what is wrong. `None`: the JSON is of the kind that it is to be, so only a part of it is refused.
-pub(crate) fn want<'a>(goal: Goal<'a>, json: &'a Json) -> Option<Want<'a>> {
-    match goal {
+pub(crate) fn want<'a>(
+    alloc: Global,
+    registry: &Registry,
+    goal: Goal<'a>,
+    json: &'a Json,
+) -> Result<Option<Want<'a>>, AllocError> {
+    let want = match goal {
         Goal::Content(Content::Unit) => Some(Want::Words("wanted null")),
         Goal::Content(Content::One(format)) => format_want(format, json),
         Goal::Content(Content::Row(formats)) => row_want(formats.len() as u64, json),
-        Goal::Content(Content::Fields(fields)) => struct_want(fields, json),
-        Goal::Content(Content::Variants(variants)) => enum_want(variants, json),
+        Goal::Content(Content::Fields(fields)) => struct_want(alloc, fields, json)?,
+        Goal::Content(Content::Variants(choices)) => enum_want(registry, choices, json),
         Goal::Entry(_, _) => entry_want(json),
-    }
+    };
+    Ok(want)
 }
 
 fn format_want<'a>(format: &Format, json: &'a Json) -> Option<Want<'a>> {
@@ -147,32 +154,42 @@ fn entry_want<'a>(json: &'a Json) -> Option<Want<'a>> {
     }
 }
 
-fn struct_want<'a>(fields: &'a [Named<Format>], json: &'a Json) -> Option<Want<'a>> {
+fn struct_want<'a>(
+    alloc: Global,
+    fields: &'a [Named<Format>],
+    json: &'a Json,
+) -> Result<Option<Want<'a>>, AllocError> {
     let Json::Object(members) = json else {
-        return Some(Want::Words("wanted an object with a member for each field"));
+        return Ok(Some(Want::Words("wanted an object with a member for each field")));
     };
     for field in fields {
         if !members.contains_key(field.name.as_str()) {
-            return Some(Want::Named("no member is called", Name::of(field.name.as_str())));
+            return Ok(Some(Want::Named("no member is called", Name::of(field.name.as_str()))));
         }
     }
-    unknown_field(fields, members)
+    unknown_field(alloc, fields, members)
 }
 
-// The first member that is no field.
-fn unknown_field<'a>(fields: &[Named<Format>], members: &'a Map<String, Json>) -> Option<Want<'a>> {
+// The first member that is no field. The names of the fields are collected first, so that each member is looked up in
+// them once, and not compared with all of them.
+fn unknown_field<'a>(
+    alloc: Global,
+    fields: &[Named<Format>],
+    members: &'a Map<String, Json>,
+) -> Result<Option<Want<'a>>, AllocError> {
+    let mut names = BTreeSet::new(alloc);
+    for field in fields {
+        names.insert(field.name.as_str())?;
+    }
     for (name, _) in members {
-        if field_called(fields, name.as_str()).is_none() {
-            return Some(Want::Named("no field is called", Name::of(name.as_str())));
+        if !names.contains(&name.as_str()) {
+            return Ok(Some(Want::Named("no field is called", Name::of(name.as_str()))));
         }
     }
-    None
+    Ok(None)
 }
 
-fn enum_want<'a>(
-    variants: &BTreeMap<u32, Named<VariantFormat>>,
-    json: &'a Json,
-) -> Option<Want<'a>> {
+fn enum_want<'a>(registry: &Registry, choices: Enum<'a>, json: &'a Json) -> Option<Want<'a>> {
     let name = match json {
         Json::String(word) => Some(word.as_str()),
         Json::Object(members) => only_name(members),
@@ -183,7 +200,7 @@ fn enum_want<'a>(
             "wanted a variant, its name or an object with one member of that name",
         ));
     };
-    match payload_called(variants, name) {
+    match choices.payload(registry, name) {
         None => Some(Want::Named("no variant is called", Name::of(name))),
         Some(VariantFormat::Unit) => None,
         Some(_) if json.is_object() => None,

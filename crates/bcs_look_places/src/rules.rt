@@ -49,8 +49,8 @@ impl<'a> Search<'a> {
     }
 
     fn container(&mut self, name: &str, container: &Container) -> Result<(), AllocError> {
-        match Content::from(container) {
-            Content::Variants(variants) => self.variants(name, variants),
+        match Content::of(name, container) {
+            Content::Variants(choices) => self.variants(name, choices.variants),
             content => {
                 let owner = Owner {
                     container: name,

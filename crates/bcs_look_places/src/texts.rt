@@ -10,7 +10,7 @@ use bcs_registry::{Format, Registry};
 use bcs_registry_json::read_json;
 use bcs_value::Limits;
 use serde_json::Value as Json;
-use std::alloc::Global;
+use std::alloc::{AllocError, Global};
 
 /// Where a JSON text of a value is refused by the tests that go through it with the format, and what was wanted there.
 pub fn place_of_text(
@@ -23,7 +23,7 @@ pub fn place_of_text(
     let (fault, steps) = fault_place(alloc, registry, format, limits, text)?;
     let json = read_json(alloc, text).ok()?;
     let pointer = Pointer(&steps);
-    let line = match want_at(registry, format, limits, &json, &steps) {
+    let line = match want_at(alloc, registry, format, limits, &json, &steps).ok()? {
         Some(want) => format!(in alloc; "at {pointer}: {fault}: {want}"),
         None => format!(in alloc; "at {pointer}: {fault}"),
     };
@@ -32,19 +32,23 @@ pub fn place_of_text(
 
 // What is wanted where the steps lead.
 fn want_at<'a>(
+    alloc: Global,
     registry: &'a Registry,
     format: &'a Format,
     limits: &Limits,
     json: &'a Json,
     steps: &[JsonStep],
-) -> Option<Want<'a>> {
+) -> Result<Option<Want<'a>>, AllocError> {
     let whole = Spot {
         left: limits.depth(),
         goal: Goal::Content(Content::One(format)),
         json,
     };
-    match opened(registry, spot_at(registry, whole, steps)?) {
-        Some(spot) => want(spot.goal, spot.json),
-        None => Some(Want::Words("more containers are open than allowed")),
+    let Some(place) = spot_at(registry, whole, steps) else {
+        return Ok(None);
+    };
+    match opened(registry, place) {
+        Some(spot) => want(alloc, registry, spot.goal, spot.json),
+        None => Ok(Some(Want::Words("more containers are open than allowed"))),
     }
 }
