@@ -1,10 +1,14 @@
 //! The way to a piece: in names, as the word PATH, and as a branch of a tree. A trail leads from the last step up, and going
 //! up in a loop takes no stack; so a way is put back to front, and then turned.
 
+use crate::meaning::put_so_many;
 use bcs_look_text::columns::{put_blanks, put_decimal, put_hex};
 use bcs_look_text::escaping::put_escaped;
 use bcs_pieces::{Step, Trail};
 use std::alloc::AllocError;
+
+// How many bytes of a key are printed in a step. Every piece below the key repeats its step.
+const KEY_SIZE: usize = 32;
 
 #[derive(Clone, Copy)]
 enum Spelling {
@@ -126,8 +130,8 @@ fn put_name(step: &Step<'_, '_>, out: &mut Vec<u8>) -> Result<(), AllocError> {
             put_escaped(name, out)
         }
         Step::Value(key) => {
-            out.extend_from_slice(b"[key:")?;
-            put_hex(key, out)?;
+            out.push(b'[')?;
+            put_key(key, out)?;
             Ok(out.push(b']')?)
         }
     }
@@ -146,9 +150,18 @@ fn put_word(step: &Step<'_, '_>, out: &mut Vec<u8>) -> Result<(), AllocError> {
         Step::Item(number) | Step::Field(number, _) => put_decimal(u128::from(*number), out),
         Step::Inner | Step::Container(_) | Step::Variant(_, _) => out.extend_from_slice(b"inner"),
         Step::Key(_) => Ok(()),
-        Step::Value(key) => {
-            out.extend_from_slice(b"key:")?;
-            put_hex(key, out)
-        }
+        Step::Value(key) => put_key(key, out),
     }
+}
+
+// A longer key is cut, and the dots and the number of bytes left out keep it from being read as a whole one.
+fn put_key(key: &[u8], out: &mut Vec<u8>) -> Result<(), AllocError> {
+    let (first, rest) = key.split_at(KEY_SIZE.min(key.len()));
+    out.extend_from_slice(b"key:")?;
+    put_hex(first, out)?;
+    if rest.is_empty() {
+        return Ok(());
+    }
+    out.extend_from_slice(b"...(")?;
+    put_so_many(rest.len() as u64, " byte more)", " bytes more)", out)
 }
