@@ -37,12 +37,12 @@ module _ {K : Type 0} (taken : K → Option (List ℕ)) (is_failed : K → Bool)
 -- ---- words that are no job
 
 module _ {O E : Type 0} (taken : O → Option (List ℕ)) (is_failed : O → Bool) (told : E → Option (List ℕ)) (has_failed : E → Bool) where
-  pub fault_status : (fault : LineFault) (out out' : O) (errors errors' : E) (status : ℕ)
-      → TellsFault taken is_failed told has_failed fault out out' errors errors' status → status < 5
-  fault_status (Usage text) out out' errors errors' status h = omega (arith, h.0)
-  fault_status (Help text) out out' errors errors' status (inl h) = omega (arith, h.0)
-  fault_status (Help text) out out' errors errors' status (inr h) = omega (arith, h.0)
-  fault_status OutOfMemory out out' errors errors' status h = omega (arith, h.0)
+  pub fault_status : (keeps_lines : Bool) (fault : LineFault) (out out' : O) (errors errors' : E) (status : ℕ)
+      → TellsFault taken is_failed told has_failed keeps_lines fault out out' errors errors' status → status < 5
+  fault_status keeps_lines (Usage text) out out' errors errors' status h = omega (arith, h.0)
+  fault_status keeps_lines (Help text) out out' errors errors' status (inl h) = omega (arith, h.0)
+  fault_status keeps_lines (Help text) out out' errors errors' status (inr h) = omega (arith, h.0)
+  fault_status keeps_lines OutOfMemory out out' errors errors' status h = omega (arith, h.0)
 
 -- ---- statuses
 

@@ -19,6 +19,7 @@ use Rattle.bcs_tool_command_line.specs.declared.line_fault.LineFault.{LineFault}
 use Rattle.bcs_tool_command_line.specs.declared.line_fault.LineFault.TheVariants.{Usage, Help, OutOfMemory}
 use Rattle.bcs_tool.specs.Pairs.{PairRuns}
 use Rattle.bcs_tool.specs.Running.{PutFront, Runs}
+use Rattle.bcs_tool.specs.Visible.{usage_text}
 
 -- ---- one stream
 
@@ -39,15 +40,15 @@ module _ {K : Type 0} (taken : K → Option (List ℕ)) (is_failed : K → Bool)
 -- ---- words that are no job
 
 module _ {O E : Type 0} (taken : O → Option (List ℕ)) (is_failed : O → Bool) (told : E → Option (List ℕ)) (has_failed : E → Bool) where
-  -- the text of usage stands on the standard error, and ends with 3; that of help or of the version on
-  -- the standard output, and ends with 0
-  abbrev pub TellsFault : LineFault → O → O → E → E → ℕ → Type 0
-  TellsFault (Usage text) out out' errors errors' status =
-      (status ≡ 3) × (out' ≡ out) × Told told has_failed errors errors' (string_bytes text)
-  TellsFault (Help text) out out' errors errors' status =
+  -- the text of usage is written to the standard error with its hidden characters escaped, and the status is 3; that of
+  -- help or of the version is written to the standard output, and the status is 0
+  abbrev pub TellsFault : Bool → LineFault → O → O → E → E → ℕ → Type 0
+  TellsFault keeps_lines (Usage text) out out' errors errors' status =
+      (status ≡ 3) × (out' ≡ out) × Told told has_failed errors errors' (usage_text keeps_lines (string_bytes text))
+  TellsFault keeps_lines (Help text) out out' errors errors' status =
       ((status ≡ 0) × sink.Took taken is_failed out out' (string_bytes text) × (errors' ≡ errors))
       ⊎ ((status ≡ 4) × PutFront taken is_failed out out' (string_bytes text) × Told told has_failed errors errors' (line_of (codes "fault: write")))
-  TellsFault OutOfMemory out out' errors errors' status =
+  TellsFault keeps_lines OutOfMemory out out' errors errors' status =
       (status ≡ 4) × (out' ≡ out) × Told told has_failed errors errors' (line_of (codes "fault: memory"))
 
 -- why the system gives no words: one is no UTF-8, or memory ran out

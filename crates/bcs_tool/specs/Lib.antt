@@ -4,6 +4,7 @@ pub mod Pairs
 pub mod PairLines
 pub mod Scanning
 pub mod Endings
+pub mod Visible
 pub use Rattle.bcs_tool_answers.specs.Judging
 pub use Rattle.bcs_tool_answers.specs.Input
 pub use Rattle.bcs_tool_answers.specs.Answers

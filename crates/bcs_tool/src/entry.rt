@@ -1,11 +1,12 @@
 //! The program, as the system starts it.
-ghost use Rattle.std.specs.Prelude.{◌≡◌, ◌⊎◌, ◌<◌, IfErr, IfOk};
+ghost use Rattle.std.specs.Prelude.{◌≡◌, ◌⊎◌, ◌<◌, not, true, IfErr, IfOk};
 ghost use Rattle.std.specs.Process.{exit_status};
 ghost use Rattle.bcs_tool_command_line.specs.CommandLine.{texts_of};
 ghost use Rattle.bcs_tool_command_line.specs.Jobs.{IsJobOf};
 ghost use Rattle.bcs_tool_command_line.specs.LineFaults.{IsFaultOf};
 ghost use Rattle.bcs_tool_command_line.specs.TakenWords.{TakesWords};
 ghost use Rattle.bcs_tool.specs.Endings.{IsWordsFault, Performs, TellsFault, TellsReport};
+ghost use Rattle.bcs_tool.specs.Visible.{breaks_lines};
 
 use crate::responding::respond;
 use crate::telling::tell_fault;
@@ -39,15 +40,15 @@ pub fn start<R: Files + Env + AllocGlobal, S: ByteSource, O: ByteSink, E: ByteSi
 
     // Nothing is read or put, and the fault is told.
     ensures no_words { IfErr words (λ fault. (input.new ≡ input.old)
-        × TellsFault O.taken O.is_failed E.taken E.is_failed fault out.old out.new errors.old errors.new result) }
+        × TellsFault O.taken O.is_failed E.taken E.is_failed true fault out.old out.new errors.old errors.new result) }
 
     // The rest is as `respond` has it.
     ensures no_job { IfOk words (λ given. ¬ TakesWords (texts_of given.items) → (fault : LineFault)
         × IsFaultOf (texts_of given.items) fault × (input.new ≡ input.old)
-        × TellsFault O.taken O.is_failed E.taken E.is_failed fault out.old out.new errors.old errors.new result) }
+        × TellsFault O.taken O.is_failed E.taken E.is_failed (not (breaks_lines (texts_of given.items))) fault out.old out.new errors.old errors.new result) }
     ensures job { IfOk words (λ given. TakesWords (texts_of given.items) →
         ((input.new ≡ input.old) × TellsFault O.taken O.is_failed E.taken E.is_failed
-        LineFault.OutOfMemory out.old out.new errors.old errors.new result)
+        (not (breaks_lines (texts_of given.items))) LineFault.OutOfMemory out.old out.new errors.old errors.new result)
         ⊎ ((job : Job) × (report : Report) × IsJobOf (texts_of given.items) job
         × Performs S.content S.is_failed S.allowance O.taken O.is_failed R.File.remaining
         job input.old input.new out.old out.new report

@@ -19,6 +19,7 @@ mod running;
 mod scan_running;
 mod tally;
 mod telling;
+mod visible;
 
 pub use bcs_io::{ByteSink, ByteSource, ReadSource, TakeFault, WriteSink, put_all, take_all};
 pub use bcs_look_text::style::{Form, Paint, Style};

@@ -1,16 +1,17 @@
 //! A command line, its input, and what the standard output and the standard error are told.
-ghost use Rattle.std.specs.Prelude.{◌≡◌, ◌⊎◌, ◌<◌};
+ghost use Rattle.std.specs.Prelude.{◌≡◌, ◌⊎◌, ◌<◌, not};
 ghost use Rattle.bcs_tool_command_line.specs.CommandLine.{texts_of};
 ghost use Rattle.bcs_tool_command_line.specs.Jobs.{IsJobOf};
 ghost use Rattle.bcs_tool_command_line.specs.LineFaults.{IsFaultOf};
 ghost use Rattle.bcs_tool_command_line.specs.TakenWords.{TakesWords};
 ghost use Rattle.bcs_tool.specs.Endings.{IsUnopened, Performs, PerformsOne, PerformsPairs, TellsFault, TellsReport};
+ghost use Rattle.bcs_tool.specs.Visible.{breaks_lines};
 
 use crate::command_line::line;
 use crate::files::read_work;
 use crate::pair_running::{report_of_pairs, run_pairs};
 use crate::running::{failed, run_from};
-use crate::telling::{tell_fault, tell_report};
+use crate::telling::{tell_fault_of_words, tell_report};
 use bcs_io::{ByteSink, ByteSource, ReadSource};
 use bcs_tool_command_line::{
     FileFault, Inputs, Job, LineFault, OpenCause, Origin, Report, UnreadFile, Work, place_of_file,
@@ -35,12 +36,12 @@ pub fn respond<R: Files + Env + AllocGlobal, S: ByteSource, O: ByteSink, E: Byte
     // There is a fault in the words, or they ask for help or the version.
     ensures no_job { ¬ TakesWords (texts_of words.now) → (fault : LineFault)
         × IsFaultOf (texts_of words.now) fault × (input.new ≡ input.old)
-        × TellsFault O.taken O.is_failed E.taken E.is_failed fault out.old out.new errors.old errors.new result }
+        × TellsFault O.taken O.is_failed E.taken E.is_failed (not (breaks_lines (texts_of words.now))) fault out.old out.new errors.old errors.new result }
 
     // They ask for a job, which is done, unless there is no memory for its words.
     ensures job { TakesWords (texts_of words.now) →
         ((input.new ≡ input.old) × TellsFault O.taken O.is_failed E.taken E.is_failed
-        LineFault.OutOfMemory out.old out.new errors.old errors.new result)
+        (not (breaks_lines (texts_of words.now))) LineFault.OutOfMemory out.old out.new errors.old errors.new result)
         ⊎ ((job : Job) × (report : Report) × IsJobOf (texts_of words.now) job
         × Performs S.content S.is_failed S.allowance O.taken O.is_failed R.File.remaining
         job input.old input.new out.old out.new report
@@ -48,7 +49,7 @@ pub fn respond<R: Files + Env + AllocGlobal, S: ByteSource, O: ByteSink, E: Byte
 {
     match line(rt.alloc(), words) {
         Ok(job) => tell_report(perform(rt, job, input, out), errors),
-        Err(fault) => tell_fault(&fault, out, errors),
+        Err(fault) => tell_fault_of_words(words, &fault, out, errors),
     }
 }
 

@@ -1,19 +1,46 @@
 //! What the standard output and the standard error are told, and the status.
-ghost use Rattle.std.specs.Prelude.{◌≡◌, ◌++◌, codes};
+ghost use Rattle.std.specs.Prelude.{◌≡◌, ◌++◌, codes, not, true};
 ghost use Rattle.bcs_tool_answers.specs.Answers.{line_of};
+ghost use Rattle.bcs_tool_command_line.specs.CommandLine.{texts_of};
 ghost use Rattle.bcs_tool.specs.Endings.{Told, TellsFault, TellsReport};
+ghost use Rattle.bcs_tool.specs.Visible.{breaks_lines, usage_text};
 
+use crate::visible::{breaks_lines, put_visible};
 use bcs_io::{ByteSink, put_all};
 use bcs_tool_command_line::{LineFault, Report};
 
 /// Tells why the words are no job, or what they ask for, and gives the status.
 pub fn tell_fault<O: ByteSink, E: ByteSink>(fault: &LineFault, out: &mut O, errors: &mut E) -> u8
-    ensures { TellsFault O.taken O.is_failed E.taken E.is_failed fault.now out.old out.new errors.old errors.new result }
+    ensures { TellsFault O.taken O.is_failed E.taken E.is_failed true fault.now out.old out.new errors.old errors.new result }
+{
+    tell_fault_by(true, fault, out, errors)
+}
+
+/// The same where the words are known. If one of them has a line feed, the text of usage is one line: clap's text repeats
+/// words, and so no word can forge a line.
+pub(crate) fn tell_fault_of_words<O: ByteSink, E: ByteSink>(
+    words: &[String],
+    fault: &LineFault,
+    out: &mut O,
+    errors: &mut E,
+) -> u8
+    ensures { TellsFault O.taken O.is_failed E.taken E.is_failed (not (breaks_lines (texts_of words.now))) fault.now out.old out.new errors.old errors.new result }
+{
+    tell_fault_by(!breaks_lines(words), fault, out, errors)
+}
+
+fn tell_fault_by<O: ByteSink, E: ByteSink>(
+    keeps_lines: bool,
+    fault: &LineFault,
+    out: &mut O,
+    errors: &mut E,
+) -> u8
+    ensures { TellsFault O.taken O.is_failed E.taken E.is_failed keeps_lines fault.now out.old out.new errors.old errors.new result }
 {
     match fault {
         // clap's text ends its own line.
         LineFault::Usage(text) => {
-            tell(text.as_str(), errors);
+            tell_usage(keeps_lines, text.as_str(), errors);
             3
         }
         LineFault::Help(text) => match put_all(text.as_bytes(), out) {
@@ -42,6 +69,20 @@ pub fn tell_report<E: ByteSink>(report: Report, errors: &mut E) -> u8
         );
     }
     report.outcome.status
+}
+
+// Tells a text of usage with its hidden characters escaped.
+fn tell_usage<E: ByteSink>(keeps_lines: bool, text: &str, errors: &mut E)
+    ensures { Told E.taken E.is_failed errors.old errors.new (usage_text keeps_lines text.now) }
+{
+    match put_visible(keeps_lines, text, errors) {
+        Ok(()) => {
+            if !keeps_lines {
+                tell("\n", errors);
+            }
+        }
+        Err(_) => {}
+    }
 }
 
 // Tells the note of a fault on a line, and gives its status.

@@ -1,6 +1,8 @@
-use Rattle.std.proofs.Common.{inl, inr, refl, subst}
+use Rattle.std.proofs.Common.{inl, inr, not, refl, subst}
+use Rattle.bcs_tool_command_line.specs.CommandLine.{texts_of}
 use Rattle.bcs_tool_command_line.specs.declared.line_fault.LineFault.{LineFault}
 use Rattle.bcs_tool.specs.Endings.{TellsFault}
+use Rattle.bcs_tool.specs.Visible.{breaks_lines}
 use Rattle.bcs_tool.proofs.EndingLemmas.{fault_status, report_status}
 use Rattle.bcs_tool.proofs.responding.respond.Goals as goal
 
@@ -18,13 +20,13 @@ returns-in-Ok-clause-job g c =
 
 pub returns-in-Err-clause-status : goal.returns-in-Err-clause-status
 returns-in-Err-clause-status g c =
-    fault_status g.O.ByteSink.taken g.O.ByteSink.is_failed g.E.ByteSink.taken g.E.ByteSink.is_failed c.in-Err.fault _ _ _ _ _ c.tell_fault.ensures
+    fault_status g.O.ByteSink.taken g.O.ByteSink.is_failed g.E.ByteSink.taken g.E.ByteSink.is_failed _ c.in-Err.fault _ _ _ _ _ c.tell_fault_of_words.ensures
 
 pub returns-in-Err-clause-no_job : goal.returns-in-Err-clause-no_job
-returns-in-Err-clause-no_job g c = λ wrong. (c.in-Err.fault, c.in-Err.ensures.fault, refl, c.tell_fault.ensures)
+returns-in-Err-clause-no_job g c = λ wrong. (c.in-Err.fault, c.in-Err.ensures.fault, refl, c.tell_fault_of_words.ensures)
 
 pub returns-in-Err-clause-job : goal.returns-in-Err-clause-job
 returns-in-Err-clause-job g c =
     let P : LineFault → Type 0 = λ f. TellsFault g.O.ByteSink.taken g.O.ByteSink.is_failed g.E.ByteSink.taken g.E.ByteSink.is_failed
-    f c.args.out.now c.tell_fault.new.out c.args.errors.now c.tell_fault.new.errors c.tell_fault.result in
-    λ good. inl (refl, subst P (c.in-Err.ensures.good good) c.tell_fault.ensures)
+    (not (breaks_lines (texts_of c.args.words.now))) f c.args.out.now c.tell_fault_of_words.new.out c.args.errors.now c.tell_fault_of_words.new.errors c.tell_fault_of_words.result in
+    λ good. inl (refl, subst P (c.in-Err.ensures.good good) c.tell_fault_of_words.ensures)

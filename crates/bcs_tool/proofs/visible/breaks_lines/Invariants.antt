@@ -1,0 +1,7 @@
+use Rattle.std.proofs.Common.{◌≡◌, false, map, string_bytes, take}
+use Rattle.bcs_tool.specs.Visible.{breaks_lines}
+use Rattle.bcs_tool.proofs.visible.breaks_lines.Given as goal
+
+-- no word so far has one
+abbrev pub invariant-loop-word : goal.invariant-loop-word
+invariant-loop-word l = breaks_lines (map string_bytes (take l.word-index l.words)) ≡ false

@@ -1,0 +1,7 @@
+use Rattle.std.proofs.Common.{refl}
+use Rattle.bcs_look_text.specs.Escaped.{numbered}
+use Rattle.bcs_tool.proofs.visible.escape_of.Goals as goal
+
+pub returns : goal.returns
+unfolding numbered
+returns c = rw (c.last_digit.ensures, c.last_digit-2.ensures, c.last_digit-3.ensures, c.last_digit-4.ensures) refl
