@@ -1,4 +1,5 @@
 use Rattle.std.proofs.Common.{subst, sym, Decides, ◌≡◌}
+use Rattle.std.proofs.lemmas.Result.{err_from_is_err_and}
 use Rattle.std.proofs.lemmas.Slice.Eq.{bytes_eq-Decides}
 use Rattle.bcs_registry_model.specs.View.{shape_of}
 use Rattle.bcs_json.proofs.Outcomes.{compares}
@@ -11,7 +12,11 @@ returns-clause-compares c =
     (subst (λ answer. Decides answer (c.in_ok-one.one.items ≡ c.in_ok-other.other.items)) (sym c.eq.ensures) (bytes_eq-Decides c.in_ok-one.one.items c.in_ok-other.other.items))
 
 pub returns-in_err-one-clause-memory : goal.returns-in_err-one-clause-memory
-returns-in_err-one-clause-memory c = λ t u denotes other. c.in_err-one.ensures.memory t denotes
+returns-in_err-one-clause-memory c =
+    let p = err_from_is_err_and c.from_residual.result c.from_residual.ensures.1 in
+    rw (p.1, p.2) (λ t u denotes other. c.in_err-one.ensures.memory t denotes)
 
 pub returns-in_err-other-clause-memory : goal.returns-in_err-other-clause-memory
-returns-in_err-other-clause-memory c = λ t u denotes other. c.in_err-other.ensures.memory u other
+returns-in_err-other-clause-memory c =
+    let p = err_from_is_err_and c.from_residual-in_err-other.result c.from_residual-in_err-other.ensures.1 in
+    rw (p.1, p.2) (λ t u denotes other. c.in_err-other.ensures.memory u other)
