@@ -1,4 +1,4 @@
-use Rattle.std.proofs.Common.{◌≡◌, ◌∙◌, ◌++◌, ◌+◌, ◌-◌, ◌/◌, ◌%◌, ℕ, List, ap, rules, subst, sym, arith}
+use Rattle.std.proofs.Common.{◌≡◌, ◌∙◌, ◌++◌, ◌+◌, ◌-◌, ◌%◌, ℕ, List, ap, rules, subst, sym, arith}
 use Rattle.std.specs.Prelude.{OnOk, OnErr}
 use Rattle.bcs_io.specs.Taking.{Took}
 use Rattle.bcs_look_text.specs.Escaped.{numbered}
