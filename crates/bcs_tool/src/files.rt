@@ -8,7 +8,8 @@ ghost use Rattle.bcs_tool_command_line.specs.Files.{IsFaultOfFiles, IsFileText, 
 use bcs_io::{ByteSource, ReadSource, TakeFault, take_all};
 use bcs_tool_command_line::limits::SIZE_LIMIT;
 use bcs_tool_command_line::{
-    Command, FileFault, FileRefusal, Inputs, Job, OpenCause, UnreadFile, Work, WorkOptions, style_of,
+    Command, FileFault, FileRefusal, Inputs, Job, OpenCause, UnreadFile, Work, WorkOptions,
+    style_of,
 };
 use std::alloc::{AllocError, Global};
 use std::env::Env;

@@ -181,7 +181,14 @@ fn answer_explain(
         format,
         ..
     } = asked;
-    let explained = explain_text(alloc, registry, format, &work.limits, work.options.style, bytes)?;
+    let explained = explain_text(
+        alloc,
+        registry,
+        format,
+        &work.limits,
+        work.options.style,
+        bytes,
+    )?;
     let Explanation { text, stop } = explained;
     match stop {
         None => Ok(unplaced(alloc, 0, text)),
