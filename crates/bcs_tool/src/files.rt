@@ -105,6 +105,8 @@ pub fn read_work<R: Files + Env + AllocGlobal>(
         }
     };
     let style = style_of(rt, &job);
+    let options = job.options;
+    let lines = options.lines;
     let work = Work {
         command: job.command,
         registry,
@@ -114,18 +116,18 @@ pub fn read_work<R: Files + Env + AllocGlobal>(
         raw: job.raw,
         limits: job.limits,
         options: WorkOptions {
-            name: job.options.name,
-            base64: job.options.base64,
-            lines: job.options.lines,
-            front: job.options.front,
-            list: job.options.list,
-            full: job.options.full,
-            quiet: job.options.quiet,
+            name: options.name,
+            base64: options.base64,
+            lines,
+            front: options.front,
+            list: options.list,
+            full: options.full,
+            quiet: options.quiet,
             style,
         },
     };
     let inputs = Inputs {
-        first: first_name(job.command, job.options.lines, job.second),
+        first: first_name(job.command, lines, job.second),
         file: job.file,
     };
     Ok((work, inputs))
