@@ -18,7 +18,7 @@ impl Output {
     pub fn end_entry(&mut self, before: Option<Span>, entry: Span)
         ensures ended { is_told self.new.extent ≡ true → (self.new.extent ≡ self.old.extent) × (self.new.bytes ≡ self.old.bytes)
             × (self.old.extent ≡ Extent.Sorting → self.new.spans.items ≡ self.old.spans.items ++ entry ∷ [])
-            × (self.old.extent ≡ Extent.Rising → (self.new.spans.items ≡ self.old.spans.items) × (rises_after self.old.bytes before entry ≡ true)) }
+            × (self.old.extent ≡ Extent.Rising → (self.new.spans.items ≡ self.old.spans.items) × (rises_after self.old.bytes.items before entry ≡ true)) }
         ensures full { self.old.extent ≡ Extent.Sorting → is_told self.new.extent ≡ false → vec_capacity self.old.spans ≤ vec_len self.old.spans }
     {
         match self.extent {
@@ -30,7 +30,7 @@ impl Output {
 
     /// Leaves off where an entry's key isn't above that of the entry before.
     fn compare(&mut self, before: Option<Span>, entry: Span)
-        ensures extent { self.new.extent ≡ (if rises_after self.old.bytes before entry then self.old.extent else Extent.LeftOff) }
+        ensures extent { self.new.extent ≡ (if rises_after self.old.bytes.items before entry then self.old.extent else Extent.LeftOff) }
         ensures bytes { self.new.bytes ≡ self.old.bytes }
         ensures spans { self.new.spans.items ≡ self.old.spans.items }
     {
@@ -53,14 +53,14 @@ impl Output {
     pub fn end_map(&mut self, first: usize, start: usize)
         requires first { self.old.extent ≡ Extent.Sorting → first ≤ length self.old.spans.items }
         requires laid { self.old.extent ≡ Extent.Sorting
-            → take start self.old.bytes ++ flat_map entry_bytes (map (span_entry self.old.bytes) (drop first self.old.spans.items)) ≡ self.old.bytes }
+            → take start self.old.bytes.items ++ flat_map entry_bytes (map (span_entry self.old.bytes.items) (drop first self.old.spans.items)) ≡ self.old.bytes.items }
         requires filled { self.old.extent ≡ Extent.Sorting
-            → start + length (flat_map entry_bytes (map (span_entry self.old.bytes) (drop first self.old.spans.items))) ≡ length self.old.bytes }
+            → start + length (flat_map entry_bytes (map (span_entry self.old.bytes.items) (drop first self.old.spans.items))) ≡ length self.old.bytes.items }
         ensures sorted { self.old.extent ≡ Extent.Sorting → is_told self.new.extent ≡ true
-            → (told self.new ≡ sorted_entries_written (map (span_entry self.old.bytes) (drop first self.old.spans.items)) (take start self.old.bytes))
+            → (told self.new ≡ sorted_entries_written (map (span_entry self.old.bytes.items) (drop first self.old.spans.items)) (take start self.old.bytes.items))
             × (is_whole self.new.extent ≡ true → (self.new.extent ≡ Extent.Sorting) × (self.new.spans.items ≡ take first self.old.spans.items)) }
         ensures full { self.old.extent ≡ Extent.Sorting → is_told self.new.extent ≡ false
-            → vec_capacity self.old.scratch < length (flat_map entry_bytes (map (span_entry self.old.bytes) (drop first self.old.spans.items))) }
+            → vec_capacity self.old.scratch < length (flat_map entry_bytes (map (span_entry self.old.bytes.items) (drop first self.old.spans.items))) }
         ensures others { (self.old.extent ≡ Extent.Sorting → ⊥)
             → (self.new.extent ≡ self.old.extent) × (self.new.bytes ≡ self.old.bytes) × (self.new.spans.items ≡ self.old.spans.items) }
     {
@@ -77,11 +77,11 @@ impl Output {
     /// The same of entries that don't rise as they stand, through the scratch buffer.
     fn arrange(&mut self, first: usize, start: usize)
         requires first { first ≤ length self.old.spans.items }
-        requires filled { start + length (flat_map entry_bytes (map (span_entry self.old.bytes) (drop first self.old.spans.items))) ≡ length self.old.bytes }
+        requires filled { start + length (flat_map entry_bytes (map (span_entry self.old.bytes.items) (drop first self.old.spans.items))) ≡ length self.old.bytes.items }
         ensures sorted { is_told self.new.extent ≡ true
-            → (told self.new ≡ sorted_entries_written (map (span_entry self.old.bytes) (drop first self.old.spans.items)) (take start self.old.bytes))
+            → (told self.new ≡ sorted_entries_written (map (span_entry self.old.bytes.items) (drop first self.old.spans.items)) (take start self.old.bytes.items))
             × (is_whole self.new.extent ≡ true → (self.new.extent ≡ Extent.Sorting) × (self.new.spans.items ≡ take first self.old.spans.items)) }
-        ensures full { is_told self.new.extent ≡ false → vec_capacity self.old.scratch < length (flat_map entry_bytes (map (span_entry self.old.bytes) (drop first self.old.spans.items))) }
+        ensures full { is_told self.new.extent ≡ false → vec_capacity self.old.scratch < length (flat_map entry_bytes (map (span_entry self.old.bytes.items) (drop first self.old.spans.items))) }
     {
         match self.lay_in_order(first) {
             Ok(differ) => self.put_back(differ, start),
@@ -93,10 +93,10 @@ impl Output {
     /// whether the keys differ.
     fn lay_in_order(&mut self, first: usize) -> Result<bool, AllocError>
         requires { first ≤ length self.old.spans.items }
-        ensures sorted { IfOk result (λ differ. sorted_entries_written (map (span_entry self.old.bytes) (drop first self.old.spans.items)) []
+        ensures sorted { IfOk result (λ differ. sorted_entries_written (map (span_entry self.old.bytes.items) (drop first self.old.spans.items)) []
             ≡ (if differ then Ok self.new.scratch.items else Err RepeatedKey)) }
-        ensures len { IfOk result (λ differ. differ ≡ true → length self.new.scratch.items ≡ length (flat_map entry_bytes (map (span_entry self.old.bytes) (drop first self.old.spans.items)))) }
-        ensures full { OnErr result (vec_capacity self.old.scratch < length (flat_map entry_bytes (map (span_entry self.old.bytes) (drop first self.old.spans.items)))) }
+        ensures len { IfOk result (λ differ. differ ≡ true → length self.new.scratch.items ≡ length (flat_map entry_bytes (map (span_entry self.old.bytes.items) (drop first self.old.spans.items)))) }
+        ensures full { OnErr result (vec_capacity self.old.scratch < length (flat_map entry_bytes (map (span_entry self.old.bytes.items) (drop first self.old.spans.items)))) }
         ensures spans { OnOk result (self.new.spans.items ≡ take first self.old.spans.items) }
         ensures bytes { self.new.bytes ≡ self.old.bytes }
     {
@@ -113,9 +113,9 @@ impl Output {
     /// Puts the entries in the scratch buffer in the place of those that stand from `start` on, which have as many bytes;
     /// or two of them had one key.
     fn put_back(&mut self, differ: bool, start: usize)
-        requires { differ ≡ true → start + length self.old.scratch.items ≡ length self.old.bytes }
+        requires { differ ≡ true → start + length self.old.scratch.items ≡ length self.old.bytes.items }
         ensures is_told { is_told self.new.extent ≡ true }
-        ensures told { told self.new ≡ (if differ then Ok (take start self.old.bytes ++ self.old.scratch.items) else Err RepeatedKey) }
+        ensures told { told self.new ≡ (if differ then Ok (take start self.old.bytes.items ++ self.old.scratch.items) else Err RepeatedKey) }
         ensures kept { is_whole self.new.extent ≡ true → (self.new.extent ≡ Extent.Sorting) × (self.new.spans.items ≡ self.old.spans.items) }
     {
         if !differ {

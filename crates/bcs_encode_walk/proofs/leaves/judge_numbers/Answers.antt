@@ -15,8 +15,8 @@ returns-then-are_numbers-clause-judged c =
     elim c.if-is_whole.branch [
       | then-is_whole w ↦
           let whole : c.is_whole.result ≡ true = search rules in
-          row_fits c.args.format (items_trees c.args.items.now) c.args.out.now.bytes c.push_numbers.new.self.bytes
-          (whole_written c.args.out.now c.push_numbers.new.self (items_written [] (items_trees c.args.items.now) (whole_shape c.args.format)) c.push_numbers.ensures (sym c.is_whole.ensures ∙ whole))
+          row_fits c.args.format (items_trees c.args.items.now) c.args.out.now.bytes.items c.push_numbers.new.self.bytes.items
+          (whole_written c.args.out.now c.push_numbers.new.self (items_written [] (items_trees c.args.items.now) (whole_shape c.args.format)) c.push_numbers.ensures.appended (sym c.is_whole.ensures ∙ whole))
       | else-is_whole w ↦ search rules
     ] in
     c.take.ensures ∙ sym (ap (λ (b : Bool). if b then less (length c.args.items.now) c.args.nodes else None) fit)
