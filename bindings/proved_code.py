@@ -4,6 +4,7 @@
     bindings/proved_code.py FILE               makes FILE, the archive
     bindings/proved_code.py --program FILE     makes FILE, the object file of the program `bcs`
     bindings/proved_code.py --module FILE      makes FILE, the LLVM module of the archive's code as text, for other processors
+    bindings/proved_code.py --program-module FILE    makes FILE, the same of the program `bcs`
 
 `rt lib` builds anew each library that `rt ci` built, since it keeps only what it built itself. So the gate builds the archive
 by this, over what it has proved a moment before. The crate itself is proved here once more. Where a library isn't there,
@@ -13,8 +14,9 @@ Archive and program are compiled as `rt` has them compiled, but that no jump lie
 of 2015 to 2019 are slow at one that does (Intel calls it the erratum of jump conditional code), so a loop took up to 8 % more or
 less time by the place that the linker gave it.
 
-The toolchain hands an LLVM module of the proved code to clang, for x86-64. `--module` keeps it, for the first level of that
-processor, since for later ones it calls what only they have. bindings/web/module and bindings/arm64/build compile it.
+The toolchain hands an LLVM module of the proved code to clang, for x86-64. `--module` and `--program-module` keep it, for the
+first level of that processor, since for later ones it calls what only they have. bindings/web/module and bindings/arm64/build
+compile it.
 """
 
 from __future__ import annotations
@@ -104,12 +106,12 @@ def make_code(kit: pathlib.Path, file: pathlib.Path, crate: pathlib.Path) -> Non
         prove_and_build(kit, file, tools, crate=crate)
 
 
-def make_module(kit: pathlib.Path, file: pathlib.Path) -> None:
-    """Makes the file, the LLVM module as text. The archive that is built on the way is let go."""
+def make_module(kit: pathlib.Path, file: pathlib.Path, crate: pathlib.Path = CRATE) -> None:
+    """Makes the file, the LLVM module of the crate as text. The archive or object file that is built on the way is dropped."""
     with tempfile.TemporaryDirectory() as folder:
         room = pathlib.Path(folder)
         tools = tools_with_clang(kit, room, f'cp module.bc "{room}/module.bc"')
-        prove_and_build(kit, room / "x86.a", tools, "--cpu", "x86-64")
+        prove_and_build(kit, room / "x86.a", tools, "--cpu", "x86-64", crate=crate)
         clang = [str(kit / "toolchain/bin/clang"), "--no-default-config", "--target=x86_64-unknown-linux-gnu"]
         as_text = ["-S", "-emit-llvm", "-Xclang", "-disable-llvm-passes", "-x", "ir", f"{room}/module.bc"]
         subprocess.run([*clang, *as_text, "-o", str(file)], check=True)
@@ -117,13 +119,13 @@ def make_module(kit: pathlib.Path, file: pathlib.Path) -> None:
 
 def main() -> None:
     option = sys.argv[1] if len(sys.argv) == 3 else ""
-    if len(sys.argv) not in (2, 3) or option not in ("", "--program", "--module"):
-        sys.exit(f"Usage: {sys.argv[0]} [--program | --module] FILE")
+    if len(sys.argv) not in (2, 3) or option not in ("", "--program", "--module", "--program-module"):
+        sys.exit(f"Usage: {sys.argv[0]} [--program | --module | --program-module] FILE")
     kit, file = kit_folder(), pathlib.Path(sys.argv[-1]).resolve()
-    crate = PROGRAM if option == "--program" else CRATE
+    crate = PROGRAM if "program" in option else CRATE
     make_below(kit, crate)
-    if option == "--module":
-        make_module(kit, file)
+    if option.endswith("module"):
+        make_module(kit, file, crate)
     else:
         make_code(kit, file, crate)
 
