@@ -1,4 +1,4 @@
-"""The package for npm: the WebAssembly module, its loader, which is the command too, and the declarations of types."""
+"""The package for npm: the WebAssembly modules of the calls and of the program, the loader, and the declarations of types."""
 
 from __future__ import annotations
 

@@ -21,7 +21,7 @@ README = """\
 | `aarch64-linux/` | the static library for Linux on arm64 |
 | `python/` | the module of Python with its library: `PYTHONPATH=python python3` |
 | `rust/` | the crate `bcs-proved`: `cargo add --path rust/bcs-proved-{version}` |
-| `web/` | the module for Node and browsers, which is a command too: `node web/bcs.mjs --help` |
+| `web/` | the module for Node and browsers, and the program for Node: `node web/bcs.mjs --help` |
 | `page/` | the page, one file that works from the disk |
 
 All of it works where it is unpacked. The licence is {licence}; `bcs.spdx.json` names all that it is made of.
