@@ -1,0 +1,342 @@
+// Package bcsproved encodes and decodes Binary Canonical Serialization (BCS), driven by serde-reflection registries. It calls
+// proved code by cgo. The README says what is proved, and which systems the package runs on.
+//
+// Values are passed and returned as JSON. A format is the name of a container, such as Payment; or, if it begins with { or ", it
+// is JSON, such as {"SEQ":"U8"} or "U8".
+//
+// If a call refuses its input, its error is an *Error, which says why and where. Other errors are ErrMemory, ErrClosed and
+// ErrUnsupported.
+package bcsproved
+
+// #include <stdlib.h>
+// #include "bcs.h"
+import "C"
+
+import (
+	"math"
+	"runtime"
+	"sync"
+	"unsafe"
+)
+
+// Limits restrict the values that a call accepts.
+type Limits struct {
+	Depth uint32 // how many containers may be open at once, at most 500
+	Nodes uint32 // how many nodes a value may have
+}
+
+// StandardLimits returns the widest limits: 500 open containers and 4294967295 nodes. A few bytes can encode a value with that
+// many nodes, so don't use it for bytes from strangers.
+func StandardLimits() Limits {
+	return Limits{Depth: C.BCS_DEPTH, Nodes: C.BCS_NODES}
+}
+
+// Form is how Explain prints.
+type Form uint32
+
+const (
+	FormWays  Form = C.BCS_WAYS  // a line for each piece: its place, its bytes, its kind, and the names that lead to it
+	FormPaths Form = C.BCS_PATHS // the same, followed by the path for Part
+	FormTree  Form = C.BCS_TREE  // indented by the depth of the piece
+	FormJSON  Form = C.BCS_JSON  // a JSON object per line
+)
+
+// Part is a part of a value's bytes. Data is a slice of the bytes that were passed, and begins Place bytes after their start.
+type Part struct {
+	Place int
+	Data  []byte
+}
+
+// Explanation shows bytes piece by piece. Damage says where they stop being a value of the format; it is nil if they are one.
+type Explanation struct {
+	Text   string
+	Damage *Error
+}
+
+// Registry is an open registry. Any number of goroutines may use it at the same time.
+type Registry struct {
+	shared *shared
+	limits *Limits // nil: the default
+}
+
+// shared is what a Registry has in common with those that WithLimits makes of it. Calls hold the lock for reading, so close
+// waits for them. The handle is nil if the registry is closed.
+type shared struct {
+	lock   sync.RWMutex
+	handle *C.bcs_handle
+}
+
+func (s *shared) close() {
+	s.lock.Lock()
+	defer s.lock.Unlock()
+	C.bcs_close(s.handle)
+	s.handle = nil
+}
+
+var isSupported = C.bcs_is_supported() != 0
+
+// Open reads the JSON of a registry.
+func Open(registry []byte) (*Registry, error) {
+	if !isSupported {
+		return nil, ErrUnsupported
+	}
+	var handle *C.bcs_handle
+	answer := C.bcs_open(&handle, at(registry), size(registry))
+	if answer.status != C.BCS_DONE {
+		return nil, refusalOfRegistry(answer, KindRegistry, registry)
+	}
+	s := &shared{handle: handle}
+	runtime.SetFinalizer(s, (*shared).close)
+	return &Registry{shared: s}, nil
+}
+
+// Close frees the memory of the registry, also of those that WithLimits made of it. It waits for the calls that are running;
+// later ones return ErrClosed. Without Close, the garbage collector frees the memory. The error is always nil.
+func (r *Registry) Close() error {
+	r.shared.close()
+	return nil
+}
+
+// WithLimits returns the same registry with other limits. Without it, Depth is 500, and Nodes is 4294967295 where a call reads
+// JSON, and 16 for each byte plus 1,000,000 where it reads bytes.
+func (r *Registry) WithLimits(limits Limits) *Registry {
+	return &Registry{shared: r.shared, limits: &limits}
+}
+
+// Check returns an error if the format isn't one of the registry.
+func (r *Registry) Check(format string) error {
+	q, err := r.ask(format, StandardLimits())
+	if err != nil {
+		return err
+	}
+	defer q.end()
+	return q.refusal(C.bcs_handle_check(q.handle, at(q.format), size(q.format), q.depth, q.nodes), KindFormat, nil)
+}
+
+// Encode returns the bytes of the value that a JSON document represents.
+func (r *Registry) Encode(format string, json []byte) ([]byte, error) {
+	q, err := r.ask(format, StandardLimits())
+	if err != nil {
+		return nil, err
+	}
+	defer q.end()
+	out, answer := output(guess(len(json), 1), func(out *C.uint8_t, length C.size_t) C.bcs_answer {
+		return C.bcs_handle_to_bcs(q.handle, at(q.format), size(q.format), q.depth, q.nodes, at(json), size(json), out, length)
+	})
+	return out, q.refusal(answer, KindJSON, json)
+}
+
+// Decode returns the one normal JSON document of the value that the whole of data encodes.
+func (r *Registry) Decode(format string, data []byte) ([]byte, error) {
+	q, err := r.ask(format, limitsFor(data))
+	if err != nil {
+		return nil, err
+	}
+	defer q.end()
+	out, answer := output(guess(len(data), 4), func(out *C.uint8_t, length C.size_t) C.bcs_answer {
+		return C.bcs_handle_from_bcs(q.handle, at(q.format), size(q.format), q.depth, q.nodes, at(data), size(data), out, length)
+	})
+	return out, q.refusal(answer, KindBytes, data)
+}
+
+// Normalise returns the one normal JSON document of the value that a JSON document represents.
+func (r *Registry) Normalise(format string, json []byte) ([]byte, error) {
+	q, err := r.ask(format, StandardLimits())
+	if err != nil {
+		return nil, err
+	}
+	defer q.end()
+	out, answer := output(guess(len(json), 1), func(out *C.uint8_t, length C.size_t) C.bcs_answer {
+		return C.bcs_handle_normalise(q.handle, at(q.format), size(q.format), q.depth, q.nodes, at(json), size(json), out, length)
+	})
+	return out, q.refusal(answer, KindJSON, json)
+}
+
+// Equal reports whether two JSON documents represent equal values.
+func (r *Registry) Equal(format string, first, second []byte) (bool, error) {
+	q, err := r.ask(format, StandardLimits())
+	if err != nil {
+		return false, err
+	}
+	defer q.end()
+	answer := C.bcs_handle_compare(q.handle, at(q.format), size(q.format), q.depth, q.nodes, at(first), size(first),
+		at(second), size(second))
+	if answer.status == C.BCS_NO {
+		return false, nil
+	}
+	refused := first
+	if answer.status == C.BCS_REFUSED && q.place(KindJSON, C.BCS_WHERE, first, nil, 0).status == C.BCS_NO {
+		refused = second
+	}
+	err = q.refusal(answer, KindJSON, refused)
+	return err == nil, err
+}
+
+// Scan returns how many bytes the value at the beginning of data has.
+func (r *Registry) Scan(format string, data []byte) (int, error) {
+	q, err := r.ask(format, limitsFor(data))
+	if err != nil {
+		return 0, err
+	}
+	defer q.end()
+	answer := C.bcs_handle_scan(q.handle, at(q.format), size(q.format), q.depth, q.nodes, at(data), size(data))
+	return int(answer.length), q.refusal(answer, KindBytes, data)
+}
+
+// Part returns the part to which the path leads, in the value at the beginning of data. It returns nil if the path leads
+// nowhere. Paths are those of `bcs part`: "." for the whole value, or steps such as inner/2/inner or key:0161, where the key's
+// bytes are hexadecimal digits.
+func (r *Registry) Part(format string, data []byte, path string) (*Part, error) {
+	q, err := r.ask(format, limitsFor(data))
+	if err != nil {
+		return nil, err
+	}
+	defer q.end()
+	steps := []byte(path)
+	answer := C.bcs_handle_part(q.handle, at(q.format), size(q.format), q.depth, q.nodes, at(data), size(data), at(steps),
+		size(steps))
+	if answer.status == C.BCS_NO {
+		return nil, nil
+	}
+	if err := q.refusal(answer, KindBytes, data); err != nil {
+		return nil, err
+	}
+	place, end := int(answer.place), int(answer.place)+int(answer.length)
+	return &Part{Place: place, Data: data[place:end:end]}, nil
+}
+
+// Explain shows data piece by piece, as `bcs explain` prints it. Damaged bytes aren't an error of the call.
+func (r *Registry) Explain(format string, data []byte, form Form) (*Explanation, error) {
+	q, err := r.ask(format, limitsFor(data))
+	if err != nil {
+		return nil, err
+	}
+	defer q.end()
+	out, answer := output(guess(len(data), 64), func(out *C.uint8_t, length C.size_t) C.bcs_answer {
+		return C.bcs_handle_explain(q.handle, at(q.format), size(q.format), q.depth, q.nodes, C.uint32_t(form), at(data),
+			size(data), out, length)
+	})
+	if err := q.refusal(answer, KindBytes, data); err != nil {
+		return nil, err
+	}
+	damage, err := q.damage(answer, data)
+	if err != nil {
+		return nil, err
+	}
+	return &Explanation{Text: string(out), Damage: damage}, nil
+}
+
+// Grows returns an error unless the newer registry keeps everything that the older one has, so that every old value stays
+// valid. The kind of the error is KindGrowth; or KindRegistry or KindNewer if one of them isn't a registry.
+func Grows(older, newer []byte) error {
+	if !isSupported {
+		return ErrUnsupported
+	}
+	answer := C.bcs_grows(at(older), size(older), at(newer), size(newer))
+	switch answer.status {
+	case C.BCS_DONE:
+		return nil
+	case C.BCS_REFUSED:
+		return &Error{Kind: KindGrowth, Reason: reason(answer.fault), Place: -1}
+	case C.BCS_NEWER:
+		return refusalOfRegistry(answer, KindNewer, newer)
+	default:
+		return refusalOfRegistry(answer, KindRegistry, older)
+	}
+}
+
+// question is a call in progress. It holds the registry's lock until end.
+type question struct {
+	shared       *shared
+	handle       *C.bcs_handle
+	format       []byte
+	depth, nodes C.uint32_t
+}
+
+// ask begins a call. These limits apply if the registry has none of its own.
+func (r *Registry) ask(format string, limits Limits) (*question, error) {
+	if r.limits != nil {
+		limits = *r.limits
+	}
+	r.shared.lock.RLock()
+	if r.shared.handle == nil {
+		r.shared.lock.RUnlock()
+		return nil, ErrClosed
+	}
+	return &question{r.shared, r.shared.handle, formatJSON(format), C.uint32_t(limits.Depth), C.uint32_t(limits.Nodes)}, nil
+}
+
+// end ends a call. Up to here the registry is reachable, so its finalizer doesn't run.
+func (q *question) end() {
+	q.shared.lock.RUnlock()
+	runtime.KeepAlive(q.shared)
+}
+
+// limitsFor returns the default where bytes are read.
+func limitsFor(data []byte) Limits {
+	return Limits{Depth: C.BCS_DEPTH, Nodes: uint32(C.bcs_nodes_for(size(data)))}
+}
+
+// formatJSON returns the JSON of a format. A character of a name needs at most six bytes there.
+func formatJSON(format string) []byte {
+	word := []byte(format)
+	out := make([]byte, 6*len(word)+len(`{"TYPENAME":""}`))
+	return out[:C.bcs_format((*C.char)(unsafe.Pointer(at(word))), size(word), at(out), size(out))]
+}
+
+// at returns the address of a slice's bytes. C doesn't keep it after the call.
+func at(bytes []byte) *C.uint8_t {
+	if len(bytes) == 0 {
+		return nil
+	}
+	return (*C.uint8_t)(unsafe.Pointer(&bytes[0]))
+}
+
+func size(bytes []byte) C.size_t {
+	return C.size_t(len(bytes))
+}
+
+// mostGuessed bounds the room that is made before a call has said how much it needs.
+const mostGuessed = 1 << 24
+
+// guess returns room for an output that has about `times` the length of the input.
+func guess(length, times int) C.size_t {
+	if length > mostGuessed/times {
+		return mostGuessed
+	}
+	return C.size_t(times*length + 256)
+}
+
+// output makes a call that writes output: once with room for this length, and again if that is too short.
+func output(room C.size_t, call func(out *C.uint8_t, length C.size_t) C.bcs_answer) ([]byte, C.bcs_answer) {
+	for {
+		if !hasMemory(room) {
+			return nil, C.bcs_answer{status: C.BCS_MEMORY}
+		}
+		out := make([]byte, room)
+		answer := call(at(out), room)
+		switch {
+		case answer.status == C.BCS_SHORT:
+			room = answer.length
+		case answer.status != C.BCS_DONE:
+			return nil, answer
+		case answer.length < room/2: // don't keep what isn't used
+			return append([]byte{}, out[:answer.length]...), answer
+		default:
+			return out[:answer.length:answer.length], answer
+		}
+	}
+}
+
+// hasMemory reports whether C can get that much. Go would end the program where it can't.
+func hasMemory(length C.size_t) bool {
+	if length <= mostGuessed {
+		return true
+	}
+	if length > math.MaxInt {
+		return false
+	}
+	block := C.calloc(1, length)
+	C.free(block)
+	return block != nil
+}

@@ -1,0 +1,233 @@
+// The driver of Go: reads lines of calls and answers them, as bindings/README.md says.
+package main
+
+import (
+	"bufio"
+	"encoding/hex"
+	"errors"
+	"fmt"
+	"io"
+	"log"
+	"os"
+	"reflect"
+	"strconv"
+	"strings"
+
+	bcs "fodrascu.example/bcsproved"
+)
+
+func fail(err error) {
+	if err != nil {
+		log.Fatal("driver: ", err)
+	}
+}
+
+func unhex(digits string) []byte {
+	bytes, err := hex.DecodeString(digits)
+	fail(err)
+	return bytes
+}
+
+func number(digits string) uint32 {
+	value, err := strconv.ParseUint(digits, 10, 32)
+	fail(err)
+	return uint32(value)
+}
+
+func line(status, reason string, place, length int, output []byte) string {
+	return fmt.Sprintf("%s\t%s\t%d\t%d\t%x", status, reason, place, length, output)
+}
+
+func done(place, length int) string {
+	return line("done", "-", place, length, nil)
+}
+
+const no = "no\t-\t0\t0\t"
+
+var statuses = map[bcs.Kind]string{bcs.KindRegistry: "registry", bcs.KindNewer: "newer", bcs.KindFormat: "format",
+	bcs.KindLimits: "limits", bcs.KindPath: "path", bcs.KindJSON: "refused", bcs.KindBytes: "refused",
+	bcs.KindGrowth: "refused"}
+
+// failed answers an error; the answer of a call without one is `otherwise`.
+func failed(err error, otherwise string) string {
+	var refused *bcs.Error
+	switch {
+	case err == nil:
+		return otherwise
+	case err == bcs.ErrMemory:
+		return line("memory", "-", 0, 0, nil)
+	case !errors.As(err, &refused):
+		fail(err)
+	case refused.Kind == bcs.KindLimits:
+		return line("limits", "-", 0, 0, nil)
+	}
+	place := refused.Place
+	if place < 0 {
+		place = 0
+	}
+	return line(statuses[refused.Kind], refused.Reason, place, 0, nil)
+}
+
+func output(out []byte, err error) string {
+	return failed(err, line("done", "-", 0, len(out), out))
+}
+
+// told answers what an error says about a place.
+func told(err error, what string) string {
+	var refused *bcs.Error
+	if !errors.As(err, &refused) {
+		return failed(err, no)
+	}
+	if refused.Kind != bcs.KindJSON && refused.Kind != bcs.KindBytes && refused.Kind != bcs.KindRegistry {
+		return failed(err, no)
+	}
+	if refused.Expected == "" {
+		return no
+	}
+	if what == "where" {
+		return output([]byte(refused.Pointer), nil)
+	}
+	return output([]byte(refused.Expected), nil)
+}
+
+// alike fails unless all calls that refuse an input say the same.
+func alike(first error, others ...error) {
+	for _, other := range others {
+		if !reflect.DeepEqual(first, other) {
+			fail(fmt.Errorf("%v, but %v", first, other))
+		}
+	}
+}
+
+func textPlace(r *bcs.Registry, format string, json []byte, what string) string {
+	_, encoded := r.Encode(format, json)
+	_, normalised := r.Normalise(format, json)
+	_, compared := r.Equal(format, json, json)
+	alike(encoded, normalised, compared)
+	return told(encoded, what)
+}
+
+// stopPlace asks three calls. Scan accepts bytes behind the value.
+func stopPlace(r *bcs.Registry, format string, data []byte, what string) string {
+	_, decoded := r.Decode(format, data)
+	if _, scanned := r.Scan(format, data); scanned != nil {
+		alike(decoded, scanned)
+	}
+	if explained, err := r.Explain(format, data, bcs.FormWays); err == nil && explained.Damage != nil {
+		alike(decoded, explained.Damage)
+	}
+	return told(decoded, what)
+}
+
+func part(r *bcs.Registry, format string, data []byte, path string) string {
+	found, err := r.Part(format, data, path)
+	if err != nil {
+		return failed(err, "")
+	}
+	if found == nil {
+		return no
+	}
+	return done(found.Place, len(found.Data))
+}
+
+var forms = map[string]bcs.Form{"ways": bcs.FormWays, "paths": bcs.FormPaths, "tree": bcs.FormTree, "json": bcs.FormJSON}
+
+func explain(r *bcs.Registry, format string, data []byte, form string) string {
+	explained, err := r.Explain(format, data, forms[form])
+	if err != nil {
+		return failed(err, "")
+	}
+	text := []byte(explained.Text)
+	if explained.Damage == nil {
+		return output(text, nil)
+	}
+	return line("done", explained.Damage.Reason, explained.Damage.Place, len(text), text)
+}
+
+// The registry of the line before, which is used again if the next line has the same.
+var (
+	lastText string
+	last     *bcs.Registry
+)
+
+func open(digits string) (*bcs.Registry, error) {
+	if last != nil && digits == lastText {
+		return last, nil
+	}
+	registry, err := bcs.Open(unhex(digits))
+	if err != nil {
+		return nil, err
+	}
+	if last != nil {
+		fail(last.Close())
+	}
+	lastText, last = digits, registry
+	return registry, nil
+}
+
+func answerOn(r *bcs.Registry, format string, words []string) string {
+	call, first := words[0], []byte{}
+	if len(words) > 5 {
+		first = unhex(words[5])
+	}
+	switch call {
+	case "check":
+		return failed(r.Check(format), done(0, 0))
+	case "to_bcs":
+		return output(r.Encode(format, first))
+	case "from_bcs":
+		return output(r.Decode(format, first))
+	case "normalise":
+		return output(r.Normalise(format, first))
+	case "compare":
+		equal, err := r.Equal(format, first, unhex(words[6]))
+		return failed(err, map[bool]string{true: done(0, 0), false: no}[equal])
+	case "scan":
+		length, err := r.Scan(format, first)
+		return failed(err, done(0, length))
+	case "part":
+		return part(r, format, first, string(unhex(words[6])))
+	case "explain":
+		return explain(r, format, first, words[6])
+	case "text_place":
+		return textPlace(r, format, first, words[6])
+	case "stop_place":
+		return stopPlace(r, format, first, words[6])
+	}
+	fail(fmt.Errorf("no such call: %s", call))
+	return ""
+}
+
+func answer(words []string) string {
+	switch words[0] {
+	case "fault_name":
+		return "unsayable"
+	case "grows":
+		return failed(bcs.Grows(unhex(words[1]), unhex(words[2])), done(0, 0))
+	case "registry_place":
+		_, err := bcs.Open(unhex(words[1]))
+		return told(err, words[2])
+	}
+	format := string(unhex(words[2]))
+	if !strings.HasPrefix(format, "{") && !strings.HasPrefix(format, `"`) {
+		return "unsayable" // since such a format is a name
+	}
+	registry, err := open(words[1])
+	if err != nil {
+		return failed(err, "")
+	}
+	limited := registry.WithLimits(bcs.Limits{Depth: number(words[3]), Nodes: number(words[4])})
+	return answerOn(limited, format, words)
+}
+
+func main() {
+	lines := bufio.NewReader(os.Stdin)
+	for {
+		text, err := lines.ReadString('\n')
+		if err == io.EOF {
+			return
+		}
+		fail(err)
+		fmt.Println(answer(strings.Split(strings.TrimSuffix(text, "\n"), "\t")))
+	}
+}

@@ -1,0 +1,3 @@
+module fodrascu.example/bcsproved
+
+go 1.19

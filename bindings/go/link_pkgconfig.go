@@ -1,0 +1,6 @@
+//go:build bcs_pkgconfig
+
+package bcsproved
+
+// #cgo pkg-config: bcs
+import "C"
