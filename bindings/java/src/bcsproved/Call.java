@@ -1,0 +1,26 @@
+package bcsproved;
+
+import bcsproved.BcsException.Kind;
+
+/** The calls of bcs.h, in the order of enum call of bcs_jni.c, with what each refuses. */
+enum Call {
+    CHECK(Kind.FORMAT),
+    TO_BCS(Kind.JSON),
+    FROM_BCS(Kind.BYTES),
+    NORMALISE(Kind.JSON),
+    COMPARE(Kind.JSON),
+    SCAN(Kind.BYTES),
+    PART(Kind.BYTES),
+    EXPLAIN(Kind.BYTES),
+    TEXT_PLACE(null),
+    STOP_PLACE(null),
+    GROWS(Kind.GROWTH),
+    REGISTRY_PLACE(null),
+    FAULT_NAME(null);
+
+    final Kind refused;
+
+    Call(Kind refused) {
+        this.refused = refused;
+    }
+}

@@ -1,0 +1,329 @@
+import bcsproved.BcsException;
+import bcsproved.BcsException.Kind;
+import bcsproved.Explanation;
+import bcsproved.Form;
+import bcsproved.Limits;
+import bcsproved.Part;
+import bcsproved.Registry;
+import java.nio.charset.StandardCharsets;
+import java.nio.file.Files;
+import java.nio.file.Path;
+import java.util.ArrayList;
+import java.util.Arrays;
+import java.util.HexFormat;
+import java.util.List;
+import java.util.Objects;
+
+/** Tests the calls: {@code java Tests EXAMPLES}. */
+public final class Tests {
+    private static final String SHAPES = """
+            {"Point":{"STRUCT":[{"x":"U8"},{"~/":{"SEQ":"BYTES"}}]},
+             "Shape":{"ENUM":{"0":{"Dot":"UNIT"},"2":{"Circle":{"NEWTYPE":"U64"}}}}}""";
+    private static final byte[] NOTHING = {};
+
+    private interface Test {
+        void run() throws Exception;
+    }
+
+    private static Path examples;
+
+    private static byte[] unhex(String digits) {
+        return HexFormat.of().parseHex(digits.strip());
+    }
+
+    private static void equal(Object is, Object wanted) {
+        if (!Objects.equals(is, wanted)) {
+            throw new AssertionError(is + " instead of " + wanted);
+        }
+    }
+
+    private static <E extends Throwable> E thrown(Class<E> type, Test test) {
+        try {
+            test.run();
+        } catch (Throwable e) {
+            if (type.isInstance(e)) {
+                return type.cast(e);
+            }
+            if (e instanceof OutOfMemoryError) {
+                throw (OutOfMemoryError) e; // which some tests allow
+            }
+            throw new AssertionError("not " + type, e);
+        }
+        throw new AssertionError("no " + type);
+    }
+
+    private static void refused(Kind kind, String reason, long place, String pointer, String expected, Test test) {
+        BcsException e = thrown(BcsException.class, test);
+        equal(List.of(e.kind(), String.valueOf(e.reason()), e.place()), List.of(kind, String.valueOf(reason), place));
+        equal(e.pointer(), pointer);
+        equal(e.expected(), expected);
+    }
+
+    private static void value(Registry registry, String format, String json, String digits, String normal) throws BcsException {
+        byte[] data = registry.encode(format, json);
+        equal(HexFormat.of().formatHex(data), digits);
+        equal(registry.decode(format, data), normal);
+        equal(registry.normalise(format, json), normal);
+        equal(registry.equal(format, json, normal), true);
+        byte[] more = Arrays.copyOf(data, data.length + 2);
+        equal(registry.scan(format, more), data.length);
+        Part part = registry.part(format, more, ".");
+        equal(part.place(), 0);
+        equal(HexFormat.of().formatHex(part.data()), digits);
+    }
+
+    private static void values() throws BcsException {
+        try (Registry registry = Registry.open(SHAPES)) {
+            value(registry, "Point", " {\"~/\": [\"00FF\", \"\"], \"x\": 7} ", "07020200ff00", "{\"x\":7,\"~/\":[\"00ff\",\"\"]}");
+            value(registry, "Shape", "\"Dot\"", "00", "\"Dot\"");
+            value(registry, "Shape", "{\"Circle\": 5000}", "028813000000000000", "{\"Circle\":\"5000\"}");
+            value(registry, "\"UNIT\"", "null", "", "null");
+            value(registry, "{\"SEQ\":\"U16\"}", "[]", "00", "[]");
+            value(registry, "\"STR\"", "\"\ud83d\ude00é\"", "06f09f9880c3a9", "\"\ud83d\ude00é\"");
+            equal(registry.equal("Shape", "\"Dot\"", "{\"Circle\":1}"), false);
+            equal(registry.part("Point", unhex("070202000100"), "inner/2"), null);
+            Part part = registry.part("Point", unhex("070202000100"), "inner/1/0");
+            equal(part.place() + " " + HexFormat.of().formatHex(part.data()), "2 020001");
+        }
+        String name = "a\"b\\c\u0000\u001f é";
+        Registry odd = Registry.open("{\"a\\\"b\\\\c\\u0000\\u001f é\":{\"STRUCT\":[{\"x\":\"U8\"}]}}");
+        value(odd, name, "{\"x\":1}", "01", "{\"x\":1}");
+        Registry.grows("{}".getBytes(StandardCharsets.UTF_8), SHAPES.getBytes(StandardCharsets.UTF_8));
+    }
+
+    private static void refusals() throws BcsException {
+        Registry registry = Registry.open(SHAPES);
+        String number = "wanted a whole number from 0 to 255 (U8)";
+        byte[] shapes = SHAPES.getBytes(StandardCharsets.UTF_8), none = "{}".getBytes(StandardCharsets.UTF_8);
+        refused(Kind.JSON, "BadHex", -1, "/~0~1/1", "an odd number of digits",
+                () -> registry.encode("Point", "{\"x\":1,\"~/\":[\"\",\"0\"]}"));
+        refused(Kind.JSON, "BadNumber", -1, "/x", number, () -> registry.normalise("Point", "{\"x\":256,\"~/\":[]}"));
+        refused(Kind.JSON, "BadNumber", -1, "/x", number,
+                () -> registry.equal("Point", "{\"x\":1,\"~/\":[]}", "{\"x\":\"\",\"~/\":[]}"));
+        refused(Kind.JSON, "MissingField", -1, "", "no member is called ~/", () -> registry.encode("Point", "{\"x\":1}"));
+        refused(Kind.BYTES, "EndOfInput", 4, ".~/[0]", "wanted 2 bytes of BYTES", () -> registry.decode("Point", unhex("07010205")));
+        refused(Kind.BYTES, "EndOfInput", 0, ".", "wanted BOOL", () -> registry.decode("\"BOOL\"", NOTHING));
+        refused(Kind.BYTES, "UnknownVariant", 0, ".", "wanted number of a variant", () -> registry.scan("Shape", new byte[] {1}));
+        refused(Kind.BYTES, "BadBool", 1, "[0]", "wanted BOOL", () -> registry.part("{\"SEQ\":\"BOOL\"}", new byte[] {1, 2}, "."));
+        refused(Kind.PATH, "BadPath", -1, null, null, () -> registry.part("Point", unhex("0700"), "x//"));
+        refused(Kind.FORMAT, "UnknownName", -1, null, null, () -> registry.check("Circle"));
+        refused(Kind.LIMITS, null, -1, null, null, () -> registry.withLimits(new Limits(501, 1)).check("Point"));
+        refused(Kind.GROWTH, "Missing", -1, null, null, () -> Registry.grows(shapes, none));
+        equal(thrown(BcsException.class, () -> Registry.grows(NOTHING, none)).kind(), Kind.REGISTRY);
+        equal(thrown(BcsException.class, () -> Registry.grows(none, NOTHING)).kind(), Kind.NEWER);
+        BcsException unknown = thrown(BcsException.class, () -> Registry.open("{\"A\":{\"STRUCT\":[{\"x\":{\"TYPENAME\":\"B\"}}]}}"));
+        equal(unknown.reason() + " " + unknown.pointer(), "UnknownName A, field x");
+        equal(thrown(BcsException.class, () -> registry.decode("Point", unhex("07010205"))).getMessage(),
+                "bytes refused: EndOfInput at 4, .~/[0]: wanted 2 bytes of BYTES");
+    }
+
+    /** What Java finds wrong before a call is made. */
+    private static void arguments() throws BcsException {
+        Registry registry = Registry.open(SHAPES);
+        String half = "\ud83d";
+        for (Test test : List.<Test>of(() -> Registry.open((String) null), () -> Registry.open((byte[]) null),
+                () -> registry.check(null), () -> registry.encode(null, "1"), () -> registry.encode("Point", (byte[]) null),
+                () -> registry.decode("Point", null), () -> registry.equal("Point", NOTHING, null),
+                () -> registry.equal("Point", (byte[]) null, NOTHING), () -> registry.part("Point", NOTHING, null),
+                () -> registry.explain("Point", NOTHING, null), () -> registry.explain("Point", null, Form.JSON),
+                () -> registry.withLimits(null), () -> Registry.grows(null, NOTHING), () -> Registry.grows(NOTHING, null))) {
+            thrown(NullPointerException.class, test);
+        }
+        for (Test test : List.<Test>of(() -> registry.encode("\"STR\"", "\"" + half + "\""), () -> registry.check(half),
+                () -> registry.part("Point", NOTHING, half), () -> Registry.open(half), () -> new Limits(-1, 0),
+                () -> new Limits(0, 1L << 32))) {
+            thrown(IllegalArgumentException.class, test);
+        }
+        registry.check("Point");
+        registry.withLimits(Limits.STANDARD).close();
+        registry.close();
+        for (Test test : List.<Test>of(() -> registry.check("Point"), () -> registry.withLimits(Limits.STANDARD).check("Point"),
+                () -> registry.explain("Point", NOTHING, Form.WAYS))) {
+            thrown(IllegalStateException.class, test);
+        }
+    }
+
+    private static void explanations() throws Exception {
+        Registry registry = Registry.open(Files.readString(examples.resolve("aptos_registry.json")));
+        for (String name : List.of("aptos_transfer", "aptos_transfer_damaged")) {
+            byte[] data = unhex(Files.readString(examples.resolve(name + ".hex")));
+            String wanted = Files.readString(examples.resolve(name + ".explained"));
+            Explanation explanation = registry.explain("RawTransaction", data, Form.WAYS);
+            equal(explanation.damage() != null, name.endsWith("damaged"));
+            if (explanation.damage() != null) {
+                wanted = wanted.substring(0, wanted.lastIndexOf("refused: "));
+                equal(explanation.damage().getMessage(),
+                        thrown(BcsException.class, () -> registry.decode("RawTransaction", data)).getMessage());
+            }
+            equal(explanation.text(), wanted);
+        }
+    }
+
+    /** Five bytes encode a list of 4294967295 values that need no bytes. */
+    private static void limits() throws BcsException {
+        Registry registry = Registry.open("{}");
+        byte[] units = unhex("feffffff07");
+        String format = "{\"SEQ\":\"UNIT\"}";
+        List<Test> tests = List.of(() -> registry.decode(format, units), () -> registry.scan(format, units),
+                () -> registry.part(format, units, "."));
+        for (Test test : tests) {
+            equal(thrown(BcsException.class, test).reason(), "TooManyNodes");
+        }
+        equal(registry.explain(format, units, Form.TREE).damage().reason(), "TooManyNodes");
+        equal(registry.withLimits(Limits.STANDARD).scan(format, units), 5);
+        equal(Limits.STANDARD, new Limits(500, 4294967295L));
+        equal(thrown(BcsException.class, () -> registry.withLimits(new Limits(0, 3)).encode(format, "[null,null,null]")).reason(),
+                "TooManyNodes");
+    }
+
+    /** Runs a task on each of many threads, and returns what they threw. */
+    private static void onThreads(int count, long stack, Test task) throws Exception {
+        List<Throwable> wrong = java.util.Collections.synchronizedList(new ArrayList<>());
+        List<Thread> threads = new ArrayList<>();
+        for (int number = 0; number < count; number++) {
+            threads.add(new Thread(null, () -> {
+                try {
+                    task.run();
+                } catch (Throwable e) {
+                    wrong.add(e);
+                }
+            }, "task", stack));
+        }
+        threads.forEach(Thread::start);
+        for (Thread thread : threads) {
+            thread.join();
+        }
+        for (Throwable e : wrong) {
+            throw new AssertionError(wrong.size() + " threads failed", e);
+        }
+    }
+
+    private static void sharing() throws Exception {
+        Registry registry = Registry.open(Files.readString(examples.resolve("aptos_registry.json")));
+        String json = Files.readString(examples.resolve("aptos_transfer.json"));
+        byte[] data = unhex(Files.readString(examples.resolve("aptos_transfer.hex")));
+        onThreads(40, 0, () -> {
+            for (int round = 0; round < 50; round++) {
+                equal(Arrays.equals(registry.encode("RawTransaction", json), data), true);
+                equal(registry.scan("RawTransaction", data), data.length);
+                refused(Kind.BYTES, "EndOfInput", 100, ".payload::EntryFunction.ty_args[0]::Struct.address",
+                        "wanted 32 x U8", () -> registry.decode("RawTransaction", Arrays.copyOf(data, 100)));
+            }
+        });
+    }
+
+    /** Each call succeeds, or finds the registry closed. */
+    private static void closing() throws Exception {
+        for (int round = 0; round < 30; round++) {
+            Registry registry = Registry.open(SHAPES);
+            java.util.concurrent.atomic.AtomicInteger calls = new java.util.concurrent.atomic.AtomicInteger();
+            onThreads(8, 0, () -> {
+                try {
+                    while (true) {
+                        equal(registry.encode("Shape", "\"Dot\"").length, 1);
+                        if (calls.incrementAndGet() == 100) {
+                            registry.close();
+                        }
+                    }
+                } catch (IllegalStateException e) {
+                    equal(e.getMessage(), "the registry is closed");
+                }
+            });
+        }
+    }
+
+    private static long memoryInUse() throws Exception {
+        return Long.parseLong(Files.readString(Path.of("/proc/self/statm")).split(" ")[1]) * 4096;
+    }
+
+    /** A registry that isn't closed is freed after the garbage collector has found it. */
+    private static void collecting() throws Exception {
+        byte[] text = Files.readAllBytes(examples.resolve("many_containers.json"));
+        List<Registry> kept = new ArrayList<>();
+        long before = memoryInUse();
+        for (int number = 0; number < 4; number++) {
+            kept.add(Registry.open(text));
+        }
+        long each = (memoryInUse() - before) / kept.size();
+        equal(each > 1 << 18, true);
+        System.gc();
+        before = memoryInUse();
+        final int dropped = 100;
+        for (int number = 0; number < dropped; number++) {
+            Registry.open(text).check("\"U8\"");
+            if (number % 5 == 4) {
+                System.gc();
+                Thread.sleep(10);
+            }
+        }
+        long grown = memoryInUse() - before;
+        if (grown > each * dropped / 4) {
+            throw new AssertionError(dropped + " registries of " + each + " bytes were dropped, and " + grown + " are still in use");
+        }
+        kept.forEach(Registry::close);
+    }
+
+    private static int recurse(int depth) {
+        return 1 + recurse(depth + 1);
+    }
+
+    /** A call succeeds or throws OutOfMemoryError; and then the thread's stack still ends as Java has it. Returns whether it did. */
+    private static boolean deep(Test test) throws Exception {
+        boolean isDone = true;
+        try {
+            test.run();
+        } catch (OutOfMemoryError e) {
+            isDone = false;
+        }
+        thrown(StackOverflowError.class, () -> recurse(0));
+        return isDone;
+    }
+
+    /** Values with 500 open containers, and formats with 31 levels between them, on stacks of several sizes. */
+    private static void stacks() throws Exception {
+        String format = "{\"OPTION\":".repeat(31) + "{\"TYPENAME\":\"C\"}" + "}".repeat(31);
+        Registry options = Registry.open("{\"C\":{\"NEWTYPESTRUCT\":" + format + "}}");
+        Registry chain = Registry.open("{\"C\":{\"STRUCT\":[{\"n\":{\"OPTION\":{\"TYPENAME\":\"C\"}}}]}}");
+        byte[] far = new byte[31 * 499 + 1], near = new byte[500];
+        Arrays.fill(far, 0, far.length - 1, (byte) 1);
+        Arrays.fill(near, 0, near.length - 1, (byte) 1);
+        String json = "{\"n\":".repeat(40) + "null" + "}".repeat(40);
+        List<Test> tests = List.of(() -> equal(options.scan("C", far), far.length), () -> equal(chain.scan("C", near), 500),
+                () -> equal(chain.part("C", near, "inner/0").place(), 0),
+                () -> refused(Kind.BYTES, "TooNested", -1, null, null, () -> options.decode("C", far)),
+                () -> equal(chain.explain("C", near, Form.PATHS).damage(), null),
+                () -> refused(Kind.BYTES, "TooNested", -1, null, null, () -> chain.decode("C", near)),
+                () -> equal(thrown(BcsException.class, () -> chain.encode("C", json)).kind(), Kind.JSON));
+        for (long kibibytes : new long[] {256, 512, 1024, 16 << 10}) {
+            onThreads(1, kibibytes << 10, () -> {
+                for (Test test : tests) {
+                    equal(deep(test) || kibibytes <= 1024, true);
+                }
+            });
+        }
+        onThreads(1, 0, () -> equal(deep(tests.get(1)), true));
+        onThreads(1, 256 << 10, () -> equal(deep(tests.get(0)), false));
+    }
+
+    /** Java has no room for an output of 20 million bytes, and says so. */
+    private static void memory() throws BcsException {
+        equal(Runtime.getRuntime().maxMemory() < 20_000_000, true);
+        Registry registry = Registry.open("{}").withLimits(Limits.STANDARD);
+        String format = "{\"TUPLEARRAY\":{\"CONTENT\":\"UNIT\",\"SIZE\":4000000}}";
+        for (int time = 0; time < 3; time++) {
+            thrown(OutOfMemoryError.class, () -> registry.decode(format, NOTHING));
+            equal(registry.decode("\"U8\"", new byte[] {7}), "7");
+        }
+    }
+
+    public static void main(String[] words) throws Exception {
+        examples = Path.of(words[0]);
+        List<Test> tests = words.length > 1 ? List.of(Tests::memory)
+                : List.of(Tests::values, Tests::refusals, Tests::arguments, Tests::explanations, Tests::limits, Tests::sharing,
+                        Tests::closing, Tests::collecting, Tests::stacks);
+        for (Test test : tests) {
+            test.run();
+        }
+        System.out.println(tests.size() + " tests");
+    }
+}
