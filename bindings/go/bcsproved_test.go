@@ -132,6 +132,7 @@ func TestRefusals(t *testing.T) {
 	_, badScan := registry.Scan("Shape", []byte{1})
 	_, badPart := registry.Part(`{"SEQ":"BOOL"}`, []byte{1, 2}, ".")
 	_, badPath := registry.Part("Point", []byte{7, 0}, "x//")
+	_, tooNested := open(t, deep).Decode("C", deepData)
 	_, badRegistry := Open([]byte(`{"A":{"STRUCT":[{"x":{"TYPENAME":"B"}}]}}`))
 	number := "wanted a whole number from 0 to 255 (U8)"
 	for _, row := range []struct {
@@ -150,6 +151,7 @@ func TestRefusals(t *testing.T) {
 		{decode(`"BOOL"`, ""), Error{KindBytes, "EndOfInput", 0, ".", "wanted BOOL"}},
 		{badScan, Error{KindBytes, "UnknownVariant", 0, ".", "wanted number of a variant"}},
 		{badPart, Error{KindBytes, "BadBool", 1, "[0]", "wanted BOOL"}},
+		{tooNested, Error{KindBytes, "TooNested", -1, "", ""}},
 		{badPath, Error{KindPath, "BadPath", -1, "", ""}},
 		{badRegistry, Error{KindRegistry, "UnknownName", -1, "A, field x", ""}},
 		{registry.Check("Circle"), Error{KindFormat, "UnknownName", -1, "", ""}},

@@ -79,29 +79,20 @@ func TestClosingDuringCalls(t *testing.T) {
 	}
 }
 
-// A registry that isn't closed is freed by the garbage collector, and never while a call uses it.
+// Registries that aren't closed are freed by the garbage collector. One needs almost a megabyte.
 func TestCollecting(t *testing.T) {
 	text := string(example(t, "many_containers.json"))
-	kept := make([]*Registry, 4)
 	before := pages(t, 1)
-	for number := range kept {
-		kept[number] = open(t, text)
-	}
-	each := (pages(t, 1) - before) / len(kept)
-	if each < 10 {
-		t.Fatalf("a registry of %d bytes needs only %d pages", len(text), each)
-	}
-	runtime.KeepAlive(kept)
-	before = pages(t, 1)
-	const dropped = 40
-	for number := 0; number < dropped; number++ {
+	for number := 1; number <= 500; number++ {
 		if err := open(t, text).Check(`"U8"`); err != nil {
 			t.Fatal(err)
 		}
-		runtime.GC()
+		if number%25 == 0 {
+			runtime.GC()
+		}
 	}
-	if grown := pages(t, 1) - before; grown > each*dropped/4 {
-		t.Errorf("%d registries of %d pages each were dropped, and %d pages are still in use", dropped, each, grown)
+	if grown := (pages(t, 1) - before) * os.Getpagesize(); grown > 150<<20 {
+		t.Errorf("%d more bytes in use", grown)
 	}
 }
 
@@ -129,6 +120,12 @@ func TestLongInputs(t *testing.T) {
 	}
 }
 
+// A registry of containers with 31 levels between them, and a value with 500 of these.
+var (
+	deep     = `{"C":{"NEWTYPESTRUCT":` + strings.Repeat(`{"OPTION":`, 31) + `{"TYPENAME":"C"}` + strings.Repeat("}", 31) + `}}`
+	deepData = append(bytes.Repeat([]byte{1}, 31*499), 0)
+)
+
 // Without memory a call returns ErrMemory. That takes a process of its own, which gets no more memory than it has.
 func TestMemory(t *testing.T) {
 	if os.Getenv("BCS_TEST_MEMORY") == "" {
@@ -148,33 +145,38 @@ func TestMemory(t *testing.T) {
 	if out, err := registry.Decode(`{"SEQ":"UNIT"}`, units); err != ErrMemory {
 		t.Fatal(len(out), err)
 	}
+	if !hasMemory(1<<20) || hasMemory(1<<30) || hasMemory(1<<63) {
+		t.Fatal("an output of that length")
+	}
+	if out, answer := output(1<<30, nil); out != nil || answer.status != 6 {
+		t.Fatal(len(out), answer)
+	}
 	if length, err := registry.Scan(`{"SEQ":"UNIT"}`, units); length != 5 || err != nil {
 		t.Fatal(length, err)
 	}
 	os.Stdout.WriteString(ErrMemory.Error())
 }
 
-// A thread with little stack refuses a deep value, and still makes other calls: a limit of the stack holds for the threads of Go.
+// A limit on the stack holds for the threads of Go. With 8 MiB there is room for any value; with less, a call that needs more
+// refuses, and others don't. That takes a process for each limit.
 func TestStack(t *testing.T) {
-	deep := `{"C":{"NEWTYPESTRUCT":` + strings.Repeat(`{"OPTION":`, 31) + `{"TYPENAME":"C"}` + strings.Repeat("}", 31) + `}}`
-	registry := open(t, deep)
-	data := append(bytes.Repeat([]byte{1}, 31*499), 0)
-	length, err := registry.Scan("C", data)
-	if isDone := length == len(data) && err == nil; !isDone && err != ErrMemory {
-		t.Error(length, err)
-	}
-	if os.Getenv("BCS_TEST_STACK") != "" {
-		if err != ErrMemory {
-			t.Error("the stack isn't small:", err)
-		}
-		if length, err := registry.Scan("C", []byte{1, 0, 0}); length != 2 || err != nil {
-			t.Error(length, err)
+	kibibytes := os.Getenv("BCS_TEST_STACK")
+	if kibibytes == "" {
+		for _, limit := range []string{"512", "8192"} {
+			command := exec.Command("sh", "-c", `ulimit -s $BCS_TEST_STACK && exec "$0" "$@"`, os.Args[0], "-test.run=^TestStack$")
+			command.Env = append(os.Environ(), "BCS_TEST_STACK="+limit)
+			if told, err := command.CombinedOutput(); err != nil {
+				t.Errorf("%v: %s", err, told)
+			}
 		}
 		return
 	}
-	command := exec.Command("sh", "-c", `ulimit -s 512 && exec "$0" "$@"`, os.Args[0], "-test.run=^TestStack$")
-	command.Env = append(os.Environ(), "BCS_TEST_STACK=1")
-	if told, err := command.CombinedOutput(); err != nil {
-		t.Errorf("%v: %s", err, told)
+	registry := open(t, deep)
+	length, err := registry.Scan("C", deepData)
+	if isDone := length == len(deepData) && err == nil; isDone != (kibibytes == "8192") || !isDone && err != ErrMemory {
+		t.Error(kibibytes, length, err)
+	}
+	if length, err := registry.Scan("C", []byte{1, 0, 0}); length != 2 || err != nil {
+		t.Error(length, err)
 	}
 }
