@@ -220,13 +220,15 @@ func TestExplanations(t *testing.T) {
 func TestDefaultLimits(t *testing.T) {
 	registry := open(t, "{}")
 	units, format := []byte{0xff, 0xff, 0xff, 0xff, 0x07}, `{"SEQ":"UNIT"}`
-	_, decoded := registry.Decode(format, units)
-	_, scanned := registry.Scan(format, units)
-	_, part := registry.Part(format, units, ".")
-	for _, err := range []error{decoded, scanned, part} {
+	// Without a limit, decoding would take all memory, so the others come first.
+	for _, call := range []func() error{
+		func() error { _, err := registry.Scan(format, units); return err },
+		func() error { _, err := registry.Part(format, units, "."); return err },
+		func() error { _, err := registry.Decode(format, units); return err },
+	} {
 		var refused *Error
-		if !errors.As(err, &refused) || refused.Reason != "TooManyNodes" || refused.Kind != KindBytes {
-			t.Error(err)
+		if err := call(); !errors.As(err, &refused) || refused.Reason != "TooManyNodes" || refused.Kind != KindBytes {
+			t.Fatal(err)
 		}
 	}
 	explained, err := registry.Explain(format, units, FormJSON)
@@ -240,7 +242,7 @@ func TestDefaultLimits(t *testing.T) {
 		t.Error(StandardLimits())
 	}
 	_, err = registry.WithLimits(Limits{0, 3}).Encode(format, []byte("[null,null,null]"))
-	if fmt.Sprint(err) != "bcs: JSON refused: TooManyNodes: --nodes allows 3" && !strings.HasPrefix(fmt.Sprint(err), "bcs: JSON refused: TooManyNodes") {
+	if !strings.HasPrefix(fmt.Sprint(err), "bcs: JSON refused: TooManyNodes") {
 		t.Error(err)
 	}
 }

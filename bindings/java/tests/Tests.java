@@ -164,8 +164,9 @@ public final class Tests {
         Registry registry = Registry.open("{}");
         byte[] units = unhex("feffffff07");
         String format = "{\"SEQ\":\"UNIT\"}";
-        List<Test> tests = List.of(() -> registry.decode(format, units), () -> registry.scan(format, units),
-                () -> registry.part(format, units, "."));
+        // Without a limit, decoding would take all memory, so the others come first.
+        List<Test> tests = List.of(() -> registry.scan(format, units), () -> registry.part(format, units, "."),
+                () -> registry.decode(format, units));
         for (Test test : tests) {
             equal(thrown(BcsException.class, test).reason(), "TooManyNodes");
         }
