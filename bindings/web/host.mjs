@@ -28,7 +28,10 @@ function run(words) {
 function bytesOf(words) {
   if (process.platform !== 'linux' || !words.some((word) => word.includes('\ufffd'))) return words;
   const line = readFileSync('/proc/self/cmdline', 'latin1').split('\0').slice(0, -1);
-  return line.slice(-words.length).map((word) => Buffer.from(word, 'latin1'));
+  const found = line.slice(-words.length).map((word) => Buffer.from(word, 'latin1'));
+  // (`node --title` writes over them)
+  if (found.map(String).join('\0') !== words.join('\0')) throw new Error("the arguments' bytes can't be read");
+  return found;
 }
 
 /** The functions, over the memory of the instance. Addresses and lengths are of 64 bits. */
