@@ -67,6 +67,7 @@ fn answered(
         | "failing_run"
         | "line"
         | "ends"
+        | "named"
         | "endless_job"
         | "pairs_end"
         | "take_all"
