@@ -43,12 +43,19 @@ export type Value =
   | Map<Value, Value>
   | { [name: string]: Value };
 
+/** Typed arrays of integers that `encode` accepts at lists of integers, item by item. */
+export type IntegerArray =
+  | Int8Array | Int16Array | Uint16Array | Int32Array | Uint32Array | BigInt64Array | BigUint64Array;
+
 /**
- * A value as `encode` takes it. A whole number is a `bigint`, or a `number` where JavaScript holds it exactly; `BYTES` are an
- * `ArrayBuffer`, too; and all that JSON values have is taken.
+ * A value as `encode` accepts it. README.md lists what each format accepts: an integer is a `bigint`, a `number` that is a safe
+ * integer, or a string in plain decimal; `BYTES` and lists of `U8` are a `Uint8Array`, an `ArrayBuffer` or hexadecimal digits. Any
+ * other type throws a `BcsError` of the kind `value`.
  */
 export type ValueInput =
   | Value
+  | Uint8ClampedArray
+  | IntegerArray
   | readonly ValueInput[]
   | ReadonlyMap<ValueInput, ValueInput>
   | { readonly [name: string]: ValueInput };
@@ -67,11 +74,20 @@ export type ValueOf<T extends Types, F, Call extends 'encode' | 'decode'> = F ex
     : never;
 
 export interface Limits {
-  /** How many containers may be open at once: at most 500, the standard. */
+  /** How many containers may be open at once: at most 500, which is the default. */
   depth?: number;
-  /** How many nodes a value may have. The standard lets all through. */
+  /**
+   * How many nodes a value may have. By default the nodes of bytes are limited to 16 for each byte of the input and 1,000,000 more,
+   * at most 4294967295, and those of values and their JSON to 4294967295.
+   */
   nodes?: number;
 }
+
+/** Limits by name, for `withLimits`. */
+export const Limits: {
+  /** The limits of the specification, also for bytes: 500 open containers and 4294967295 nodes. */
+  readonly standard: () => { depth: number; nodes: number };
+};
 
 export type Kind =
   /** The registry, the newer registry of two, or the format is refused. */
@@ -80,6 +96,8 @@ export type Kind =
   | 'limits'
   /** The JSON text or the bytes are no value of the format. */
   | 'text' | 'bytes'
+  /** A part of the value that `encode` got has a type that its format doesn't accept, or nests too deep. */
+  | 'value'
   /** The path is none. */
   | 'path'
   /** The newer registry doesn't keep what the older one has. */
@@ -91,16 +109,19 @@ export type Kind =
 export class BcsError extends Error {
   constructor(kind: Kind, reason: string, place?: number, told?: { pointer?: string; expected?: string });
   readonly kind: Kind;
-  /** The fault's name, as the program `bcs` prints it: `BadBool`. */
+  /** The fault's name, as the program `bcs` prints it: `BadBool`. For the kind `value` it is `WrongType` or `TooNested`. */
   readonly reason: string;
   /** Where bytes stop being a value, counted from the front. */
   readonly place?: number;
   /**
-   * Where it is: of a text a JSON Pointer, as `/payload/args/1`, which is empty where the text is refused as a whole; of bytes
+   * Where it is: of a value or a text a JSON Pointer, as `/payload/args/1`, which is empty where it is refused as a whole; of bytes
    * the way to where they stop, as `.payload.args[1]`; of a registry its place as the program `bcs` prints it.
    */
   readonly pointer?: string;
-  /** What was wanted there, or what is wrong with it, in words for people, which may change. */
+  /**
+   * What was wanted there, or what is wrong with it, in words for people, which may change. For the kind `value` it names the format
+   * and the type that was found: `U64 takes an integer, not Uint8Array`.
+   */
   readonly expected?: string;
 }
 
@@ -135,8 +156,8 @@ export interface Stop {
   path: string | null;
 }
 
-/** Bytes that are handed over. Numbers are from 0 to 255. */
-export type Bytes = Uint8Array | ArrayBuffer | readonly number[];
+/** Bytes that are passed to a call, which copies them first. Numbers are from 0 to 255. */
+export type Bytes = Uint8Array | Uint8ClampedArray | ArrayBuffer | readonly number[];
 
 /** What `JSON.parse` makes of a text. */
 export type Json = null | boolean | number | string | Json[] | { [name: string]: Json };
@@ -154,7 +175,7 @@ export interface Registry<T extends Types = AnyTypes> {
   close(): void;
   /** Returns if the format is good. */
   check(format: Format<T>): void;
-  /** The bytes of a value. */
+  /** The bytes of a value, which is converted by its format: a wrong type throws a `BcsError` of the kind `value`. */
   encode<F extends Format<T>>(format: F, value: ValueOf<T, F, 'encode'>): Uint8Array;
   /** The bytes of the value that a JSON text denotes. */
   encodeText(format: Format<T>, text: Text): Uint8Array;

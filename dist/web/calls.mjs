@@ -1,5 +1,5 @@
-// The calls of bindings/c/include/bcs.h on an instance of the WebAssembly module: what is handed over is put into its
-// memory, and the answer is read from there.
+// The proved calls, which bindings/c/proved.h declares, on an instance of the WebAssembly module: what is handed over is put
+// into its memory, and the answer is read from there.
 const STATUSES = ['done', 'short', 'registry', 'format', 'limits', 'refused', 'memory', 'no', 'path', 'newer', 'closed'];
 const FORMS = ['ways', 'paths', 'tree', 'json'];
 const WHATS = ['where', 'wanted'];
@@ -172,7 +172,7 @@ function wholeCall(room, name, parts, outLength) {
 function openIn(room, opened) {
   if (opened.room === room.id) return { status: 'done', fault: 0, place: 0, length: 0 };
   const place = room.takeHandle();
-  const answer = room.call('bcs_open', [BigInt(place), opened.text]);
+  const answer = room.call('bcs_c_open', [BigInt(place), opened.text]);
   if (answer.status === 'done') Object.assign(opened, { room: room.id, place });
   else room.give(place);
   return answer;
@@ -195,7 +195,7 @@ export class Calls {
   }
 
   grows(older, newer) {
-    return this.#run((room) => room.call('bcs_grows', [older, newer]));
+    return this.#run((room) => room.call('bcs_c_grows', [older, newer]));
   }
 
   toBcs(ask, text) {
@@ -238,11 +238,11 @@ export class Calls {
 
   /** The same of a registry's text. */
   registryPlace(what, text) {
-    return this.#run((room) => wholeCall(room, 'bcs_registry_place', [WHATS.indexOf(what), text], FIRST_PLACE));
+    return this.#run((room) => wholeCall(room, 'bcs_c_registry_place', [WHATS.indexOf(what), text], FIRST_PLACE));
   }
 
   faultName(fault) {
-    return this.#run((room) => wholeCall(room, 'bcs_fault_name', [fault], 32));
+    return this.#run((room) => wholeCall(room, 'bcs_c_fault_name', [fault], 32));
   }
 
   /** Reads a registry, which is open from then on. */
@@ -254,7 +254,7 @@ export class Calls {
   close(opened) {
     if (opened.room === undefined || opened.room !== this.#room?.id) return;
     this.#run((room) => {
-      room.exports.bcs_close(BigInt(opened.place));
+      room.exports.bcs_c_close(BigInt(opened.place));
       room.give(opened.place);
       opened.room = undefined;
     });
@@ -263,12 +263,12 @@ export class Calls {
   #on(name, { registry, format, depth, nodes }, parts, outLength) {
     return this.#run((room) => {
       if (!(registry instanceof Opened)) {
-        return wholeCall(room, `bcs_${name}`, [{ slices: [registry, format], depth, nodes }, ...parts], outLength);
+        return wholeCall(room, `bcs_c_${name}`, [{ slices: [registry, format], depth, nodes }, ...parts], outLength);
       }
       const answer = openIn(room, registry);
       if (answer.status !== 'done') return answer;
       const words = [BigInt(registry.place), { slices: [format], depth, nodes }, ...parts];
-      return wholeCall(room, `bcs_handle_${name}`, words, outLength);
+      return wholeCall(room, `bcs_c_handle_${name}`, words, outLength);
     });
   }
 

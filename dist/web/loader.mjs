@@ -1,10 +1,13 @@
 // The calls as JavaScript has them: registries, values, refusals.
 import { bytesOfAny } from './octets.mjs';
 import { Calls, Interruption, Opened } from './calls.mjs';
+import { BcsError } from './errors.mjs';
+import { containersOf, Shapes } from './shapes.mjs';
 import { isSupported } from './support.mjs';
-import { containersOf, textOf, valueOf } from './values.mjs';
+import { isWellFormed, textOf, valueOf } from './values.mjs';
 
-const STANDARD_LIMITS = { depth: 500, nodes: 0xffffffff };
+const MOST_DEPTH = 500;
+const ALL_NODES = 0xffffffff;
 const KEPT_FORMATS = 100;
 const SHORT_TEXT = 8192;
 const encoder = new TextEncoder();
@@ -13,26 +16,15 @@ const shortText = new Uint8Array(3 * SHORT_TEXT);
 // (a byte order mark is a character as any other)
 const decoder = new TextDecoder('utf-8', { fatal: true, ignoreBOM: true });
 
-/**
- * What a call refuses: `kind` says what is refused, `reason` is the fault's name, `place` where bytes stop being a value.
- * `pointer` says where it is, of a text as a JSON Pointer, and `expected` what was wanted there.
- */
-export class BcsError extends Error {
-  constructor(kind, reason, place, { pointer, expected } = {}) {
-    super(`${kind} refused: ${reason}${whereOf(kind, place, pointer)}${expected === undefined ? '' : `: ${expected}`}`);
-    this.name = 'BcsError';
-    this.kind = kind;
-    this.reason = reason;
-    this.place = place;
-    this.pointer = pointer;
-    this.expected = expected;
-  }
-}
+/** Limits by name, for `withLimits`. */
+export const Limits = Object.freeze({
+  /** Those of the specification: the whole range, for bytes too. */
+  standard: () => ({ depth: MOST_DEPTH, nodes: ALL_NODES }),
+});
 
-function whereOf(kind, place, pointer) {
-  const way = pointer === '' && kind === 'text' ? 'the whole text' : pointer;
-  const where = [place, way].filter((part) => part !== undefined).join(', ');
-  return where === '' ? '' : ` at ${where}`;
+/** How many nodes bytes may have by default. Five bytes can announce two billion; no real value comes near this limit. */
+function nodesFor(length) {
+  return Math.min(16 * length + 1_000_000, ALL_NODES);
 }
 
 /** Makes the calls out of the module's bytes, a `Response` with them, or a compiled module. */
@@ -64,11 +56,14 @@ function compiled(wasm) {
 /** Gives the memory of registries back that nothing refers to any more. */
 const collected = new FinalizationRegistry(({ calls, opened }) => calls.close(opened));
 
-/** What a registry has open, and with it those that differ from it in their limits. */
+/** What a registry has open and what was parsed of it, shared with those that differ from it in their limits. */
 class Holder {
   isClosed = false;
   #calls;
   #opened;
+  #shapes;
+  // (apart, since a container may be called `null` or `7`)
+  #formats = { ofStrings: new Map(), ofObjects: new Map() };
 
   constructor(calls, text) {
     this.#calls = calls;
@@ -76,8 +71,28 @@ class Holder {
     collected.register(this, { calls, opened: this.#opened }, this);
   }
 
-  get text() {
-    return this.#opened.text;
+  get shapes() {
+    this.#shapes ??= new Shapes(containersOf(decoder.decode(this.#opened.text)));
+    return this.#shapes;
+  }
+
+  /** The format that a caller names. Only so many are kept. This may run the caller's code. */
+  format(given) {
+    const isString = typeof given === 'string';
+    const formats = isString ? this.#formats.ofStrings : this.#formats.ofObjects;
+    const word = isString ? given : JSON.stringify(given) ?? '';
+    const known = formats.get(word);
+    if (known !== undefined) return known;
+    const text = isString ? textOfFormat(word) : word;
+    const format = { text, bytes: encoder.encode(text), shape: undefined };
+    if (formats.size < KEPT_FORMATS) formats.set(word, format);
+    return format;
+  }
+
+  /** The shape of a format that has passed the proved check. */
+  shapeOf(format) {
+    format.shape ??= this.shapes.of(JSON.parse(format.text));
+    return format.shape;
   }
 
   get opened() {
@@ -102,10 +117,10 @@ class Bcs {
 
   /** A registry, from its JSON text. */
   registry(text) {
-    const bytes = Uint8Array.from(bytesOf(text));
+    const bytes = bytesOf(text);
     const holder = new Holder(this.#calls, bytes);
     this.answerOf((calls) => calls.open(holder.opened), placesOfRegistry(bytes));
-    return new Registry(this, holder, STANDARD_LIMITS);
+    return new Registry(this, holder, { depth: MOST_DEPTH });
   }
 
   /** Returns if the newer registry keeps all that the older one has; else it is refused, the first fault being told. */
@@ -119,6 +134,7 @@ class Bcs {
 
   /** The name of a fault of bcs.h, or `undefined` where no fault has the number. */
   faultName(fault) {
+    if (!isUnsigned(fault)) return undefined;
     if (!this.#names.has(fault)) {
       const answer = this.#calls.faultName(fault);
       this.#names.set(fault, answer.status === 'done' ? decoder.decode(answer.output) : undefined);
@@ -171,13 +187,16 @@ function kindOfFault(fault) {
   return fault < 400 ? 'text' : 'bytes';
 }
 
-/** A registry that is read and open. A format is a container's name, an object, or a JSON text: `"U8"`, `{"SEQ":"U8"}`. */
+/**
+ * A registry that is read and open. A format is a container's name, an object, or a JSON text: `"U8"`, `{"SEQ":"U8"}`.
+ *
+ * What a call is passed may run the caller's code as it is read, which may make calls itself. So each call first turns all of it
+ * into texts and bytes of its own, the format first, and only then touches what calls share.
+ */
 class Registry {
   #bcs;
   #holder;
   #limits;
-  #containers;
-  #formats = new Map();
 
   constructor(bcs, holder, limits) {
     this.#bcs = bcs;
@@ -186,8 +205,9 @@ class Registry {
   }
 
   /** The same registry with other limits: how many containers may be open at once, and how many nodes a value may have. */
-  withLimits({ depth = STANDARD_LIMITS.depth, nodes = STANDARD_LIMITS.nodes }) {
-    return new Registry(this.#bcs, this.#holder, { depth: limit(depth, 'depth'), nodes: limit(nodes, 'nodes') });
+  withLimits({ depth = MOST_DEPTH, nodes }) {
+    const limits = { depth: limit(depth, 'depth'), nodes: nodes === undefined ? undefined : limit(nodes, 'nodes') };
+    return new Registry(this.#bcs, this.#holder, limits);
   }
 
   /** Gives the registry's memory back, also of those that `withLimits` made of it. From then on calls throw. */
@@ -197,45 +217,51 @@ class Registry {
 
   /** The names of its containers. */
   get names() {
-    return [...this.#known().keys()];
+    return this.#holder.shapes.names;
   }
 
   /** Returns if the format is good. */
   check(format) {
-    this.#answer(format, (calls, ask) => calls.check(ask));
+    this.#check(this.#holder.format(format));
   }
 
   /** The bytes of a value. */
   encode(format, value) {
-    return this.encodeText(format, textOf(value));
+    const known = this.#holder.format(format);
+    if (known.shape === undefined) this.#check(known);
+    const text = textOf(this.#holder.shapes, this.#holder.shapeOf(known), value);
+    return this.#ofText(known, text, (calls, ask, text) => calls.toBcs(ask, text)).output;
   }
 
   /** The bytes of the value that a JSON text denotes. */
   encodeText(format, text) {
-    return this.#ofText(format, text, (calls, ask, text) => calls.toBcs(ask, text)).output;
+    return this.#ofText(this.#holder.format(format), text, (calls, ask, text) => calls.toBcs(ask, text)).output;
   }
 
   /** The value whose bytes are the whole input; with `json`, as `JSON.parse` makes it of its normal text. */
   decode(format, bytes, { json = false } = {}) {
-    const text = this.decodeText(format, bytes);
-    return json ? JSON.parse(text) : valueOf(this.#known(), JSON.parse(textOfFormat(format)), text);
+    const known = this.#holder.format(format);
+    const text = this.#decodedText(known, bytes);
+    return json ? JSON.parse(text) : valueOf(this.#holder.shapes, this.#holder.shapeOf(known), text);
   }
 
   /** The normal JSON text of that value. */
   decodeText(format, bytes) {
-    return decoder.decode(this.#ofBytes(format, bytes, (calls, ask, bytes) => calls.fromBcs(ask, bytes)).output);
+    return this.#decodedText(this.#holder.format(format), bytes);
   }
 
   /** The one normal JSON text of the value that a JSON text denotes. */
   normalise(format, text) {
-    return decoder.decode(this.#ofText(format, text, (calls, ask, text) => calls.normalise(ask, text)).output);
+    const call = (calls, ask, text) => calls.normalise(ask, text);
+    return decoder.decode(this.#ofText(this.#holder.format(format), text, call).output);
   }
 
   /** Whether two JSON texts denote equal values. */
   equal(format, first, second) {
+    const known = this.#holder.format(format);
     const [one, other] = [bytesOf(first), bytesOf(second)];
     const compared = (calls, ask) => calls.compare(ask, one, other);
-    const answer = this.#answer(format, compared, (calls, ask, what) => {
+    const answer = this.#answer(known, ALL_NODES, compared, (calls, ask, what) => {
       const told = calls.textPlace(ask, what, one);
       return told.status === 'no' ? calls.textPlace(ask, what, other) : told;
     });
@@ -244,14 +270,16 @@ class Registry {
 
   /** How many bytes the value at the front of the input has. */
   scan(format, bytes) {
-    return this.#ofBytes(format, bytes, (calls, ask, bytes) => calls.scan(ask, bytes)).length;
+    const call = (calls, ask, bytes) => calls.scan(ask, bytes);
+    return this.#ofBytes(this.#holder.format(format), bytesOfAny(bytes), call).length;
   }
 
   /** The part to which a path leads, such as `2/some/0`, and its place; `undefined` where it leads nowhere. */
   part(format, bytes, path) {
+    const known = this.#holder.format(format);
     const [input, steps] = [bytesOfAny(bytes), bytesOf(path)];
-    const { status, place, length } = this.#ofBytes(format, input, (calls, ask) => calls.part(ask, input, steps));
-    return status === 'no' ? undefined : { place, bytes: Uint8Array.from(input.subarray(place, place + length)) };
+    const { status, place, length } = this.#ofBytes(known, input, (calls, ask) => calls.part(ask, input, steps));
+    return status === 'no' ? undefined : { place, bytes: input.slice(place, place + length) };
   }
 
   /** The pieces of the input, and behind them `{ end }`, or `{ refused, place, .. }` where they stop being a value. */
@@ -263,53 +291,49 @@ class Registry {
   /** The input piece by piece, as `bcs explain` prints it. */
   explainText(format, bytes, form = 'ways') {
     if (!['ways', 'paths', 'tree', 'json'].includes(form)) throw new TypeError(`no form is called ${form}`);
-    return decoder.decode(this.#ofBytes(format, bytes, (calls, ask, bytes) => calls.explain(ask, form, bytes)).output);
+    const call = (calls, ask, bytes) => calls.explain(ask, form, bytes);
+    return decoder.decode(this.#ofBytes(this.#holder.format(format), bytesOfAny(bytes), call).output);
   }
 
-  #known() {
-    this.#containers ??= containersOf(decoder.decode(this.#holder.text));
-    return this.#containers;
+  #check(format) {
+    this.#answer(format, ALL_NODES, (calls, ask) => calls.check(ask));
+  }
+
+  #decodedText(format, bytes) {
+    return decoder.decode(this.#ofBytes(format, bytesOfAny(bytes), (calls, ask, bytes) => calls.fromBcs(ask, bytes)).output);
   }
 
   #ofText(format, given, call) {
     const text = bytesForCall(given);
     const placing = (calls, ask, what) => calls.textPlace(ask, what, text);
-    return this.#answer(format, (calls, ask) => call(calls, ask, text), placing);
+    return this.#answer(format, ALL_NODES, (calls, ask) => call(calls, ask, text), placing);
   }
 
-  #ofBytes(format, given, call) {
-    const bytes = bytesOfAny(given);
+  #ofBytes(format, bytes, call) {
     const placing = (calls, ask, what) => calls.stopPlace(ask, what, bytes);
-    return this.#answer(format, (calls, ask) => call(calls, ask, bytes), placing);
+    return this.#answer(format, nodesFor(bytes.length), (calls, ask) => call(calls, ask, bytes), placing);
   }
 
-  #answer(format, call, placing) {
-    const { depth, nodes } = this.#limits;
-    const ask = { registry: this.#holder.opened, format: this.#formatOf(format), depth, nodes };
+  #answer(format, nodes, call, placing) {
+    const limits = { depth: this.#limits.depth, nodes: this.#limits.nodes ?? nodes };
+    const ask = { registry: this.#holder.opened, format: format.bytes, ...limits };
     const placed = placing && ((calls, what) => placing(calls, ask, what));
     return this.#bcs.answerOf((calls) => call(calls, ask), placed);
-  }
-
-  /** A format's JSON. Those of names are kept, of which there are only so many. */
-  #formatOf(format) {
-    if (typeof format !== 'string') return encoder.encode(textOfFormat(format));
-    const known = this.#formats.get(format);
-    if (known !== undefined) return known;
-    const text = encoder.encode(textOfFormat(format));
-    if (this.#formats.size < KEPT_FORMATS) this.#formats.set(format, text);
-    return text;
   }
 }
 
 function limit(number, name) {
-  if (Number.isInteger(number) && number >= 0 && number <= 0xffffffff) return number;
-  throw new RangeError(`${name} is a whole number from 0 to 4294967295, and not ${number}`);
+  if (isUnsigned(number)) return number;
+  throw new RangeError(`${name} is a whole number from 0 to 4294967295, and not ${String(number)}`);
+}
+
+function isUnsigned(number) {
+  return Number.isInteger(number) && number >= 0 && number <= 0xffffffff;
 }
 
 /** As the program has it: a text that begins with `{` or `"` is a format's JSON, and any other a container's name. */
 function textOfFormat(format) {
-  if (typeof format !== 'string') return JSON.stringify(format);
-  return /^[{"]/.test(format) ? format : JSON.stringify({ TYPENAME: format });
+  return /^[{"]/.test(format) ? wellFormed(format) : JSON.stringify({ TYPENAME: format });
 }
 
 /** A text as bytes. Half of a surrogate pair is refused, since it would turn into another character. */
@@ -324,6 +348,6 @@ function bytesForCall(text) {
 }
 
 function wellFormed(text) {
-  if (text.isWellFormed?.() ?? !/\p{Surrogate}/u.test(text)) return text;
+  if (isWellFormed(text)) return text;
   throw new TypeError('the text has half of a surrogate pair, which UTF-8 has not');
 }

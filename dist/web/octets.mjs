@@ -1,11 +1,62 @@
-// Bytes of what is handed over as bytes, and by base64.
+// What callers pass as bytes and as typed arrays, and base64.
 
-/** Bytes, of a `Uint8Array`, an `ArrayBuffer` or an array of numbers from 0 to 255. */
-export function bytesOfAny(bytes) {
-  if (bytes instanceof Uint8Array) return bytes;
-  if (bytes instanceof ArrayBuffer) return new Uint8Array(bytes);
-  if (Array.isArray(bytes) && bytes.every(isByte)) return Uint8Array.from(bytes);
-  throw new TypeError('bytes are handed over as a Uint8Array, an ArrayBuffer or an array of numbers from 0 to 255');
+// The language's own accessors report what an object really is. `instanceof` trusts any prototype, `length` may be overridden,
+// and both can run the caller's code; these three do neither, and they know objects of other realms.
+const typedArrayTag = getterOf(Object.getPrototypeOf(Uint8Array.prototype), Symbol.toStringTag);
+const bufferLength = getterOf(ArrayBuffer.prototype, 'byteLength');
+const mapSize = getterOf(Map.prototype, 'size');
+const BYTE_ARRAYS = ['Uint8Array', 'Uint8ClampedArray'];
+const INTEGER_ARRAYS = { Int8Array, Int16Array, Uint16Array, Int32Array, Uint32Array, BigInt64Array, BigUint64Array };
+
+function getterOf(prototype, name) {
+  return Object.getOwnPropertyDescriptor(prototype, name).get;
+}
+
+function has(getter, value) {
+  try {
+    getter.call(value);
+    return true;
+  } catch {
+    return false;
+  }
+}
+
+export function isMap(value) {
+  return !Array.isArray(value) && has(mapSize, value);
+}
+
+/**
+ * A copy of an object that holds bytes: a `Uint8Array`, a `Uint8ClampedArray` or an `ArrayBuffer`. `undefined` for anything
+ * else, and a `TypeError` where the buffer is detached or was cut below the array's end.
+ */
+export function copyOfBytes(value) {
+  if (BYTE_ARRAYS.includes(typedArrayTag.call(value))) return new Uint8Array(value);
+  // (arrays come often, and a getter that fails takes long)
+  return !Array.isArray(value) && has(bufferLength, value) ? new Uint8Array(new Uint8Array(value)) : undefined;
+}
+
+/** The same of a typed array of other integers. */
+export function copyOfIntegers(value) {
+  const IntegerArray = INTEGER_ARRAYS[typedArrayTag.call(value)];
+  return IntegerArray && new IntegerArray(value);
+}
+
+/** A copy of bytes: of an object that holds them, or an array of numbers from 0 to 255. */
+export function bytesOfAny(given) {
+  const bytes = copyOfBytes(given) ?? (Array.isArray(given) ? bytesOfNumbers(given) : undefined);
+  if (bytes !== undefined) return bytes;
+  throw new TypeError('bytes are a Uint8Array, an ArrayBuffer or an array of numbers from 0 to 255');
+}
+
+/** Reads each item once, since that may run the caller's code, which may answer differently the next time. */
+function bytesOfNumbers(numbers) {
+  const [bytes, { length }] = [[], numbers];
+  for (let i = 0; i < length; i++) {
+    const number = numbers[i];
+    if (!isByte(number)) return undefined;
+    bytes.push(number);
+  }
+  return Uint8Array.from(bytes);
 }
 
 function isByte(number) {

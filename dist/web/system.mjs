@@ -1,4 +1,4 @@
-// What the command reads and writes.
+// What the command `bcs-types` reads and writes.
 import { close, open, read } from 'node:fs';
 import { promisify } from 'node:util';
 
@@ -13,7 +13,7 @@ const CAUSES = {
   EINVAL: ': Invalid argument',
 };
 
-/** What the machine failed at: `open`, `read`, `write`, `too large`, `memory`, `stack`; and of which file or stream. */
+/** What the machine failed at: `open`, `read`, `write` or `too large`; and of which file or stream. */
 export class Fault extends Error {
   constructor(what, place) {
     super(what);
@@ -21,7 +21,7 @@ export class Fault extends Error {
   }
 }
 
-/** The content of a stream of blocks, of at most 268435456 bytes. */
+/** The content of a file in blocks, of at most 268435456 bytes. */
 async function contentOf(blocks, place) {
   const [parts, fault] = [[], (what) => new Fault(what, place)];
   let size = 0;
@@ -46,20 +46,9 @@ async function* blocksOf(file) {
 }
 
 /** A name as between the quotes of a JSON string, in ASCII, so that none of its characters moves a terminal. */
-export function shown(name) {
+function shown(name) {
   const escaped = (unit) => `\\u${unit.charCodeAt(0).toString(16).padStart(4, '0')}`;
   return name.replace(/["\\]/g, '\\$&').replace(/[^ -~]/g, escaped);
-}
-
-async function openFile(name) {
-  const place = `in the file ${shown(name)}`;
-  try {
-    const file = await promisify(open)(name, 'r');
-    const read = () => contentOf(blocksOf(file), place).finally(() => promisify(close)(file));
-    return { read };
-  } catch (error) {
-    throw new Fault('open', place + (CAUSES[error.code] ?? ''));
-  }
 }
 
 function write(bytes) {
@@ -74,19 +63,15 @@ function write(bytes) {
 export const system = {
   /** The content of a file. */
   async read(name) {
-    return (await openFile(name)).read();
+    const place = `in the file ${shown(name)}`;
+    const file = await promisify(open)(name, 'r').catch((error) => {
+      throw new Fault('open', place + (CAUSES[error.code] ?? ''));
+    });
+    return contentOf(blocksOf(file), place).finally(() => promisify(close)(file));
   },
 
-  /** What reads a file, which is opened now; without a name the standard input. */
-  async open(name) {
-    if (name !== undefined) return openFile(name);
-    return { read: () => contentOf(process.stdin, 'in the standard input') };
-  },
-
-  /** Puts bytes, or several, to the standard output. */
-  async put(output) {
-    for (const bytes of [output].flat()) if (bytes.length > 0) await write(bytes);
-  },
+  /** Puts bytes to the standard output. */
+  put: write,
 
   /** Tells the standard error. What it doesn't take is lost. */
   tell(text) {

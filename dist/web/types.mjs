@@ -1,9 +1,10 @@
 // The command `bcs-types`, which writes TypeScript declarations of a registry's values.
 import { readFileSync } from 'node:fs';
 import { declarationsOf } from './declarations.mjs';
-import { BcsError, load } from './loader.mjs';
+import { BcsError } from './errors.mjs';
+import { load } from './loader.mjs';
+import { containersOf } from './shapes.mjs';
 import { Fault, system } from './system.mjs';
-import { containersOf } from './values.mjs';
 
 const USAGE = `Usage: bcs-types REGISTRY >registry.d.mts
 

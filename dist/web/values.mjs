@@ -1,120 +1,259 @@
 // Values in JavaScript's own types, as JSON texts and back. This is a convenience and not proved: the bytes come from the
-// proved call over the JSON text, and a text that spells no value is refused there.
+// proved call over the JSON text, which rejects a text that is not a value's.
+import { BcsError } from './errors.mjs';
 import { bytesOfHex, hexOf } from './hex.mjs';
+import { copyOfBytes, copyOfIntegers, isMap } from './octets.mjs';
 
-/** The JSON text that spells a value. It takes no format: what doesn't fit one is refused by the call. */
-export function textOf(value) {
-  return JSON.stringify(spelled(value));
-}
-
-function spelled(value) {
-  switch (typeof value) {
-    case 'string':
-    case 'boolean':
-      return value;
-    case 'bigint':
-      return value.toString();
-    case 'number':
-      if (Number.isSafeInteger(value)) return value;
-      throw new RangeError(`${value} is no whole number that JavaScript holds exactly: write it as a BigInt`);
-    case 'object':
-      return value === null ? null : spelledObject(value);
-    default:
-      throw new TypeError(`no value has the type ${typeof value}`);
-  }
-}
-
-function spelledObject(value) {
-  if (value instanceof Uint8Array) return hexOf(value);
-  if (value instanceof ArrayBuffer) return hexOf(new Uint8Array(value));
-  if (Array.isArray(value) || ArrayBuffer.isView(value)) return Array.from(value, spelled);
-  if (value instanceof Map) return Array.from(value, ([key, held]) => [spelled(key), spelled(held)]);
-  // (`fromEntries` makes members, also one called __proto__, where an assignment would not)
-  return Object.fromEntries(Object.entries(value).map(([name, held]) => [name, spelled(held)]));
-}
-
-/** The containers of a registry's JSON text by their names. The text has passed the proved check. */
-export function containersOf(registryText) {
-  return new Map(Object.entries(JSON.parse(registryText)));
-}
-
-/** The value of a format that a normal JSON text spells. */
-export function valueOf(containers, format, text) {
-  return new Reader(containers).value(format, JSON.parse(text));
-}
-
+// The limits of docs/FORMAT.md: arrays and objects in one another, and open containers.
+const MOST_NESTED = 100;
+const MOST_OPEN = 500;
+// An array may have a length of billions and take no memory.
+const MOST_COUNTED = 1_000_000;
 const WIDE = new Set(['U64', 'U128', 'I64', 'I128']);
+const TAKES = {
+  INTEGER: 'an integer',
+  UNIT: 'null',
+  BOOL: 'a boolean',
+  STR: 'a string',
+  BYTES: 'bytes or hexadecimal digits',
+  OPTION: 'null or { some: value }',
+  TUPLE: 'an array',
+  MAP: 'a Map or an array of pairs',
+  STRUCT: 'an object',
+  ENUM: "a variant's name or an object with one member",
+};
 
-/** Goes through a format and the JSON of one of its values together. */
-class Reader {
-  constructor(containers) {
-    this.containers = containers;
+/** The JSON text of a value of this shape. A value of a wrong type is rejected; all other faults the proved call finds. */
+export function textOf(shapes, shape, value) {
+  return new Writer(shapes).value(shape, value);
+}
+
+/** The value of this shape that a normal JSON text represents. */
+export function valueOf(shapes, shape, text) {
+  return new Reader(shapes).value(shape, JSON.parse(text));
+}
+
+/**
+ * Goes through a shape and a value together. It may run the caller's code (getters, proxies), but only before the proved call,
+ * and it reads each part once. Below an unknown name and beyond the deepest container the call rejects the text whatever it has
+ * there, so the value is not read there.
+ */
+class Writer {
+  #shapes;
+  #path = [];
+  #open = 0;
+
+  constructor(shapes) {
+    this.#shapes = shapes;
   }
 
-  value(format, json) {
-    if (typeof format === 'string') return leaf(format, json);
-    const [[kind, inner]] = Object.entries(format);
-    switch (kind) {
+  value(shape, value) {
+    switch (shape.kind) {
       case 'TYPENAME':
-        return this.container(this.containers.get(inner), json);
+        return this.#container(shape.name, value);
       case 'OPTION':
-        return json === null ? null : { some: this.value(inner, json.some) };
+        return value === null ? 'null' : this.#members(shape, value);
       case 'SEQ':
-        return this.list(inner, json);
-      case 'TUPLEARRAY':
-        return this.list(inner.CONTENT, json);
+        return this.#list(shape, value);
       case 'TUPLE':
-        return this.row(inner, json);
+        return this.#items(shape, value, (i) => shape.parts[i]);
       case 'MAP':
-        return new Map(json.map(([key, held]) => [this.value(inner.KEY, key), this.value(inner.VALUE, held)]));
-      default:
-        throw new TypeError(`no format is called ${kind}`);
-    }
-  }
-
-  list(format, json) {
-    return typeof json === 'string' ? bytesOfHex(json) : json.map((item) => this.value(format, item));
-  }
-
-  row(formats, json) {
-    return formats.map((format, i) => this.value(format, json[i]));
-  }
-
-  fields(fields, json) {
-    const named = fields.map((field) => Object.entries(field)[0]);
-    return Object.fromEntries(named.map(([name, format]) => [name, this.value(format, json[name])]));
-  }
-
-  container(container, json) {
-    if (container === 'UNITSTRUCT') return null;
-    const [[kind, inner]] = Object.entries(container);
-    switch (kind) {
-      case 'NEWTYPESTRUCT':
-        return this.value(inner, json);
-      case 'TUPLESTRUCT':
-        return this.row(inner, json);
+        return this.#items(shape, isMap(value) ? entriesOf(value) : value, () => shape.entry);
       case 'STRUCT':
-        return this.fields(inner, json);
+        return this.#members(shape, value);
+      case 'ENUM':
+        return (typeof value === 'string' && stringText(value)) || this.#members(shape, value);
       default:
-        return this.variant(inner, json);
+        return this.#leaf(shape, value) ?? this.#reject(shape, value);
     }
   }
 
-  variant(variants, json) {
+  #container(name, value) {
+    if (this.#open === MOST_OPEN) return 'null';
+    this.#open++;
+    const text = this.value(this.#shapes.container(name), value);
+    this.#open--;
+    return text;
+  }
+
+  #leaf(shape, value) {
+    switch (shape.kind) {
+      case 'UNIT':
+        return value === null ? 'null' : undefined;
+      case 'BOOL':
+        return typeof value === 'boolean' ? String(value) : undefined;
+      case 'STR':
+        return typeof value === 'string' ? stringText(value) : undefined;
+      case 'INTEGER':
+        return integerText(value);
+      case 'BYTES':
+        return this.#hexText(shape, value);
+      default:
+        // (the proved call rejects F32, F64 and CHAR, whatever the text has there)
+        return 'null';
+    }
+  }
+
+  #list(shape, value) {
+    const digits = isOctet(shape.item) ? this.#hexText(shape, value) : undefined;
+    if (digits !== undefined) return digits;
+    const integers = shape.item.kind === 'INTEGER' ? this.#copied(copyOfIntegers, shape, value) : undefined;
+    return integers === undefined ? this.#items(shape, value, () => shape.item) : `[${integers.join()}]`;
+  }
+
+  #items(shape, value, shapeOf) {
+    if (!Array.isArray(value)) this.#reject(shape, value);
+    this.#nest();
+    const [texts, { length }] = [[], value];
+    // (items beyond those of a tuple are only counted: the proved call reports their number)
+    const surplus = shape.kind === 'TUPLE' ? Math.max(length - shape.parts.length, 0) : 0;
+    if (surplus > MOST_COUNTED) this.#reject(shape, value, 'one with far too many items');
+    const depth = this.#path.push(0) - 1;
+    for (let i = 0; i < length - surplus; i++) {
+      this.#path[depth] = i;
+      texts.push(this.value(shapeOf(i), value[i]));
+    }
+    this.#path.pop();
+    return `[${texts.concat(new Array(surplus).fill('null')).join()}]`;
+  }
+
+  #members(shape, value) {
+    if (typeof value !== 'object' || tagOf(value) !== 'Object') this.#reject(shape, value);
+    this.#nest();
+    const members = Object.keys(value).map((name) => {
+      const part = shape.members.get(name);
+      const text = stringText(name) ?? this.#reject(shape, value, 'one with half of a surrogate pair in a name');
+      return `${text}:${part === undefined ? 'null' : this.#part(name, part, value[name])}`;
+    });
+    return `{${members.join()}}`;
+  }
+
+  /** The path has a step for each open array or object. A value within itself ends here, too. */
+  #nest() {
+    if (this.#path.length < MOST_NESTED) return;
+    throw this.#error('TooNested', `arrays and objects nest more than ${MOST_NESTED} deep`);
+  }
+
+  #part(step, shape, value) {
+    this.#path.push(step);
+    const text = this.value(shape, value);
+    this.#path.pop();
+    return text;
+  }
+
+  /** Bytes as digits, or digits as they are; `undefined` for any other type. */
+  #hexText(shape, value) {
+    if (typeof value === 'string') return stringText(value);
+    const bytes = this.#copied(copyOfBytes, shape, value);
+    return bytes && `"${hexOf(bytes)}"`;
+  }
+
+  #copied(copy, shape, value) {
+    try {
+      return copy(value);
+    } catch (error) {
+      if (!(error instanceof TypeError)) throw error;
+      return this.#reject(shape, value, `a detached ${tagOf(value)}`);
+    }
+  }
+
+  #reject(shape, value, found = foundIn(value)) {
+    throw this.#error('WrongType', `${shape.name} takes ${takenBy(shape)}, not ${found}`);
+  }
+
+  #error(reason, expected) {
+    const pointer = this.#path.map((step) => `/${String(step).replaceAll('~', '~0').replaceAll('/', '~1')}`).join('');
+    return new BcsError('value', reason, undefined, { pointer, expected });
+  }
+}
+
+/** Whether this is the integer type `U8` itself, lists of which are bytes. */
+function isOctet({ kind, name }) {
+  return kind === 'INTEGER' && name === 'U8';
+}
+
+function takenBy({ kind, item }) {
+  if (kind !== 'SEQ') return TAKES[kind];
+  if (isOctet(item)) return 'bytes, hexadecimal digits or an array';
+  return item.kind === 'INTEGER' ? 'an array or a typed array of integers' : 'an array';
+}
+
+function foundIn(value) {
+  if (typeof value === 'number' && !Number.isSafeInteger(value)) return inexact(value);
+  if (typeof value === 'string' && stringText(value) === undefined) return 'a string with half of a surrogate pair';
+  return typeof value === 'object' && value !== null ? tagOf(value) : value === null ? 'null' : typeof value;
+}
+
+function inexact(number) {
+  return Number.isInteger(number) ? `the number ${number}: above 2 ** 53 - 1 only a bigint is exact` : `the number ${number}`;
+}
+
+/** What `Object.prototype.toString` says: `Date` for a date, `Object` for plain objects and instances of most classes. */
+function tagOf(object) {
+  return Object.prototype.toString.call(object).slice('[object '.length, -1);
+}
+
+/** The pairs of a map as they are now: reading a value may run code that changes the map. */
+function entriesOf(map) {
+  return Array.from(Map.prototype.entries.call(map));
+}
+
+function integerText(value) {
+  switch (typeof value) {
+    case 'bigint':
+      return `"${value}"`;
+    case 'number':
+      return Number.isSafeInteger(value) ? String(value) : undefined;
+    default:
+      return typeof value === 'string' ? stringText(value) : undefined;
+  }
+}
+
+/** The JSON of a string, or `undefined` where half of a surrogate pair is in it, which UTF-8 doesn't have. */
+function stringText(string) {
+  return isWellFormed(string) ? JSON.stringify(string) : undefined;
+}
+
+export function isWellFormed(string) {
+  return string.isWellFormed?.() ?? !/\p{Surrogate}/u.test(string);
+}
+
+/** Goes through a shape and the JSON of one of its values together. */
+class Reader {
+  constructor(shapes) {
+    this.shapes = shapes;
+  }
+
+  value(shape, json) {
+    switch (shape.kind) {
+      case 'TYPENAME':
+        return this.value(this.shapes.container(shape.name), json);
+      case 'OPTION':
+        return json === null ? null : { some: this.value(shape.members.get('some'), json.some) };
+      case 'SEQ':
+        return typeof json === 'string' ? bytesOfHex(json) : json.map((item) => this.value(shape.item, item));
+      case 'TUPLE':
+        return shape.parts.map((part, i) => this.value(part, json[i]));
+      case 'MAP':
+        return new Map(json.map((entry) => this.value(shape.entry, entry)));
+      case 'STRUCT':
+        // (`fromEntries` makes members, also one called __proto__, where an assignment would not)
+        return Object.fromEntries(Array.from(shape.members, ([name, part]) => [name, this.value(part, json[name])]));
+      case 'ENUM':
+        return this.variant(shape, json);
+      default:
+        return leaf(shape.name, json);
+    }
+  }
+
+  variant(shape, json) {
     if (typeof json === 'string') return json;
     const [[name, payload]] = Object.entries(json);
-    const variant = Object.values(variants).find((variant) => Object.hasOwn(variant, name));
-    return Object.fromEntries([[name, this.payload(variant[name], payload)]]);
-  }
-
-  payload(of, json) {
-    const [[kind, inner]] = Object.entries(of);
-    if (kind === 'NEWTYPE') return this.value(inner, json);
-    return kind === 'TUPLE' ? this.row(inner, json) : this.fields(inner, json);
+    return Object.fromEntries([[name, this.value(shape.members.get(name), payload)]]);
   }
 }
 
-function leaf(format, json) {
-  if (WIDE.has(format)) return BigInt(json);
-  return format === 'BYTES' ? bytesOfHex(json) : json;
+function leaf(word, json) {
+  if (WIDE.has(word)) return BigInt(json);
+  return word === 'BYTES' ? bytesOfHex(json) : json;
 }

@@ -1,0 +1,141 @@
+// The thread that runs the proved program `bcs`, bcs_program.wasm. What it imports are functions of the system;
+// bindings/hosts/README.md has their contracts.
+import { closeSync, constants, openSync, readFileSync, readlinkSync, readSync, writeSync } from 'node:fs';
+import { isatty } from 'node:tty';
+import { workerData } from 'node:worker_threads';
+import { failed } from './program.mjs';
+
+// The most that one call reads or writes, since Node refuses more than 2 GiB.
+const MOST_BYTES = 1 << 30;
+const LONGEST_PAUSE = 50;
+const STANDARD_OUTPUT = '/proc/self/fd/1';
+
+// The numbers that the program knows errors by. They are Linux's, on every system.
+const ERRORS = {
+  EPERM: 1, ENOENT: 2, EINTR: 4, EIO: 5, EBADF: 9, EAGAIN: 11, ENOMEM: 12, EACCES: 13, ENOTDIR: 20, EISDIR: 21, EINVAL: 22,
+  EMFILE: 24, EFBIG: 27, ENOSPC: 28, ESPIPE: 29, EROFS: 30, EPIPE: 32, ENAMETOOLONG: 36, ELOOP: 40,
+};
+
+function run(words) {
+  const module = new WebAssembly.Module(readFileSync(new URL('bcs_program.wasm', import.meta.url)));
+  const host = new Host(bytesOf(words));
+  const { memory, main } = new WebAssembly.Instance(module, { env: host.functions() }).exports;
+  host.memory = memory;
+  return main(0, 0n);
+}
+
+/** The arguments. Node puts U+FFFD in the place of what isn't UTF-8, so they are taken as Linux has them where that occurs. */
+function bytesOf(words) {
+  if (process.platform !== 'linux' || !words.some((word) => word.includes('\ufffd'))) return words;
+  const line = readFileSync('/proc/self/cmdline', 'latin1').split('\0').slice(0, -1);
+  const found = line.slice(-words.length).map((word) => Buffer.from(word, 'latin1'));
+  // (`node --title` writes over them)
+  if (found.map(String).join('\0') !== words.join('\0')) throw new Error("the arguments' bytes can't be read");
+  return found;
+}
+
+/** The functions, over the memory of the instance. Addresses and lengths are of 64 bits. */
+class Host {
+  memory;
+  #arguments;
+  #error = 0;
+
+  constructor(words) {
+    this.#arguments = ['bcs', ...words];
+  }
+
+  functions() {
+    return {
+      open: (path) => this.#tried(-1, () => openSync(this.#textAt(path), constants.O_RDONLY | (constants.O_NOCTTY ?? 0))),
+      close: (file) => this.#tried(-1, () => closeSync(file) ?? 0),
+      read: (file, at, room) => this.#tried(-1n, () => BigInt(read(file, this.#bytes(at, room)))),
+      write: (file, at, length) => this.#tried(-1n, () => BigInt(patiently(() => writeSync(file, this.#bytes(at, length))))),
+      readlink: (path, at, room) =>
+        this.#tried(-1n, () => BigInt(this.#copy(readlink(this.#textAt(path)), at, room))),
+      // Node has no call for this.
+      lseek: () => this.#fails('ESPIPE', -1n),
+      // Node ignores SIGPIPE, which alone the program asks for.
+      __sysv_signal: () => 0n,
+      rattle_errno: () => this.#error,
+      rattle_set_errno: (error) => void (this.#error = error),
+      rattle_arg: (i, at, room) => this.#handed(this.#arguments[Number(i)], at, room),
+      rattle_env: (name, at, room) => this.#handed(process.env[this.#textAt(name).toString()], at, room),
+    };
+  }
+
+  /** (A new view each time, since the memory grows.) */
+  #bytes(at, length) {
+    return new Uint8Array(this.memory.buffer, Number(at), Math.min(Number(length), MOST_BYTES));
+  }
+
+  /** The bytes up to the first 0. */
+  #textAt(at) {
+    const memory = new Uint8Array(this.memory.buffer, Number(at));
+    return Buffer.from(memory.slice(0, memory.indexOf(0)));
+  }
+
+  /** Copies as much as there is room for, and gives how much. */
+  #copy(bytes, at, room) {
+    const front = bytes.subarray(0, Number(room));
+    this.#bytes(at, room).set(front);
+    return front.length;
+  }
+
+  /** How `rattle_arg` and the like answer: the length, or -1 where there is no text, or -2 where it is too long. */
+  #handed(text, at, room) {
+    if (text === undefined) return -1n;
+    const bytes = Buffer.from(text);
+    return this.#copy(bytes, at, room) < bytes.length ? -2n : BigInt(bytes.length);
+  }
+
+  #fails(code, answer) {
+    this.#error = ERRORS[code] ?? ERRORS.EIO;
+    return answer;
+  }
+
+  /** What a call gives, or the answer, where the system refuses. */
+  #tried(answer, call) {
+    try {
+      return call();
+    } catch (error) {
+      if (error.syscall === undefined) throw error;
+      return this.#fails(error.code, answer);
+    }
+  }
+}
+
+/** On Linux a link says which file the standard output is. The program puts colours where that is a terminal. */
+function readlink(path) {
+  if (process.platform !== 'linux' && path.toString() === STANDARD_OUTPUT) return Buffer.from(isatty(1) ? '/dev/tty' : '/');
+  return readlinkSync(path, 'buffer');
+}
+
+function read(file, room) {
+  try {
+    return patiently(() => readSync(file, room));
+  } catch (error) {
+    // (so Windows tells the end of a pipe)
+    if (error.code === 'EOF') return 0;
+    throw error;
+  }
+}
+
+const never = new Int32Array(new SharedArrayBuffer(4));
+
+/** Makes a call on a stream again until it would no longer block, as it may where another process set it so. */
+function patiently(call) {
+  for (let pause = 1; ; pause = Math.min(2 * pause, LONGEST_PAUSE)) {
+    try {
+      return call();
+    } catch (error) {
+      if (error.code !== 'EAGAIN') throw error;
+    }
+    Atomics.wait(never, 0, 0, pause);
+  }
+}
+
+try {
+  process.exitCode = run(workerData);
+} catch (error) {
+  process.exitCode = failed(error);
+}

@@ -1,0 +1,86 @@
+// The formats of a registry as values are read and written: parsed once, with fields and variants found by their names.
+
+const INTEGERS = new Set(['U8', 'U16', 'U32', 'U64', 'U128', 'I8', 'I16', 'I32', 'I64', 'I128']);
+
+/** The containers of a registry's JSON text by their names. The text has passed the proved check. */
+export function containersOf(registryText) {
+  return new Map(Object.entries(JSON.parse(registryText)));
+}
+
+/**
+ * Makes shapes of formats. A shape has its `kind`, which is that of the format, except that all integers are an `INTEGER`,
+ * `TUPLEARRAY` is a `SEQ` too, tuple structs are a `TUPLE` and newtypes what they hold; the `name` that messages use; and its
+ * `item`, `parts`, `entry` or `members`.
+ */
+export class Shapes {
+  #containers;
+  #known = new Map();
+
+  constructor(containers) {
+    this.#containers = containers;
+  }
+
+  get names() {
+    return [...this.#containers.keys()];
+  }
+
+  /** The shape of a format that has passed the proved check. */
+  of(format) {
+    if (typeof format === 'string') return { kind: INTEGERS.has(format) ? 'INTEGER' : format, name: format };
+    const [[kind, inner]] = Object.entries(format);
+    switch (kind) {
+      case 'TYPENAME':
+        return { kind, name: inner };
+      case 'OPTION':
+        return { kind, name: kind, members: new Map([['some', this.of(inner)]]) };
+      case 'SEQ':
+        return { kind, name: kind, item: this.of(inner) };
+      case 'TUPLEARRAY':
+        return { kind: 'SEQ', name: kind, item: this.of(inner.CONTENT) };
+      case 'TUPLE':
+        return this.#tuple(kind, inner);
+      default:
+        return { kind, name: kind, entry: this.#tuple('an entry of MAP', [inner.KEY, inner.VALUE]) };
+    }
+  }
+
+  /** What a container holds. It is made when it is first needed, since containers may hold one another. */
+  container(name) {
+    if (!this.#known.has(name)) this.#known.set(name, this.#container(name, this.#containers.get(name)));
+    return this.#known.get(name);
+  }
+
+  #container(name, container) {
+    if (container === 'UNITSTRUCT') return this.of('UNIT');
+    const [[kind, inner]] = Object.entries(container);
+    if (kind !== 'ENUM') return this.#content(name, kind, inner);
+    const variants = Object.values(inner).map((variant) => Object.entries(variant)[0]);
+    return { kind, name, members: new Map(variants.map(([own, payload]) => [own, this.#payload(`${name}::${own}`, payload)])) };
+  }
+
+  #payload(name, payload) {
+    return payload === 'UNIT' ? this.of('UNIT') : this.#content(name, ...Object.entries(payload)[0]);
+  }
+
+  #content(name, kind, inner) {
+    switch (kind) {
+      case 'NEWTYPESTRUCT':
+      case 'NEWTYPE':
+        return this.of(inner);
+      case 'TUPLESTRUCT':
+      case 'TUPLE':
+        return this.#tuple(name, inner);
+      default:
+        return { kind: 'STRUCT', name, members: this.#fields(inner) };
+    }
+  }
+
+  #tuple(name, formats) {
+    return { kind: 'TUPLE', name, parts: formats.map((format) => this.of(format)) };
+  }
+
+  #fields(fields) {
+    const named = fields.map((field) => Object.entries(field)[0]);
+    return new Map(named.map(([name, format]) => [name, this.of(format)]));
+  }
+}
