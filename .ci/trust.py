@@ -199,22 +199,36 @@ def definitions_table() -> list[str]:
     ]
 
 
-def undefined(file: str, options: list[str]) -> list[str]:
-    """The names of the system that a file of dist/ asks for."""
-    command = ["nm", *options, "--undefined-only", str(ROOT / "dist/x86_64-linux" / file)]
-    ran = subprocess.run(command, capture_output=True, text=True, check=True)
-    return sorted({line.split()[-1].split("@")[0] for line in ran.stdout.splitlines() if line.startswith(" ")})
+def symbols(file: str, options: list[str]) -> Iterator[tuple[str, str, str]]:
+    """Of each symbol of a file of dist/, the member of the archive that names it, its kind and its name."""
+    ran = subprocess.run(["nm", *options, str(ROOT / "dist/x86_64-linux" / file)], capture_output=True, text=True, check=True)
+    member = file
+    for line in ran.stdout.splitlines():
+        if line.endswith(".o:"):
+            member = line.removesuffix(":")
+        elif line:
+            kind, name = line.split()[-2:]
+            yield member, kind, name.split("@")[0]
 
 
 def system_table() -> list[str]:
-    files: list[tuple[str, str, list[str]]] = [
-        ("bcs", "the program", ["-D"]),
-        ("libbcs_c.a", "the library, without a heap", []),
+    """One row for each object file: the names that no other object of the same file defines."""
+    files: list[tuple[str, list[str], dict[str, str]]] = [
+        ("bcs", ["-D"], {"bcs": "the program"}),
+        ("libbcs_c.a", [], {"bcs_c.o": "the proved part of the library", "library.o": "the C around it"}),
     ]
     rows = ["| File | C functions and variables that it asks for |", "|---|---|"]
-    for file, title, options in files:
-        names = ", ".join(f"`{name}`" for name in undefined(file, options))
-        rows.append(f"| `dist/x86_64-linux/{file}`: {title} | {names} |")
+    for file, options, titles in files:
+        found = list(symbols(file, options))
+        defined = {name for _, kind, name in found if kind == "T"}
+        asked = {(member, name) for member, kind, name in found if kind in "Uw" and name not in defined}
+        if strange := {member for member, _ in asked} - titles.keys():
+            sys.exit(f"trust: {file} has {', '.join(sorted(strange))}, which has no title here")
+        for member, title in titles.items():
+            names = ", ".join(f"`{name}`" for name in sorted(name for owner, name in asked if owner == member))
+            if not names:
+                sys.exit(f"trust: {member} of {file} asks for nothing: is it still there?")
+            rows.append(f"| `dist/x86_64-linux/{file}`: {title} | {names} |")
     return rows
 
 
