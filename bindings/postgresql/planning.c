@@ -1,4 +1,4 @@
-/* What the planner is told of calls: those with the text of a registry are immutable, and those with a name are stable. */
+/* Tells the planner that a call with the text of a registry is immutable, and that a call with the name of one is stable. */
 #include "bcs_pg.h"
 
 #include "catalog/pg_proc.h"

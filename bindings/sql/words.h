@@ -23,7 +23,7 @@ struct ask {
     uint32_t depth, nodes;
 };
 
-/* These stand for the parameters of a call. */
+/* Each expands to several arguments of a call. */
 #define PIECE(piece) (piece).at, (piece).length
 #define ASK(ask) (ask)->handle, PIECE((ask)->format), (ask)->depth, (ask)->nodes
 

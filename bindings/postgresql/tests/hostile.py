@@ -71,7 +71,7 @@ class Measured(Database):
 
 class Costs(Measured):
     def test_calls(self):
-        """Whatever nodes a query asks for, the setting lets through what takes less than 50 ms."""
+        """However many nodes a query allows, the setting keeps the call below 50 ms."""
         worst = 0.0
         for what, question in INPUTS.items():
             for call in CALLS:

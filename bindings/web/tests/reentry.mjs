@@ -176,7 +176,7 @@ test('values that make calls', () => {
   notAsked('toJSON of an object', struct, Object.assign(Object.create({ toJSON: () => calling({ v: 2 }) }), members), `07${DIGITS}`);
 });
 
-test('what could be made a number or a text, but is none, runs no code', () => {
+test('an object that converts itself to a number or a text is rejected without running its code', () => {
   const number = { valueOf: () => calling(7), toString: () => calling('7'), toJSON: () => calling(7), [Symbol.toPrimitive]: () => calling(7) };
   for (const format of ['U8', 'STR', 'BOOL', 'UNIT', 'BYTES', 'I128']) {
     runs = 0;
