@@ -7,7 +7,7 @@ use Rattle.bcs_registry.proofs.OneFault.{one_fault, one_format_fault}
 use Rattle.bcs_registry.proofs.OneText.{same_format, same_registry}
 use Rattle.bcs_value_model.specs.Limits.{Bounds}
 use Rattle.bcs_c.specs.Answers.{plain}
-use Rattle.bcs_c.specs.Asking.{Answers, Asks, Has, RefusesAsk, RefusesSource, Request, Source, Whatever, by_texts, given, kept, no_format, no_limits, no_registry, on_handle, refused, rest, written}
+use Rattle.bcs_c.specs.Asking.{AnswersIfAsked, AsksFor, Has, RefusesAsk, RefusesSource, Request, Source, Whatever, by_texts, given, kept, no_format, no_limits, no_registry, on_handle, refused, rest, written}
 use Rattle.bcs_c.specs.Registries.{IsFormat, IsRegistry, RefusesFormat, RefusesRegistry, has_fault, no_memory}
 use Rattle.bcs_c.specs.declared.answer.Answer.{Answer}
 use Rattle.bcs_c.specs.declared.ask.Ask.{Ask}
@@ -47,7 +47,7 @@ source_stands (kept registry) r a h why = let none : Some r ≡ None = sym h ∙
 
 module _ (q : Request) where
   -- so is what a call is asked for
-  pub ask_stands : (r : Entries) (l : Bounds) (s : Shape) (a : Answer) → Asks q r l s → RefusesAsk q a → a ≡ plain Memory
+  pub ask_stands : (r : Entries) (l : Bounds) (s : Shape) (a : Answer) → AsksFor q r l s → RefusesAsk q a → a ≡ plain Memory
   ask_stands r l s a h (no_registry why) = source_stands q.source r a h.has why
   ask_stands r l s a h (no_format x is why) =
       let same = one_source q.source x r is h.has in
@@ -55,7 +55,7 @@ module _ (q : Request) where
   ask_stands r l s a h (no_limits x t is form over same) = absurd (omega (arith, h.allowed, over))
 
   -- what holds of what was read holds of whatever is asked for
-  pub whatever : (P : Entries → Bounds → Shape → Type 0) (r : Entries) (l : Bounds) (s : Shape) → Asks q r l s → P r l s → Whatever q P
+  pub whatever : (P : Entries → Bounds → Shape → Type 0) (r : Entries) (l : Bounds) (s : Shape) → AsksFor q r l s → P r l s → Whatever q P
   whatever P r l s h p x m t k =
       let registry : r ≡ x = one_source q.source r x h.has k.has in
       let shape : s ≡ t = same_format q.format s t h.is_format.0 k.is_format.0 in
@@ -67,12 +67,12 @@ module _ (q : Request) where
 -- ---- a registry's text, once it is read
 
 module _ (ask : Ask) (r : Entries) (is : IsRegistry ask.registry.now r) where
-  by_text : (x : Entries) (l : Bounds) (s : Shape) → Asks (on_handle (Some r) (rest ask)) x l s → Asks (by_texts ask) x l s
+  by_text : (x : Entries) (l : Bounds) (s : Shape) → AsksFor (on_handle (Some r) (rest ask)) x l s → AsksFor (by_texts ask) x l s
   by_text x l s h =
       let same : r ≡ x = let k : Some r ≡ Some x = h.has in cc in
       record { has = subst (λ (y : Entries). IsRegistry ask.registry.now y) same is; is_format = h.is_format; depth = h.depth; nodes = h.nodes; allowed = h.allowed }
 
-  once_read : (x : Entries) (l : Bounds) (s : Shape) → Asks (by_texts ask) x l s → Asks (on_handle (Some r) (rest ask)) x l s
+  once_read : (x : Entries) (l : Bounds) (s : Shape) → AsksFor (by_texts ask) x l s → AsksFor (on_handle (Some r) (rest ask)) x l s
   once_read x l s h =
       record { has = ap Some (one_registry ask.registry.now r x is h.has); is_format = h.is_format; depth = h.depth; nodes = h.nodes; allowed = h.allowed }
 
@@ -85,13 +85,13 @@ module _ (ask : Ask) (r : Entries) (is : IsRegistry ask.registry.now r) where
       let same_registry : r ≡ x = let k : Some r ≡ Some x = has in cc in
       no_limits x s (subst (λ (y : Entries). IsRegistry ask.registry.now y) same_registry is) form over same
 
-  answers_rest : (a : Answer) (P : Entries → Bounds → Shape → Type 0) → Answers (on_handle (Some r) (rest ask)) a P → Answers (by_texts ask) a P
+  answers_rest : (a : Answer) (P : Entries → Bounds → Shape → Type 0) → AnswersIfAsked (on_handle (Some r) (rest ask)) a P → AnswersIfAsked (by_texts ask) a P
   answers_rest a P (given x l s h p) = given x l s (by_text x l s h) p
   answers_rest a P (refused h) = refused (refuses a h)
 
   -- what is answered of the registry is answered of its text
-  pub answers_text : (w : HandleAsk) (a : Answer) (P : Entries → Bounds → Shape → Type 0) → w ≡ rest ask → Answers (on_handle (Some r) w) a P → Answers (by_texts ask) a P
-  answers_text w a P same h = answers_rest a P (subst (λ (v : HandleAsk). Answers (on_handle (Some r) v) a P) same h)
+  pub answers_text : (w : HandleAsk) (a : Answer) (P : Entries → Bounds → Shape → Type 0) → w ≡ rest ask → AnswersIfAsked (on_handle (Some r) w) a P → AnswersIfAsked (by_texts ask) a P
+  answers_text w a P same h = answers_rest a P (subst (λ (v : HandleAsk). AnswersIfAsked (on_handle (Some r) v) a P) same h)
 
   pub whatever_text : (w : HandleAsk) (P : Entries → Bounds → Shape → Type 0) → w ≡ rest ask → Whatever (on_handle (Some r) w) P → Whatever (by_texts ask) P
   whatever_text w P same h x l s k = subst (λ (v : HandleAsk). Whatever (on_handle (Some r) v) P) same h x l s (once_read x l s k)
@@ -100,8 +100,8 @@ module _ (ask : Ask) (r : Entries) (is : IsRegistry ask.registry.now r) where
 
 module _ (ask : HandleAsk) (r : Entries) (held : Option Entries) (is : Some r ≡ held) where
   -- what is answered of the registry is answered of the handle in which it is open
-  pub answers_handle : (a : Answer) (P : Entries → Bounds → Shape → Type 0) → Answers (on_handle (Some r) ask) a P → Answers (on_handle held ask) a P
-  answers_handle a P h = subst (λ (x : Option Entries). Answers (on_handle x ask) a P) is h
+  pub answers_handle : (a : Answer) (P : Entries → Bounds → Shape → Type 0) → AnswersIfAsked (on_handle (Some r) ask) a P → AnswersIfAsked (on_handle held ask) a P
+  answers_handle a P h = subst (λ (x : Option Entries). AnswersIfAsked (on_handle x ask) a P) is h
 
   pub whatever_handle : (P : Entries → Bounds → Shape → Type 0) → Whatever (on_handle (Some r) ask) P → Whatever (on_handle held ask) P
   whatever_handle P h = subst (λ (x : Option Entries). Whatever (on_handle x ask) P) is h

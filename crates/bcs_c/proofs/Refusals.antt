@@ -12,7 +12,7 @@ use Rattle.bcs_json_spec.specs.Texts.{Denotes, RefusesText}
 use Rattle.bcs_json_spec.specs.declared.json_fault.JsonFault.{JsonFault}
 use Rattle.bcs_json_spec.specs.declared.json_fault.JsonFault.TheVariants as json
 use Rattle.bcs_c.specs.Answers.{plain, refusal, stop_at}
-use Rattle.bcs_c.specs.Compared.{AnswersTexts, RefusesOne}
+use Rattle.bcs_c.specs.Compared.{AnswersComparing, RefusesOne}
 use Rattle.bcs_c.specs.Compared as compared
 use Rattle.bcs_c.specs.Denoted.{AnswersText}
 use Rattle.bcs_c.specs.Denoted as denoted
@@ -68,7 +68,7 @@ module _ (registry : Entries) (limits : Bounds) (s : Shape) where
   pub texts_refused : (first second : List ℕ) (e : JsonFault) (a : Answer)
       → (e ≢ json.OutOfMemory → RefusesOne registry limits s first second e)
       → (e ≡ json.OutOfMemory → a ≡ plain Memory) → (e ≢ json.OutOfMemory → a ≡ refusal Refused (Text e))
-      → AnswersTexts registry limits s first second a
+      → AnswersComparing registry limits s first second a
   texts_refused first second e a fault memory refused =
       elim (json_memory e) [ inl h ↦ compared.no_memory (memory h) | inr h ↦ compared.refused e (fault h) (refused h) ]
 

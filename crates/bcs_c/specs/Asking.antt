@@ -47,7 +47,7 @@ abbrev pub rest : Ask → HandleAsk
 rest ask = record { format = ask.format; depth = ask.depth; nodes = ask.nodes }
 
 -- this registry is asked for, and this format of it, and these limits, which are allowed
-pub record Asks (q : Request) (registry : Entries) (limits : Bounds) (s : Shape) : Type 0 where
+pub record AsksFor (q : Request) (registry : Entries) (limits : Bounds) (s : Shape) : Type 0 where
   pub has : Has q.source registry
   pub is_format : IsFormat registry q.format s
   pub depth : limits.depth ≡ q.depth
@@ -61,13 +61,13 @@ pub data RefusesAsk (q : Request) (a : Answer) : Type 0 where
   no_limits : (r : Entries) (s : Shape) → Has q.source r → IsFormat r q.format s → 500 < q.depth → a ≡ plain Limits → RefusesAsk q a
 
 -- something is asked for, and this holds of it; or nothing is
-pub data Answers (q : Request) (a : Answer) (P : Entries → Bounds → Shape → Type 0) : Type 0 where
-  given : (r : Entries) (l : Bounds) (s : Shape) → Asks q r l s → P r l s → Answers q a P
-  refused : RefusesAsk q a → Answers q a P
+pub data AnswersIfAsked (q : Request) (a : Answer) (P : Entries → Bounds → Shape → Type 0) : Type 0 where
+  given : (r : Entries) (l : Bounds) (s : Shape) → AsksFor q r l s → P r l s → AnswersIfAsked q a P
+  refused : RefusesAsk q a → AnswersIfAsked q a P
 
 -- whatever is asked for, this holds of it
 abbrev pub Whatever : Request → (Entries → Bounds → Shape → Type 0) → Type 0
-Whatever q P = (r : Entries) (l : Bounds) (s : Shape) → Asks q r l s → P r l s
+Whatever q P = (r : Entries) (l : Bounds) (s : Shape) → AsksFor q r l s → P r l s
 
 -- this holds of what was read
 abbrev pub On : Asked → (Entries → Bounds → Shape → Type 0) → Type 0

@@ -18,8 +18,8 @@ module _ (registry : Entries) (limits : Bounds) (s : Shape) (first second : List
   RefusesOne e = RefusesText registry limits s first e ⊎ (((t : Tree) × Denotes registry limits s first t) × RefusesText registry limits s second e)
 
   -- the texts denote equal values, or different ones; or one is refused; or memory ran out
-  pub data AnswersTexts (a : Answer) : Type 0 where
-    equal : Compares registry limits s first second true → a ≡ plain Done → AnswersTexts a
-    different : Compares registry limits s first second false → a ≡ plain No → AnswersTexts a
-    refused : (e : JsonFault) → RefusesOne e → a ≡ refusal Refused (Text e) → AnswersTexts a
-    no_memory : a ≡ plain Memory → AnswersTexts a
+  pub data AnswersComparing (a : Answer) : Type 0 where
+    equal : Compares registry limits s first second true → a ≡ plain Done → AnswersComparing a
+    different : Compares registry limits s first second false → a ≡ plain No → AnswersComparing a
+    refused : (e : JsonFault) → RefusesOne e → a ≡ refusal Refused (Text e) → AnswersComparing a
+    no_memory : a ≡ plain Memory → AnswersComparing a

@@ -7,7 +7,7 @@ use Rattle.bcs_registry.specs.Faults.{IsLeastFault}
 use Rattle.bcs_value_model.specs.Limits.{Bounds}
 use Rattle.bcs_value_model.specs.Tree.{Tree}
 use Rattle.bcs_decode_spec.specs.declared.stop.Stop.{Stop}
-use Rattle.bcs_json_spec.specs.Place.{Step}
+use Rattle.bcs_json_spec.specs.Place.{PointerStep}
 use Rattle.bcs_json_spec.specs.Texts.{Denotes, MisspellsAt, RefusesText}
 use Rattle.bcs_json_spec.specs.declared.json_fault.JsonFault.{JsonFault}
 use Rattle.bcs_json_spec.specs.declared.json_fault.JsonFault.TheVariants.{NotJson, TooNested, TooManyNodes, TooLong, RepeatedKey}
@@ -31,7 +31,7 @@ is_of_whole e = false
 module _ (registry : Entries) (limits : Bounds) (s : Shape) where
   -- the bytes are the JSON Pointer to where the text is refused, which is empty where it is refused as a whole
   pub data IsWhere (text b : List ℕ) : Type 0 where
-    placed : (path : List Step) (e : JsonFault) → MisspellsAt registry limits s text path e → b ≡ pointer path → IsWhere text b
+    placed : (path : List PointerStep) (e : JsonFault) → MisspellsAt registry limits s text path e → b ≡ pointer path → IsWhere text b
     whole : (e : JsonFault) → RefusesText registry limits s text e → is_of_whole e ≡ true → b ≡ [] → IsWhere text b
 
   -- the text is refused, and it is told where, or with 1 something else; or it denotes a value; or memory ran out

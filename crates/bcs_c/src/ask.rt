@@ -2,7 +2,7 @@
 ghost use Rattle.std.specs.Prelude.{◌≡◌, IfErr, IfOk};
 ghost use Rattle.std.specs.declared.option.Option.TheVariants.{Some};
 ghost use Rattle.bcs_registry_model.specs.View.{shape_of};
-ghost use Rattle.bcs_c.specs.Asking.{Asks, RefusesAsk, on_handle, rest};
+ghost use Rattle.bcs_c.specs.Asking.{AsksFor, RefusesAsk, on_handle, rest};
 
 use crate::answer::Answer;
 use crate::asked::Asked;
@@ -57,7 +57,7 @@ pub(crate) fn read_ask<'a>(
     registry: &'a Registry,
     ask: &HandleAsk,
 ) -> Result<Asked<'a>, Answer>
-    ensures ok { IfOk result (λ a. Asks (on_handle (Some registry.now) ask.now) a.registry.now a.limits (shape_of a.format)) }
+    ensures ok { IfOk result (λ a. AsksFor (on_handle (Some registry.now) ask.now) a.registry.now a.limits (shape_of a.format)) }
     ensures err { IfErr result (λ a. RefusesAsk (on_handle (Some registry.now) ask.now) a) }
 {
     let format = read_format(alloc, registry, ask.format)?;

@@ -2,7 +2,7 @@
 ghost use Rattle.std.specs.Prelude.{◌≡◌};
 ghost use Rattle.std.specs.declared.option.Option.TheVariants.{Some};
 ghost use Rattle.bcs_c.specs.Answers.{plain};
-ghost use Rattle.bcs_c.specs.Asking.{Answers, IsUnlessMemory, Whatever, by_texts, on_handle};
+ghost use Rattle.bcs_c.specs.Asking.{AnswersIfAsked, IsUnlessMemory, Whatever, by_texts, on_handle};
 ghost use Rattle.bcs_c.specs.declared.status.Status.TheVariants.{Done};
 
 use crate::answer::Answer;
@@ -15,7 +15,7 @@ use std::alloc::Global;
 /// Whether the registry, the format and the limits are good.
 #[unsafe(no_mangle)]
 pub extern "C" fn bcs_c_check(alloc: Global, ask: &Ask) -> Answer
-    ensures answers { Answers (by_texts ask.now) result (λ r l s. result ≡ plain Done) }
+    ensures answers { AnswersIfAsked (by_texts ask.now) result (λ r l s. result ≡ plain Done) }
     ensures good { Whatever (by_texts ask.now) (λ r l s. IsUnlessMemory result (plain Done)) }
 {
     match read_registry(alloc, ask.registry, Status::Registry) {
@@ -26,7 +26,7 @@ pub extern "C" fn bcs_c_check(alloc: Global, ask: &Ask) -> Answer
 
 /// Whether the format and the limits are good.
 pub(crate) fn soundness(alloc: Global, registry: &Registry, ask: &HandleAsk) -> Answer
-    ensures answers { Answers (on_handle (Some registry.now) ask.now) result (λ r l s. result ≡ plain Done) }
+    ensures answers { AnswersIfAsked (on_handle (Some registry.now) ask.now) result (λ r l s. result ≡ plain Done) }
     ensures good { Whatever (on_handle (Some registry.now) ask.now) (λ r l s. IsUnlessMemory result (plain Done)) }
 {
     if let Err(answer) = read_ask(alloc, registry, ask) {

@@ -1,7 +1,7 @@
 //! Bytes piece by piece, for C.
 ghost use Rattle.std.specs.Prelude.{◌≡◌, ◌≢◌};
 ghost use Rattle.std.specs.declared.option.Option.TheVariants.{Some};
-ghost use Rattle.bcs_c.specs.Asking.{Answers, by_texts, on_handle};
+ghost use Rattle.bcs_c.specs.Asking.{AnswersIfAsked, by_texts, on_handle};
 ghost use Rattle.bcs_c.specs.Explained.{AnswersExplained, form_numbered};
 ghost use Rattle.bcs_c.specs.Statuses.{status_number};
 ghost use Rattle.bcs_c.specs.declared.status.Status.TheVariants.{Done};
@@ -25,7 +25,7 @@ pub extern "C" fn bcs_c_explain(
     bytes: &[u8],
     out: &mut [u8],
 ) -> Answer
-    ensures answers { Answers (by_texts ask.now) result (λ r l s. AnswersExplained r l s bytes.now out.old out.new result) }
+    ensures answers { AnswersIfAsked (by_texts ask.now) result (λ r l s. AnswersExplained r l s bytes.now out.old out.new result) }
     ensures untouched { result.status ≢ status_number Done → out.new ≡ out.old }
 {
     match read_registry(alloc, ask.registry, Status::Registry) {
@@ -43,7 +43,7 @@ pub(crate) fn explanation(
     bytes: &[u8],
     out: &mut [u8],
 ) -> Answer
-    ensures answers { Answers (on_handle (Some registry.now) ask.now) result (λ r l s. AnswersExplained r l s bytes.now out.old out.new result) }
+    ensures answers { AnswersIfAsked (on_handle (Some registry.now) ask.now) result (λ r l s. AnswersExplained r l s bytes.now out.old out.new result) }
     ensures untouched { result.status ≢ status_number Done → out.new ≡ out.old }
 {
     let asked = match read_ask(alloc, registry, ask) {

@@ -9,8 +9,8 @@ ghost use Rattle.bcs_decode_spec.specs.declared.reason.Reason.{Reason};
 ghost use Rattle.bcs_decode_parts.specs.Parts.{part_at};
 ghost use Rattle.bcs_json_spec.specs.Headline.{HasBytes, Normalises};
 ghost use Rattle.bcs_c.specs.Answers.{plain, sized, stop_at};
-ghost use Rattle.bcs_c.specs.Asking.{Answers, IsUnlessMemory, Whatever, on_handle};
-ghost use Rattle.bcs_c.specs.Compared.{AnswersTexts};
+ghost use Rattle.bcs_c.specs.Asking.{AnswersIfAsked, IsUnlessMemory, Whatever, on_handle};
+ghost use Rattle.bcs_c.specs.Compared.{AnswersComparing};
 ghost use Rattle.bcs_c.specs.Denoted.{AnswersText};
 ghost use Rattle.bcs_c.specs.Explained.{AnswersExplained};
 ghost use Rattle.bcs_c.specs.Opened.{AnswersOpening};
@@ -58,7 +58,7 @@ pub extern "C" fn bcs_c_close(alloc: Global, handle: &mut Handle)
 /// Whether the format and the limits are good.
 #[unsafe(no_mangle)]
 pub extern "C" fn bcs_c_handle_check(alloc: Global, handle: &mut Handle, ask: &HandleAsk) -> Answer
-    ensures answers { Answers (on_handle handle.old.registry ask.now) result (λ r l s. result ≡ plain Done) }
+    ensures answers { AnswersIfAsked (on_handle handle.old.registry ask.now) result (λ r l s. result ≡ plain Done) }
     ensures good { Whatever (on_handle handle.old.registry ask.now) (λ r l s. IsUnlessMemory result (plain Done)) }
     ensures kept { handle.new.registry ≡ handle.old.registry }
 {
@@ -79,7 +79,7 @@ pub extern "C" fn bcs_c_handle_to_bcs(
     text: &[u8],
     out: &mut [u8],
 ) -> Answer
-    ensures answers { Answers (on_handle handle.old.registry ask.now) result (λ r l s. AnswersText r l s (HasBytes r l s text.now) text.now out.old out.new result) }
+    ensures answers { AnswersIfAsked (on_handle handle.old.registry ask.now) result (λ r l s. AnswersText r l s (HasBytes r l s text.now) text.now out.old out.new result) }
     ensures untouched { result.status ≢ status_number Done → out.new ≡ out.old }
     ensures kept { handle.new.registry ≡ handle.old.registry }
 {
@@ -100,7 +100,7 @@ pub extern "C" fn bcs_c_handle_from_bcs(
     bytes: &[u8],
     out: &mut [u8],
 ) -> Answer
-    ensures answers { Answers (on_handle handle.old.registry ask.now) result (λ r l s. AnswersBytes r l s bytes.now out.old out.new result) }
+    ensures answers { AnswersIfAsked (on_handle handle.old.registry ask.now) result (λ r l s. AnswersBytes r l s bytes.now out.old out.new result) }
     ensures untouched { result.status ≢ status_number Done → out.new ≡ out.old }
     ensures kept { handle.new.registry ≡ handle.old.registry }
 {
@@ -121,7 +121,7 @@ pub extern "C" fn bcs_c_handle_normalise(
     text: &[u8],
     out: &mut [u8],
 ) -> Answer
-    ensures answers { Answers (on_handle handle.old.registry ask.now) result (λ r l s. AnswersText r l s (Normalises r l s text.now) text.now out.old out.new result) }
+    ensures answers { AnswersIfAsked (on_handle handle.old.registry ask.now) result (λ r l s. AnswersText r l s (Normalises r l s text.now) text.now out.old out.new result) }
     ensures untouched { result.status ≢ status_number Done → out.new ≡ out.old }
     ensures kept { handle.new.registry ≡ handle.old.registry }
 {
@@ -142,7 +142,7 @@ pub extern "C" fn bcs_c_handle_compare(
     first: &[u8],
     second: &[u8],
 ) -> Answer
-    ensures answers { Answers (on_handle handle.old.registry ask.now) result (λ r l s. AnswersTexts r l s first.now second.now result) }
+    ensures answers { AnswersIfAsked (on_handle handle.old.registry ask.now) result (λ r l s. AnswersComparing r l s first.now second.now result) }
     ensures kept { handle.new.registry ≡ handle.old.registry }
 {
     let Some(registry) = handle.take(alloc) else {
@@ -161,7 +161,7 @@ pub extern "C" fn bcs_c_handle_scan(
     ask: &HandleAsk,
     bytes: &[u8],
 ) -> Answer
-    ensures answers { Answers (on_handle handle.old.registry ask.now) result (λ r l s. AnswersScan r l s bytes.now result) }
+    ensures answers { AnswersIfAsked (on_handle handle.old.registry ask.now) result (λ r l s. AnswersScan r l s bytes.now result) }
     ensures only { Whatever (on_handle handle.old.registry ask.now) (λ r l s. (n : ℕ) (c : Tree) → Accepts r l s bytes.now n c
         → IsUnlessMemory result (sized Done n)) }
     ensures stopped { Whatever (on_handle handle.old.registry ask.now) (λ r l s. (e : Reason) (o : ℕ) → Stops r l s bytes.now e o
@@ -185,7 +185,7 @@ pub extern "C" fn bcs_c_handle_part(
     bytes: &[u8],
     path: &[u8],
 ) -> Answer
-    ensures answers { Answers (on_handle handle.old.registry ask.now) result (λ r l s. AnswersPart r l s bytes.now path.now result) }
+    ensures answers { AnswersIfAsked (on_handle handle.old.registry ask.now) result (λ r l s. AnswersPart r l s bytes.now path.now result) }
     ensures only { Whatever (on_handle handle.old.registry ask.now) (λ r l s. (steps : Steps) (n : ℕ) (c : Tree) → IsPath path.now steps
         → Accepts r l s bytes.now n c → result ≢ plain Memory → Finds r bytes.now (part_at r steps (of s) c) result) }
     ensures stopped { Whatever (on_handle handle.old.registry ask.now) (λ r l s. (steps : Steps) (e : Reason) (o : ℕ) → IsPath path.now steps
@@ -210,7 +210,7 @@ pub extern "C" fn bcs_c_handle_explain(
     bytes: &[u8],
     out: &mut [u8],
 ) -> Answer
-    ensures answers { Answers (on_handle handle.old.registry ask.now) result (λ r l s. AnswersExplained r l s bytes.now out.old out.new result) }
+    ensures answers { AnswersIfAsked (on_handle handle.old.registry ask.now) result (λ r l s. AnswersExplained r l s bytes.now out.old out.new result) }
     ensures untouched { result.status ≢ status_number Done → out.new ≡ out.old }
     ensures kept { handle.new.registry ≡ handle.old.registry }
 {
@@ -232,7 +232,7 @@ pub extern "C" fn bcs_c_handle_text_place(
     text: &[u8],
     out: &mut [u8],
 ) -> Answer
-    ensures answers { Answers (on_handle handle.old.registry ask.now) result (λ r l s. AnswersTextPlace r l s what text.now out.old out.new result) }
+    ensures answers { AnswersIfAsked (on_handle handle.old.registry ask.now) result (λ r l s. AnswersTextPlace r l s what text.now out.old out.new result) }
     ensures untouched { result.status ≢ status_number Done → out.new ≡ out.old }
     ensures kept { handle.new.registry ≡ handle.old.registry }
 {
@@ -254,7 +254,7 @@ pub extern "C" fn bcs_c_handle_stop_place(
     bytes: &[u8],
     out: &mut [u8],
 ) -> Answer
-    ensures answers { Answers (on_handle handle.old.registry ask.now) result (λ r l s. AnswersStopPlace r l s bytes.now out.old out.new result) }
+    ensures answers { AnswersIfAsked (on_handle handle.old.registry ask.now) result (λ r l s. AnswersStopPlace r l s bytes.now out.old out.new result) }
     ensures untouched { result.status ≢ status_number Done → out.new ≡ out.old }
     ensures kept { handle.new.registry ≡ handle.old.registry }
 {

@@ -10,7 +10,7 @@ ghost use Rattle.bcs_decode_parts.specs.Parts.{part_at};
 ghost use Rattle.bcs_decode_parts.specs.Steps.{step_of};
 ghost use Rattle.bcs_decode_parts.specs.PathSteps.{all_spelled};
 ghost use Rattle.bcs_c.specs.Answers.{plain, stop_at};
-ghost use Rattle.bcs_c.specs.Asking.{Answers, IsUnlessMemory, On, Whatever, by_texts, on_handle};
+ghost use Rattle.bcs_c.specs.Asking.{AnswersIfAsked, IsUnlessMemory, On, Whatever, by_texts, on_handle};
 ghost use Rattle.bcs_c.specs.Parts.{AnswersPart, AnswersSteps, Finds, IsPath, RefusesPath, Steps};
 ghost use Rattle.bcs_c.specs.declared.status.Status.TheVariants.{Memory};
 
@@ -28,7 +28,7 @@ use std::alloc::Global;
 /// Where the part of the value at the front of the input stands to which the path leads.
 #[unsafe(no_mangle)]
 pub extern "C" fn bcs_c_part(alloc: Global, ask: &Ask, bytes: &[u8], path: &[u8]) -> Answer
-    ensures answers { Answers (by_texts ask.now) result (λ r l s. AnswersPart r l s bytes.now path.now result) }
+    ensures answers { AnswersIfAsked (by_texts ask.now) result (λ r l s. AnswersPart r l s bytes.now path.now result) }
     ensures only { Whatever (by_texts ask.now) (λ r l s. (steps : Steps) (n : ℕ) (c : Tree) → IsPath path.now steps → Accepts r l s bytes.now n c
         → result ≢ plain Memory → Finds r bytes.now (part_at r steps (of s) c) result) }
     ensures stopped { Whatever (by_texts ask.now) (λ r l s. (steps : Steps) (e : Reason) (o : ℕ) → IsPath path.now steps → Stops r l s bytes.now e o
@@ -48,7 +48,7 @@ pub(crate) fn part_place(
     bytes: &[u8],
     path: &[u8],
 ) -> Answer
-    ensures answers { Answers (on_handle (Some registry.now) ask.now) result (λ r l s. AnswersPart r l s bytes.now path.now result) }
+    ensures answers { AnswersIfAsked (on_handle (Some registry.now) ask.now) result (λ r l s. AnswersPart r l s bytes.now path.now result) }
     ensures only { Whatever (on_handle (Some registry.now) ask.now) (λ r l s. (steps : Steps) (n : ℕ) (c : Tree) → IsPath path.now steps → Accepts r l s bytes.now n c
         → result ≢ plain Memory → Finds r bytes.now (part_at r steps (of s) c) result) }
     ensures stopped { Whatever (on_handle (Some registry.now) ask.now) (λ r l s. (steps : Steps) (e : Reason) (o : ℕ) → IsPath path.now steps → Stops r l s bytes.now e o

@@ -3,7 +3,7 @@ ghost use Rattle.std.specs.Prelude.{◌≡◌, ◌≢◌, IfSome};
 ghost use Rattle.std.specs.declared.option.Option.TheVariants.{Some};
 ghost use Rattle.bcs_json_spec.specs.Texts.{RefusesText};
 ghost use Rattle.bcs_registry_model.specs.View.{shape_of};
-ghost use Rattle.bcs_c.specs.Asking.{Answers, by_texts, on_handle};
+ghost use Rattle.bcs_c.specs.Asking.{AnswersIfAsked, by_texts, on_handle};
 ghost use Rattle.bcs_c.specs.Places.{AnswersRegistryPlace, AnswersStopPlace, AnswersTextPlace, IsWhere, is_of_whole};
 ghost use Rattle.bcs_c.specs.Statuses.{status_number};
 ghost use Rattle.bcs_c.specs.declared.status.Status.TheVariants.{Done};
@@ -33,7 +33,7 @@ pub extern "C" fn bcs_c_text_place(
     text: &[u8],
     out: &mut [u8],
 ) -> Answer
-    ensures answers { Answers (by_texts ask.now) result (λ r l s. AnswersTextPlace r l s what text.now out.old out.new result) }
+    ensures answers { AnswersIfAsked (by_texts ask.now) result (λ r l s. AnswersTextPlace r l s what text.now out.old out.new result) }
     ensures untouched { result.status ≢ status_number Done → out.new ≡ out.old }
 {
     match read_registry(alloc, ask.registry, Status::Registry) {
@@ -51,7 +51,7 @@ pub(crate) fn text_place(
     text: &[u8],
     out: &mut [u8],
 ) -> Answer
-    ensures answers { Answers (on_handle (Some registry.now) ask.now) result (λ r l s. AnswersTextPlace r l s what text.now out.old out.new result) }
+    ensures answers { AnswersIfAsked (on_handle (Some registry.now) ask.now) result (λ r l s. AnswersTextPlace r l s what text.now out.old out.new result) }
     ensures untouched { result.status ≢ status_number Done → out.new ≡ out.old }
 {
     let asked = match read_ask(alloc, registry, ask) {
@@ -131,7 +131,7 @@ pub extern "C" fn bcs_c_stop_place(
     bytes: &[u8],
     out: &mut [u8],
 ) -> Answer
-    ensures answers { Answers (by_texts ask.now) result (λ r l s. AnswersStopPlace r l s bytes.now out.old out.new result) }
+    ensures answers { AnswersIfAsked (by_texts ask.now) result (λ r l s. AnswersStopPlace r l s bytes.now out.old out.new result) }
     ensures untouched { result.status ≢ status_number Done → out.new ≡ out.old }
 {
     match read_registry(alloc, ask.registry, Status::Registry) {
@@ -149,7 +149,7 @@ pub(crate) fn place_of_stop(
     bytes: &[u8],
     out: &mut [u8],
 ) -> Answer
-    ensures answers { Answers (on_handle (Some registry.now) ask.now) result (λ r l s. AnswersStopPlace r l s bytes.now out.old out.new result) }
+    ensures answers { AnswersIfAsked (on_handle (Some registry.now) ask.now) result (λ r l s. AnswersStopPlace r l s bytes.now out.old out.new result) }
     ensures untouched { result.status ≢ status_number Done → out.new ≡ out.old }
 {
     let asked = match read_ask(alloc, registry, ask) {

@@ -1,6 +1,6 @@
 //! JSON Pointers.
 ghost use Rattle.std.specs.Prelude.{◌≡◌, ◌++◌, IfOk, OnOk, map, string_bytes};
-ghost use Rattle.bcs_json_spec.specs.Place.{step_of};
+ghost use Rattle.bcs_json_spec.specs.Place.{pointer_step_of};
 ghost use Rattle.bcs_c.specs.Pointers.{marked, marked_sign, pointer, pointer_step};
 
 use bcs_json_spec::JsonStep;
@@ -9,7 +9,7 @@ use std::alloc::{AllocError, Global};
 
 /// The steps down to JSON, as a JSON Pointer.
 pub(crate) fn pointer_of(alloc: Global, steps: &[JsonStep]) -> Result<Vec<u8>, AllocError>
-    ensures { IfOk result (λ text. text.items ≡ pointer (map step_of steps.now)) }
+    ensures { IfOk result (λ text. text.items ≡ pointer (map pointer_step_of steps.now)) }
 {
     let mut out = Vec::new(alloc);
     for step in steps {
@@ -20,7 +20,7 @@ pub(crate) fn pointer_of(alloc: Global, steps: &[JsonStep]) -> Result<Vec<u8>, A
 
 /// Appends a step.
 fn put_step(step: &JsonStep, out: &mut Vec<u8>) -> Result<(), AllocError>
-    ensures { OnOk result (out.new.items ≡ out.old.items ++ pointer_step (step_of step.now)) }
+    ensures { OnOk result (out.new.items ≡ out.old.items ++ pointer_step (pointer_step_of step.now)) }
 {
     out.push(b'/')?;
     match step {

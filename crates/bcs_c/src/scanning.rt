@@ -9,7 +9,7 @@ ghost use Rattle.bcs_decode_spec.specs.Accepting.{Accepts};
 ghost use Rattle.bcs_decode_spec.specs.Stopping.{Stops};
 ghost use Rattle.bcs_decode_spec.specs.declared.reason.Reason.{Reason};
 ghost use Rattle.bcs_c.specs.Answers.{sized, stop_at};
-ghost use Rattle.bcs_c.specs.Asking.{Answers, IsUnlessMemory, Whatever, by_texts, on_handle};
+ghost use Rattle.bcs_c.specs.Asking.{AnswersIfAsked, IsUnlessMemory, Whatever, by_texts, on_handle};
 ghost use Rattle.bcs_c.specs.Scanned.{AnswersScan};
 ghost use Rattle.bcs_c.specs.declared.status.Status.TheVariants.{Done};
 
@@ -24,7 +24,7 @@ use std::alloc::Global;
 /// How many bytes the value at the front of the input has.
 #[unsafe(no_mangle)]
 pub extern "C" fn bcs_c_scan(alloc: Global, ask: &Ask, bytes: &[u8]) -> Answer
-    ensures answers { Answers (by_texts ask.now) result (λ r l s. AnswersScan r l s bytes.now result) }
+    ensures answers { AnswersIfAsked (by_texts ask.now) result (λ r l s. AnswersScan r l s bytes.now result) }
     ensures only { Whatever (by_texts ask.now) (λ r l s. (n : ℕ) (c : Tree) → Accepts r l s bytes.now n c → IsUnlessMemory result (sized Done n)) }
     ensures stopped { Whatever (by_texts ask.now) (λ r l s. (e : Reason) (o : ℕ) → Stops r l s bytes.now e o → IsUnlessMemory result (stop_at e o)) }
 {
@@ -41,7 +41,7 @@ pub(crate) fn value_length(
     ask: &HandleAsk,
     bytes: &[u8],
 ) -> Answer
-    ensures answers { Answers (on_handle (Some registry.now) ask.now) result (λ r l s. AnswersScan r l s bytes.now result) }
+    ensures answers { AnswersIfAsked (on_handle (Some registry.now) ask.now) result (λ r l s. AnswersScan r l s bytes.now result) }
     ensures only { Whatever (on_handle (Some registry.now) ask.now) (λ r l s. (n : ℕ) (c : Tree) → Accepts r l s bytes.now n c
         → IsUnlessMemory result (sized Done n)) }
     ensures stopped { Whatever (on_handle (Some registry.now) ask.now) (λ r l s. (e : Reason) (o : ℕ) → Stops r l s bytes.now e o

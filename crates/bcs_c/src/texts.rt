@@ -2,8 +2,8 @@
 ghost use Rattle.std.specs.Prelude.{◌≡◌, ◌≢◌};
 ghost use Rattle.std.specs.declared.option.Option.TheVariants.{Some};
 ghost use Rattle.bcs_json_spec.specs.Headline.{HasBytes, Normalises};
-ghost use Rattle.bcs_c.specs.Asking.{Answers, by_texts, on_handle};
-ghost use Rattle.bcs_c.specs.Compared.{AnswersTexts};
+ghost use Rattle.bcs_c.specs.Asking.{AnswersIfAsked, by_texts, on_handle};
+ghost use Rattle.bcs_c.specs.Compared.{AnswersComparing};
 ghost use Rattle.bcs_c.specs.Denoted.{AnswersText};
 ghost use Rattle.bcs_c.specs.Statuses.{status_number};
 ghost use Rattle.bcs_c.specs.declared.status.Status.TheVariants.{Done};
@@ -20,7 +20,7 @@ use std::alloc::Global;
 /// The bytes of the value that a JSON text denotes, at the front of the output.
 #[unsafe(no_mangle)]
 pub extern "C" fn bcs_c_to_bcs(alloc: Global, ask: &Ask, text: &[u8], out: &mut [u8]) -> Answer
-    ensures answers { Answers (by_texts ask.now) result (λ r l s. AnswersText r l s (HasBytes r l s text.now) text.now out.old out.new result) }
+    ensures answers { AnswersIfAsked (by_texts ask.now) result (λ r l s. AnswersText r l s (HasBytes r l s text.now) text.now out.old out.new result) }
     ensures untouched { result.status ≢ status_number Done → out.new ≡ out.old }
 {
     match read_registry(alloc, ask.registry, Status::Registry) {
@@ -37,7 +37,7 @@ pub(crate) fn text_bytes(
     text: &[u8],
     out: &mut [u8],
 ) -> Answer
-    ensures answers { Answers (on_handle (Some registry.now) ask.now) result (λ r l s. AnswersText r l s (HasBytes r l s text.now) text.now out.old out.new result) }
+    ensures answers { AnswersIfAsked (on_handle (Some registry.now) ask.now) result (λ r l s. AnswersText r l s (HasBytes r l s text.now) text.now out.old out.new result) }
     ensures untouched { result.status ≢ status_number Done → out.new ≡ out.old }
 {
     let asked = match read_ask(alloc, registry, ask) {
@@ -53,7 +53,7 @@ pub(crate) fn text_bytes(
 /// The one normal text of what a JSON text denotes, at the front of the output.
 #[unsafe(no_mangle)]
 pub extern "C" fn bcs_c_normalise(alloc: Global, ask: &Ask, text: &[u8], out: &mut [u8]) -> Answer
-    ensures answers { Answers (by_texts ask.now) result (λ r l s. AnswersText r l s (Normalises r l s text.now) text.now out.old out.new result) }
+    ensures answers { AnswersIfAsked (by_texts ask.now) result (λ r l s. AnswersText r l s (Normalises r l s text.now) text.now out.old out.new result) }
     ensures untouched { result.status ≢ status_number Done → out.new ≡ out.old }
 {
     match read_registry(alloc, ask.registry, Status::Registry) {
@@ -70,7 +70,7 @@ pub(crate) fn normal_text(
     text: &[u8],
     out: &mut [u8],
 ) -> Answer
-    ensures answers { Answers (on_handle (Some registry.now) ask.now) result (λ r l s. AnswersText r l s (Normalises r l s text.now) text.now out.old out.new result) }
+    ensures answers { AnswersIfAsked (on_handle (Some registry.now) ask.now) result (λ r l s. AnswersText r l s (Normalises r l s text.now) text.now out.old out.new result) }
     ensures untouched { result.status ≢ status_number Done → out.new ≡ out.old }
 {
     let asked = match read_ask(alloc, registry, ask) {
@@ -86,7 +86,7 @@ pub(crate) fn normal_text(
 /// Whether two JSON texts denote equal values.
 #[unsafe(no_mangle)]
 pub extern "C" fn bcs_c_compare(alloc: Global, ask: &Ask, first: &[u8], second: &[u8]) -> Answer
-    ensures { Answers (by_texts ask.now) result (λ r l s. AnswersTexts r l s first.now second.now result) }
+    ensures { AnswersIfAsked (by_texts ask.now) result (λ r l s. AnswersComparing r l s first.now second.now result) }
 {
     match read_registry(alloc, ask.registry, Status::Registry) {
         Ok(registry) => comparison(alloc, &registry, &ask.rest(), first, second),
@@ -102,7 +102,7 @@ pub(crate) fn comparison(
     first: &[u8],
     second: &[u8],
 ) -> Answer
-    ensures { Answers (on_handle (Some registry.now) ask.now) result (λ r l s. AnswersTexts r l s first.now second.now result) }
+    ensures { AnswersIfAsked (on_handle (Some registry.now) ask.now) result (λ r l s. AnswersComparing r l s first.now second.now result) }
 {
     let asked = match read_ask(alloc, registry, ask) {
         Ok(asked) => asked,

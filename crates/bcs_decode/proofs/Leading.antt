@@ -7,9 +7,9 @@ use Rattle.bcs_decode_spec.specs.declared.decode_fault.DecodeFault.TheVariants.{
 use Rattle.bcs_decode_spec.specs.Reading.{Parser, chain, give, bytes_here}
 use Rattle.bcs_decode_source.specs.declared.at.At.{At}
 use Rattle.bcs_decode_source.specs.declared.reader.Reader.{Reader}
-use Rattle.bcs_decode_source.specs.Sees.{is_told, rest_of, Refuses, Sees}
+use Rattle.bcs_decode_source.specs.Sees.{is_told, rest_of, FindsFault, Sees}
 use Rattle.bcs_decode_source.specs.Reads.{Ready, Reads}
-use Rattle.bcs_decode_source.proofs.Going.{Goes-then, Refuses-whole}
+use Rattle.bcs_decode_source.proofs.Going.{Goes-then, FindsFault-whole}
 use Rattle.bcs_decode_source.proofs.Readers.{IsSame-then, Reads-as, Onward, Onward-none, Onward-then, Onward-nodes, Onward-done, Onward-ends, Onward-stops}
 use Rattle.bcs_decode_source.proofs.StreamedRows.{Found}
 use Rattle.bcs_decode_slice.proofs.PassingParts.{chained_bare}
@@ -32,10 +32,10 @@ module _ (f g : Parser (Unit {0})) (c d : Option (List ℕ)) (p q : At) (h : Lea
       (a.0 ∙ next (rest_of d) (rest_of e) b.0, b.1)
 
   -- a fault
-  pub leads_ends : {A : Type 0} (x : DecodeFault) (l : Parser A) → Refuses x d q l
-      → ((b : List ℕ) (e : Reason × ℕ) → l q.place q.nodes b ≡ Err e → g q.place q.nodes b ≡ Err e) → Refuses x c p f
+  pub leads_ends : {A : Type 0} (x : DecodeFault) (l : Parser A) → FindsFault x d q l
+      → ((b : List ℕ) (e : Reason × ℕ) → l q.place q.nodes b ≡ Err e → g q.place q.nodes b ≡ Err e) → FindsFault x c p f
   leads_ends x l refused ends =
-      Refuses-whole x c d p q f l (λ told. (h told).1) (λ e o told stop. (h told).0 ∙ ends (rest_of d) (e, o) stop) refused
+      FindsFault-whole x c d p q f l (λ told. (h told).1) (λ e o told stop. (h told).0 ∙ ends (rest_of d) (e, o) stop) refused
 
   pub leads_done : ((b : List ℕ) → g q.place q.nodes b ≡ Ok (tt, q.place, q.nodes, b)) → Found tt f c d p q
   leads_done done told =

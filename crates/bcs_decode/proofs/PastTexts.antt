@@ -7,10 +7,10 @@ use Rattle.bcs_decode_spec.specs.declared.reason.Reason.TheVariants.{BadUtf8}
 use Rattle.bcs_decode_spec.specs.declared.decode_fault.DecodeFault.{DecodeFault}
 use Rattle.bcs_decode_spec.specs.Reading.{chain, give, bytes_here, text_here}
 use Rattle.bcs_decode_source.specs.declared.at.At.{At}
-use Rattle.bcs_decode_source.specs.Sees.{is_told, rest_of, Refuses}
+use Rattle.bcs_decode_source.specs.Sees.{is_told, rest_of, FindsFault}
 use Rattle.bcs_decode_source.proofs.Blocks.{with_front, BytesSoFar, bytes_none, bytes_more, bytes_refused}
 use Rattle.bcs_decode_source.proofs.Chains.{text_right, text_wrong}
-use Rattle.bcs_decode_source.proofs.Going.{Refuses-whole}
+use Rattle.bcs_decode_source.proofs.Going.{FindsFault-whole}
 use Rattle.bcs_decode_source.proofs.StreamedRows.{Found}
 use Rattle.bcs_decode.specs.Past.{bytes_run, text_run}
 use Rattle.bcs_decode.specs.Texts.{BeginsNoText}
@@ -83,17 +83,17 @@ module _ (n good done : ℕ) (block : List ℕ) (c d : Option (List ℕ)) (p q :
       }
 
   -- a block wasn't read
-  pub text_refused : (x : DecodeFault) (size : ℕ) → size ≤ n - done → Refuses x d q (bytes_here size) → Refuses x c p (text_run n)
+  pub text_refused : (x : DecodeFault) (size : ℕ) → size ≤ n - done → FindsFault x d q (bytes_here size) → FindsFault x c p (text_run n)
   unfolding text_run text_here chain
   text_refused x size few refused =
-      Refuses-whole x c c p p (text_run n) (bytes_here n) (λ told. told) (λ e o told stop. rw stop refl)
+      FindsFault-whole x c c p p (text_run n) (bytes_here n) (λ told. told) (λ e o told stop. rw stop refl)
       (bytes_refused x n size (h.front ++ take (done - good) block) c d p q (omega (arith, long)) h.sees refused)
 
   -- the others weren't there
-  pub text_cut : (x : DecodeFault) → Refuses x d q (bytes_run (n - done)) → Refuses x c p (text_run n)
+  pub text_cut : (x : DecodeFault) → FindsFault x d q (bytes_run (n - done)) → FindsFault x c p (text_run n)
   unfolding text_run text_here chain
   text_cut x refused =
-      Refuses-whole x c d p q (text_run n) (bytes_run (n - done)) (λ told. (h.sees told).1)
+      FindsFault-whole x c d p q (text_run n) (bytes_run (n - done)) (λ told. (h.sees told).1)
       (λ e o told stop.
       (let left : n - length (h.front ++ take (done - good) block) ≡ n - done = omega (arith, long) in
       let none : bytes_here (n - length (h.front ++ take (done - good) block)) q.place q.nodes (rest_of d) ≡ Err (e, o) = rw left (bytes_were_not (n - done) q.place q.nodes (rest_of d) (e, o) stop) in

@@ -15,7 +15,7 @@ use Rattle.bcs_decode_spec.proofs.Encoded.{is_decoded, no_encoding_stops}
 use Rattle.bcs_decode_spec.proofs.Verdicts.{skips_accepts, skips_stops}
 use Rattle.bcs_decode_slice.specs.Passing.{skip}
 use Rattle.bcs_decode_source.specs.declared.at.At.{At}
-use Rattle.bcs_decode_source.specs.Sees.{rest_of, Refuses, Along, Halts}
+use Rattle.bcs_decode_source.specs.Sees.{rest_of, FindsFault, Along, Halts}
 use Rattle.bcs_decode_source.proofs.StreamedRows.{Found}
 use Rattle.bcs_decode.proofs.Wholes as whole
 use Rattle.bcs_decode.proofs.Wholes.{some_same, drop-suc, told_rest, from_all, gave}
@@ -31,7 +31,7 @@ module _ (registry : Entries) (limits : Bounds) (s : Shape) where
       let l = along.gone b (from_all b p place) in
       (told_rest q.place b d l, l.within, λ bytes. skips_accepts registry limits s b q.place q.nodes (rest_of d) bytes (from_start p place nodes b _ (h refl).0))
 
-  pub stopped : (c d : Option (List ℕ)) (x : DecodeFault) (p q : At) → p.place ≡ 0 → p.nodes ≡ limits.nodes → Refuses x c p (skip registry limits.depth s) → Halts x c p d q → ScansFrom registry limits s c d (Err x)
+  pub stopped : (c d : Option (List ℕ)) (x : DecodeFault) (p q : At) → p.place ≡ 0 → p.nodes ≡ limits.nodes → FindsFault x c p (skip registry limits.depth s) → Halts x c p d q → ScansFrom registry limits s c d (Err x)
   stopped None d x p q place nodes h k = tt
   stopped (Some b) d (Stop stop) p q place nodes h k = λ bytes.
       (let l = k.0 b (from_all b p place) in (

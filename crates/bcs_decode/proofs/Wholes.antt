@@ -13,7 +13,7 @@ use Rattle.bcs_value_model.specs.declared.value.Value.{Value}
 use Rattle.bcs_decode_source.specs.declared.at.At.{At}
 use Rattle.bcs_decode_spec.specs.declared.decode_fault.DecodeFault.{DecodeFault}
 use Rattle.bcs_decode_spec.specs.declared.decode_fault.DecodeFault.TheVariants.{Stop, Read, OutOfMemory}
-use Rattle.bcs_decode_source.specs.Sees.{Refuses, Left, Along, GaveFront, Halts, read}
+use Rattle.bcs_decode_source.specs.Sees.{FindsFault, Left, Along, GaveFront, Halts, read}
 use Rattle.bcs_decode.specs.Whole.{FrontGone, DecodesAll, DecodesFrom, DecodesFront}
 use Rattle.bcs_decode_spec.specs.Reading as Reading
 use Rattle.bcs_decode_spec.specs.Reading.{read_value}
@@ -60,7 +60,7 @@ module _ (registry : Entries) (limits : Bounds) (s : Shape) where
         (reads_accepts registry limits s b (tree_of v) q.place q.nodes c bytes e, ap Some (sym (ap (drop q.place) t.3 ∙ drop_at t.1 c q.place l)))),
   )
 
-  pub stopped : (c d : Option (List ℕ)) (x : DecodeFault) (p q : At) → p.place ≡ 0 → p.nodes ≡ limits.nodes → Refuses x c p (read registry limits.depth s) → Halts x c p d q → DecodesFront registry limits s c d (Err x)
+  pub stopped : (c d : Option (List ℕ)) (x : DecodeFault) (p q : At) → p.place ≡ 0 → p.nodes ≡ limits.nodes → FindsFault x c p (read registry limits.depth s) → Halts x c p d q → DecodesFront registry limits s c d (Err x)
   stopped None d x p q place nodes h k = tt
   stopped (Some b) d (Stop stop) p q place nodes h k = λ bytes.
       (let l = k.0 b (from_all b p place) in (

@@ -5,8 +5,8 @@ use Rattle.std.proofs.lemmas.List.{drop-drop, drop_all, drop_at, take_at, append
 use Rattle.bcs_decode_spec.specs.declared.decode_fault.DecodeFault.{DecodeFault}
 use Rattle.bcs_decode_source.specs.declared.at.At.{At}
 use Rattle.bcs_decode_spec.specs.Reading.{Read, follow, give, bytes_here}
-use Rattle.bcs_decode_source.specs.Sees.{is_told, rest_of, Refuses}
-use Rattle.bcs_decode_source.proofs.Going.{Refuses-whole}
+use Rattle.bcs_decode_source.specs.Sees.{is_told, rest_of, FindsFault}
+use Rattle.bcs_decode_source.proofs.Going.{FindsFault-whole}
 
 abbrev pub with_front : List ℕ → Read (List ℕ) → Read (List ℕ)
 with_front xs r = follow r (λ ys. give (xs ++ ys))
@@ -70,9 +70,9 @@ bytes_done n xs c d p q all h told =
     (a.0 ∙ rw (none, le-ltb (length (rest_of d)) 0 (omega arith), far, append-nil xs) refl, a.1)
 
 pub bytes_refused : (x : DecodeFault) (n k : ℕ) (xs : List ℕ) (c d : Option (List ℕ)) (p q : At) → k ≤ n - length xs → BytesSoFar n xs c p d q
-    → Refuses x d q (bytes_here k) → Refuses x c p (bytes_here n)
+    → FindsFault x d q (bytes_here k) → FindsFault x c p (bytes_here n)
 bytes_refused x n k xs c d p q few h =
-    Refuses-whole x c d p q (bytes_here n) (bytes_here k) (λ told. (h told).1)
+    FindsFault-whole x c d p q (bytes_here n) (bytes_here k) (λ told. (h told).1)
     (λ e o told stop. (h told).0 ∙ ap (with_front xs) (bytes_split k (n - length xs) q.place q.nodes (rest_of d) few ∙ ap (λ s. follow s (λ zs o' l t. with_front zs (bytes_here (n - length xs - k) o' l t))) stop))
 
 -- a vector's tail, when it was filled

@@ -8,7 +8,7 @@ use Rattle.bcs_decode_spec.specs.declared.decode_fault.DecodeFault.TheVariants.{
 use Rattle.bcs_decode_source.specs.declared.at.At.{At}
 use Rattle.bcs_decode_spec.specs.Reading.{Parser}
 use Rattle.bcs_decode_source.specs.Kept.{Judges}
-use Rattle.bcs_decode_source.specs.Sees.{is_told, rest_of, Refuses, Sees, Left, Records, Along, AlongMap, Goes, GaveFront, Halts}
+use Rattle.bcs_decode_source.specs.Sees.{is_told, rest_of, FindsFault, Sees, Left, Records, Along, AlongMap, Goes, GaveFront, Halts}
 
 -- ---- one after another
 
@@ -124,13 +124,13 @@ AlongMap-key n c d p v q few h place inside stays front = record {
 }
 
 -- a stop of a later part is one of the whole
-pub Refuses-whole : {A B : Type 0} (x : DecodeFault) (c d : Option (List ℕ)) (p q : At) (f : Parser A) (h : Parser B)
+pub FindsFault-whole : {A B : Type 0} (x : DecodeFault) (c d : Option (List ℕ)) (p q : At) (f : Parser A) (h : Parser B)
     → (is_told c ≡ true → is_told d ≡ true)
     → ((e : Reason) (o : ℕ) → is_told c ≡ true → h q.place q.nodes (rest_of d) ≡ Err (e, o) → f p.place p.nodes (rest_of c) ≡ Err (e, o))
-    → Refuses x d q h → Refuses x c p f
-Refuses-whole (Stop s) c d p q f h told whole k = λ t. whole s.reason s.place t (k (told t))
-Refuses-whole ReadFault c d p q f h told whole k = tt
-Refuses-whole OutOfMemory c d p q f h told whole k = tt
+    → FindsFault x d q h → FindsFault x c p f
+FindsFault-whole (Stop s) c d p q f h told whole k = λ t. whole s.reason s.place t (k (told t))
+FindsFault-whole ReadFault c d p q f h told whole k = tt
+FindsFault-whole OutOfMemory c d p q f h told whole k = tt
 
 -- one parser is another
 pub Sees-as : {X A : Type 0} (view : X → A) (r : Result X DecodeFault) (c : Option (List ℕ)) (p : At) (f h : Parser A) (q : At) (d : Option (List ℕ))
@@ -141,12 +141,12 @@ Sees-as view (Err ReadFault) c p f h q d same k = tt
 Sees-as view (Err OutOfMemory) c p f h q d same k = tt
 
 -- a fault of a test is one of the whole
-pub Refuses-judged : {A : Type 0} (x : DecodeFault) (c : Option (List ℕ)) (p : At) (f : Parser A) (h : Parser (Unit {0})) (at : ℕ)
+pub FindsFault-judged : {A : Type 0} (x : DecodeFault) (c : Option (List ℕ)) (p : At) (f : Parser A) (h : Parser (Unit {0})) (at : ℕ)
     → ((e : Reason) (o : ℕ) → is_told c ≡ true → ((i j : ℕ) (r : List ℕ) → h i j r ≡ Err (e, o)) → f p.place p.nodes (rest_of c) ≡ Err (e, o))
-    → Judges (Err x) h at → Refuses x c p f
-Refuses-judged (Stop s) c p f h at whole k = λ told. whole s.reason s.place told k.1
-Refuses-judged ReadFault c p f h at whole k = absurd k
-Refuses-judged OutOfMemory c p f h at whole k = absurd k
+    → Judges (Err x) h at → FindsFault x c p f
+FindsFault-judged (Stop s) c p f h at whole k = λ told. whole s.reason s.place told k.1
+FindsFault-judged ReadFault c p f h at whole k = absurd k
+FindsFault-judged OutOfMemory c p f h at whole k = absurd k
 
 -- ---- bytes that were taken
 

@@ -19,8 +19,8 @@ use Rattle.bcs_decode_spec.specs.declared.reason.Reason.TheVariants.{TooManyNode
 use Rattle.bcs_decode_source.specs.declared.at.At.{At}
 use Rattle.bcs_decode_spec.specs.Reading.{Parser, Read, follow, chain, give, node, bytes_here, unsigned_here, signed_here, items_here, building}
 use Rattle.bcs_decode_source.specs.Numbers.{number_of, numbers}
-use Rattle.bcs_decode_source.specs.Sees.{is_told, rest_of, Refuses, leaf_here}
-use Rattle.bcs_decode_source.proofs.Going.{Refuses-whole}
+use Rattle.bcs_decode_source.specs.Sees.{is_told, rest_of, FindsFault, leaf_here}
+use Rattle.bcs_decode_source.proofs.Going.{FindsFault-whole}
 use Rattle.bcs_decode_source.proofs.StreamedRows.{joined, items_before, before_none, ItemsSoFar, items_refused}
 
 -- ---- rows that were read, one after the other
@@ -138,9 +138,9 @@ module _ (f : WholeNumber) (n i k : ℕ) (c d : Option (List ℕ)) (p q s : At) 
 
   -- a block ends the list
   pub numbers_refused : (x : DecodeFault) (vs : List Value) → ItemsSoFar (leaf_here (whole_shape f)) n i vs c d p q
-      → Refuses x d s (bytes_here (k * whole_len f)) → Refuses x c p (items_here building (leaf_here (whole_shape f)) n)
+      → FindsFault x d s (bytes_here (k * whole_len f)) → FindsFault x c p (items_here building (leaf_here (whole_shape f)) n)
   numbers_refused x vs h =
-      Refuses-whole x c d p s (items_here building (leaf_here (whole_shape f)) n) (bytes_here (k * whole_len f)) (λ told. (h told).1)
+      FindsFault-whole x c d p s (items_here building (leaf_here (whole_shape f)) n) (bytes_here (k * whole_len f)) (λ told. (h told).1)
       (λ e o told stop.
       let on : bytes_here (k * whole_len f) q.place (q.nodes - k) (rest_of d) ≡ Err (e, o) = rw (← place, ← begun) stop in
       let ends : row f (n - i) q.place q.nodes (rest_of d) ≡ Err (e, o) = numbers_split f k (n - i) q.place q.nodes (rest_of d) few nodes ∙ rw on refl in
@@ -148,7 +148,7 @@ module _ (f : WholeNumber) (n i k : ℕ) (c d : Option (List ℕ)) (p q s : At) 
 
 -- no number may begin
 pub numbers_none : (f : WholeNumber) (n i : ℕ) (vs : List Value) (c d : Option (List ℕ)) (p q : At) → i < n → q.nodes ≡ 0 → ItemsSoFar (leaf_here (whole_shape f)) n i vs c d p q
-    → Refuses (Stop (record { reason = TooManyNodes; place = q.place })) c p (items_here building (leaf_here (whole_shape f)) n)
+    → FindsFault (Stop (record { reason = TooManyNodes; place = q.place })) c p (items_here building (leaf_here (whole_shape f)) n)
 numbers_none f n i vs c d p q lt none h =
     items_refused (Stop (record { reason = TooManyNodes; place = q.place })) (leaf_here (whole_shape f)) n i vs c d p q lt h (λ told. number_none f q.place q.nodes (rest_of d) none)
 

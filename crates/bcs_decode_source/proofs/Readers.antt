@@ -6,7 +6,7 @@ use Rattle.bcs_decode_spec.specs.declared.decode_fault.DecodeFault.TheVariants.{
 use Rattle.bcs_decode_spec.specs.Reading.{Parser, chain, give, node}
 use Rattle.bcs_decode_source.specs.declared.at.At.{At}
 use Rattle.bcs_decode_source.specs.declared.reader.Reader.{Reader}
-use Rattle.bcs_decode_source.specs.Sees.{is_told, rest_of, Refuses, Sees, Along, node_here}
+use Rattle.bcs_decode_source.specs.Sees.{is_told, rest_of, FindsFault, Sees, Along, node_here}
 use Rattle.bcs_decode_source.specs.Reads.{Ready, IsSame, Reads}
 use Rattle.bcs_decode_source.proofs.Chains.{node_is}
 use Rattle.bcs_decode_source.proofs.Going.{Along-none, Along-then, Along-gave, Goes-then, Halts-then, Sees-as, Along-nodes}
@@ -26,11 +26,11 @@ Sees-then v w x (Err (Stop y)) c d e p q s f h first next = λ told. (let a = fi
 Sees-then v w x (Err ReadFault) c d e p q s f h first next = tt
 Sees-then v w x (Err OutOfMemory) c d e p q s f h first next = tt
 
-Refuses-then : {A B : Type 0} (x : DecodeFault) (c : Option (List ℕ)) (p : At) (f : Parser A) (h : A → Parser B) → Refuses x c p f → Refuses x c p (chain f h)
+FindsFault-then : {A B : Type 0} (x : DecodeFault) (c : Option (List ℕ)) (p : At) (f : Parser A) (h : A → Parser B) → FindsFault x c p f → FindsFault x c p (chain f h)
 unfolding chain
-Refuses-then (Stop s) c p f h k = λ told. (rw (k told) refl)
-Refuses-then ReadFault c p f h k = tt
-Refuses-then OutOfMemory c p f h k = tt
+FindsFault-then (Stop s) c p f h k = λ told. (rw (k told) refl)
+FindsFault-then ReadFault c p f h k = tt
+FindsFault-then OutOfMemory c p f h k = tt
 
 module _ {S : Type 0} (content : S → Option (List ℕ)) (is_failed : S → Bool) (allowance : S → ℕ) where
   -- the reader went on from p to q, and may go on
@@ -61,7 +61,7 @@ module _ {S : Type 0} {content : S → Option (List ℕ)} {is_failed : S → Boo
   pub Reads-ends : {X Y A B : Type 0} {v : X → A} {w : Y → B} {e : DecodeFault} {p q : Reader S} {f : Parser A} (h : A → Parser B)
       → Reads content is_failed allowance v (Err e) p f q → Reads content is_failed allowance w (Err e) p (chain f h) q
   Reads-ends {e = e} {p = p} {f = f} h k =
-      record { sees = Refuses-then e (content p.source.now) p.at.now f h k.sees; failed = k.failed; room = k.room; goes = k.goes; same = k.same }
+      record { sees = FindsFault-then e (content p.source.now) p.at.now f h k.sees; failed = k.failed; room = k.room; goes = k.goes; same = k.same }
 
   -- a node, and then what has it
   pub Reads-node : {X A : Type 0} {v : X → A} {x : Unit {0}} {r : Result X DecodeFault} {p q s : Reader S} {f : Parser A}
@@ -115,7 +115,7 @@ module _ {S : Type 0} {content : S → Option (List ℕ)} {is_failed : S → Boo
 
   -- a fault on the way
   pub Onward-ends : {X Y A B : Type 0} {v : X → A} {w : Y → B} {e : DecodeFault} {p q s : Reader S} {f : Parser A} {h : Parser B} → Onward content is_failed allowance p q
-      → Reads content is_failed allowance v (Err e) q f s → Refuses e (content p.source.now) p.at.now h → Reads content is_failed allowance w (Err e) p h s
+      → Reads content is_failed allowance v (Err e) q f s → FindsFault e (content p.source.now) p.at.now h → Reads content is_failed allowance w (Err e) p h s
   Onward-ends {e = e} {p = p} {q = q} {s = s} h k refused = record {
     sees = refused;
     failed = k.failed;

@@ -9,8 +9,8 @@ use Rattle.bcs_value_model.specs.declared.value.Value.{Value}
 use Rattle.bcs_decode_spec.specs.declared.decode_fault.DecodeFault.{DecodeFault}
 use Rattle.bcs_decode_source.specs.declared.at.At.{At}
 use Rattle.bcs_decode_spec.specs.Reading.{Parser, Read, follow, chain, give, items_here, pairs_here, key_here, each_here, value_here, building}
-use Rattle.bcs_decode_source.specs.Sees.{is_told, rest_of, Refuses, read, each}
-use Rattle.bcs_decode_source.proofs.Going.{Refuses-whole}
+use Rattle.bcs_decode_source.specs.Sees.{is_told, rest_of, FindsFault, read, each}
+use Rattle.bcs_decode_source.proofs.Going.{FindsFault-whole}
 
 -- what was read of a told source
 abbrev pub Found : {A : Type 0} → A → Parser A → Option (List ℕ) → Option (List ℕ) → At → At → Type 0
@@ -68,10 +68,10 @@ items_done f n i vs c d p q le h told =
     let k : n - i ≡ 0 = omega arith in
     (a.0 ∙ rw k (ap (λ (us : Trees). Ok (us, q.place, q.nodes, rest_of d)) (joined_none (items_trees vs))), a.1)
 
-pub items_refused : (x : DecodeFault) (f : Parser Tree) (n i : ℕ) (vs : List Value) (c d : Option (List ℕ)) (p q : At) → i < n → ItemsSoFar f n i vs c d p q → Refuses x d q f → Refuses x c p (items_here building f n)
+pub items_refused : (x : DecodeFault) (f : Parser Tree) (n i : ℕ) (vs : List Value) (c d : Option (List ℕ)) (p q : At) → i < n → ItemsSoFar f n i vs c d p q → FindsFault x d q f → FindsFault x c p (items_here building f n)
 unfolding items_here chain
 items_refused x f n i vs c d p q lt h =
-    Refuses-whole x c d p q (items_here building f n) f (λ told. (h told).1)
+    FindsFault-whole x c d p q (items_here building f n) f (λ told. (h told).1)
     (λ e o told stop. let k : n - i ≡ suc (n - (i + 1)) = omega arith in (h told).0 ∙ rw (k, stop) refl)
 
 -- one parser of values is another
@@ -110,10 +110,10 @@ module _ (registry : Entries) (depth : ℕ) where
       let a = h told in
       (a.0 ∙ rw is (ap (λ (us : Trees). Ok (us, q.place, q.nodes, rest_of d)) (joined_none (items_trees vs))), a.1)
 
-  pub each_refused : (x : DecodeFault) (ss ts us : Shapes) (s : Shape) (vs : List Value) (c d : Option (List ℕ)) (p q : At) → ts ≡ shape s us → EachSoFar ss ts vs c d p q → Refuses x d q (read registry depth s) → Refuses x c p (each registry depth ss)
+  pub each_refused : (x : DecodeFault) (ss ts us : Shapes) (s : Shape) (vs : List Value) (c d : Option (List ℕ)) (p q : At) → ts ≡ shape s us → EachSoFar ss ts vs c d p q → FindsFault x d q (read registry depth s) → FindsFault x c p (each registry depth ss)
   unfolding each_here chain value_here
   each_refused x ss ts us s vs c d p q is h =
-      Refuses-whole x c d p q (each registry depth ss) (read registry depth s) (λ told. (h told).1)
+      FindsFault-whole x c d p q (each registry depth ss) (read registry depth s) (λ told. (h told).1)
       (λ e o told stop. (h told).0 ∙ rw (is, stop) refl)
 
 -- ---- entries
@@ -171,15 +171,15 @@ pairs_done f g n i last vs c d p q le h told =
     (a.0 ∙ rw k (ap (λ (us : Pairs). Ok (us, q.place, q.nodes, rest_of d)) (joined_pairs_none (entries_pairs vs))), a.1)
 
 pub key_refused : (x : DecodeFault) (f g : Parser Tree) (n i : ℕ) (last : Option (List ℕ)) (vs : List (Value × Value)) (c d : Option (List ℕ)) (p q : At) → i < n → PairsSoFar f g n i last vs c d p q
-    → Refuses x d q (key_here f last) → Refuses x c p (pairs_here building f g None n)
+    → FindsFault x d q (key_here f last) → FindsFault x c p (pairs_here building f g None n)
 unfolding pairs_here chain
 key_refused x f g n i last vs c d p q lt h =
-    Refuses-whole x c d p q (pairs_here building f g None n) (key_here f last) (λ told. (h told).1)
+    FindsFault-whole x c d p q (pairs_here building f g None n) (key_here f last) (λ told. (h told).1)
     (λ e o told stop. let k : n - i ≡ suc (n - (i + 1)) = omega arith in (h told).0 ∙ rw (k, stop) refl)
 
 pub value_refused : (x : DecodeFault) (f g : Parser Tree) (n i : ℕ) (last : Option (List ℕ)) (key : List ℕ) (vs : List (Value × Value)) (u : Value) (c d e : Option (List ℕ)) (p q r : At) → i < n → PairsSoFar f g n i last vs c d p q
-    → Found (tree_of u, key) (key_here f last) d e q r → Refuses x e r g → Refuses x c p (pairs_here building f g None n)
+    → Found (tree_of u, key) (key_here f last) d e q r → FindsFault x e r g → FindsFault x c p (pairs_here building f g None n)
 unfolding pairs_here chain
 value_refused x f g n i last key vs u c d e p q r lt h j =
-    Refuses-whole x c e p r (pairs_here building f g None n) g (λ told. (j (h told).1).1)
+    FindsFault-whole x c e p r (pairs_here building f g None n) g (λ told. (j (h told).1).1)
     (λ o w told stop. let k : n - i ≡ suc (n - (i + 1)) = omega arith in (h told).0 ∙ rw (k, (j (h told).1).0, stop) refl)

@@ -25,15 +25,15 @@ is_told None = false
 is_told (Some b) = true
 
 -- the fault is what the parser finds in the told bytes, unless it has another cause
-abbrev pub Refuses : {A : Type 0} → DecodeFault → Option (List ℕ) → At → Parser A → Type 0
-Refuses (Stop s) c p f = is_told c ≡ true → f p.place p.nodes (rest_of c) ≡ Err (s.reason, s.place)
-Refuses Read c p f = Unit {0}
-Refuses OutOfMemory c p f = Unit {0}
+abbrev pub FindsFault : {A : Type 0} → DecodeFault → Option (List ℕ) → At → Parser A → Type 0
+FindsFault (Stop s) c p f = is_told c ≡ true → f p.place p.nodes (rest_of c) ≡ Err (s.reason, s.place)
+FindsFault Read c p f = Unit {0}
+FindsFault OutOfMemory c p f = Unit {0}
 
 -- what was returned, seen by view, is what the parser finds in the told bytes c from p on; after it come q and d
 abbrev pub Sees : {X A : Type 0} → (X → A) → Result X DecodeFault → Option (List ℕ) → At → Parser A → At → Option (List ℕ) → Type 0
 Sees view (Ok x) c p f q d = is_told c ≡ true → (f p.place p.nodes (rest_of c) ≡ Ok (view x, q.place, q.nodes, rest_of d)) × (is_told d ≡ true)
-Sees view (Err e) c p f q d = Refuses e c p f
+Sees view (Err e) c p f q d = FindsFault e c p f
 
 -- the source has failed exactly where it is blamed
 abbrev pub FailedIfRead : {X : Type 0} → Result X DecodeFault → Bool → Type 0

@@ -14,7 +14,7 @@ use Rattle.bcs_encode_spec.specs.Laws.{PrefixFree, OneCanonicalForm, BytesDecide
 use Rattle.bcs_encode_spec.proofs.PrefixLaws.{plain_free}
 use Rattle.bcs_encode_spec.proofs.UniqueForms.{canonical_same}
 use Rattle.bcs_encode_spec.proofs.SoundForms.{canonical_distinct, lengths_hold-form_of}
-use Rattle.bcs_encode_spec.specs.FormOf.{form_of}
+use Rattle.bcs_encode_spec.proofs.CanonicalForm.{form_of}
 use Rattle.bcs_encode_spec.proofs.FormOf.{fits-form_of, form_is_canonical, same-form_of, depth-form_of, nodes-form_of}
 
 turn : (a b : Tree) → same a b ≡ true → same b a ≡ true

@@ -16,7 +16,7 @@ use Rattle.std.specs.Ordering.{nat_cmp}
 use Rattle.std.specs.Cmp.Lexicographic.{slice_cmp}
 use Rattle.std.specs.declared.cmp.Ordering.{Ordering}
 use Rattle.std.specs.declared.cmp.Ordering.TheVariants.{Less, Equal, Greater}
-use Rattle.bcs_encode_spec.specs.FormOf.{place, insert, form_of, items_form, each_form, pairs_form}
+use Rattle.bcs_encode_spec.proofs.CanonicalForm.{place, insert, form_of, items_form, each_form, pairs_form}
 use Rattle.bcs_encode_spec.proofs.BelowLaws.{order, below_less, below_greater}
 use Rattle.bcs_value_model.proofs.Equivalence.{same-refl, all_same-refl, same-sym, same-trans}
 use Rattle.bcs_encode_spec.proofs.UniqueForms.{all_at, fits_at}

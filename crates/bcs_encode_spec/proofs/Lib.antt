@@ -1,6 +1,7 @@
 pub mod BelowLaws
 pub mod EntryOrder
 pub mod FormLaws
+pub mod CanonicalForm
 pub mod FormOf
 pub mod Growth
 pub mod PrefixLaws

@@ -10,7 +10,7 @@ use Rattle.bcs_value_model.specs.Limits.{Bounds}
 use Rattle.bcs_value_model.proofs.Loosening.{strictly_then_loosely}
 use Rattle.bcs_encode_spec.specs.Lengths.{length_limit, lengths_hold}
 use Rattle.bcs_encode_spec.specs.Sound.{IsSound}
-use Rattle.bcs_encode_spec.specs.Refused.{Refuses}
+use Rattle.bcs_encode_spec.specs.Refused.{RefusesValue}
 use Rattle.bcs_encode_spec.specs.Laws.{OneRefusal, RefusedOrSound}
 use Rattle.bcs_encode_spec.specs.declared.fault.EncodeFault.{EncodeFault}
 use Rattle.bcs_encode_spec.specs.declared.fault.EncodeFault.TheVariants.{NotOfFormat, Unsupported, TooDeep, TooManyNodes, TooLong, RepeatedKey, OutOfMemory}
@@ -25,7 +25,7 @@ module _ (registry : Entries) (limits : Bounds) (s : Shape) (t : Tree) where
   first_reason = first_of_tests (fits true registry t (of s)) (fits false registry t (of s)) (leb (depth t) limits.depth)
       (leb (nodes t) limits.nodes) (lengths_hold length_limit registry t (of s)) (distinct t)
 
-  first_if_refused : (e : EncodeFault) → Refuses registry limits s t e → first_reason ≡ Some e
+  first_if_refused : (e : EncodeFault) → RefusesValue registry limits s t e → first_reason ≡ Some e
   first_if_refused NotOfFormat h = rw (false_from_ne_true _ h) refl
   first_if_refused Unsupported h = rw (h.0, false_from_ne_true _ h.1) refl
   first_if_refused TooDeep h =
@@ -62,7 +62,7 @@ module _ (registry : Entries) (limits : Bounds) (s : Shape) (t : Tree) where
         h.distinct,
       ) refl
 
-  sound_or_refused : IsSound registry limits s t ⊎ ((e : EncodeFault) × Refuses registry limits s t e)
+  sound_or_refused : IsSound registry limits s t ⊎ ((e : EncodeFault) × RefusesValue registry limits s t e)
   sound_or_refused = elim (cases_Bool (fits true registry t (of s))) [
     | inr loose ↦ inr (NotOfFormat, λ h. false≢true (sym loose ∙ h))
     | inl loose ↦ elim (cases_Bool (fits false registry t (of s))) [

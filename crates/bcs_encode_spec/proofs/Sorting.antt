@@ -24,11 +24,11 @@ use Rattle.bcs_value_model.specs.Same.{same, all_pairs, distinct, pairs_distinct
 use Rattle.bcs_value_model.proofs.Equivalence.{same-sym, same-trans}
 use Rattle.bcs_encode_spec.specs.Plain.{plain, plain_pairs}
 use Rattle.bcs_encode_spec.specs.Canonical.{Rises, RisesFrom}
-use Rattle.bcs_encode_spec.specs.Entries.{HasBytes, Entry, entry_bytes, EntriesOf, EntriesRiseFrom, EntriesRise, HasTwins, SortedEntries, TwinsRepeat}
+use Rattle.bcs_encode_spec.specs.Entries.{EncodesWithoutLimits, Entry, entry_bytes, EntriesOf, EntriesRiseFrom, EntriesRise, HasTwins, SortedEntries, TwinsRepeat}
 use Rattle.bcs_encode_spec.proofs.BelowLaws.{order, not_below}
 use Rattle.bcs_encode_spec.proofs.EntryOrder.{one, one_same, Once, rising_once, twins_twice, once_moved, In, moved, rising_alike}
 use Rattle.bcs_encode_spec.proofs.UniqueForms.{canonical_same}
-use Rattle.bcs_encode_spec.specs.FormOf.{form_of, pairs_form, place, insert}
+use Rattle.bcs_encode_spec.proofs.CanonicalForm.{form_of, pairs_form, place, insert}
 use Rattle.bcs_encode_spec.proofs.FormOf.{insert_fold, same-form_of, fits-form_of, pair_count-pairs_form, form_is_canonical, pairs_form_is_canonical}
 use Rattle.bcs_encode_spec.proofs.FormLaws.{form_of_is_form, form_is_form_of}
 
@@ -184,11 +184,11 @@ module _ (registry : Entries) where
 -- ---- the bytes of a canonical form
 
 -- they are those of the form that is made by inserting
-pub has_bytes_of_form : (registry : Entries) (f : Content) (t : Tree) (b : List ℕ) → HasBytes registry f t b → b ≡ plain registry (form_of registry t f) f
+pub has_bytes_of_form : (registry : Entries) (f : Content) (t : Tree) (b : List ℕ) → EncodesWithoutLimits registry f t b → b ≡ plain registry (form_of registry t f) f
 has_bytes_of_form registry f t b h = sym h.bytes ∙ ap (λ (c : Tree). plain registry c f) (form_is_form_of registry f t h.form h.fit h.distinct h.is_form)
 
 pub form_has_bytes : (registry : Entries) (f : Content) (t : Tree) → fits false registry t f ≡ true → distinct t ≡ true
-    → HasBytes registry f t (plain registry (form_of registry t f) f)
+    → EncodesWithoutLimits registry f t (plain registry (form_of registry t f) f)
 form_has_bytes registry f t h d = record { fit = h; distinct = d; form = form_of registry t f; is_form = form_of_is_form registry f t h d; bytes = refl }
 
 -- ---- a map's entries

@@ -14,7 +14,7 @@ use Rattle.bcs_value_model.specs.Same.{same, all_pairs, distinct, all_distinct, 
 use Rattle.bcs_encode_spec.specs.Canonical.{Below, RisesFrom, Rises, IsCanonical, AllCanonical, EachCanonical, PairsCanonical}
 use Rattle.bcs_encode_spec.proofs.BelowLaws.{Below-irrefl, Below-trans}
 use Rattle.bcs_encode_spec.proofs.UniqueForms.{canonical_same, rises_tail}
-use Rattle.bcs_encode_spec.specs.FormOf.{form_of, items_form, each_form, pairs_form, insert}
+use Rattle.bcs_encode_spec.proofs.CanonicalForm.{form_of, items_form, each_form, pairs_form, insert}
 use Rattle.bcs_encode_spec.proofs.FormOf.{count-items_form, pair_count-pairs_form, insert_fold, and_swap}
 
 module _ (limit : ℕ) (registry : Entries) where

@@ -13,7 +13,7 @@ use Rattle.bcs_encode_spec.specs.Encodes.{IsForm}
 use Rattle.bcs_encode_spec.specs.Plain.{plain}
 
 -- b is the bytes of a canonical form of t, whose keys differ: what `Encodes` says, but for the limits
-pub record HasBytes (registry : Entries) (f : Content) (t : Tree) (b : List ℕ) : Type 0 where
+pub record EncodesWithoutLimits (registry : Entries) (f : Content) (t : Tree) (b : List ℕ) : Type 0 where
   pub fit : IsTrue (fits false registry t f)
   pub distinct : HasDistinctKeys t
   pub form : Tree
@@ -38,7 +38,7 @@ map_bytes count es = uleb count ++ flat_map entry_bytes es
 -- the encoded entries of these pairs, in their order
 abbrev pub EntriesOf : Entries → Shape → Shape → Pairs → List Entry → Type 0
 EntriesOf registry f g no_pairs [] = Unit {0}
-EntriesOf registry f g (pair k v ps) (e ∷ es) = HasBytes registry (of f) k e.0 × HasBytes registry (of g) v e.1 × EntriesOf registry f g ps es
+EntriesOf registry f g (pair k v ps) (e ∷ es) = EncodesWithoutLimits registry (of f) k e.0 × EncodesWithoutLimits registry (of g) v e.1 × EntriesOf registry f g ps es
 EntriesOf registry f g no_pairs (e ∷ es) = ⊥
 EntriesOf registry f g (pair k v ps) [] = ⊥
 
@@ -65,7 +65,7 @@ HasTwins (e ∷ d ∷ es) = (e.0 ≡ d.0) ⊎ HasTwins (d ∷ es)
 abbrev pub SortedEntries : Type 0
 SortedEntries = (registry : Entries) (f g : Shape) (ps : Pairs) (es rs : List Entry)
     → EntriesOf registry f g ps es → IsPermutation es rs → EntriesRise rs
-    → HasBytes registry (of (map f g)) (pairs ps) (map_bytes (pair_count ps) rs)
+    → EncodesWithoutLimits registry (of (map f g)) (pairs ps) (map_bytes (pair_count ps) rs)
 
 -- where two neighbours then have one key, a key stands twice in the map
 abbrev pub TwinsRepeat : Type 0

@@ -11,7 +11,7 @@ use Rattle.bcs_encode_spec.specs.Plain.{plain}
 use Rattle.bcs_encode_spec.specs.Canonical.{IsCanonical}
 use Rattle.bcs_encode_spec.specs.Lengths.{lengths_hold}
 use Rattle.bcs_encode_spec.specs.Sound.{IsSoundAt, IsSound}
-use Rattle.bcs_encode_spec.specs.Refused.{Refuses}
+use Rattle.bcs_encode_spec.specs.Refused.{RefusesValue}
 use Rattle.bcs_encode_spec.specs.Encodes.{IsForm, Encodes}
 use Rattle.bcs_encode_spec.specs.declared.fault.EncodeFault.{EncodeFault}
 
@@ -45,13 +45,13 @@ BytesDecide = (registry : Entries) (limits : Bounds) (s : Shape) (v w : Tree) (b
 -- no tree is refused for two reasons
 abbrev pub OneRefusal : Type 0
 OneRefusal = (registry : Entries) (limits : Bounds) (s : Shape) (t : Tree) (a b : EncodeFault)
-    → Refuses registry limits s t a → Refuses registry limits s t b → a ≡ b
+    → RefusesValue registry limits s t a → RefusesValue registry limits s t b → a ≡ b
 
 -- each tree is either sound, or refused for some reason
 abbrev pub RefusedOrSound : Type 0
 RefusedOrSound = (registry : Entries) (limits : Bounds) (s : Shape) (t : Tree)
-    → (IsSound registry limits s t ⊎ ((reason : EncodeFault) × Refuses registry limits s t reason))
-    × ((reason : EncodeFault) → IsSound registry limits s t → Refuses registry limits s t reason → ⊥)
+    → (IsSound registry limits s t ⊎ ((reason : EncodeFault) × RefusesValue registry limits s t reason))
+    × ((reason : EncodeFault) → IsSound registry limits s t → RefusesValue registry limits s t reason → ⊥)
 
 -- what is sound at a registry is sound at one that it grows to
 abbrev pub GrowthKeepsSoundness : Type 0

@@ -6,4 +6,3 @@ pub mod Encodes
 pub mod Entries
 pub mod Refused
 pub mod Laws
-pub mod FormOf

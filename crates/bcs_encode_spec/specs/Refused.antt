@@ -22,12 +22,12 @@ pub record IsSoundBesidesKeys (registry : Entries) (limits : Bounds) (s : Shape)
   pub lengths : LengthsHold registry s t
 
 -- the value is refused for this reason: each speaks where no earlier one does
-abbrev pub Refuses : Entries → Bounds → Shape → Tree → EncodeFault → Type 0
-Refuses registry limits s t NotOfFormat = ¬ FitsLoosely registry s t
-Refuses registry limits s t Unsupported = FitsLoosely registry s t × (¬ Fits registry s t)
-Refuses registry limits s t TooDeep = Fits registry s t × (limits.depth < depth t)
-Refuses registry limits s t TooManyNodes = Fits registry s t × (depth t ≤ limits.depth) × (limits.nodes < nodes t)
-Refuses registry limits s t TooLong =
+abbrev pub RefusesValue : Entries → Bounds → Shape → Tree → EncodeFault → Type 0
+RefusesValue registry limits s t NotOfFormat = ¬ FitsLoosely registry s t
+RefusesValue registry limits s t Unsupported = FitsLoosely registry s t × (¬ Fits registry s t)
+RefusesValue registry limits s t TooDeep = Fits registry s t × (limits.depth < depth t)
+RefusesValue registry limits s t TooManyNodes = Fits registry s t × (depth t ≤ limits.depth) × (limits.nodes < nodes t)
+RefusesValue registry limits s t TooLong =
     Fits registry s t × (depth t ≤ limits.depth) × (nodes t ≤ limits.nodes) × (¬ LengthsHold registry s t)
-Refuses registry limits s t RepeatedKey = IsSoundBesidesKeys registry limits s t × (¬ HasDistinctKeys t)
-Refuses registry limits s t OutOfMemory = ⊥
+RefusesValue registry limits s t RepeatedKey = IsSoundBesidesKeys registry limits s t × (¬ HasDistinctKeys t)
+RefusesValue registry limits s t OutOfMemory = ⊥

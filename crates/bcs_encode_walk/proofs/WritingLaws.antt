@@ -18,7 +18,7 @@ use Rattle.bcs_encode_spec.specs.Entries.{Entry, EntriesOf, entry_bytes, map_byt
 use Rattle.bcs_encode_walk.specs.Writing.{Verdict, chain, length_written, in_order, sorted_entries_written, shape_count, written, items_written, each_written, entries_written}
 use Rattle.bcs_encode_spec.specs.declared.fault.EncodeFault.{EncodeFault}
 use Rattle.bcs_encode_spec.specs.declared.fault.EncodeFault.TheVariants.{RepeatedKey}
-use Rattle.bcs_encode_spec.specs.FormOf.{form_of, items_form, each_form}
+use Rattle.bcs_encode_spec.proofs.CanonicalForm.{form_of, items_form, each_form}
 use Rattle.bcs_encode_spec.proofs.FormOf.{count-items_form}
 use Rattle.bcs_encode_spec.proofs.Sorting.{form_entries, form_has_bytes, has_bytes_of_form, sorted_entries, twins_repeat}
 use Rattle.bcs_encode_walk.proofs.EntryArranging.{in_order_moves, in_order_rises_or_twins, sorted_written, twins_written}

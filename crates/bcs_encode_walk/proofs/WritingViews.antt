@@ -18,7 +18,7 @@ use Rattle.bcs_value_model.specs.Tree as tree
 use Rattle.bcs_value_model.specs.Tree.{Tree}
 use Rattle.bcs_value_model.specs.View.{tree_of, items_trees, entries_pairs}
 use Rattle.bcs_value_model.specs.declared.value.Value.{Value, Items, Pairs, Variant}
-use Rattle.bcs_encode_walk.specs.Writing.{Tells, chain, length_written, sorted_entries_written, shape_count, written, items_written, each_written, entries_written}
+use Rattle.bcs_encode_walk.specs.Writing.{ReportsVerdict, chain, length_written, sorted_entries_written, shape_count, written, items_written, each_written, entries_written}
 use Rattle.bcs_encode_spec.specs.declared.fault.EncodeFault.{EncodeFault}
 use Rattle.bcs_encode_spec.specs.declared.fault.EncodeFault.TheVariants.{NotOfFormat}
 use Rattle.bcs_value_model.proofs.WalkViews.{count_items, count_pairs, at_enum, at_map, at_list, at_array, choice-found, choice-missing}
@@ -32,8 +32,8 @@ count_fields [] = refl
 count_fields (f ∷ fs) = ap suc (count_fields fs)
 
 -- a call tells a verdict that is equal
-pub tells_along : {A B : Type 0} (r : Result A EncodeFault) (v w : Result B EncodeFault) (new : B) → v ≡ w → Tells r w new → Tells r v new
-tells_along {B = B} r v w new e h = subst (λ (x : Result B EncodeFault). Tells r x new) (sym e) h
+pub tells_along : {A B : Type 0} (r : Result A EncodeFault) (v w : Result B EncodeFault) (new : B) → v ≡ w → ReportsVerdict r w new → ReportsVerdict r v new
+tells_along {B = B} r v w new e h = subst (λ (x : Result B EncodeFault). ReportsVerdict r x new) (sym e) h
 
 pub nothing_written : (r : Entries) (t : Tree) (b : List ℕ) → written r t nothing b ≡ Err NotOfFormat
 nothing_written r tree.unit b = refl

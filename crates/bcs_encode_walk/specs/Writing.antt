@@ -1,5 +1,5 @@
 -- What the writing of a value makes of the bytes before it: those bytes with the value's after them, or a fault. These
--- functions carry the proofs of the encoder; the public contracts name `Encodes` and `Refuses` alone.
+-- functions carry the proofs of the encoder; the public contracts name `Encodes` and `RefusesValue` alone.
 use Rattle.std.specs.Prelude.{◌≡◌, ℕ, ℤ, suc, ◌==◌, nat_le, if◌then◌else◌, List, [], ◌∷◌, ◌++◌, length, Result, Ok, Err}
 use Rattle.std.specs.List.{flat_map}
 use Rattle.std.specs.Int.{Width}
@@ -26,9 +26,9 @@ chain (Ok a) rest = rest a
 chain (Err e) rest = Err e
 
 -- what a call answered is the verdict, unless memory ran out
-abbrev pub Tells : {A B : Type 0} → Result A EncodeFault → Result B EncodeFault → B → Type 0
-Tells (Ok a) verdict new = verdict ≡ Ok new
-Tells (Err e) verdict new = (e ≡ OutOfMemory → ⊥) → verdict ≡ Err e
+abbrev pub ReportsVerdict : {A B : Type 0} → Result A EncodeFault → Result B EncodeFault → B → Type 0
+ReportsVerdict (Ok a) verdict new = verdict ≡ Ok new
+ReportsVerdict (Err e) verdict new = (e ≡ OutOfMemory → ⊥) → verdict ≡ Err e
 
 -- ---- values with no parts
 

@@ -8,7 +8,7 @@ ghost use Rattle.bcs_value_model.specs.View.{entries_pairs, items_trees, tree_of
 ghost use Rattle.bcs_encode_walk.specs.Laying.{entry_of};
 ghost use Rattle.bcs_encode_walk.specs.Writing as spec;
 ghost use Rattle.bcs_keys.specs.Order.{has_twins};
-ghost use Rattle.bcs_encode_walk.specs.Writing.{Tells, sorted_entries_written};
+ghost use Rattle.bcs_encode_walk.specs.Writing.{ReportsVerdict, sorted_entries_written};
 ghost use Rattle.std.specs.List.{flat_map};
 ghost use Rattle.std.specs.List.Sorted.{IsPermutation, IsSortedByKey};
 ghost use Rattle.std.specs.Ordering.{nat_cmp};
@@ -31,7 +31,7 @@ pub fn push_value(
     format: &Format,
     out: &mut Vec<u8>,
 ) -> Result<(), EncodeFault>
-    ensures { Tells result (spec.written registry.now (tree_of value.now) (of (shape_of format.now)) out.old.items) out.new.items }
+    ensures { ReportsVerdict result (spec.written registry.now (tree_of value.now) (of (shape_of format.now)) out.old.items) out.new.items }
 {
     match (value, format) {
         (_, Format::F32 | Format::F64 | Format::Char) => Err(EncodeFault::NotOfFormat),
@@ -90,7 +90,7 @@ fn push_content(
     container: &Container,
     out: &mut Vec<u8>,
 ) -> Result<(), EncodeFault>
-    ensures { Tells result (spec.written registry.now (tree_of value.now) (content (container_of container.now)) out.old.items) out.new.items }
+    ensures { ReportsVerdict result (spec.written registry.now (tree_of value.now) (content (container_of container.now)) out.old.items) out.new.items }
 {
     match (container, value) {
         (Container::UnitStruct, Value::Unit) => Ok(()),
@@ -121,7 +121,7 @@ fn push_payload(
     payload: &VariantFormat,
     out: &mut Vec<u8>,
 ) -> Result<(), EncodeFault>
-    ensures { Tells result (spec.written registry.now (tree_of value.now) (of (payload_shape (payload_of payload.now))) out.old.items) out.new.items }
+    ensures { ReportsVerdict result (spec.written registry.now (tree_of value.now) (of (payload_shape (payload_of payload.now))) out.old.items) out.new.items }
 {
     match (payload, value) {
         (VariantFormat::Unit, Value::Unit) => Ok(()),
@@ -145,7 +145,7 @@ fn push_all(
     element: &Format,
     out: &mut Vec<u8>,
 ) -> Result<(), EncodeFault>
-    ensures { Tells result (spec.items_written registry.now (items_trees items.now) (shape_of element.now) out.old.items) out.new.items }
+    ensures { ReportsVerdict result (spec.items_written registry.now (items_trees items.now) (shape_of element.now) out.old.items) out.new.items }
 {
     for item in items {
         push_value(item, alloc, registry, element, out)?;
@@ -163,7 +163,7 @@ fn push_each(
     formats: &[Format],
     out: &mut Vec<u8>,
 ) -> Result<(), EncodeFault>
-    ensures { Tells result (spec.written registry.now (items_tree (items_trees items.now)) (of (tuple (formats_shapes formats.now))) out.old.items) out.new.items }
+    ensures { ReportsVerdict result (spec.written registry.now (items_tree (items_trees items.now)) (of (tuple (formats_shapes formats.now))) out.old.items) out.new.items }
 {
     if items.len() != formats.len() {
         return Err(EncodeFault::NotOfFormat);
@@ -184,7 +184,7 @@ fn push_fields(
     fields: &[Named<Format>],
     out: &mut Vec<u8>,
 ) -> Result<(), EncodeFault>
-    ensures { Tells result (spec.written registry.now (items_tree (items_trees items.now)) (of (tuple (field_shapes (map field_of fields.now)))) out.old.items) out.new.items }
+    ensures { ReportsVerdict result (spec.written registry.now (items_tree (items_trees items.now)) (of (tuple (field_shapes (map field_of fields.now)))) out.old.items) out.new.items }
 {
     if items.len() != fields.len() {
         return Err(EncodeFault::NotOfFormat);
@@ -205,7 +205,7 @@ fn collect_entries(
     value: &Format,
     entries: &mut Vec<EntryBytes>,
 ) -> Result<(), EncodeFault>
-    ensures { Tells result
+    ensures { ReportsVerdict result
         (spec.entries_written registry.now (entries_pairs pairs.now) (shape_of key.now) (shape_of value.now) (map entry_of entries.old.items))
         (map entry_of entries.new.items) }
 {
@@ -231,7 +231,7 @@ pub struct EntryBytes {
 
 /// Appends the entries by rising keys, or refuses two with one key.
 fn push_in_order(mut entries: Vec<EntryBytes>, out: &mut Vec<u8>) -> Result<(), EncodeFault>
-    ensures { Tells result (sorted_entries_written (map entry_of entries.items) out.old.items) out.new.items }
+    ensures { ReportsVerdict result (sorted_entries_written (map entry_of entries.items) out.old.items) out.new.items }
 {
     sort_by_keys(&mut entries);
     if have_equal_neighbours(&entries) {
@@ -260,7 +260,7 @@ fn have_equal_neighbours(entries: &[EntryBytes]) -> bool
 }
 
 fn push_entries(entries: &[EntryBytes], out: &mut Vec<u8>) -> Result<(), EncodeFault>
-    ensures { Tells result (Ok (out.old.items ++ flat_map entry_bytes (map entry_of entries.now))) out.new.items }
+    ensures { ReportsVerdict result (Ok (out.old.items ++ flat_map entry_bytes (map entry_of entries.now))) out.new.items }
 {
     for entry in entries {
         out.extend_from_slice(&entry.key)?;

@@ -3,14 +3,14 @@ ghost use Rattle.std.specs.Prelude.{◌≡◌, ◌+◌, ◌<◌, ◌≤◌, ◌+
 ghost use Rattle.std.specs.Int.{byte_len};
 ghost use Rattle.bcs_num.specs.Le.{width_of};
 ghost use Rattle.bcs_num.specs.Uleb.{uleb};
-ghost use Rattle.bcs_encode_walk.specs.Writing.{Tells, length_written, bytes_written, signed_written, unsigned_written};
+ghost use Rattle.bcs_encode_walk.specs.Writing.{ReportsVerdict, length_written, bytes_written, signed_written, unsigned_written};
 
 use bcs_encode_spec::EncodeFault;
 use bcs_num::{GREATEST_LEN, LENGTH_LIMIT, Width, put_le, put_le_signed, put_uleb};
 
 /// Appends one byte.
 pub fn push_byte(byte: u8, out: &mut Vec<u8>) -> Result<(), EncodeFault>
-    ensures { Tells result (Ok (out.old.items ++ byte ∷ [])) out.new.items }
+    ensures { ReportsVerdict result (Ok (out.old.items ++ byte ∷ [])) out.new.items }
 {
     out.push(byte)?;
     Ok(())
@@ -18,7 +18,7 @@ pub fn push_byte(byte: u8, out: &mut Vec<u8>) -> Result<(), EncodeFault>
 
 /// Appends a number by ULEB128.
 pub fn push_number(number: u32, out: &mut Vec<u8>) -> Result<(), EncodeFault>
-    ensures { Tells result (Ok (out.old.items ++ uleb number)) out.new.items }
+    ensures { ReportsVerdict result (Ok (out.old.items ++ uleb number)) out.new.items }
 {
     let mut bytes = [0; 5];
     let len = put_uleb(number, &mut bytes);
@@ -28,7 +28,7 @@ pub fn push_number(number: u32, out: &mut Vec<u8>) -> Result<(), EncodeFault>
 
 /// Appends a length by ULEB128, or refuses one above the limit.
 pub fn push_length(length: usize, out: &mut Vec<u8>) -> Result<(), EncodeFault>
-    ensures { Tells result (length_written length out.old.items) out.new.items }
+    ensures { ReportsVerdict result (length_written length out.old.items) out.new.items }
 {
     if length > LENGTH_LIMIT {
         return Err(EncodeFault::TooLong);
@@ -38,7 +38,7 @@ pub fn push_length(length: usize, out: &mut Vec<u8>) -> Result<(), EncodeFault>
 
 /// Appends bytes, their length first.
 pub fn push_bytes(bytes: &[u8], out: &mut Vec<u8>) -> Result<(), EncodeFault>
-    ensures { Tells result (bytes_written bytes.now out.old.items) out.new.items }
+    ensures { ReportsVerdict result (bytes_written bytes.now out.old.items) out.new.items }
 {
     push_length(bytes.len(), out)?;
     out.extend_from_slice(bytes)?;
@@ -49,7 +49,7 @@ pub fn push_bytes(bytes: &[u8], out: &mut Vec<u8>) -> Result<(), EncodeFault>
 /// vector has room for as many bytes.
 #[tactic(auto, using(crate::proofs::NumberViews::one_byte))]
 pub fn push_unsigned(width: Width, number: u128, out: &mut Vec<u8>) -> Result<(), EncodeFault>
-    ensures tells { Tells result (unsigned_written (width_of width) number out.old.items) out.new.items }
+    ensures tells { ReportsVerdict result (unsigned_written (width_of width) number out.old.items) out.new.items }
     ensures len { OnOk result (vec_len out.new ≡ vec_len out.old + byte_len (width_of width)) }
     ensures capacity { vec_capacity out.old ≤ vec_capacity out.new }
     ensures full { IsErrOf result EncodeFault.OutOfMemory
@@ -71,7 +71,7 @@ pub fn push_unsigned(width: Width, number: u128, out: &mut Vec<u8>) -> Result<()
 /// Appends a signed number in its width, or refuses one that the width can't hold. No memory is asked for where the
 /// vector has room for as many bytes.
 pub fn push_signed(width: Width, number: i128, out: &mut Vec<u8>) -> Result<(), EncodeFault>
-    ensures tells { Tells result (signed_written (width_of width) number out.old.items) out.new.items }
+    ensures tells { ReportsVerdict result (signed_written (width_of width) number out.old.items) out.new.items }
     ensures len { OnOk result (vec_len out.new ≡ vec_len out.old + byte_len (width_of width)) }
     ensures capacity { vec_capacity out.old ≤ vec_capacity out.new }
     ensures full { IsErrOf result EncodeFault.OutOfMemory

@@ -1,11 +1,11 @@
 -- Blocks that were read one after the other.
 use Rattle.std.proofs.Common.{◌≡◌, ℕ, ◌+◌, ◌<◌, ◌≤◌, Bool, true, List, [], ◌∷◌, ◌++◌, length, take, Option, Result, Ok, Err, nat_lt, sym, ap, subst, ◌∙◌, inl, inr, append_assoc, arith, drop, length-take-le}
 use Rattle.std.proofs.lemmas.List.{append-nil, nil_from_length}
-use Rattle.bcs_io.specs.Giving.{Took}
-use Rattle.bcs_io.proofs.GivingLemmas.{Took-then}
+use Rattle.bcs_io.specs.Giving.{Gave}
+use Rattle.bcs_io.proofs.GivingLemmas.{Gave-then}
 use Rattle.bcs_io.specs.Advancing.{TakesLine, IsTooLong, RunsOut}
 use Rattle.bcs_io.specs.Blocks.{GivesBlock, ReadsBlock}
-use Rattle.bcs_io.specs.Held.{Held, IsFirstLineFeed}
+use Rattle.bcs_io.specs.Held.{HeldLine, IsFirstLineFeed}
 use Rattle.bcs_io.specs.Lines.{HasNoLineFeed, before_block, block_size}
 use Rattle.bcs_io.proofs.Ahead.{block_behind, rest_behind}
 use Rattle.bcs_io.specs.declared.next_fault.NextFault.{NextFault}
@@ -19,7 +19,7 @@ module _ {S : Type 0} (content : S → Option (List ℕ)) (is_failed : S → Boo
   -- these bytes were given so far, and stand behind the rest
   pub record Reads (old new : S) (before after : List ℕ) : Type 0 where
     pub given : List ℕ
-    pub took : Took content is_failed allowance old new given
+    pub took : Gave content is_failed allowance old new given
     pub rest : after ≡ before ++ given
     pub ahead : HasNoLineFeed (before_block before) → HasNoLineFeed (before_block after)
 
@@ -27,27 +27,27 @@ module _ {S : Type 0} (content : S → Option (List ℕ)) (is_failed : S → Boo
       → GivesBlock content is_failed allowance b c between after count → HasNoLineFeed between → Reads a c before after
   Reads-then a b c before between after count p q plain = record {
     given = p.given ++ q.given;
-    took = Took-then content is_failed allowance a b c p.given q.given p.took q.took;
+    took = Gave-then content is_failed allowance a b c p.given q.given p.took q.took;
     rest = q.rest ∙ ap (λ (l : List ℕ). l ++ q.given) p.rest ∙ append_assoc before p.given q.given;
     ahead = λ _. subst (λ (l : List ℕ). HasNoLineFeed (before_block l)) (sym q.rest) (block_behind between q.given plain (omega (arith, q.many, q.within)));
   }
 
   -- a line feed was found
-  pub Reads-line : (limit : ℕ) (a b : S) (before between after : Held) (count : ℕ) → Reads a b before.rest between.rest
+  pub Reads-line : (limit : ℕ) (a b : S) (before between after : HeldLine) (count : ℕ) → Reads a b before.rest between.rest
       → IsFirstLineFeed between.rest count → count ≤ limit → after ≡ record { line = take count between.rest; rest = drop (count + 1) between.rest }
       → TakesLine content is_failed allowance limit a b before after
   Reads-line limit a b before between after count p first within is =
-      let line : after.line ≡ take count between.rest = ap (λ (h : Held). h.line) is in
+      let line : after.line ≡ take count between.rest = ap (λ (h : HeldLine). h.line) is in
       record {
         given = p.given;
         took = p.took;
         plain = subst HasNoLineFeed (sym line) first.before;
         within = omega (arith, ap (λ (l : List ℕ). length l) line, length-take-le count between.rest (omega (arith, first.inside)), within);
-        parts = inl (sym p.rest ∙ first.parts ∙ ap (λ (h : Held). h.line ++ 10 ∷ h.rest) (sym is));
-        ahead = λ before. subst (λ (l : List ℕ). length l < block_size) (sym (ap (λ (h : Held). h.rest) is)) (rest_behind between.rest count first (p.ahead before));
+        parts = inl (sym p.rest ∙ first.parts ∙ ap (λ (h : HeldLine). h.line ++ 10 ∷ h.rest) (sym is));
+        ahead = λ before. subst (λ (l : List ℕ). length l < block_size) (sym (ap (λ (h : HeldLine). h.rest) is)) (rest_behind between.rest count first (p.ahead before));
       }
 
-  pub Reads-too_long : (limit : ℕ) (a b : S) (before after : Held) → Reads a b before.rest after.rest
+  pub Reads-too_long : (limit : ℕ) (a b : S) (before after : HeldLine) → Reads a b before.rest after.rest
       → limit < length after.rest → HasNoLineFeed (take (limit + 1) after.rest)
       → IsTooLong content is_failed allowance limit a b before after
   Reads-too_long limit a b before after p long plain = record {
@@ -60,7 +60,7 @@ module _ {S : Type 0} (content : S → Option (List ℕ)) (is_failed : S → Boo
   }
 
   -- memory runs out behind what was read before
-  pub Reads-runs_out : (a b c : S) (before between : Held) (after : List ℕ) (result : Result ℕ NextFault) → Reads a b before.rest between.rest
+  pub Reads-runs_out : (a b c : S) (before between : HeldLine) (after : List ℕ) (result : Result ℕ NextFault) → Reads a b before.rest between.rest
       → ReadsBlock content is_failed allowance b c between.rest after result → result ≡ Err OutOfMemory
       → HasNoLineFeed between.rest → RunsOut content is_failed allowance a c before
   Reads-runs_out a b c before between after (Ok n) p q is plain = cc
@@ -68,21 +68,21 @@ module _ {S : Type 0} (content : S → Option (List ℕ)) (is_failed : S → Boo
   Reads-runs_out a b c before between after (Err TooLong) p q is plain = absurd q
   Reads-runs_out a b c before between after (Err OutOfMemory) p q is plain = record {
     given = p.given ++ q.given;
-    took = Took-then content is_failed allowance a b c p.given q.given p.took q.took;
+    took = Gave-then content is_failed allowance a b c p.given q.given p.took q.took;
     works = q.works;
     ahead = subst (λ (l : List ℕ). HasNoLineFeed (before_block l)) (ap (λ (l : List ℕ). l ++ q.given) p.rest ∙ append_assoc before.rest p.given q.given)
         (block_behind between.rest q.given plain q.within);
   }
 
   -- at the end of the content, what was read is the last line
-  pub Reads-last : (limit : ℕ) (a b c : S) (before between read after : Held) (count : ℕ) → Reads a b before.rest between.rest
+  pub Reads-last : (limit : ℕ) (a b c : S) (before between read after : HeldLine) (count : ℕ) → Reads a b before.rest between.rest
       → GivesBlock content is_failed allowance b c between.rest read.rest count → count ≡ 0
       → HasNoLineFeed between.rest → length between.rest ≤ limit → after ≡ record { line = read.rest; rest = [] }
       → nat_lt 0 (length read.rest) ≡ true → TakesLine content is_failed allowance limit a c before after
   Reads-last limit a b c before between read after count p q none plain within is some =
       let all = Reads-then a b c before.rest between.rest read.rest count p q plain in
       let same : read.rest ≡ between.rest = q.rest ∙ ap (λ (l : List ℕ). between.rest ++ l) (nil_from_length q.given (q.many ∙ none)) ∙ append-nil between.rest in
-      let line : after.line ≡ read.rest = ap (λ (h : Held). h.line) is in
+      let line : after.line ≡ read.rest = ap (λ (h : HeldLine). h.line) is in
       record {
         given = all.given;
         took = all.took;
@@ -91,9 +91,9 @@ module _ {S : Type 0} (content : S → Option (List ℕ)) (is_failed : S → Boo
         parts = inr (record {
           line = sym all.rest ∙ sym line;
           some = λ e. some_long read.rest some (sym line ∙ e);
-          rest = ap (λ (h : Held). h.rest) is;
+          rest = ap (λ (h : HeldLine). h.rest) is;
           ends = q.ends none;
           works = q.works;
         });
-        ahead = λ _. omega (arith, ap (λ (h : Held). length h.rest) is);
+        ahead = λ _. omega (arith, ap (λ (h : HeldLine). length h.rest) is);
       }

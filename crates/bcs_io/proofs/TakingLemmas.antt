@@ -1,7 +1,7 @@
 -- Bytes that a sink took in several calls.
 use Rattle.std.proofs.Common.{ℕ, Bool, List, [], ◌++◌, Option, refl, ◌∙◌}
 use Rattle.std.proofs.KnownBytes.{Appends-nil, Appends-trans}
-use Rattle.bcs_io.specs.Taking.{Took, Lost}
+use Rattle.bcs_io.specs.Taking.{Took, TookThenFailed}
 
 module _ {K : Type 0} (taken : K → Option (List ℕ)) (is_failed : K → Bool) where
   -- no call takes nothing
@@ -14,8 +14,8 @@ module _ {K : Type 0} (taken : K → Option (List ℕ)) (is_failed : K → Bool)
     kept = q.kept ∙ p.kept;
   }
 
-  pub Lost-then : (a b c : K) (xs ys : List ℕ) → Took taken is_failed a b xs → Lost taken is_failed b c ys → Lost taken is_failed a c (xs ++ ys)
-  Lost-then a b c xs ys p q = record {
+  pub TookThenFailed-then : (a b c : K) (xs ys : List ℕ) → Took taken is_failed a b xs → TookThenFailed taken is_failed b c ys → TookThenFailed taken is_failed a c (xs ++ ys)
+  TookThenFailed-then a b c xs ys p q = record {
     appended = Appends-trans (taken a) (taken b) (taken c) xs ys p.appended q.appended;
     after = q.after;
   }

@@ -1,7 +1,7 @@
 -- What reading one block takes of a source.
 use Rattle.std.specs.Prelude.{◌≡◌, ◌≤◌, ℕ, Bool, false, List, [], ◌++◌, length, Option, Result, Ok, Err}
 use Rattle.std.specs.Io.KnownBytes.{IsAtEnd}
-use Rattle.bcs_io.specs.Giving.{Took, Lost}
+use Rattle.bcs_io.specs.Giving.{Gave, GaveThenFailed}
 use Rattle.bcs_io.specs.Lines.{block_size}
 use Rattle.bcs_io.specs.declared.next_fault.NextFault.{NextFault}
 use Rattle.bcs_io.specs.declared.next_fault.NextFault.TheVariants.{Read, TooLong, OutOfMemory}
@@ -10,7 +10,7 @@ module _ {S : Type 0} (content : S → Option (List ℕ)) (is_failed : S → Boo
   -- these bytes were given, and stand behind the rest
   pub record GivesBlock (old new : S) (before after : List ℕ) (count : ℕ) : Type 0 where
     pub given : List ℕ
-    pub took : Took content is_failed allowance old new given
+    pub took : Gave content is_failed allowance old new given
     pub works : is_failed new ≡ false
     pub rest : after ≡ before ++ given
     pub many : length given ≡ count
@@ -18,12 +18,12 @@ module _ {S : Type 0} (content : S → Option (List ℕ)) (is_failed : S → Boo
     pub ends : count ≡ 0 → IsAtEnd (content new)
 
   pub record FailsAtBlock (old new : S) (before after : List ℕ) : Type 0 where
-    pub lost : Lost content is_failed allowance old new []
+    pub lost : GaveThenFailed content is_failed allowance old new []
     pub rest : after ≡ before
 
   pub record LosesBlock (old new : S) : Type 0 where
     pub given : List ℕ
-    pub took : Took content is_failed allowance old new given
+    pub took : Gave content is_failed allowance old new given
     pub works : is_failed new ≡ false
     pub within : length given ≤ block_size
 

@@ -4,13 +4,13 @@ use Rattle.std.specs.Io.KnownBytes.{Consumes, IsAtEnd}
 
 module _ {S : Type 0} (content : S → Option (List ℕ)) (is_failed : S → Bool) (allowance : S → ℕ) where
   -- exactly these bytes were given, by any number of calls, none of which failed
-  pub record Took (old new : S) (bytes : List ℕ) : Type 0 where
+  pub record Gave (old new : S) (bytes : List ℕ) : Type 0 where
     pub front : Consumes (content old) (content new) bytes
     pub kept : is_failed new ≡ is_failed old
     pub less : length bytes + allowance new ≤ allowance old
 
   -- exactly these bytes were given, and then a call failed
-  pub record Lost (old new : S) (bytes : List ℕ) : Type 0 where
+  pub record GaveThenFailed (old new : S) (bytes : List ℕ) : Type 0 where
     pub front : Consumes (content old) (content new) bytes
     pub after : is_failed new ≡ true
     pub less : length bytes + allowance new ≤ allowance old
@@ -20,5 +20,5 @@ module _ {S : Type 0} (content : S → Option (List ℕ)) (is_failed : S → Boo
   -- does once a call has failed
   abbrev pub Gives : {E : Type 0} → S → S → Result ℕ E → List ℕ → Type 0
   Gives old new (Ok n) buf =
-      (n ≤ length buf) × (is_failed old ≡ false) × Took old new (take n buf) × (n ≡ 0 → 0 < length buf → IsAtEnd (content new))
-  Gives old new (Err e) buf = Lost old new []
+      (n ≤ length buf) × (is_failed old ≡ false) × Gave old new (take n buf) × (n ≡ 0 → 0 < length buf → IsAtEnd (content new))
+  Gives old new (Err e) buf = GaveThenFailed old new []

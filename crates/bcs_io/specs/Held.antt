@@ -2,7 +2,7 @@
 use Rattle.std.specs.Prelude.{◌≡◌, ℕ, ◌+◌, ◌<◌, List, ◌∷◌, ◌++◌, length, take, drop, Option, MatchOption}
 use Rattle.bcs_io.specs.Lines.{HasNoLineFeed}
 
-pub record Held : Type 0 where
+pub record HeldLine : Type 0 where
   -- the line that was read last
   pub line : List ℕ
   -- the bytes that were read behind it

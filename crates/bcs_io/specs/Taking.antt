@@ -9,7 +9,7 @@ module _ {K : Type 0} (taken : K → Option (List ℕ)) (is_failed : K → Bool)
     pub kept : is_failed new ≡ is_failed old
 
   -- exactly these bytes were taken, and then a call failed
-  pub record Lost (old new : K) (bytes : List ℕ) : Type 0 where
+  pub record TookThenFailed (old new : K) (bytes : List ℕ) : Type 0 where
     pub appended : Appends (taken old) (taken new) bytes
     pub after : is_failed new ≡ true
 
@@ -18,4 +18,4 @@ module _ {K : Type 0} (taken : K → Option (List ℕ)) (is_failed : K → Bool)
   abbrev pub Takes : {E : Type 0} → K → K → List ℕ → Result ℕ E → Type 0
   Takes old new piece (Ok n) =
       (n ≤ length piece) × (0 < length piece → 0 < n) × (is_failed old ≡ false) × Took old new (take n piece)
-  Takes old new piece (Err e) = Lost old new []
+  Takes old new piece (Err e) = TookThenFailed old new []

@@ -1,7 +1,7 @@
 //! A buffer that reads the lines of a source.
 ghost use Rattle.std.specs.Prelude.{◌≡◌, ℕ, ◌+◌, ◌<◌, ◌≤◌, true, false, nat_lt, List, [], length, take, drop, slice_range, vec_len, Ok, Err};
 ghost use Rattle.bcs_io.specs.Lines.{HasNoLineFeed};
-ghost use Rattle.bcs_io.specs.Held.{Held, FindsLineFeed};
+ghost use Rattle.bcs_io.specs.Held.{HeldLine, FindsLineFeed};
 ghost use Rattle.bcs_io.specs.Advancing.{TakesLine, HasNoLine, FailsInLine, IsTooLong, RunsOut};
 ghost use Rattle.bcs_io.specs.Blocks.{ReadsBlock};
 
@@ -25,7 +25,7 @@ pub struct LineBuffer {
 
 // Clauses see the line, which stands from `start` to `end`, and the rest, from `next` on.
 impl Model for LineBuffer {
-    ghost Value = { Held };
+    ghost Value = { HeldLine };
 
     ghost view = { λ buffer. record {
       line = slice_range buffer.held.items buffer.start buffer.end;

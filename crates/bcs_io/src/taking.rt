@@ -1,7 +1,7 @@
 //! Taking the whole content of a source.
 ghost use Rattle.std.specs.Prelude.{◌≡◌, ◌+◌, ◌≤◌, ℕ, List, false, length, vec_len, IfOk, Err};
 ghost use Rattle.std.specs.Io.KnownBytes.{IsAtEnd};
-ghost use Rattle.bcs_io.specs.Giving.{Took, Lost};
+ghost use Rattle.bcs_io.specs.Giving.{Gave, GaveThenFailed};
 ghost use Rattle.bcs_io.specs.Notes.{take_note};
 
 use crate::source::ByteSource;
@@ -45,16 +45,16 @@ pub fn take_all<S: ByteSource>(
     input: &mut S,
     limit: u64,
 ) -> Result<Vec<u8>, TakeFault>
-    ensures whole { IfOk result (λ v. Took S.content S.is_failed S.allowance input.old input.new v.items
+    ensures whole { IfOk result (λ v. Gave S.content S.is_failed S.allowance input.old input.new v.items
         × IsAtEnd (S.content input.new) × (S.is_failed input.new ≡ false)) }
     ensures within { IfOk result (λ v. vec_len v ≤ limit) }
     ensures read { result ≡ Err TakeFault.Read → (bytes : List ℕ)
-        × Lost S.content S.is_failed S.allowance input.old input.new bytes × (length bytes ≤ limit) }
+        × GaveThenFailed S.content S.is_failed S.allowance input.old input.new bytes × (length bytes ≤ limit) }
     ensures too_large { result ≡ Err TakeFault.TooLarge → (bytes : List ℕ)
-        × Took S.content S.is_failed S.allowance input.old input.new bytes
+        × Gave S.content S.is_failed S.allowance input.old input.new bytes
         × (length bytes ≡ limit + 1) }
     ensures memory { result ≡ Err TakeFault.OutOfMemory → (bytes : List ℕ)
-        × Took S.content S.is_failed S.allowance input.old input.new bytes × (length bytes ≤ limit)
+        × Gave S.content S.is_failed S.allowance input.old input.new bytes × (length bytes ≤ limit)
         × (S.is_failed input.new ≡ false) }
 {
     let mut bytes = Vec::new(alloc);

@@ -30,7 +30,7 @@ use Rattle.bcs_json_spec.specs.declared.json_fault.JsonFault.{JsonFault}
 use Rattle.bcs_json_spec.specs.declared.json_fault.JsonFault.TheVariants.{OutOfMemory}
 use Rattle.bcs_json_spec.specs.Headline.{HasBytes, Compares, Normalises}
 use Rattle.bcs_json_spec.specs.JsonContent.{of}
-use Rattle.bcs_json_spec.specs.Place.{Step, value, parts, IsPlaceOf}
+use Rattle.bcs_json_spec.specs.Place.{PointerStep, value, parts, IsPlaceOf}
 use Rattle.bcs_json_spec.specs.Reading.{Tells, read_data}
 use Rattle.bcs_json_spec.specs.Shown.{shown}
 use Rattle.bcs_json_spec.specs.Texts.{nesting_limit, IsReadAs, SpelledBy, MisspellsAt, RefusesText, IsTextOf}
@@ -68,14 +68,14 @@ module _ (registry : Entries) (limits : Bounds) (s : Shape) (text : List ℕ) wh
 
   -- and a known way leads to where it is
   pub told_place : (d : Data) → IsReadAs text d → (n : ℕ) → n ≡ limits.depth → (r : Refusal) → Tells {X = Value} tree_of (Err r.fault) (read_data registry n (of s) d)
-      → IsPlaced {X = Value} registry (parts registry n (value (of s)) d) (Err r) → r.fault ≢ OutOfMemory → (path : List Step) → steps r.way ≡ Some path → MisspellsAt registry limits s text path r.fault
+      → IsPlaced {X = Value} registry (parts registry n (value (of s)) d) (Err r) → r.fault ≢ OutOfMemory → (path : List PointerStep) → steps r.way ≡ Some path → MisspellsAt registry limits s text path r.fault
   told_place d is n depth r tells placed other path known =
       let read : read_data registry limits.depth (of s) d ≡ Err r.fault = subst (λ m. read_data registry m (of s) d ≡ Err r.fault) depth (tells other) in
       let place : IsPlaceOf registry n (value (of s)) d path = subst (λ o. IfSome o (λ way. IsPlaceOf registry n (value (of s)) d way)) known (placed other) in
       (d, is, ((exact_data registry limits.depth (of s) d).err r.fault read, subst (λ m. IsPlaceOf registry m (value (of s)) d path) depth place))
 
   -- a fault of encoding what is spelled is one of the text
-  pub value_fault : IsOrderly registry → (t : Tree) → SpelledBy registry limits s text t → (e : EncodeFault) → (e ≢ encode_fault.OutOfMemory → encode.Refuses registry limits s t e)
+  pub value_fault : IsOrderly registry → (t : Tree) → SpelledBy registry limits s text t → (e : EncodeFault) → (e ≢ encode_fault.OutOfMemory → encode.RefusesValue registry limits s t e)
       → fault_of_value e ≢ OutOfMemory → RefusesText registry limits s text (fault_of_value e)
   value_fault orderly t spelled encode_fault.OutOfMemory h other = absurd (other refl)
   value_fault orderly t spelled e h other = refused_value registry limits s text orderly t spelled e (h (λ is. cc))

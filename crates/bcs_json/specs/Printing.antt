@@ -43,11 +43,11 @@ fault_of encoding.OutOfMemory = OutOfMemory
 
 -- the value has no text, for this reason: it has no encoding, or its text would nest too deep
 abbrev pub PrintRefuses : Entries → Bounds → Shape → Tree → PrintFault → Type 0
-PrintRefuses registry limits s t NotOfFormat = encode.Refuses registry limits s t encoding.NotOfFormat
-PrintRefuses registry limits s t Unsupported = encode.Refuses registry limits s t encoding.Unsupported
-PrintRefuses registry limits s t TooDeep = encode.Refuses registry limits s t encoding.TooDeep
-PrintRefuses registry limits s t TooManyNodes = encode.Refuses registry limits s t encoding.TooManyNodes
-PrintRefuses registry limits s t TooLong = encode.Refuses registry limits s t encoding.TooLong
-PrintRefuses registry limits s t RepeatedKey = encode.Refuses registry limits s t encoding.RepeatedKey
-PrintRefuses registry limits s t OutOfMemory = encode.Refuses registry limits s t encoding.OutOfMemory
+PrintRefuses registry limits s t NotOfFormat = encode.RefusesValue registry limits s t encoding.NotOfFormat
+PrintRefuses registry limits s t Unsupported = encode.RefusesValue registry limits s t encoding.Unsupported
+PrintRefuses registry limits s t TooDeep = encode.RefusesValue registry limits s t encoding.TooDeep
+PrintRefuses registry limits s t TooManyNodes = encode.RefusesValue registry limits s t encoding.TooManyNodes
+PrintRefuses registry limits s t TooLong = encode.RefusesValue registry limits s t encoding.TooLong
+PrintRefuses registry limits s t RepeatedKey = encode.RefusesValue registry limits s t encoding.RepeatedKey
+PrintRefuses registry limits s t OutOfMemory = encode.RefusesValue registry limits s t encoding.OutOfMemory
 PrintRefuses registry limits s t TooNested = IsShownTooDeep registry limits s t

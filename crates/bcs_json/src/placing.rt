@@ -1,7 +1,7 @@
 //! Where a text is refused.
 ghost use Rattle.std.specs.Prelude.{IfSome, map};
 ghost use Rattle.bcs_registry_model.specs.View.{shape_of};
-ghost use Rattle.bcs_json_spec.specs.Place.{step_of};
+ghost use Rattle.bcs_json_spec.specs.Place.{pointer_step_of};
 ghost use Rattle.bcs_json_spec.specs.Texts.{MisspellsAt, RefusesText};
 
 use crate::spelling::json_of;
@@ -23,7 +23,7 @@ pub fn fault_place(
     limits: &Limits,
     text: &[u8],
 ) -> Option<(JsonFault, Vec<JsonStep>)>
-    ensures place { IfSome result (λ r. MisspellsAt registry.now limits.now (shape_of format.now) text.now (map step_of r.1.items) r.0) }
+    ensures place { IfSome result (λ r. MisspellsAt registry.now limits.now (shape_of format.now) text.now (map pointer_step_of r.1.items) r.0) }
     ensures fault { IfSome result (λ r. RefusesText registry.now limits.now (shape_of format.now) text.now r.0) }
 {
     let json = json_of(alloc, text).ok()?;

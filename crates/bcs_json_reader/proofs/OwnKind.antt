@@ -8,7 +8,7 @@ use Rattle.bcs_registry_model.specs.Container.{Field, newtype, Choice, choice_ca
 use Rattle.bcs_value_model.specs.Tree as tree
 use Rattle.bcs_value_model.specs.Tree.{Tree, Trees, no_trees}
 use Rattle.bcs_json_spec.specs.Look.{item_count, shape_count}
-use Rattle.bcs_json_spec.specs.Place.{Part, option_parts, seq_parts, map_parts, tuple_parts, array_parts, struct_parts, enum_parts, pair_parts}
+use Rattle.bcs_json_spec.specs.Place.{JsonPart, option_parts, seq_parts, map_parts, tuple_parts, array_parts, struct_parts, enum_parts, pair_parts}
 use Rattle.bcs_json_spec.specs.Reading.{Read, follow, read_all, read_choice, read_enum, read_option, read_pair, read_seq, read_tuple}
 use Rattle.bcs_json_spec.specs.declared.json_fault.JsonFault.{JsonFault}
 use Rattle.bcs_json_spec.proofs.Exact.{not_both}
@@ -28,7 +28,7 @@ no_array j e h ds is =
     not_both (tree.items all.0) e (read_seq true takes j) (ap (read_seq true takes) is ∙ ap (λ (x : Read Trees). follow x (λ ts. Ok (tree.items ts))) all.1) (h true takes)
 
 module _ (left : ℕ) where
-  option_at : (b : Bool) (e : JsonFault) (ps : List Part) → (if b then Ok (tree.present tree.unit) else Err BadShape) ≡ Err e → (if b then ps else []) ≡ []
+  option_at : (b : Bool) (e : JsonFault) (ps : List JsonPart) → (if b then Ok (tree.present tree.unit) else Err BadShape) ≡ Err e → (if b then ps else []) ≡ []
   option_at true e ps h = cc
   option_at false e ps h = refl
 
@@ -48,7 +48,7 @@ module _ (left : ℕ) where
   map_none k v (array ds) other = absurd (other ds refl)
   map_none k v _ other = refl
 
-  tuple_at : (b : Bool) (e : JsonFault) (ps : List Part) → (if b then Ok (tree.items no_trees) else Err BadShape) ≡ Err e → (if b then ps else []) ≡ []
+  tuple_at : (b : Bool) (e : JsonFault) (ps : List JsonPart) → (if b then Ok (tree.items no_trees) else Err BadShape) ≡ Err e → (if b then ps else []) ≡ []
   tuple_at true e ps h = cc
   tuple_at false e ps h = refl
 

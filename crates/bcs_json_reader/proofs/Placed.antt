@@ -3,7 +3,7 @@ use Rattle.std.proofs.Common.{◌≡◌, ◌≢◌, ◌∙◌, List, [], ◌∷�
 use Rattle.std.specs.Result.{result_err}
 use Rattle.std.proofs.lemmas.List.Elements.{All-nil}
 use Rattle.bcs_registry_model.specs.Container.{Entries}
-use Rattle.bcs_json_spec.specs.Place.{Step, Part, parts, IsGood, IsPlaceAmong}
+use Rattle.bcs_json_spec.specs.Place.{PointerStep, JsonPart, parts, IsGood, IsPlaceAmong}
 use Rattle.bcs_json_spec.specs.Reading.{Read, Tells}
 use Rattle.bcs_json_spec.specs.declared.json_fault.JsonFault.{JsonFault}
 use Rattle.bcs_json_spec.specs.declared.json_fault.JsonFault.TheVariants.{OutOfMemory}
@@ -31,33 +31,33 @@ err_is e g r h k = cc
 
 module _ (registry : Entries) where
   -- a known way leads to the place among these parts
-  abbrev pub IsWay : List Part → Refusal → Type 0
+  abbrev pub IsWay : List JsonPart → Refusal → Type 0
   IsWay ps r = r.fault ≢ OutOfMemory → IfSome (steps r.way) (λ path. IsPlaceAmong registry path ps)
 
   -- JSON that is refused for its own kind, or once all of its parts are read
-  pub placed_own : (ps : List Part) (r : Refusal) → r.way ≡ Here → All (IsGood registry) ps → IsWay ps r
+  pub placed_own : (ps : List JsonPart) (r : Refusal) → r.way ≡ Here → All (IsGood registry) ps → IsWay ps r
   placed_own ps r here good other = subst (λ w. IfSome (steps w) (λ path. IsPlaceAmong registry path ps)) (sym here) good
 
-  pub placed_none : (ps : List Part) (r : Refusal) → r.way ≡ Here → ps ≡ [] → IsWay ps r
+  pub placed_none : (ps : List JsonPart) (r : Refusal) → r.way ≡ Here → ps ≡ [] → IsWay ps r
   placed_none ps r here none = placed_own ps r here (subst (All (IsGood registry)) (sym none) (All-nil (IsGood registry)))
 
-  pub way_as : (ps qs : List Part) (r : Refusal) → ps ≡ qs → IsWay qs r → IsWay ps r
+  pub way_as : (ps qs : List JsonPart) (r : Refusal) → ps ≡ qs → IsWay qs r → IsWay ps r
   way_as ps qs r same h = subst (λ os. IsWay os r) (sym same) h
 
-  pub placed_as : {X : Type 0} (ps qs : List Part) (r : Result X Refusal) → ps ≡ qs → IsPlaced registry qs r → IsPlaced registry ps r
+  pub placed_as : {X : Type 0} (ps qs : List JsonPart) (r : Result X Refusal) → ps ≡ qs → IsPlaced registry qs r → IsPlaced registry ps r
   placed_as ps qs r same h = subst (λ os. IsPlaced registry os r) (sym same) h
 
   -- from some parts to others
-  pub placed_on : (ps qs : List Part) (r : Refusal) → ((path : List Step) → IsPlaceAmong registry path ps → IsPlaceAmong registry path qs)
+  pub placed_on : (ps qs : List JsonPart) (r : Refusal) → ((path : List PointerStep) → IsPlaceAmong registry path ps → IsPlaceAmong registry path qs)
       → IsWay ps r → IsWay qs r
   placed_on ps qs r on h other = step (steps r.way) (h other)
     where
-      step : (o : Option (List Step)) → IfSome o (λ path. IsPlaceAmong registry path ps) → IfSome o (λ path. IsPlaceAmong registry path qs)
+      step : (o : Option (List PointerStep)) → IfSome o (λ path. IsPlaceAmong registry path ps) → IfSome o (λ path. IsPlaceAmong registry path qs)
       step None g = tt
       step (Some path) g = on path g
 
-  module _ (p : Part) (ps : List Part) where
-    way_here : (s : Step) → p.step ≡ s → ¬ IsGood registry p → (outer inner : Option (List Step))
+  module _ (p : JsonPart) (ps : List JsonPart) where
+    way_here : (s : PointerStep) → p.step ≡ s → ¬ IsGood registry p → (outer inner : Option (List PointerStep))
         → IfSome outer (λ path. option_map (λ way. s ∷ way) inner ≡ Some path) → IfSome inner (λ path. IsPlaceAmong registry path (parts registry p.left p.target p.json))
         → IfSome outer (λ path. IsPlaceAmong registry path (p ∷ ps))
     way_here s is bad None inner h g = tt
@@ -66,7 +66,7 @@ module _ (registry : Entries) where
         subst (λ w. IsPlaceAmong registry w (p ∷ ps)) (ap (λ t. t ∷ way) is ∙ some_is (s ∷ way) path h) (place-here registry way p ps bad g)
 
     -- the first part is refused
-    pub placed_here : {X A : Type 0} (see : X → A) (s : Step) (inner : Result X Refusal) (r : Refusal) (read : Read A) → p.step ≡ s → fault_at registry p.left p.target p.json ≡ result_err read
+    pub placed_here : {X A : Type 0} (see : X → A) (s : PointerStep) (inner : Result X Refusal) (r : Refusal) (read : Read A) → p.step ≡ s → fault_at registry p.left p.target p.json ≡ result_err read
         → Tells see (fault_alone inner) read → IsPlaced registry (parts registry p.left p.target p.json) inner
         → Err r.fault ≡ fault_alone inner → IfSome (steps r.way) (λ path. option_map (λ way. s ∷ way) (way_of inner) ≡ Some path)
         → IsWay (p ∷ ps) r
@@ -76,6 +76,6 @@ module _ (registry : Entries) where
         way_here s is (λ good. not_none g.fault (fault_at registry p.left p.target p.json) (fault ∙ ap result_err (tells bad)) (none_of registry p good)) (steps r.way) (steps g.way) way (placed bad)
 
   -- the first part is read
-  pub read_later : {A : Type 0} (p : Part) (ps : List Part) (read : Read A) (t : A) → fault_at registry p.left p.target p.json ≡ result_err read → read ≡ Ok t
-      → (path : List Step) → IsPlaceAmong registry path ps → IsPlaceAmong registry path (p ∷ ps)
+  pub read_later : {A : Type 0} (p : JsonPart) (ps : List JsonPart) (read : Read A) (t : A) → fault_at registry p.left p.target p.json ≡ result_err read → read ≡ Ok t
+      → (path : List PointerStep) → IsPlaceAmong registry path ps → IsPlaceAmong registry path (p ∷ ps)
   read_later p ps read t fault is path h = place-later registry path p ps (good_of registry p (fault ∙ ap result_err is)) h

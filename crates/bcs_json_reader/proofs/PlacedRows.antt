@@ -16,7 +16,7 @@ use Rattle.bcs_registry_model.specs.declared.named.Named.{Named}
 use Rattle.bcs_value_model.specs.Tree.{Tree}
 use Rattle.bcs_json_spec.specs.JsonContent.{of, payload_content}
 use Rattle.bcs_json_spec.specs.Look.{without}
-use Rattle.bcs_json_spec.specs.Place.{Step, item, member, Part, part, parts, entry, item_parts, each_parts, entry_parts, field_parts, option_parts, enum_parts, pair_parts, IsPlaceAmong}
+use Rattle.bcs_json_spec.specs.Place.{PointerStep, item, member, JsonPart, part, parts, entry, item_parts, each_parts, entry_parts, field_parts, option_parts, enum_parts, pair_parts, IsPlaceAmong}
 use Rattle.bcs_json_spec.proofs.FaultAt.{fault_at}
 use Rattle.bcs_json_spec.specs.Reading.{Read, Tells, read_content, read_data, read_named, read_pair, read_part}
 use Rattle.bcs_json_reader.specs.Refused.{steps, fault_alone, way_of, IsPlaced}
@@ -28,7 +28,7 @@ pub found_more : {V : Type 0} (vs ws : List V) (v : V) → ws ≡ vs ++ v ∷ []
 found_more vs ws v h = let e : length ws ≡ length (vs ++ v ∷ []) = ap length h in let long = length-append vs (v ∷ []) in omega (arith, e, long)
 
 -- the refusal of what was read inside, seen from outside
-pub record IsOutside {X : Type 0} (s : Step) (inner : Result X Refusal) (r : Refusal) : Type 0 where
+pub record IsOutside {X : Type 0} (s : PointerStep) (inner : Result X Refusal) (r : Refusal) : Type 0 where
   pub same : Err r.fault ≡ fault_alone inner
   pub way : IfSome (steps r.way) (λ path. option_map (λ tail. s ∷ tail) (way_of inner) ≡ Some path)
 
@@ -40,11 +40,11 @@ outside_named a b inner r same h = subst (λ name. IsOutside (member name) inner
 
 module _ (registry : Entries) (left : ℕ) where
   -- what was read of JSON
-  pub record IsReadOf {X A : Type 0} (see : X → A) (p : Part) (read : Read A) (inner : Result X Refusal) : Type 0 where
+  pub record IsReadOf {X A : Type 0} (see : X → A) (p : JsonPart) (read : Read A) (inner : Result X Refusal) : Type 0 where
     pub tells : Tells see (fault_alone inner) read
     pub placed : IsPlaced registry (parts registry p.left p.target p.json) inner
 
-  here : {X A : Type 0} (see : X → A) (p : Part) (ps : List Part) (inner : Result X Refusal) (r : Refusal) (read : Read A) → fault_at registry p.left p.target p.json ≡ result_err read
+  here : {X A : Type 0} (see : X → A) (p : JsonPart) (ps : List JsonPart) (inner : Result X Refusal) (r : Refusal) (read : Read A) → fault_at registry p.left p.target p.json ≡ result_err read
       → IsReadOf see p read inner → IsOutside p.step inner r → IsWay registry (p ∷ ps) r
   here see p ps inner r read fault h outside = placed_here registry p ps see p.step inner r read refl fault h.tells h.placed outside.same outside.way
 
@@ -75,7 +75,7 @@ module _ (registry : Entries) (left : ℕ) where
   -- ---- items of one format
 
   module _ (s : Shape) (n : ℕ) (js rest : List Json) (j : Json) (is : js ≡ j ∷ rest) where
-    abbrev the_item : Part
+    abbrev the_item : JsonPart
     the_item = part left (item n) (of s) (view j)
 
     pub item_placed : {X : Type 0} (see : X → Tree) (inner : Result X Refusal) (r : Refusal) → IsReadOf see the_item (read_data registry left (of s) (view j)) inner → IsOutside (item n) inner r
@@ -85,7 +85,7 @@ module _ (registry : Entries) (left : ℕ) where
         (here see the_item (item_parts left s (suc n) (items_view rest)) inner r (read_data registry left (of s) (view j)) refl h outside)
 
     pub item_onward : (m : ℕ) (t : Tree) → m ≡ suc n → read_data registry left (of s) (view j) ≡ Ok t
-        → (path : List Step) → IsPlaceAmong registry path (item_parts left s m (items_view rest)) → IsPlaceAmong registry path (item_parts left s n (items_view js))
+        → (path : List PointerStep) → IsPlaceAmong registry path (item_parts left s m (items_view rest)) → IsPlaceAmong registry path (item_parts left s n (items_view js))
     item_onward m t more h path g =
         subst (λ ks. IsPlaceAmong registry path (item_parts left s n (items_view ks))) (sym is)
         (read_later registry the_item (item_parts left s (suc n) (items_view rest)) (read_data registry left (of s) (view j)) t refl h path
@@ -94,10 +94,10 @@ module _ (registry : Entries) (left : ℕ) where
   -- ---- an item of each format
 
   module _ (n : ℕ) (fs gs : List Format) (f : Format) (first : fs ≡ f ∷ gs) (js rest : List Json) (j : Json) (is : js ≡ j ∷ rest) where
-    abbrev each_item : Part
+    abbrev each_item : JsonPart
     each_item = part left (item n) (of (shape_of f)) (view j)
 
-    abbrev each_rest : List Part
+    abbrev each_rest : List JsonPart
     each_rest = each_parts left (formats_shapes gs) (suc n) (items_view rest)
 
     each_is : each_parts left (formats_shapes fs) n (items_view js) ≡ each_item ∷ each_rest
@@ -109,7 +109,7 @@ module _ (registry : Entries) (left : ℕ) where
         subst (λ ps. IsWay registry ps r) (sym each_is) (here see each_item each_rest inner r (read_data registry left (of (shape_of f)) (view j)) refl h outside)
 
     pub each_onward : (m : ℕ) (t : Tree) → m ≡ suc n → read_data registry left (of (shape_of f)) (view j) ≡ Ok t
-        → (path : List Step) → IsPlaceAmong registry path (each_parts left (formats_shapes gs) m (items_view rest)) → IsPlaceAmong registry path (each_parts left (formats_shapes fs) n (items_view js))
+        → (path : List PointerStep) → IsPlaceAmong registry path (each_parts left (formats_shapes gs) m (items_view rest)) → IsPlaceAmong registry path (each_parts left (formats_shapes fs) n (items_view js))
     each_onward m t more h path g =
         subst (IsPlaceAmong registry path) (sym each_is)
         (read_later registry each_item each_rest (read_data registry left (of (shape_of f)) (view j)) t refl h path
@@ -127,7 +127,7 @@ module _ (registry : Entries) (left : ℕ) where
     reads_entry = read_pair (read_data registry left (of k)) (read_data registry left (of v))
 
     module _ (n : ℕ) (js rest : List Json) (j : Json) (is : js ≡ j ∷ rest) where
-      abbrev the_entry : Part
+      abbrev the_entry : JsonPart
       the_entry = record { step = item n; left = left; target = entry k v; json = view j }
 
       pub entry_placed : {X : Type 0} (see : X → Tree × Tree) (inner : Result X Refusal) (r : Refusal) → IsReadOf see the_entry (reads_entry (view j)) inner → IsOutside (item n) inner r
@@ -137,7 +137,7 @@ module _ (registry : Entries) (left : ℕ) where
           (here see the_entry (entry_parts left k v (suc n) (items_view rest)) inner r (reads_entry (view j)) refl h outside)
 
       pub entry_onward : (m : ℕ) (t : Tree × Tree) → m ≡ suc n → reads_entry (view j) ≡ Ok t
-          → (path : List Step) → IsPlaceAmong registry path (entry_parts left k v m (items_view rest)) → IsPlaceAmong registry path (entry_parts left k v n (items_view js))
+          → (path : List PointerStep) → IsPlaceAmong registry path (entry_parts left k v m (items_view rest)) → IsPlaceAmong registry path (entry_parts left k v n (items_view js))
       entry_onward m t more h path g =
           subst (λ ks. IsPlaceAmong registry path (entry_parts left k v n (items_view ks))) (sym is)
           (read_later registry the_entry (entry_parts left k v (suc n) (items_view rest)) (reads_entry (view j)) t refl h path
@@ -169,7 +169,7 @@ module _ (registry : Entries) (left : ℕ) where
         ∙ ap (λ o. option_map_or (λ d. part left (member (string_bytes x.name)) (of (shape_of x.value)) d ∷ field_parts left (map field_of fs) (without (string_bytes x.name) ms)) o []) none
 
     module _ (m : Data) (found : get_member (string_bytes x.name) ms ≡ Some m) where
-      abbrev the_field : Part
+      abbrev the_field : JsonPart
       the_field = part left (member (string_bytes x.name)) (of (shape_of x.value)) m
 
       fields_are : field_parts left (map field_of gs) ms ≡ the_field ∷ field_parts left (map field_of fs) (without (string_bytes x.name) ms)
@@ -184,7 +184,7 @@ module _ (registry : Entries) (left : ℕ) where
           (here see the_field (field_parts left (map field_of fs) (without (string_bytes x.name) ms)) inner r (read_data registry left (of (shape_of x.value)) m) refl h outside)
 
       pub field_onward : (less : Members) (t : Tree) → less ≡ without (string_bytes x.name) ms → read_data registry left (of (shape_of x.value)) m ≡ Ok t
-          → (path : List Step) → IsPlaceAmong registry path (field_parts left (map field_of fs) less) → IsPlaceAmong registry path (field_parts left (map field_of gs) ms)
+          → (path : List PointerStep) → IsPlaceAmong registry path (field_parts left (map field_of fs) less) → IsPlaceAmong registry path (field_parts left (map field_of gs) ms)
       field_onward less t rest h path g =
           subst (IsPlaceAmong registry path) (sym fields_are)
           (read_later registry the_field (field_parts left (map field_of fs) (without (string_bytes x.name) ms)) (read_data registry left (of (shape_of x.value)) m) t refl h path

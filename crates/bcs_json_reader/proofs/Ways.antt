@@ -1,14 +1,14 @@
 -- Ways with a step more, and turned round.
 use Rattle.std.proofs.Common.{◌≡◌, ◌∙◌, List, [], ◌∷◌, ◌++◌, map, reverse, refl, ap, sym}
 use Rattle.std.proofs.lemmas.List.{reverse-append, map-append}
-use Rattle.bcs_json_spec.specs.Place.{step_of}
+use Rattle.bcs_json_spec.specs.Place.{pointer_step_of}
 use Rattle.bcs_json_spec.specs.declared.json_step.JsonStep.{JsonStep}
 
-pub steps_more : (inner : List JsonStep) (s : JsonStep) → reverse (map step_of (inner ++ s ∷ [])) ≡ step_of s ∷ reverse (map step_of inner)
-steps_more inner s = ap reverse (map-append step_of inner (s ∷ [])) ∙ reverse-append (map step_of inner) (step_of s ∷ [])
+pub steps_more : (inner : List JsonStep) (s : JsonStep) → reverse (map pointer_step_of (inner ++ s ∷ [])) ≡ pointer_step_of s ∷ reverse (map pointer_step_of inner)
+steps_more inner s = ap reverse (map-append pointer_step_of inner (s ∷ [])) ∙ reverse-append (map pointer_step_of inner) (pointer_step_of s ∷ [])
 
-pub steps_turned : (inner : List JsonStep) → map step_of (reverse inner) ≡ reverse (map step_of inner)
+pub steps_turned : (inner : List JsonStep) → map pointer_step_of (reverse inner) ≡ reverse (map pointer_step_of inner)
 steps_turned [] = refl
 steps_turned (s ∷ inner) =
-    ap (map step_of) (reverse-append (s ∷ []) inner) ∙ map-append step_of (reverse inner) (s ∷ []) ∙ ap (λ ps. ps ++ step_of s ∷ []) (steps_turned inner)
-    ∙ sym (reverse-append (step_of s ∷ []) (map step_of inner))
+    ap (map pointer_step_of) (reverse-append (s ∷ []) inner) ∙ map-append pointer_step_of (reverse inner) (s ∷ []) ∙ ap (λ ps. ps ++ pointer_step_of s ∷ []) (steps_turned inner)
+    ∙ sym (reverse-append (pointer_step_of s ∷ []) (map pointer_step_of inner))

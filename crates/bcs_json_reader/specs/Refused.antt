@@ -1,7 +1,7 @@
 -- What a refusal tells: the fault, and the way down to where it is.
 use Rattle.std.specs.Prelude.{◌≢◌, List, [], Option, Some, None, Result, Ok, Err, map, reverse, IfSome, ⊤}
 use Rattle.bcs_registry_model.specs.Container.{Entries}
-use Rattle.bcs_json_spec.specs.Place.{Step, step_of, Part, IsPlaceAmong}
+use Rattle.bcs_json_spec.specs.Place.{PointerStep, pointer_step_of, JsonPart, IsPlaceAmong}
 use Rattle.bcs_json_spec.specs.declared.json_fault.JsonFault.{JsonFault}
 use Rattle.bcs_json_spec.specs.declared.json_fault.JsonFault.TheVariants.{OutOfMemory}
 use Rattle.bcs_json_reader.specs.declared.refusal.Refusal.{Refusal}
@@ -9,9 +9,9 @@ use Rattle.bcs_json_reader.specs.declared.refusal.Way.{Way}
 use Rattle.bcs_json_reader.specs.declared.refusal.Way.TheVariants.{Here, Through, Unknown}
 
 -- the steps from the outermost on, if they are known
-abbrev pub steps : Way → Option (List Step)
+abbrev pub steps : Way → Option (List PointerStep)
 steps Here = Some []
-steps (Through inner) = Some (reverse (map step_of inner.items))
+steps (Through inner) = Some (reverse (map pointer_step_of inner.items))
 steps Unknown = None
 
 -- what was read, or the fault without the way to it
@@ -19,11 +19,11 @@ abbrev pub fault_alone : {X : Type 0} → Result X Refusal → Result X JsonFaul
 fault_alone (Ok x) = Ok x
 fault_alone (Err r) = Err r.fault
 
-abbrev pub way_of : {X : Type 0} → Result X Refusal → Option (List Step)
+abbrev pub way_of : {X : Type 0} → Result X Refusal → Option (List PointerStep)
 way_of (Ok x) = None
 way_of (Err r) = steps r.way
 
 -- where memory didn't run out, a known way leads to the place among these parts
-abbrev pub IsPlaced : {X : Type 0} → Entries → List Part → Result X Refusal → Type 0
+abbrev pub IsPlaced : {X : Type 0} → Entries → List JsonPart → Result X Refusal → Type 0
 IsPlaced registry ps (Ok x) = ⊤
 IsPlaced registry ps (Err r) = r.fault ≢ OutOfMemory → IfSome (steps r.way) (λ path. IsPlaceAmong registry path ps)

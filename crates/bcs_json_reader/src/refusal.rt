@@ -1,6 +1,6 @@
 //! Why JSON is refused, and the way down to where it is.
 ghost use Rattle.std.specs.Prelude.{◌≡◌, ◌∷◌, Some, IfSome, option_map, map};
-ghost use Rattle.bcs_json_spec.specs.Place.{item, member, step_of};
+ghost use Rattle.bcs_json_spec.specs.Place.{item, member, pointer_step_of};
 ghost use Rattle.bcs_json_reader.specs.Refused.{steps, fault_alone, way_of};
 
 use bcs_json_spec::{JsonFault, JsonStep};
@@ -132,7 +132,7 @@ impl Way {
     /// The way that begins with this step and goes on as this one. It is unknown if memory runs out.
     #[tactic(auto, using(crate::proofs::Ways::steps_more))]
     pub fn after(self, alloc: Global, step: JsonStep) -> Way
-        ensures { IfSome (steps result) (λ path. option_map (λ inner. step_of step ∷ inner) (steps self) ≡ Some path) }
+        ensures { IfSome (steps result) (λ path. option_map (λ inner. pointer_step_of step ∷ inner) (steps self) ≡ Some path) }
     {
         let mut through = match self {
             Way::Here => Vec::new(alloc),
@@ -148,7 +148,7 @@ impl Way {
     /// The steps from the outermost on, if the way is known.
     #[tactic(auto, using(crate::proofs::Ways::steps_turned))]
     pub fn outward(self, alloc: Global) -> Option<Vec<JsonStep>>
-        ensures { option_map (λ v. map step_of v.items) result ≡ steps self }
+        ensures { option_map (λ v. map pointer_step_of v.items) result ≡ steps self }
     {
         match self {
             Way::Here => Some(Vec::new(alloc)),

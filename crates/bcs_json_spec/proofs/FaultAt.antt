@@ -7,7 +7,7 @@ use Rattle.bcs_registry_model.specs.Shape.{Shape}
 use Rattle.bcs_registry_model.specs.Container.{Entries}
 use Rattle.bcs_json_spec.specs.JsonContent.{of}
 use Rattle.bcs_json_spec.specs.Look.{IfTwo}
-use Rattle.bcs_json_spec.specs.Place.{Target, value, entry, Part, IsGood, IsRefusedWith}
+use Rattle.bcs_json_spec.specs.Place.{Target, value, entry, JsonPart, IsGood, IsRefusedWith}
 use Rattle.bcs_json_spec.specs.Reading.{Read, read_data, read_pair}
 use Rattle.bcs_json_spec.specs.Refuses.{Refuses}
 use Rattle.bcs_json_spec.specs.Spells.{SpellsWithin}
@@ -41,13 +41,13 @@ module _ (registry : Entries) where
   fault_of d (value f) j e h = ap result_err ((exact_data registry d f j).errs e h)
   fault_of d (entry k v) j e h = ap result_err ((exact_entry d k v j).errs e h)
 
-  pub good_of : (p : Part) → fault_at p.left p.target p.json ≡ None → IsGood registry p
+  pub good_of : (p : JsonPart) → fault_at p.left p.target p.json ≡ None → IsGood registry p
   good_of p none e h = none-some e (sym none ∙ fault_of p.left p.target p.json e h)
 
-  pub bad_of : (p : Part) (e : JsonFault) → fault_at p.left p.target p.json ≡ Some e → ¬ IsGood registry p
+  pub bad_of : (p : JsonPart) (e : JsonFault) → fault_at p.left p.target p.json ≡ Some e → ¬ IsGood registry p
   bad_of p e is good = good e (refused_of p.left p.target p.json e is)
 
-  pub none_of : (p : Part) → IsGood registry p → fault_at p.left p.target p.json ≡ None
+  pub none_of : (p : JsonPart) → IsGood registry p → fault_at p.left p.target p.json ≡ None
   none_of p good = at (fault_at p.left p.target p.json) refl
     where
       at : (o : Option JsonFault) → fault_at p.left p.target p.json ≡ o → o ≡ None

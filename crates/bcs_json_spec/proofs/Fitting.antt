@@ -19,7 +19,8 @@ use Rattle.bcs_value_model.specs.Fits.{fits, all_fit, each_fits, pairs_fit, are_
 use Rattle.bcs_value_model.specs.Tree as tree
 use Rattle.bcs_value_model.specs.Tree.{Tree, Trees, no_trees, tree, Pairs, no_pairs, pair, count}
 use Rattle.bcs_json_spec.specs.Bytes.{IsHexOf, ByteTextSpells, is_byte, byte_trees}
-use Rattle.bcs_json_spec.specs.JsonContent.{JsonContent, of, fields, one_of, nothing, json_content, json_content_at, payload_content, unnamed}
+use Rattle.bcs_json_spec.specs.JsonContent.{JsonContent, of, fields, one_of, nothing, json_content, json_content_at, payload_content}
+use Rattle.bcs_json_spec.proofs.Unnamed.{unnamed, unnamed_at, unnamed_payload}
 use Rattle.bcs_json_spec.specs.Laws.{SpelledFits}
 use Rattle.bcs_json_spec.specs.Look.{IfString, IfArray, IfStringOrArray, IfObject, IfTwo, IfOne, IfWordOrOne, IfThere, without}
 use Rattle.bcs_json_spec.proofs.Numbering.{numbers_differ, numbers_fit, has_numbering, orderly_numbering}
@@ -95,26 +96,6 @@ module _ (registry : Entries) where
   text_fits s false r ts h w = absurd w
 
 -- ---- what stands in containers and variants
-
-unnamed_content : (c : Container) → unnamed (json_content c) ≡ content c
-unnamed_content unit_struct = refl
-unnamed_content (newtype_struct s) = refl
-unnamed_content (tuple_struct ss) = refl
-unnamed_content (field_struct fs) = refl
-unnamed_content (enumeration cs) = refl
-
-unnamed_or : (o : Option Container) → unnamed (option_map_or json_content o nothing) ≡ option_map_or content o container.nothing
-unnamed_or None = refl
-unnamed_or (Some c) = unnamed_content c
-
-pub unnamed_at : (name : List ℕ) (registry : Entries) → unnamed (json_content_at name registry) ≡ content_at name registry
-unnamed_at name registry = unnamed_or (container_at name registry)
-
-pub unnamed_payload : (p : Payload) → unnamed (payload_content p) ≡ container.of (payload_shape p)
-unnamed_payload container.unit = refl
-unnamed_payload (newtype s) = refl
-unnamed_payload (tuple ss) = refl
-unnamed_payload (container.fields fs) = refl
 
 pub payload_numbering : (p : Payload) → has_numbering (payload_content p) ≡ true
 payload_numbering container.unit = refl

@@ -15,10 +15,11 @@ use Rattle.bcs_value_model.specs.Fits.{fits, all_fit, each_fits, pairs_fit}
 use Rattle.bcs_value_model.specs.Tree as tree
 use Rattle.bcs_value_model.specs.Tree.{Tree, Trees, no_trees, tree, Pairs, no_pairs, pair, count}
 use Rattle.bcs_json_spec.specs.Bytes.{is_byte, trees_bytes}
-use Rattle.bcs_json_spec.specs.JsonContent.{JsonContent, of, fields, one_of, nothing, json_content, json_content_at, payload_content, unnamed}
+use Rattle.bcs_json_spec.specs.JsonContent.{JsonContent, of, fields, one_of, nothing, json_content, json_content_at, payload_content}
+use Rattle.bcs_json_spec.proofs.Unnamed.{unnamed, unnamed_at, unnamed_payload}
 use Rattle.bcs_json_spec.specs.Laws.{GrowthKeepsShowing}
 use Rattle.bcs_json_spec.specs.Shown.{shown, shown_all, shown_each, shown_pairs, shown_fields, shown_choice}
-use Rattle.bcs_json_spec.proofs.Fitting.{and_left, and_right, unnamed_at, unnamed_payload}
+use Rattle.bcs_json_spec.proofs.Fitting.{and_left, and_right}
 
 -- ---- what stands in a registry that grew
 

@@ -10,6 +10,7 @@ pub mod PlaceFaults
 pub mod SomePlace
 pub mod PlaceRows
 pub mod Numbering
+pub mod Unnamed
 pub mod Fitting
 pub mod Lowest
 pub mod Members

@@ -81,8 +81,8 @@ module _ (registry : Entries) (limits : Bounds) (s : Shape) (text : List ℕ) wh
   -- the value has too many nodes, or a length that is too long, or a repeated key
   abbrev Unsound : Tree → JsonFault → Type 0
   Unsound t e =
-      (encode.Refuses registry limits s t encode_fault.TooManyNodes × (e ≡ TooManyNodes))
-      ⊎ ((encode.Refuses registry limits s t encode_fault.TooLong × (e ≡ TooLong)) ⊎ (encode.Refuses registry limits s t encode_fault.RepeatedKey × (e ≡ RepeatedKey)))
+      (encode.RefusesValue registry limits s t encode_fault.TooManyNodes × (e ≡ TooManyNodes))
+      ⊎ ((encode.RefusesValue registry limits s t encode_fault.TooLong × (e ≡ TooLong)) ⊎ (encode.RefusesValue registry limits s t encode_fault.RepeatedKey × (e ≡ RepeatedKey)))
 
   -- the JSON spells no value, or one that isn't sound
   abbrev Judged : Data → JsonFault → Type 0

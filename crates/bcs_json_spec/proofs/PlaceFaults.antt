@@ -16,7 +16,7 @@ use Rattle.bcs_json_spec.specs.Bytes.{is_byte}
 use Rattle.bcs_json_spec.specs.JsonContent.{JsonContent, of, fields, one_of, nothing, json_content_at, payload_content}
 use Rattle.bcs_json_spec.specs.Laws.{PlaceIsRefusedAlone}
 use Rattle.bcs_json_spec.specs.Look.{item_count, shape_count, without}
-use Rattle.bcs_json_spec.specs.Place.{Step, item, member, Target, value, entry, Part, part, parts, item_parts, each_parts, entry_parts, field_parts, option_parts, seq_parts, map_parts, tuple_parts, array_parts, struct_parts, enum_parts, pair_parts, shape_parts, named_parts, IsGood, IsPlaceAmong, IsRefusedAlone}
+use Rattle.bcs_json_spec.specs.Place.{PointerStep, item, member, Target, value, entry, JsonPart, part, parts, item_parts, each_parts, entry_parts, field_parts, option_parts, seq_parts, map_parts, tuple_parts, array_parts, struct_parts, enum_parts, pair_parts, shape_parts, named_parts, IsGood, IsPlaceAmong, IsRefusedAlone}
 use Rattle.bcs_json_spec.specs.Reading.{Read, follow, read_all, read_array, read_choice, read_content, read_data, read_each, read_enum, read_fields, read_map, read_member, read_named, read_option, read_pair, read_pairs, read_part, read_seq, read_struct, read_tuple}
 use Rattle.bcs_json_spec.specs.declared.json_fault.JsonFault.{JsonFault}
 use Rattle.bcs_json_spec.specs.declared.json_fault.JsonFault.TheVariants.{BadShape}
@@ -39,23 +39,23 @@ both (Err e) y f o g rest h = h
 
 module _ (registry : Entries) (g : JsonFault) where
   -- the first fault of the parts
-  abbrev first : List Part → Option JsonFault
+  abbrev first : List JsonPart → Option JsonFault
   first [] = None
   first (p ∷ ps) = option_or (fault_at registry p.left p.target p.json) (first ps)
 
   -- parts whose first fault is the fault of what was read
-  abbrev Tell : {A : Type 0} → List Part → Read A → Type 0
+  abbrev Tell : {A : Type 0} → List JsonPart → Read A → Type 0
   Tell ps x = first ps ≡ Some g → result_err x ≡ Some g
 
-  one_part : {A : Type 0} (p : Part) (x : Read A) → fault_at registry p.left p.target p.json ≡ result_err x → Tell (p ∷ []) x
+  one_part : {A : Type 0} (p : JsonPart) (x : Read A) → fault_at registry p.left p.target p.json ≡ result_err x → Tell (p ∷ []) x
   one_part p (Ok a) is h = no_some g (sym (ap (λ o. option_or o None) is) ∙ h)
   one_part p (Err e) is h = sym (ap (λ o. option_or o None) is) ∙ h
 
-  when : {A : Type 0} (b : Bool) (ps : List Part) (x y : Read A) → Tell ps x → Tell (if b then ps else []) (if b then x else y)
+  when : {A : Type 0} (b : Bool) (ps : List JsonPart) (x y : Read A) → Tell ps x → Tell (if b then ps else []) (if b then x else y)
   when true ps x y t h = t h
   when false ps x y t h = no_some g h
 
-  onward : {A B : Type 0} (ps : List Part) (x : Read A) (f : A → B) → Tell ps x → Tell ps (follow x (λ a. Ok (f a)))
+  onward : {A B : Type 0} (ps : List JsonPart) (x : Read A) (f : A → B) → Tell ps x → Tell ps (follow x (λ a. Ok (f a)))
   onward ps x f t h = done x f ∙ t h
 
   module _ (d : ℕ) where
@@ -77,7 +77,7 @@ module _ (registry : Entries) (g : JsonFault) where
     entries_tell k v i (json.item j ds) h =
         both (read_pair (reads k) (reads v) j) (read_pairs (reads k) (reads v) ds) (λ p ps. tree.pair p.0 p.1 ps) (first (entry_parts d k v (suc i) ds)) g (entries_tell k v (suc i) ds) h
 
-    field_tell : (f : Field) (o : Option Data) (rest : List Part) (x : Read Trees) → Tell rest x
+    field_tell : (f : Field) (o : Option Data) (rest : List JsonPart) (x : Read Trees) → Tell rest x
         → Tell (option_map_or (λ j. part d (member f.0) (of f.1) j ∷ rest) o []) (follow (read_member (reads f.1) o) (λ t. follow x (λ ts. Ok (tree.tree t ts))))
     field_tell f None rest x t h = no_some g h
     field_tell f (Some j) rest x t h = both (reads f.1 j) x tree.tree (first rest) g t h
@@ -167,7 +167,7 @@ module _ (registry : Entries) (g : JsonFault) where
   parts_tell d (value f) j h = content_tell d (named_tell d) f j h
   parts_tell d (entry k v) j h = pair_tell d k v j h
 
-  past_good : (front ps : List Part) → All (IsGood registry) front → first (front ++ ps) ≡ first ps
+  past_good : (front ps : List JsonPart) → All (IsGood registry) front → first (front ++ ps) ≡ first ps
   past_good [] ps good = refl
   past_good (p ∷ front) ps good =
       ap (λ o. option_or o (first (front ++ ps))) (none_of registry p (All-head (IsGood registry) p front good)) ∙ past_good front ps (All-tail (IsGood registry) p front good)
@@ -176,14 +176,14 @@ same_some : {A : Type 0} (x y : A) (o : Option A) → o ≡ Some x → o ≡ Som
 same_some x y o h k = cc
 
 module _ (registry : Entries) where
-  first_is : (e : JsonFault) (d : ℕ) (t : Target) (j : Data) (front : List Part) (p : Part) (back : List Part) → parts registry d t j ≡ front ++ p ∷ back → All (IsGood registry) front
+  first_is : (e : JsonFault) (d : ℕ) (t : Target) (j : Data) (front : List JsonPart) (p : JsonPart) (back : List JsonPart) → parts registry d t j ≡ front ++ p ∷ back → All (IsGood registry) front
       → (o : Option JsonFault) → fault_at registry p.left p.target p.json ≡ o → o ≢ None → fault_at registry d t j ≡ Some e → o ≡ Some e
   first_is e d t j front p back split good None is bad whole = absurd (bad refl)
   first_is e d t j front p back split good (Some g) is bad whole =
       let tell : first registry g (parts registry d t j) ≡ Some g = ap (first registry g) split ∙ past_good registry g front (p ∷ back) good ∙ ap (λ o. option_or o (first registry g back)) is in
       ap Some (same_some e g (fault_at registry d t j) whole (parts_tell registry g d t j tell))
 
-  alone : (e : JsonFault) (path : List Step) (d : ℕ) (t : Target) (j : Data) → fault_at registry d t j ≡ Some e → IsPlaceAmong registry path (parts registry d t j) → IsRefusedAlone registry e path d t j
+  alone : (e : JsonFault) (path : List PointerStep) (d : ℕ) (t : Target) (j : Data) → fault_at registry d t j ≡ Some e → IsPlaceAmong registry path (parts registry d t j) → IsRefusedAlone registry e path d t j
   alone e [] d t j h good = (refused_of registry d t j e h, good)
   alone e (s ∷ path) d t j h place =
       let p = place.one in

@@ -8,7 +8,7 @@ use Rattle.bcs_registry_model.specs.Shape as shape
 use Rattle.bcs_registry_model.specs.Shape.{Shape}
 use Rattle.bcs_json_spec.specs.JsonContent.{JsonContent, of, fields, one_of}
 use Rattle.bcs_json_spec.specs.Place as place
-use Rattle.bcs_json_spec.specs.Place.{Step, Part, part, value, entry, IsPlaceAmong, IsPlaceOf}
+use Rattle.bcs_json_spec.specs.Place.{PointerStep, JsonPart, part, value, entry, IsPlaceAmong, IsPlaceOf}
 use Rattle.bcs_json_spec.specs.Reading.{read_unsigned}
 use Rattle.bcs_json_spec.specs.declared.json_fault.JsonFault.{JsonFault}
 use Rattle.bcs_json_spec.specs.declared.json_fault.JsonFault.TheVariants.{BadNumber, BadShape}
@@ -28,13 +28,13 @@ list2 a b = array (item a (item b no_items))
 abbrev named : Entries
 named = (codes "N", newtype_struct (shape.seq u8)) ∷ []
 
-abbrev IsAt : JsonContent → Data → List Step → Type 0
+abbrev IsAt : JsonContent → Data → List PointerStep → Type 0
 IsAt f j path = IsPlaceOf named 500 (value f) j path
 
-refused_here : (path : List Step) (p : Part) (ps : List Part) (e : JsonFault) → fault_at named p.left p.target p.json ≡ Some e → Inside named path p → IsPlaceAmong named (p.step ∷ path) (p ∷ ps)
+refused_here : (path : List PointerStep) (p : JsonPart) (ps : List JsonPart) (e : JsonFault) → fault_at named p.left p.target p.json ≡ Some e → Inside named path p → IsPlaceAmong named (p.step ∷ path) (p ∷ ps)
 refused_here path p ps e is inside = place-here named path p ps (bad_of named p e is) inside
 
-read_before : (path : List Step) (p : Part) (ps : List Part) → fault_at named p.left p.target p.json ≡ None → IsPlaceAmong named path ps → IsPlaceAmong named path (p ∷ ps)
+read_before : (path : List PointerStep) (p : JsonPart) (ps : List JsonPart) → fault_at named p.left p.target p.json ≡ None → IsPlaceAmong named path ps → IsPlaceAmong named path (p ∷ ps)
 read_before path p ps is later = place-later named path p ps (good_of named p is) later
 
 -- [1, 256] of U8: /1

@@ -4,7 +4,7 @@ use Rattle.std.proofs.lemmas.List.Elements.{All-nil, All-cons, All-head, All-tai
 use Rattle.bcs_registry_model.specs.Container.{Entries}
 use Rattle.bcs_registry_model.specs.Grows.{IsFirst}
 use Rattle.bcs_json_spec.specs.Laws.{OnePlace}
-use Rattle.bcs_json_spec.specs.Place.{Step, Part, parts, IsGood, IsPlaceAmong}
+use Rattle.bcs_json_spec.specs.Place.{PointerStep, JsonPart, parts, IsGood, IsPlaceAmong}
 
 heads : {X : Type 0} (x y : X) (xs ys : List X) → x ∷ xs ≡ y ∷ ys → x ≡ y
 heads x y xs ys h = cc
@@ -25,10 +25,10 @@ pub among : {X : Type 0} (Good Faulty : X → Type 0) (xs : List X) (h : IsFirst
 among Good Faulty xs h = subst (λ ys. Contains ys h.one) (sym h.split) (Contains-append_right h.front (h.one ∷ h.back) h.one (0, omega arith, refl))
 
 module _ (registry : Entries) where
-  abbrev pub Inside : List Step → Part → Type 0
+  abbrev pub Inside : List PointerStep → JsonPart → Type 0
   Inside path p = IsPlaceAmong registry path (parts registry p.left p.target p.json)
 
-  abbrev pub Leads : Step → List Step → Part → Type 0
+  abbrev pub Leads : PointerStep → List PointerStep → JsonPart → Type 0
   Leads s path p = ¬ IsGood registry p × (p.step ≡ s) × Inside path p
 
   -- no part is refused
@@ -36,11 +36,11 @@ module _ (registry : Entries) where
   place-none = All-nil (IsGood registry)
 
   -- the first part is refused
-  pub place-here : (path : List Step) (p : Part) (ps : List Part) → ¬ IsGood registry p → Inside path p → IsPlaceAmong registry (p.step ∷ path) (p ∷ ps)
+  pub place-here : (path : List PointerStep) (p : JsonPart) (ps : List JsonPart) → ¬ IsGood registry p → Inside path p → IsPlaceAmong registry (p.step ∷ path) (p ∷ ps)
   place-here path p ps bad inside = record { front = []; one = p; back = ps; split = refl; good = All-nil (IsGood registry); faulty = (bad, refl, inside) }
 
   -- the first part is good
-  pub place-later : (path : List Step) (p : Part) (ps : List Part) → IsGood registry p → IsPlaceAmong registry path ps → IsPlaceAmong registry path (p ∷ ps)
+  pub place-later : (path : List PointerStep) (p : JsonPart) (ps : List JsonPart) → IsGood registry p → IsPlaceAmong registry path ps → IsPlaceAmong registry path (p ∷ ps)
   place-later [] p ps good h = All-cons (IsGood registry) p ps good h
   place-later (s ∷ path) p ps good h =
       record {
@@ -53,10 +53,10 @@ module _ (registry : Entries) where
       }
 
   -- a way that goes on and one that doesn't
-  not_both : (s : Step) (path : List Step) (ps : List Part) → IsPlaceAmong registry [] ps → IsPlaceAmong registry (s ∷ path) ps → ⊥
+  not_both : (s : PointerStep) (path : List PointerStep) (ps : List JsonPart) → IsPlaceAmong registry [] ps → IsPlaceAmong registry (s ∷ path) ps → ⊥
   not_both s path ps good h = h.faulty.0 (All-contains (IsGood registry) ps h.one good (among (IsGood registry) (Leads s path) ps h))
 
-  pub one_among : (path way : List Step) (ps : List Part) → IsPlaceAmong registry path ps → IsPlaceAmong registry way ps → path ≡ way
+  pub one_among : (path way : List PointerStep) (ps : List JsonPart) → IsPlaceAmong registry path ps → IsPlaceAmong registry way ps → path ≡ way
   one_among [] [] ps h g = refl
   one_among [] (s ∷ way) ps h g = absurd (not_both s way ps h g)
   one_among (s ∷ path) [] ps h g = absurd (not_both s path ps g h)

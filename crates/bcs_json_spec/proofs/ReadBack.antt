@@ -19,13 +19,14 @@ use Rattle.bcs_value_model.specs.Fits.{fits, all_fit, each_fits, pairs_fit, are_
 use Rattle.bcs_value_model.specs.Tree as tree
 use Rattle.bcs_value_model.specs.Tree.{Tree, Trees, no_trees, tree, Pairs, no_pairs, pair, count}
 use Rattle.bcs_json_spec.specs.Bytes.{ByteTextSpells, is_byte, byte_trees, trees_bytes}
-use Rattle.bcs_json_spec.specs.JsonContent.{JsonContent, of, fields, one_of, json_content_at, payload_content, unnamed}
+use Rattle.bcs_json_spec.specs.JsonContent.{JsonContent, of, fields, one_of, json_content_at, payload_content}
+use Rattle.bcs_json_spec.proofs.Unnamed.{unnamed, unnamed_at, unnamed_payload}
 use Rattle.bcs_json_spec.specs.Look.{IfStringOrArray, IfThere}
 use Rattle.bcs_json_spec.specs.Numbers.{SpellsWhole}
 use Rattle.bcs_json_spec.specs.Shown.{shown, shown_all, shown_each, shown_pairs, shown_fields, shown_choice, is_wide}
 use Rattle.bcs_json_spec.specs.Spells.{Spells, AllSpell, EachSpells, PairsSpell, FieldsSpell, IsWordOf}
 use Rattle.bcs_json_spec.proofs.DistinctNames.{has_names, well_formed_names, payload_names_differ, numbered_called}
-use Rattle.bcs_json_spec.proofs.Fitting.{and_left, and_right, Part, unnamed_at, unnamed_payload}
+use Rattle.bcs_json_spec.proofs.Fitting.{and_left, and_right, Part}
 use Rattle.bcs_json_spec.proofs.Members.{without_put, new_field, later_names}
 
 -- ---- numbers

@@ -33,9 +33,10 @@ use Rattle.bcs_value_model.specs.Fits.{all_fit, are_bytes, each_fits, fits, pair
 use Rattle.bcs_value_model.specs.Tree as tree
 use Rattle.bcs_value_model.specs.Tree.{Pairs, Tree, Trees, count, no_pairs, no_trees, pair, tree}
 use Rattle.bcs_json_spec.specs.Bytes.{is_byte, trees_bytes}
-use Rattle.bcs_json_spec.specs.JsonContent.{JsonContent, fields, json_content_at, of, one_of, payload_content, unnamed}
+use Rattle.bcs_json_spec.specs.JsonContent.{JsonContent, fields, json_content_at, of, one_of, payload_content}
+use Rattle.bcs_json_spec.proofs.Unnamed.{unnamed, unnamed_at, unnamed_payload}
 use Rattle.bcs_json_spec.specs.Shown.{is_wide, shown, shown_all, shown_choice, shown_each, shown_fields, shown_pairs}
-use Rattle.bcs_json_spec.proofs.Fitting.{and_left, and_right, unnamed_at, unnamed_payload}
+use Rattle.bcs_json_spec.proofs.Fitting.{and_left, and_right}
 use Rattle.bcs_json_spec.proofs.ReadBack.{are_bytes_is, bytes_again}
 use Rattle.bcs_json_spec.proofs.Utf8Names.{ChoiceNames, EachHasNames, FieldNames, HasNames, content_names, payload_names}
 use Rattle.bcs_json_spec.proofs.WrittenBack.{IsWritable, ItemsWritable, MembersWritable}

@@ -13,7 +13,7 @@ use Rattle.bcs_registry_model.specs.Container.{Field, Choice, Entries, choice_ca
 use Rattle.bcs_json_spec.specs.JsonContent.{JsonContent, of, fields, one_of, nothing, json_content_at, payload_content}
 use Rattle.bcs_json_spec.specs.Laws.{SomePlace}
 use Rattle.bcs_json_spec.specs.Look.{item_count, shape_count, without}
-use Rattle.bcs_json_spec.specs.Place.{Step, item, member, Target, value, entry, Part, part, parts, item_parts, each_parts, entry_parts, field_parts, option_parts, seq_parts, map_parts, tuple_parts, array_parts, struct_parts, enum_parts, pair_parts, named_parts, IsPlaceAmong}
+use Rattle.bcs_json_spec.specs.Place.{PointerStep, item, member, Target, value, entry, JsonPart, part, parts, item_parts, each_parts, entry_parts, field_parts, option_parts, seq_parts, map_parts, tuple_parts, array_parts, struct_parts, enum_parts, pair_parts, named_parts, IsPlaceAmong}
 use Rattle.bcs_json_spec.proofs.FaultAt.{fault_at, good_of, none_of}
 use Rattle.bcs_json_spec.proofs.Lowest.{found_depth, without_depth}
 use Rattle.bcs_json_spec.proofs.Places.{Inside, place-none, place-here, place-later}
@@ -24,20 +24,20 @@ below_left a b h = omega (arith, le-max_left a b, h)
 below_right : (a b : ℕ) {n : ℕ} → max a b < n → b < n
 below_right a b h = omega (arith, le-max_right a b, h)
 
-abbrev IsUnder : ℕ → Part → Type 0
+abbrev IsUnder : ℕ → JsonPart → Type 0
 IsUnder n p = depth p.json < n
 
 -- each nests less deep than so
-abbrev Under : ℕ → List Part → Type 0
+abbrev Under : ℕ → List JsonPart → Type 0
 Under n = All (IsUnder n)
 
 none_under : (n : ℕ) → Under n []
 none_under n = All-nil (IsUnder n)
 
-more_under : (n : ℕ) (p : Part) (ps : List Part) → depth p.json < n → Under n ps → Under n (p ∷ ps)
+more_under : (n : ℕ) (p : JsonPart) (ps : List JsonPart) → depth p.json < n → Under n ps → Under n (p ∷ ps)
 more_under n p ps h rest = All-cons (IsUnder n) p ps h rest
 
-when : (n : ℕ) (b : Bool) (ps : List Part) → Under n ps → Under n (if b then ps else [])
+when : (n : ℕ) (b : Bool) (ps : List JsonPart) → Under n ps → Under n (if b then ps else [])
 when n true ps h = h
 when n false ps h = none_under n
 
@@ -56,7 +56,7 @@ module _ (n d : ℕ) where
   entries_under k v i (json.item j ds) h =
       more_under n (record { step = item i; left = d; target = entry k v; json = j }) (entry_parts d k v (suc i) ds) (below_left (depth j) (items_depth ds) h) (entries_under k v (suc i) ds (below_right (depth j) (items_depth ds) h))
 
-  field_under : (f : Field) (o : Option Data) (rest : List Part) → ((j : Data) → o ≡ Some j → depth j < n) → Under n rest
+  field_under : (f : Field) (o : Option Data) (rest : List JsonPart) → ((j : Data) → o ≡ Some j → depth j < n) → Under n rest
       → Under n (option_map_or (λ j. part d (member f.0) (of f.1) j ∷ rest) o [])
   field_under f None rest here h = none_under n
   field_under f (Some j) rest here h = more_under n (part d (member f.0) (of f.1) j) rest (here j refl) h
@@ -128,10 +128,10 @@ module _ (registry : Entries) (n : ℕ) where
   parts_under d (entry k v) j h = pair_under n d k v j h
 
 module _ (registry : Entries) where
-  abbrev Place : List Part → Type 0
-  Place ps = (path : List Step) × IsPlaceAmong registry path ps
+  abbrev Place : List JsonPart → Type 0
+  Place ps = (path : List PointerStep) × IsPlaceAmong registry path ps
 
-  some_among : (n : ℕ) → ((p : Part) → depth p.json < n → (path : List Step) × Inside registry path p) → (ps : List Part) → Under n ps → Place ps
+  some_among : (n : ℕ) → ((p : JsonPart) → depth p.json < n → (path : List PointerStep) × Inside registry path p) → (ps : List JsonPart) → Under n ps → Place ps
   some_among n inside [] h = ([], place-none registry)
   some_among n inside (p ∷ ps) h = elim (fault_at registry p.left p.target p.json) as (λ o. fault_at registry p.left p.target p.json ≡ o → Place (p ∷ ps)) [
     | None ↦ λ is. let rest = some_among n inside ps (All-tail (IsUnder n) p ps h) in (rest.0, place-later registry rest.0 p ps (good_of registry p is) rest.1)

@@ -33,7 +33,7 @@ module _ (registry : Entries) (limits : Bounds) (s : Shape) (text : List ℕ) wh
       misspelled registry limits s text e (walk_fault registry limits.depth (of s) d e refused) (d, is, refused)
 
   -- what is spelled and refused by the encoder is refused for the same reason
-  pub refused_value : IsOrderly registry → (t : Tree) → SpelledBy registry limits s text t → (e : EncodeFault) → encode.Refuses registry limits s t e → RefusesText registry limits s text (fault_of_value e)
+  pub refused_value : IsOrderly registry → (t : Tree) → SpelledBy registry limits s text t → (e : EncodeFault) → encode.RefusesValue registry limits s t e → RefusesText registry limits s text (fault_of_value e)
   refused_value orderly t spelled fault.NotOfFormat h = absurd (h (strictly_then_loosely registry s t (spelled_fits registry s spelled.read t orderly spelled.spells.0)))
   refused_value orderly t spelled fault.Unsupported h = absurd (h.1 (spelled_fits registry s spelled.read t orderly spelled.spells.0))
   refused_value orderly t spelled fault.TooDeep h = absurd (omega (arith, h.1, spelled.spells.1))

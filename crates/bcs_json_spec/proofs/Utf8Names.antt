@@ -14,7 +14,7 @@ use Rattle.serde_json.proofs.Views.{get_member-put, get_member-put_other}
 use Rattle.bcs_registry_model.specs.Container as container
 use Rattle.bcs_registry_model.specs.Container.{Choice, Container, Entries, Field, Payload, container_at, enumeration, field_struct, newtype_struct, tuple_struct, unit_struct}
 use Rattle.bcs_registry_model.specs.Ranges.{IsInRange}
-use Rattle.bcs_registry_json.specs.Shown.{shown_choices, shown_container, shown_containers, shown_fields, shown_payload, single}
+use Rattle.bcs_registry_json.specs.Shown.{shown_choices, shown_container, shown_containers, shown_struct, shown_payload, single}
 use Rattle.bcs_registry_json.specs.Text.{WritesRegistry}
 use Rattle.bcs_registry_json.proofs.Choices.{texts_differ}
 use Rattle.bcs_json_spec.specs.JsonContent.{JsonContent, fields, json_content, json_content_at, nothing, one_of, payload_content}
@@ -69,7 +69,7 @@ payload_names (container.fields fs) h = h
 
 -- ---- read in a text
 
-fields_read : (fs : List Field) → ItemsHaveUtf8 (shown_fields fs) → FieldNames fs
+fields_read : (fs : List Field) → ItemsHaveUtf8 (shown_struct fs) → FieldNames fs
 fields_read [] h = tt
 fields_read (f ∷ fs) h = (h.0.0, fields_read fs h.1)
 

@@ -3,7 +3,7 @@ use Rattle.std.specs.Prelude.{ℕ, List}
 use Rattle.std.specs.Option.{option_map_or}
 use Rattle.bcs_registry_model.specs.Shape.{Shape, unit as unit_shape, tuple as tuple_shape}
 use Rattle.bcs_registry_model.specs.Container as container
-use Rattle.bcs_registry_model.specs.Container.{Field, Payload, newtype, tuple, Choice, Container, unit_struct, newtype_struct, tuple_struct, field_struct, enumeration, Entries, container_at, Content, field_shapes}
+use Rattle.bcs_registry_model.specs.Container.{Field, Payload, newtype, tuple, Choice, Container, unit_struct, newtype_struct, tuple_struct, field_struct, enumeration, Entries, container_at}
 
 -- a value of a format, fields, one of the variants, or nothing
 pub data JsonContent : Type 0 where
@@ -30,10 +30,3 @@ payload_content (container.fields fs) = fields fs
 -- what stands in the container of this name
 abbrev pub json_content_at : List ℕ → Entries → JsonContent
 json_content_at name registry = option_map_or json_content (container_at name registry) nothing
-
--- without the names of fields
-abbrev pub unnamed : JsonContent → Content
-unnamed (of s) = container.of s
-unnamed (fields fs) = container.of (tuple_shape (field_shapes fs))
-unnamed (one_of cs) = container.one_of cs
-unnamed nothing = container.nothing

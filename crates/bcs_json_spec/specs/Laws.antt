@@ -14,7 +14,7 @@ use Rattle.bcs_value_model.specs.Same.{Same}
 use Rattle.bcs_value_model.specs.Tree.{Tree}
 use Rattle.bcs_json_spec.specs.ArraySpells.{ArraySpells}
 use Rattle.bcs_json_spec.specs.JsonContent.{JsonContent, of}
-use Rattle.bcs_json_spec.specs.Place.{Step, IsRefusedAlone, RefusesAt, value}
+use Rattle.bcs_json_spec.specs.Place.{PointerStep, IsRefusedAlone, RefusesAt, value}
 use Rattle.bcs_json_spec.specs.Refuses.{Refuses}
 use Rattle.bcs_json_spec.specs.Shown.{shown}
 use Rattle.bcs_json_spec.specs.Spells.{Spells, SpellsWithin}
@@ -45,17 +45,17 @@ SpelledFits = (registry : Entries) (s : Shape) (j : Data) (t : Tree) → IsOrder
 
 -- JSON that is refused is so at one place at most
 abbrev pub OnePlace : Type 0
-OnePlace = (registry : Entries) (d : ℕ) (f : JsonContent) (j : Data) (path way : List Step) (e g : JsonFault)
+OnePlace = (registry : Entries) (d : ℕ) (f : JsonContent) (j : Data) (path way : List PointerStep) (e g : JsonFault)
     → RefusesAt registry d f j path e → RefusesAt registry d f j way g → path ≡ way
 
 -- what stands at the place is refused with the fault of the whole, and no part of it is refused
 abbrev pub PlaceIsRefusedAlone : Type 0
-PlaceIsRefusedAlone = (registry : Entries) (d : ℕ) (f : JsonContent) (j : Data) (path : List Step) (e : JsonFault)
+PlaceIsRefusedAlone = (registry : Entries) (d : ℕ) (f : JsonContent) (j : Data) (path : List PointerStep) (e : JsonFault)
     → RefusesAt registry d f j path e → IsRefusedAlone registry e path d (value f) j
 
 -- JSON that is refused is so at a place
 abbrev pub SomePlace : Type 0
-SomePlace = (registry : Entries) (d : ℕ) (f : JsonContent) (j : Data) (e : JsonFault) → Refuses registry d f j e → (path : List Step) × RefusesAt registry d f j path e
+SomePlace = (registry : Entries) (d : ℕ) (f : JsonContent) (j : Data) (e : JsonFault) → Refuses registry d f j e → (path : List PointerStep) × RefusesAt registry d f j path e
 
 -- ---- of what is printed
 

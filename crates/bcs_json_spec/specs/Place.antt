@@ -18,13 +18,13 @@ use Rattle.bcs_json_spec.specs.declared.json_step.JsonStep.{JsonStep}
 use Rattle.bcs_json_spec.specs.declared.json_step.JsonStep.TheVariants.{Item, Member}
 
 -- to an item by its number, from 0, or to a member by its name
-pub data Step : Type 0 where
-  item : ℕ → Step
-  member : List ℕ → Step
+pub data PointerStep : Type 0 where
+  item : ℕ → PointerStep
+  member : List ℕ → PointerStep
 
-abbrev pub step_of : JsonStep → Step
-step_of (Item n) = item n
-step_of (Member name) = member (string_bytes name)
+abbrev pub pointer_step_of : JsonStep → PointerStep
+pointer_step_of (Item n) = item n
+pointer_step_of (Member name) = member (string_bytes name)
 
 -- what JSON is to be: a value of what stands there, or a map's entry, which is an array of a key and its value
 pub data Target : Type 0 where
@@ -32,8 +32,8 @@ pub data Target : Type 0 where
   entry : Shape → Shape → Target
 
 -- JSON right inside other JSON: the step to it, how many containers may still open in it, what it is to be, and the JSON
-pub record Part : Type 0 where
-  pub step : Step
+pub record JsonPart : Type 0 where
+  pub step : PointerStep
   pub left : ℕ
   pub target : Target
   pub json : Data
@@ -42,65 +42,65 @@ pub record Part : Type 0 where
 -- kind has none
 
 module _ (left : ℕ) where
-  abbrev pub part : Step → JsonContent → Data → Part
+  abbrev pub part : PointerStep → JsonContent → Data → JsonPart
   part s f j = record { step = s; left = left; target = value f; json = j }
 
   -- the items from the one of this number on
-  abbrev pub item_parts : Shape → ℕ → Items → List Part
+  abbrev pub item_parts : Shape → ℕ → Items → List JsonPart
   item_parts s i no_items = []
   item_parts s i (json.item d ds) = part (item i) (of s) d ∷ item_parts s (suc i) ds
 
-  abbrev pub each_parts : Shapes → ℕ → Items → List Part
+  abbrev pub each_parts : Shapes → ℕ → Items → List JsonPart
   each_parts (shape s ss) i (json.item d ds) = part (item i) (of s) d ∷ each_parts ss (suc i) ds
   each_parts (shape s ss) i no_items = []
   each_parts no_shapes i ds = []
 
-  abbrev pub entry_parts : Shape → Shape → ℕ → Items → List Part
+  abbrev pub entry_parts : Shape → Shape → ℕ → Items → List JsonPart
   entry_parts k v i no_items = []
   entry_parts k v i (json.item d ds) = record { step = item i; left = left; target = entry k v; json = d } ∷ entry_parts k v (suc i) ds
 
   -- the fields' members in the registry's order, up to the first field that has none
-  abbrev pub field_parts : List Field → Members → List Part
+  abbrev pub field_parts : List Field → Members → List JsonPart
   field_parts [] ms = []
   field_parts (f ∷ fs) ms = option_map_or (λ d. part (member f.0) (of f.1) d ∷ field_parts fs (without f.0 ms)) (get_member f.0 ms) []
 
-  abbrev pub option_parts : Shape → Data → List Part
+  abbrev pub option_parts : Shape → Data → List JsonPart
   option_parts s (object (json.member k d no_members)) = if bytes_eq k (codes "some") then part (member k) (of s) d ∷ [] else []
   option_parts s _ = []
 
-  abbrev pub seq_parts : Shape → Data → List Part
+  abbrev pub seq_parts : Shape → Data → List JsonPart
   seq_parts s (array ds) = item_parts s 0 ds
   seq_parts s _ = []
 
-  abbrev pub map_parts : Shape → Shape → Data → List Part
+  abbrev pub map_parts : Shape → Shape → Data → List JsonPart
   map_parts k v (array ds) = entry_parts k v 0 ds
   map_parts k v _ = []
 
-  abbrev pub tuple_parts : Shapes → Data → List Part
+  abbrev pub tuple_parts : Shapes → Data → List JsonPart
   tuple_parts ss (array ds) = if item_count ds == shape_count ss then each_parts ss 0 ds else []
   tuple_parts ss _ = []
 
-  abbrev pub array_parts : Shape → ℕ → Data → List Part
+  abbrev pub array_parts : Shape → ℕ → Data → List JsonPart
   array_parts s n (array ds) = if item_count ds == n then item_parts s 0 ds else []
   array_parts s n _ = []
 
-  abbrev pub struct_parts : List Field → Data → List Part
+  abbrev pub struct_parts : List Field → Data → List JsonPart
   struct_parts fs (object ms) = field_parts fs ms
   struct_parts fs _ = []
 
   -- what the variant of this name carries
-  abbrev pub enum_parts : List Choice → Data → List Part
+  abbrev pub enum_parts : List Choice → Data → List JsonPart
   enum_parts cs (object (json.member word d no_members)) = option_map_or (λ c. part (member word) (payload_content c.1.1) d ∷ []) (choice_called word cs) []
   enum_parts cs _ = []
 
   -- the key and the value
-  abbrev pub pair_parts : Shape → Shape → Data → List Part
+  abbrev pub pair_parts : Shape → Shape → Data → List JsonPart
   pair_parts k v (array (json.item a (json.item b no_items))) = part (item 0) (of k) a ∷ part (item 1) (of v) b ∷ []
   pair_parts k v _ = []
 
   -- a name has no step of its own: it has the parts of what stands inside
-  module _ (named : List ℕ → Data → List Part) where
-    abbrev pub shape_parts : Shape → Data → List Part
+  module _ (named : List ℕ → Data → List JsonPart) where
+    abbrev pub shape_parts : Shape → Data → List JsonPart
     shape_parts (shape.name n) = named n
     shape_parts (shape.option s) = option_parts s
     shape_parts (shape.seq s) = seq_parts s
@@ -109,7 +109,7 @@ module _ (left : ℕ) where
     shape_parts (shape.array s n) = array_parts s n
     shape_parts _ = λ j. []
 
-    abbrev pub content_parts : JsonContent → Data → List Part
+    abbrev pub content_parts : JsonContent → Data → List JsonPart
     content_parts (of s) = shape_parts s
     content_parts (fields fs) = struct_parts fs
     content_parts (one_of cs) = enum_parts cs
@@ -117,11 +117,11 @@ module _ (left : ℕ) where
 
 module _ (registry : Entries) where
   -- what stands under a name, in which one container less may open
-  abbrev pub named_parts : ℕ → List ℕ → Data → List Part
+  abbrev pub named_parts : ℕ → List ℕ → Data → List JsonPart
   named_parts zero n j = []
   named_parts (suc d) n j = content_parts d (named_parts d) (json_content_at n registry) j
 
-  abbrev pub parts : ℕ → Target → Data → List Part
+  abbrev pub parts : ℕ → Target → Data → List JsonPart
   parts d (value f) = content_parts d (named_parts d) f
   parts d (entry k v) = pair_parts d k v
 
@@ -132,24 +132,24 @@ module _ (registry : Entries) where
   IsRefusedWith d (value f) j e = Refuses registry d f j e
   IsRefusedWith d (entry k v) j e = PairRefuses (SpellsWithin registry d (of k)) (Refuses registry d (of k)) (Refuses registry d (of v)) j e
 
-  abbrev pub IsGood : Part → Type 0
+  abbrev pub IsGood : JsonPart → Type 0
   IsGood p = (e : JsonFault) → ¬ IsRefusedWith p.left p.target p.json e
 
   -- the way leads to the first of the parts that is refused, on to the first of its own parts that is, and so on, until
   -- none is
-  abbrev pub IsPlaceAmong : List Step → List Part → Type 0
+  abbrev pub IsPlaceAmong : List PointerStep → List JsonPart → Type 0
   IsPlaceAmong [] ps = All IsGood ps
   IsPlaceAmong (s ∷ path) ps = IsFirst IsGood (λ p. ¬ IsGood p × (p.step ≡ s) × IsPlaceAmong path (parts p.left p.target p.json)) ps
 
-  abbrev pub IsPlaceOf : ℕ → Target → Data → List Step → Type 0
+  abbrev pub IsPlaceOf : ℕ → Target → Data → List PointerStep → Type 0
   IsPlaceOf d t j path = IsPlaceAmong path (parts d t j)
 
   -- the JSON is refused with this fault, where at most so many containers may be open at once, and this way leads to
   -- where it is
-  abbrev pub RefusesAt : ℕ → JsonContent → Data → List Step → JsonFault → Type 0
+  abbrev pub RefusesAt : ℕ → JsonContent → Data → List PointerStep → JsonFault → Type 0
   RefusesAt d f j path e = Refuses registry d f j e × IsPlaceOf d (value f) j path
 
   -- at the end of the way the JSON is refused with this fault, and no part of it is refused
-  abbrev pub IsRefusedAlone : JsonFault → List Step → ℕ → Target → Data → Type 0
+  abbrev pub IsRefusedAlone : JsonFault → List PointerStep → ℕ → Target → Data → Type 0
   IsRefusedAlone e [] d t j = IsRefusedWith d t j e × All IsGood (parts d t j)
-  IsRefusedAlone e (s ∷ path) d t j = (p : Part) × Contains (parts d t j) p × (p.step ≡ s) × IsRefusedAlone e path p.left p.target p.json
+  IsRefusedAlone e (s ∷ path) d t j = (p : JsonPart) × Contains (parts d t j) p × (p.step ≡ s) × IsRefusedAlone e path p.left p.target p.json

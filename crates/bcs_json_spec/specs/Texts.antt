@@ -12,7 +12,7 @@ use Rattle.bcs_encode_spec.specs.Refused as encode
 use Rattle.bcs_encode_spec.specs.Sound.{IsSound}
 use Rattle.bcs_encode_spec.specs.declared.fault.EncodeFault.TheVariants as encode_fault
 use Rattle.bcs_json_spec.specs.JsonContent.{of}
-use Rattle.bcs_json_spec.specs.Place.{Step, RefusesAt}
+use Rattle.bcs_json_spec.specs.Place.{PointerStep, RefusesAt}
 use Rattle.bcs_json_spec.specs.Refuses.{Refuses}
 use Rattle.bcs_json_spec.specs.Shown.{shown}
 use Rattle.bcs_json_spec.specs.Spells.{Spells, SpellsWithin}
@@ -45,16 +45,16 @@ abbrev pub Misspells : Entries → Bounds → Shape → List ℕ → JsonFault �
 Misspells registry limits s text e = (d : Data) × IsReadAs text d × Refuses registry limits.depth (of s) d e
 
 -- and where it doesn't
-abbrev pub MisspellsAt : Entries → Bounds → Shape → List ℕ → List Step → JsonFault → Type 0
+abbrev pub MisspellsAt : Entries → Bounds → Shape → List ℕ → List PointerStep → JsonFault → Type 0
 MisspellsAt registry limits s text path e = (d : Data) × IsReadAs text d × RefusesAt registry limits.depth (of s) d path e
 
 -- the text is refused for this reason: each speaks where no earlier one does
 abbrev pub RefusesText : Entries → Bounds → Shape → List ℕ → JsonFault → Type 0
 RefusesText registry limits s text NotJson = IsNotJson text
 RefusesText registry limits s text TooNested = (d : Data) × IsJson text d × (nesting_limit < json.depth d)
-RefusesText registry limits s text TooManyNodes = (t : Tree) × SpelledBy registry limits s text t × encode.Refuses registry limits s t encode_fault.TooManyNodes
-RefusesText registry limits s text TooLong = (t : Tree) × SpelledBy registry limits s text t × encode.Refuses registry limits s t encode_fault.TooLong
-RefusesText registry limits s text RepeatedKey = (t : Tree) × SpelledBy registry limits s text t × encode.Refuses registry limits s t encode_fault.RepeatedKey
+RefusesText registry limits s text TooManyNodes = (t : Tree) × SpelledBy registry limits s text t × encode.RefusesValue registry limits s t encode_fault.TooManyNodes
+RefusesText registry limits s text TooLong = (t : Tree) × SpelledBy registry limits s text t × encode.RefusesValue registry limits s t encode_fault.TooLong
+RefusesText registry limits s text RepeatedKey = (t : Tree) × SpelledBy registry limits s text t × encode.RefusesValue registry limits s t encode_fault.RepeatedKey
 RefusesText registry limits s text OutOfMemory = ⊥
 RefusesText registry limits s text e = Misspells registry limits s text e
 

@@ -6,7 +6,7 @@ use Rattle.bcs_registry_model.specs.Container.{Container, Field, Payload}
 use Rattle.bcs_registry_model.specs.Shape.{Shape, unit, name, option, seq, map, tuple, array, Shapes, no_shapes, shape}
 use Rattle.bcs_registry_model.specs.Words.{format_named}
 use Rattle.bcs_registry_model.proofs.WordsBack.{word_named}
-use Rattle.bcs_registry_json.specs.Shown.{shown_choices, shown_container, shown_fields, shown_format, shown_formats, shown_payload}
+use Rattle.bcs_registry_json.specs.Shown.{shown_choices, shown_container, shown_struct, shown_format, shown_formats, shown_payload}
 use Rattle.bcs_registry_json.proofs.Choices.{variant_shown}
 
 abbrev pub text_in : Data → List ℕ
@@ -75,9 +75,9 @@ abbrev pub fields_in : Data → List Field
 fields_in (list ds) = each_field ds
 fields_in _ = []
 
-pub fields_back : (fs : List Field) → each_field (shown_fields fs) ≡ fs
+pub fields_back : (fs : List Field) → each_field (shown_struct fs) ≡ fs
 fields_back [] = refl
-fields_back (f ∷ fs) = ap (λ s. (f.0, s) ∷ each_field (shown_fields fs)) (format_back f.1) ∙ ap (λ gs. f ∷ gs) (fields_back fs)
+fields_back (f ∷ fs) = ap (λ s. (f.0, s) ∷ each_field (shown_struct fs)) (format_back f.1) ∙ ap (λ gs. f ∷ gs) (fields_back fs)
 
 abbrev pub payload_in : Data → Payload
 payload_in (object (member key d no_members)) =

@@ -11,7 +11,7 @@ use Rattle.serde_json.specs.Read.{max_depth}
 use Rattle.bcs_registry_model.specs.Container.{Field, Payload, Choice, Container, Entries, unit_struct, newtype_struct, tuple_struct, field_struct, enumeration}
 use Rattle.bcs_registry_model.specs.Container as container
 use Rattle.bcs_registry_model.specs.Shape.{Shape, name, option, seq, map as map_of, tuple, array, Shapes, no_shapes, shape}
-use Rattle.bcs_registry_json.specs.Shown.{single, shown_format, shown_formats, shown_fields, shown_payload, shown_choices, shown_container, shown_containers, shown}
+use Rattle.bcs_registry_json.specs.Shown.{single, shown_format, shown_formats, shown_struct, shown_payload, shown_choices, shown_container, shown_containers, shown_registry}
 use Rattle.bcs_registry_model.specs.WellFormed.{IsWellFormed, has_few_levels, levels, shapes_levels, level_limit, formats, container_formats, payload_formats, shape_list, levels_hold, names_differ, names_known}
 
 mutual
@@ -57,7 +57,7 @@ depth-list (shape s ss) h =
     let both = and_parts (has_few_levels s) (list_all has_few_levels (shape_list ss)) h in
     omega (arith, depth-one s both.0, depth-list ss both.1)
 
-depth-fields : (fs : List Field) → HaveFewLevels (map (λ f. f.1) fs) → items_depth (shown_fields fs) ≤ 66
+depth-fields : (fs : List Field) → HaveFewLevels (map (λ f. f.1) fs) → items_depth (shown_struct fs) ≤ 66
 depth-fields [] h = omega arith
 depth-fields (f ∷ fs) h =
     let both = and_parts (has_few_levels f.1) (list_all has_few_levels (map (λ f. f.1) fs)) h in
@@ -88,7 +88,7 @@ depth-containers (e ∷ es) h =
     let both = first_few (container_formats e.1) (formats es) h in
     omega (arith, depth-container e.1 both.0, depth-containers es both.1)
 
-pub depth-shown : (registry : Entries) → IsWellFormed registry → depth (shown registry) ≤ max_depth
+pub depth-shown : (registry : Entries) → IsWellFormed registry → depth (shown_registry registry) ≤ max_depth
 depth-shown registry h =
     let few = (and_parts (levels_hold registry) (names_differ registry) (and_parts (levels_hold registry && names_differ registry) (names_known registry) h).0).0 in
     omega (arith, depth-containers registry few)

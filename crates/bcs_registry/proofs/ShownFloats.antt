@@ -9,7 +9,7 @@ use Rattle.serde_json.specs.Written.{has_float, items_have_float, members_have_f
 use Rattle.bcs_registry_model.specs.Container.{Field, Payload, Choice, Container, Entries, unit_struct, newtype_struct, tuple_struct, field_struct, enumeration}
 use Rattle.bcs_registry_model.specs.Container as container
 use Rattle.bcs_registry_model.specs.Shape.{Shape, option, seq, map as map_of, tuple, array, Shapes, no_shapes, shape}
-use Rattle.bcs_registry_json.specs.Shown.{single, shown_format, shown_formats, shown_fields, shown_payload, shown_choices, shown_container, shown_containers, shown}
+use Rattle.bcs_registry_json.specs.Shown.{single, shown_format, shown_formats, shown_struct, shown_payload, shown_choices, shown_container, shown_containers, shown_registry}
 
 no_float-put_at : (o : Ordering) (k l : List ℕ) (d e : Data) (ms : Members) → has_float d ≡ false → members_have_float (member l e ms) ≡ false → members_have_float (put k d ms) ≡ false
     → members_have_float (match_ordering o (member k d (member l e ms)) (member l d ms) (member l e (put k d ms))) ≡ false
@@ -35,7 +35,7 @@ mutual
   no_float-formats no_shapes = refl
   no_float-formats (shape s ss) = rw (no_float-format s) (no_float-formats ss)
 
-no_float-fields : (fs : List Field) → items_have_float (shown_fields fs) ≡ false
+no_float-fields : (fs : List Field) → items_have_float (shown_struct fs) ≡ false
 no_float-fields [] = refl
 no_float-fields (f ∷ fs) = rw (no_float-format f.1) (no_float-fields fs)
 
@@ -60,5 +60,5 @@ no_float-containers : (es : Entries) → members_have_float (shown_containers es
 no_float-containers [] = refl
 no_float-containers (e ∷ es) = rw (no_float-container e.1) (no_float-containers es)
 
-pub no_float-shown : (registry : Entries) → has_float (shown registry) ≡ false
+pub no_float-shown : (registry : Entries) → has_float (shown_registry registry) ≡ false
 no_float-shown registry = no_float-containers registry

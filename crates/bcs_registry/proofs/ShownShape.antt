@@ -8,7 +8,7 @@ use Rattle.bcs_registry_model.specs.Container as container
 use Rattle.bcs_registry_model.specs.Container.{Choice, Container, Entries, Field, Payload}
 use Rattle.bcs_registry_model.specs.Shape.{Shape, name, option, seq, map, tuple, array, Shapes, no_shapes, shape}
 use Rattle.bcs_registry_json.specs.Shaped.{all_fields, all_variants, are_formats, is_container, is_format, is_payload, is_registry, is_variant, is_variant_number}
-use Rattle.bcs_registry_json.specs.Shown.{shown, shown_choices, shown_container, shown_fields, shown_format, shown_formats, shown_payload, single}
+use Rattle.bcs_registry_json.specs.Shown.{shown_registry, shown_choices, shown_container, shown_struct, shown_format, shown_formats, shown_payload, single}
 use Rattle.bcs_registry_model.proofs.WordsBack.{word_named}
 use Rattle.bcs_registry_model.specs.Ranges.{IsInRange, all_sizes_fit, payload_sizes_fit, sizes_fit}
 use Rattle.bcs_registry_json.proofs.TwoTests.{and-true_parts, or-true_right}
@@ -32,7 +32,7 @@ module _ (loose : Bool) where
     formats_shaped no_shapes h = refl
     formats_shaped (shape s ss) h = let p = and-true_parts (sizes_fit s) (all_sizes_fit ss) h in rw (format_shaped s p.0, formats_shaped ss p.1) refl
 
-  fields_shaped : (fs : List Field) → list_all (λ f. sizes_fit f.1) fs ≡ true → all_fields loose (shown_fields fs) ≡ true
+  fields_shaped : (fs : List Field) → list_all (λ f. sizes_fit f.1) fs ≡ true → all_fields loose (shown_struct fs) ≡ true
   fields_shaped [] h = refl
   fields_shaped (f ∷ fs) h = let p = and-true_parts (sizes_fit f.1) (list_all (λ (g : Field). sizes_fit g.1) fs) h in rw (format_shaped f.1 p.0, fields_shaped fs p.1) refl
 
@@ -71,6 +71,6 @@ module _ (loose : Bool) where
   container_shaped (container.field_struct fs) h = fields_shaped fs h.sizes
   container_shaped (container.enumeration cs) h = choices_shaped cs h.numbers h.sizes
 
-  pub registry_shaped : (r : Entries) → AllByRecursion (λ e. IsInRange e.1) r → is_registry loose (shown r) ≡ true
+  pub registry_shaped : (r : Entries) → AllByRecursion (λ e. IsInRange e.1) r → is_registry loose (shown_registry r) ≡ true
   registry_shaped [] h = refl
   registry_shaped (e ∷ es) h = rw (container_shaped e.1 h.0, registry_shaped es h.1) refl

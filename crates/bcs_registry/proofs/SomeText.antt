@@ -15,7 +15,7 @@ use Rattle.bcs_registry_json.specs.Parts.{IsContainerText, IsFieldText, IsFields
 use Rattle.bcs_registry_model.specs.Shape.{Shape, unit, name, option, seq, map, tuple, array}
 use Rattle.bcs_registry_json.specs.Shaped.{all_containers, all_fields, all_variants, are_fields, are_formats, are_variants, is_container, is_field, is_format, is_map, is_payload, is_registry, is_size, is_text, is_tuple, is_tuple_array, is_variant, is_variant_number}
 use Rattle.bcs_registry_model.specs.Words.{format_named}
-use Rattle.bcs_registry_json.specs.Shown.{shown_choices, shown_container, shown_containers, shown_fields, shown_format, shown_formats, single}
+use Rattle.bcs_registry_json.specs.Shown.{shown_choices, shown_container, shown_containers, shown_struct, shown_format, shown_formats, single}
 use Rattle.bcs_registry_model.specs.Ranges.{IsInRange, NumbersRise, all_sizes_fit, container_sizes_fit, numbers_fit, sizes_fit}
 use Rattle.bcs_registry_json.specs.Text.{IsFormatText, IsRegistryText}
 use Rattle.bcs_registry.specs.TextLaws.{SomeFormat, SomeRegistry}
@@ -140,7 +140,7 @@ some_field : (d : Data) → is_field false d ≡ true → IsFieldText d (field_i
 some_field (object (member n d no_members)) h = let w = some_format d h in record { is = ap (single n) w.is; sizes = w.sizes }
 some_field _ h = absurd (false≢true h)
 
-every_field : (ds : Items) → all_fields false ds ≡ true → (ds ≡ shown_fields (each_field ds)) × (list_all (λ f. sizes_fit f.1) (each_field ds) ≡ true)
+every_field : (ds : Items) → all_fields false ds ≡ true → (ds ≡ shown_struct (each_field ds)) × (list_all (λ f. sizes_fit f.1) (each_field ds) ≡ true)
 every_field no_items h = (refl, refl)
 every_field (item d ds) h =
     let p = and-true_parts (is_field false d) (all_fields false ds) h in

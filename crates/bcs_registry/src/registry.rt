@@ -2,7 +2,7 @@
 ghost use Rattle.std.specs.Prelude.{◌≡◌, option_map, length, string_bytes, IfOk};
 ghost use Rattle.bcs_registry_model.specs.Container.{Entries, container_at, variant_number};
 ghost use Rattle.bcs_registry_model.specs.Ranges.{IsOrderly};
-ghost use Rattle.bcs_registry_json.specs.Shown.{shown};
+ghost use Rattle.bcs_registry_json.specs.Shown.{shown_registry};
 ghost use Rattle.bcs_registry_json.specs.Text.{WritesRegistry};
 ghost use Rattle.bcs_registry_model.specs.View.{container_of, entries_of};
 ghost use Rattle.bcs_registry_model.specs.WellFormed.{IsWellFormed};
@@ -104,7 +104,7 @@ impl Registry {
     /// The compact JSON text of the registry. The members of an object rise by the bytes of their names. Fails only
     /// for want of memory.
     pub fn print(&self, alloc: Global) -> Result<String, AllocError>
-        ensures text { IfOk result (λ s. string_bytes s ≡ compact_text (shown self.now)) }
+        ensures text { IfOk result (λ s. string_bytes s ≡ compact_text (shown_registry self.now)) }
         ensures reads_back { IfOk result (λ s. WritesRegistry (string_bytes s) self.now) }
         ensures no_other { IfOk result (λ s.
             (other : Entries) → WritesRegistry (string_bytes s) other → other ≡ self.now) }

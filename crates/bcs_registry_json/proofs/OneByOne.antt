@@ -15,7 +15,7 @@ use Rattle.bcs_registry_model.specs.Ranges.{IsInRange, IsOrderly}
 use Rattle.bcs_registry_model.specs.View.{container_of, entries_of}
 use Rattle.bcs_registry_model.specs.declared.container.Container.{Container}
 use Rattle.bcs_registry_model.proofs.Rising.{Stored, names_rise}
-use Rattle.bcs_registry_json.specs.Shown.{shown, shown_container, shown_containers}
+use Rattle.bcs_registry_json.specs.Shown.{shown_registry, shown_container, shown_containers}
 use Rattle.bcs_registry_json.proofs.Containers.{AllInRange, insert_in_range, insert_shown}
 use Rattle.bcs_registry_json.proofs.Turns.{converted-object, member_read, members_over, whole_read}
 
@@ -65,9 +65,9 @@ spelled_orderly all rest es are = record { names = names_rise es are.names; cont
 
 -- a text whose tokens spell containers, and nothing after them, is read as these
 pub text_spelled : (text : List ℕ) (all left : List Token) (registry : Entries) → tokens text ≡ Token.begin_object ∷ all
-    → converted (λ ms. of_members ms no_members) (members (value 126) (length all) all) ≡ Some (shown_containers registry, left) → left ≡ [] → read text ≡ Some (shown registry)
+    → converted (λ ms. of_members ms no_members) (members (value 126) (length all) all) ≡ Some (shown_containers registry, left) → left ≡ [] → read text ≡ Some (shown_registry registry)
 text_spelled text all left registry begins are none =
     let opened : value 127 (tokens text) ≡ parse_map json.object (members (value 126) (length all) all) =
     ap (value 127) begins ∙ value-begin_object 127 all (omega arith) in
-    let whole = ap (converted of_json) opened ∙ converted-object (members (value 126) (length all) all) ∙ ap (parse_map object) are ∙ ap (λ (ts : List Token). Some (shown registry, ts)) none in
-    whole_read (value 127 (tokens text)) (shown registry) whole
+    let whole = ap (converted of_json) opened ∙ converted-object (members (value 126) (length all) all) ∙ ap (parse_map object) are ∙ ap (λ (ts : List Token). Some (shown_registry registry, ts)) none in
+    whole_read (value 127 (tokens text)) (shown_registry registry) whole

@@ -10,7 +10,7 @@ use Rattle.std.specs.Ordering.{nat_cmp, ordering_reverse}
 use Rattle.std.specs.String.{string_cmp}
 use Rattle.serde_json.specs.Data.{Data, member, put}
 use Rattle.serde_json.specs.View.{items_of}
-use Rattle.bcs_registry_json.specs.Shown.{single, shown_format, shown_formats, shown_fields, shown_payload, shown_choices, shown_container, shown_containers}
+use Rattle.bcs_registry_json.specs.Shown.{single, shown_format, shown_formats, shown_struct, shown_payload, shown_choices, shown_container, shown_containers}
 use Rattle.bcs_registry_model.specs.View.{shape_of, formats_shapes, field_of, payload_of, choice_of, container_of, entries_of}
 use Rattle.bcs_registry_model.specs.declared.format.Format.{Format}
 use Rattle.bcs_registry_model.specs.declared.named.Named.{Named}
@@ -31,7 +31,7 @@ pub items_formats : (fs : List Format) → items_of (map format_data fs) ≡ sho
 items_formats [] = refl
 items_formats (f ∷ fs) = rw (items_formats fs) refl
 
-pub items_fields : (fs : List (Named Format)) → items_of (map field_data fs) ≡ shown_fields (map field_of fs)
+pub items_fields : (fs : List (Named Format)) → items_of (map field_data fs) ≡ shown_struct (map field_of fs)
 items_fields [] = refl
 items_fields (f ∷ fs) = rw (items_fields fs) refl
 

@@ -4,7 +4,7 @@ use Rattle.std.specs.List.{list_all}
 use Rattle.serde_json.specs.Data.{Data, array, object}
 use Rattle.bcs_registry_model.specs.Container.{Choice, Container, Field, Payload, enumeration}
 use Rattle.bcs_registry_model.specs.Shape.{Shapes}
-use Rattle.bcs_registry_json.specs.Shown.{shown_choices, shown_container, shown_fields, shown_format, shown_formats, shown_payload, single}
+use Rattle.bcs_registry_json.specs.Shown.{shown_choices, shown_container, shown_struct, shown_format, shown_formats, shown_payload, single}
 use Rattle.bcs_registry_model.specs.Ranges.{IsInRange, all_sizes_fit, payload_sizes_fit, sizes_fit}
 use Rattle.bcs_registry_model.specs.declared.fault.RegistryFault.{RegistryFault}
 use Rattle.bcs_registry_model.specs.declared.fault.RegistryFault.TheVariants.{BadNumber, BadShape, OutOfMemory}
@@ -35,7 +35,7 @@ pub record IsFieldText (d : Data) (f : Field) : Type 0 where
 
 -- the fields of a struct
 pub record IsFieldsText (d : Data) (fs : List Field) : Type 0 where
-  pub is : d ≡ array (shown_fields fs)
+  pub is : d ≡ array (shown_struct fs)
   pub sizes : IsTrue (list_all (λ f. sizes_fit f.1) fs)
 
 -- what a variant carries

@@ -29,15 +29,15 @@ abbrev mutual
   shown_formats (shape s ss) = item (shown_format s) (shown_formats ss)
 
 -- each field is an object of its own, in the order of their encoding
-abbrev pub shown_fields : List Field → Items
-shown_fields [] = no_items
-shown_fields (f ∷ fs) = item (single f.0 (shown_format f.1)) (shown_fields fs)
+abbrev pub shown_struct : List Field → Items
+shown_struct [] = no_items
+shown_struct (f ∷ fs) = item (single f.0 (shown_format f.1)) (shown_struct fs)
 
 abbrev pub shown_payload : Payload → Data
 shown_payload container.unit = string (codes "UNIT")
 shown_payload (container.newtype s) = single (codes "NEWTYPE") (shown_format s)
 shown_payload (container.tuple ss) = single (codes "TUPLE") (list (shown_formats ss))
-shown_payload (container.fields fs) = single (codes "STRUCT") (list (shown_fields fs))
+shown_payload (container.fields fs) = single (codes "STRUCT") (list (shown_struct fs))
 
 -- each variant stands under its number in plain decimal: `"10"` before `"2"`
 abbrev pub shown_choices : List Choice → Members
@@ -48,7 +48,7 @@ abbrev pub shown_container : Container → Data
 shown_container unit_struct = string (codes "UNITSTRUCT")
 shown_container (newtype_struct s) = single (codes "NEWTYPESTRUCT") (shown_format s)
 shown_container (tuple_struct ss) = single (codes "TUPLESTRUCT") (list (shown_formats ss))
-shown_container (field_struct fs) = single (codes "STRUCT") (list (shown_fields fs))
+shown_container (field_struct fs) = single (codes "STRUCT") (list (shown_struct fs))
 shown_container (enumeration cs) = single (codes "ENUM") (object (shown_choices cs))
 
 -- the containers stand in the registry's order, which is that of the bytes of their names
@@ -56,5 +56,5 @@ abbrev pub shown_containers : Entries → Members
 shown_containers [] = no_members
 shown_containers (e ∷ es) = member e.0 (shown_container e.1) (shown_containers es)
 
-abbrev pub shown : Entries → Data
-shown registry = object (shown_containers registry)
+abbrev pub shown_registry : Entries → Data
+shown_registry registry = object (shown_containers registry)

@@ -5,7 +5,7 @@ use Rattle.bcs_registry_model.specs.Container.{Entries}
 use Rattle.bcs_registry_model.specs.Ranges.{IsOrderly, sizes_fit}
 use Rattle.bcs_registry_model.specs.Shape.{Shape}
 use Rattle.bcs_registry_json.specs.Json.{IsJson}
-use Rattle.bcs_registry_json.specs.Shown.{shown, shown_format}
+use Rattle.bcs_registry_json.specs.Shown.{shown_registry, shown_format}
 
 -- the JSON writes down this format
 pub record IsFormatText (d : Data) (s : Shape) : Type 0 where
@@ -14,7 +14,7 @@ pub record IsFormatText (d : Data) (s : Shape) : Type 0 where
 
 -- the JSON writes down this registry, which is a finite map with its numbers in range
 pub record IsRegistryText (d : Data) (registry : Entries) : Type 0 where
-  pub is : d ≡ shown registry
+  pub is : d ≡ shown_registry registry
   pub orderly : IsOrderly registry
 
 -- ---- by texts

@@ -1,6 +1,6 @@
 //! The JSON value that a registry is written as.
 ghost use Rattle.std.specs.Prelude.{◌≡◌, IfOk};
-ghost use Rattle.bcs_registry_json.specs.Shown.{shown};
+ghost use Rattle.bcs_registry_json.specs.Shown.{shown_registry};
 ghost use Rattle.bcs_registry_model.specs.View.{entries_of};
 ghost use Rattle.serde_json.specs.View.{view};
 
@@ -20,7 +20,7 @@ pub fn registry_value(
     alloc: Global,
     containers: &BTreeMap<String, Container>,
 ) -> Result<Value, AllocError>
-    ensures { IfOk result (λ v. view v ≡ shown (entries_of containers.now.entries)) }
+    ensures { IfOk result (λ v. view v ≡ shown_registry (entries_of containers.now.entries)) }
 {
     let mut members = Map::new(alloc);
     for (name, container) in containers {

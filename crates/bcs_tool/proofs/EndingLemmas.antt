@@ -4,8 +4,8 @@ use Rattle.std.specs.Prelude.{IfErr, OnOk, String, string_bytes}
 use Rattle.std.specs.declared.alloc.Global.{Global}
 use Rattle.std.proofs.Math.Seq.{take-append-add}
 use Rattle.std.proofs.lemmas.List.{take-append-le}
-use Rattle.bcs_io.specs.Taking.{Took, Lost}
-use Rattle.bcs_io.proofs.TakingLemmas.{Lost-then, Took-then}
+use Rattle.bcs_io.specs.Taking.{Took, TookThenFailed}
+use Rattle.bcs_io.proofs.TakingLemmas.{TookThenFailed-then, Took-then}
 use Rattle.bcs_tool_command_line.specs.declared.job.Job.{Job}
 use Rattle.bcs_tool_command_line.specs.declared.line_fault.LineFault.{LineFault}
 use Rattle.bcs_tool_command_line.specs.declared.line_fault.LineFault.TheVariants.{Usage, Help, OutOfMemory}
@@ -14,25 +14,25 @@ use Rattle.bcs_tool_command_line.specs.declared.work.Work.{Work}
 use Rattle.bcs_tool.specs.Pairs.{EndsPairs, IsReportOf, PairRuns}
 use Rattle.bcs_tool.specs.Running.{IsAnswered, IsFailed, PutFront, Runs}
 use Rattle.bcs_tool.specs.declared.pair_interruption.PairInterruption.{PairInterruption}
-use Rattle.bcs_tool.specs.Endings.{Performs, PerformsOne, PerformsPairs, TellsFault, Told, first_unopened, lacks_file, over_file, over_input, over_one, over_pairs, pairs_over_file, pairs_over_input, second_unopened, unopened}
+use Rattle.bcs_tool.specs.Endings.{Performs, PerformsOne, PerformsPairs, TellsFault, Put, first_unopened, lacks_file, over_file, over_input, over_one, over_pairs, pairs_over_file, pairs_over_input, second_unopened, unopened}
 
 module _ {K : Type 0} (taken : K → Option (List ℕ)) (is_failed : K → Bool) where
   -- a text that is put, or else in part
   pub is_told : {A : Type 0} (r : Result A ℕ) (old new : K) (text : List ℕ)
-      → OnOk r (Took taken is_failed old new text) → IfErr r (λ n. (n < length text) × Lost taken is_failed old new (take n text)) → Told taken is_failed old new text
+      → OnOk r (Took taken is_failed old new text) → IfErr r (λ n. (n < length text) × TookThenFailed taken is_failed old new (take n text)) → Put taken is_failed old new text
   is_told (Ok a) old new text whole part = inl whole
   is_told (Err n) old new text whole part = inr (n, part.0, part.1)
 
   -- a front of a text is one of the text with more behind it
   pub front_of_more : (old new : K) (xs ys : List ℕ) → PutFront taken is_failed old new xs → PutFront taken is_failed old new (xs ++ ys)
   front_of_more old new xs ys (n, short, lost) =
-      (n, omega (arith, length-append xs ys), subst (λ (bs : List ℕ). Lost taken is_failed old new bs) (sym (take-append-le n xs ys (omega arith))) lost)
+      (n, omega (arith, length-append xs ys), subst (λ (bs : List ℕ). TookThenFailed taken is_failed old new bs) (sym (take-append-le n xs ys (omega arith))) lost)
 
   -- a text was put, and then another was told
-  pub told_then : (a b c : K) (xs ys : List ℕ) → Took taken is_failed a b xs → Told taken is_failed b c ys → Told taken is_failed a c (xs ++ ys)
+  pub told_then : (a b c : K) (xs ys : List ℕ) → Took taken is_failed a b xs → Put taken is_failed b c ys → Put taken is_failed a c (xs ++ ys)
   told_then a b c xs ys first (inl whole) = inl (Took-then taken is_failed a b c xs ys first whole)
   told_then a b c xs ys first (inr (n, short, lost)) =
-      inr (length xs + n, omega (arith, length-append xs ys), subst (λ (bs : List ℕ). Lost taken is_failed a c bs) (sym (take-append-add xs ys n)) (Lost-then taken is_failed a b c xs (take n ys) first lost))
+      inr (length xs + n, omega (arith, length-append xs ys), subst (λ (bs : List ℕ). TookThenFailed taken is_failed a c bs) (sym (take-append-add xs ys n)) (TookThenFailed-then taken is_failed a b c xs (take n ys) first lost))
 
 -- ---- words that are no job
 

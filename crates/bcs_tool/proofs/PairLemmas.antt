@@ -3,7 +3,7 @@ use Rattle.std.proofs.Common.{◌≡◌, ◌≢◌, ◌<◌, ◌+◌, ◌^◌, �
 use Rattle.std.specs.Prelude.{IfSome}
 use Rattle.bcs_io.specs.Taking as sink
 use Rattle.bcs_io.proofs.TakingLemmas as taking
-use Rattle.bcs_io.specs.Held.{Held}
+use Rattle.bcs_io.specs.Held.{HeldLine}
 use Rattle.bcs_io.specs.Lines.{lines_of}
 use Rattle.bcs_io.specs.declared.next_fault.NextFault.{NextFault}
 use Rattle.bcs_io.specs.declared.next_fault.NextFault.TheVariants as next_fault
@@ -45,7 +45,7 @@ module _ {F S K : Type 0} (former : F → Option (List ℕ)) (former_stopped : F
     counted = counted;
   }
 
-  module _ (first a b : F) (second x y : S) (out out' : K) (one one' other other' : Held) (tally : Tally)
+  module _ (first a b : F) (second x y : S) (out out' : K) (one one' other other' : HeldLine) (tally : Tally)
       (far : ArePairsSoFar former former_stopped former_allowance content has_stopped allowance taken is_failed work first a second x out out' one.rest other.rest tally) where
     many : length far.statuses ≡ tally.answered
     many = sym far.counted.answered
@@ -166,7 +166,7 @@ module _ {F S K : Type 0} (former : F → Option (List ℕ)) (former_stopped : F
       next = next;
       shown = shown;
       short = short;
-      put = taking.Lost-then taken is_failed out out' out'' far.output (take shown output) far.put lost;
+      put = taking.TookThenFailed-then taken is_failed out out' out'' far.output (take shown output) far.put lost;
     }
 
     next_first : ReadsOn former former_stopped former_allowance true a b one one' → AreFirst (former first) (far.firsts ++ one'.line ∷ [])

@@ -49,7 +49,7 @@ module _ {F S K : Type 0} (former : F → Option (List ℕ)) (former_stopped : F
   -- memory ran out before a file was read
   pub no_memory_for_pairs : (first : F) (second : S) (out : K) → EndsPairs former former_stopped former_allowance content has_stopped allowance taken is_failed work first first second second out out
       (Err (record { side = First; interruption = record { fault = Take OutOfMemory; answered = 0 } }))
-  no_memory_for_pairs first second out = (([], giving.Took-nothing former former_stopped former_allowance first), ([], giving.Took-nothing content has_stopped allowance second), none_given first second, nothing_put first second out)
+  no_memory_for_pairs first second out = (([], giving.Gave-nothing former former_stopped former_allowance first), ([], giving.Gave-nothing content has_stopped allowance second), none_given first second, nothing_put first second out)
 
   -- the words are refused, and the one answer was put, or a front of it
   module _ (first : F) (second : S) (out out' : K) (answer : Answer) (none : ¬ ReadsInput work) (is : IsAnswer work [] answer) where

@@ -5,7 +5,7 @@ use Rattle.std.proofs.lemmas.List.Elements.{All-nil, All-push}
 use Rattle.bcs_io.specs.Giving as source
 use Rattle.bcs_io.proofs.GivingLemmas as giving
 use Rattle.bcs_io.specs.Advancing.{FailsInLine, HasNoLine, IsLastLine, IsTooLong, TakesLine}
-use Rattle.bcs_io.specs.Held.{Held}
+use Rattle.bcs_io.specs.Held.{HeldLine}
 use Rattle.bcs_io.specs.Lines.{HasNoLineFeed, before_block, line_feeds, lines_of}
 use Rattle.bcs_io.proofs.Ahead.{block_behind, short_ahead}
 use Rattle.bcs_io.proofs.FeedLemmas.{feeds_append, feeds_before_block, feeds_none}
@@ -29,7 +29,7 @@ module _ {S : Type 0} (content : S → Option (List ℕ)) (has_stopped : S → B
   pub none_read : (input : S) → AreRead content has_stopped allowance input input [] []
   none_read input = record {
     given = [];
-    took = giving.Took-nothing content has_stopped allowance input;
+    took = giving.Gave-nothing content has_stopped allowance input;
     front = [];
     parts = refl;
     few = omega arith;
@@ -50,7 +50,7 @@ module _ {S : Type 0} (content : S → Option (List ℕ)) (has_stopped : S → B
   )
 
   -- a line took a byte at least
-  pub line_room : (now later : S) (before after : Held) → TakesLine content has_stopped allowance size_limit now later before after
+  pub line_room : (now later : S) (before after : HeldLine) → TakesLine content has_stopped allowance size_limit now later before after
       → 1 + length after.rest + allowance later ≤ length before.rest + allowance now
   line_room now later before after takes = go takes.parts
     where
@@ -60,7 +60,7 @@ module _ {S : Type 0} (content : S → Option (List ℕ)) (has_stopped : S → B
       go (inr last) =
           omega (arith, takes.took.less, ap (λ (t : List ℕ). length t) last.line, length-append before.rest takes.given, some_long after.line last.some, ap (λ (t : List ℕ). length t) last.rest)
 
-  module _ (input now later : S) (lines : List (List ℕ)) (before after : Held) (read : AreRead content has_stopped allowance input now lines before.rest) where
+  module _ (input now later : S) (lines : List (List ℕ)) (before after : HeldLine) (read : AreRead content has_stopped allowance input now lines before.rest) where
     -- the content behind the line that was read
     stand_behind : TakesLine content has_stopped allowance size_limit now later before after → StandBefore (content input) (content later) (lines ++ after.line ∷ []) after.rest
     stand_behind takes = go takes.parts
@@ -92,7 +92,7 @@ module _ {S : Type 0} (content : S → Option (List ℕ)) (has_stopped : S → B
         let behind = front_behind takes.given takes.plain takes.parts in
         record {
           given = read.given ++ takes.given;
-          took = giving.Took-then content has_stopped allowance input now later read.given takes.given read.took takes.took;
+          took = giving.Gave-then content has_stopped allowance input now later read.given takes.given read.took takes.took;
           front = behind.0;
           parts = behind.1;
           few = omega (arith, behind.2, length-append lines (after.line ∷ []));
@@ -130,8 +130,8 @@ module _ {S : Type 0} (content : S → Option (List ℕ)) (has_stopped : S → B
     long_behind long = stand_long (content input) (content now) (content later) lines before.rest long.given long.took.front long.longer long.plain read.stand
 
     -- what was given of the input in all
-    pub gave : (given : List ℕ) → source.Took content has_stopped allowance now later given → (bytes : List ℕ) × source.Took content has_stopped allowance input later bytes
-    gave given took = (read.given ++ given, giving.Took-then content has_stopped allowance input now later read.given given read.took took)
+    pub gave : (given : List ℕ) → source.Gave content has_stopped allowance now later given → (bytes : List ℕ) × source.Gave content has_stopped allowance input later bytes
+    gave given took = (read.given ++ given, giving.Gave-then content has_stopped allowance input now later read.given given read.took took)
 
     -- behind the lines no whole one was given
     gave_none : (given : List ℕ) → HasNoLineFeed (before.rest ++ given) → line_feeds (read.given ++ given) ≤ length lines
@@ -141,7 +141,7 @@ module _ {S : Type 0} (content : S → Option (List ℕ)) (has_stopped : S → B
     pub broke_in_line : FailsInLine content has_stopped allowance size_limit now later before after → BrokeInLine content has_stopped allowance input later (length lines)
     broke_in_line fails = (
       read.given ++ fails.given,
-      giving.Lost-then content has_stopped allowance input now later read.given fails.given read.took fails.lost,
+      giving.GaveThenFailed-then content has_stopped allowance input now later read.given fails.given read.took fails.lost,
       gave_none fails.given fails.plain,
     )
 
@@ -151,9 +151,9 @@ module _ {S : Type 0} (content : S → Option (List ℕ)) (has_stopped : S → B
         let parts : read.given ++ given ≡ read.front ++ (before.rest ++ given) = ap (λ (t : List ℕ). t ++ given) read.parts ∙ append_assoc read.front before.rest given in
         omega (arith, ap (λ (t : List ℕ). line_feeds (before_block t)) parts, feeds_before_block read.front (before.rest ++ given) ahead, read.few)
 
-    pub few_given : (given : List ℕ) → source.Took content has_stopped allowance now later given → HasNoLineFeed (before_block (before.rest ++ given))
+    pub few_given : (given : List ℕ) → source.Gave content has_stopped allowance now later given → HasNoLineFeed (before_block (before.rest ++ given))
         → GaveFew content has_stopped allowance input later (length lines)
-    few_given given took ahead = (read.given ++ given, giving.Took-then content has_stopped allowance input now later read.given given read.took took, gave_few given ahead)
+    few_given given took ahead = (read.given ++ given, giving.Gave-then content has_stopped allowance input now later read.given given read.took took, gave_few given ahead)
 
     -- the next line was read, and none before the last block stands behind it
     line_ahead : (takes : TakesLine content has_stopped allowance size_limit now later before after) → HasNoLineFeed (before_block (before.rest ++ takes.given))

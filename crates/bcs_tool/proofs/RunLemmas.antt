@@ -77,7 +77,7 @@ module _ {S K : Type 0} (content : S → Option (List ℕ)) (has_stopped : S →
 
   -- the input wasn't read
   pub unread : (input : S) → ReadsNoFurther content has_stopped allowance taken is_failed work input input 0
-  unread input lines = ([], giving.Took-nothing content has_stopped allowance input, omega arith)
+  unread input lines = ([], giving.Gave-nothing content has_stopped allowance input, omega arith)
 
   -- memory ran out before the input was read, or behind all of it
   pub no_memory : (input input' : S) (out : K) → IsUnhurt content has_stopped allowance taken is_failed work input input'
@@ -85,15 +85,15 @@ module _ {S K : Type 0} (content : S → Option (List ℕ)) (has_stopped : S →
       → Ends content has_stopped allowance taken is_failed work input input' out out (Err (record { fault = Take take_fault.OutOfMemory; answered = 0 }))
   no_memory input input' out unhurt no_further = (unhurt, no_further, nothing_before input out)
 
-  pub unhurt_whole : (input input' : S) (bytes : List ℕ) → source.Took content has_stopped allowance input input' bytes → length bytes ≤ size_limit → has_stopped input' ≡ false
+  pub unhurt_whole : (input input' : S) (bytes : List ℕ) → source.Gave content has_stopped allowance input input' bytes → length bytes ≤ size_limit → has_stopped input' ≡ false
       → IsUnhurt content has_stopped allowance taken is_failed work input input'
   unhurt_whole input input' bytes took within works = inr (inl (bytes, took, λ whole. (within, works)))
 
   -- the input was not taken
   pub not_taken : (input input' : S) (out : K) (fault : TakeFault) → ReadsInput work → ¬ HasLines work
-      → (fault ≡ take_fault.Read → (bytes : List ℕ) × source.Lost content has_stopped allowance input input' bytes × (length bytes ≤ size_limit))
-      → (fault ≡ take_fault.TooLarge → (bytes : List ℕ) × source.Took content has_stopped allowance input input' bytes × (length bytes ≡ size_limit + 1))
-      → (fault ≡ take_fault.OutOfMemory → (bytes : List ℕ) × source.Took content has_stopped allowance input input' bytes × (length bytes ≤ size_limit) × (has_stopped input' ≡ false))
+      → (fault ≡ take_fault.Read → (bytes : List ℕ) × source.GaveThenFailed content has_stopped allowance input input' bytes × (length bytes ≤ size_limit))
+      → (fault ≡ take_fault.TooLarge → (bytes : List ℕ) × source.Gave content has_stopped allowance input input' bytes × (length bytes ≡ size_limit + 1))
+      → (fault ≡ take_fault.OutOfMemory → (bytes : List ℕ) × source.Gave content has_stopped allowance input input' bytes × (length bytes ≤ size_limit) × (has_stopped input' ≡ false))
       → Ends content has_stopped allowance taken is_failed work input input' out out (Err (record { fault = Take fault; answered = 0 }))
   not_taken input input' out take_fault.Read reads whole read large memory = (reads, (read refl).1.after, λ lines. absurd (whole lines), nothing_before input out)
   not_taken input input' out take_fault.TooLarge reads whole read large memory =

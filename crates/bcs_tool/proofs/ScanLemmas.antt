@@ -10,11 +10,11 @@ use Rattle.bcs_registry_model.specs.Container.{Entries}
 use Rattle.bcs_registry_model.specs.Shape.{Shape}
 use Rattle.bcs_registry_model.specs.View.{shape_of}
 use Rattle.bcs_tool_answers.specs.Answers.{Answers, IsAsked, count_line, scan_stopped, scanned, stop_line}
-use Rattle.bcs_tool_answers.specs.Input.{Gives}
+use Rattle.bcs_tool_answers.specs.Input.{GivesBytes}
 use Rattle.bcs_tool_answers.specs.Judging.{Asks, is_scan, is_unlimited}
 use Rattle.bcs_tool_answers.specs.LineAnswers.{none}
 use Rattle.bcs_tool_answers.specs.Places as places
-use Rattle.bcs_tool_answers.specs.Places.{Prints}
+use Rattle.bcs_tool_answers.specs.Places.{PrintsWithoutPlace}
 use Rattle.bcs_tool_answers.specs.Preparing.{IsAskedBy}
 use Rattle.bcs_tool_answers.specs.declared.answer.Answer.{Answer}
 use Rattle.bcs_tool_answers.specs.declared.judging.Asked.{Asked}
@@ -37,7 +37,7 @@ use Rattle.bcs_tool.proofs.RunLemmas.{nothing_before}
 -- ---- the answer
 
 -- as they are, bytes give themselves
-given_raw : (coding : Coding) (input : List ℕ) → is_raw coding ≡ true → Gives coding input input
+given_raw : (coding : Coding) (input : List ℕ) → is_raw coding ≡ true → GivesBytes coding input input
 given_raw Hexadecimal input is = cc
 given_raw Base64 input is = cc
 given_raw Raw input is = refl
@@ -46,7 +46,7 @@ module _ (work : Work) (registry : Entries) (s : Shape) (asks : Asks work regist
   asked : (input : List ℕ) → IsAsked work input Scan registry s
   asked input = record { is_command = is; asks = asks; within = λ limited. absurd (true≢false (sym unlimited ∙ limited)) }
 
-  given : (input : List ℕ) → Gives (coding_of work) input input
+  given : (input : List ℕ) → GivesBytes (coding_of work) input input
   given input = given_raw (coding_of work) input raw
 
   pub counts : (front : Bool) → work.options.front ≡ front → (content left : Option (List ℕ)) (n : ℕ) → Scans front registry work.limits s content left (Ok n)
@@ -80,7 +80,7 @@ gone_at_want front work registry s None left told = tt
 gone_at_want true work registry s (Some all) left told = λ _. told
 gone_at_want false work registry s (Some all) left told = λ _. told
 
-pub is_scanned : (work : Work) (content : Option (List ℕ)) (a : Answer) (status : ℕ) (output : List ℕ) → status ≤ 2 → Prints a status output
+pub is_scanned : (work : Work) (content : Option (List ℕ)) (a : Answer) (status : ℕ) (output : List ℕ) → status ≤ 2 → PrintsWithoutPlace a status output
     → IfTold content (λ all. Answers work all status output) → IsScanned work content a
 is_scanned work content a status output within prints told = record {
   below = omega (arith, within, prints.same_status);
@@ -109,7 +109,7 @@ scan_raw command.Scan raw is = (refl, is)
 
 module _ (work : Work) (asked : Asked) (asks : IsAskedBy work asked) (streams : Streams work) where
   pub scanned_count : (content left : Option (List ℕ)) (n : ℕ) (a : Answer) → Scans work.options.front asked.registry work.limits (shape_of asked.format) content left (Ok n)
-      → Prints a 0 (count_line n) → IsScanned work content a
+      → PrintsWithoutPlace a 0 (count_line n) → IsScanned work content a
   scanned_count content left n a told prints =
       let is = scan_raw work.command (is_raw (coding_of work)) streams.0 in
       is_scanned work content a 0 (count_line n) (omega arith) prints

@@ -3,20 +3,20 @@ use Rattle.std.proofs.Common.{◌≡◌, ◌<◌, ◌≤◌, ◌+◌, ◌-◌, �
 use Rattle.std.specs.Prelude.{IfErr, OnOk, OnErr, codes}
 use Rattle.std.proofs.Math.Seq.{take-append-add}
 use Rattle.std.proofs.lemmas.Str.{chars_past_char, chars-nil}
-use Rattle.bcs_io.specs.Taking.{Took, Lost}
-use Rattle.bcs_io.proofs.TakingLemmas.{Lost-then, Took-then}
+use Rattle.bcs_io.specs.Taking.{Took, TookThenFailed}
+use Rattle.bcs_io.proofs.TakingLemmas.{TookThenFailed-then, Took-then}
 use Rattle.bcs_look_text.specs.Escaped.{numbered}
 use Rattle.bcs_tool.specs.Running.{PutFront}
-use Rattle.bcs_tool.specs.Visible.{escape, is_hidden, shown, usage_text, visible}
+use Rattle.bcs_tool.specs.Visible.{escape, is_hidden, visible_char, usage_text, visible}
 
 -- ---- one character
 
-pub shown_hidden : (keeps : Bool) (c : ℕ) → is_hidden keeps c ≡ true → shown keeps c ≡ escape c
-unfolding shown
+pub shown_hidden : (keeps : Bool) (c : ℕ) → is_hidden keeps c ≡ true → visible_char keeps c ≡ escape c
+unfolding visible_char
 shown_hidden keeps c is = rw is refl
 
-pub shown_plain : (keeps : Bool) (c : ℕ) → is_hidden keeps c ≡ false → shown keeps c ≡ encode_utf8 c
-unfolding shown
+pub shown_plain : (keeps : Bool) (c : ℕ) → is_hidden keeps c ≡ false → visible_char keeps c ≡ encode_utf8 c
+unfolding visible_char
 shown_plain keeps c is = rw is refl
 
 pub escape_low : (c : ℕ) → c < 65536 → escape c ≡ numbered c
@@ -29,17 +29,17 @@ escape_high c high = grind arith
 
 -- ---- the characters that are left
 
-pub left_visible : (keeps : Bool) (text : List ℕ) → flat_map (shown keeps) (chars text) ≡ visible keeps text
+pub left_visible : (keeps : Bool) (text : List ℕ) → flat_map (visible_char keeps) (chars text) ≡ visible keeps text
 unfolding visible
 left_visible keeps text = refl
 
 -- a character comes off the front
 pub left_after : (keeps : Bool) (before after : List ℕ) (c : ℕ) → IsUtf8 before → before ≡ encode_utf8 c ++ after
-    → shown keeps c ++ flat_map (shown keeps) (chars after) ≡ flat_map (shown keeps) (chars before)
-left_after keeps before after c text begins = sym (ap (flat_map (shown keeps)) (chars_past_char before after c text begins))
+    → visible_char keeps c ++ flat_map (visible_char keeps) (chars after) ≡ flat_map (visible_char keeps) (chars before)
+left_after keeps before after c text begins = sym (ap (flat_map (visible_char keeps)) (chars_past_char before after c text begins))
 
-pub left_none : (keeps : Bool) (rest : List ℕ) → length rest ≡ 0 → flat_map (shown keeps) (chars rest) ≡ []
-left_none keeps [] none = ap (flat_map (shown keeps)) chars-nil
+pub left_none : (keeps : Bool) (rest : List ℕ) → length rest ≡ 0 → flat_map (visible_char keeps) (chars rest) ≡ []
+left_none keeps [] none = ap (flat_map (visible_char keeps)) chars-nil
 left_none keeps (b ∷ bs) none = absurd (omega arith)
 
 -- where lines aren't kept, a line end follows
@@ -52,11 +52,11 @@ module _ {K : Type 0} (taken : K → Option (List ℕ)) (is_failed : K → Bool)
   -- one text, and then a front of another
   pub front_then : (a b c : K) (xs ys : List ℕ) → Took taken is_failed a b xs → PutFront taken is_failed b c ys → PutFront taken is_failed a c (xs ++ ys)
   front_then a b c xs ys first (n, short, lost) =
-      (length xs + n, omega (arith, length-append xs ys), subst (λ (bs : List ℕ). Lost taken is_failed a c bs) (sym (take-append-add xs ys n)) (Lost-then taken is_failed a b c xs (take n ys) first lost))
+      (length xs + n, omega (arith, length-append xs ys), subst (λ (bs : List ℕ). TookThenFailed taken is_failed a c bs) (sym (take-append-add xs ys n)) (TookThenFailed-then taken is_failed a b c xs (take n ys) first lost))
 
   -- what a call says of a text that it put in part
   pub part_of : {A : Type 0} (r : Result A ℕ) (a b : K) (text : List ℕ)
-      → IfErr r (λ n. (n < length text) × Lost taken is_failed a b (take n text)) → OnErr r (PutFront taken is_failed a b text)
+      → IfErr r (λ n. (n < length text) × TookThenFailed taken is_failed a b (take n text)) → OnErr r (PutFront taken is_failed a b text)
   part_of (Ok v) a b text part = tt
   part_of (Err n) a b text part = (n, part.0, part.1)
 
@@ -77,18 +77,18 @@ nothing_left [] none = refl
 nothing_left (b ∷ bs) none = absurd (omega arith)
 
 pub all_put : (keeps : Bool) (text done rest : List ℕ) → length rest ≡ 0
-    → done ++ flat_map (shown keeps) (chars rest) ≡ visible keeps text → done ≡ visible keeps text
+    → done ++ flat_map (visible_char keeps) (chars rest) ≡ visible keeps text → done ≡ visible keeps text
 all_put keeps text done rest none whole =
     sym (append-nil done) ∙ ap (λ (bs : List ℕ). done ++ bs) (sym (left_none keeps rest none)) ∙ whole
 
 pub none_hidden : (keeps : Bool) (text done rest : List ℕ) → length rest ≡ 0 → done ++ rest ≡ text
-    → done ++ flat_map (shown keeps) (chars rest) ≡ visible keeps text → visible keeps text ≡ text
+    → done ++ flat_map (visible_char keeps) (chars rest) ≡ visible keeps text → visible keeps text ≡ text
 none_hidden keeps text done rest none same whole =
     sym (all_put keeps text done rest none whole) ∙ sym (append-nil done) ∙ ap (λ (bs : List ℕ). done ++ bs) (sym (nothing_left rest none)) ∙ same
 
 -- one character more was put
 pub one_more : (keeps : Bool) (text done before after : List ℕ) (c : ℕ) → IsUtf8 before → before ≡ encode_utf8 c ++ after
-    → done ++ flat_map (shown keeps) (chars before) ≡ visible keeps text
-    → (done ++ shown keeps c) ++ flat_map (shown keeps) (chars after) ≡ visible keeps text
+    → done ++ flat_map (visible_char keeps) (chars before) ≡ visible keeps text
+    → (done ++ visible_char keeps c) ++ flat_map (visible_char keeps) (chars after) ≡ visible keeps text
 one_more keeps text done before after c utf8 begins whole =
     append_assoc done _ _ ∙ ap (λ (bs : List ℕ). done ++ bs) (left_after keeps before after c utf8 begins) ∙ whole

@@ -5,7 +5,7 @@ use Rattle.bcs_io.specs.Giving as source
 use Rattle.bcs_io.specs.Taking as sink
 use Rattle.bcs_io.proofs.TakingLemmas as taking
 use Rattle.bcs_io.specs.Advancing.{FailsInLine, HasNoLine, IsTooLong, RunsOut, TakesLine}
-use Rattle.bcs_io.specs.Held.{Held}
+use Rattle.bcs_io.specs.Held.{HeldLine}
 use Rattle.bcs_io.specs.declared.next_fault.NextFault.{NextFault}
 use Rattle.bcs_io.specs.declared.next_fault.NextFault.TheVariants as next_fault
 use Rattle.bcs_tool_answers.specs.Answers.{Answers}
@@ -36,7 +36,7 @@ module _ {S K : Type 0} (content : S → Option (List ℕ)) (has_stopped : S →
     counted = counted;
   }
 
-  module _ (input now later : S) (out out' : K) (before after : Held) (tally : Tally)
+  module _ (input now later : S) (out out' : K) (before after : HeldLine) (tally : Tally)
       (far : IsSoFar content has_stopped allowance taken is_failed work input now out out' before.rest tally) where
     -- a line was read, and its answer put
     pub so_far_line : (out'' : K) (status : ℕ) (output : List ℕ) (more : Tally) → TakesLine content has_stopped allowance size_limit now later before after
@@ -99,7 +99,7 @@ module _ {S K : Type 0} (content : S → Option (List ℕ)) (has_stopped : S →
         )
 
     -- memory ran out, and no call of the input failed
-    pub unhurt : HasLines work → (given : List ℕ) → source.Took content has_stopped allowance now later given → IsUnhurt content has_stopped allowance taken is_failed work input later
+    pub unhurt : HasLines work → (given : List ℕ) → source.Gave content has_stopped allowance now later given → IsUnhurt content has_stopped allowance taken is_failed work input later
     unhurt by_line given took =
         let all = gave content has_stopped allowance input now later far.lines before after far.read given took in
         inr (inl (all.0, all.1, λ whole. absurd (whole by_line)))
@@ -132,7 +132,7 @@ module _ {S K : Type 0} (content : S → Option (List ℕ)) (has_stopped : S →
       next = inl (by_line, (after.line, first_read content has_stopped allowance input later (far.lines ++ after.line ∷ []) after.rest (line_read content has_stopped allowance input now later far.lines before after far.read takes), answer));
       shown = shown;
       short = short;
-      put = taking.Lost-then taken is_failed out out' out'' far.output (take shown output) far.put lost;
+      put = taking.TookThenFailed-then taken is_failed out out' out'' far.output (take shown output) far.put lost;
       once = λ whole. absurd (whole by_line);
     }
 

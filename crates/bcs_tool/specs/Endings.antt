@@ -6,7 +6,7 @@ use Rattle.bcs_io.specs.Taking as sink
 use Rattle.bcs_io.specs.declared.read_source.ReadSource.{ReadSource}
 use Rattle.bcs_tool_answers.specs.Answers.{line_of}
 use Rattle.bcs_tool_command_line.specs.FaultPlaces.{TellsPlace, file_place, file_text, origin_text}
-use Rattle.bcs_tool_command_line.specs.Files.{ComparesLines, IsFaultOfFiles, IsWorkOf, NamesForWork, NamesNoFile, fault_of, file_note}
+use Rattle.bcs_tool_command_line.specs.Files.{ComparesLines, IsFaultOfFiles, IsWorkOf, NamesForWork, NamesNoFile, file_fault_of, file_note}
 use Rattle.bcs_tool_command_line.specs.declared.open_cause.OpenCause.{OpenCause}
 use Rattle.bcs_tool_command_line.specs.declared.origin.Origin.TheVariants.{StandardInput}
 use Rattle.bcs_io.specs.declared.taking.TakeFault.TheVariants as taking
@@ -25,17 +25,17 @@ use Rattle.bcs_tool.specs.Visible.{usage_text}
 
 module _ {K : Type 0} (taken : K → Option (List ℕ)) (is_failed : K → Bool) where
   -- the text was put, or a front of it where the stream failed
-  abbrev pub Told : K → K → List ℕ → Type 0
-  Told old new text = sink.Took taken is_failed old new text ⊎ PutFront taken is_failed old new text
+  abbrev pub Put : K → K → List ℕ → Type 0
+  Put old new text = sink.Took taken is_failed old new text ⊎ PutFront taken is_failed old new text
 
   -- the program ends with the report's status; its note stands on a line of the standard error, and then its place on one,
   -- each where it has one
   abbrev pub TellsReport : Report → K → K → ℕ → Type 0
   TellsReport report old new status = (status ≡ report.outcome.status)
       × (report.outcome.note.now ≡ [] → report.place.items ≡ [] → new ≡ old)
-      × (report.outcome.note.now ≢ [] → report.place.items ≡ [] → Told old new (line_of report.outcome.note.now))
-      × (report.outcome.note.now ≡ [] → report.place.items ≢ [] → Told old new (line_of report.place.items))
-      × (report.outcome.note.now ≢ [] → report.place.items ≢ [] → Told old new (line_of report.outcome.note.now ++ line_of report.place.items))
+      × (report.outcome.note.now ≢ [] → report.place.items ≡ [] → Put old new (line_of report.outcome.note.now))
+      × (report.outcome.note.now ≡ [] → report.place.items ≢ [] → Put old new (line_of report.place.items))
+      × (report.outcome.note.now ≢ [] → report.place.items ≢ [] → Put old new (line_of report.outcome.note.now ++ line_of report.place.items))
 
 -- ---- words that are no job
 
@@ -44,12 +44,12 @@ module _ {O E : Type 0} (taken : O → Option (List ℕ)) (is_failed : O → Boo
   -- help or of the version is written to the standard output, and the status is 0
   abbrev pub TellsFault : Bool → LineFault → O → O → E → E → ℕ → Type 0
   TellsFault keeps_lines (Usage text) out out' errors errors' status =
-      (status ≡ 3) × (out' ≡ out) × Told told has_failed errors errors' (usage_text keeps_lines (string_bytes text))
+      (status ≡ 3) × (out' ≡ out) × Put told has_failed errors errors' (usage_text keeps_lines (string_bytes text))
   TellsFault keeps_lines (Help text) out out' errors errors' status =
       ((status ≡ 0) × sink.Took taken is_failed out out' (string_bytes text) × (errors' ≡ errors))
-      ⊎ ((status ≡ 4) × PutFront taken is_failed out out' (string_bytes text) × Told told has_failed errors errors' (line_of (codes "fault: write")))
+      ⊎ ((status ≡ 4) × PutFront taken is_failed out out' (string_bytes text) × Put told has_failed errors errors' (line_of (codes "fault: write")))
   TellsFault keeps_lines OutOfMemory out out' errors errors' status =
-      (status ≡ 4) × (out' ≡ out) × Told told has_failed errors errors' (line_of (codes "fault: memory"))
+      (status ≡ 4) × (out' ≡ out) × Put told has_failed errors errors' (line_of (codes "fault: memory"))
 
 -- why the system gives no words: one is no UTF-8, or memory ran out
 abbrev pub IsWordsFault : LineFault → Type 0
@@ -65,17 +65,17 @@ module _ {F : Type 0} (remaining : F → Option (List ℕ)) where
     pub unread : UnreadFile
     pub name : List ℕ
     pub status : report.outcome.status ≡ 4
-    pub note : report.outcome.note.now ≡ file_note (fault_of unread)
+    pub note : report.outcome.note.now ≡ file_note (file_fault_of unread)
     pub place : TellsPlace job.options.quiet (file_place unread name) report.place.items
     pub named : unread ≢ Untaken taking.OutOfMemory → NamesForWork remaining job name
-    pub known : IsFaultOfFiles remaining (fault_of unread)
+    pub known : IsFaultOfFiles remaining (file_fault_of unread)
     pub needed : NamesNoFile job → unread ≡ Untaken taking.OutOfMemory
 
 -- the file of this name, of an input, was not opened
 pub record IsUnopened (quiet : Bool) (name : List ℕ) (report : Report) : Type 0 where
   pub cause : OpenCause
   pub status : report.outcome.status ≡ 4
-  pub note : report.outcome.note.now ≡ file_note (fault_of (Unopened cause))
+  pub note : report.outcome.note.now ≡ file_note (file_fault_of (Unopened cause))
   pub place : TellsPlace quiet (file_place (Unopened cause) name) report.place.items
 
 module _ {S O F : Type 0} (content : S → Option (List ℕ)) (has_stopped : S → Bool) (allowance : S → ℕ)

@@ -28,7 +28,7 @@ module _ {S : Type 0} (content : S → Option (List ℕ)) (has_stopped : S → B
   -- these lines of the input were read, and behind them these bytes
   pub record AreRead (input now : S) (lines : List (List ℕ)) (rest : List ℕ) : Type 0 where
     pub given : List ℕ
-    pub took : source.Took content has_stopped allowance input now given
+    pub took : source.Gave content has_stopped allowance input now given
     -- the rest stands behind the lines, and is less than a block
     pub front : List ℕ
     pub parts : given ≡ front ++ rest

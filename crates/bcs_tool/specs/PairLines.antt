@@ -2,7 +2,7 @@
 use Rattle.std.specs.Prelude.{◌≡◌, ◌≢◌, ◌⊎◌, ◌++◌, ℕ, List, [], ◌∷◌, Bool, true, false, Option, Result, Ok, Err, codes}
 use Rattle.bcs_io.specs.Taking as sink
 use Rattle.bcs_io.specs.Advancing.{FailsInLine, HasNoLine, IsTooLong, RunsOut, TakesLine}
-use Rattle.bcs_io.specs.Held.{Held}
+use Rattle.bcs_io.specs.Held.{HeldLine}
 use Rattle.bcs_io.specs.Lines.{lines_of}
 use Rattle.bcs_io.specs.declared.next_fault.NextFault.{NextFault}
 use Rattle.bcs_io.specs.declared.next_fault.NextFault.TheVariants as next_fault
@@ -61,17 +61,17 @@ broken_at side fault count = record { side = side; interruption = record { fault
 
 module _ {S : Type 0} (content : S → Option (List ℕ)) (has_stopped : S → Bool) (allowance : S → ℕ) where
   -- why the next line isn't there
-  abbrev pub FailsNext : NextFault → S → S → Held → Held → Type 0
+  abbrev pub FailsNext : NextFault → S → S → HeldLine → HeldLine → Type 0
   FailsNext next_fault.Read old new before after = FailsInLine content has_stopped allowance size_limit old new before after
   FailsNext next_fault.TooLong old new before after = IsTooLong content has_stopped allowance size_limit old new before after
   FailsNext next_fault.OutOfMemory old new before after = RunsOut content has_stopped allowance old new before
 
   -- whether there is a next line
-  abbrev pub ReadsOn : Bool → S → S → Held → Held → Type 0
+  abbrev pub ReadsOn : Bool → S → S → HeldLine → HeldLine → Type 0
   ReadsOn true old new before after = TakesLine content has_stopped allowance size_limit old new before after
   ReadsOn false old new before after = HasNoLine content has_stopped allowance old new before after
 
-  abbrev pub AdvancesSide : Side → ℕ → S → S → Held → Held → Result Bool PairInterruption → Type 0
+  abbrev pub AdvancesSide : Side → ℕ → S → S → HeldLine → HeldLine → Result Bool PairInterruption → Type 0
   AdvancesSide side count old new before after (Ok has_line) = ReadsOn has_line old new before after
   AdvancesSide side count old new before after (Err e) = (fault : NextFault) × (e ≡ broken_at side fault count) × FailsNext fault old new before after
 
@@ -85,27 +85,27 @@ next_of false false = End Together
 module _ {F S : Type 0} (former : F → Option (List ℕ)) (former_stopped : F → Bool) (former_allowance : F → ℕ)
     (content : S → Option (List ℕ)) (has_stopped : S → Bool) (allowance : S → ℕ) where
   -- which of the two files has a next line
-  pub record ReadsBoth (has_first has_second : Bool) (first first' : F) (second second' : S) (one one' other other' : Held) : Type 0 where
+  pub record ReadsBoth (has_first has_second : Bool) (first first' : F) (second second' : S) (one one' other other' : HeldLine) : Type 0 where
     pub of_first : ReadsOn former former_stopped former_allowance has_first first first' one one'
     pub of_second : ReadsOn content has_stopped allowance has_second second second' other other'
 
-  abbrev pub HasEnded : Ending → F → F → S → S → Held → Held → Held → Held → Type 0
+  abbrev pub HasEnded : Ending → F → F → S → S → HeldLine → HeldLine → HeldLine → HeldLine → Type 0
   HasEnded Together = ReadsBoth false false
   HasEnded FirstEnds = ReadsBoth false true
   HasEnded SecondEnds = ReadsBoth true false
 
-  abbrev pub HasNext : Next → F → F → S → S → Held → Held → Held → Held → Type 0
+  abbrev pub HasNext : Next → F → F → S → S → HeldLine → HeldLine → HeldLine → HeldLine → Type 0
   HasNext Pair = ReadsBoth true true
   HasNext (End ending) = HasEnded ending
 
   -- the next line of one of them isn't there; the second is read only where the first had a line, or ended
-  abbrev pub StopsPair : PairInterruption → ℕ → F → F → S → S → Held → Held → Held → Held → Type 0
+  abbrev pub StopsPair : PairInterruption → ℕ → F → F → S → S → HeldLine → HeldLine → HeldLine → HeldLine → Type 0
   StopsPair e count first first' second second' one one' other other' =
       ((fault : NextFault) × (e ≡ broken_at First fault count) × FailsNext former former_stopped former_allowance fault first first' one one' × (second' ≡ second))
       ⊎ ((fault : NextFault) × (has_first : Bool) × (e ≡ broken_at Second fault count) × ReadsOn former former_stopped former_allowance has_first first first' one one'
       × FailsNext content has_stopped allowance fault second second' other other')
 
-  abbrev pub AdvancesPair : ℕ → F → F → S → S → Held → Held → Held → Held → Result Next PairInterruption → Type 0
+  abbrev pub AdvancesPair : ℕ → F → F → S → S → HeldLine → HeldLine → HeldLine → HeldLine → Result Next PairInterruption → Type 0
   AdvancesPair count first first' second second' one one' other other' (Ok next) = HasNext next first first' second second' one one' other other'
   AdvancesPair count first first' second second' one one' other other' (Err e) = StopsPair e count first first' second second' one one' other other'
 

@@ -53,7 +53,7 @@ IsPast count all left = (count + length (lines_of left) < length (lines_of all))
 module _ {S : Type 0} (content : S → Option (List ℕ)) (has_stopped : S → Bool) (allowance : S → ℕ) where
   -- it gave some bytes or none, and no call of it failed
   abbrev pub Gave : S → S → Type 0
-  Gave old new = (bytes : List ℕ) × source.Took content has_stopped allowance old new bytes
+  Gave old new = (bytes : List ℕ) × source.Gave content has_stopped allowance old new bytes
 
   -- no call of it failed; and where its content is known, the line behind so many was given, which is not too long, or all
   -- of the content was
@@ -65,11 +65,11 @@ module _ {S : Type 0} (content : S → Option (List ℕ)) (has_stopped : S → B
   -- before the last block that it gave stands no whole line behind so many: no block is asked for before the lines of the
   -- one before are answered
   abbrev pub GaveFew : S → S → ℕ → Type 0
-  GaveFew old new count = (given : List ℕ) × source.Took content has_stopped allowance old new given × (line_feeds (before_block given) ≤ count)
+  GaveFew old new count = (given : List ℕ) × source.Gave content has_stopped allowance old new given × (line_feeds (before_block given) ≤ count)
 
   -- it gave no whole line behind so many, and then a call failed
   abbrev pub BrokeInLine : S → S → ℕ → Type 0
-  BrokeInLine old new count = (given : List ℕ) × source.Lost content has_stopped allowance old new given × (line_feeds given ≤ count)
+  BrokeInLine old new count = (given : List ℕ) × source.GaveThenFailed content has_stopped allowance old new given × (line_feeds given ≤ count)
 
 -- ---- the run
 
@@ -100,7 +100,7 @@ module _ {F S K : Type 0} (former : F → Option (List ℕ)) (former_stopped : F
     pub next : AnswersBehind work (former first) (content second) firsts seconds status output
     pub shown : ℕ
     pub short : shown < length output
-    pub put : sink.Lost taken is_failed out out' (before ++ take shown output)
+    pub put : sink.TookThenFailed taken is_failed out out' (before ++ take shown output)
 
   -- the file of this side has failed; or the line of it that is next is too long
   abbrev pub HasStopped : Side → F → S → Type 0

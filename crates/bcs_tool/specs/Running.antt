@@ -108,7 +108,7 @@ module _ {K : Type 0} (taken : K → Option (List ℕ)) (is_failed : K → Bool)
 
   -- a front of the text was put, less than the whole, and then the output failed
   abbrev pub PutFront : K → K → List ℕ → Type 0
-  PutFront out out' text = (n : ℕ) × (n < length text) × sink.Lost taken is_failed out out' (take n text)
+  PutFront out out' text = (n : ℕ) × (n < length text) × sink.TookThenFailed taken is_failed out out' (take n text)
 
   abbrev pub PutsAnswer : Answer → K → K → Result Report Interruption → Type 0
   PutsAnswer answer out out' (Ok report) = IsPut answer out out' report
@@ -147,33 +147,33 @@ module _ {S K : Type 0} (content : S → Option (List ℕ)) (has_stopped : S →
     pub next : AnswersNext work (content input) lines status output
     pub shown : ℕ
     pub short : shown < length output
-    pub put : sink.Lost taken is_failed out out' (before ++ take shown output)
+    pub put : sink.TookThenFailed taken is_failed out out' (before ++ take shown output)
     pub once : ¬ HasLines work → lines ≡ []
 
   -- the input gave a byte more than an input may have; or the line behind so many has one
   abbrev pub IsTooLarge : Work → S → S → ℕ → Type 0
   IsTooLarge work input input' count =
-      ((¬ HasLines work) × ((bytes : List ℕ) × (length bytes ≡ size_limit + 1) × source.Took content has_stopped allowance input input' bytes))
-      ⊎ (HasLines work × ((bytes : List ℕ) × source.Took content has_stopped allowance input input' bytes) × IfSome (content input) (IsLongBehind count))
+      ((¬ HasLines work) × ((bytes : List ℕ) × (length bytes ≡ size_limit + 1) × source.Gave content has_stopped allowance input input' bytes))
+      ⊎ (HasLines work × ((bytes : List ℕ) × source.Gave content has_stopped allowance input input' bytes) × IfSome (content input) (IsLongBehind count))
 
   -- what is left of the input where memory ran out: it is as it was, or no call of it failed, and where it is one input, it
   -- gave no more than is allowed; or, of bytes that are judged as they come, a front is gone
   abbrev pub IsUnhurt : Work → S → S → Type 0
   IsUnhurt work input input' = (input' ≡ input)
-      ⊎ ((bytes : List ℕ) × source.Took content has_stopped allowance input input' bytes
+      ⊎ ((bytes : List ℕ) × source.Gave content has_stopped allowance input input' bytes
       × (¬ HasLines work → (length bytes ≤ size_limit) × (has_stopped input' ≡ false)))
       ⊎ (Streams work × IfTold (content input) (λ all. FrontGone all (content input')))
 
   -- the input gave no whole line behind so many, and then a call failed
   abbrev pub StopsInLine : Work → S → S → ℕ → Type 0
   StopsInLine work input input' count =
-      HasLines work → (given : List ℕ) × source.Lost content has_stopped allowance input input' given × (line_feeds given ≤ count)
+      HasLines work → (given : List ℕ) × source.GaveThenFailed content has_stopped allowance input input' given × (line_feeds given ≤ count)
 
   -- before the last block that the input gave stands no whole line behind so many: no block is asked for before the lines of
   -- the one before are answered
   abbrev pub ReadsNoFurther : Work → S → S → ℕ → Type 0
   ReadsNoFurther work input input' count =
-      HasLines work → (given : List ℕ) × source.Took content has_stopped allowance input input' given × (line_feeds (before_block given) ≤ count)
+      HasLines work → (given : List ℕ) × source.Gave content has_stopped allowance input input' given × (line_feeds (before_block given) ≤ count)
 
   -- the run stopped with this fault, behind so many lines
   abbrev pub FailsAt : Work → S → S → K → K → RunFault → ℕ → Type 0

@@ -8,7 +8,7 @@ use Rattle.bcs_decode.specs.Scanned.{ScansAll, ScansFrom}
 use Rattle.bcs_decode_spec.specs.declared.decode_fault.DecodeFault.{DecodeFault}
 use Rattle.bcs_decode_spec.specs.declared.decode_fault.DecodeFault.TheVariants as decode_fault
 use Rattle.bcs_tool_answers.specs.Answers.{Answers, stop_line}
-use Rattle.bcs_tool_answers.specs.Places.{Prints}
+use Rattle.bcs_tool_answers.specs.Places.{PrintsWithoutPlace}
 use Rattle.bcs_tool_answers.specs.declared.answer.Answer.{Answer}
 use Rattle.bcs_io.specs.declared.taking.TakeFault.TheVariants.{OutOfMemory, Read, TooLarge}
 use Rattle.bcs_tool_command_line.specs.declared.work.Work.{Work}
@@ -24,7 +24,7 @@ Scans false = ScansAll
 
 -- the line of a stop; or why there is none
 abbrev pub RefusesScan : DecodeFault → Result Answer Interruption → Type 0
-RefusesScan (decode_fault.Stop stop) (Ok a) = Prints a 2 (stop_line stop.reason stop.place)
+RefusesScan (decode_fault.Stop stop) (Ok a) = PrintsWithoutPlace a 2 (stop_line stop.reason stop.place)
 RefusesScan (decode_fault.Stop stop) (Err e) = e ≡ record { fault = Take OutOfMemory; answered = 0 }
 RefusesScan decode_fault.Read (Ok a) = ⊥
 RefusesScan decode_fault.Read (Err e) = e ≡ record { fault = Take Read; answered = 0 }

@@ -5,13 +5,13 @@ use Rattle.std.specs.Char.{is_control}
 use Rattle.bcs_look_text.specs.Escaped.{numbered}
 
 -- whether a character is from one to another
-abbrev pub is_within : ℕ → ℕ → ℕ → Bool
-is_within first last c = nat_le first c && nat_le c last
+abbrev pub is_between : ℕ → ℕ → ℕ → Bool
+is_between first last c = nat_le first c && nat_le c last
 
 -- a character that turns the direction of text, has no width, or separates lines
 unfoldable pub misleads : ℕ → Bool
-misleads c = c == 0xad || (c == 0x61c || (is_within 0x200b 0x200f c || (is_within 0x2028 0x202e c || (is_within 0x2060 0x206f c
-    || (c == 0xfeff || (is_within 0xfff9 0xfffb c || is_within 0xe0000 0xe0fff c))))))
+misleads c = c == 0xad || (c == 0x61c || (is_between 0x200b 0x200f c || (is_between 0x2028 0x202e c || (is_between 0x2060 0x206f c
+    || (c == 0xfeff || (is_between 0xfff9 0xfffb c || is_between 0xe0000 0xe0fff c))))))
 
 -- one that isn't shown as it is: a control character too, but not a line feed where lines are kept
 unfoldable pub is_hidden : Bool → ℕ → Bool
@@ -21,14 +21,14 @@ is_hidden keeps_lines c = if c == 10 then not keeps_lines else (is_control c || 
 unfoldable pub escape : ℕ → List ℕ
 escape c = if nat_lt c 0x10000 then numbered c else numbered (0xd800 + (c - 0x10000) / 0x400) ++ numbered (0xdc00 + (c - 0x10000) % 0x400)
 
-unfoldable pub shown : Bool → ℕ → List ℕ
-shown keeps_lines c = if is_hidden keeps_lines c then escape c else encode_utf8 c
+unfoldable pub visible_char : Bool → ℕ → List ℕ
+visible_char keeps_lines c = if is_hidden keeps_lines c then escape c else encode_utf8 c
 
 -- a text with its hidden characters escaped
 unfoldable pub visible : Bool → List ℕ → List ℕ
-visible keeps_lines text = flat_map (shown keeps_lines) (chars text)
+visible keeps_lines text = flat_map (visible_char keeps_lines) (chars text)
 
--- whether a word has a line feed, by which it could stand for lines of its own
+-- whether an argument has a line feed, and could forge a line of its own
 abbrev pub breaks_lines : List (List ℕ) → Bool
 breaks_lines words = list_any (λ word. list_any (λ b. b == 10) word) words
 

@@ -1,9 +1,9 @@
 //! The files that a job names.
 ghost use Rattle.std.specs.Prelude.{◌≡◌, ◌≢◌, ◌⊎◌, ◌≤◌, ◌+◌, ℕ, List, None, Err, false, true, length, vec_len, IfErr, IfOk, IfSome, IsOkUnless};
 ghost use Rattle.std.specs.Io.KnownBytes.{IsAtEnd};
-ghost use Rattle.bcs_io.specs.Giving.{Took, Lost};
+ghost use Rattle.bcs_io.specs.Giving.{Gave, GaveThenFailed};
 ghost use Rattle.bcs_tool_command_line.specs.Files.{size_limit};
-ghost use Rattle.bcs_tool_command_line.specs.Files.{IsFaultOfFiles, IsFileText, IsFirstText, IsInputsOf, IsRefusalOf, IsSecondOf, IsTextOf, IsWorkOf, NamesNoFile, fault_of, is_registry_text};
+ghost use Rattle.bcs_tool_command_line.specs.Files.{IsFaultOfFiles, IsFileText, IsFirstText, IsInputsOf, IsRefusalOf, IsSecondOf, IsTextOfWord, IsWorkOf, NamesNoFile, file_fault_of, is_registry_text};
 
 use bcs_io::{ByteSource, ReadSource, TakeFault, take_all};
 use bcs_tool_command_line::limits::SIZE_LIMIT;
@@ -32,7 +32,7 @@ pub fn read_named<R: Files + AllocGlobal>(rt: &R, name: &str) -> Result<Vec<u8>,
 fn read_file<R: Files + AllocGlobal>(rt: &R, name: &str) -> Result<Vec<u8>, UnreadFile>
     ensures within { IfOk result (λ v. vec_len v ≤ size_limit) }
     ensures text { IfOk result (λ v. IsFileText R.File.remaining v.items) }
-    ensures fault { IfErr result (λ e. IsFaultOfFiles R.File.remaining (fault_of e)) }
+    ensures fault { IfErr result (λ e. IsFaultOfFiles R.File.remaining (file_fault_of e)) }
 {
     match read_named(rt, name) {
         Ok(text) => Ok(text),
@@ -42,7 +42,7 @@ fn read_file<R: Files + AllocGlobal>(rt: &R, name: &str) -> Result<Vec<u8>, Unre
 
 // The fault of the file of this name, with the cause if it couldn't be opened.
 fn unread_file<R: Files + AllocGlobal>(rt: &R, name: &str, fault: FileFault) -> UnreadFile
-    ensures { fault_of result ≡ fault }
+    ensures { file_fault_of result ≡ fault }
 {
     match fault {
         FileFault::Open => UnreadFile::Unopened(open_cause(rt, name)),
@@ -62,14 +62,14 @@ fn open_cause<R: Files + AllocGlobal>(rt: &R, name: &str) -> OpenCause {
 
 /// The content of a file that is open, of at most 268435456 bytes: what `take_all` takes of it.
 pub fn read_opened<S: ByteSource>(alloc: Global, file: &mut S) -> Result<Vec<u8>, TakeFault>
-    ensures whole { IfOk result (λ v. Took S.content S.is_failed S.allowance file.old file.new v.items
+    ensures whole { IfOk result (λ v. Gave S.content S.is_failed S.allowance file.old file.new v.items
         × IsAtEnd (S.content file.new) × (S.is_failed file.new ≡ false) × (vec_len v ≤ size_limit)) }
     ensures read { result ≡ Err TakeFault.Read → (bytes : List ℕ)
-        × Lost S.content S.is_failed S.allowance file.old file.new bytes × (length bytes ≤ size_limit) }
+        × GaveThenFailed S.content S.is_failed S.allowance file.old file.new bytes × (length bytes ≤ size_limit) }
     ensures too_large { result ≡ Err TakeFault.TooLarge → (bytes : List ℕ)
-        × Took S.content S.is_failed S.allowance file.old file.new bytes × (length bytes ≡ size_limit + 1) }
+        × Gave S.content S.is_failed S.allowance file.old file.new bytes × (length bytes ≡ size_limit + 1) }
     ensures memory { result ≡ Err TakeFault.OutOfMemory → (bytes : List ℕ)
-        × Took S.content S.is_failed S.allowance file.old file.new bytes × (length bytes ≤ size_limit)
+        × Gave S.content S.is_failed S.allowance file.old file.new bytes × (length bytes ≤ size_limit)
         × (S.is_failed file.new ≡ false) }
 {
     take_all(alloc, file, SIZE_LIMIT)
@@ -153,7 +153,7 @@ fn read_second<R: Files + AllocGlobal>(
     word: &str,
 ) -> Result<Vec<u8>, UnreadFile>
     ensures text { IfOk result (λ v. IsSecondOf R.File.remaining command lines word.now v.items) }
-    ensures fault { IfErr result (λ e. IsFaultOfFiles R.File.remaining (fault_of e)) }
+    ensures fault { IfErr result (λ e. IsFaultOfFiles R.File.remaining (file_fault_of e)) }
     ensures good { (command ≡ Command.Same → lines ≡ true) → (command ≡ Command.Grows → is_registry_text word.now ≡ true)
         → IsOkUnless result (UnreadFile.Untaken TakeFault.OutOfMemory) }
     ensures named { IfErr result (λ e. e ≢ UnreadFile.Untaken TakeFault.OutOfMemory
@@ -182,7 +182,7 @@ fn read_first<R: Files + AllocGlobal>(
     name: &str,
 ) -> Result<Vec<u8>, UnreadFile>
     ensures text { IfOk result (λ v. IsFirstText R.File.remaining lines v.items) }
-    ensures fault { IfErr result (λ e. IsFaultOfFiles R.File.remaining (fault_of e)) }
+    ensures fault { IfErr result (λ e. IsFaultOfFiles R.File.remaining (file_fault_of e)) }
     ensures good { lines ≡ true → IsOkUnless result (UnreadFile.Untaken TakeFault.OutOfMemory) }
     ensures named { IfErr result (λ _. lines ≡ false) }
 {
@@ -194,8 +194,8 @@ fn read_first<R: Files + AllocGlobal>(
 
 // The text of a registry: the word itself, or the content of the file that it names.
 fn read_registry<R: Files + AllocGlobal>(rt: &R, word: &str) -> Result<Vec<u8>, UnreadFile>
-    ensures text { IfOk result (λ v. IsTextOf R.File.remaining word.now v.items) }
-    ensures fault { IfErr result (λ e. IsFaultOfFiles R.File.remaining (fault_of e)) }
+    ensures text { IfOk result (λ v. IsTextOfWord R.File.remaining word.now v.items) }
+    ensures fault { IfErr result (λ e. IsFaultOfFiles R.File.remaining (file_fault_of e)) }
     ensures good { is_registry_text word.now ≡ true → IsOkUnless result (UnreadFile.Untaken TakeFault.OutOfMemory) }
     ensures named { IfErr result (λ e. e ≢ UnreadFile.Untaken TakeFault.OutOfMemory → is_registry_text word.now ≡ false) }
 {

@@ -2,7 +2,7 @@
 ghost use Rattle.std.specs.Prelude.{◌≡◌, ◌++◌, codes, not, true};
 ghost use Rattle.bcs_tool_answers.specs.Answers.{line_of};
 ghost use Rattle.bcs_tool_command_line.specs.CommandLine.{texts_of};
-ghost use Rattle.bcs_tool.specs.Endings.{Told, TellsFault, TellsReport};
+ghost use Rattle.bcs_tool.specs.Endings.{Put, TellsFault, TellsReport};
 ghost use Rattle.bcs_tool.specs.Visible.{breaks_lines, usage_text};
 
 use crate::visible::{breaks_lines, put_visible};
@@ -73,7 +73,7 @@ pub fn tell_report<E: ByteSink>(report: Report, errors: &mut E) -> u8
 
 // Tells a text of usage with its hidden characters escaped.
 fn tell_usage<E: ByteSink>(keeps_lines: bool, text: &str, errors: &mut E)
-    ensures { Told E.taken E.is_failed errors.old errors.new (usage_text keeps_lines text.now) }
+    ensures { Put E.taken E.is_failed errors.old errors.new (usage_text keeps_lines text.now) }
 {
     match put_visible(keeps_lines, text, errors) {
         Ok(()) => {
@@ -87,7 +87,7 @@ fn tell_usage<E: ByteSink>(keeps_lines: bool, text: &str, errors: &mut E)
 
 // Tells the note of a fault on a line, and gives its status.
 fn tell_note<E: ByteSink>(note: &str, errors: &mut E) -> u8
-    ensures { (result ≡ 4) × Told E.taken E.is_failed errors.old errors.new (line_of note.now) }
+    ensures { (result ≡ 4) × Put E.taken E.is_failed errors.old errors.new (line_of note.now) }
 {
     tell_line(note.as_bytes(), errors);
     4
@@ -95,7 +95,7 @@ fn tell_note<E: ByteSink>(note: &str, errors: &mut E) -> u8
 
 // Tells two texts, each with a line end.
 fn tell_lines<E: ByteSink>(text: &[u8], next: &[u8], errors: &mut E)
-    ensures { Told E.taken E.is_failed errors.old errors.new (line_of text.now ++ line_of next.now) }
+    ensures { Put E.taken E.is_failed errors.old errors.new (line_of text.now ++ line_of next.now) }
 {
     match put_all(text, errors) {
         Ok(()) => tell_next(next, errors),
@@ -105,7 +105,7 @@ fn tell_lines<E: ByteSink>(text: &[u8], next: &[u8], errors: &mut E)
 
 // Tells a line end, and then a text with another.
 fn tell_next<E: ByteSink>(next: &[u8], errors: &mut E)
-    ensures { Told E.taken E.is_failed errors.old errors.new (codes "\n" ++ line_of next.now) }
+    ensures { Put E.taken E.is_failed errors.old errors.new (codes "\n" ++ line_of next.now) }
 {
     match put_all(b"\n", errors) {
         Ok(()) => tell_line(next, errors),
@@ -115,7 +115,7 @@ fn tell_next<E: ByteSink>(next: &[u8], errors: &mut E)
 
 // Tells a text and a line end, without memory.
 fn tell_line<E: ByteSink>(text: &[u8], errors: &mut E)
-    ensures { Told E.taken E.is_failed errors.old errors.new (line_of text.now) }
+    ensures { Put E.taken E.is_failed errors.old errors.new (line_of text.now) }
 {
     match put_all(text, errors) {
         Ok(()) => tell("\n", errors),
@@ -125,7 +125,7 @@ fn tell_line<E: ByteSink>(text: &[u8], errors: &mut E)
 
 // Tells a text. What the standard error doesn't take is lost, since nothing is left to tell it to.
 fn tell<E: ByteSink>(text: &str, errors: &mut E)
-    ensures { Told E.taken E.is_failed errors.old errors.new text.now }
+    ensures { Put E.taken E.is_failed errors.old errors.new text.now }
 {
     let _ = put_all(text.as_bytes(), errors);
 }

@@ -48,8 +48,8 @@ fn put_characters<E: ByteSink>(keeps_lines: bool, text: &str, errors: &mut E) ->
 }
 
 fn put_character<E: ByteSink>(keeps_lines: bool, character: char, errors: &mut E) -> Result<(), u64>
-    ensures whole { OnOk result (Took E.taken E.is_failed errors.old errors.new (visible.shown keeps_lines character)) }
-    ensures part { OnErr result (PutFront E.taken E.is_failed errors.old errors.new (visible.shown keeps_lines character)) }
+    ensures whole { OnOk result (Took E.taken E.is_failed errors.old errors.new (visible.visible_char keeps_lines character)) }
+    ensures part { OnErr result (PutFront E.taken E.is_failed errors.old errors.new (visible.visible_char keeps_lines character)) }
 {
     if is_hidden(keeps_lines, character) {
         put_escape(character as u32, errors)
@@ -120,7 +120,7 @@ fn misleads(code: u32) -> bool
 }
 
 fn is_within(first: u32, last: u32, code: u32) -> bool
-    ensures { result ≡ visible.is_within first last code }
+    ensures { result ≡ visible.is_between first last code }
 {
     first <= code && code <= last
 }

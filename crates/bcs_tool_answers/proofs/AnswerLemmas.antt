@@ -22,8 +22,8 @@ use Rattle.hex.specs.declared.error.FromHexError.TheVariants.{OutOfMemory}
 use Rattle.serde_json.specs.Data.{depth}
 use Rattle.bcs_tool_answers.specs.Answers.{Answers, AnswersTexts, IsAsked, checked, compared, damaged, decoded, described, different, encoded, equal, exampled, explained, first_refused, found, front_stopped, grown, no_bytes, normalised, nowhere, refusal_line, refused, refused_early, scan_stopped, scanned, second_refused, stopped, too_nested}
 use Rattle.bcs_tool_answers.specs.Answers as answers
-use Rattle.bcs_tool_answers.specs.Places.{IsAnswer, Places, Prints, Tells, nothing, told}
-use Rattle.bcs_tool_answers.specs.Judging.{RefusesAt, RefusesFormatted, RefusesPart, works_on_values}
+use Rattle.bcs_tool_answers.specs.Places.{IsAnswer, Places, PrintsWithoutPlace, MayReport, nothing, told}
+use Rattle.bcs_tool_answers.specs.Judging.{RefusesJobOf, RefusesFormatted, RefusesPart, works_on_values}
 use Rattle.bcs_tool_answers.specs.Preparing.{IsAskedBy}
 use Rattle.bcs_tool_answers.specs.declared.answer.Answer.{Answer}
 use Rattle.bcs_tool_answers.specs.declared.job_fault.JobFault.{JobFault}
@@ -34,12 +34,12 @@ use Rattle.bcs_tool_command_line.specs.declared.work.Work.{Work}
 use Rattle.bcs_tool_command_line.specs.declared.command.Command.{Command}
 use Rattle.bcs_tool_command_line.specs.declared.command.Command.TheVariants.{Check, Grows, Show, Example, Schema, Encode, Decode, Explain, Normalise, Same, Part, Scan}
 
-places_of : {work : Work} {input place : List ℕ} → Tells work place → Places work input place
+places_of : {work : Work} {input place : List ℕ} → MayReport work place → Places work input place
 places_of (inl none) = nothing none
 places_of (inr line) = told line.0 line.1
 
 -- an answer of this status and this output, with a place that may be told beside it, behind a list
-pub behind_list : (work : Work) (list input : List ℕ) (s : ℕ) (p : List ℕ) (a : Answer) → a.status ≡ s → a.output.items ≡ p → Tells work a.place.items
+pub behind_list : (work : Work) (list input : List ℕ) (s : ℕ) (p : List ℕ) (a : Answer) → a.status ≡ s → a.output.items ≡ p → MayReport work a.place.items
     → Answers work input s (list ++ p) → Answers work input a.status (list ++ a.output.items) × Places work input a.place.items
 behind_list work list input s p a same_status same_output tells is = (
   subst (λ (n : ℕ). Answers work input n (list ++ a.output.items)) (sym same_status)
@@ -48,7 +48,7 @@ behind_list work list input s p a same_status same_output tells is = (
 )
 
 -- behind none
-pub placed_answer : (work : Work) (input : List ℕ) (s : ℕ) (p : List ℕ) (a : Answer) → a.status ≡ s → a.output.items ≡ p → Tells work a.place.items
+pub placed_answer : (work : Work) (input : List ℕ) (s : ℕ) (p : List ℕ) (a : Answer) → a.status ≡ s → a.output.items ≡ p → MayReport work a.place.items
     → Answers work input s p → IsAnswer work input a
 placed_answer work input s p a same_status same_output tells is = behind_list work [] input s p a same_status same_output tells is
 
@@ -62,12 +62,12 @@ listed_answer work list input verdict a same_status same_place same_output is = 
 )
 
 -- what is printed answers, and there is no place
-pub same_answer : (work : Work) (input : List ℕ) (a : Answer) (s : ℕ) (p : List ℕ) → Prints a s p → Answers work input s p → IsAnswer work input a
+pub same_answer : (work : Work) (input : List ℕ) (a : Answer) (s : ℕ) (p : List ℕ) → PrintsWithoutPlace a s p → Answers work input s p → IsAnswer work input a
 same_answer work input a s p h is = placed_answer work input s p a h.same_status h.same_output (inl h.no_place) is
 
 -- an answer with a place that was set
-pub with_place : (work : Work) (place set : List ℕ) → place ≡ set → Tells work set → Tells work place
-with_place work place set same tells = subst (λ (text : List ℕ). Tells work text) (sym same) tells
+pub with_place : (work : Work) (place set : List ℕ) → place ≡ set → MayReport work set → MayReport work place
+with_place work place set same tells = subst (λ (text : List ℕ). MayReport work text) (sym same) tells
 
 pub if_some_holds : {T : Type 0} (P : T → Type 0) (x : Option T) (t : T) → x ≡ Some t → IfSome x P → P t
 if_some_holds P x t is h = subst (λ y. IfSome y P) is h
@@ -85,7 +85,7 @@ refused_texts registry limits s first second fault (inl one) = first_refused fau
 refused_texts registry limits s first second fault (inr both) = second_refused both.0.0 fault both.0.1 both.1
 
 -- what is printed answers two texts
-pub same_pair : (registry : Entries) (limits : Bounds) (s : Shape) (first second : List ℕ) (a : Answer) (n : ℕ) (p : List ℕ) → Prints a n p
+pub same_pair : (registry : Entries) (limits : Bounds) (s : Shape) (first second : List ℕ) (a : Answer) (n : ℕ) (p : List ℕ) → PrintsWithoutPlace a n p
     → AnswersTexts registry limits s first second n p → AnswersTexts registry limits s first second a.status a.output.items
 same_pair registry limits s first second a n p h is =
     subst (λ (m : ℕ). AnswersTexts registry limits s first second m a.output.items) (sym h.same_status)
@@ -97,7 +97,7 @@ refuses_part work (Growth e) h = absurd h
 refuses_part work BadPath h = absurd h
 
 -- the words of a command on values are refused for its registry or its format
-pub refuses_formatted : (asked : Command) (work : Work) (fault : JobFault) → works_on_values asked ≡ true → RefusesFormatted work fault → RefusesAt asked work fault
+pub refuses_formatted : (asked : Command) (work : Work) (fault : JobFault) → works_on_values asked ≡ true → RefusesFormatted work fault → RefusesJobOf asked work fault
 refuses_formatted Check work fault on h = cc
 refuses_formatted Grows work fault on h = cc
 refuses_formatted Show work fault on h = cc

@@ -19,7 +19,7 @@ use Rattle.bcs_json_spec.specs.FaultNames.{json_fault_name}
 use Rattle.bcs_tool_answers.specs.Answers.{Answers, AnswersTexts, IsAsked, Lists, count_line, line_of, lists, printed, printed_none, refusal_line, stop_line}
 use Rattle.bcs_tool_answers.specs.Answers as answer
 use Rattle.bcs_tool_answers.specs.Input as given
-use Rattle.bcs_tool_answers.specs.Judging.{IsFormat, IsPath, IsRegistry, RefusesAt, RefusesFormatted, job_fault_name}
+use Rattle.bcs_tool_answers.specs.Judging.{IsFormatWord, IsPathOf, IsRegistry, RefusesJobOf, RefusesFormatted, job_fault_name}
 use Rattle.bcs_tool_answers.specs.declared.job_fault.JobFault.{JobFault}
 use Rattle.bcs_tool_answers.proofs.OneKind.{Decoded, Encoded, Normalised, Parted, Scanned, one_decoded, one_encoded, one_normalised, one_parted, one_scanned}
 use Rattle.bcs_tool_answers.proofs.OnePair.{Agrees, one_pair}
@@ -32,7 +32,7 @@ module _ (work : Work) (input : List ℕ) where
   Compared r f s p = AnswersTexts r work.limits f work.second.items input s p
 
   abbrev Valued : (Entries → Shape → ℕ → List ℕ → Type 0) → ℕ → List ℕ → Type 0
-  Valued P s p = (r : Entries) × (f : Shape) × IsRegistry work.registry.items r × IsFormat r (string_bytes work.format) f × P r f s p
+  Valued P s p = (r : Entries) × (f : Shape) × IsRegistry work.registry.items r × IsFormatWord r (string_bytes work.format) f × P r f s p
 
   abbrev Late : Command → ℕ → List ℕ → Type 0
   Late Check s p = (r : Entries) × IsRegistry work.registry.items r × (s ≡ 0) × (p ≡ count_line (length r))
@@ -50,7 +50,7 @@ module _ (work : Work) (input : List ℕ) where
   Late command.Part s p = (path : List Step) × SpellsPath (string_bytes work.path) path × Valued (λ r f. Parted work input r f path) s p
 
   abbrev Early : Command → ℕ → List ℕ → Type 0
-  Early c s p = (fault : JobFault) × (list : List ℕ) × RefusesAt c work fault × Lists (lists work fault) list × (s ≡ 2) × (p ≡ list ++ refusal_line (job_fault_name fault))
+  Early c s p = (fault : JobFault) × (list : List ℕ) × RefusesJobOf c work fault × Lists (lists work fault) list × (s ≡ 2) × (p ≡ list ++ refusal_line (job_fault_name fault))
 
   valued : (P : Entries → Shape → ℕ → List ℕ → Type 0) (c : Command) (r : Entries) (f : Shape) (s : ℕ) (p : List ℕ) → IsAsked work input c r f → P r f s p → Valued P s p
   valued P c r f s p asked is = (r, f, asked.asks.is_registry, asked.asks.is_format, is)
@@ -64,7 +64,7 @@ module _ (work : Work) (input : List ℕ) where
   spelled : (c : Command) (r : Entries) (f : Shape) → c ≡ command.Part → IsAsked work input c r f → (path : List Step) × SpellsPath (string_bytes work.path) path
   spelled c r f is asked =
       let has = asked.asks.has_path in
-      (has.0, subst (λ (k : Command). IsPath k (string_bytes work.path) has.0) (asked.is_command ∙ is) has.1)
+      (has.0, subst (λ (k : Command). IsPathOf k (string_bytes work.path) has.0) (asked.is_command ∙ is) has.1)
 
   by : (c : Command) (s : ℕ) (p : List ℕ) → work.command ≡ c → Late c s p → Early work.command s p ⊎ Late work.command s p
   by c s p is late = inr (subst (λ k. Late k s p) (sym is) late)
@@ -86,14 +86,14 @@ module _ (work : Work) (input : List ℕ) where
   told (answer.too_nested r f b c a g h n) = by Decode 2 (refusal_line (codes "TooNested")) a.is_command (valued (Decoded work input) Decode r f 2 (refusal_line (codes "TooNested")) a (inl (b, g, inr (inr (c, h, n, refl, refl)))))
   told (answer.explained r f b t c a g h) = by command.Explain 0 t a.is_command tt
   told (answer.damaged r f b t e o a g h) = by command.Explain 2 t a.is_command tt
-  told (answer.no_bytes c r f (inl is) a h) = by Decode 2 (refusal_line (given.fault_name (coding_of work))) (a.is_command ∙ is) (valued (Decoded work input) c r f 2 (refusal_line (given.fault_name (coding_of work))) a (inr (h, refl, refl)))
-  told (answer.no_bytes c r f (inr (inr (inl is))) a h) = by command.Explain 2 (refusal_line (given.fault_name (coding_of work))) (a.is_command ∙ is) tt
+  told (answer.no_bytes c r f (inl is) a h) = by Decode 2 (refusal_line (given.input_fault_name (coding_of work))) (a.is_command ∙ is) (valued (Decoded work input) c r f 2 (refusal_line (given.input_fault_name (coding_of work))) a (inr (h, refl, refl)))
+  told (answer.no_bytes c r f (inr (inr (inl is))) a h) = by command.Explain 2 (refusal_line (given.input_fault_name (coding_of work))) (a.is_command ∙ is) tt
   told (answer.no_bytes c r f (inr (inr (inr is))) a h) =
-      by command.Scan 2 (refusal_line (given.fault_name (coding_of work))) (a.is_command ∙ is) (valued (Scanned work input) c r f 2 (refusal_line (given.fault_name (coding_of work))) a (inr (h, refl, refl)))
+      by command.Scan 2 (refusal_line (given.input_fault_name (coding_of work))) (a.is_command ∙ is) (valued (Scanned work input) c r f 2 (refusal_line (given.input_fault_name (coding_of work))) a (inr (h, refl, refl)))
   told (answer.no_bytes c r f (inr (inl is)) a h) =
       let path = spelled c r f is a in
       let own = subst (λ (k : Command). IsAsked work input k r f) is a in
-      by command.Part 2 (refusal_line (given.fault_name (coding_of work))) own.is_command (parted r f path.0 2 (refusal_line (given.fault_name (coding_of work))) own path.1 (inr (h, refl, refl)))
+      by command.Part 2 (refusal_line (given.input_fault_name (coding_of work))) own.is_command (parted r f path.0 2 (refusal_line (given.input_fault_name (coding_of work))) own path.1 (inr (h, refl, refl)))
   told (answer.found r f path b n c x a spells g h at) =
       by command.Part 0 (printed (coding_of work) (plain r x.value x.content)) a.is_command
       (parted r f path 0 (printed (coding_of work) (plain r x.value x.content)) a spells (inl (b, g, inl (n, c, h, inl (x, at, refl, refl)))))
@@ -116,7 +116,7 @@ module _ (work : Work) (input : List ℕ) where
   one_valued : (P : Entries → Shape → ℕ → List ℕ → Type 0) → ((r : Entries) (f : Shape) → IsOrderly r → IsOne (P r f)) → IsOne (Valued P)
   one_valued P one s z p q (r, f, h, a, x) (n, g, k, b, y) =
       let same : n ≡ r = same_registry work.registry.items n r k.0 h.0 in
-      let format : g ≡ f = one_format_word r (string_bytes work.format) g f (subst (λ (m : Entries). IsFormat m (string_bytes work.format) g) same b) a in
+      let format : g ≡ f = one_format_word r (string_bytes work.format) g f (subst (λ (m : Entries). IsFormatWord m (string_bytes work.format) g) same b) a in
       one r f h.0.2.orderly s z p q x (subst (λ (i : Shape). P r i z q) format (subst (λ (m : Entries). P m g z q) same y))
 
   one_late : (c : Command) → IsExact c work.options.list → IsOne (Late c)
@@ -142,7 +142,7 @@ module _ (work : Work) (input : List ℕ) where
   of_valued : (P : Entries → Shape → ℕ → List ℕ → Type 0) (fault : JobFault) (s : ℕ) (p : List ℕ) → RefusesFormatted work fault → Valued P s p → ⊥
   of_valued P fault s p h (r, f, is, a, x) = not_formatted work fault r f h is a
 
-  not_late : (c : Command) (fault : JobFault) (s : ℕ) (p : List ℕ) → IsExact c work.options.list → RefusesAt c work fault → Late c s p → ⊥
+  not_late : (c : Command) (fault : JobFault) (s : ℕ) (p : List ℕ) → IsExact c work.options.list → RefusesJobOf c work fault → Late c s p → ⊥
   not_late Check fault s p exact h (r, is, ks, kq) = not_checked work fault r h is
   not_late command.Grows fault s p exact h (r, n, is, i, g, l, a, ks, kq) = not_grown work fault r n h is i g
   not_late command.Show fault s p exact h k = absurd exact

@@ -33,7 +33,7 @@ use Rattle.bcs_tool_answers.specs.Answers.{ScanStops, count_line, line_of, print
 use Rattle.bcs_tool_answers.specs.Input as given
 
 -- the bytes that an input gives are its own
-one_given : (coding : Coding) (input b c : List ℕ) → given.Gives coding input b → given.Gives coding input c → b ≡ c
+one_given : (coding : Coding) (input b c : List ℕ) → given.GivesBytes coding input b → given.GivesBytes coding input c → b ≡ c
 one_given Hexadecimal input b c h k = let same : Ok b ≡ Ok c = sym h ∙ k in cc
 one_given Base64 input b c h k = one_base64 (given.without_blanks input) b c h k
 one_given Raw input b c h k = h ∙ sym k
@@ -55,8 +55,8 @@ module _ (work : Work) (input : List ℕ) where
 
     -- where the input gives bytes, what is answered to these; and where it gives none
     abbrev pub Given : (List ℕ → ℕ → List ℕ → Type 0) → ℕ → List ℕ → Type 0
-    Given P s p = ((bytes : List ℕ) × given.Gives (coding_of work) input bytes × P bytes s p)
-        ⊎ (((bytes : List ℕ) → given.Gives (coding_of work) input bytes → ⊥) × (s ≡ 2) × (p ≡ refusal_line (given.fault_name (coding_of work))))
+    Given P s p = ((bytes : List ℕ) × given.GivesBytes (coding_of work) input bytes × P bytes s p)
+        ⊎ (((bytes : List ℕ) → given.GivesBytes (coding_of work) input bytes → ⊥) × (s ≡ 2) × (p ≡ refusal_line (given.input_fault_name (coding_of work))))
 
     abbrev pub Decoded : ℕ → List ℕ → Type 0
     Decoded s p = Given Shown s p

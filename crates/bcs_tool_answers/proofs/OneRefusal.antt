@@ -20,7 +20,7 @@ use Rattle.bcs_tool_command_line.specs.declared.command.Command.{Command}
 use Rattle.bcs_tool_command_line.specs.declared.command.Command.TheVariants as command
 use Rattle.bcs_tool_answers.specs.AnswerLaws.{IsExact}
 use Rattle.bcs_tool_answers.specs.Answers.{lists}
-use Rattle.bcs_tool_answers.specs.Judging.{IsFormat, IsPath, IsRegistry, ReadsInput, RefusesAt, RefusesCheck, RefusesEarly, RefusesFormat, RefusesFormatted, RefusesGrowth, RefusesPart, is_json_word, works_on_values}
+use Rattle.bcs_tool_answers.specs.Judging.{IsFormatWord, IsPathOf, IsRegistry, ReadsInput, RefusesJobOf, RefusesCheck, RefusesEarly, RefusesFormatWord, RefusesFormatted, RefusesGrowth, RefusesPart, is_json_word, works_on_values}
 use Rattle.bcs_tool_answers.specs.declared.job_fault.JobFault.{JobFault}
 use Rattle.bcs_tool_answers.specs.declared.job_fault.JobFault.TheVariants.{BadPath, Registry, Growth}
 
@@ -34,19 +34,19 @@ no_container : {A : Type 0} (registry : Entries) (word : List ℕ) → is_some (
 no_container registry word h none = absurd (true≢false (sym h ∙ ap is_some none))
 
 module _ (registry : Entries) (word : List ℕ) where
-  pub one_format_word : (s t : Shape) → IsFormat registry word s → IsFormat registry word t → s ≡ t
+  pub one_format_word : (s t : Shape) → IsFormatWord registry word s → IsFormatWord registry word t → s ≡ t
   one_format_word s t (inl h) (inl k) = same_format word s t h.1 k.1
   one_format_word s t (inl h) (inr k) = no_two_words word h.0 k.0
   one_format_word s t (inr h) (inl k) = no_two_words word k.0 h.0
   one_format_word s t (inr h) (inr k) = h.2 ∙ sym k.2
 
-  one_format_refusal : (e g : RegistryFault) → RefusesFormat registry word e → RefusesFormat registry word g → e ≡ g
+  one_format_refusal : (e g : RegistryFault) → RefusesFormatWord registry word e → RefusesFormatWord registry word g → e ≡ g
   one_format_refusal e g (inl h) (inl k) = one_format_fault.0 registry word e g h.1 k.1
   one_format_refusal e g (inl h) (inr k) = no_two_words word h.0 k.0
   one_format_refusal e g (inr h) (inl k) = no_two_words word k.0 h.0
   one_format_refusal e g (inr h) (inr k) = h.2 ∙ sym k.2
 
-  not_format : (e : RegistryFault) (s : Shape) → RefusesFormat registry word e → IsFormat registry word s → ⊥
+  not_format : (e : RegistryFault) (s : Shape) → RefusesFormatWord registry word e → IsFormatWord registry word s → ⊥
   not_format e s (inl h) (inl k) = one_format_fault.1 registry word s e k.1 k.2 h.1
   not_format e s (inl h) (inr k) = no_two_words word h.0 k.0
   not_format e s (inr h) (inl k) = no_two_words word k.0 h.0
@@ -90,7 +90,7 @@ module _ (work : Work) where
   one_formatted (Registry e) (Registry g) (inr (r, is, h)) (inl k) = absurd (fault_of_text work.registry.items r g is k)
   one_formatted (Registry e) (Registry g) (inr (r, is, h)) (inr (q, i, k)) =
       let same : q ≡ r = same_registry work.registry.items q r i.0 is.0 in
-      ap Registry (one_format_refusal r (string_bytes work.format) e g h (subst (λ (m : Entries). RefusesFormat m (string_bytes work.format) g) same k))
+      ap Registry (one_format_refusal r (string_bytes work.format) e g h (subst (λ (m : Entries). RefusesFormatWord m (string_bytes work.format) g) same k))
   one_formatted (Registry e) (Growth g) h k = absurd k
   one_formatted (Growth e) (Registry g) h k = absurd h
   one_formatted (Growth e) (Growth g) h k = absurd h
@@ -124,11 +124,11 @@ module _ (work : Work) where
   one_growth (Growth e) BadPath h k = absurd k
   one_growth BadPath g h k = absurd h
 
-  pub not_formatted : (e : JobFault) (r : Entries) (s : Shape) → RefusesFormatted work e → IsRegistry work.registry.items r → IsFormat r (string_bytes work.format) s → ⊥
+  pub not_formatted : (e : JobFault) (r : Entries) (s : Shape) → RefusesFormatted work e → IsRegistry work.registry.items r → IsFormatWord r (string_bytes work.format) s → ⊥
   not_formatted (Registry e) r s (inl h) is f = fault_of_text work.registry.items r e is h
   not_formatted (Registry e) r s (inr (q, i, h)) is f =
       let same : q ≡ r = same_registry work.registry.items q r i.0 is.0 in
-      not_format r (string_bytes work.format) e s (subst (λ (m : Entries). RefusesFormat m (string_bytes work.format) e) same h) f
+      not_format r (string_bytes work.format) e s (subst (λ (m : Entries). RefusesFormatWord m (string_bytes work.format) e) same h) f
   not_formatted (Growth e) r s h is f = h
   not_formatted BadPath r s h is f = h
 
@@ -142,7 +142,7 @@ module _ (work : Work) where
   one_part (Growth e) g h k = absurd h
 
   pub not_parted : (e : JobFault) (r : Entries) (s : Shape) (path : List Step) → RefusesPart work e → IsRegistry work.registry.items r
-      → IsFormat r (string_bytes work.format) s → SpellsPath (string_bytes work.path) path → ⊥
+      → IsFormatWord r (string_bytes work.format) s → SpellsPath (string_bytes work.path) path → ⊥
   not_parted (Registry e) r s path h is f spells = not_formatted (Registry e) r s h is f
   not_parted BadPath r s path (q, g, i, j, never) is f spells = never path spells
   not_parted (Growth e) r s path h is f spells = h
@@ -161,7 +161,7 @@ module _ (work : Work) where
       not_both r n e (subst (λ (x : Entries). IsFirstGrowthFault r x e) newer (subst (λ (x : Entries). IsFirstGrowthFault x m e) older h)) g
   not_grown BadPath r n h is i g = h
 
-pub one_refusal : (c : Command) (work : Work) (e g : JobFault) → IsExact c work.options.list → RefusesAt c work e → RefusesAt c work g → e ≡ g
+pub one_refusal : (c : Command) (work : Work) (e g : JobFault) → IsExact c work.options.list → RefusesJobOf c work e → RefusesJobOf c work g → e ≡ g
 one_refusal command.Check work e g exact h k = one_check work e g h k
 one_refusal command.Grows work e g exact h k = one_growth work e g h k
 one_refusal command.Show work e g exact h k = absurd exact
@@ -176,7 +176,7 @@ one_refusal command.Part work e g exact h k = one_part work e g h k
 one_refusal command.Scan work e g exact h k = one_formatted work e g h k
 
 -- before a refusal stands no list, where the output is exact
-pub unlisted : (c : Command) (work : Work) (e : JobFault) → IsExact c work.options.list → RefusesAt c work e → lists work e ≡ false
+pub unlisted : (c : Command) (work : Work) (e : JobFault) → IsExact c work.options.list → RefusesJobOf c work e → lists work e ≡ false
 unlisted c work (Registry e) exact h = refl
 unlisted c work BadPath exact h = refl
 unlisted command.Grows work (Growth e) exact h = exact
@@ -218,7 +218,7 @@ module _ (work : Work) where
   not_valued fault h (r, s, asks) = not_formatted work fault r s h asks.is_registry asks.is_format
 
   -- nor does a job that is refused for its words
-  refused_reads_nothing : (c : Command) (fault : JobFault) → work.command ≡ c → RefusesAt c work fault → ReadsInput work → ⊥
+  refused_reads_nothing : (c : Command) (fault : JobFault) → work.command ≡ c → RefusesJobOf c work fault → ReadsInput work → ⊥
   refused_reads_nothing command.Check fault is h reads = check_reads_nothing is reads
   refused_reads_nothing command.Grows fault is h reads = growth_reads_nothing is reads
   refused_reads_nothing command.Show fault is h reads = show_reads_nothing is reads
@@ -232,7 +232,7 @@ module _ (work : Work) where
   refused_reads_nothing command.Scan fault is h reads = not_valued fault h reads
   refused_reads_nothing command.Part fault is h (r, s, asks) =
       let has = asks.has_path in
-      not_parted work fault r s has.0 h asks.is_registry asks.is_format (subst (λ (k : Command). IsPath k (string_bytes work.path) has.0) is has.1)
+      not_parted work fault r s has.0 h asks.is_registry asks.is_format (subst (λ (k : Command). IsPathOf k (string_bytes work.path) has.0) is has.1)
 
   pub refusal_reads_nothing : (fault : JobFault) → RefusesEarly work fault → ReadsInput work → ⊥
   refusal_reads_nothing fault h reads = refused_reads_nothing work.command fault refl h reads

@@ -6,7 +6,7 @@ use Rattle.bcs_registry.proofs.OneText.{same_registry}
 use Rattle.bcs_io.specs.Lines.{lines_of}
 use Rattle.bcs_tool_answers.specs.AnswerLaws.{OneComparison, SomeComparison}
 use Rattle.bcs_tool_answers.specs.Answers.{AnswersTexts, line_of}
-use Rattle.bcs_tool_answers.specs.Judging.{IsFormat, ReadsInput}
+use Rattle.bcs_tool_answers.specs.Judging.{IsFormatWord, ReadsInput}
 use Rattle.bcs_tool_answers.specs.LineAnswers.{greatest}
 use Rattle.bcs_tool_answers.specs.PairAnswers.{AnswersPair, AnswersPairs}
 use Rattle.bcs_tool_answers.specs.PairAnswers as pairs
@@ -24,7 +24,7 @@ module _ (work : Work) where
   one_pair_answer : (first second : List ℕ) (s z : ℕ) (p q : List ℕ) → AnswersPair work first second s p → AnswersPair work first second z q → Agrees s p z q
   one_pair_answer first second s z p q (r, f, asks, x) (n, g, also, y) =
       let same : n ≡ r = same_registry work.registry.items n r also.is_registry.0 asks.is_registry.0 in
-      let format : g ≡ f = one_format_word r (string_bytes work.format) g f (subst (λ (m : Entries). IsFormat m (string_bytes work.format) g) same also.is_format) asks.is_format in
+      let format : g ≡ f = one_format_word r (string_bytes work.format) g f (subst (λ (m : Entries). IsFormatWord m (string_bytes work.format) g) same also.is_format) asks.is_format in
       one_pair r work.limits f first second asks.is_registry.0.2.orderly s z p q x
       (subst (λ (i : Shape). AnswersTexts r work.limits i first second z q) format (subst (λ (m : Entries). AnswersTexts m work.limits g first second z q) same y))
 

@@ -9,21 +9,21 @@ use Rattle.bcs_decode_parts.specs.Steps.{GivesPart}
 use Rattle.bcs_decode_parts.specs.declared.part.Part as handed
 use Rattle.bcs_decode_parts.specs.Path.{SpellsPath}
 use Rattle.bcs_tool_answers.specs.Answers.{Answers, IsAsked, found, nowhere, printed, printed_none}
-use Rattle.bcs_tool_answers.specs.Input.{Gives}
-use Rattle.bcs_tool_answers.specs.Judging.{IsPath}
+use Rattle.bcs_tool_answers.specs.Input.{GivesBytes}
+use Rattle.bcs_tool_answers.specs.Judging.{IsPathOf}
 use Rattle.bcs_tool_command_line.specs.Jobs.{coding_of}
 use Rattle.bcs_tool_command_line.specs.declared.work.Work.{Work}
 use Rattle.bcs_tool_command_line.specs.declared.command.Command.{Command}
 use Rattle.bcs_tool_command_line.specs.declared.command.Command.TheVariants as command
 
 -- the steps of the job's PATH, which are these too
-pub spells : (k : Command) (word : List ℕ) (path steps : List Step) → k ≡ command.Part → steps ≡ path → IsPath k word path → SpellsPath word steps
+pub spells : (k : Command) (word : List ℕ) (path steps : List Step) → k ≡ command.Part → steps ≡ path → IsPathOf k word path → SpellsPath word steps
 spells k word path steps is same h =
-    subst (λ (p : List Step). SpellsPath word p) (sym same) (subst (λ (c : Command). IsPath c word path) is h)
+    subst (λ (p : List Step). SpellsPath word p) (sym same) (subst (λ (c : Command). IsPathOf c word path) is h)
 
 module _ (work : Work) (input : List ℕ) (registry : Entries) (s : Shape) (bytes : List ℕ) (n : ℕ) (t : Tree) (path : List Step)
     (asked : IsAsked work input command.Part registry s) (spelled : SpellsPath (string_bytes work.path) path)
-    (gives : Gives (coding_of work) input bytes) (accepts : Accepts registry work.limits s bytes n t) where
+    (gives : GivesBytes (coding_of work) input bytes) (accepts : Accepts registry work.limits s bytes n t) where
   pub finds : (o : Option handed.Part) (r : handed.Part) → o ≡ Some r → GivesPart registry bytes (part_at registry path (of s) t) o
       → Answers work input 0 (printed (coding_of work) r.bytes.now)
   finds o r same h = at (part_at registry path (of s) t) refl (subst (λ (p : Option handed.Part). GivesPart registry bytes (part_at registry path (of s) t) p) same h)

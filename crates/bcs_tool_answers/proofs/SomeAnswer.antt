@@ -17,8 +17,8 @@ use Rattle.bcs_json_spec.specs.Texts.{nesting_limit}
 use Rattle.bcs_json_spec.proofs.SomeText.{some_bytes, some_normal_text, some_shown_text}
 use Rattle.bcs_tool_answers.specs.AnswerLaws.{SomeAnswer}
 use Rattle.bcs_tool_answers.specs.Answers.{Answers, IsAsked, IsWithin, checked, compared, damaged, decoded, described, encoded, exampled, explained, found, front_stopped, grown, no_bytes, normalised, nowhere, refused, refused_early, scan_stopped, scanned, shown, stopped, too_nested}
-use Rattle.bcs_tool_answers.specs.Input.{Gives}
-use Rattle.bcs_tool_answers.specs.Judging.{IsFormat, IsPath, IsRegistry, RefusesAt, name_of, works_on_values}
+use Rattle.bcs_tool_answers.specs.Input.{GivesBytes}
+use Rattle.bcs_tool_answers.specs.Judging.{IsFormatWord, IsPathOf, IsRegistry, RefusesJobOf, name_of, works_on_values}
 use Rattle.bcs_tool_answers.specs.declared.job_fault.JobFault.{JobFault}
 use Rattle.bcs_tool_answers.specs.declared.job_fault.JobFault.TheVariants.{BadPath, Growth, Registry}
 use Rattle.bcs_tool_answers.proofs.AnswerLemmas.{refuses_formatted}
@@ -39,8 +39,8 @@ module _ (work : Work) (input : List ℕ) where
 
   -- ---- the words
 
-  refused_words : (c : Command) → work.command ≡ c → (fault : JobFault) → RefusesAt c work fault → Answered
-  refused_words c is fault h = (_, _, refused_early fault [] (subst (λ (d : Command). RefusesAt d work fault) (sym is) h) (λ _. refl))
+  refused_words : (c : Command) → work.command ≡ c → (fault : JobFault) → RefusesJobOf c work fault → Answered
+  refused_words c is fault h = (_, _, refused_early fault [] (subst (λ (d : Command). RefusesJobOf d work fault) (sym is) h) (λ _. refl))
 
   some_check : work.command ≡ command.Check → Answered
   some_check is = elim (some_registry work.registry.items) [
@@ -104,7 +104,7 @@ module _ (work : Work) (input : List ℕ) where
         (_, _, compared r s pair.0 pair.1 asked pair.2)
 
     -- bytes are a value's, of which the text nests within the limit or not, or they stop
-    bytes_answered : IsAsked work input command.Decode r s → (bytes : List ℕ) → AreBytes bytes → Gives (coding_of work) input bytes → Answered
+    bytes_answered : IsAsked work input command.Decode r s → (bytes : List ℕ) → AreBytes bytes → GivesBytes (coding_of work) input bytes → Answered
     bytes_answered asked bytes are given = elim (some_verdict_of_all_is r work.limits s bytes are) [
       | inr h ↦ (_, _, stopped r s bytes h.0 h.1 asked given h.2)
       | inl h ↦ elim (cases_lt nesting_limit (depth (value.shown r h.0 (of s)))) [
@@ -122,7 +122,7 @@ module _ (work : Work) (input : List ℕ) where
     ]
 
     -- bytes are a value's, or stop being one, and are explained
-    explain_answered : IsAsked work input command.Explain r s → (bytes : List ℕ) → AreBytes bytes → Gives (coding_of work) input bytes → Answered
+    explain_answered : IsAsked work input command.Explain r s → (bytes : List ℕ) → AreBytes bytes → GivesBytes (coding_of work) input bytes → Answered
     explain_answered asked bytes are given = elim (some_verdict_of_all_is r work.limits s bytes are) [
       | inl h ↦ (_, _, explained r s bytes [] h.0 asked given h.1)
       | inr h ↦ (_, _, damaged r s bytes [] h.0 h.1 asked given h.2)
@@ -135,7 +135,7 @@ module _ (work : Work) (input : List ℕ) where
     ]
 
     -- a value stands at the front of bytes, and the steps lead to a part of it or nowhere; or the bytes stop
-    front_answered : IsAsked work input command.Part r s → (path : List Step) → SpellsPath (string_bytes work.path) path → (bytes : List ℕ) → AreBytes bytes → Gives (coding_of work) input bytes → Answered
+    front_answered : IsAsked work input command.Part r s → (path : List Step) → SpellsPath (string_bytes work.path) path → (bytes : List ℕ) → AreBytes bytes → GivesBytes (coding_of work) input bytes → Answered
     front_answered asked path spells bytes are given = elim (some_verdict_is r work.limits s bytes are) [
       | inr h ↦ (_, _, front_stopped r s bytes h.0 h.1 asked given h.2)
       | inl h ↦ at h.0 h.1 h.2 (part_at r path (container.of s) h.1) refl
@@ -152,7 +152,7 @@ module _ (work : Work) (input : List ℕ) where
     ]
 
     -- a value stands at the front of bytes, and is all of them where all are asked for; or the bytes stop
-    scan_answered : IsAsked work input command.Scan r s → (bytes : List ℕ) → AreBytes bytes → Gives (coding_of work) input bytes → Answered
+    scan_answered : IsAsked work input command.Scan r s → (bytes : List ℕ) → AreBytes bytes → GivesBytes (coding_of work) input bytes → Answered
     scan_answered asked bytes are given = elim (some_scan r work.limits s bytes work.options.front are) [
       | inl h ↦ (_, _, scanned r s bytes h.0 h.1 asked given h.2.0 h.2.1)
       | inr h ↦ (_, _, scan_stopped r s bytes h.0 h.1 asked given h.2)
@@ -167,15 +167,15 @@ module _ (work : Work) (input : List ℕ) where
   -- ---- each command
 
   -- a command on values asks for its input, where its words are good
-  asks_for : (c : Command) → works_on_values c ≡ true → IsWithin work input → work.command ≡ c → (r : Entries) (s : Shape) → IsRegistry work.registry.items r → IsFormat r (string_bytes work.format) s
-      → (path : List Step) → IsPath c (string_bytes work.path) path → IsAsked work input c r s
+  asks_for : (c : Command) → works_on_values c ≡ true → IsWithin work input → work.command ≡ c → (r : Entries) (s : Shape) → IsRegistry work.registry.items r → IsFormatWord r (string_bytes work.format) s
+      → (path : List Step) → IsPathOf c (string_bytes work.path) path → IsAsked work input c r s
   asks_for c values within is r s registry format path spells =
       let works : works_on_values work.command ≡ true = subst (λ (d : Command). works_on_values d ≡ true) (sym is) values in
-      let has : IsPath work.command (string_bytes work.path) path = subst (λ (d : Command). IsPath d (string_bytes work.path) path) (sym is) spells in
+      let has : IsPathOf work.command (string_bytes work.path) path = subst (λ (d : Command). IsPathOf d (string_bytes work.path) path) (sym is) spells in
       record { is_command = is; asks = record { command = works; is_registry = registry; is_format = format; has_path = (path, has) }; within = within }
 
   -- a command on values without a PATH, from its answer to an input that is asked for
-  valued : (c : Command) → works_on_values c ≡ true → IsPath c (string_bytes work.path) [] → IsWithin work input
+  valued : (c : Command) → works_on_values c ≡ true → IsPathOf c (string_bytes work.path) [] → IsWithin work input
       → ((r : Entries) (s : Shape) → IsRegistry work.registry.items r → IsAsked work input c r s → Answered) → work.command ≡ c → Answered
   valued c values none within answer is = elim (some_formatted work) [
     | inr h ↦ refused_words c is h.0 (refuses_formatted c work h.0 values h.1)

@@ -6,7 +6,7 @@ use Rattle.hex.specs.Hex.{decode_of}
 use Rattle.hex.specs.declared.error.FromHexError.{FromHexError}
 use Rattle.bcs_decode_spec.specs.Exact.{AreBytes}
 use Rattle.bcs_json_spec.specs.Bytes.{IsHexOf}
-use Rattle.bcs_tool_answers.specs.Input.{Gives, without_blanks}
+use Rattle.bcs_tool_answers.specs.Input.{GivesBytes, without_blanks}
 use Rattle.bcs_tool_answers.proofs.Base64Lemmas.{some_base64}
 use Rattle.bcs_tool_command_line.specs.declared.coding.Coding.{Coding}
 use Rattle.bcs_tool_command_line.specs.declared.coding.Coding.TheVariants.{Hexadecimal, Base64, Raw}
@@ -20,7 +20,7 @@ digits text = at (decode_of text) refl
     at (Err e) is = inr (λ b h. cc (sym is ∙ h))
 
 -- an input of bytes gives bytes, or none
-pub some_given : (input : List ℕ) (coding : Coding) → AreBytes input → ((b : List ℕ) × AreBytes b × Gives coding input b) ⊎ ((b : List ℕ) → Gives coding input b → ⊥)
+pub some_given : (input : List ℕ) (coding : Coding) → AreBytes input → ((b : List ℕ) × AreBytes b × GivesBytes coding input b) ⊎ ((b : List ℕ) → GivesBytes coding input b → ⊥)
 some_given input Hexadecimal are = digits (without_blanks input)
 some_given input Base64 are = elim (some_base64 (without_blanks input)) [
   | inl h ↦ inl (h.0, h.1.0, h.1)

@@ -12,7 +12,7 @@ use Rattle.bcs_registry_model.specs.declared.growth_fault.GrowthFault.{GrowthFau
 use Rattle.bcs_registry_model.proofs.FirstFaults.{fault_exactly, ok_exactly}
 use Rattle.bcs_registry.specs.Faults.{IsLeastFault}
 use Rattle.bcs_registry.proofs.OrFault.{format_or_fault, registry_or_fault}
-use Rattle.bcs_tool_answers.specs.Judging.{IsFormat, IsRegistry, NamesNone, RefusesFormat, RefusesFormatted, is_json_word}
+use Rattle.bcs_tool_answers.specs.Judging.{IsFormatWord, IsRegistry, NamesNone, RefusesFormatWord, RefusesFormatted, is_json_word}
 use Rattle.bcs_tool_answers.specs.declared.job_fault.JobFault.{JobFault}
 use Rattle.bcs_tool_answers.specs.declared.job_fault.JobFault.TheVariants.{Registry}
 use Rattle.bcs_tool_command_line.specs.declared.work.Work.{Work}
@@ -31,19 +31,19 @@ some_growth older newer = at (growth_fault older newer) refl
 
 -- a word is a format, or is refused
 module _ (registry : Entries) (word : List ℕ) where
-  named : (o : Option Container) → container_at word registry ≡ o → is_json_word word ≡ false → ((s : Shape) × IsFormat registry word s) ⊎ ((e : RegistryFault) × RefusesFormat registry word e)
+  named : (o : Option Container) → container_at word registry ≡ o → is_json_word word ≡ false → ((s : Shape) × IsFormatWord registry word s) ⊎ ((e : RegistryFault) × RefusesFormatWord registry word e)
   named None is plain = inr (UnknownName, inr (plain, is, refl))
   named (Some c) is plain = inl (name word, inr (plain, ap is_some is, refl))
 
-  pub some_format : ((s : Shape) × IsFormat registry word s) ⊎ ((e : RegistryFault) × RefusesFormat registry word e)
+  pub some_format : ((s : Shape) × IsFormatWord registry word s) ⊎ ((e : RegistryFault) × RefusesFormatWord registry word e)
   some_format = at (is_json_word word) refl
     where
-      at : (b : Bool) → is_json_word word ≡ b → ((s : Shape) × IsFormat registry word s) ⊎ ((e : RegistryFault) × RefusesFormat registry word e)
+      at : (b : Bool) → is_json_word word ≡ b → ((s : Shape) × IsFormatWord registry word s) ⊎ ((e : RegistryFault) × RefusesFormatWord registry word e)
       at true is = elim (format_or_fault registry word) [ inl h ↦ inl (h.0, inl (is, h.1, h.2)) | inr h ↦ inr (h.0, inl (is, h.1)) ]
       at false is = named (container_at word registry) refl is
 
 -- the words of a command on values ask for some format of some registry, or are refused
-pub some_formatted : (work : Work) → ((r : Entries) × (s : Shape) × IsRegistry work.registry.items r × IsFormat r (string_bytes work.format) s) ⊎ ((e : JobFault) × RefusesFormatted work e)
+pub some_formatted : (work : Work) → ((r : Entries) × (s : Shape) × IsRegistry work.registry.items r × IsFormatWord r (string_bytes work.format) s) ⊎ ((e : JobFault) × RefusesFormatted work e)
 some_formatted work = elim (some_registry work.registry.items) [
   | inr h ↦ inr (Registry h.0, inl h.1)
   | inl r ↦ elim (some_format r.0 (string_bytes work.format)) [ inl s ↦ inl (r.0, s.0, r.1, s.1) | inr h ↦ inr (Registry h.0, inr (r.0, r.1, h.1)) ]

@@ -24,7 +24,7 @@ use Rattle.bcs_json_spec.specs.declared.json_fault.JsonFault.{JsonFault}
 use Rattle.bcs_decode_parts.specs.Path.{SpellsPath}
 use Rattle.bcs_tool_command_line.specs.Files.{size_limit}
 use Rattle.bcs_tool_answers.specs.Input as given
-use Rattle.bcs_tool_answers.specs.Judging.{Asks, IsFormat, IsRegistry, NamesNone, RefusesEarly, is_unlimited, job_fault_name, name_of}
+use Rattle.bcs_tool_answers.specs.Judging.{Asks, IsFormatWord, IsRegistry, NamesNone, RefusesEarly, is_unlimited, job_fault_name, name_of}
 use Rattle.bcs_tool_command_line.specs.Jobs.{coding_of}
 use Rattle.bcs_tool_command_line.specs.declared.coding.Coding.{Coding}
 use Rattle.bcs_tool_command_line.specs.declared.coding.Coding.TheVariants as coding
@@ -94,7 +94,7 @@ TakesBytes asked = (asked ≡ command.Decode) ⊎ (asked ≡ command.Part) ⊎ (
 pub record AsksOfFormat (work : Work) (asked : Command) (registry : Entries) (s : Shape) : Type 0 where
   pub is_command : work.command ≡ asked
   pub is_registry : IsRegistry work.registry.items registry
-  pub is_format : IsFormat registry (string_bytes work.format) s
+  pub is_format : IsFormatWord registry (string_bytes work.format) s
 
 -- where bytes stop that are scanned: where no value stands at their front, if that alone is asked for; else where they are
 -- no value
@@ -134,24 +134,24 @@ pub data Answers (work : Work) (input : List ℕ) : ℕ → List ℕ → Type 0 
   -- `same`: what is answered to the job's text and that of the input
   compared : (registry : Entries) (s : Shape) (status : ℕ) (output : List ℕ) → IsAsked work input command.Same registry s → AnswersTexts registry work.limits s work.second.items input status output → Answers work input status output
   -- `decode`: the text of the one value whose bytes the input gives
-  decoded : (registry : Entries) (s : Shape) (bytes text : List ℕ) → IsAsked work input command.Decode registry s → given.Gives (coding_of work) input bytes → ShowsBytes registry work.limits s bytes text → Answers work input 0 (line_of text)
+  decoded : (registry : Entries) (s : Shape) (bytes text : List ℕ) → IsAsked work input command.Decode registry s → given.GivesBytes (coding_of work) input bytes → ShowsBytes registry work.limits s bytes text → Answers work input 0 (line_of text)
   -- `decode`: the bytes stop being a value at a place
-  stopped : (registry : Entries) (s : Shape) (bytes : List ℕ) (reason : Reason) (place : ℕ) → IsAsked work input command.Decode registry s → given.Gives (coding_of work) input bytes → StopsAll registry work.limits s bytes reason place → Answers work input 2 (stop_line reason place)
+  stopped : (registry : Entries) (s : Shape) (bytes : List ℕ) (reason : Reason) (place : ℕ) → IsAsked work input command.Decode registry s → given.GivesBytes (coding_of work) input bytes → StopsAll registry work.limits s bytes reason place → Answers work input 2 (stop_line reason place)
   -- `decode`: they are a value's, and its text would nest deeper than a text may
-  too_nested : (registry : Entries) (s : Shape) (bytes : List ℕ) (c : Tree) → IsAsked work input command.Decode registry s → given.Gives (coding_of work) input bytes → Accepts registry work.limits s bytes (length bytes) c → nesting_limit < depth (value.shown registry c (of s)) → Answers work input 2 (refusal_line (codes "TooNested"))
+  too_nested : (registry : Entries) (s : Shape) (bytes : List ℕ) (c : Tree) → IsAsked work input command.Decode registry s → given.GivesBytes (coding_of work) input bytes → Accepts registry work.limits s bytes (length bytes) c → nesting_limit < depth (value.shown registry c (of s)) → Answers work input 2 (refusal_line (codes "TooNested"))
   -- `explain`: a text for reading, where the input gives the bytes of one value
-  explained : (registry : Entries) (s : Shape) (bytes text : List ℕ) (c : Tree) → IsAsked work input command.Explain registry s → given.Gives (coding_of work) input bytes → Accepts registry work.limits s bytes (length bytes) c → Answers work input 0 text
+  explained : (registry : Entries) (s : Shape) (bytes text : List ℕ) (c : Tree) → IsAsked work input command.Explain registry s → given.GivesBytes (coding_of work) input bytes → Accepts registry work.limits s bytes (length bytes) c → Answers work input 0 text
   -- `explain`: a text for reading, where the bytes stop being a value
-  damaged : (registry : Entries) (s : Shape) (bytes text : List ℕ) (reason : Reason) (place : ℕ) → IsAsked work input command.Explain registry s → given.Gives (coding_of work) input bytes → StopsAll registry work.limits s bytes reason place → Answers work input 2 text
+  damaged : (registry : Entries) (s : Shape) (bytes text : List ℕ) (reason : Reason) (place : ℕ) → IsAsked work input command.Explain registry s → given.GivesBytes (coding_of work) input bytes → StopsAll registry work.limits s bytes reason place → Answers work input 2 text
   -- `decode`, `explain`, `part` and `scan`: the input gives no bytes
-  no_bytes : (asked : Command) (registry : Entries) (s : Shape) → TakesBytes asked → IsAsked work input asked registry s → ((bytes : List ℕ) → given.Gives (coding_of work) input bytes → ⊥) → Answers work input 2 (refusal_line (given.fault_name (coding_of work)))
+  no_bytes : (asked : Command) (registry : Entries) (s : Shape) → TakesBytes asked → IsAsked work input asked registry s → ((bytes : List ℕ) → given.GivesBytes (coding_of work) input bytes → ⊥) → Answers work input 2 (refusal_line (given.input_fault_name (coding_of work)))
   -- `part`: a value stands at the front of the bytes, and the steps of PATH lead to a part of it, whose bytes these are
-  found : (registry : Entries) (s : Shape) (path : List Step) (bytes : List ℕ) (n : ℕ) (c : Tree) (x : Part) → IsAsked work input command.Part registry s → SpellsPath (string_bytes work.path) path → given.Gives (coding_of work) input bytes → Accepts registry work.limits s bytes n c → part_at registry path (container.of s) c ≡ Some x → Answers work input 0 (printed (coding_of work) (plain registry x.value x.content))
+  found : (registry : Entries) (s : Shape) (path : List Step) (bytes : List ℕ) (n : ℕ) (c : Tree) (x : Part) → IsAsked work input command.Part registry s → SpellsPath (string_bytes work.path) path → given.GivesBytes (coding_of work) input bytes → Accepts registry work.limits s bytes n c → part_at registry path (container.of s) c ≡ Some x → Answers work input 0 (printed (coding_of work) (plain registry x.value x.content))
   -- `part`: they lead nowhere in it
-  nowhere : (registry : Entries) (s : Shape) (path : List Step) (bytes : List ℕ) (n : ℕ) (c : Tree) → IsAsked work input command.Part registry s → SpellsPath (string_bytes work.path) path → given.Gives (coding_of work) input bytes → Accepts registry work.limits s bytes n c → part_at registry path (container.of s) c ≡ None → Answers work input 1 (printed_none (coding_of work))
+  nowhere : (registry : Entries) (s : Shape) (path : List Step) (bytes : List ℕ) (n : ℕ) (c : Tree) → IsAsked work input command.Part registry s → SpellsPath (string_bytes work.path) path → given.GivesBytes (coding_of work) input bytes → Accepts registry work.limits s bytes n c → part_at registry path (container.of s) c ≡ None → Answers work input 1 (printed_none (coding_of work))
   -- `part`: no value stands at their front, since they stop being one at a place
-  front_stopped : (registry : Entries) (s : Shape) (bytes : List ℕ) (reason : Reason) (place : ℕ) → IsAsked work input command.Part registry s → given.Gives (coding_of work) input bytes → Stops registry work.limits s bytes reason place → Answers work input 2 (stop_line reason place)
+  front_stopped : (registry : Entries) (s : Shape) (bytes : List ℕ) (reason : Reason) (place : ℕ) → IsAsked work input command.Part registry s → given.GivesBytes (coding_of work) input bytes → Stops registry work.limits s bytes reason place → Answers work input 2 (stop_line reason place)
   -- `scan`: a value stands at the front of the bytes, and it is all of them unless the front alone is asked for
-  scanned : (registry : Entries) (s : Shape) (bytes : List ℕ) (n : ℕ) (c : Tree) → IsAsked work input command.Scan registry s → given.Gives (coding_of work) input bytes → Accepts registry work.limits s bytes n c → (work.options.front ≡ false → n ≡ length bytes) → Answers work input 0 (count_line n)
+  scanned : (registry : Entries) (s : Shape) (bytes : List ℕ) (n : ℕ) (c : Tree) → IsAsked work input command.Scan registry s → given.GivesBytes (coding_of work) input bytes → Accepts registry work.limits s bytes n c → (work.options.front ≡ false → n ≡ length bytes) → Answers work input 0 (count_line n)
   -- `scan`: they stop being one at a place
-  scan_stopped : (registry : Entries) (s : Shape) (bytes : List ℕ) (reason : Reason) (place : ℕ) → IsAsked work input command.Scan registry s → given.Gives (coding_of work) input bytes → ScanStops work.options.front registry work.limits s bytes reason place → Answers work input 2 (stop_line reason place)
+  scan_stopped : (registry : Entries) (s : Shape) (bytes : List ℕ) (reason : Reason) (place : ℕ) → IsAsked work input command.Scan registry s → given.GivesBytes (coding_of work) input bytes → ScanStops work.options.front registry work.limits s bytes reason place → Answers work input 2 (stop_line reason place)

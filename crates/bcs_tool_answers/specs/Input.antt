@@ -32,13 +32,13 @@ IsBase64Of text bytes = AreBytes bytes × (text ≡ base64_text bytes)
 
 -- the bytes that are given: as hexadecimal digits of either case or as base64, with blanks before and after them, or as
 -- they are
-abbrev pub Gives : Coding → List ℕ → List ℕ → Type 0
-Gives Hexadecimal input bytes = IsHexOf (without_blanks input) bytes
-Gives Base64 input bytes = IsBase64Of (without_blanks input) bytes
-Gives Raw input bytes = bytes ≡ input
+abbrev pub GivesBytes : Coding → List ℕ → List ℕ → Type 0
+GivesBytes Hexadecimal input bytes = IsHexOf (without_blanks input) bytes
+GivesBytes Base64 input bytes = IsBase64Of (without_blanks input) bytes
+GivesBytes Raw input bytes = bytes ≡ input
 
 -- what an input that gives no bytes is refused for; none is, where bytes are given as they are
-abbrev pub fault_name : Coding → List ℕ
-fault_name Hexadecimal = codes "BadHex"
-fault_name Base64 = codes "BadBase64"
-fault_name Raw = []
+abbrev pub input_fault_name : Coding → List ℕ
+input_fault_name Hexadecimal = codes "BadHex"
+input_fault_name Base64 = codes "BadBase64"
+input_fault_name Raw = []

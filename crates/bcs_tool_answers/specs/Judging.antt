@@ -46,13 +46,13 @@ is_json_word [] = false
 is_json_word (c ∷ cs) = c == 123 || c == 34
 
 -- the word is the JSON of a format that the registry admits, or the name of one of its containers
-abbrev pub IsFormat : Entries → List ℕ → Shape → Type 0
-IsFormat registry word s = ((is_json_word word ≡ true) × WritesFormat word s × Admits registry s)
+abbrev pub IsFormatWord : Entries → List ℕ → Shape → Type 0
+IsFormatWord registry word s = ((is_json_word word ≡ true) × WritesFormat word s × Admits registry s)
     ⊎ ((is_json_word word ≡ false) × (is_some (container_at word registry) ≡ true) × (s ≡ name word))
 
 -- it is JSON with this fault, or a name that no container has
-abbrev pub RefusesFormat : Entries → List ℕ → RegistryFault → Type 0
-RefusesFormat registry word fault = ((is_json_word word ≡ true) × IsLeastFormatFault registry word fault)
+abbrev pub RefusesFormatWord : Entries → List ℕ → RegistryFault → Type 0
+RefusesFormatWord registry word fault = ((is_json_word word ≡ true) × IsLeastFormatFault registry word fault)
     ⊎ ((is_json_word word ≡ false) × (container_at word registry ≡ None) × (fault ≡ UnknownName))
 
 -- ---- the name that may be left out
@@ -69,9 +69,9 @@ NamesNone (Some word) registry = container_at word registry ≡ None
 -- ---- the path's word
 
 -- the steps that a command's word PATH spells; none where the command has no such word
-abbrev pub IsPath : Command → List ℕ → List Step → Type 0
-IsPath command.Part word path = SpellsPath word path
-IsPath other word path = path ≡ []
+abbrev pub IsPathOf : Command → List ℕ → List Step → Type 0
+IsPathOf command.Part word path = SpellsPath word path
+IsPathOf other word path = path ≡ []
 
 -- ---- the job
 
@@ -97,8 +97,8 @@ is_unlimited work = is_scan work.command && is_raw (coding_of work)
 pub record Asks (work : Work) (registry : Entries) (s : Shape) : Type 0 where
   pub command : works_on_values work.command ≡ true
   pub is_registry : IsRegistry work.registry.items registry
-  pub is_format : IsFormat registry (string_bytes work.format) s
-  pub has_path : (path : List Step) × IsPath work.command (string_bytes work.path) path
+  pub is_format : IsFormatWord registry (string_bytes work.format) s
+  pub has_path : (path : List Step) × IsPathOf work.command (string_bytes work.path) path
 
 -- the job has an input, which is read, since its words are not refused
 abbrev pub ReadsInput : Work → Type 0
@@ -107,7 +107,7 @@ ReadsInput work = (registry : Entries) × (s : Shape) × Asks work registry s
 -- the registry's fault, or else the format's
 abbrev pub RefusesFormatted : Work → JobFault → Type 0
 RefusesFormatted work (job.Registry fault) = IsLeastFault work.registry.items fault
-    ⊎ ((registry : Entries) × IsRegistry work.registry.items registry × RefusesFormat registry (string_bytes work.format) fault)
+    ⊎ ((registry : Entries) × IsRegistry work.registry.items registry × RefusesFormatWord registry (string_bytes work.format) fault)
 RefusesFormatted work (job.Growth fault) = ⊥
 RefusesFormatted work job.BadPath = ⊥
 
@@ -136,15 +136,15 @@ abbrev pub RefusesPart : Work → JobFault → Type 0
 RefusesPart work (job.Registry fault) = RefusesFormatted work (job.Registry fault)
 RefusesPart work (job.Growth fault) = ⊥
 RefusesPart work job.BadPath = (registry : Entries) × (s : Shape) × IsRegistry work.registry.items registry
-    × IsFormat registry (string_bytes work.format) s × SpellsNoPath (string_bytes work.path)
+    × IsFormatWord registry (string_bytes work.format) s × SpellsNoPath (string_bytes work.path)
 
-abbrev pub RefusesAt : Command → Work → JobFault → Type 0
-RefusesAt command.Check = RefusesCheck
-RefusesAt command.Grows = RefusesGrowth
-RefusesAt command.Show = RefusesShow
-RefusesAt command.Part = RefusesPart
-RefusesAt other = RefusesFormatted
+abbrev pub RefusesJobOf : Command → Work → JobFault → Type 0
+RefusesJobOf command.Check = RefusesCheck
+RefusesJobOf command.Grows = RefusesGrowth
+RefusesJobOf command.Show = RefusesShow
+RefusesJobOf command.Part = RefusesPart
+RefusesJobOf other = RefusesFormatted
 
 -- the job is refused before an input is read
 abbrev pub RefusesEarly : Work → JobFault → Type 0
-RefusesEarly work = RefusesAt work.command work
+RefusesEarly work = RefusesJobOf work.command work

@@ -5,7 +5,7 @@ use Rattle.bcs_tool_command_line.specs.Files.{size_limit}
 use Rattle.bcs_tool_command_line.specs.Jobs.{coding_of}
 use Rattle.bcs_tool_command_line.specs.declared.work.Work.{Work}
 use Rattle.bcs_tool_answers.specs.Answers.{Answers}
-use Rattle.bcs_tool_answers.specs.Input.{Gives}
+use Rattle.bcs_tool_answers.specs.Input.{GivesBytes}
 use Rattle.bcs_tool_answers.specs.declared.answer.Answer.{Answer}
 
 -- the byte is a blank or a sign of ASCII, and no line feed
@@ -13,8 +13,8 @@ abbrev pub IsPrintable : ℕ → Type 0
 IsPrintable byte = (32 ≤ byte) × (byte ≤ 126)
 
 -- the text may be told of the job: nothing, or, where the job isn't quiet, one line without its end
-abbrev pub Tells : Work → List ℕ → Type 0
-Tells work place = (place ≡ []) ⊎ ((work.options.quiet ≡ false) × All IsPrintable place)
+abbrev pub MayReport : Work → List ℕ → Type 0
+MayReport work place = (place ≡ []) ⊎ ((work.options.quiet ≡ false) × All IsPrintable place)
 
 -- it may be told beside any answer to it. Which refusal has which line is for reading, and nothing is said of it
 pub data Places (work : Work) (input place : List ℕ) : Type 0 where
@@ -22,7 +22,7 @@ pub data Places (work : Work) (input place : List ℕ) : Type 0 where
   told : work.options.quiet ≡ false → All IsPrintable place → Places work input place
 
 -- this is printed with this status, and there is no place
-pub record Prints (a : Answer) (status : ℕ) (output : List ℕ) : Type 0 where
+pub record PrintsWithoutPlace (a : Answer) (status : ℕ) (output : List ℕ) : Type 0 where
   pub same_status : a.status ≡ status
   pub same_output : a.output.items ≡ output
   pub no_place : a.place.items ≡ []
@@ -33,4 +33,4 @@ IsAnswer work input a = Answers work input a.status a.output.items × Places wor
 
 -- it answers each input within the size that gives these bytes
 abbrev pub AnswersBytes : Work → List ℕ → Answer → Type 0
-AnswersBytes work bytes a = (input : List ℕ) → length input ≤ size_limit → Gives (coding_of work) input bytes → IsAnswer work input a
+AnswersBytes work bytes a = (input : List ℕ) → length input ≤ size_limit → GivesBytes (coding_of work) input bytes → IsAnswer work input a

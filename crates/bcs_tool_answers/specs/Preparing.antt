@@ -4,7 +4,7 @@ use Rattle.bcs_registry_model.specs.View.{shape_of}
 use Rattle.bcs_registry_model.specs.WellFormed.{Admits}
 use Rattle.bcs_decode_parts.specs.PathSteps.{all_spelled}
 use Rattle.bcs_tool_command_line.specs.declared.work.Work.{Work}
-use Rattle.bcs_tool_answers.specs.Judging.{Asks, IsPath, ReadsInput, works_on_values}
+use Rattle.bcs_tool_answers.specs.Judging.{Asks, IsPathOf, ReadsInput, works_on_values}
 use Rattle.bcs_tool_answers.specs.Answers.{Answers, Lists}
 use Rattle.bcs_tool_answers.specs.Places.{IsAnswer, Places}
 use Rattle.bcs_tool_answers.specs.declared.answer.Answer.{Answer}
@@ -17,7 +17,7 @@ pub record IsAskedBy (work : Work) (asked : Asked) : Type 0 where
   pub on_values : works_on_values work.command ≡ true
   pub asks : Asks work asked.registry (shape_of asked.format)
   pub admitted : Admits asked.registry (shape_of asked.format)
-  pub path : IsPath work.command (string_bytes work.path) (all_spelled asked.path.items)
+  pub path : IsPathOf work.command (string_bytes work.path) (all_spelled asked.path.items)
 
 -- behind any list that may stand before a verdict on growth it answers the job, whatever the input
 abbrev pub IsVerdict : Work → Answer → Type 0

@@ -4,7 +4,7 @@ ghost use Rattle.hex.specs.Hex.{encode_lower};
 ghost use Rattle.bcs_json_spec.specs.FaultNames.{json_fault_name};
 ghost use Rattle.bcs_tool_answers.specs.Answers.{count_line, line_of, printed, printed_none, refusal_line, stop_line};
 ghost use Rattle.bcs_tool_answers.specs.Input.{base64_text};
-ghost use Rattle.bcs_tool_answers.specs.Places.{Prints};
+ghost use Rattle.bcs_tool_answers.specs.Places.{PrintsWithoutPlace};
 
 use base64::engine::general_purpose::STANDARD;
 use bcs_decode::Stop;
@@ -24,7 +24,7 @@ pub struct Answer {
 
 /// The line of a refusal.
 pub fn refused(alloc: Global, name: &str) -> Result<Answer, AllocError>
-    ensures { IfOk result (λ a. Prints a 2 (refusal_line name.now)) }
+    ensures { IfOk result (λ a. PrintsWithoutPlace a 2 (refusal_line name.now)) }
 {
     let mut text = String::from_str(alloc, "refused: ")?;
     text.push_str(name)?;
@@ -34,7 +34,7 @@ pub fn refused(alloc: Global, name: &str) -> Result<Answer, AllocError>
 /// The line of the refusal of a text. Want of memory is no refusal.
 pub fn refused_text(alloc: Global, fault: JsonFault) -> Result<Answer, AllocError>
     ensures { IfOk result (λ a. (fault ≢ JsonFault.OutOfMemory)
-        × Prints a 2 (refusal_line (json_fault_name fault))) }
+        × PrintsWithoutPlace a 2 (refusal_line (json_fault_name fault))) }
 {
     match fault {
         JsonFault::OutOfMemory => Err(AllocError),
@@ -44,7 +44,7 @@ pub fn refused_text(alloc: Global, fault: JsonFault) -> Result<Answer, AllocErro
 
 /// The line for a registry of so many containers.
 pub fn counted(alloc: Global, count: usize) -> Result<Answer, AllocError>
-    ensures { IfOk result (λ a. Prints a 0 (count_line count)) }
+    ensures { IfOk result (λ a. PrintsWithoutPlace a 0 (count_line count)) }
 {
     let text = format!(in alloc; "ok {count}")?;
     Ok(unplaced(alloc, 0, with_line_end(text)?))
@@ -52,7 +52,7 @@ pub fn counted(alloc: Global, count: usize) -> Result<Answer, AllocError>
 
 /// The line for bytes that stop being a value.
 pub fn stopped(alloc: Global, stop: Stop) -> Result<Answer, AllocError>
-    ensures { IfOk result (λ a. Prints a 2 (stop_line stop.reason stop.place)) }
+    ensures { IfOk result (λ a. PrintsWithoutPlace a 2 (stop_line stop.reason stop.place)) }
 {
     let reason = stop.reason.name();
     let text = format!(in alloc; "{reason} at {}", stop.place)?;
@@ -66,7 +66,7 @@ pub fn damaged(
     mut text: Vec<u8>,
     stop: Stop,
 ) -> Result<Answer, AllocError>
-    ensures { IfOk result (λ a. Prints a 2 a.output.items) }
+    ensures { IfOk result (λ a. PrintsWithoutPlace a 2 a.output.items) }
 {
     let line = stopped(alloc, stop)?;
     if form != Form::Json {
@@ -77,7 +77,7 @@ pub fn damaged(
 
 /// A word on a line of its own.
 pub fn told(alloc: Global, status: u8, word: &str) -> Result<Answer, AllocError>
-    ensures { IfOk result (λ a. Prints a status (line_of word.now)) }
+    ensures { IfOk result (λ a. PrintsWithoutPlace a status (line_of word.now)) }
 {
     let text = String::from_str(alloc, word)?;
     Ok(unplaced(alloc, status, with_line_end(text)?))
@@ -85,14 +85,14 @@ pub fn told(alloc: Global, status: u8, word: &str) -> Result<Answer, AllocError>
 
 /// The text of a value.
 pub fn shown(alloc: Global, text: String) -> Result<Answer, AllocError>
-    ensures { IfOk result (λ a. Prints a 0 (line_of (string_bytes text))) }
+    ensures { IfOk result (λ a. PrintsWithoutPlace a 0 (line_of (string_bytes text))) }
 {
     Ok(unplaced(alloc, 0, with_line_end(text)?))
 }
 
 /// The bytes of a value, as a line of hexadecimal digits or of base64, or as they are.
 pub fn encoded(alloc: Global, bytes: Vec<u8>, coding: Coding) -> Result<Answer, AllocError>
-    ensures { IfOk result (λ a. Prints a 0 (printed coding bytes.items)) }
+    ensures { IfOk result (λ a. PrintsWithoutPlace a 0 (printed coding bytes.items)) }
 {
     let output = match coding {
         Coding::Hexadecimal => digits_line(alloc, bytes.as_slice())?,
@@ -104,7 +104,7 @@ pub fn encoded(alloc: Global, bytes: Vec<u8>, coding: Coding) -> Result<Answer, 
 
 /// The bytes of a part, in the same way.
 pub fn found(alloc: Global, bytes: &[u8], coding: Coding) -> Result<Answer, AllocError>
-    ensures { IfOk result (λ a. Prints a 0 (printed coding bytes.now)) }
+    ensures { IfOk result (λ a. PrintsWithoutPlace a 0 (printed coding bytes.now)) }
 {
     let output = match coding {
         Coding::Hexadecimal => digits_line(alloc, bytes)?,
@@ -116,7 +116,7 @@ pub fn found(alloc: Global, bytes: &[u8], coding: Coding) -> Result<Answer, Allo
 
 /// What is printed where there is no part: nothing where bytes are written as they are.
 pub fn nowhere(alloc: Global, coding: Coding) -> Result<Answer, AllocError>
-    ensures { IfOk result (λ a. Prints a 1 (printed_none coding)) }
+    ensures { IfOk result (λ a. PrintsWithoutPlace a 1 (printed_none coding)) }
 {
     match coding {
         Coding::Hexadecimal | Coding::Base64 => told(alloc, 1, "none"),
@@ -135,7 +135,7 @@ pub fn placed(answer: Answer, place: Vec<u8>) -> Answer
 
 /// An answer with no place.
 pub fn unplaced(alloc: Global, status: u8, output: Vec<u8>) -> Answer
-    ensures { Prints result status output.items }
+    ensures { PrintsWithoutPlace result status output.items }
 {
     Answer {
         status,

@@ -3,7 +3,7 @@ ghost use Rattle.std.specs.Prelude.{◌≡◌, ◌≢◌, ◌≤◌, codes, leng
 ghost use Rattle.bcs_tool_command_line.specs.Files.{size_limit};
 ghost use Rattle.bcs_tool_command_line.specs.Jobs.{coding_of};
 ghost use Rattle.bcs_tool_answers.specs.Answers.{TakesBytes, refusal_line};
-ghost use Rattle.bcs_tool_answers.specs.Places.{AnswersBytes, IsAnswer, Tells};
+ghost use Rattle.bcs_tool_answers.specs.Places.{AnswersBytes, IsAnswer, MayReport};
 ghost use Rattle.bcs_tool_answers.specs.Preparing.{IsAskedBy};
 
 use crate::answer::{Answer, damaged, found, nowhere, placed, refused, shown, unplaced};
@@ -87,7 +87,7 @@ fn refused_digits(
     fault: FromHexError,
 ) -> Result<Answer, AllocError>
     ensures { IfOk result (λ a. (fault ≢ FromHexError.OutOfMemory) × (a.status ≡ 2)
-        × (a.output.items ≡ refusal_line (codes "BadHex")) × Tells work.now a.place.items) }
+        × (a.output.items ≡ refusal_line (codes "BadHex")) × MayReport work.now a.place.items) }
 {
     match fault {
         FromHexError::OutOfMemory => Err(AllocError),
@@ -108,7 +108,7 @@ fn refused_base64(
     fault: DecodeAllocError,
 ) -> Result<Answer, AllocError>
     ensures { IfOk result (λ a. (fault ≢ DecodeAllocError.OutOfMemory) × (a.status ≡ 2)
-        × (a.output.items ≡ refusal_line (codes "BadBase64")) × Tells work.now a.place.items) }
+        × (a.output.items ≡ refusal_line (codes "BadBase64")) × MayReport work.now a.place.items) }
 {
     match fault {
         DecodeAllocError::OutOfMemory => Err(AllocError),

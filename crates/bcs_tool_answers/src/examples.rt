@@ -2,7 +2,7 @@
 ghost use Rattle.std.specs.Prelude.{◌≡◌, ℕ, List, IfOk};
 ghost use Rattle.bcs_registry_model.specs.View.{shape_of};
 ghost use Rattle.bcs_tool_answers.specs.Answers.{AsksOfFormat};
-ghost use Rattle.bcs_tool_answers.specs.Places.{IsAnswer, Prints};
+ghost use Rattle.bcs_tool_answers.specs.Places.{IsAnswer, PrintsWithoutPlace};
 
 use crate::answer::{Answer, refused, shown};
 use crate::judging::judge_formatted;
@@ -54,7 +54,7 @@ fn form_of(work: &Work) -> ExampleForm {
 
 // The answer to a wish that can't be granted. Want of memory is no refusal.
 fn refused_wish(alloc: Global, fault: ExampleTextFault) -> Result<Answer, AllocError>
-    ensures { IfOk result (λ a. Prints a 2 a.output.items) }
+    ensures { IfOk result (λ a. PrintsWithoutPlace a 2 a.output.items) }
 {
     match fault {
         ExampleTextFault::Wanted(WantedFault::OutOfMemory) => Err(AllocError),

@@ -1,5 +1,5 @@
 //! Where an input is no hexadecimal digits, or no base64.
-ghost use Rattle.bcs_tool_answers.specs.Places.{Tells};
+ghost use Rattle.bcs_tool_answers.specs.Places.{MayReport};
 
 use crate::blanks::{blanks_before, without_blanks};
 use crate::places::place_of_line;
@@ -10,7 +10,7 @@ use std::alloc::{AllocError, Global};
 
 /// Where this input is no hexadecimal digits. It is empty at a quiet job, and where no memory is left for it.
 pub fn place_of_digits(alloc: Global, work: &Work, input: &[u8]) -> Vec<u8>
-    ensures { Tells work.now result.items }
+    ensures { MayReport work.now result.items }
 {
     match wrong_digits(without_blanks(input)) {
         Some(wrong) => place_of_input(alloc, work, input, "BadHex", wrong),
@@ -21,7 +21,7 @@ pub fn place_of_digits(alloc: Global, work: &Work, input: &[u8]) -> Vec<u8>
 /// Where this input is no base64, by the fault of the text between its blanks. It is empty at a quiet job, and where no
 /// memory is left for it.
 pub fn place_of_base64(alloc: Global, work: &Work, input: &[u8], fault: DecodeError) -> Vec<u8>
-    ensures { Tells work.now result.items }
+    ensures { MayReport work.now result.items }
 {
     place_of_input(alloc, work, input, "BadBase64", wrong_base64(fault))
 }
@@ -54,7 +54,7 @@ fn place_of_input(
     fault: &str,
     wrong: WrongText,
 ) -> Vec<u8>
-    ensures { Tells work.now result.items }
+    ensures { MayReport work.now result.items }
 {
     if work.options.quiet || work.options.lines {
         return Vec::new(alloc);

@@ -3,7 +3,7 @@ ghost use Rattle.std.specs.Prelude.{◌≡◌, ◌≢◌, IfOk};
 ghost use Rattle.bcs_registry_model.specs.declared.fault.RegistryFault.TheVariants.{OutOfMemory};
 ghost use Rattle.bcs_tool_answers.specs.Answers.{refusal_line};
 ghost use Rattle.bcs_tool_answers.specs.Judging.{job_fault_name};
-ghost use Rattle.bcs_tool_answers.specs.Places.{Prints};
+ghost use Rattle.bcs_tool_answers.specs.Places.{PrintsWithoutPlace};
 
 use crate::answer::{Answer, refused};
 use bcs_decode_parts::PathFault;
@@ -28,7 +28,7 @@ impl JobFault {
     /// The answer to a job that is refused. Want of memory is no refusal.
     pub fn answer(self, alloc: Global) -> Result<Answer, AllocError>
         ensures { IfOk result (λ a. (self ≢ JobFault.Registry OutOfMemory)
-            × Prints a 2 (refusal_line (job_fault_name self))) }
+            × PrintsWithoutPlace a 2 (refusal_line (job_fault_name self))) }
     {
         match self {
             JobFault::Registry(RegistryFault::OutOfMemory) => Err(AllocError),

@@ -7,7 +7,7 @@ ghost use Rattle.bcs_registry_model.specs.WellFormed.{Admits};
 ghost use Rattle.bcs_registry_model.specs.declared.fault.RegistryFault.TheVariants.{OutOfMemory};
 ghost use Rattle.bcs_decode_parts.specs.Path.{SpellsNoPath};
 ghost use Rattle.bcs_decode_parts.specs.PathSteps.{all_spelled};
-ghost use Rattle.bcs_tool_answers.specs.Judging.{Asks, IsFormat, IsPath, IsRegistry, RefusesCheck, RefusesEarly, RefusesFormat, RefusesFormatted, RefusesGrowth, is_json_word, works_on_values};
+ghost use Rattle.bcs_tool_answers.specs.Judging.{Asks, IsFormatWord, IsPathOf, IsRegistry, RefusesCheck, RefusesEarly, RefusesFormatWord, RefusesFormatted, RefusesGrowth, is_json_word, works_on_values};
 
 use crate::job_fault::JobFault;
 use bcs_decode_parts::{PathFault, PathStep, read_path};
@@ -50,7 +50,7 @@ pub fn judge_asked(alloc: Global, work: &Work) -> Result<Asked, JobFault>
     requires { works_on_values work.now.command ≡ true }
     ensures ok { IfOk result (λ asked. Asks work.now asked.registry (shape_of asked.format)) }
     ensures admitted { IfOk result (λ asked. Admits asked.registry (shape_of asked.format)) }
-    ensures path { IfOk result (λ asked. IsPath work.now.command (string_bytes work.now.path) (all_spelled asked.path.items)) }
+    ensures path { IfOk result (λ asked. IsPathOf work.now.command (string_bytes work.now.path) (all_spelled asked.path.items)) }
     ensures fault { IfErr result (λ e. e ≢ JobFault.Registry OutOfMemory → RefusesEarly work.now e) }
 {
     let (registry, format) = judge_formatted(alloc, work)?;
@@ -65,7 +65,7 @@ pub fn judge_asked(alloc: Global, work: &Work) -> Result<Asked, JobFault>
 /// The registry and the format of a job. The registry's fault comes before the format's.
 pub fn judge_formatted(alloc: Global, work: &Work) -> Result<(Registry, Format), JobFault>
     ensures registry { IfOk result (λ p. IsRegistry work.now.registry.items p.0) }
-    ensures format { IfOk result (λ p. IsFormat p.0 (string_bytes work.now.format) (shape_of p.1)) }
+    ensures format { IfOk result (λ p. IsFormatWord p.0 (string_bytes work.now.format) (shape_of p.1)) }
     ensures fault { IfErr result (λ e. e ≢ JobFault.Registry OutOfMemory → RefusesFormatted work.now e) }
 {
     let registry = Registry::read(alloc, work.registry.as_slice())?;
@@ -75,7 +75,7 @@ pub fn judge_formatted(alloc: Global, work: &Work) -> Result<(Registry, Format),
 
 // The steps of the job's PATH; none where the command has no PATH.
 fn judge_path(alloc: Global, work: &Work) -> Result<Vec<PathStep>, PathFault>
-    ensures ok { IfOk result (λ path. IsPath work.now.command (string_bytes work.now.path) (all_spelled path.items)) }
+    ensures ok { IfOk result (λ path. IsPathOf work.now.command (string_bytes work.now.path) (all_spelled path.items)) }
     ensures bad { result ≡ Err PathFault.BadPath → (work.now.command ≡ Command.Part) × SpellsNoPath (string_bytes work.now.path) }
 {
     match work.command {
@@ -96,8 +96,8 @@ fn judge_path(alloc: Global, work: &Work) -> Result<Vec<PathStep>, PathFault>
 
 // The format of a word: its JSON, or a container's name.
 fn judge_format(alloc: Global, registry: &Registry, word: &str) -> Result<Format, RegistryFault>
-    ensures ok { IfOk result (λ format. IsFormat registry.now word.now (shape_of format)) }
-    ensures fault { IfErr result (λ e. e ≢ OutOfMemory → RefusesFormat registry.now word.now e) }
+    ensures ok { IfOk result (λ format. IsFormatWord registry.now word.now (shape_of format)) }
+    ensures fault { IfErr result (λ e. e ≢ OutOfMemory → RefusesFormatWord registry.now word.now e) }
 {
     if begins_json(word) {
         return registry.read_format(alloc, word.as_bytes());

@@ -1,7 +1,7 @@
 //! The answer to bytes that stop being a value.
 ghost use Rattle.std.specs.Prelude.{◌≡◌, IfOk};
 ghost use Rattle.bcs_tool_answers.specs.Answers.{stop_line};
-ghost use Rattle.bcs_tool_answers.specs.Places.{Tells};
+ghost use Rattle.bcs_tool_answers.specs.Places.{MayReport};
 ghost use Rattle.bcs_tool_answers.specs.Preparing.{IsAskedBy};
 
 use crate::answer::{Answer, placed, stopped};
@@ -23,7 +23,7 @@ pub fn answer_stop(
 ) -> Result<Answer, AllocError>
     requires { IsAskedBy work.now asked.now }
     ensures { IfOk result (λ a. (a.status ≡ 2) × (a.output.items ≡ stop_line stop.reason stop.place)
-        × Tells work.now a.place.items) }
+        × MayReport work.now a.place.items) }
 {
     let answer = stopped(alloc, stop)?;
     Ok(placed(answer, place_of_stop(alloc, work, asked, bytes, stop)))
@@ -33,7 +33,7 @@ pub fn answer_stop(
 // stands without it.
 fn place_of_stop(alloc: Global, work: &Work, asked: &Asked, bytes: &[u8], stop: Stop) -> Vec<u8>
     requires { IsAskedBy work.now asked.now }
-    ensures { Tells work.now result.items }
+    ensures { MayReport work.now result.items }
 {
     if work.options.quiet || work.options.lines {
         return Vec::new(alloc);

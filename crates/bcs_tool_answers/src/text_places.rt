@@ -1,5 +1,5 @@
 //! Where JSON texts of values are refused.
-ghost use Rattle.bcs_tool_answers.specs.Places.{Tells};
+ghost use Rattle.bcs_tool_answers.specs.Places.{MayReport};
 
 use crate::judging::Asked;
 use crate::places::{in_text, place_of_line};
@@ -16,7 +16,7 @@ pub fn place_of_refusal(
     text: &[u8],
     fault: JsonFault,
 ) -> Vec<u8>
-    ensures { Tells work.now result.items }
+    ensures { MayReport work.now result.items }
 {
     if work.options.quiet || work.options.lines {
         return Vec::new(alloc);
@@ -26,7 +26,7 @@ pub fn place_of_refusal(
 
 /// Where the job's text, or else this one, is refused. It is empty at a quiet job, and where no memory is left for it.
 pub fn place_of_pair(alloc: Global, work: &Work, asked: &Asked, text: &[u8]) -> Vec<u8>
-    ensures { Tells work.now result.items }
+    ensures { MayReport work.now result.items }
 {
     if work.options.quiet {
         return Vec::new(alloc);

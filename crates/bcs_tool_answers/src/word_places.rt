@@ -1,5 +1,5 @@
 //! Where the words of a job are refused.
-ghost use Rattle.bcs_tool_answers.specs.Places.{Tells};
+ghost use Rattle.bcs_tool_answers.specs.Places.{MayReport};
 
 use crate::job_fault::JobFault;
 use crate::judging::begins_json;
@@ -16,7 +16,7 @@ use std::alloc::{AllocError, Global};
 /// Where the job's own words are refused, for this fault. It is empty at a quiet job, where the fault has no place, and
 /// where no memory is left for it.
 pub fn place_of_words(alloc: Global, work: &Work, fault: JobFault) -> Vec<u8>
-    ensures { Tells work.now result.items }
+    ensures { MayReport work.now result.items }
 {
     if work.options.quiet {
         return Vec::new(alloc);
@@ -34,7 +34,7 @@ pub fn place_of_difference(
     older: &Registry,
     newer: &Registry,
 ) -> Vec<u8>
-    ensures { Tells work.now result.items }
+    ensures { MayReport work.now result.items }
 {
     if work.options.quiet {
         return Vec::new(alloc);

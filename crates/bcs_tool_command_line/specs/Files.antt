@@ -30,11 +30,11 @@ file_note fault.TooLarge = take_note TooLarge
 file_note fault.OutOfMemory = take_note OutOfMemory
 
 -- the fault of a file that was not read
-abbrev pub fault_of : UnreadFile → FileFault
-fault_of (Unopened cause) = fault.Open
-fault_of (Untaken Read) = fault.Read
-fault_of (Untaken TooLarge) = fault.TooLarge
-fault_of (Untaken OutOfMemory) = fault.OutOfMemory
+abbrev pub file_fault_of : UnreadFile → FileFault
+file_fault_of (Unopened cause) = fault.Open
+file_fault_of (Untaken Read) = fault.Read
+file_fault_of (Untaken TooLarge) = fault.TooLarge
+file_fault_of (Untaken OutOfMemory) = fault.OutOfMemory
 
 -- a word for a registry that begins with a brace is its text, and any other names a file
 abbrev pub is_registry_text : List ℕ → Bool
@@ -103,17 +103,17 @@ module _ {F : Type 0} (remaining : F → Option (List ℕ)) where
   IsFaultOfFiles fault.OutOfMemory = Unit {0}
 
   -- bytes that were read for a word: the word itself where it is the text, and else those of a file
-  abbrev pub IsTextOf : List ℕ → List ℕ → Type 0
-  IsTextOf word text = (is_registry_text word ≡ true → text ≡ word) × (is_registry_text word ≡ false → IsFileText text)
+  abbrev pub IsTextOfWord : List ℕ → List ℕ → Type 0
+  IsTextOfWord word text = (is_registry_text word ≡ true → text ≡ word) × (is_registry_text word ≡ false → IsFileText text)
 
   -- the job's work needs the file of this name: that of REG or OLD, or, once a text was read for these, that of NEW or of A
   abbrev pub NamesForWork : Job → List ℕ → Type 0
   NamesForWork job name = ((is_registry_text name ≡ false) × (name ≡ string_bytes job.registry))
-      ⊎ (((text : List ℕ) × IsTextOf (string_bytes job.registry) text) × NamesSecond job name)
+      ⊎ (((text : List ℕ) × IsTextOfWord (string_bytes job.registry) text) × NamesSecond job name)
 
   -- a fault of the job's files, and whose it is, unless memory ran out
   abbrev pub IsRefusalOf : Job → FileRefusal → Type 0
-  IsRefusalOf job refusal = IsFaultOfFiles (fault_of refusal.reason) × (refusal.reason ≢ Untaken OutOfMemory → NamesForWork job (string_bytes refusal.name))
+  IsRefusalOf job refusal = IsFaultOfFiles (file_fault_of refusal.reason) × (refusal.reason ≢ Untaken OutOfMemory → NamesForWork job (string_bytes refusal.name))
 
   -- bytes that were read for A: none where its lines are compared one by one
   abbrev pub IsFirstText : Bool → List ℕ → Type 0
@@ -123,7 +123,7 @@ module _ {F : Type 0} (remaining : F → Option (List ℕ)) where
   -- bytes that were read for the second word of a command, for lines or not: none where the command has none
   abbrev pub IsSecondOf : Command → Bool → List ℕ → List ℕ → Type 0
   IsSecondOf Check lines word text = text ≡ []
-  IsSecondOf Grows lines word text = IsTextOf word text
+  IsSecondOf Grows lines word text = IsTextOfWord word text
   IsSecondOf Show lines word text = text ≡ []
   IsSecondOf Example lines word text = text ≡ []
   IsSecondOf Schema lines word text = text ≡ []
@@ -138,7 +138,7 @@ module _ {F : Type 0} (remaining : F → Option (List ℕ)) where
   -- the job's work
   pub record IsWorkOf (job : Job) (work : Work) : Type 0 where
     pub command : work.command ≡ job.command
-    pub registry : IsTextOf (string_bytes job.registry) work.registry.items
+    pub registry : IsTextOfWord (string_bytes job.registry) work.registry.items
     pub second : IsSecondOf job.command job.options.lines (string_bytes job.second) work.second.items
     pub format : work.format ≡ job.format
     pub path : work.path ≡ job.path

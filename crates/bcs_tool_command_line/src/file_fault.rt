@@ -38,9 +38,9 @@ impl FileFault {
 }
 
 impl From<UnreadFile> for FileFault {
-    ghost use Rattle.bcs_tool_command_line.specs.Files.{fault_of};
+    ghost use Rattle.bcs_tool_command_line.specs.Files.{file_fault_of};
 
-    ghost from_gives = { λ unread result. result ≡ fault_of unread };
+    ghost from_gives = { λ unread result. result ≡ file_fault_of unread };
 
     fn from(unread: UnreadFile) -> FileFault {
         match unread {
@@ -52,9 +52,9 @@ impl From<UnreadFile> for FileFault {
 
 impl From<TakeFault> for FileFault {
     ghost use Rattle.bcs_tool_command_line.specs.declared.unread_file.UnreadFile.TheVariants.{Untaken};
-    ghost use Rattle.bcs_tool_command_line.specs.Files.{fault_of};
+    ghost use Rattle.bcs_tool_command_line.specs.Files.{file_fault_of};
 
-    ghost from_gives = { λ taking result. result ≡ fault_of (Untaken taking) };
+    ghost from_gives = { λ taking result. result ≡ file_fault_of (Untaken taking) };
 
     fn from(taking: TakeFault) -> FileFault {
         match taking {

@@ -18,7 +18,7 @@ use Rattle.bcs_decode_slice.proofs.Passings.{past_scalar, unit_is}
 use Rattle.bcs_decode_slice.proofs.PassingParts.{items_stop, items_on, items_end, pairs_stop_key, pairs_end, each, tuple_stop, tuple_on, each_end, each_stop, each_on, named_stop, named_on, content_past, content_shape, content_nothing}
 use Rattle.bcs_decode_source.specs.Kept.{last_bytes, key_of}
 use Rattle.bcs_decode_source.specs.Sees.{rest_of}
-use Rattle.bcs_decode_source.proofs.Going.{Along-map, AlongMap-then, AlongMap-value, AlongMap-key, front_length, Halts-after, Refuses-whole, Refuses-judged}
+use Rattle.bcs_decode_source.proofs.Going.{Along-map, AlongMap-then, AlongMap-value, AlongMap-key, front_length, Halts-after, FindsFault-whole, FindsFault-judged}
 use Rattle.bcs_decode_source.proofs.KeptKeys.{Stands-begun, Stands-more, last_kept, same_key}
 use Rattle.bcs_decode_source.proofs.Readers.{IsSame-then, Reads-as, Reads-then, Reads-ends, Reads-exit}
 use Rattle.bcs_decode_source.proofs.StreamedRows.{Found}
@@ -401,7 +401,7 @@ pub maps::next_key-returns-in_err-value-clause-reads : goal.maps::next_key-retur
 maps::next_key-returns-in_err-value-clause-reads g t c =
     let p = err_from_is_err_and c.from_residual.result c.from_residual.ensures.1 in
     record {
-      sees = rw (p.1, p.2) (Refuses-whole c.in_err-value.field-0.0 (g.S.ByteSource.content c.args.reader.now.source.now) (g.S.ByteSource.content c.args.reader.now.source.now) c.args.reader.now.at.now (record c.args.reader.now.at.now { is_in_key = true }) (key_here (skip c.args.reader.now.registry.now c.args.depth (shape_of c.args.key.now)) (last_bytes c.args.keys.now.last c.args.reader.now.at.now.kept.items)) (skip c.args.reader.now.registry.now c.args.depth (shape_of c.args.key.now)) (λ told. told)
+      sees = rw (p.1, p.2) (FindsFault-whole c.in_err-value.field-0.0 (g.S.ByteSource.content c.args.reader.now.source.now) (g.S.ByteSource.content c.args.reader.now.source.now) c.args.reader.now.at.now (record c.args.reader.now.at.now { is_in_key = true }) (key_here (skip c.args.reader.now.registry.now c.args.depth (shape_of c.args.key.now)) (last_bytes c.args.keys.now.last c.args.reader.now.at.now.kept.items)) (skip c.args.reader.now.registry.now c.args.depth (shape_of c.args.key.now)) (λ told. told)
           (λ e o told stop. key_stop (skip c.args.reader.now.registry.now c.args.depth (shape_of c.args.key.now)) (last_bytes c.args.keys.now.last c.args.reader.now.at.now.kept.items) c.args.reader.now.at.now.place c.args.reader.now.at.now.nodes (rest_of (g.S.ByteSource.content c.args.reader.now.source.now)) e o stop) c.in_err-value.ensures.reads.sees);
       failed = search rules;
       room = search rules;
@@ -414,7 +414,7 @@ maps::next_key-returns-in_err-follow-clause-reads g t c =
     let size : c.len-from.result ≡ length c.args.reader.now.at.now.kept.items = omega (arith, c.len-from.ensures, c.args.reader.now.at.now.kept.ok.0) in
     let p = err_from_is_err_and c.from_residual-in_err-follow.result c.from_residual-in_err-follow.ensures.1 in
     record {
-      sees = rw (p.1, p.2) (Refuses-judged c.in_err-follow.field-0.0 (g.S.ByteSource.content c.args.reader.now.source.now) c.args.reader.now.at.now (key_here (skip c.args.reader.now.registry.now c.args.depth (shape_of c.args.key.now)) (last_bytes c.args.keys.now.last c.args.reader.now.at.now.kept.items)) _ _
+      sees = rw (p.1, p.2) (FindsFault-judged c.in_err-follow.field-0.0 (g.S.ByteSource.content c.args.reader.now.source.now) c.args.reader.now.at.now (key_here (skip c.args.reader.now.registry.now c.args.depth (shape_of c.args.key.now)) (last_bytes c.args.keys.now.last c.args.reader.now.at.now.kept.items)) _ _
           (λ e o told wrong. kept_wrong (skip c.args.reader.now.registry.now c.args.depth (shape_of c.args.key.now)) c.args.keys.now.last c.args.keys.now.begun c.len-from.result (g.S.ByteSource.content c.args.reader.now.source.now) (g.S.ByteSource.content c.value.new.reader.source.now) c.args.reader.now.at.now c.value.new.reader.at.now tt told size c.requires.stands c.in_ok-value.ensures.reads.goes (c.in_ok-value.ensures.reads.sees told).0 e o wrong) c.in_err-follow.ensures.judges);
       failed = search rules;
       room = search rules;

@@ -13,7 +13,7 @@ use Rattle.bcs_value_model.specs.View.{tree_of}
 use Rattle.bcs_decode_source.specs.Kept.{last_bytes, key_of}
 use Rattle.bcs_decode_source.specs.Sees.{rest_of, number_node, read, option_value, items_value, pairs_value, tuple_value, enter_here, container_value, content_value}
 use Rattle.bcs_decode_spec.specs.Reading.{key_here, chain, give}
-use Rattle.bcs_decode_source.proofs.Going.{Along-none, Along-then, Along-map, AlongMap-then, AlongMap-value, AlongMap-key, front_length, Halts-then, Halts-after, Refuses-whole, Refuses-judged}
+use Rattle.bcs_decode_source.proofs.Going.{Along-none, Along-then, Along-map, AlongMap-then, AlongMap-value, AlongMap-key, front_length, Halts-then, Halts-after, FindsFault-whole, FindsFault-judged}
 use Rattle.bcs_decode_source.proofs.KeptKeys.{Stands-begun, Stands-more, last_kept, same_key}
 use Rattle.bcs_decode_source.proofs.StreamedKeys.{key_stop, kept_wrong, kept_right}
 use Rattle.bcs_decode_spec.proofs.LookedUp.{content_found, content_missing, choice_found, choice_missing, levels_in, field_levels_in, formats_next, fields_next}
@@ -269,7 +269,7 @@ maps::next_key-returns-in_err-value-clause-reads g t c =
     record {
       sees = (let p = err_from_is_err_and c.from_residual.result c.from_residual.ensures.1 in
           let last = last_bytes c.args.keys.now.last c.args.reader.now.at.now.kept.items in
-          rw (p.1, p.2) (Refuses-whole c.in_err-value.field-0.0 (g.S.ByteSource.content c.args.reader.now.source.now) (g.S.ByteSource.content c.args.reader.now.source.now) c.args.reader.now.at.now (record c.args.reader.now.at.now { is_in_key = true }) (key_here (read c.args.reader.now.registry.now c.args.depth (shape_of c.args.key.now)) last) (read c.args.reader.now.registry.now c.args.depth (shape_of c.args.key.now)) (λ told. told) (λ e o told stop. key_stop (read c.args.reader.now.registry.now c.args.depth (shape_of c.args.key.now)) last c.args.reader.now.at.now.place c.args.reader.now.at.now.nodes (rest_of (g.S.ByteSource.content c.args.reader.now.source.now)) e o stop) c.in_err-value.ensures.reads.sees));
+          rw (p.1, p.2) (FindsFault-whole c.in_err-value.field-0.0 (g.S.ByteSource.content c.args.reader.now.source.now) (g.S.ByteSource.content c.args.reader.now.source.now) c.args.reader.now.at.now (record c.args.reader.now.at.now { is_in_key = true }) (key_here (read c.args.reader.now.registry.now c.args.depth (shape_of c.args.key.now)) last) (read c.args.reader.now.registry.now c.args.depth (shape_of c.args.key.now)) (λ told. told) (λ e o told stop. key_stop (read c.args.reader.now.registry.now c.args.depth (shape_of c.args.key.now)) last c.args.reader.now.at.now.place c.args.reader.now.at.now.nodes (rest_of (g.S.ByteSource.content c.args.reader.now.source.now)) e o stop) c.in_err-value.ensures.reads.sees));
       failed = search rules;
       room = search rules;
       goes = search rules;
@@ -281,7 +281,7 @@ maps::next_key-returns-in_err-follow-clause-reads g t c =
     record {
       sees = (let size : c.len-from.result ≡ length c.args.reader.now.at.now.kept.items = omega (arith, c.len-from.ensures, c.args.reader.now.at.now.kept.ok.0) in
           let p = err_from_is_err_and c.from_residual-in_err-follow.result c.from_residual-in_err-follow.ensures.1 in
-          rw (p.1, p.2) (Refuses-judged c.in_err-follow.field-0.0 (g.S.ByteSource.content c.args.reader.now.source.now) c.args.reader.now.at.now (key_here (read c.args.reader.now.registry.now c.args.depth (shape_of c.args.key.now)) (last_bytes c.args.keys.now.last c.args.reader.now.at.now.kept.items)) _ _
+          rw (p.1, p.2) (FindsFault-judged c.in_err-follow.field-0.0 (g.S.ByteSource.content c.args.reader.now.source.now) c.args.reader.now.at.now (key_here (read c.args.reader.now.registry.now c.args.depth (shape_of c.args.key.now)) (last_bytes c.args.keys.now.last c.args.reader.now.at.now.kept.items)) _ _
           (λ e o told wrong. kept_wrong (read c.args.reader.now.registry.now c.args.depth (shape_of c.args.key.now)) c.args.keys.now.last c.args.keys.now.begun c.len-from.result (g.S.ByteSource.content c.args.reader.now.source.now) (g.S.ByteSource.content c.value.new.reader.source.now) c.args.reader.now.at.now c.value.new.reader.at.now (tree_of c.value.new.slot) told size c.requires.stands c.in_ok-value.ensures.reads.goes (c.in_ok-value.ensures.reads.sees told).0 e o wrong) c.in_err-follow.ensures.judges));
       failed = search rules;
       room = search rules;
@@ -311,7 +311,7 @@ maps::next_key-returns-clause-last g t c =
 pub containers::content-returns-in_err-number-in-Enum : goal.containers::content-returns-in_err-number-in-Enum
 containers::content-returns-in_err-number-in-Enum g t c =
     let is = ap (λ k. content (container_of k)) c.in-Enum.is in
-    record { reads = Reads-exit c.from_residual.ensures.1 (Onward-ends (Onward-none c.requires.ready) c.in_err-number-in-Enum.ensures.reads (Refuses-whole c.in_err-number-in-Enum.field-0.0 (g.S.ByteSource.content c.args.reader.now.source.now) (g.S.ByteSource.content c.args.reader.now.source.now) c.args.reader.now.at.now c.args.reader.now.at.now (content_value c.args.reader.now.registry.now c.args.depth (content (container_of c.args.found.now))) number_node (λ told. told) (λ e o told stop. ap (λ k. content_value c.args.reader.now.registry.now c.args.depth k c.args.reader.now.at.now.place c.args.reader.now.at.now.nodes (rest_of (g.S.ByteSource.content c.args.reader.now.source.now))) is ∙ enum_stop c.args.reader.now.registry.now c.args.depth c.args.reader.now.at.now.place c.args.reader.now.at.now.nodes (rest_of (g.S.ByteSource.content c.args.reader.now.source.now)) (map choice_of c.in-Enum.variants.entries) e o stop) c.in_err-number-in-Enum.ensures.reads.sees)) }
+    record { reads = Reads-exit c.from_residual.ensures.1 (Onward-ends (Onward-none c.requires.ready) c.in_err-number-in-Enum.ensures.reads (FindsFault-whole c.in_err-number-in-Enum.field-0.0 (g.S.ByteSource.content c.args.reader.now.source.now) (g.S.ByteSource.content c.args.reader.now.source.now) c.args.reader.now.at.now c.args.reader.now.at.now (content_value c.args.reader.now.registry.now c.args.depth (content (container_of c.args.found.now))) number_node (λ told. told) (λ e o told stop. ap (λ k. content_value c.args.reader.now.registry.now c.args.depth k c.args.reader.now.at.now.place c.args.reader.now.at.now.nodes (rest_of (g.S.ByteSource.content c.args.reader.now.source.now))) is ∙ enum_stop c.args.reader.now.registry.now c.args.depth c.args.reader.now.at.now.place c.args.reader.now.at.now.nodes (rest_of (g.S.ByteSource.content c.args.reader.now.source.now)) (map choice_of c.in-Enum.variants.entries) e o stop) c.in_err-number-in-Enum.ensures.reads.sees)) }
 
 pub containers::content-returns-in_default : goal.containers::content-returns-in_default
 containers::content-returns-in_default g t c =
@@ -323,7 +323,7 @@ pub containers::content-returns-in_err-payload-in-Enum : goal.containers::conten
 containers::content-returns-in_err-payload-in-Enum g t c =
     let is = ap (λ k. content (container_of k)) c.in-Enum.is in
     let chosen : choice_at c.in_ok-number-in-Enum.number (map choice_of c.in-Enum.variants.entries) ≡ of (payload_shape (payload_of c.in-Some.variant.now.value)) = choice_found c.in_ok-number-in-Enum.number c.in-Enum.variants.entries c.in-Some.variant c.get.result c.get.ensures.value c.in-Some.is in
-    record { reads = Reads-exit c.from_residual-in_err-payload-in-Enum.ensures.1 (Onward-ends (Onward-then (Onward-none c.requires.ready) c.in_ok-number-in-Enum.ensures.reads) c.in_err-payload-in-Enum.ensures.reads (Refuses-whole c.in_err-payload-in-Enum.field-0.0 (g.S.ByteSource.content c.args.reader.now.source.now) (g.S.ByteSource.content c.variant_number.new.reader.source.now) c.args.reader.now.at.now c.variant_number.new.reader.at.now (content_value c.args.reader.now.registry.now c.args.depth (content (container_of c.args.found.now))) (read c.args.reader.now.registry.now c.args.depth (payload_shape (payload_of c.in-Some.variant.now.value))) (λ told. (c.in_ok-number-in-Enum.ensures.reads.sees told).1) (λ e o told stop. ap (λ k. content_value c.args.reader.now.registry.now c.args.depth k c.args.reader.now.at.now.place c.args.reader.now.at.now.nodes (rest_of (g.S.ByteSource.content c.args.reader.now.source.now))) is ∙ enum_refused c.args.reader.now.registry.now c.args.depth c.args.reader.now.at.now.place c.args.reader.now.at.now.nodes (rest_of (g.S.ByteSource.content c.args.reader.now.source.now)) (map choice_of c.in-Enum.variants.entries) c.in_ok-number-in-Enum.number _ _ _ (payload_shape (payload_of c.in-Some.variant.now.value)) e o (c.in_ok-number-in-Enum.ensures.reads.sees told).0 chosen stop) (rw (← c.in_ok-number-in-Enum.ensures.reads.same.registry) c.in_err-payload-in-Enum.ensures.reads.sees))) }
+    record { reads = Reads-exit c.from_residual-in_err-payload-in-Enum.ensures.1 (Onward-ends (Onward-then (Onward-none c.requires.ready) c.in_ok-number-in-Enum.ensures.reads) c.in_err-payload-in-Enum.ensures.reads (FindsFault-whole c.in_err-payload-in-Enum.field-0.0 (g.S.ByteSource.content c.args.reader.now.source.now) (g.S.ByteSource.content c.variant_number.new.reader.source.now) c.args.reader.now.at.now c.variant_number.new.reader.at.now (content_value c.args.reader.now.registry.now c.args.depth (content (container_of c.args.found.now))) (read c.args.reader.now.registry.now c.args.depth (payload_shape (payload_of c.in-Some.variant.now.value))) (λ told. (c.in_ok-number-in-Enum.ensures.reads.sees told).1) (λ e o told stop. ap (λ k. content_value c.args.reader.now.registry.now c.args.depth k c.args.reader.now.at.now.place c.args.reader.now.at.now.nodes (rest_of (g.S.ByteSource.content c.args.reader.now.source.now))) is ∙ enum_refused c.args.reader.now.registry.now c.args.depth c.args.reader.now.at.now.place c.args.reader.now.at.now.nodes (rest_of (g.S.ByteSource.content c.args.reader.now.source.now)) (map choice_of c.in-Enum.variants.entries) c.in_ok-number-in-Enum.number _ _ _ (payload_shape (payload_of c.in-Some.variant.now.value)) e o (c.in_ok-number-in-Enum.ensures.reads.sees told).0 chosen stop) (rw (← c.in_ok-number-in-Enum.ensures.reads.same.registry) c.in_err-payload-in-Enum.ensures.reads.sees))) }
 
 pub containers::content-returns-in-UnitStruct : goal.containers::content-returns-in-UnitStruct
 containers::content-returns-in-UnitStruct g t c =
@@ -406,7 +406,7 @@ containers::named-returns-in_err-enter g t c =
     let r = c.args.reader.now.registry.now in
     let from = g.S.ByteSource.content c.args.reader.now.source.now in
     record {
-      reads = Reads-exit c.from_residual.ensures.1 (Onward-ends (Onward-none (record { good = search rules; room = search rules })) c.in_err-enter.ensures.reads (Refuses-whole c.in_err-enter.field-0.0 from from c.args.reader.now.at.now c.args.reader.now.at.now (container_value r c.args.depth (content_at c.args.name.now r)) (enter_here c.args.depth) (λ told. told)
+      reads = Reads-exit c.from_residual.ensures.1 (Onward-ends (Onward-none (record { good = search rules; room = search rules })) c.in_err-enter.ensures.reads (FindsFault-whole c.in_err-enter.field-0.0 from from c.args.reader.now.at.now c.args.reader.now.at.now (container_value r c.args.depth (content_at c.args.name.now r)) (enter_here c.args.depth) (λ told. told)
           (λ e o told stop. container_stop r c.args.depth c.args.reader.now.at.now.place c.args.reader.now.at.now.nodes (rest_of from) (content_at c.args.name.now r) e o stop) c.in_err-enter.ensures.reads.sees));
     }
 

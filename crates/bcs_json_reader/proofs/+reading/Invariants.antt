@@ -5,7 +5,7 @@ use Rattle.bcs_registry_model.specs.Container.{field_shapes, payload_shape}
 use Rattle.bcs_registry_model.specs.View.{shape_of, formats_shapes, field_of, payload_of}
 use Rattle.bcs_registry_model.specs.WellFormed.{levels, shapes_levels}
 use Rattle.bcs_json_spec.specs.JsonContent.{of}
-use Rattle.bcs_json_spec.specs.Place.{Step, item_parts, each_parts, entry_parts, field_parts, IsPlaceAmong}
+use Rattle.bcs_json_spec.specs.Place.{PointerStep, item_parts, each_parts, entry_parts, field_parts, IsPlaceAmong}
 use Rattle.bcs_json_spec.specs.Reading as spec
 use Rattle.bcs_json_spec.specs.Reading.{follow, read_data}
 use Rattle.bcs_json_reader.proofs.Rows.{joined}
@@ -70,26 +70,26 @@ abbrev pub invariant-parts::read_all-loop-item : goal.invariant-parts::read_all-
 invariant-parts::read_all-loop-item l =
     (spec.read_all (read_data l.registry l.left (of (shape_of l.element))) (items_view l.fn.items.items)
     ≡ follow (spec.read_all (read_data l.registry l.left (of (shape_of l.element))) (items_view (into_iter_items l.item-iterator))) (λ ts. Ok (joined l.found.items ts)))
-    × ((path : List Step) → IsPlaceAmong l.registry path (item_parts l.left (shape_of l.element) (length l.found.items) (items_view (into_iter_items l.item-iterator)))
+    × ((path : List PointerStep) → IsPlaceAmong l.registry path (item_parts l.left (shape_of l.element) (length l.found.items) (items_view (into_iter_items l.item-iterator)))
     → IsPlaceAmong l.registry path (item_parts l.left (shape_of l.element) 0 (items_view l.fn.items.items)))
 
 abbrev pub invariant-parts::read_each-loop-format : goal.invariant-parts::read_each-loop-format
 invariant-parts::read_each-loop-format l =
     (spec.read_each (spec.read_named l.registry l.left) (formats_shapes l.formats) (items_view l.fn.items.items)
     ≡ follow (spec.read_each (spec.read_named l.registry l.left) (formats_shapes (drop l.format-index l.formats)) (items_view (into_iter_items l.rest))) (λ ts. Ok (joined l.found.items ts)))
-    × ((path : List Step) → IsPlaceAmong l.registry path (each_parts l.left (formats_shapes (drop l.format-index l.formats)) (length l.found.items) (items_view (into_iter_items l.rest)))
+    × ((path : List PointerStep) → IsPlaceAmong l.registry path (each_parts l.left (formats_shapes (drop l.format-index l.formats)) (length l.found.items) (items_view (into_iter_items l.rest)))
     → IsPlaceAmong l.registry path (each_parts l.left (formats_shapes l.formats) 0 (items_view l.fn.items.items)))
 
 abbrev pub invariant-parts::read_pairs-loop-item : goal.invariant-parts::read_pairs-loop-item
 invariant-parts::read_pairs-loop-item l =
     (spec.read_pairs (read_data l.registry l.left (of (shape_of l.key))) (read_data l.registry l.left (of (shape_of l.content))) (items_view l.fn.items.items)
     ≡ follow (spec.read_pairs (read_data l.registry l.left (of (shape_of l.key))) (read_data l.registry l.left (of (shape_of l.content))) (items_view (into_iter_items l.item-iterator))) (λ ps. Ok (joined_pairs l.found.items ps)))
-    × ((path : List Step) → IsPlaceAmong l.registry path (entry_parts l.left (shape_of l.key) (shape_of l.content) (length l.found.items) (items_view (into_iter_items l.item-iterator)))
+    × ((path : List PointerStep) → IsPlaceAmong l.registry path (entry_parts l.left (shape_of l.key) (shape_of l.content) (length l.found.items) (items_view (into_iter_items l.item-iterator)))
     → IsPlaceAmong l.registry path (entry_parts l.left (shape_of l.key) (shape_of l.content) 0 (items_view l.fn.items.items)))
 
 abbrev pub invariant-parts::read_fields-loop-field : goal.invariant-parts::read_fields-loop-field
 invariant-parts::read_fields-loop-field l =
     (spec.read_fields (spec.read_named l.registry l.left) (map field_of l.fields) (members_view l.fn.members.entries)
     ≡ follow (spec.read_fields (spec.read_named l.registry l.left) (map field_of (drop l.field-index l.fields)) (members_view l.members.entries)) (λ ts. Ok (joined l.found.items ts)))
-    × ((path : List Step) → IsPlaceAmong l.registry path (field_parts l.left (map field_of (drop l.field-index l.fields)) (members_view l.members.entries))
+    × ((path : List PointerStep) → IsPlaceAmong l.registry path (field_parts l.left (map field_of (drop l.field-index l.fields)) (members_view l.members.entries))
     → IsPlaceAmong l.registry path (field_parts l.left (map field_of l.fields) (members_view l.fn.members.entries)))

@@ -1,6 +1,6 @@
 //! Formats and fields as JSON values.
 ghost use Rattle.std.specs.Prelude.{◌≡◌, IfOk, codes, map};
-ghost use Rattle.bcs_registry_json.specs.Shown.{single, shown_format, shown_formats, shown_fields};
+ghost use Rattle.bcs_registry_json.specs.Shown.{single, shown_format, shown_formats, shown_struct};
 ghost use Rattle.bcs_registry_model.specs.View.{shape_of, formats_shapes, field_of};
 ghost use Rattle.serde_json.specs.Data.{object, member, no_members, number, unsigned};
 ghost use Rattle.serde_json.specs.View.{view, items_view};
@@ -66,7 +66,7 @@ pub fn format_values(alloc: Global, formats: &[Format]) -> Result<Vec<Value>, Al
 
 /// The fields, each an object of its own, in their order.
 pub fn field_values(alloc: Global, fields: &Vec<Named<Format>>) -> Result<Vec<Value>, AllocError>
-    ensures { IfOk result (λ v. items_view v.items ≡ shown_fields (map field_of fields.now.items)) }
+    ensures { IfOk result (λ v. items_view v.items ≡ shown_struct (map field_of fields.now.items)) }
 {
     let mut values = Vec::with_capacity(alloc, fields.len())?;
     for field in fields {

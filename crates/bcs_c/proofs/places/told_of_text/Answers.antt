@@ -1,7 +1,7 @@
 use Rattle.std.proofs.Common.{◌∙◌, Err, List, Ok, Result, ap, map, sym, ℕ}
 use Rattle.std.specs.Prelude.{IfOk, IfSome}
 use Rattle.std.specs.Result.{result_ok}
-use Rattle.bcs_json_spec.specs.Place.{step_of}
+use Rattle.bcs_json_spec.specs.Place.{pointer_step_of}
 use Rattle.bcs_json_spec.specs.declared.json_step.JsonStep.{JsonStep}
 use Rattle.bcs_c.specs.Places.{placed, whole}
 use Rattle.bcs_c.specs.Pointers.{pointer}
@@ -17,5 +17,5 @@ returns-then-has_no_way c what refuses = whole c.args.fault refuses (sym c.has_n
 pub returns-in_ok-steps : goal.returns-in_ok-steps
 returns-in_ok-steps c =
     rw c.ok.ensures.value (some_of_ok c.pointer_of.result c.pointer_of.ensures (λ x is what refuses.
-    placed (map step_of c.in_ok-steps.steps.items) c.in_ok-steps.field-0-0 c.in_ok-steps.ensures.place
-    (is ∙ ap (λ (steps : List JsonStep). pointer (map step_of steps)) c.deref.ensures.value)))
+    placed (map pointer_step_of c.in_ok-steps.steps.items) c.in_ok-steps.field-0-0 c.in_ok-steps.ensures.place
+    (is ∙ ap (λ (steps : List JsonStep). pointer (map pointer_step_of steps)) c.deref.ensures.value)))

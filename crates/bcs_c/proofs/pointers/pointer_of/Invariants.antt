@@ -1,8 +1,8 @@
 use Rattle.std.proofs.Common.{◌≡◌, ◌++◌, drop, map}
-use Rattle.bcs_json_spec.specs.Place.{step_of}
+use Rattle.bcs_json_spec.specs.Place.{pointer_step_of}
 use Rattle.bcs_c.specs.Pointers.{pointer}
 use Rattle.bcs_c.proofs.pointers.pointer_of.Given as goal
 
 -- what was put so far, before the steps that are left
 abbrev pub invariant-loop-step : goal.invariant-loop-step
-invariant-loop-step l = l.out.items ++ pointer (map step_of (drop l.step-index l.steps)) ≡ pointer (map step_of l.steps)
+invariant-loop-step l = l.out.items ++ pointer (map pointer_step_of (drop l.step-index l.steps)) ≡ pointer (map pointer_step_of l.steps)

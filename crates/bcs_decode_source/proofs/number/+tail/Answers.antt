@@ -2,7 +2,7 @@ use Rattle.std.proofs.Common.{◌∙◌, ◌+◌, ◌-◌, ◌*◌, ap, sym, Ok,
 use Rattle.bcs_decode_spec.specs.Reading.{chain, follow, give}
 use Rattle.bcs_decode_source.specs.Sees.{tail_here, rest_of}
 use Rattle.bcs_decode_source.proofs.Chains.{tail_last, tail_long, tail_next, tail_rest, tail_step}
-use Rattle.bcs_decode_source.proofs.Going.{Refuses-whole}
+use Rattle.bcs_decode_source.proofs.Going.{FindsFault-whole}
 use Rattle.bcs_decode_source.proofs.Readers.{Reads-as, Reads-ends, Onward-none, Onward-then, Onward-done, Onward-ends, Onward-stops, Reads-exit}
 use Rattle.bcs_decode_source.proofs.number.+tail.Goals as goal
 
@@ -24,7 +24,7 @@ returns-then-byte-lt128-clause-reads g t c =
 pub returns-in_err-high-clause-reads : goal.returns-in_err-high-clause-reads
 unfolding give
 returns-in_err-high-clause-reads g t c =
-    Reads-exit c.from_residual-in_err-high.ensures.1 (Onward-ends (Onward-then (Onward-none c.requires.ready) c.in_ok-byte.ensures.reads) c.in_err-high.ensures.reads (Refuses-whole c.in_err-high.field-0.0 _ _ _ _ (tail_here c.args.start c.args.index) (tail_here c.args.start (c.args.index + 1)) (λ told. (c.in_ok-byte.ensures.reads.sees told).1)
+    Reads-exit c.from_residual-in_err-high.ensures.1 (Onward-ends (Onward-then (Onward-none c.requires.ready) c.in_ok-byte.ensures.reads) c.in_err-high.ensures.reads (FindsFault-whole c.in_err-high.field-0.0 _ _ _ _ (tail_here c.args.start c.args.index) (tail_here c.args.start (c.args.index + 1)) (λ told. (c.in_ok-byte.ensures.reads.sees told).1)
     (λ e o told stop. tail_next c.args.start c.args.index _ _ _ _ _ _ _ (c.in_ok-byte.ensures.reads.sees told).0 c.else-index-eq4.either c.if-byte-lt128.false
     ∙ ap (λ r. follow r (λ high. give ((c.in_ok-byte.byte - 128) + high * 128))) stop) c.in_err-high.ensures.reads.sees))
 

@@ -4,7 +4,7 @@ use Rattle.bcs_registry_model.specs.Whole.{whole_len, whole_shape}
 use Rattle.bcs_decode_spec.specs.Reading.{bytes_here}
 use Rattle.bcs_value_model.specs.View.{tree_of}
 use Rattle.bcs_decode_source.specs.Numbers.{numbers}
-use Rattle.bcs_decode_source.specs.Sees.{Refuses, rest_of, leaf_here}
+use Rattle.bcs_decode_source.specs.Sees.{FindsFault, rest_of, leaf_here}
 use Rattle.bcs_decode_source.proofs.NumberRows.{numbers_more, numbers_refused, numbers_none}
 use Rattle.bcs_decode_source.proofs.StreamedRows.{items_none, items_done}
 use Rattle.bcs_decode_source.proofs.Readers.{Onward-none, Onward-then, Onward-nodes, Onward-done, Onward-ends, Onward-stops, Reads-exit}
@@ -33,7 +33,7 @@ returns-in_err-read_exact g c =
     let front : length (take (some * c.byte_len.result) c.loop-done.block) ≡ some * whole_len c.args.format = length-take-le (some * c.byte_len.result) c.loop-done.block (omega (arith, size, c.share-some.ensures.room, c.loop-done.invariant.block)) ∙ size in
     record {
       reads = Reads-exit c.from_residual.ensures.1 (Onward-ends (Onward-nodes (c.loop-done.reader.at.now.nodes - some) c.loop-done.invariant.on) c.in_err-read_exact.ensures.reads (numbers_refused c.args.format c.args.count c.loop-done.done some _ _ c.args.reader.now.at.now c.loop-done.reader.at.now (record c.loop-done.reader.at.now { nodes = c.loop-done.reader.at.now.nodes - some }) refl refl c.share-some.ensures.left c.share-some.ensures.nodes c.in_err-read_exact.field-0.0 c.loop-done.found.items c.loop-done.invariant.sees
-          (subst (λ n. Refuses c.in_err-read_exact.field-0.0 (g.S.ByteSource.content c.loop-done.reader.source.now) (record c.loop-done.reader.at.now { nodes = c.loop-done.reader.at.now.nodes - some }) (bytes_here n)) front c.in_err-read_exact.ensures.reads.sees)));
+          (subst (λ n. FindsFault c.in_err-read_exact.field-0.0 (g.S.ByteSource.content c.loop-done.reader.source.now) (record c.loop-done.reader.at.now { nodes = c.loop-done.reader.at.now.nodes - some }) (bytes_here n)) front c.in_err-read_exact.ensures.reads.sees)));
     }
 
 pub loop-done-preserved : goal.loop-done-preserved

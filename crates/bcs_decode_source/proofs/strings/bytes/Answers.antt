@@ -1,7 +1,7 @@
 use Rattle.std.proofs.Common.{◌≡◌, ℕ, List, vec_len, ◌∙◌, ◌+◌, ◌-◌, ◌++◌, length, replicate, ap, sym, subst, arith, length-append, take_all}
 use Rattle.std.proofs.lemmas.List.{length-replicate}
 use Rattle.bcs_decode_spec.specs.Reading.{bytes_here}
-use Rattle.bcs_decode_source.specs.Sees.{Refuses, rest_of}
+use Rattle.bcs_decode_source.specs.Sees.{FindsFault, rest_of}
 use Rattle.bcs_decode_source.proofs.Blocks.{bytes_none, bytes_more, bytes_done, bytes_refused, tail_filled}
 use Rattle.bcs_decode_source.proofs.Readers.{Onward-none, Onward-then, Onward-done, Onward-ends, Reads-exit}
 use Rattle.bcs_decode_source.proofs.strings.bytes.Goals as goal
@@ -19,7 +19,7 @@ returns-in_err-read_exact-clause-reads g c =
     let size = c.min-size.result in
     let tail : length c.slice_mut.result.now ≡ size = omega (arith, c.slice_mut.ensures.len, c.in_ok-resize.ensures.len, c.len-start.ensures) in
     Reads-exit c.from_residual-in_err-read_exact.ensures.1 (Onward-ends c.loop-found.invariant.on c.in_err-read_exact.ensures.reads (bytes_refused c.in_err-read_exact.field-0.0 c.args.count size c.loop-found.found.items _ _ c.args.reader.now.at.now c.loop-found.reader.at.now (omega (arith, c.len-start.ensures, c.min-size.ensures)) c.loop-found.invariant.sees
-    (subst (λ n. Refuses c.in_err-read_exact.field-0.0 (g.S.ByteSource.content c.loop-found.reader.source.now) c.loop-found.reader.at.now (bytes_here n)) tail c.in_err-read_exact.ensures.reads.sees)))
+    (subst (λ n. FindsFault c.in_err-read_exact.field-0.0 (g.S.ByteSource.content c.loop-found.reader.source.now) c.loop-found.reader.at.now (bytes_here n)) tail c.in_err-read_exact.ensures.reads.sees)))
 
 pub loop-found-preserved : goal.loop-found-preserved
 loop-found-preserved g c =

@@ -1,8 +1,8 @@
 use Rattle.std.proofs.Common.{length, sym, subst, ◌∙◌, ◌-◌, ◌≤◌, ◌≡◌, arith, length-drop, rules}
 use borrow.Rule.Slice.PartMut.{put_mid, same_len_mid}
-use Rattle.bcs_io.specs.Giving.{Took}
+use Rattle.bcs_io.specs.Giving.{Gave}
 use Rattle.bcs_io.proofs.Filled.{filled_more}
-use Rattle.bcs_io.proofs.GivingLemmas.{Took-then}
+use Rattle.bcs_io.proofs.GivingLemmas.{Gave-then}
 use Rattle.bcs_io.proofs.filling.fill.Goals as goal
 
 pub loop-filled-preserved : goal.loop-filled-preserved
@@ -17,8 +17,8 @@ loop-filled-preserved g c =
       good = gives.2.kept ∙ c.loop-filled.invariant.good;
       within = omega (arith, len, length-drop at old);
       len = len ∙ c.loop-filled.invariant.len;
-      took = subst (λ l. Took g.S.ByteSource.content g.S.ByteSource.is_failed g.S.ByteSource.allowance c.args.source.now c.next.new.self l) (sym more)
-          (Took-then g.S.ByteSource.content g.S.ByteSource.is_failed g.S.ByteSource.allowance _ _ _ _ _ c.loop-filled.invariant.took gives.2);
+      took = subst (λ l. Gave g.S.ByteSource.content g.S.ByteSource.is_failed g.S.ByteSource.allowance c.args.source.now c.next.new.self l) (sym more)
+          (Gave-then g.S.ByteSource.content g.S.ByteSource.is_failed g.S.ByteSource.allowance _ _ _ _ _ c.loop-filled.invariant.took gives.2);
     }
 
 pub returns-clause-fills : goal.returns-clause-fills

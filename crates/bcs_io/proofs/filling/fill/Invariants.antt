@@ -1,5 +1,5 @@
 use Rattle.std.proofs.Common.{◌≡◌, ◌-◌, ◌≤◌, false, length, take}
-use Rattle.bcs_io.specs.Giving.{Took}
+use Rattle.bcs_io.specs.Giving.{Gave}
 use Rattle.bcs_io.proofs.filling.fill.Given as goal
 
 abbrev pub invariant-loop-filled : goal.invariant-loop-filled
@@ -7,7 +7,7 @@ invariant-loop-filled g l = record {
   good : g.S.ByteSource.is_failed l.source ≡ false;
   within : l.filled ≤ length l.buf;
   len : length l.buf ≡ length l.fn.buf;
-  took : Took g.S.ByteSource.content g.S.ByteSource.is_failed g.S.ByteSource.allowance l.fn.source l.source (take l.filled l.buf);
+  took : Gave g.S.ByteSource.content g.S.ByteSource.is_failed g.S.ByteSource.allowance l.fn.source l.source (take l.filled l.buf);
 }
 
 abbrev pub decreases-loop-filled : goal.decreases-loop-filled

@@ -1,6 +1,6 @@
 use Rattle.std.proofs.Common.{◌+◌, ◌++◌, ◌∙◌, arith, take}
 use Rattle.std.proofs.lemmas.List.{length-append, length-take}
-use Rattle.bcs_io.proofs.GivingLemmas.{Took-then}
+use Rattle.bcs_io.proofs.GivingLemmas.{Gave-then}
 use Rattle.bcs_io.proofs.taking.take_all.Goals as goal
 
 -- what was given before, and one byte more than may still come
@@ -10,7 +10,7 @@ returns-then-left-count-clause-too_large g c is =
     let now = c.in-Ok.ensures in
     let got = take c.in-Ok.count c.next.new.buf in (
       l.bytes.items ++ got,
-      Took-then g.S.ByteSource.content g.S.ByteSource.is_failed g.S.ByteSource.allowance c.args.input.now l.input c.next.new.self l.bytes.items got l.invariant.front now.2,
+      Gave-then g.S.ByteSource.content g.S.ByteSource.is_failed g.S.ByteSource.allowance c.args.input.now l.input c.next.new.self l.bytes.items got l.invariant.front now.2,
       omega (arith, length-append l.bytes.items got, length-take c.in-Ok.count c.next.new.buf, length-take (c.min.result + 1) l.block),
     )
 
@@ -20,7 +20,7 @@ returns-then-is_err-clause-memory g c is =
     let now = c.in-Ok.ensures in
     let got = take c.in-Ok.count c.next.new.buf in (
       l.bytes.items ++ got,
-      Took-then g.S.ByteSource.content g.S.ByteSource.is_failed g.S.ByteSource.allowance c.args.input.now l.input c.next.new.self l.bytes.items got l.invariant.front now.2,
+      Gave-then g.S.ByteSource.content g.S.ByteSource.is_failed g.S.ByteSource.allowance c.args.input.now l.input c.next.new.self l.bytes.items got l.invariant.front now.2,
       omega (arith, length-append l.bytes.items got, length-take c.in-Ok.count c.next.new.buf),
       now.2.kept ∙ now.1,
     )

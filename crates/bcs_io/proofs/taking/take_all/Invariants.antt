@@ -1,11 +1,11 @@
 use Rattle.std.proofs.Common.{length, ◌≤◌}
-use Rattle.bcs_io.specs.Giving.{Took}
+use Rattle.bcs_io.specs.Giving.{Gave}
 use Rattle.bcs_io.proofs.taking.take_all.Given as goal
 
 abbrev pub invariant-loop-count : goal.invariant-loop-count
 invariant-loop-count g l = record {
   within : length l.bytes.items ≤ l.limit;
-  front : Took g.S.ByteSource.content g.S.ByteSource.is_failed g.S.ByteSource.allowance l.initial.input l.input l.bytes.items;
+  front : Gave g.S.ByteSource.content g.S.ByteSource.is_failed g.S.ByteSource.allowance l.initial.input l.input l.bytes.items;
 }
 
 abbrev pub decreases-loop-count : goal.decreases-loop-count

@@ -4,7 +4,7 @@ use Rattle.serde_json.specs.View.{items_view}
 use Rattle.bcs_registry_model.specs.Container.{Entries}
 use Rattle.bcs_registry_model.specs.Whole.{whole_shape}
 use Rattle.bcs_json_spec.specs.JsonContent.{of}
-use Rattle.bcs_json_spec.specs.Place.{Step, item_parts, IsPlaceAmong}
+use Rattle.bcs_json_spec.specs.Place.{PointerStep, item_parts, IsPlaceAmong}
 use Rattle.bcs_json_spec.specs.Reading.{follow, read_all, read_data}
 use Rattle.bcs_json_reader.proofs.Rows.{joined}
 use Rattle.bcs_json_reader.proofs.numbers.read_numbers.Given as goal
@@ -14,5 +14,5 @@ abbrev pub invariant-loop-item : goal.invariant-loop-item
 invariant-loop-item l =
     ((registry : Entries) (left : ℕ) → read_all (read_data registry left (of (whole_shape l.format))) (items_view l.fn.items.items)
     ≡ follow (read_all (read_data registry left (of (whole_shape l.format))) (items_view (into_iter_items l.item-iterator))) (λ ts. Ok (joined l.found.items ts)))
-    × ((registry : Entries) (left : ℕ) (path : List Step) → IsPlaceAmong registry path (item_parts left (whole_shape l.format) (length l.found.items) (items_view (into_iter_items l.item-iterator)))
+    × ((registry : Entries) (left : ℕ) (path : List PointerStep) → IsPlaceAmong registry path (item_parts left (whole_shape l.format) (length l.found.items) (items_view (into_iter_items l.item-iterator)))
     → IsPlaceAmong registry path (item_parts left (whole_shape l.format) 0 (items_view l.fn.items.items)))

@@ -2,7 +2,7 @@ use Rattle.std.proofs.Common.{◌≡◌, ◌∙◌, [], ◌∷◌, ap, arith, re
 use Rattle.json.specs.Lex.{tokens}
 use Rattle.json.specs.Token.{Token}
 use Rattle.bcs_registry_model.specs.View.{entries_of}
-use Rattle.bcs_registry_json.specs.Shown.{shown}
+use Rattle.bcs_registry_json.specs.Shown.{shown_registry}
 use Rattle.bcs_registry_json.proofs.OneByOne.{text_spelled}
 use Rattle.bcs_registry_json.proofs.one_by_one.containers_one_by_one.Goals as goal
 
@@ -15,7 +15,7 @@ returns c =
     let text : tokens c.args.text.now ≡ Token.begin_object ∷ c.next.new.self = ap tokens (sym utf8.0) ∙ begins in
     record {
       ok = (
-        shown registry,
+        shown_registry registry,
         (utf8.1, text_spelled c.args.text.now c.next.new.self c.next_containers.new.reader registry text c.in_ok-containers.ensures.is none),
         record { is = refl; orderly = c.in_ok-containers.ensures.orderly },
       );

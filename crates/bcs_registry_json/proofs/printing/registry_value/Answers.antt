@@ -5,7 +5,7 @@ use Rattle.std.specs.String.{string_cmp}
 use Rattle.serde_json.specs.Data.{object, put}
 use Rattle.serde_json.specs.View.{members_view}
 use Rattle.serde_json.proofs.Views.{view-Object}
-use Rattle.bcs_registry_json.specs.Shown.{shown, shown_container}
+use Rattle.bcs_registry_json.specs.Shown.{shown_registry, shown_container}
 use Rattle.bcs_registry_model.specs.View.{container_of, entries_of}
 use Rattle.bcs_registry_model.proofs.Rising.{Stored}
 use Rattle.bcs_registry_json.proofs.ShownParts.{shown_containers-push}
@@ -30,4 +30,4 @@ returns c =
     let l = c.loop-name in
     let done = l.invariant.0 in
     let all : done ≡ c.args.containers.now.entries = sym (l.invariant.1 ∙ ap (λ es. done ++ es) c.in-None.ensures.steps.0 ∙ append-nil done) in
-    view-Object l.members ∙ ap object l.invariant.2 ∙ ap (λ es. shown (entries_of es)) all
+    view-Object l.members ∙ ap object l.invariant.2 ∙ ap (λ es. shown_registry (entries_of es)) all

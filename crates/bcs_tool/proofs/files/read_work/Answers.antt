@@ -1,11 +1,11 @@
 use Rattle.std.proofs.Common.{◌≡◌, List, false, inl, inr, refl, rules, subst, ℕ}
-use Rattle.bcs_tool_command_line.specs.Files.{IsTextOf, is_registry_text}
+use Rattle.bcs_tool_command_line.specs.Files.{IsTextOfWord, is_registry_text}
 use Rattle.bcs_tool.proofs.files.read_work.Goals as goal
 
 -- the text for REG or OLD was read before
 pub returns-in-Err-read_second-clause-fault : goal.returns-in-Err-read_second-clause-fault
 returns-in-Err-read_second-clause-fault g c =
-    let first = subst (λ (word : List ℕ). IsTextOf g.R.File.Read.remaining word c.in-Ok.text.items) c.as_str.ensures.value c.in-Ok.ensures.text in
+    let first = subst (λ (word : List ℕ). IsTextOfWord g.R.File.Read.remaining word c.in-Ok.text.items) c.as_str.ensures.value c.in-Ok.ensures.text in
     let second = c.in-Err-read_second.ensures in (
       second.fault,
       λ other. inr (

@@ -1,6 +1,6 @@
 use Rattle.std.proofs.Common.{◌∷◌, ◌++◌, List, [], append_assoc, inr, subst, sym, ℕ}
 use Rattle.bcs_tool_answers.specs.Answers.{line_of}
-use Rattle.bcs_tool.specs.Endings.{Told}
+use Rattle.bcs_tool.specs.Endings.{Put}
 use Rattle.bcs_tool.proofs.EndingLemmas.{front_of_more, told_then}
 use Rattle.bcs_tool.proofs.telling.tell_lines.Goals as goal
 
@@ -8,7 +8,7 @@ pub returns-in-Ok : goal.returns-in-Ok
 returns-in-Ok g c =
     let text = c.args.text.now in
     let rest = 10 ∷ [] ++ line_of c.args.next.now in
-    let P : List ℕ → Type 0 = λ told. Told g.E.ByteSink.taken g.E.ByteSink.is_failed c.args.errors.now c.tell_next.new.errors told in
+    let P : List ℕ → Type 0 = λ told. Put g.E.ByteSink.taken g.E.ByteSink.is_failed c.args.errors.now c.tell_next.new.errors told in
     subst P (sym (append_assoc text (10 ∷ []) (line_of c.args.next.now)))
     (told_then g.E.ByteSink.taken g.E.ByteSink.is_failed _ _ _ text rest c.in-Ok.ensures.whole c.tell_next.ensures)
 
@@ -16,6 +16,6 @@ pub returns-in-Err : goal.returns-in-Err
 returns-in-Err g c =
     let text = c.args.text.now in
     let rest = 10 ∷ [] ++ line_of c.args.next.now in
-    let P : List ℕ → Type 0 = λ told. Told g.E.ByteSink.taken g.E.ByteSink.is_failed c.args.errors.now c.put_all.new.sink told in
+    let P : List ℕ → Type 0 = λ told. Put g.E.ByteSink.taken g.E.ByteSink.is_failed c.args.errors.now c.put_all.new.sink told in
     subst P (sym (append_assoc text (10 ∷ []) (line_of c.args.next.now)))
     (inr (front_of_more g.E.ByteSink.taken g.E.ByteSink.is_failed _ _ text rest (_, c.in-Err.ensures.part.0, c.in-Err.ensures.part.1)))

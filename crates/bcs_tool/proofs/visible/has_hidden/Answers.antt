@@ -1,7 +1,7 @@
 use Rattle.std.proofs.Common.{◌≡◌, ◌∙◌, ◌++◌, ℕ, List, [], IsUtf8, ap, append_assoc, chars, flat_map, rules, subst, sym}
 use Rattle.std.specs.Str.Iter.{chars_rest}
 use Rattle.std.proofs.lemmas.Str.{IsUtf8-past_char}
-use Rattle.bcs_tool.specs.Visible.{shown}
+use Rattle.bcs_tool.specs.Visible.{visible_char}
 use Rattle.bcs_tool.proofs.Showing.{left_visible, none_hidden, one_more, shown_plain}
 use Rattle.bcs_tool.proofs.visible.has_hidden.Goals as goal
 
@@ -9,7 +9,7 @@ pub loop-character-init : goal.loop-character-init
 loop-character-init c =
     let whole : chars_rest c.into_iter-character-iterator.result ≡ c.args.text.now = search rules in (
       subst IsUtf8 (sym whole) c.utf8.text,
-      ([], whole, ap (λ (bs : List ℕ). flat_map (shown c.args.keeps_lines) (chars bs)) whole ∙ left_visible c.args.keeps_lines c.args.text.now),
+      ([], whole, ap (λ (bs : List ℕ). flat_map (visible_char c.args.keeps_lines) (chars bs)) whole ∙ left_visible c.args.keeps_lines c.args.text.now),
     )
 
 pub loop-character-preserved : goal.loop-character-preserved
@@ -23,7 +23,7 @@ loop-character-preserved c =
     let plain = shown_plain keeps c.in-Some.character (sym c.is_hidden.ensures ∙ c.if-is_hidden.false) in (
       IsUtf8-past_char before after c.in-Some.character utf8 begins,
       (
-        done ++ shown keeps c.in-Some.character,
+        done ++ visible_char keeps c.in-Some.character,
         append_assoc done _ after ∙ ap (λ (bs : List ℕ). done ++ (bs ++ after)) plain ∙ ap (λ (bs : List ℕ). done ++ bs) (sym begins) ∙ c.loop-character.invariant.1.1,
         one_more keeps c.args.text.now done before after c.in-Some.character utf8 begins c.loop-character.invariant.1.2,
       ),

@@ -1,10 +1,10 @@
 use Rattle.std.proofs.Common.{◌≡◌, ◌++◌, ℕ, List, IsUtf8, chars, flat_map}
 use Rattle.std.specs.Str.Iter.{chars_rest}
-use Rattle.bcs_tool.specs.Visible.{shown, visible}
+use Rattle.bcs_tool.specs.Visible.{visible_char, visible}
 use Rattle.bcs_tool.proofs.visible.has_hidden.Given as goal
 
 -- the characters so far are shown as they are
 abbrev pub invariant-loop-character : goal.invariant-loop-character
 invariant-loop-character l = IsUtf8 (chars_rest l.character-iterator)
     × ((done : List ℕ) × (done ++ chars_rest l.character-iterator ≡ l.text)
-    × (done ++ flat_map (shown l.keeps_lines) (chars (chars_rest l.character-iterator)) ≡ visible l.keeps_lines l.text))
+    × (done ++ flat_map (visible_char l.keeps_lines) (chars (chars_rest l.character-iterator)) ≡ visible l.keeps_lines l.text))

@@ -4,7 +4,7 @@ use Rattle.std.proofs.lemmas.Str.{IsUtf8-past_char}
 use Rattle.bcs_io.specs.Taking.{Took}
 use Rattle.bcs_io.proofs.TakingLemmas.{Took-nothing, Took-then}
 use Rattle.bcs_tool.specs.Running.{PutFront}
-use Rattle.bcs_tool.specs.Visible.{shown, visible}
+use Rattle.bcs_tool.specs.Visible.{visible_char, visible}
 use Rattle.bcs_tool.proofs.EndingLemmas.{front_of_more}
 use Rattle.bcs_tool.proofs.Showing.{all_put, front_then, left_visible, one_more}
 use Rattle.bcs_tool.proofs.visible.put_characters.Goals as goal
@@ -16,7 +16,7 @@ loop-character-init g c =
       (
         [],
         Took-nothing g.E.ByteSink.taken g.E.ByteSink.is_failed c.args.errors.now,
-        ap (λ (bs : List ℕ). flat_map (shown c.args.keeps_lines) (chars bs)) whole ∙ left_visible c.args.keeps_lines c.args.text.now,
+        ap (λ (bs : List ℕ). flat_map (visible_char c.args.keeps_lines) (chars bs)) whole ∙ left_visible c.args.keeps_lines c.args.text.now,
       ),
     )
 
@@ -30,8 +30,8 @@ loop-character-preserved g c =
     let begins = c.in-Some.ensures.steps.0 in (
       IsUtf8-past_char before after c.in-Some.character utf8 begins,
       (
-        done ++ shown keeps c.in-Some.character,
-        Took-then g.E.ByteSink.taken g.E.ByteSink.is_failed c.args.errors.now c.loop-character.errors c.put_character.new.errors done (shown keeps c.in-Some.character)
+        done ++ visible_char keeps c.in-Some.character,
+        Took-then g.E.ByteSink.taken g.E.ByteSink.is_failed c.args.errors.now c.loop-character.errors c.put_character.new.errors done (visible_char keeps c.in-Some.character)
             c.loop-character.invariant.1.1 c.in_ok-put_character.ensures.whole,
         one_more keeps c.args.text.now done before after c.in-Some.character utf8 begins c.loop-character.invariant.1.2,
       ),
@@ -47,8 +47,8 @@ returns-in_err-put_character-clause-part g c =
     let whole = one_more keeps c.args.text.now done before after c.in-Some.character c.loop-character.invariant.0 c.in-Some.ensures.steps.0 c.loop-character.invariant.1.2 in
     let front : PutFront g.E.ByteSink.taken g.E.ByteSink.is_failed c.args.errors.now c.put_character.new.errors (visible keeps c.args.text.now) =
     subst P whole
-    (front_of_more g.E.ByteSink.taken g.E.ByteSink.is_failed _ _ (done ++ shown keeps c.in-Some.character) (flat_map (shown keeps) (chars after))
-    (front_then g.E.ByteSink.taken g.E.ByteSink.is_failed _ c.loop-character.errors _ done (shown keeps c.in-Some.character) c.loop-character.invariant.1.1 c.in_err-put_character.ensures.part)) in
+    (front_of_more g.E.ByteSink.taken g.E.ByteSink.is_failed _ _ (done ++ visible_char keeps c.in-Some.character) (flat_map (visible_char keeps) (chars after))
+    (front_then g.E.ByteSink.taken g.E.ByteSink.is_failed _ c.loop-character.errors _ done (visible_char keeps c.in-Some.character) c.loop-character.invariant.1.1 c.in_err-put_character.ensures.part)) in
     search rules
 
 pub returns-clause-whole : goal.returns-clause-whole

@@ -1,11 +1,11 @@
 use Rattle.std.proofs.Common.{◌≡◌, ◌++◌, ℕ, List, IsUtf8, chars, flat_map}
 use Rattle.std.specs.Str.Iter.{chars_rest}
 use Rattle.bcs_io.specs.Taking.{Took}
-use Rattle.bcs_tool.specs.Visible.{shown, visible}
+use Rattle.bcs_tool.specs.Visible.{visible_char, visible}
 use Rattle.bcs_tool.proofs.visible.put_characters.Given as goal
 
 -- what was put so far, before the characters that are left
 abbrev pub invariant-loop-character : goal.invariant-loop-character
 invariant-loop-character g l = IsUtf8 (chars_rest l.character-iterator)
     × ((done : List ℕ) × Took g.E.ByteSink.taken g.E.ByteSink.is_failed l.initial.errors l.errors done
-    × (done ++ flat_map (shown l.keeps_lines) (chars (chars_rest l.character-iterator)) ≡ visible l.keeps_lines l.text))
+    × (done ++ flat_map (visible_char l.keeps_lines) (chars (chars_rest l.character-iterator)) ≡ visible l.keeps_lines l.text))

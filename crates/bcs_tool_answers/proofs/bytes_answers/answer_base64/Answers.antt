@@ -1,7 +1,7 @@
 use Rattle.std.proofs.Common.{List, refl, subst, sym, ℕ}
 use Rattle.std.proofs.lemmas.Result.{IfOk-weaker}
 use Rattle.bcs_tool_answers.specs.Answers.{Answers, no_bytes, refusal_line}
-use Rattle.bcs_tool_answers.specs.Input.{Gives, IsBase64Of, fault_name}
+use Rattle.bcs_tool_answers.specs.Input.{GivesBytes, IsBase64Of, input_fault_name}
 use Rattle.bcs_tool_command_line.specs.declared.coding.Coding.{Coding}
 use Rattle.bcs_tool_command_line.specs.declared.coding.Coding.TheVariants.{Base64}
 use Rattle.bcs_tool_answers.proofs.AnswerLemmas.{is_asked, placed_answer}
@@ -12,8 +12,8 @@ returns-in-Ok c =
     let input = c.args.input.now in
     let bytes = c.as_slice.result.now in
     let of_text = subst (λ (text : List ℕ). IsBase64Of text c.in-Ok.bytes.items) c.without_blanks.ensures c.in-Ok.ensures.ok in
-    let of_slice = subst (λ (b : List ℕ). Gives Base64 input b) (sym c.as_slice.ensures.value) of_text in
-    let gives = subst (λ (coding : Coding). Gives coding input bytes) (sym c.requires.coding) of_slice in
+    let of_slice = subst (λ (b : List ℕ). GivesBytes Base64 input b) (sym c.as_slice.ensures.value) of_text in
+    let gives = subst (λ (coding : Coding). GivesBytes coding input bytes) (sym c.requires.coding) of_slice in
     IfOk-weaker c.answer_bytes.result _ _ (λ a answers. answers input c.requires.within gives) c.answer_bytes.ensures
 
 pub returns-in-Err : goal.returns-in-Err
@@ -22,7 +22,7 @@ returns-in-Err c =
     let work = c.args.work.now in
     let none = c.in-Err.ensures.err in
     IfOk-weaker c.refused_base64.result _ _ (λ a is. placed_answer work input 2 _ a is.1 is.2 is.3
-    (subst (λ (coding : Coding). Answers work input 2 (refusal_line (fault_name coding))) c.requires.coding
+    (subst (λ (coding : Coding). Answers work input 2 (refusal_line (input_fault_name coding))) c.requires.coding
     (no_bytes work.command _ _ c.requires.command (is_asked input work.command refl c.requires.asked c.requires.within)
     (λ bytes gives. none is.0 bytes
-    (subst (λ (text : List ℕ). IsBase64Of text bytes) (sym c.without_blanks.ensures) (subst (λ (coding : Coding). Gives coding input bytes) c.requires.coding gives)))))) c.refused_base64.ensures
+    (subst (λ (text : List ℕ). IsBase64Of text bytes) (sym c.without_blanks.ensures) (subst (λ (coding : Coding). GivesBytes coding input bytes) c.requires.coding gives)))))) c.refused_base64.ensures

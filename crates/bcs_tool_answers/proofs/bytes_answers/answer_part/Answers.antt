@@ -4,7 +4,7 @@ use Rattle.bcs_registry_model.specs.View.{shape_of}
 use Rattle.bcs_decode_parts.specs.Steps.{step_of}
 use Rattle.bcs_decode_parts.specs.PathSteps.{all_spelled}
 use Rattle.bcs_tool_answers.specs.Answers.{front_stopped, printed, printed_none}
-use Rattle.bcs_tool_answers.specs.Places.{Prints}
+use Rattle.bcs_tool_answers.specs.Places.{PrintsWithoutPlace}
 use Rattle.bcs_tool_command_line.specs.declared.coding.Coding.{Coding}
 use Rattle.bcs_tool_command_line.specs.declared.command.Command.TheVariants.{Part}
 use Rattle.bcs_tool_answers.proofs.AnswerLemmas.{is_asked, placed_answer, same_answer}
@@ -22,7 +22,7 @@ returns-in-Ok-Some c =
     IfOk-weaker c.found.result _ _ (λ a is input within gives. same_answer work input a 0 _ is
     (finds work input asked.registry (shape_of asked.format) c.args.bytes.now led.0 led.1 path (is_asked input Part c.requires.command c.requires.asked within) spelled gives led.2
     c.in-Ok-Some.field-0 c.in-Ok-Some.part c.in-Ok-Some.field-0-is led.3))
-    (subst (λ (coding : Coding). IfOk c.found.result (λ a. Prints a 0 (printed coding c.in-Ok-Some.part.bytes.now))) c.coding.ensures c.found.ensures)
+    (subst (λ (coding : Coding). IfOk c.found.result (λ a. PrintsWithoutPlace a 0 (printed coding c.in-Ok-Some.part.bytes.now))) c.coding.ensures c.found.ensures)
 
 pub returns-in-Ok-None : goal.returns-in-Ok-None
 returns-in-Ok-None c =
@@ -35,7 +35,7 @@ returns-in-Ok-None c =
     IfOk-weaker c.nowhere.result _ _ (λ a is input within gives. same_answer work input a 1 _ is
     (leads_nowhere work input asked.registry (shape_of asked.format) c.args.bytes.now led.0 led.1 path (is_asked input Part c.requires.command c.requires.asked within) spelled gives led.2
     c.in-Ok-None.field-0 c.in-Ok-None.field-0-is led.3))
-    (subst (λ (coding : Coding). IfOk c.nowhere.result (λ a. Prints a 1 (printed_none coding))) c.coding-in-Ok-None.ensures c.nowhere.ensures)
+    (subst (λ (coding : Coding). IfOk c.nowhere.result (λ a. PrintsWithoutPlace a 1 (printed_none coding))) c.coding-in-Ok-None.ensures c.nowhere.ensures)
 
 pub returns : goal.returns
 returns c =

@@ -2,7 +2,7 @@ use Rattle.std.proofs.Common.{◌∙◌, List, ap, codes, inl, refl, subst, sym,
 use Rattle.std.proofs.lemmas.Result.{IfOk-weaker}
 use Rattle.bcs_registry_model.specs.FaultNames.{growth_fault_name}
 use Rattle.bcs_tool_answers.specs.Answers.{grown, line_of, refusal_line, refused_early}
-use Rattle.bcs_tool_answers.specs.Judging.{RefusesAt}
+use Rattle.bcs_tool_answers.specs.Judging.{RefusesJobOf}
 use Rattle.bcs_tool_answers.specs.declared.job_fault.JobFault.TheVariants.{Growth}
 use Rattle.bcs_tool_answers.proofs.AnswerLemmas.{behind_list, with_place}
 use Rattle.bcs_tool_answers.proofs.growing.verdict.Goals as goal
@@ -23,5 +23,5 @@ returns-in_ok-refused-in-Err c list input lists =
     behind_list work list input 2 (refusal_line (growth_fault_name fault)) c.placed.result (set.status ∙ is.same_status)
     (set.output ∙ is.same_output ∙ ap (λ (name : List ℕ). refusal_line name) c.name.ensures)
     (with_place work _ _ set.place c.place_of_difference-place.ensures)
-    (refused_early (Growth fault) list (subst (λ k. RefusesAt k work (Growth fault)) (sym c.requires.command)
+    (refused_early (Growth fault) list (subst (λ k. RefusesJobOf k work (Growth fault)) (sym c.requires.command)
     (c.args.older.now, c.args.newer.now, c.requires.older, c.requires.newer, (c.in-Err.ensures.fault fault).0 refl)) lists)

@@ -1,6 +1,6 @@
 use Rattle.std.proofs.Common.{inl, inr, subst}
 use Rattle.bcs_registry.specs.Faults.{IsLeastFault}
-use Rattle.bcs_tool_answers.specs.Judging.{IsRegistry, RefusesFormat, RefusesFormatted}
+use Rattle.bcs_tool_answers.specs.Judging.{IsRegistry, RefusesFormatWord, RefusesFormatted}
 use Rattle.bcs_tool_answers.proofs.JudgingLemmas.{refused_by_registry}
 use Rattle.bcs_tool_answers.proofs.judging.judge_formatted.Goals as goal
 
@@ -16,4 +16,4 @@ returns-in_err-format-clause-fault c =
     let fault = c.in_err-format.field-0.0 in
     let is = subst (λ text. IsRegistry text registry) c.as_slice.ensures.value c.in_ok-registry.ensures.ok in
     refused_by_registry (RefusesFormatted c.args.work.now) c.from_residual-in_err-format.result fault c.from_residual-in_err-format.ensures.1
-    (λ differs. inr (registry, is, subst (λ word. RefusesFormat registry word fault) c.as_str.ensures.value (c.in_err-format.ensures.fault differs)))
+    (λ differs. inr (registry, is, subst (λ word. RefusesFormatWord registry word fault) c.as_str.ensures.value (c.in_err-format.ensures.fault differs)))

@@ -1,7 +1,7 @@
 use Rattle.std.proofs.Common.{◌∙◌, IfOk, inl, refl, subst}
 use Rattle.std.proofs.lemmas.Result.{IfOk-weaker}
 use Rattle.bcs_tool_answers.specs.Answers.{encoded, printed, refused}
-use Rattle.bcs_tool_answers.specs.Places.{Prints}
+use Rattle.bcs_tool_answers.specs.Places.{PrintsWithoutPlace}
 use Rattle.bcs_tool_command_line.specs.declared.coding.Coding.{Coding}
 use Rattle.bcs_tool_command_line.specs.declared.command.Command.TheVariants.{Encode}
 use Rattle.bcs_tool_answers.proofs.AnswerLemmas.{is_asked, placed_answer, same_answer, with_place}
@@ -12,7 +12,7 @@ returns-in-Ok c =
     let text = c.args.text.now in
     IfOk-weaker c.encoded.result _ _ (λ a is. same_answer _ text a 0 _ is
     (encoded _ _ c.in-Ok.bytes.items (is_asked text Encode c.requires.command c.requires.asked c.requires.within) c.in-Ok.ensures.bytes))
-    (subst (λ (coding : Coding). IfOk c.encoded.result (λ a. Prints a 0 (printed coding c.in-Ok.bytes.items))) c.coding.ensures c.encoded.ensures)
+    (subst (λ (coding : Coding). IfOk c.encoded.result (λ a. PrintsWithoutPlace a 0 (printed coding c.in-Ok.bytes.items))) c.coding.ensures c.encoded.ensures)
 
 pub returns-in_ok-refused_text-in-Err : goal.returns-in_ok-refused_text-in-Err
 returns-in_ok-refused_text-in-Err c =

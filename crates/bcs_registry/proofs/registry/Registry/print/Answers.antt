@@ -5,7 +5,7 @@ use Rattle.serde_json.specs.Data.{depth}
 use Rattle.serde_json.specs.Read.{max_depth}
 use Rattle.serde_json.specs.View.{view}
 use Rattle.serde_json.specs.Written.{compact_text, has_float}
-use Rattle.bcs_registry_json.specs.Shown.{shown}
+use Rattle.bcs_registry_json.specs.Shown.{shown_registry}
 use Rattle.bcs_registry_json.specs.Text.{IsRegistryText, WritesRegistry}
 use Rattle.bcs_registry_model.specs.View.{entries_of}
 use Rattle.bcs_registry.proofs.ShownDepth.{depth-shown}
@@ -17,9 +17,9 @@ pub returns-clause-text : goal.returns-clause-text
 returns-clause-text c =
     let entries = entries_of c.self.inside.containers.entries in
     let built = view c.in_ok-registry_value.field-0 in
-    let is : built ≡ shown entries = c.in_ok-registry_value.ensures in
+    let is : built ≡ shown_registry entries = c.in_ok-registry_value.ensures in
     let plain : has_float built ≡ false = ap has_float is ∙ no_float-shown entries in
-    IfOk-weaker c.to_string.result _ _ (λ s h. h plain ∙ ap compact_text (is ∙ ap shown c.self.view_is)) c.to_string.ensures.text
+    IfOk-weaker c.to_string.result _ _ (λ s h. h plain ∙ ap compact_text (is ∙ ap shown_registry c.self.view_is)) c.to_string.ensures.text
 
 pub returns-clause-reads_back : goal.returns-clause-reads_back
 returns-clause-reads_back c =
