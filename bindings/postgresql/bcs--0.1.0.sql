@@ -151,6 +151,12 @@ SELECT pg_catalog.pg_extension_config_dump('@extschema@.bcs_registries'::pg_cata
 
 CREATE FUNCTION @extschema@.bcs_registries_changed() RETURNS pg_catalog.trigger
     AS 'MODULE_PATHNAME', 'bcs_pg_registries_changed' LANGUAGE C;
-CREATE TRIGGER changed AFTER INSERT OR UPDATE OR DELETE OR TRUNCATE ON @extschema@.bcs_registries
+CREATE TRIGGER changing BEFORE INSERT OR UPDATE OR DELETE OR TRUNCATE ON @extschema@.bcs_registries
     FOR EACH STATEMENT EXECUTE FUNCTION @extschema@.bcs_registries_changed();
+CREATE TRIGGER changed AFTER INSERT OR UPDATE OR DELETE ON @extschema@.bcs_registries
+    FOR EACH ROW EXECUTE FUNCTION @extschema@.bcs_registries_changed();
+CREATE TRIGGER truncated AFTER TRUNCATE ON @extschema@.bcs_registries
+    FOR EACH STATEMENT EXECUTE FUNCTION @extschema@.bcs_registries_changed();
+ALTER TABLE @extschema@.bcs_registries ENABLE ALWAYS TRIGGER changing;
 ALTER TABLE @extschema@.bcs_registries ENABLE ALWAYS TRIGGER changed;
+ALTER TABLE @extschema@.bcs_registries ENABLE ALWAYS TRIGGER truncated;

@@ -76,7 +76,9 @@ close_changed_names(void)
 	}
 }
 
-/* All processes learn of a change of the table when its transaction commits. */
+/* All processes learn of a change of the table when its transaction commits, and this one also if it is rolled back. It is called
+ * before a statement, since a function in the statement may use a row that it has just written; and after each row, as the only
+ * trigger that fires where the rows come by logical replication. */
 PG_FUNCTION_INFO_V1(bcs_pg_registries_changed);
 
 Datum
@@ -230,6 +232,9 @@ registry_of_call(FunctionCallInfo fcinfo)
 {
 	Kept	   *kept = kept_of_call(fcinfo);
 
+	/* Within a transaction nothing else may ask what others have committed, since a call locks no table. */
+	if (kept->takes_names)
+		AcceptInvalidationMessages();
 	close_changed_names();
 	if (!kept->is_constant || kept->registry == NULL || kept->registry->number != kept->number)
 	{

@@ -102,6 +102,49 @@ class Names(Database):
         run(self.session, "commit")
         self.assertEqual(value(self.other, self.decoded), '{"cents":"7","to":"bob"}')
 
+    def test_change_within_a_transaction(self):
+        """Of the session that asks, which locks no table in between. Also by a statement that was prepared."""
+        run(self.other, f"prepare decoded as {self.decoded}")
+        for ask, level in [(self.decoded, "read committed"), (self.decoded, "repeatable read"), ("execute decoded", "read committed")]:
+            run(self.session, "update bcs_registries set registry = %s", PAYMENTS)
+            run(self.other, f"begin isolation level {level}")
+            self.assertEqual(value(self.other, ask), '{"amount":"7","to":"bob"}')
+            run(self.session, "update bcs_registries set registry = %s", OTHER)
+            self.assertEqual(value(self.other, ask), '{"cents":"7","to":"bob"}', (ask, level))
+            run(self.other, "commit")
+
+    def test_change_that_fails(self):
+        """After a function in the statement has used the new text."""
+        run(self.session, f"create function used() returns text volatile language plpgsql as $$ begin return ({self.decoded}); end $$")
+        change = "update bcs_registries set registry = %s returning 1 / (position('cents' in used()) * 0)"
+        self.assertEqual(refusal(self.session, change.replace("%s", f"'{OTHER}'"))[0], "22012")
+        self.assertEqual(value(self.session, self.decoded), '{"amount":"7","to":"bob"}')
+
+    def test_change_by_replication(self):
+        """Which fires the triggers of rows alone."""
+        server = connect("postgres")
+        self.addCleanup(server.close)
+        run(server, "drop database if exists replica")
+        run(server, "create database replica")
+        replica, reader = connect("replica"), connect("replica")
+        run(replica, "create extension bcs")
+        run(replica, "insert into bcs_registries values ('payments', %s)", PAYMENTS)
+        self.assertEqual(value(reader, self.decoded), '{"amount":"7","to":"bob"}')
+        run(self.session, "create publication names for table bcs_registries")
+        value(self.session, "select count(*) from pg_create_logical_replication_slot('names', 'pgoutput')")
+        run(replica, f"""create subscription names connection 'host={os.environ["PGHOST"]} user={os.environ["PGUSER"]} dbname={self.name}'
+            publication names with (create_slot = false, slot_name = 'names', copy_data = false)""")
+        try:
+            run(self.session, "update bcs_registries set registry = %s", OTHER)
+            end = time.monotonic() + 30
+            while value(reader, "select registry from bcs_registries") != OTHER and time.monotonic() < end:
+                time.sleep(0.1)
+            self.assertEqual(value(reader, self.decoded), '{"cents":"7","to":"bob"}')
+        finally:
+            run(replica, "drop subscription names")
+            replica.close()
+            reader.close()
+
     def test_older_snapshot(self):
         """A name has the newest text, as catalogs have, and no older one stays open."""
         run(self.other, "begin isolation level repeatable read")
