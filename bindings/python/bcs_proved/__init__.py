@@ -25,6 +25,7 @@ import dataclasses
 import enum
 import functools
 import json
+import operator
 import os
 import pathlib
 import weakref
@@ -127,6 +128,9 @@ class Limits:
     nodes: Optional[int] = None
 
     def __post_init__(self) -> None:
+        object.__setattr__(self, "depth", operator.index(self.depth))
+        if self.nodes is not None:
+            object.__setattr__(self, "nodes", operator.index(self.nodes))
         if not 0 <= self.depth <= 500:
             raise ValueError(f"a depth is from 0 to 500, and this is {self.depth}")
         if self.nodes is not None and not 0 <= self.nodes <= _MOST_NODES:
@@ -265,7 +269,8 @@ class Library:
     def _put_once(self, name: str, room: int, *words: Any) -> tuple[_Answer, bytes]:
         out = ctypes.create_string_buffer(max(room, 1))
         answer = self.ask(name, *words, out, room)
-        return answer, ctypes.string_at(out, answer.length) if answer.status == _Status.DONE else b""
+        # (`ctypes.string_at` takes a length of 32 bits, and cuts a longer one)
+        return answer, memoryview(out)[: answer.length].tobytes() if answer.status == _Status.DONE else b""
 
     def fault_name(self, fault: int) -> str:
         """The name of a fault by its number in bcs.h."""
@@ -309,7 +314,7 @@ def _standard_library() -> Library:
 
 def _bytes_of_text(text: Text) -> bytes:
     """What isn't Unicode is handed over too, so that it is refused as no JSON."""
-    return text.encode("utf-8", "surrogatepass") if isinstance(text, str) else _bytes_of(text)
+    return str.encode(text, "utf-8", "surrogatepass") if isinstance(text, str) else _bytes_of(text)
 
 
 def _bytes_of(data: Data) -> bytes:
@@ -327,7 +332,8 @@ def _json_of_name(format: str) -> bytes:
 
 def _json_of_format(format: Format) -> bytes:
     if isinstance(format, str):
-        return _json_of_name(format)
+        # (what a class of its own calls equal may be another name)
+        return _json_of_name(str.__str__(format))
     return values.json_of_format(format) if isinstance(format, Mapping) else _bytes_of(format)
 
 

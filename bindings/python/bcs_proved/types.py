@@ -17,7 +17,7 @@ import os
 import pathlib
 import re
 import sys
-from typing import Any, Iterable, Mapping, Optional
+from typing import Any, Iterable, Iterator, Mapping, Optional
 
 from bcs_proved import Registry, RegistryError, Text
 
@@ -61,6 +61,8 @@ class _Identifiers:
 
     def __init__(self) -> None:
         self._taken = set(_TAKEN)
+        # the next number to try behind each text
+        self._numbers: dict[str, Iterator[int]] = {}
 
     def of_all(self, names: Iterable[str]) -> dict[str, str]:
         """One for each name, which is the name itself where that is a good one."""
@@ -72,8 +74,10 @@ class _Identifiers:
         if not _PLAIN.fullmatch(text):
             letters = re.sub(r"[^A-Za-z0-9]+", "_", text).strip("_")
             wanted = letters if letters[:1].isalpha() else f"T{letters}"
-        numbered = itertools.chain([wanted], (f"{wanted}_{number}" for number in itertools.count(2)))
-        found = next(name for name in numbered if name not in self._taken)
+        numbers = self._numbers.setdefault(wanted, itertools.count(2))
+        found = wanted
+        while found in self._taken:
+            found = f"{wanted}_{next(numbers)}"
         self._taken.add(found)
         return found
 

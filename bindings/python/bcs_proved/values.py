@@ -232,8 +232,8 @@ class _Number(Format):
     def _int_of(self, value: Any) -> int:
         if isinstance(value, int) and not isinstance(value, bool):
             return int.__index__(value)
-        # (numpy.bool_ has an __index__ in some versions)
-        if type(value).__name__ in ("bool", "bool_"):
+        # (numpy.bool_ has an __index__ in some versions, and an array of numpy that hides its one item)
+        if type(value).__name__ in ("bool", "bool_") or hasattr(value, "mask"):
             raise self.wrong(value)
         try:
             return int.__index__(operator.index(value))
@@ -332,7 +332,10 @@ class _Object(Format):
         if type(value) is dict:
             members = value.copy()
         elif isinstance(value, Mapping):
-            members = {name: value[name] for name in [*value]}
+            names = [*value]
+            members = {name: value[name] for name in names}
+            if len(members) < len(names):
+                raise self.wrong(value)
         else:
             raise self.wrong(value)
         kinds = {*map(type, members)}

@@ -2,6 +2,7 @@
 
 import array
 import ctypes
+import decimal
 import json
 import unittest
 from typing import Any
@@ -64,6 +65,24 @@ class Done(unittest.TestCase):
         for format in formats:
             self.registry.check(format)
             self.assertEqual(self.registry.scan(format, self.bytes), 12)
+
+    def test_texts_count_by_value(self) -> None:
+        """A str of a class of its own, which equals others or has another `encode`, is its text."""
+
+        class Caseless(str):
+            def __eq__(self, other: object) -> bool:
+                return isinstance(other, str) and self.lower() == other.lower()
+
+            def __hash__(self) -> int:
+                return hash(self.lower())
+
+            def encode(self, *_: Any) -> bytes:
+                return b"9"
+
+        registry = Registry({"Coin": {"NEWTYPESTRUCT": "U8"}, "coin": {"NEWTYPESTRUCT": "U64"}})
+        for name in ["Coin", "coin"]:
+            self.assertEqual(registry.encode(Caseless(name), 1), registry.encode(name, 1))
+        self.assertEqual(registry.encode_text("Coin", Caseless("7")), b"\7")
 
     def test_registries(self) -> None:
         one = '{"E":{"ENUM":{"0":{"A":"UNIT"}}}}'
@@ -259,6 +278,11 @@ class Refused(unittest.TestCase):
         for depth, nodes in [(501, 1), (-1, 1), (1, -1), (1, 2**32)]:
             with self.assertRaises(ValueError):
                 Limits(depth, nodes)
+        for number in [1.5, 1e6, "5", decimal.Decimal(5)]:
+            with self.assertRaises(TypeError):
+                Limits(depth=number)  # type: ignore[arg-type]
+            with self.assertRaises(TypeError):
+                Limits(nodes=number)  # type: ignore[arg-type]
 
 
 if __name__ == "__main__":

@@ -4,9 +4,10 @@ import gc
 import os
 import threading
 import unittest
+import unittest.mock
 from typing import Any
 
-from bcs_proved import FormatError, Library, Registry, RegistryError
+from bcs_proved import FormatError, Library, Registry, RegistryError, _Answer
 
 NUMBER = '"U8"'
 
@@ -33,6 +34,28 @@ class CountingLibrary(Library):
     @property
     def counts(self) -> tuple[int, int]:
         return self.opened, self.closed
+
+
+class Outputs(unittest.TestCase):
+    def test_lengths_have_64_bits(self) -> None:
+        """The length of an output isn't cut to 32 bits. The buffer of 4 GiB is never touched, and no copy of it is made."""
+        asked: list[int] = []
+
+        class Copied:
+            def __init__(self, _: object) -> None: ...
+
+            def __getitem__(self, part: slice) -> "Copied":
+                asked.append(part.stop)
+                return self
+
+            def tobytes(self) -> bytes:
+                return b""
+
+        library = CountingLibrary()
+        library.ask = lambda *_: _Answer(status=0, length=2**32 + 3)  # type: ignore[method-assign]
+        with unittest.mock.patch("bcs_proved.memoryview", Copied, create=True):
+            library.put("bcs_fault_name", 40, 1)
+        self.assertEqual(asked, [2**32 + 3])
 
 
 class Handles(unittest.TestCase):

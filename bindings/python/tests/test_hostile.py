@@ -16,6 +16,7 @@ from bcs_proved import BytesError, FormatError, Limits, Registry, RegistryError,
 
 HERE = pathlib.Path(__file__).resolve().parent
 PAYMENT = {"Payment": {"STRUCT": [{"to": "STR"}, {"amount": "U64"}]}}
+PAIR = {"Pair": {"STRUCT": [{"a": "U8"}, {"b": "U8"}]}}
 PAYMENTS = {"SEQ": {"TYPENAME": "Payment"}}
 LIST = {"L": {"STRUCT": [{"next": {"OPTION": {"TYPENAME": "L"}}}]}}
 TREE = {"T": {"NEWTYPESTRUCT": {"SEQ": {"TYPENAME": "T"}}}}
@@ -52,6 +53,22 @@ class RunningMapping(Mapping[str, Any]):
     def __len__(self) -> int:
         self.run()
         return len(self.held)
+
+
+class Twice(Mapping[str, Any]):
+    """A mapping with a name that comes twice, like a multidict's."""
+
+    def __init__(self, *names: str) -> None:
+        self.names = names
+
+    def __getitem__(self, name: str) -> Any:
+        return 7
+
+    def __iter__(self) -> Iterator[str]:
+        return iter(self.names)
+
+    def __len__(self) -> int:
+        return len(self.names)
 
 
 class OtherList(list):  # type: ignore[type-arg]
@@ -123,7 +140,7 @@ class Reentrant(unittest.TestCase):
     """What a value runs makes calls of its own, and neither call sees anything of the other."""
 
     def setUp(self) -> None:
-        self.registry = Registry({**PAYMENT, **LIST, **TREE})
+        self.registry = Registry({**PAYMENT, **PAIR, **LIST, **TREE})
         self.runs = 0
 
     def calls(self) -> None:
@@ -223,12 +240,14 @@ class Reentrant(unittest.TestCase):
         self.assertEqual(self.registry.encode('"BYTES"', OtherBytes(b"ab")), b"\2ab")
         self.assertEqual(self.registry.encode({"SEQ": "U8"}, EndlessBytes(b"ab")), b"\2ab")
         self.assertEqual(self.registry.encode("Payment", {OtherText("amount"): 7, OtherText("to"): OtherText("bob")}), BOB_BYTES)
+        self.assertEqual(self.registry.encode("Pair", Twice("a", "b")), b"\7\7")
         wrong: list[tuple[Any, Any]] = [
             ({"SEQ": "U16"}, EndlessBytes(b"ab")),
             ({"SEQ": "U16"}, EndlessArray("H", [1, 2])),
             ({"SEQ": "U16"}, ShortArray("H", [1, 2])),
             ("Payment", {"amount": 7, Impostor(): "bob"}),
             ("Payment", {"amount": 7, OtherText("to"): "bob", OtherText("to"): "eve"}),
+            ("Pair", Twice("a", "b", "b")),
         ]
         for format, value in wrong:
             with self.assertRaises(ValueTypeError):

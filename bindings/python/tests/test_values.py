@@ -416,6 +416,7 @@ NUMPY: dict[str, Value] = {
         {**rejected_array("numpy.ndarray"), "SEQ SEQ U8": "02020102020304", "SEQ SEQ U16": "02020100020002" + "03000400"},
     ),
     "numpy masked array, u1": Value(masked([1, 2], "u1"), "numpy.ma.core.MaskedArray", {}),
+    "numpy masked array of no dimension": Value(numpy.ma.array(5, mask=True, dtype="u1"), "numpy.ma.core.MaskedArray", {}),  # type: ignore[no-untyped-call]
     "numpy masked array, u8": Value(masked([1, 2], "u8"), "numpy.ma.core.MaskedArray", rejected_array("numpy.ma.core.MaskedConstant")),
 }
 LISTS: dict[str, Value] = {
