@@ -4,6 +4,7 @@ use crate::format::Format;
 use crate::json;
 use crate::limits::Limits;
 use crate::sys::{self, Answer, Open, Question};
+use std::collections::HashSet;
 use std::fmt;
 use std::sync::Arc;
 
@@ -58,13 +59,9 @@ impl Registry {
     /// # Ok::<(), bcs_proved::Error>(())
     /// ```
     pub fn names(&self) -> Vec<String> {
-        let mut names = Vec::new();
-        for (name, _) in json::members(self.text()).expect("a registry is a JSON object") {
-            if !names.contains(&name) {
-                names.push(name);
-            }
-        }
-        names
+        let members = json::members(self.text()).expect("a registry is a JSON object");
+        let mut seen = HashSet::new();
+        members.into_iter().map(|(name, _)| name).filter(|name| seen.insert(name.clone())).collect()
     }
 
     /// The same registry with other limits, which are used as they are. Calls reject a depth above 500.

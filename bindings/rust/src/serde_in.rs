@@ -260,7 +260,7 @@ impl<'de> Deserializer<'de> for Reader<'_> {
             },
             _ => return other_json(),
         };
-        let at = reader.at.to(variants.get(&name).unwrap_or(&VOID));
+        let at = reader.at.part(variants.get(&name).unwrap_or(&VOID))?;
         let shape = reader.at.shape;
         visitor.visit_enum(Variant { at, name, payload }).map_err(|error: Mismatch| error.of_format(shape))
     }

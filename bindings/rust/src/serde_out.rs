@@ -114,7 +114,7 @@ impl<'w> Writer<'w> {
     fn variant(mut self, name: &str) -> Result<Writer<'w>, Mismatch> {
         let at = self.at.entered();
         self.at = match at.shape {
-            Shape::Enum(variants) => at.to(variants.get(name).unwrap_or(&VOID)),
+            Shape::Enum(variants) => at.part(variants.get(name).unwrap_or(&VOID))?,
             Shape::Void => at,
             shape => return Err(Mismatch::unfit(shape, "a variant")),
         };

@@ -135,6 +135,30 @@ fn a_small_stack_is_no_crash() {
     }
 }
 
+#[derive(serde::Serialize, Deserialize, Debug, PartialEq)]
+enum Peano {
+    Zero,
+    Next(Box<Peano>),
+}
+
+/// The payload of a variant is a level, too.
+#[test]
+fn a_small_stack_holds_no_variants() {
+    let text = r#"{"Peano":{"ENUM":{"0":{"Zero":"UNIT"},"1":{"Next":{"NEWTYPE":{"TYPENAME":"Peano"}}}}}}"#;
+    let registry = &Registry::read(text).unwrap();
+    let number = &(0..98).fold(Peano::Zero, |number, _| Peano::Next(Box::new(number)));
+    let bytes = &[vec![1; 98], vec![0]].concat();
+    for kibibytes in [64, 96, 128, 192, 256, 320, 384, 512, 1024] {
+        let calls = || (registry.to_bytes("Peano", number), registry.from_bytes::<Peano>("Peano", bytes));
+        let (encoded, decoded) = thread::scope(|scope| {
+            thread::Builder::new().stack_size(kibibytes << 10).spawn_scoped(scope, calls).unwrap().join().unwrap()
+        });
+        let memory = || ErrorKind::Memory.into();
+        assert!([Ok(bytes), Err(&memory())].contains(&encoded.as_ref()), "{kibibytes} KiB: {encoded:?}");
+        assert!([Ok(number), Err(&memory())].contains(&decoded.as_ref()), "{kibibytes} KiB: {decoded:?}");
+    }
+}
+
 /// A registry in many threads, whose formats are read for the first of them.
 #[test]
 fn threads_share_the_formats() {
