@@ -354,6 +354,14 @@ test('every type at every format', () => {
   assert.ok(count === ROWS.length * Object.keys(COLUMNS).length && count > 3000, String(count));
 });
 
+test('billions of holes are rejected at formats that no value has', () => {
+  const empty = bcs.registry('{}');
+  for (const format of ['F32', 'F64', 'CHAR']) {
+    const rejected = { kind: 'value', reason: 'WrongType', pointer: '/1000000' };
+    assert.throws(() => empty.encode(`{"SEQ":"${format}"}`, new Array(2 ** 32 - 1)), rejected);
+  }
+});
+
 test('no bytes, and no numbers, come from the names and numbers of other types in maps and structs', () => {
   const payment = bcs.registry('{"P":{"STRUCT":[{"amount":"U64"},{"to":"STR"}]}}');
   const bytes = Uint8Array.of(0x88, 0x13, 0, 0, 0, 0, 0, 0);
