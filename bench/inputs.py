@@ -70,6 +70,8 @@ def main():
         {"third": {"MAP": {"KEY": "STR", "VALUE": {"SEQ": "BYTES"}}}},
     ]} for number in range(100_000)}
     write(folder, "containers.json", containers)
+    # a length of 4,000,000, and as many options, every other one absent
+    (folder / "options.bin").write_bytes(b"\x80\x92\xf4\x01" + b"\x00\x01\x07" * 2_000_000)
 
 
 main()

@@ -26,6 +26,7 @@ def jobs(folder):
     key = "key:" + (b"\x0akey 299999").hex()
     yield "same map", ["same", registry, format, again], folder / "map.json", None
     yield "part map", ["part", registry, format, key], folder / "map.hex", None
+    yield "scan --raw options", ["scan", "--raw", "{}", '{"SEQ":{"OPTION":"U8"}}'], folder / "options.bin", None
     yield "check containers", ["check", str(folder / "containers.json")], None, None
 
 

@@ -14,7 +14,7 @@ use Rattle.bcs_tool_command_line.specs.declared.work.Work.{Work}
 use Rattle.bcs_tool.specs.Pairs.{EndsPairs, IsReportOf, PairRuns}
 use Rattle.bcs_tool.specs.Running.{IsAnswered, IsFailed, PutFront, Runs}
 use Rattle.bcs_tool.specs.declared.pair_interruption.PairInterruption.{PairInterruption}
-use Rattle.bcs_tool.specs.Endings.{Performs, PerformsOne, PerformsPairs, TellsFault, Put, first_unopened, lacks_file, over_file, over_input, over_one, over_pairs, pairs_over_file, pairs_over_input, second_unopened, unopened}
+use Rattle.bcs_tool.specs.Endings.{Performs, PerformsOne, PerformsPairs, TellsFault, Put, first_unopened, lacks_file, no_room, over_file, over_input, over_one, over_pairs, pairs_over_file, pairs_over_input, second_unopened, unopened}
 
 module _ {K : Type 0} (taken : K → Option (List ℕ)) (is_failed : K → Bool) where
   -- a text that is put, or else in part
@@ -72,14 +72,15 @@ module _ {S O F : Type 0} (content : S → Option (List ℕ)) (has_stopped : S �
     (taken : O → Option (List ℕ)) (is_failed : O → Bool) (remaining : F → Option (List ℕ)) where
   one_status : (work : Work) (file : Option (String Global)) (input input' : S) (out out' : O) (report : Report)
       → PerformsOne content has_stopped allowance taken is_failed remaining work file input input' out out' report → report.outcome.status < 5
-  one_status work file input input' out out' report (unopened name some is a b) = omega (arith, is.status)
+  one_status work file input input' out out' report (unopened name some is a b) = omega (arith, is.1.status)
+  one_status work file input input' out out' report (no_room name some is a b) = omega (arith, is.status)
   one_status work file input input' out out' report (over_input none runs) = run_status _ _ _ taken is_failed work _ input input' out out' report runs
   one_status work file input input' out out' report (over_file name source source' some runs a) = run_status _ _ _ taken is_failed work _ source source' out out' report runs
 
   files_status : (work : Work) (first : List ℕ) (file : Option (String Global)) (input input' : S) (out out' : O) (report : Report)
       → PerformsPairs content has_stopped allowance taken is_failed remaining work first file input input' out out' report → report.outcome.status < 5
-  files_status work first file input input' out out' report (first_unopened is a b) = omega (arith, is.status)
-  files_status work first file input input' out out' report (second_unopened name lines some is a b) = omega (arith, is.status)
+  files_status work first file input input' out out' report (first_unopened is a b) = omega (arith, is.1.status)
+  files_status work first file input input' out out' report (second_unopened name lines some is a b) = omega (arith, is.1.status)
   files_status work first file input input' out out' report (pairs_over_input lines lines' none runs) =
       pairs_status _ _ _ _ _ _ taken is_failed work _ _ lines lines' input input' out out' report runs
   files_status work first file input input' out out' report (pairs_over_file name lines lines' source source' some runs a) =

@@ -1,6 +1,8 @@
 -- How the program ends: what the standard output and the standard error are told, and its status.
 use Rattle.std.specs.Prelude.{◌≡◌, ◌≢◌, ◌⊎◌, ◌++◌, ℕ, List, [], Bool, Option, Some, None, String, codes, string_bytes}
+use Rattle.std.specs.Io.Buffered.{reader_remaining}
 use Rattle.std.specs.declared.alloc.Global.{Global}
+use Rattle.std.specs.declared.io.buffered.BufReader.{BufReader}
 use Rattle.bcs_io.specs.ReadSource.{allowance_of, failed, reader_of}
 use Rattle.bcs_io.specs.Taking as sink
 use Rattle.bcs_io.specs.declared.read_source.ReadSource.{ReadSource}
@@ -71,24 +73,29 @@ module _ {F : Type 0} (remaining : F → Option (List ℕ)) where
     pub known : IsFaultOfFiles remaining (file_fault_of unread)
     pub needed : NamesNoFile job → unread ≡ Untaken taking.OutOfMemory
 
--- the file of this name, of an input, was not opened
-pub record IsUnopened (quiet : Bool) (name : List ℕ) (report : Report) : Type 0 where
-  pub cause : OpenCause
+-- the file of this name, of an input, was not read, for this reason
+pub record IsUnread (quiet : Bool) (name : List ℕ) (unread : UnreadFile) (report : Report) : Type 0 where
   pub status : report.outcome.status ≡ 4
-  pub note : report.outcome.note.now ≡ file_note (file_fault_of (Unopened cause))
-  pub place : TellsPlace quiet (file_place (Unopened cause) name) report.place.items
+  pub note : report.outcome.note.now ≡ file_note (file_fault_of unread)
+  pub place : TellsPlace quiet (file_place unread name) report.place.items
+
+-- it was not opened
+abbrev pub IsUnopened : Bool → List ℕ → Report → Type 0
+IsUnopened quiet name report = (cause : OpenCause) × IsUnread quiet name (Unopened cause) report
 
 module _ {S O F : Type 0} (content : S → Option (List ℕ)) (has_stopped : S → Bool) (allowance : S → ℕ)
     (taken : O → Option (List ℕ)) (is_failed : O → Bool) (remaining : F → Option (List ℕ)) where
-  -- what comes of a job with one input: a run over the standard one, or over a file that was opened; where the file wasn't,
-  -- nothing is read, or put
+  -- what comes of a job with one input: a run over the standard one, or over a file that was opened, by blocks; where the file
+  -- wasn't, or there is no memory for a block, nothing is read, or put
   pub data PerformsOne (work : Work) (file : Option (String Global)) (input input' : S) (out out' : O) (report : Report) : Type 0 where
     unopened : (name : String Global) → file ≡ Some name → IsUnopened work.options.quiet (string_bytes name) report → input' ≡ input → out' ≡ out
         → PerformsOne work file input input' out out' report
+    no_room : (name : String Global) → file ≡ Some name → IsUnread work.options.quiet (string_bytes name) (Untaken taking.OutOfMemory) report → input' ≡ input
+        → out' ≡ out → PerformsOne work file input input' out out' report
     over_input : file ≡ None → Runs content has_stopped allowance taken is_failed work (origin_text StandardInput) input input' out out' report
         → PerformsOne work file input input' out out' report
-    over_file : (name : String Global) (source source' : ReadSource F) → file ≡ Some name
-        → Runs (λ s. remaining (reader_of s)) failed allowance_of taken is_failed work (file_text (string_bytes name)) source source' out out' report
+    over_file : (name : String Global) (source source' : ReadSource (BufReader F Global)) → file ≡ Some name
+        → Runs (λ s. reader_remaining remaining (reader_of s)) failed allowance_of taken is_failed work (file_text (string_bytes name)) source source' out out' report
         → input' ≡ input → PerformsOne work file input input' out out' report
 
   -- what comes of one that compares the lines of two files, of which the first has this name, and is opened first

@@ -14,7 +14,7 @@ use bcs_io::{ByteSink, ByteSource, ReadSource, WriteSink};
 use bcs_tool_command_line::{Job, LineFault, Report};
 use std::env;
 use std::env::Env;
-use std::io::ErrorKind;
+use std::io::{BufReader, ErrorKind};
 use std::process::ExitCode;
 use std::rt::Files;
 
@@ -22,10 +22,31 @@ use std::rt::Files;
 pub fn program(rt: &HostRuntime) -> ExitCode
     ensures { exit_status result < 5 }
 {
-    let mut input = ReadSource::new(rt.reader());
+    let words = words_of(rt);
     let mut out = WriteSink::new(rt.stdout());
     let mut errors = WriteSink::new(rt.stderr());
-    ExitCode::from(start(rt, words_of(rt), &mut input, &mut out, &mut errors))
+    let status = match BufReader::with_capacity(rt.alloc(), read_ahead(&words), rt.reader()) {
+        Ok(reader) => start(
+            rt,
+            words,
+            &mut ReadSource::new(reader),
+            &mut out,
+            &mut errors,
+        ),
+        Err(_) => tell_fault(&LineFault::OutOfMemory, &mut out, &mut errors),
+    };
+    ExitCode::from(status)
+}
+
+/// How many bytes are read at a time where a job takes a few of them at a time.
+pub(crate) const BLOCK: usize = 65536;
+
+// How many bytes of the standard input are read ahead. With `--front` there are none, so what follows the value stays there.
+fn read_ahead(words: &Result<Vec<String>, LineFault>) -> usize {
+    match words {
+        Ok(words) if words.iter().any(|word| word.as_str() == "--front") => 0,
+        _ => BLOCK,
+    }
 }
 
 /// Does what the words ask for, or tells why there are none, and gives the status.

@@ -4,22 +4,23 @@ ghost use Rattle.bcs_tool_command_line.specs.CommandLine.{texts_of};
 ghost use Rattle.bcs_tool_command_line.specs.Jobs.{IsJobOf};
 ghost use Rattle.bcs_tool_command_line.specs.LineFaults.{IsFaultOf};
 ghost use Rattle.bcs_tool_command_line.specs.TakenWords.{TakesWords};
-ghost use Rattle.bcs_tool.specs.Endings.{IsUnopened, Performs, PerformsOne, PerformsPairs, TellsFault, TellsReport};
+ghost use Rattle.bcs_tool.specs.Endings.{IsUnopened, IsUnread, Performs, PerformsOne, PerformsPairs, TellsFault, TellsReport};
 ghost use Rattle.bcs_tool.specs.Visible.{breaks_lines};
 
 use crate::command_line::line;
+use crate::entry::BLOCK;
 use crate::files::read_work;
 use crate::pair_running::{report_of_pairs, run_pairs};
 use crate::running::{failed, run_from};
 use crate::telling::{tell_fault_of_words, tell_report};
-use bcs_io::{ByteSink, ByteSource, ReadSource};
+use bcs_io::{ByteSink, ByteSource, ReadSource, TakeFault};
 use bcs_tool_command_line::{
     FileFault, Inputs, Job, LineFault, OpenCause, Origin, Report, UnreadFile, Work, place_of_file,
 };
 use std::alloc::Global;
 use std::env::Env;
 use std::fs::File;
-use std::io::ErrorKind;
+use std::io::{BufReader, ErrorKind};
 use std::rt::Files;
 
 /// Does what the words ask for, of which the first is the program's own name, and gives the status.
@@ -92,16 +93,23 @@ fn perform_one<R: Files + Env + AllocGlobal, S: ByteSource, O: ByteSink>(
     let Some(name) = file else {
         return run_from(rt.alloc(), work, Origin::StandardInput, input, out);
     };
+    let (alloc, quiet) = (rt.alloc(), work.options.quiet);
     let name = name.as_str();
     match File::open(rt, name) {
-        Ok(file) => run_from(
-            rt.alloc(),
-            work,
-            Origin::File(name),
-            &mut ReadSource::new(file),
-            out,
-        ),
-        Err(error) => unopened(rt.alloc(), work.options.quiet, name, error.kind()),
+        Ok(file) => match BufReader::with_capacity(alloc, BLOCK, file) {
+            Ok(reader) => run_from(
+                alloc,
+                work,
+                Origin::File(name),
+                &mut ReadSource::new(reader),
+                out,
+            ),
+            Err(_) => {
+                let fault = TakeFault::OutOfMemory;
+                unread(alloc, quiet, UnreadFile::Untaken(fault), name)
+            }
+        },
+        Err(error) => unopened(alloc, quiet, name, error.kind()),
     }
 }
 
@@ -141,7 +149,14 @@ fn perform_pairs<R: Files + Env + AllocGlobal, S: ByteSource, O: ByteSink>(
 fn unopened(alloc: Global, quiet: bool, name: &str, kind: ErrorKind) -> Report
     ensures { IsUnopened quiet name.now result }
 {
-    let unread = UnreadFile::Unopened(OpenCause::of(kind));
+    let cause = OpenCause::of(kind);
+    unread(alloc, quiet, UnreadFile::Unopened(cause), name)
+}
+
+// The report of a job of which a file of an input was not read.
+fn unread(alloc: Global, quiet: bool, unread: UnreadFile, name: &str) -> Report
+    ensures { IsUnread quiet name.now unread result }
+{
     failed(
         FileFault::from(unread).note(),
         place_of_file(alloc, quiet, unread, name),

@@ -1,16 +1,25 @@
 use Rattle.std.proofs.Common.{List, refl, subst, ℕ}
+use Rattle.std.specs.Io.Buffered.{reader_remaining}
 use Rattle.bcs_io.specs.ReadSource.{allowance_of, failed, reader_of}
+use Rattle.bcs_io.specs.declared.taking.TakeFault.TheVariants as taking
 use Rattle.bcs_tool_command_line.specs.FaultPlaces.{file_text}
-use Rattle.bcs_tool.specs.Endings.{IsUnopened, over_file, unopened}
+use Rattle.bcs_tool_command_line.specs.declared.unread_file.UnreadFile.TheVariants.{Untaken}
+use Rattle.bcs_tool.specs.Endings.{IsUnopened, IsUnread, no_room, over_file, unopened}
 use Rattle.bcs_tool.specs.Running.{Runs}
 use Rattle.bcs_tool.proofs.responding.perform_one.Goals as goal
 
 -- a file
+pub returns-in-Ok-with_capacity : goal.returns-in-Ok-with_capacity
+returns-in-Ok-with_capacity g c =
+    let P : List ℕ → Type 0 = λ text. Runs (λ s. reader_remaining g.R.File.Read.remaining (reader_of s)) failed allowance_of g.O.ByteSink.taken g.O.ByteSink.is_failed
+    c.args.work.now (file_text text) c.new.result c.run_from-in-Ok-with_capacity.new.input c.args.out.now c.run_from-in-Ok-with_capacity.new.out c.run_from-in-Ok-with_capacity.result in
+    over_file c.in-Some.name c.new.result c.run_from-in-Ok-with_capacity.new.input c.in-Some.is (subst P c.as_str-name.ensures.value c.run_from-in-Ok-with_capacity.ensures) refl
+
+-- no memory for a block of the file
 pub returns-in-Ok : goal.returns-in-Ok
 returns-in-Ok g c =
-    let P : List ℕ → Type 0 = λ text. Runs (λ s. g.R.File.Read.remaining (reader_of s)) failed allowance_of g.O.ByteSink.taken g.O.ByteSink.is_failed
-    c.args.work.now (file_text text) c.new.result c.run_from-in-Ok.new.input c.args.out.now c.run_from-in-Ok.new.out c.run_from-in-Ok.result in
-    over_file c.in-Some.name c.new.result c.run_from-in-Ok.new.input c.in-Some.is (subst P c.as_str-name.ensures.value c.run_from-in-Ok.ensures) refl
+    no_room c.in-Some.name c.in-Some.is
+    (subst (λ (name : List ℕ). IsUnread c.args.work.now.options.quiet name (Untaken taking.OutOfMemory) c.unread.result) c.as_str-name.ensures.value c.unread.ensures) refl refl
 
 -- a file that isn't there
 pub returns : goal.returns
