@@ -243,6 +243,7 @@ def libraries_table() -> list[str]:
 # What isn't Rattle and runs with the proved code, or makes it.
 GLUE = {
     "start of the program, and its test of the processor": ["dist/link/*.c"],
+    "start and host of the program on arm64, and of its library's calls": ["bindings/arm64/start.c", "bindings/arm64/shims.py", "bindings/hosts/linux.c"],
     "C library": ["bindings/c/*.c", "bindings/c/*.h", "bindings/c/include/*.h"],
     "Rust": ["bindings/rust/src/**/*.rs"],
     "Python": ["bindings/python/bcs_proved/*.py"],

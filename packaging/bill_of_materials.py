@@ -93,7 +93,7 @@ def origins(files: list[dict[str, Any]]) -> list[dict[str, str]]:
     """Of which crate each built file is. The loader and the page are sources of their own."""
     relations = []
     for file in files:
-        is_program = file["fileName"] == "./x86_64-linux/bcs"
+        is_program = file["fileName"].endswith("-linux/bcs")
         relations.append(relation("SPDXRef-package-bcs", "CONTAINS", file["SPDXID"]))
         if is_program or file["fileName"].endswith((".a", ".so", ".wasm")):
             crate = identity("crate", "bcs" if is_program else "bcs_c")

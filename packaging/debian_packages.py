@@ -10,7 +10,6 @@ import archives
 import facts
 import installed
 
-MACHINE = "x86_64-linux-gnu"
 DESCRIPTION = """\
 It encodes, decodes, explains and compares values of Binary Canonical
 Serialization (BCS), which the Diem family of chains signs and hashes. A
@@ -26,11 +25,13 @@ DEBIAN_NAMES = {"MIT": "Expat"}
 KNOWN_TEXTS = {"Apache-2.0": "On Debian systems the text is in\n/usr/share/common-licenses/Apache-2.0.\n"}
 
 
-def described(name: str, section: str, summary: str, description: str, files: archives.Files) -> str:
-    glibc = ".".join(str(part) for part in facts.glibc_needed(facts.NATIVE / ("bcs" if name == "bcs" else "libbcs.so")))
+def described(
+    machine: facts.Machine, name: str, section: str, summary: str, description: str, files: archives.Files
+) -> str:
+    glibc = ".".join(str(part) for part in facts.glibc_needed(machine.folder / ("bcs" if name == "bcs" else "libbcs.so")))
     size = sum(len(file.data) + 1023 for file in files.values()) // 1024
     return (
-        f"Package: {name}\nVersion: {facts.version()}\nArchitecture: amd64\nMaintainer: {facts.MAINTAINER}\n"
+        f"Package: {name}\nVersion: {facts.version()}\nArchitecture: {machine.debian}\nMaintainer: {facts.MAINTAINER}\n"
         f"Installed-Size: {size}\nDepends: libc6 (>= {glibc})\nSection: {section}\nPriority: optional\n"
         f"Description: {summary}\n{textwrap.indent(description, ' ')}"
     )
@@ -72,17 +73,20 @@ def papers(name: str, bill: archives.File) -> archives.Files:
     }
 
 
-def library_files() -> archives.Files:
+def library_files(machine: facts.Machine) -> archives.Files:
     """As Debian has libraries: in the folder of the machine's kind, and the dynamic one without leave to be run."""
+    folder = f"{machine.processor}-linux-gnu"
     files = {}
-    for name, file in installed.files("/usr", "--library", "--no-record").items():
+    for name, file in installed.files("/usr", "--library", "--no-record", machine=machine).items():
         if name.endswith("/bcs.pc"):
-            file = archives.text(file.data.decode().replace("}/lib\n", f"}}/lib/{MACHINE}\n"))
-        files[name.replace("usr/lib/", f"usr/lib/{MACHINE}/")] = file._replace(is_program=False)
+            file = archives.text(file.data.decode().replace("}/lib\n", f"}}/lib/{folder}\n"))
+        files[name.replace("usr/lib/", f"usr/lib/{folder}/")] = file._replace(is_program=False)
     return files
 
 
-def package(name: str, control: str, files: archives.Files, more: dict[str, str]) -> dict[str, bytes]:
+def package(
+    machine: facts.Machine, name: str, control: str, files: archives.Files, more: dict[str, str]
+) -> dict[str, bytes]:
     sums = [f"{hashlib.md5(files[path].data).hexdigest()}  {path}\n" for path in sorted(files) if not files[path].link]
     papers = {"control": control, "md5sums": "".join(sums), **more}
     packed = {path: archives.text(content) for path, content in papers.items()}
@@ -91,16 +95,20 @@ def package(name: str, control: str, files: archives.Files, more: dict[str, str]
         "control.tar.xz": archives.xz(archives.tar(packed, "./", with_folders=True)),
         "data.tar.xz": archives.xz(archives.tar(files, "./", with_folders=True)),
     }
-    return {f"{name}_{facts.version()}_amd64.deb": archives.ar(members)}
+    return {f"{name}_{facts.version()}_{machine.debian}.deb": archives.ar(members)}
+
+
+def make_for(machine: facts.Machine, bill: archives.File) -> dict[str, bytes]:
+    program = installed.files("/usr", "--program", "--no-record", machine=machine) | papers("bcs", bill)
+    control = described(machine, "bcs", "utils", facts.SUMMARY, DESCRIPTION, program)
+    made = package(machine, "bcs", control, program, {})
+    library = library_files(machine) | papers("libbcs-dev", bill)
+    summary = f"{facts.SUMMARY} (libraries for C)"
+    control = described(machine, "libbcs-dev", "libdevel", summary, LIBRARY_DESCRIPTION, library)
+    # The system's cache of libraries is made anew, so that programs find the dynamic one.
+    more = {"triggers": "activate-noawait ldconfig\n", "shlibs": f"libbcs 0 libbcs-dev (>= {facts.version()})\n"}
+    return made | package(machine, "libbcs-dev", control, library, more)
 
 
 def make(bill: archives.File) -> dict[str, bytes]:
-    program = installed.files("/usr", "--program", "--no-record") | papers("bcs", bill)
-    control = described("bcs", "utils", facts.SUMMARY, DESCRIPTION, program)
-    made = package("bcs", control, program, {})
-    library = library_files() | papers("libbcs-dev", bill)
-    summary = f"{facts.SUMMARY} (libraries for C)"
-    control = described("libbcs-dev", "libdevel", summary, LIBRARY_DESCRIPTION, library)
-    # The system's cache of libraries is made anew, so that programs find the dynamic one.
-    more = {"triggers": "activate-noawait ldconfig\n", "shlibs": f"libbcs 0 libbcs-dev (>= {facts.version()})\n"}
-    return made | package("libbcs-dev", control, library, more)
+    return {name: data for machine in facts.MACHINES for name, data in make_for(machine, bill).items()}

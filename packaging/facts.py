@@ -25,6 +25,21 @@ SUMMARY = "canonical bytes (BCS) by a registry of formats, proved"
 EPOCH = int(os.environ.get("SOURCE_DATE_EPOCH", "1767225600"))
 
 
+class Machine(NamedTuple):
+    """A kind of machine: the folder of dist/ with its files, and what Debian calls it."""
+
+    folder: pathlib.Path
+    debian: str
+
+    @property
+    def processor(self) -> str:
+        """Its name in Debian's folders and in the tags of wheels."""
+        return self.folder.name.removesuffix("-linux")
+
+
+MACHINES = [Machine(NATIVE, "amd64"), Machine(ARM, "arm64")]
+
+
 class Library(NamedTuple):
     """A library of the toolchain that is in the program. What the toolchain doesn't tell of it is `-`."""
 

@@ -11,11 +11,29 @@ import archives
 import facts
 
 
-def files(prefix: str, *words: str) -> archives.Files:
+def files(prefix: str, *words: str, machine: facts.Machine = facts.MACHINES[0]) -> archives.Files:
     """The files under their names on the machine where they are to stand, without the first slash. The program is that of
-    dist/, also where another was proved on this machine."""
+    dist/, also where another was proved on this machine. The manual and the completions are made by running it, so the files
+    for another kind of machine replace these afterwards."""
     with tempfile.TemporaryDirectory() as room:
         surroundings = {**os.environ, "DESTDIR": room, "BCS": str(facts.NATIVE / "bcs")}
         command = [str(facts.ROOT / "install"), "--prefix", prefix, *words]
         subprocess.run(command, env=surroundings, stdout=subprocess.DEVNULL, check=True)
-        return archives.tree(pathlib.Path(room))
+        found = archives.tree(pathlib.Path(room))
+    return found if machine.folder == facts.NATIVE else for_machine(found, machine)
+
+
+def for_machine(found: archives.Files, machine: facts.Machine) -> archives.Files:
+    """The same files with those of another folder of dist/ in place of the native ones."""
+    names = {path.read_bytes(): path.name for path in facts.NATIVE.iterdir()}
+    replaced = {}
+    for path, file in found.items():
+        if file.data in names:
+            replaced[path] = archives.taken(machine.folder / names[file.data])
+        elif path.endswith("/bcs.pc"):
+            prefix = f"/{path.removesuffix('/lib/pkgconfig/bcs.pc')}"
+            told = subprocess.run([facts.ROOT / "packaging/pkg-config", prefix, machine.processor], stdout=subprocess.PIPE, text=True, check=True)
+            replaced[path] = archives.text(told.stdout)
+        else:
+            replaced[path] = file
+    return replaced

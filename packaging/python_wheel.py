@@ -1,4 +1,4 @@
-"""The wheel: the module of Python with the dynamic library beside it."""
+"""The wheels: the module of Python with the dynamic library of a kind of machine beside it."""
 
 from __future__ import annotations
 
@@ -18,11 +18,11 @@ def project() -> dict[str, Any]:
     return found
 
 
-def tag() -> str:
+def tag(machine: facts.Machine) -> str:
     """manylinux_X_Y: the wheel runs with the C library of version X.Y and later ones."""
-    major, minor, *_ = facts.glibc_needed(facts.NATIVE / "libbcs.so")
+    major, minor, *_ = facts.glibc_needed(machine.folder / "libbcs.so")
     # (no earlier one is a name that pip knows)
-    return f"py3-none-manylinux_{major}_{max(minor, 5)}_x86_64"
+    return f"py3-none-manylinux_{major}_{max(minor, 5)}_{machine.processor}"
 
 
 def metadata(told: dict[str, Any]) -> str:
@@ -52,19 +52,19 @@ def record(files: archives.Files, own_name: str) -> str:
     return "".join(lines) + f"{own_name},,\n"
 
 
-def module() -> archives.Files:
+def module(machine: facts.Machine) -> archives.Files:
     """The module's folder, with the library in it."""
     folder = facts.ROOT / "bindings/python" / project()["name"]
     paths = [path for path in folder.iterdir() if path.suffix in (".py", ".typed")]
-    files = {path.name: archives.taken(path) for path in [*paths, facts.NATIVE / "libbcs.so"]}
+    files = {path.name: archives.taken(path) for path in [*paths, machine.folder / "libbcs.so"]}
     return {f"{folder.name}/{name}": file for name, file in files.items()}
 
 
-def make(bill: archives.File) -> dict[str, bytes]:
+def make_for(machine: facts.Machine, bill: archives.File) -> dict[str, bytes]:
     told = project()
     information = f"{told['name']}-{facts.version()}.dist-info"
-    wheel = f"Wheel-Version: 1.0\nGenerator: dist/packages\nRoot-Is-Purelib: false\nTag: {tag()}\n"
-    files = module() | {
+    wheel = f"Wheel-Version: 1.0\nGenerator: dist/packages\nRoot-Is-Purelib: false\nTag: {tag(machine)}\n"
+    files = module(machine) | {
         f"{information}/METADATA": archives.text(metadata(told)),
         f"{information}/WHEEL": archives.text(wheel),
         f"{information}/sboms/{facts.NAME}.spdx.json": bill,
@@ -73,4 +73,8 @@ def make(bill: archives.File) -> dict[str, bytes]:
         files[f"{information}/licenses/{name}"] = archives.taken(facts.ROOT / name)
     own_name = f"{information}/RECORD"
     files[own_name] = archives.text(record(files, own_name))
-    return {f"{told['name']}-{facts.version()}-{tag()}.whl": archives.zip(files)}
+    return {f"{told['name']}-{facts.version()}-{tag(machine)}.whl": archives.zip(files)}
+
+
+def make(bill: archives.File) -> dict[str, bytes]:
+    return {name: data for machine in facts.MACHINES for name, data in make_for(machine, bill).items()}

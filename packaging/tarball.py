@@ -18,8 +18,8 @@ README = """\
 |---|---|
 | `bin/`, `share/` | the program `bcs`, its manual and its completions |
 | `include/`, `lib/` | the library of C, for Linux on x86-64; `PKG_CONFIG_PATH=lib/pkgconfig pkg-config --libs bcs` |
-| `aarch64-linux/` | the static library for Linux on arm64 |
-| `python/` | the module of Python with its library: `PYTHONPATH=python python3` |
+| `aarch64-linux/` | the program and the libraries for Linux on arm64, of which `include/` has the header |
+| `python/` | the module of Python with its library for x86-64: `PYTHONPATH=python python3`; on arm64 with `BCS_LIBRARY=aarch64-linux/libbcs.so` |
 | `rust/` | the crate `bcs-proved`: `cargo add --path rust/bcs-proved-{version}` |
 | `web/` | the module for Node and browsers, and the program for Node: `node web/bcs.mjs --help` |
 | `page/` | the page, one file that works from the disk |
@@ -43,7 +43,7 @@ def prefix() -> archives.Files:
 def make(bill: archives.File) -> dict[str, bytes]:
     files = prefix()
     files |= under("aarch64-linux", archives.tree(facts.ARM))
-    files |= under("python", python_wheel.module())
+    files |= under("python", python_wheel.module(facts.MACHINES[0]))
     files |= under(f"rust/{rust_crate.name()}", rust_crate.contents(bill))
     files |= under("web", node_package.contents(bill))
     files["page/bcs.html"] = archives.taken(facts.WEB / "bcs.html")
