@@ -1,9 +1,10 @@
-"""The wheel: the module of Python with the dynamic library beside it."""
+"""The wheels: the module of Python with the dynamic library beside it, for Linux and for Windows."""
 
 from __future__ import annotations
 
 import base64
 import hashlib
+import pathlib
 import tomllib
 from typing import Any
 
@@ -18,11 +19,12 @@ def project() -> dict[str, Any]:
     return found
 
 
-def tag() -> str:
-    """manylinux_X_Y: the wheel runs with the C library of version X.Y and later ones."""
-    major, minor, *_ = facts.glibc_needed(facts.NATIVE / "libbcs.so")
+def platforms() -> dict[str, pathlib.Path]:
+    """The library of each platform. manylinux_X_Y: the wheel runs with the C library of version X.Y and later ones."""
+    library = facts.NATIVE / "libbcs.so"
+    major, minor, *_ = facts.glibc_needed(library)
     # (no earlier one is a name that pip knows)
-    return f"py3-none-manylinux_{major}_{max(minor, 5)}_x86_64"
+    return {f"manylinux_{major}_{max(minor, 5)}_x86_64": library, "win_amd64": facts.WINDOWS / "bcs.dll"}
 
 
 def metadata(told: dict[str, Any]) -> str:
@@ -52,19 +54,19 @@ def record(files: archives.Files, own_name: str) -> str:
     return "".join(lines) + f"{own_name},,\n"
 
 
-def module() -> archives.Files:
-    """The module's folder, with the library in it."""
+def module(library: pathlib.Path) -> archives.Files:
+    """The module's folder, with a library in it."""
     folder = facts.ROOT / "bindings/python" / project()["name"]
     paths = [path for path in folder.iterdir() if path.suffix in (".py", ".typed")]
-    files = {path.name: archives.taken(path) for path in [*paths, facts.NATIVE / "libbcs.so"]}
+    files = {path.name: archives.taken(path) for path in [*paths, library]}
     return {f"{folder.name}/{name}": file for name, file in files.items()}
 
 
-def make(bill: archives.File) -> dict[str, bytes]:
-    told = project()
+def make_for(platform: str, library: pathlib.Path, bill: archives.File) -> dict[str, bytes]:
+    told, tag = project(), f"py3-none-{platform}"
     information = f"{told['name']}-{facts.version()}.dist-info"
-    wheel = f"Wheel-Version: 1.0\nGenerator: dist/packages\nRoot-Is-Purelib: false\nTag: {tag()}\n"
-    files = module() | {
+    wheel = f"Wheel-Version: 1.0\nGenerator: dist/packages\nRoot-Is-Purelib: false\nTag: {tag}\n"
+    files = module(library) | {
         f"{information}/METADATA": archives.text(metadata(told)),
         f"{information}/WHEEL": archives.text(wheel),
         f"{information}/sboms/{facts.NAME}.spdx.json": bill,
@@ -73,4 +75,11 @@ def make(bill: archives.File) -> dict[str, bytes]:
         files[f"{information}/licenses/{name}"] = archives.taken(facts.ROOT / name)
     own_name = f"{information}/RECORD"
     files[own_name] = archives.text(record(files, own_name))
-    return {f"{told['name']}-{facts.version()}-{tag()}.whl": archives.zip(files)}
+    return {f"{told['name']}-{facts.version()}-{tag}.whl": archives.zip(files)}
+
+
+def make(bill: archives.File) -> dict[str, bytes]:
+    wheels: dict[str, bytes] = {}
+    for platform, library in platforms().items():
+        wheels |= make_for(platform, library, bill)
+    return wheels
