@@ -1,7 +1,8 @@
 /* What only a program of Windows can do to bcs.exe: arguments that aren't UTF-16, pipes of Windows, streams that are missing, and
    consoles.
 
-       starts BCS_EXE */
+       starts BCS_EXE            all of it
+       starts BCS_EXE console    what needs a console, which this process has */
 #include <stdbool.h>
 #include <stdio.h>
 #include <stdlib.h>
@@ -179,25 +180,38 @@ static void shown_lines(HANDLE screen) {
     CHECK(wmemcmp(line, L"\"\xe9\xfc\"", 4) == 0);
 }
 
-static void consoles(void) {
-    FreeConsole();
-    CHECK(AllocConsole());
+/* What happens in a process that has a console. */
+static void within_console(void) {
     const HANDLE in = console_file(L"CONIN$"), screen = console_file(L"CONOUT$");
     typed_lines(in);
     shown_lines(screen);
-    FreeConsole();
+}
+
+/* Starts this program anew, with a console that has no window. */
+static void consoles(const wchar_t *own) {
+    static wchar_t line[ROOM];
+    STARTUPINFOW how = {.cb = sizeof how, .dwFlags = STARTF_USESTDHANDLES, .hStdError = GetStdHandle(STD_ERROR_HANDLE)};
+    PROCESS_INFORMATION made;
+    swprintf(line, ROOM, L"\"%ls\" \"%ls\" console", own, program);
+    CHECK(CreateProcessW(own, line, NULL, NULL, TRUE, CREATE_NO_WINDOW, NULL, NULL, &how, &made));
+    CHECK(status_of(made.hProcess) == 0);
 }
 
 int wmain(int count, wchar_t **words) {
-    CHECK(count == 2);
+    wchar_t own[MAX_PATH];
+    CHECK(count > 1 && GetModuleFileNameW(NULL, own, MAX_PATH) < MAX_PATH);
     program = words[1];
+    if (count > 2) {
+        within_console();
+        return 0;
+    }
     arguments();
     bytes_are_kept();
     pipe_of_pieces();
     nobody_reads();
     streams_are_missing();
     devices();
-    consoles();
+    consoles(own);
     puts("starts: arguments, bytes, pipes, missing streams, devices and a console");
     return 0;
 }
