@@ -249,9 +249,10 @@ GLUE = {
     "Python": ["bindings/python/bcs_proved/*.py"],
     "JavaScript and WebAssembly": ["bindings/web/*.mjs", "bindings/web/*.c"],
     "the page": ["bindings/web/page/*.mjs"],
+    "Windows": ["bindings/windows/*.c", "bindings/windows/*.h", "bindings/windows/*.ll"],
     "PostgreSQL": ["bindings/postgresql/*.c", "bindings/postgresql/*.sql", "bindings/sql/*.h"],
     "SQLite": ["bindings/sqlite/*.c"],
-    "what builds `dist/`": [".build", "dist/make", "dist/libraries", "bindings/proved_code.py", "bindings/arm64/build", "bindings/web/build", "bindings/web/module"],
+    "what builds `dist/`": [".build", "dist/make", "dist/libraries", "bindings/proved_code.py", "bindings/arm64/build", "bindings/windows/build", "bindings/web/build", "bindings/web/module"],
 }
 
 

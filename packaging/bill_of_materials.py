@@ -70,7 +70,7 @@ def relation(one: str, kind: str, other: str) -> dict[str, str]:
 def built_files() -> list[dict[str, Any]]:
     """The files of dist/ that are in the packages, with their checksums."""
     files = []
-    for folder in [facts.NATIVE, facts.ARM, facts.WEB]:
+    for folder in [facts.NATIVE, facts.ARM, facts.WINDOWS, facts.WEB]:
         for path in sorted(folder.rglob("*")):
             if path.is_file():
                 files.append(built_file(path))
@@ -93,9 +93,9 @@ def origins(files: list[dict[str, Any]]) -> list[dict[str, str]]:
     """Of which crate each built file is. The loader and the page are sources of their own."""
     relations = []
     for file in files:
-        is_program = file["fileName"].endswith("-linux/bcs")
+        is_program = file["fileName"].endswith(("-linux/bcs", "-windows/bcs.exe"))
         relations.append(relation("SPDXRef-package-bcs", "CONTAINS", file["SPDXID"]))
-        if is_program or file["fileName"].endswith((".a", ".so", ".wasm")):
+        if is_program or file["fileName"].endswith((".a", ".so", ".dll", ".wasm")):
             crate = identity("crate", "bcs" if is_program else "bcs_c")
             relations.append(relation(file["SPDXID"], "GENERATED_FROM", crate))
     return relations

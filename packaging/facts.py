@@ -14,6 +14,7 @@ ROOT = pathlib.Path(__file__).resolve().parent.parent
 DIST = ROOT / "dist"
 NATIVE = DIST / "x86_64-linux"
 ARM = DIST / "aarch64-linux"
+WINDOWS = DIST / "x86_64-windows"
 WEB = DIST / "web"
 
 NAME = "bcs"
@@ -101,7 +102,7 @@ def require_whole() -> None:
         if path.is_symlink() or not path.is_file() or hashlib.sha256(path.read_bytes()).hexdigest() != checksum:
             sys.exit(f"packages: dist/{name} isn't the file that dist/SHA256SUMS has")
         listed.add(path)
-    for folder in [NATIVE, ARM, WEB]:
+    for folder in [NATIVE, ARM, WINDOWS, WEB]:
         for path in sorted(folder.rglob("*")):
             if not path.is_dir() and path not in listed:
                 sys.exit(f"packages: dist/SHA256SUMS doesn't list {path.relative_to(ROOT)}")

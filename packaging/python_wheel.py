@@ -1,9 +1,10 @@
-"""The wheels: the module of Python with the dynamic library of a kind of machine beside it."""
+"""The wheels: the module of Python with the dynamic library beside it, for each kind of machine with Linux, and for Windows."""
 
 from __future__ import annotations
 
 import base64
 import hashlib
+import pathlib
 import tomllib
 from typing import Any
 
@@ -18,11 +19,15 @@ def project() -> dict[str, Any]:
     return found
 
 
-def tag(machine: facts.Machine) -> str:
-    """manylinux_X_Y: the wheel runs with the C library of version X.Y and later ones."""
-    major, minor, *_ = facts.glibc_needed(machine.folder / "libbcs.so")
-    # (no earlier one is a name that pip knows)
-    return f"py3-none-manylinux_{major}_{max(minor, 5)}_{machine.processor}"
+def platforms() -> dict[str, pathlib.Path]:
+    """The library of each platform. manylinux_X_Y: the wheel runs with the C library of version X.Y and later ones."""
+    found = {"win_amd64": facts.WINDOWS / "bcs.dll"}
+    for machine in facts.MACHINES:
+        library = machine.folder / "libbcs.so"
+        major, minor, *_ = facts.glibc_needed(library)
+        # (no earlier one is a name that pip knows)
+        found[f"manylinux_{major}_{max(minor, 5)}_{machine.processor}"] = library
+    return found
 
 
 def metadata(told: dict[str, Any]) -> str:
@@ -52,19 +57,19 @@ def record(files: archives.Files, own_name: str) -> str:
     return "".join(lines) + f"{own_name},,\n"
 
 
-def module(machine: facts.Machine) -> archives.Files:
-    """The module's folder, with the library in it."""
+def module(library: pathlib.Path) -> archives.Files:
+    """The module's folder, with a library in it."""
     folder = facts.ROOT / "bindings/python" / project()["name"]
     paths = [path for path in folder.iterdir() if path.suffix in (".py", ".typed")]
-    files = {path.name: archives.taken(path) for path in [*paths, machine.folder / "libbcs.so"]}
+    files = {path.name: archives.taken(path) for path in [*paths, library]}
     return {f"{folder.name}/{name}": file for name, file in files.items()}
 
 
-def make_for(machine: facts.Machine, bill: archives.File) -> dict[str, bytes]:
-    told = project()
+def make_for(platform: str, library: pathlib.Path, bill: archives.File) -> dict[str, bytes]:
+    told, tag = project(), f"py3-none-{platform}"
     information = f"{told['name']}-{facts.version()}.dist-info"
-    wheel = f"Wheel-Version: 1.0\nGenerator: dist/packages\nRoot-Is-Purelib: false\nTag: {tag(machine)}\n"
-    files = module(machine) | {
+    wheel = f"Wheel-Version: 1.0\nGenerator: dist/packages\nRoot-Is-Purelib: false\nTag: {tag}\n"
+    files = module(library) | {
         f"{information}/METADATA": archives.text(metadata(told)),
         f"{information}/WHEEL": archives.text(wheel),
         f"{information}/sboms/{facts.NAME}.spdx.json": bill,
@@ -73,8 +78,11 @@ def make_for(machine: facts.Machine, bill: archives.File) -> dict[str, bytes]:
         files[f"{information}/licenses/{name}"] = archives.taken(facts.ROOT / name)
     own_name = f"{information}/RECORD"
     files[own_name] = archives.text(record(files, own_name))
-    return {f"{told['name']}-{facts.version()}-{tag(machine)}.whl": archives.zip(files)}
+    return {f"{told['name']}-{facts.version()}-{tag}.whl": archives.zip(files)}
 
 
 def make(bill: archives.File) -> dict[str, bytes]:
-    return {name: data for machine in facts.MACHINES for name, data in make_for(machine, bill).items()}
+    wheels: dict[str, bytes] = {}
+    for platform, library in platforms().items():
+        wheels |= make_for(platform, library, bill)
+    return wheels

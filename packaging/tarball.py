@@ -19,6 +19,7 @@ README = """\
 | `bin/`, `share/` | the program `bcs`, its manual and its completions |
 | `include/`, `lib/` | the library of C, for Linux on x86-64; `PKG_CONFIG_PATH=lib/pkgconfig pkg-config --libs bcs` |
 | `aarch64-linux/` | the program and the libraries for Linux on arm64, of which `include/` has the header |
+| `x86_64-windows/` | the program and the dynamic library for Windows |
 | `python/` | the module of Python with its library for x86-64: `PYTHONPATH=python python3`; on arm64 with `BCS_LIBRARY=aarch64-linux/libbcs.so` |
 | `rust/` | the crate `bcs-proved`: `cargo add --path rust/bcs-proved-{version}` |
 | `web/` | the module for Node and browsers, and the program for Node: `node web/bcs.mjs --help` |
@@ -43,7 +44,8 @@ def prefix() -> archives.Files:
 def make(bill: archives.File) -> dict[str, bytes]:
     files = prefix()
     files |= under("aarch64-linux", archives.tree(facts.ARM))
-    files |= under("python", python_wheel.module(facts.MACHINES[0]))
+    files |= under("x86_64-windows", archives.tree(facts.WINDOWS))
+    files |= under("python", python_wheel.module(facts.NATIVE / "libbcs.so"))
     files |= under(f"rust/{rust_crate.name()}", rust_crate.contents(bill))
     files |= under("web", node_package.contents(bill))
     files["page/bcs.html"] = archives.taken(facts.WEB / "bcs.html")

@@ -106,6 +106,28 @@ static size_t stack_left(void) {
     const size_t left = here - stack.bottom;
     return left > stack.reserve ? left - stack.reserve : 0;
 }
+#elif defined _WIN32
+/* What <processthreadsapi.h> declares. */
+void GetCurrentThreadStackLimits(uintptr_t *bottom, uintptr_t *top);
+int SetThreadStackGuarantee(uint32_t *length);
+
+/* What is left for others at the end of a stack, which are handlers of exceptions, and the pages by which Windows notices that a
+   stack ends. */
+#define RESERVE (48 << 10)
+
+/* How many bytes of stack a call may use. SIZE_MAX: unknown, on a stack that the system doesn't know. Fibers have their own. */
+static size_t stack_left(void) {
+    const uintptr_t here = (uintptr_t)__builtin_frame_address(0);
+    uintptr_t bottom, top;
+    uint32_t guarantee = 0;
+    GetCurrentThreadStackLimits(&bottom, &top);
+    if (here < bottom || here >= top) {
+        return SIZE_MAX;
+    }
+    SetThreadStackGuarantee(&guarantee); /* with 0 it reports the length */
+    const size_t left = here - bottom, reserve = RESERVE + (size_t)guarantee;
+    return left > reserve ? left - reserve : 0;
+}
 #else
 static size_t stack_left(void) {
     return SIZE_MAX;

@@ -28,6 +28,7 @@ import json
 import operator
 import os
 import pathlib
+import sys
 import weakref
 from typing import Any, Callable, Mapping, NamedTuple, Optional, Union
 
@@ -224,9 +225,13 @@ _WHERE, _WANTED = 0, 1
 _Told = Callable[[int], "tuple[_Answer, bytes]"]
 
 
+_IS_WINDOWS = sys.platform == "win32"
+_LIBRARY, _BUILD = ("bcs.dll", "bindings/windows/build") if _IS_WINDOWS else ("libbcs.so", "bindings/c/build")
+
+
 class Library:
     """The dynamic library. It is looked for where `path` says; else where the variable BCS_LIBRARY says; else beside this
-    file; else where the system looks for libraries."""
+    file; else, on Linux, where the system looks for libraries."""
 
     def __init__(self, path: Union[str, os.PathLike[str], None] = None) -> None:
         self.path = os.fspath(path) if path is not None else self._found()
@@ -234,7 +239,7 @@ class Library:
             library = ctypes.CDLL(self.path)
         except OSError as fault:
             raise ImportError(
-                f"bcs_proved needs libbcs.so, which bindings/c/build makes, and can't load {self.path}: {fault}. "
+                f"bcs_proved needs {_LIBRARY}, which {_BUILD} makes, and can't load {self.path}: {fault}. "
                 "Say where it is by the variable BCS_LIBRARY, or put it into the module's folder"
             ) from fault
         self.calls = {name: self._call(library, name, parameters) for name, parameters in _CALLS.items()}
@@ -244,8 +249,9 @@ class Library:
         named = os.environ.get("BCS_LIBRARY")
         if named:
             return named
-        beside = pathlib.Path(__file__).resolve().parent / "libbcs.so"
-        return str(beside) if beside.exists() else "libbcs.so.0"
+        beside = pathlib.Path(__file__).resolve().parent / _LIBRARY
+        # (Windows gets a whole path always, so that it doesn't look for the name in other folders)
+        return str(beside) if beside.exists() or _IS_WINDOWS else "libbcs.so.0"
 
     @staticmethod
     def _call(library: ctypes.CDLL, name: str, parameters: list[Any]) -> Any:

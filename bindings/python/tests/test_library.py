@@ -13,10 +13,14 @@ LIBRARY = pathlib.Path(os.environ["BCS_LIBRARY"]).resolve()
 SCRIPT = "import bcs_proved; print(bcs_proved.Registry('{}'%s).encode('\"U8\"', 7).hex())"
 
 
-def run(folder: str, words: str = "", **variables: str) -> subprocess.CompletedProcess[str]:
+# A Python that takes itself for one on Windows. What of it isn't the module's own, as ctypes, still works as on Linux.
+ON_WINDOWS = "import ctypes, json, pathlib, sys; sys.platform = 'win32'; "
+
+
+def run(folder: str, words: str = "", before: str = "", **variables: str) -> subprocess.CompletedProcess[str]:
     """Runs in the folder, where the module is, with no more variables than these."""
     environment = {"PYTHONDONTWRITEBYTECODE": "1", **variables}
-    command = [sys.executable, "-c", SCRIPT % words]
+    command = [sys.executable, "-c", before + SCRIPT % words]
     return subprocess.run(command, cwd=folder, env=environment, capture_output=True, text=True, check=False)
 
 
@@ -42,6 +46,18 @@ class Places(unittest.TestCase):
     def test_the_system(self) -> None:
         shutil.copy(LIBRARY, pathlib.Path(self.folder) / "libbcs.so.0")
         self.assertEqual(run(self.folder, LD_LIBRARY_PATH=self.folder).stdout, "07\n")
+
+    def test_beside_the_module_on_windows(self) -> None:
+        shutil.copy(LIBRARY, pathlib.Path(self.folder) / MODULE.name / "bcs.dll")
+        self.assertEqual(run(self.folder, before=ON_WINDOWS).stdout, "07\n")
+
+    def test_never_by_name_on_windows(self) -> None:
+        shutil.copy(LIBRARY, pathlib.Path(self.folder) / "bcs.dll")
+        shutil.copy(LIBRARY, pathlib.Path(self.folder) / "libbcs.so.0")
+        told = run(self.folder, before=ON_WINDOWS, LD_LIBRARY_PATH=self.folder, PATH=self.folder)
+        self.assertNotEqual(told.returncode, 0)
+        self.assertIn(f"can't load {pathlib.Path(self.folder).resolve() / MODULE.name / 'bcs.dll'}", told.stderr)
+        self.assertIn("bindings/windows/build", told.stderr)
 
     def test_nowhere(self) -> None:
         told = run(self.folder, BCS_LIBRARY="/nowhere/libbcs.so")

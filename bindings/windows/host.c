@@ -1,0 +1,374 @@
+/* The functions that bindings/hosts/README.md lists, on Windows, and where bcs.exe begins. They are made of the functions of
+   KERNEL32.dll and msvcrt.dll that imports/ lists. */
+#include "windows.h"
+#include <stdbool.h>
+
+/* ---- Errors. */
+
+/* The numbers that the program knows. They are Linux's. */
+enum { ENOENT = 2, EINTR = 4, EIO = 5, EBADF = 9, EAGAIN = 11, ENOMEM = 12, EACCES = 13, ENOTDIR = 20, EINVAL = 22, EMFILE = 24,
+       ENOSPC = 28, ESPIPE = 29, EPIPE = 32, ENAMETOOLONG = 36, ELOOP = 40 };
+
+static const struct {
+    uint32_t of_windows;
+    int32_t number;
+} errors[] = {
+    {2, ENOENT},         /* ERROR_FILE_NOT_FOUND */
+    {3, ENOENT},         /* ERROR_PATH_NOT_FOUND */
+    {15, ENOENT},        /* ERROR_INVALID_DRIVE */
+    {53, ENOENT},        /* ERROR_BAD_NETPATH */
+    {67, ENOENT},        /* ERROR_BAD_NET_NAME */
+    {123, ENOENT},       /* ERROR_INVALID_NAME: no file can have it */
+    {161, ENOENT},       /* ERROR_BAD_PATHNAME */
+    {4, EMFILE},         /* ERROR_TOO_MANY_OPEN_FILES */
+    {5, EACCES},         /* ERROR_ACCESS_DENIED */
+    {32, EACCES},        /* ERROR_SHARING_VIOLATION */
+    {33, EACCES},        /* ERROR_LOCK_VIOLATION */
+    {6, EBADF},          /* ERROR_INVALID_HANDLE */
+    {8, ENOMEM},         /* ERROR_NOT_ENOUGH_MEMORY */
+    {14, ENOMEM},        /* ERROR_OUTOFMEMORY */
+    {109, EPIPE},        /* ERROR_BROKEN_PIPE */
+    {232, EPIPE},        /* ERROR_NO_DATA */
+    {233, EPIPE},        /* ERROR_PIPE_NOT_CONNECTED */
+    {39, ENOSPC},        /* ERROR_HANDLE_DISK_FULL */
+    {112, ENOSPC},       /* ERROR_DISK_FULL */
+    {206, ENAMETOOLONG}, /* ERROR_FILENAME_EXCED_RANGE */
+    {267, ENOTDIR},      /* ERROR_DIRECTORY */
+    {995, EINTR},        /* ERROR_OPERATION_ABORTED: Ctrl+C at a console */
+    {1921, ELOOP},       /* ERROR_CANT_RESOLVE_FILENAME */
+};
+
+static int32_t last_error;
+
+int32_t rattle_errno(void) {
+    return last_error;
+}
+
+void rattle_set_errno(int32_t error) {
+    last_error = error;
+}
+
+static int32_t fails(int32_t error) {
+    last_error = error;
+    return -1;
+}
+
+/* Fails for the reason that the system gives for its last call. */
+static int32_t system_fails(void) {
+    const uint32_t error = GetLastError();
+    for (size_t row = 0; row < sizeof errors / sizeof *errors; row++) {
+        if (errors[row].of_windows == error) {
+            return fails(errors[row].number);
+        }
+    }
+    return fails(EIO);
+}
+
+/* ---- Texts. */
+
+/* Copies UTF-16 as UTF-8 and returns its length. What isn't UTF-16 becomes a byte that isn't UTF-8. The room is three bytes for
+   each unit, and at least one. */
+static size_t put_utf8(char *room, const unit *units, size_t length) {
+    if (length == 0) {
+        return 0;
+    }
+    const int bytes = WideCharToMultiByte(CODE_PAGE_UTF8, INVALID_IS_ERROR, units, (int)length, room, (int)(3 * length), NULL, NULL);
+    if (bytes > 0) {
+        return (size_t)bytes;
+    }
+    *room = '\xff';
+    return 1;
+}
+
+static size_t length_of(const unit *units) {
+    size_t length = 0;
+    while (units[length] != 0) {
+        length++;
+    }
+    return length;
+}
+
+/* A text of the command line or the environment as UTF-8. `bytes` is NULL if there is no memory for it. */
+struct text {
+    char *bytes;
+    size_t length;
+};
+
+static struct text text_of(const unit *units) {
+    const size_t length = length_of(units);
+    struct text text = {malloc(3 * length + 1), 0};
+    if (text.bytes != NULL) {
+        text.length = put_utf8(text.bytes, units, length);
+    }
+    return text;
+}
+
+/* A new block with UTF-8 as UTF-16, or NULL. */
+static unit *utf16_of(const char *bytes) {
+    const int length = MultiByteToWideChar(CODE_PAGE_UTF8, INVALID_IS_ERROR_TOO, bytes, -1, NULL, 0);
+    unit *const units = length > 0 ? malloc((size_t)length * sizeof *units) : NULL;
+    if (units != NULL) {
+        MultiByteToWideChar(CODE_PAGE_UTF8, INVALID_IS_ERROR_TOO, bytes, -1, units, length);
+    }
+    return units;
+}
+
+/* What rattle_arg and rattle_env answer. */
+static int64_t give(struct text text, char *buffer, uint64_t room) {
+    const bool is_short = text.length > room;
+    memcpy(buffer, text.bytes, is_short ? room : text.length);
+    return is_short ? -2 : (int64_t)text.length;
+}
+
+/* ---- Arguments and the environment. */
+
+static struct text *arguments;
+static int count_of_arguments;
+
+int64_t rattle_arg(uint64_t i, char *buffer, uint64_t room) {
+    return i < (uint64_t)count_of_arguments ? give(arguments[i], buffer, room) : -1;
+}
+
+static bool take_arguments(void) {
+    unit **words, **environment;
+    int options = 0;
+    if (__wgetmainargs(&count_of_arguments, &words, &environment, KEEP_WILDCARDS, &options) < 0) {
+        return false;
+    }
+    arguments = malloc(((size_t)count_of_arguments + 1) * sizeof *arguments);
+    bool is_taken = arguments != NULL;
+    for (int i = 0; is_taken && i < count_of_arguments; i++) {
+        arguments[i] = text_of(words[i]);
+        is_taken = arguments[i].bytes != NULL;
+    }
+    return is_taken;
+}
+
+int64_t rattle_env(const char *name, char *buffer, uint64_t room) {
+    unit *const wide_name = utf16_of(name);
+    const uint32_t size = wide_name != NULL ? GetEnvironmentVariableW(wide_name, NULL, 0) : 0;
+    unit *const value = size > 0 ? malloc(size * sizeof *value) : NULL;
+    int64_t answer = -1;
+    if (value != NULL && GetEnvironmentVariableW(wide_name, value, size) < size) {
+        const struct text text = text_of(value);
+        answer = text.bytes != NULL ? give(text, buffer, room) : -1;
+        free(text.bytes);
+    }
+    free(value);
+    free(wide_name);
+    return answer;
+}
+
+/* ---- Consoles. Their text is UTF-16: as bytes it would be in some code page, in which characters are lost. */
+
+static bool is_console(handle file) {
+    uint32_t mode;
+    return GetConsoleMode(file, &mode) != 0;
+}
+
+/* The longest line that is typed in one piece. */
+#define UNITS 1000
+
+/* What was typed and not yet read. */
+static struct {
+    char bytes[3 * UNITS];
+    size_t at, length;
+    bool is_within_line;
+} typed;
+
+/* Waits for a line, or a piece of one. No bytes are the end, which is Ctrl+Z at the beginning of a line. */
+static bool take_typed(handle console) {
+    unit units[UNITS];
+    uint32_t length = 0, one = 0;
+    SetLastError(0);
+    if (ReadConsoleW(console, units, UNITS - 1, &length, NULL) == 0 || (length == 0 && GetLastError() != 0)) {
+        return false;
+    }
+    const bool is_half = length > 0 && units[length - 1] >> 10 == HIGH_SURROGATE;
+    if (is_half && ReadConsoleW(console, units + length, 1, &one, NULL) != 0) {
+        length += one;
+    }
+    const bool is_end = length > 0 && units[0] == CONTROL_Z && !typed.is_within_line;
+    typed.at = 0;
+    typed.length = is_end ? 0 : put_utf8(typed.bytes, units, length);
+    typed.is_within_line = !is_end && length > 0 && units[length - 1] != '\n';
+    return true;
+}
+
+static int64_t read_console(handle console, char *buffer, uint64_t room) {
+    if (typed.at == typed.length && !take_typed(console)) {
+        return system_fails();
+    }
+    const size_t left = typed.length - typed.at, length = left < room ? left : room;
+    memcpy(buffer, typed.bytes + typed.at, length);
+    typed.at += length;
+    return (int64_t)length;
+}
+
+/* Writes whole characters, if there is one. */
+static int64_t write_console(handle console, const char *bytes, uint64_t length) {
+    unit units[UNITS];
+    size_t end = length < UNITS ? length : UNITS;
+    while (end < length && end > UNITS - 3 && (bytes[end] & 0xc0) == 0x80) {
+        end--;
+    }
+    uint32_t written;
+    const int count = MultiByteToWideChar(CODE_PAGE_UTF8, 0, bytes, (int)end, units, UNITS);
+    return WriteConsoleW(console, units, (uint32_t)count, &written, NULL) != 0 ? (int64_t)end : system_fails();
+}
+
+/* The standard output, if it is a console, and its mode before the program. */
+static struct {
+    handle console;
+    uint32_t mode;
+    bool shows_colours;
+} output;
+
+static void begin_colours(void) {
+    output.console = GetStdHandle(STANDARD_OUTPUT);
+    output.shows_colours = GetConsoleMode(output.console, &output.mode) != 0 &&
+                           SetConsoleMode(output.console, output.mode | COLOURS_BY_SEQUENCES) != 0;
+}
+
+static void end_colours(void) {
+    if (output.shows_colours) {
+        SetConsoleMode(output.console, output.mode);
+    }
+}
+
+/* The program asks which file the standard output is, to know whether it is a terminal. */
+int64_t readlink(const char *path, char *buffer, uint64_t room) {
+    static const char asked[] = "/proc/self/fd/1", terminal[] = "/dev/tty";
+    if (memcmp(path, asked, sizeof asked) != 0 || !output.shows_colours || room < sizeof terminal - 1) {
+        return fails(EINVAL);
+    }
+    memcpy(buffer, terminal, sizeof terminal - 1);
+    return sizeof terminal - 1;
+}
+
+/* ---- Files. */
+
+/* A descriptor is the number of a handle: these fit into 32 bits and are multiples of 4, so 0, 1 and 2 are none of them. */
+static handle handle_of(int32_t file) {
+    return file >= 0 && file <= 2 ? GetStdHandle(STANDARD_INPUT - (uint32_t)file) : (handle)(intptr_t)file;
+}
+
+/* A path that is longer than the system's calls accept has to be whole, and to begin with \\?\ or \\?\UNC\. */
+static unit *long_path(const unit *path, uint32_t size) {
+    static const unit local[] = u"\\\\?\\", shared[] = u"\\\\?\\UNC\\";
+    enum { FRONT = sizeof shared / sizeof *shared - 1 };
+    unit *const room = malloc((FRONT + size) * sizeof *room), *whole = room + FRONT;
+    if (room == NULL || GetFullPathNameW(path, size, whole, NULL) >= size) {
+        free(room);
+        return NULL;
+    }
+    const bool is_shared = whole[0] == '\\' && whole[1] == '\\';
+    const bool is_device = is_shared && (whole[2] == '.' || whole[2] == '?') && whole[3] == '\\';
+    const unit *const front = is_device ? u"" : is_shared ? shared : local;
+    const size_t length = length_of(front);
+    whole += is_shared && !is_device ? 2 : 0;
+    memmove(room + length, whole, (length_of(whole) + 1) * sizeof *room);
+    memcpy(room, front, length * sizeof *room);
+    return room;
+}
+
+/* A new block with the path as the system takes it, or NULL. */
+static unit *path_of(const char *path) {
+    unit *const units = utf16_of(path);
+    const uint32_t size = units != NULL ? GetFullPathNameW(units, 0, NULL, NULL) : 0;
+    if (size <= LONGEST_PATH) {
+        return units;
+    }
+    unit *const whole = long_path(units, size);
+    free(units);
+    return whole;
+}
+
+/* A folder may be opened, as on Linux. A pipe's server learns who this is, and can't act for them. */
+int32_t open(const char *path, int32_t flags, ...) {
+    (void)flags;
+    unit *const name = path_of(path);
+    if (name == NULL) {
+        return fails(ENOMEM);
+    }
+    const handle file = CreateFileW(name, READING, SHARED_WITH_ALL, NULL, EXISTING, EVEN_FOLDERS | IDENTIFY_ONLY, NULL);
+    const int32_t descriptor = (int32_t)(intptr_t)file;
+    const int32_t error = file == NO_FILE ? system_fails() : 0;
+    free(name);
+    if (error == 0 && (handle)(intptr_t)descriptor != file) {
+        CloseHandle(file);
+        return fails(EMFILE);
+    }
+    return error == 0 ? descriptor : -1;
+}
+
+int32_t close(int32_t file) {
+    return CloseHandle(handle_of(file)) != 0 ? 0 : system_fails();
+}
+
+static uint32_t at_most(uint64_t length) {
+    return length < MOST_BYTES ? (uint32_t)length : MOST_BYTES;
+}
+
+/* Somebody may write no bytes into a pipe, which isn't its end. */
+int64_t read(int32_t file, char *buffer, uint64_t room) {
+    const handle from = handle_of(file);
+    uint32_t length = 0;
+    if (is_console(from)) {
+        return read_console(from, buffer, room);
+    }
+    do {
+        if (ReadFile(from, buffer, at_most(room), &length, NULL) == 0) {
+            const uint32_t error = GetLastError();
+            return error == PIPE_IS_CLOSED ? 0 : error == MESSAGE_IS_LONGER ? (int64_t)length : system_fails();
+        }
+    } while (length == 0 && room > 0 && PeekNamedPipe(from, NULL, 0, NULL, NULL, NULL) != 0);
+    return length;
+}
+
+int64_t write(int32_t file, const char *bytes, uint64_t length) {
+    const handle to = handle_of(file);
+    uint32_t written = 0;
+    if (is_console(to)) {
+        return write_console(to, bytes, length);
+    }
+    if (WriteFile(to, bytes, at_most(length), &written, NULL) == 0) {
+        return system_fails();
+    }
+    return written > 0 || length == 0 ? (int64_t)written : fails(EAGAIN);
+}
+
+/* (Linux and Windows number the three ways to move alike.) */
+int64_t lseek(int32_t file, int64_t offset, int32_t whence) {
+    const handle moved = handle_of(file);
+    int64_t position;
+    if (GetFileType(moved) != DISK) {
+        return fails(ESPIPE);
+    }
+    return SetFilePointerEx(moved, offset, &position, (uint32_t)whence) != 0 ? position : system_fails();
+}
+
+/* There is no such signal: to write to a closed pipe fails. */
+void *__sysv_signal(int32_t signal, void *handler) {
+    (void)signal;
+    (void)handler;
+    return NULL;
+}
+
+/* ---- The program. */
+
+int32_t module_main(void);
+
+/* The system must not ask the user for a disk. */
+void start(void) {
+    static const char fault[] = "fault: memory\n";
+    SetErrorMode(NO_QUESTIONS);
+    if (!take_arguments()) {
+        write(2, fault, sizeof fault - 1);
+        ExitProcess(4);
+    }
+    begin_colours();
+    const int32_t status = module_main();
+    end_colours();
+    ExitProcess((uint32_t)status);
+}
