@@ -1,8 +1,13 @@
-"""The package for every other system: the program and the library in C, which any compiler of C with POSIX makes."""
+#!/usr/bin/env python3
+"""The package for every other system: the program and the library in C, which any compiler of C with POSIX makes.
+
+packaging/c_package.py DIST FOLDER makes a folder with its files from a folder as dist/, for tests.
+"""
 
 from __future__ import annotations
 
 import functools
+import pathlib
 import sys
 
 import archives
@@ -10,8 +15,10 @@ import facts
 
 FOLDER = facts.ROOT / "bindings/portable"
 C = facts.ROOT / "bindings/c"
+LIBRARY, PROGRAM = "portable/bcs.wasm", "web/bcs_program.wasm"
 TESTS = ["calls.c", "refusals.c", "handles.c", "places.c", "threads.c", "checks.h", "jobs.h"]
-OWN_TESTS = ["rows.c", "stack.c", "memory.c"]
+OWN_LIBRARY, PROGRAM = "portable/bcs.wasm", "web/bcs_program.wasm"
+TESTS = ["rows.c", "stack.c", "memory.c"]
 
 sys.path.insert(0, str(FOLDER))
 import flat_rows  # noqa: E402 (the folder has to be known first)
@@ -21,12 +28,12 @@ import translation  # noqa: E402
 @functools.cache
 def library() -> archives.File:
     """bcs_library.c, which packages for Rust, Python and Go have too."""
-    return archives.text(translation.library(facts.SCALAR_LIBRARY, facts.licence()))
+    return archives.text(translation.library(facts.DIST / LIBRARY, facts.licence()))
 
 
 @functools.cache
 def program() -> archives.File:
-    return archives.text(translation.program(facts.SCALAR_PROGRAM, facts.licence()))
+    return archives.text(translation.program(facts.DIST / PROGRAM, facts.licence()))
 
 
 def tests() -> archives.Files:
@@ -53,3 +60,14 @@ def contents(bill: archives.File) -> archives.Files:
 def make(bill: archives.File) -> dict[str, bytes]:
     name = f"{facts.NAME}-{facts.version()}-c"
     return {f"{name}.tar.xz": archives.xz(archives.tar(contents(bill), f"{name}/"))}
+
+
+def main() -> None:
+    facts.DIST, folder = map(pathlib.Path, sys.argv[1:])
+    for name, file in contents(archives.text("{}\n")).items():
+        (folder / name).parent.mkdir(parents=True, exist_ok=True)
+        (folder / name).write_bytes(file.data)
+
+
+if __name__ == "__main__":
+    main()

@@ -38,7 +38,7 @@ library = Extension(
     ["c/bcs_library.c"],
     include_dirs=["c"],
     depends=["c/bcs.h"],
-    extra_compile_args=["-std=gnu11", "-O2", "-g0", "-w"],
+    extra_compile_args=["-std=gnu11", "-g0", "-w", *os.environ.get("CFLAGS", "-O2").split()],
 )
 setup(
     name="{name}",

@@ -123,11 +123,11 @@ def layer() -> str:
     text = edited(own(C / "library.c"), r'^#include "proved.h"\n', "")
     gettid = "#include <sys/syscall.h>\n#define CALL_GETTID SYS_gettid\n"
     text = edited(text, r"^#ifdef __x86_64__\n#define CALL_GETTID 186\n#else\n#define CALL_GETTID 178\n#endif\n", gettid)
-    text = edited(text, r"^#define IF_THERE (__attribute__\(\(weak\)\))$", r"#define IF_THERE\n#define WEAK \1")
-    text = edited(text, r"^IF_THERE (const char \*gnu_get_libc_version)", r"WEAK \1")
-    text = edited(text, r"^(struct tried rattle_alloc|void rattle_dealloc)\(", r"static \1(", 2)
-    quiet = '#pragma GCC diagnostic push\n#pragma GCC diagnostic ignored "-Waddress"\n'
-    return f"{quiet}{text}#pragma GCC diagnostic pop\n"
+    text = edited(text, r"^IF_THERE (const char \*gnu_get_libc_version)", r"__attribute__((weak)) \1")
+    names = "|".join(re.findall(r"^IF_THERE .*?(\w+)\(", text, flags=re.M))
+    text = edited(text, rf"\b(?:{names}) (?:== NULL \|\||!= NULL &&)\s+", "", 0)
+    text = edited(text, r"^#define IF_THERE __attribute__\(\(weak\)\)$", "#define IF_THERE")
+    return edited(text, r"^(struct tried rattle_alloc|void rattle_dealloc)\(", r"static \1(", 2)
 
 
 def library(module: pathlib.Path, licence: str) -> str:

@@ -63,7 +63,8 @@ fn of_cargo(name: &str) -> String {
     env::var(name).unwrap_or_default()
 }
 
-/// Compiles the C into libbcs.a, in cargo's folder for what is built. It takes a minute or so.
+/// Compiles the C into libbcs.a, in cargo's folder for what is built, with the flags of the variable `CFLAGS` last. It takes a
+/// minute or so.
 fn compile(source: &Path) -> Result<PathBuf, String> {
     println!("cargo::rerun-if-changed={}", source.display());
     let folder = PathBuf::from(of_cargo("OUT_DIR"));
@@ -74,6 +75,8 @@ fn compile(source: &Path) -> Result<PathBuf, String> {
         let machine = of_cargo("CARGO_CFG_TARGET_ARCH");
         compiler.args(["-arch", if machine == "aarch64" { "arm64" } else { &machine }]);
     }
+    println!("cargo::rerun-if-env-changed=CFLAGS");
+    compiler.args(of_cargo("CFLAGS").split_whitespace());
     run(compiler.arg(source).arg("-o").arg(&object))?;
     // (`ar` would add to an older archive)
     let _ = std::fs::remove_file(&library);
