@@ -248,6 +248,7 @@ GLUE = {
     "Rust": ["bindings/rust/src/**/*.rs"],
     "Python": ["bindings/python/bcs_proved/*.py"],
     "JavaScript and WebAssembly": ["bindings/web/*.mjs", "bindings/web/*.c"],
+    "the program and the library in C": ["bindings/portable/*.c", "bindings/portable/*.h", "bindings/portable/translation.py"],
     "the page": ["bindings/web/page/*.mjs"],
     "Windows": ["bindings/windows/*.c", "bindings/windows/*.h", "bindings/windows/*.ll"],
     "PostgreSQL": ["bindings/postgresql/*.c", "bindings/postgresql/*.sql", "bindings/sql/*.h"],

@@ -13,6 +13,9 @@ from typing import Any
 import archives
 import facts
 
+sys.path.insert(0, str(facts.ROOT / "bindings/portable"))
+import translation  # noqa: E402 (the folder has to be known first)
+
 # The licences that the packages contain, as the SPDX list names them.
 LICENCES = {"Apache-2.0", "BSL-1.0", "MIT"}
 
@@ -61,6 +64,11 @@ def ported(library: facts.Library) -> dict[str, Any]:
     """A library of the toolchain, as far as the toolchain tells of it."""
     known = [word if word != "-" else "NOASSERTION" for word in library]
     return package("library", *known, "NOASSERTION")
+
+
+def translator() -> dict[str, Any]:
+    """wasm2c, which writes code of its own around what it translates into C."""
+    return package("tool", "wabt", translation.WASM2C, "Apache-2.0", "2016-2023 WebAssembly Community Group participants")
 
 
 def relation(one: str, kind: str, other: str) -> dict[str, str]:
@@ -116,7 +124,7 @@ def document() -> dict[str, Any]:
     crates, libraries = crates_of(["bcs", "bcs_c"], facts.own_crates()), facts.libraries()
     whole = package("package", "bcs", facts.version(), facts.licence(), facts.COPYRIGHT)
     own = [package("crate", name, facts.version(), facts.licence(), facts.COPYRIGHT) for name in sorted(crates)]
-    taken = [ported(library) for library in libraries]
+    taken = [*map(ported, libraries), translator()]
     files = built_files()
     relations = [relation("SPDXRef-DOCUMENT", "DESCRIBES", whole["SPDXID"]), *origins(files)]
     relations += [relation(whole["SPDXID"], "CONTAINS", library["SPDXID"]) for library in taken]

@@ -1,4 +1,5 @@
-"""The module for Go with the static libraries in it. The archive is a folder in the form that GOPROXY=file:// reads."""
+"""The module for Go with the static libraries in it, and the library in C for other systems. The archive is a folder in the form
+that GOPROXY=file:// reads."""
 
 from __future__ import annotations
 
@@ -7,6 +8,7 @@ import pathlib
 import time
 
 import archives
+import c_package
 import facts
 
 FOLDER = facts.ROOT / "bindings/go"
@@ -18,13 +20,21 @@ def path() -> str:
     return (FOLDER / "go.mod").read_text(encoding="utf-8").split()[1]
 
 
-def contents(bill: archives.File, libraries: dict[str, pathlib.Path]) -> archives.Files:
+def in_c() -> archives.File:
+    """The library in C, which Go compiles on the same condition on which link_c.go is a part of the module."""
+    condition = (FOLDER / "link_c.go").read_text(encoding="utf-8").splitlines()[0]
+    return archives.File(f"{condition}\n\n".encode() + c_package.library().data)
+
+
+def contents(bill: archives.File, libraries: dict[str, pathlib.Path], source: archives.File | None) -> archives.Files:
     """The files of the module. Its tests and its driver read files of the repository, so they aren't included."""
     sources = [source for source in FOLDER.glob("*.go") if not source.name.endswith("_test.go")]
     files = {source.name: archives.taken(source) for source in [*sources, FOLDER / "go.mod"]}
     files["bcs.h"] = archives.taken(facts.ROOT / "bindings/c/include/bcs.h")
     for machine, library in libraries.items():
         files[f"libbcs_linux_{machine}.a"] = archives.taken(library)
+    if source:
+        files["bcs_library.c"] = source
     files["README.md"] = archives.text(facts.readme("bindings/go"))
     files[f"{facts.NAME}.spdx.json"] = bill
     for name in facts.licence_files().values():
@@ -32,10 +42,10 @@ def contents(bill: archives.File, libraries: dict[str, pathlib.Path]) -> archive
     return files
 
 
-def proxy(bill: archives.File, libraries: dict[str, pathlib.Path]) -> archives.Files:
+def proxy(files: archives.Files) -> archives.Files:
     """What GOPROXY=file:// reads: the only version, its time, its go.mod, and its files."""
     version = f"v{facts.version()}"
-    module = {f"{path()}@{version}/{name}": file for name, file in contents(bill, libraries).items()}
+    module = {f"{path()}@{version}/{name}": file for name, file in files.items()}
     about = {"Version": version, "Time": time.strftime("%Y-%m-%dT%H:%M:%SZ", time.gmtime(facts.EPOCH))}
     versions = f"{path()}/@v"
     return {
@@ -46,6 +56,10 @@ def proxy(bill: archives.File, libraries: dict[str, pathlib.Path]) -> archives.F
     }
 
 
-def make(bill: archives.File, libraries: dict[str, pathlib.Path] = LIBRARIES) -> dict[str, bytes]:
+def packed(files: archives.Files) -> dict[str, bytes]:
     name = f"{facts.NAME}-go-{facts.version()}"
-    return {f"{name}.tar.gz": archives.gzipped(archives.tar(proxy(bill, libraries), f"{name}/"))}
+    return {f"{name}.tar.gz": archives.gzipped(archives.tar(proxy(files), f"{name}/"))}
+
+
+def make(bill: archives.File) -> dict[str, bytes]:
+    return packed(contents(bill, LIBRARIES, in_c()))

@@ -1,8 +1,10 @@
-"""The crate for Rust with the static libraries in it, so that cargo finds them without being told where they are."""
+"""The crate for Rust with the static libraries in it, so that cargo finds them without being told where they are; and with the
+library in C, which cargo compiles for other targets."""
 
 from __future__ import annotations
 
 import archives
+import c_package
 import facts
 
 FOLDER = facts.ROOT / "bindings/rust"
@@ -15,6 +17,7 @@ def contents(bill: archives.File) -> archives.Files:
         files[name] = archives.taken(FOLDER / name)
     for folder in [facts.NATIVE, facts.ARM]:
         files[f"lib/{folder.name}/libbcs.a"] = archives.taken(folder / "libbcs.a")
+    files |= {"c/bcs_library.c": c_package.library(), "c/bcs.h": archives.taken(facts.ROOT / "bindings/c/include/bcs.h")}
     files["README.md"] = archives.text(facts.readme("bindings/rust"))
     files[f"{facts.NAME}.spdx.json"] = bill
     for name in facts.licence_files().values():

@@ -1,4 +1,4 @@
-//go:build !bcs_pkgconfig
+//go:build !bcs_pkgconfig && !bcs_c
 
 package bcsproved
 
