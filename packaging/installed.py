@@ -32,7 +32,8 @@ def for_machine(found: archives.Files, machine: facts.Machine) -> archives.Files
             replaced[path] = archives.taken(machine.folder / names[file.data])
         elif path.endswith("/bcs.pc"):
             prefix = f"/{path.removesuffix('/lib/pkgconfig/bcs.pc')}"
-            told = subprocess.run([facts.ROOT / "packaging/pkg-config", prefix, machine.processor], stdout=subprocess.PIPE, text=True, check=True)
+            command = [str(facts.ROOT / "packaging/pkg-config"), prefix, machine.processor]
+            told = subprocess.run(command, stdout=subprocess.PIPE, text=True, check=True)
             replaced[path] = archives.text(told.stdout)
         else:
             replaced[path] = file

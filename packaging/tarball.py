@@ -20,7 +20,7 @@ README = """\
 | `include/`, `lib/` | the library of C, for Linux on x86-64; `PKG_CONFIG_PATH=lib/pkgconfig pkg-config --libs bcs` |
 | `aarch64-linux/` | the program and the libraries for Linux on arm64, of which `include/` has the header |
 | `x86_64-windows/` | the program and the dynamic library for Windows |
-| `python/` | the module of Python with its library for x86-64: `PYTHONPATH=python python3`; on arm64 with `BCS_LIBRARY=aarch64-linux/libbcs.so` |
+| `python/` | the module of Python with its library: `PYTHONPATH=python python3`; on arm64 set `BCS_LIBRARY=aarch64-linux/libbcs.so` too |
 | `rust/` | the crate `bcs-proved`: `cargo add --path rust/bcs-proved-{version}` |
 | `web/` | the module for Node and browsers, and the program for Node: `node web/bcs.mjs --help` |
 | `page/` | the page, one file that works from the disk |
