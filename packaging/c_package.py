@@ -15,9 +15,9 @@ import facts
 
 FOLDER = facts.ROOT / "bindings/portable"
 C = facts.ROOT / "bindings/c"
-LIBRARY, PROGRAM = "portable/bcs.wasm", "web/bcs_program.wasm"
+LIBRARY, PROGRAM = "web/bcs_scalar.wasm", "web/bcs_program.wasm"
 TESTS = ["calls.c", "refusals.c", "handles.c", "places.c", "threads.c", "checks.h", "jobs.h"]
-OWN_LIBRARY, PROGRAM = "portable/bcs.wasm", "web/bcs_program.wasm"
+OWN_LIBRARY, PROGRAM = "web/bcs_scalar.wasm", "web/bcs_program.wasm"
 TESTS = ["rows.c", "stack.c", "memory.c"]
 
 sys.path.insert(0, str(FOLDER))
