@@ -279,7 +279,12 @@ static void compare(struct trial *trial, const struct trial *wanted, bool has_en
     }
 }
 
+/* (On arm64 no thread has less than 128 KiB.) */
+#ifdef __aarch64__
+static const size_t sizes[] = {128 * KIB, 256 * KIB, 512 * KIB, MIB, 2 * MIB, ENOUGH};
+#else
 static const size_t sizes[] = {64 * KIB, 128 * KIB, 256 * KIB, 512 * KIB, MIB, 2 * MIB, ENOUGH};
+#endif
 
 static void try_sizes(struct trial trials[COUNT(sizes)], struct chain chain) {
     struct trial wanted = {.size = ENOUGH, .chain = &chain};
