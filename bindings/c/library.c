@@ -136,15 +136,20 @@ static size_t stack_left(void) {
 
 /* ---- The stack that a call needs. */
 
-/* In bytes, and at least 15 % more than was measured: see README.md. */
+/* In bytes, and at least 15 % more than was measured: see README.md. Windows saves more registers than other systems. */
+#ifdef _WIN32
+#define ON(windows, others) windows
+#else
+#define ON(windows, others) others
+#endif
 enum need {
-    FIXED = 28 << 10,        /* any call */
-    READ_NESTING = 912,      /* reading JSON: for each array or object in another */
-    BYTES_CONTAINER = 768,   /* walking through bytes: for each open container */
-    BYTES_LEVEL = 464,       /* and for each level of its format */
-    TEXT_CONTAINER = 1168,   /* walking through or printing the JSON of a value: for each open container */
-    NESTING_CONTAINER = 848, /* and for each one that nests in the JSON */
-    TEXT_LEVEL = 1536,       /* and for each level, as long as that nests */
+    FIXED = 28 << 10,                   /* any call */
+    READ_NESTING = ON(1120, 912),       /* reading JSON: for each array or object in another */
+    BYTES_CONTAINER = ON(880, 768),     /* walking through bytes: for each open container */
+    BYTES_LEVEL = ON(640, 464),         /* and for each level of its format */
+    TEXT_CONTAINER = ON(1360, 1168),    /* walking through or printing the JSON of a value: for each open container */
+    NESTING_CONTAINER = ON(1024, 848),  /* and for each one that nests in the JSON */
+    TEXT_LEVEL = ON(1936, 1536),        /* and for each level, as long as that nests */
 };
 
 #define MOST_LEVELS 32

@@ -94,8 +94,7 @@ struct text {
     size_t length;
 };
 
-static struct text text_of(const unit *units) {
-    const size_t length = length_of(units);
+static struct text text_of(const unit *units, size_t length) {
     struct text text = {malloc(3 * length + 1), 0};
     if (text.bytes != NULL) {
         text.length = put_utf8(text.bytes, units, length);
@@ -129,6 +128,17 @@ int64_t rattle_arg(uint64_t i, char *buffer, uint64_t room) {
     return i < (uint64_t)count_of_arguments ? give(arguments[i], buffer, room) : -1;
 }
 
+/* The program's name, of its path: neither folders nor .exe. */
+static struct text name_of(const unit *path) {
+    const unit *name = path;
+    for (; *path != 0; path++) {
+        name = *path == '\\' || *path == '/' ? path + 1 : name;
+    }
+    const size_t length = (size_t)(path - name);
+    const bool has_ending = length > 4 && path[-4] == '.' && (path[-3] | 32) == 'e' && (path[-2] | 32) == 'x' && (path[-1] | 32) == 'e';
+    return text_of(name, has_ending ? length - 4 : length);
+}
+
 static bool take_arguments(void) {
     unit **words, **environment;
     int options = 0;
@@ -138,7 +148,7 @@ static bool take_arguments(void) {
     arguments = malloc(((size_t)count_of_arguments + 1) * sizeof *arguments);
     bool is_taken = arguments != NULL;
     for (int i = 0; is_taken && i < count_of_arguments; i++) {
-        arguments[i] = text_of(words[i]);
+        arguments[i] = i == 0 ? name_of(words[0]) : text_of(words[i], length_of(words[i]));
         is_taken = arguments[i].bytes != NULL;
     }
     return is_taken;
@@ -150,7 +160,7 @@ int64_t rattle_env(const char *name, char *buffer, uint64_t room) {
     unit *const value = size > 0 ? malloc(size * sizeof *value) : NULL;
     int64_t answer = -1;
     if (value != NULL && GetEnvironmentVariableW(wide_name, value, size) < size) {
-        const struct text text = text_of(value);
+        const struct text text = text_of(value, length_of(value));
         answer = text.bytes != NULL ? give(text, buffer, room) : -1;
         free(text.bytes);
     }

@@ -9,7 +9,9 @@
 
 #define KIB ((size_t)1 << 10)
 #define MIB ((size_t)1 << 20)
+#ifndef ENOUGH
 #define ENOUGH (8 * MIB)
+#endif
 
 /* What no call uses, at the end of a stack. */
 #define RESERVE (32 * KIB)
