@@ -17,8 +17,7 @@ FOLDER = facts.ROOT / "bindings/portable"
 C = facts.ROOT / "bindings/c"
 LIBRARY, PROGRAM = "web/bcs_scalar.wasm", "web/bcs_program.wasm"
 TESTS = ["calls.c", "refusals.c", "handles.c", "places.c", "threads.c", "checks.h", "jobs.h"]
-OWN_LIBRARY, PROGRAM = "web/bcs_scalar.wasm", "web/bcs_program.wasm"
-TESTS = ["rows.c", "stack.c", "memory.c"]
+OWN_TESTS = ["rows.c", "stack.c"]
 
 sys.path.insert(0, str(FOLDER))
 import flat_rows  # noqa: E402 (the folder has to be known first)
