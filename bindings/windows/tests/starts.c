@@ -180,11 +180,33 @@ static void shown_lines(HANDLE screen) {
     CHECK(wmemcmp(line, L"\"\xe9\xfc\"", 4) == 0);
 }
 
+/* Whether `explain` puts its line on the screen as it is. Wine shows the sequences for colours, and Windows obeys them. */
+static bool is_plain(HANDLE screen, const wchar_t *no_color) {
+    const struct pipe in = make_pipe();
+    const COORD origin = {0, 0};
+    wchar_t line[12];
+    WORD colour;
+    DWORD length, written, before, after;
+    CHECK(SetEnvironmentVariableW(L"NO_COLOR", no_color));
+    CHECK(FillConsoleOutputCharacterW(screen, L' ', 80, origin, &written) && SetConsoleCursorPosition(screen, origin));
+    CHECK(GetConsoleMode(screen, &before) && WriteFile(in.in, "cced", 4, &written, NULL));
+    CloseHandle(in.in);
+    CHECK(status_of(start_with(L"explain {} \\\"I16\\\"", in.out, screen, screen)) == 0);
+    CloseHandle(in.out);
+    CHECK(GetConsoleMode(screen, &after) && after == before);
+    CHECK(ReadConsoleOutputCharacterW(screen, line, 12, origin, &length) && length == 12);
+    CHECK(ReadConsoleOutputAttribute(screen, &colour, 1, origin, &length) && length == 1);
+    return wmemcmp(line, L"     0  cced", 12) == 0 && colour == (FOREGROUND_RED | FOREGROUND_GREEN | FOREGROUND_BLUE);
+}
+
 /* What happens in a process that has a console. */
 static void within_console(void) {
     const HANDLE in = console_file(L"CONIN$"), screen = console_file(L"CONOUT$");
     typed_lines(in);
     shown_lines(screen);
+    CHECK(is_plain(screen, L"1"));
+    CHECK(!is_plain(screen, L""));
+    CHECK(!is_plain(screen, NULL));
 }
 
 /* Starts this program anew, with a console that has no window. */
@@ -212,6 +234,6 @@ int wmain(int count, wchar_t **words) {
     streams_are_missing();
     devices();
     consoles(own);
-    puts("starts: arguments, bytes, pipes, missing streams, devices and a console");
+    puts("arguments, bytes, pipes, missing streams, devices and a console");
     return 0;
 }

@@ -9,7 +9,7 @@
 /* What no call may use: what library.c leaves, without the pages at the end that Windows needs. */
 #define LEFT_ALONE (48 << 10)
 #define OF_WINDOWS (16 << 10)
-#define FILLED 0xa5
+#define FILLED 0xa5a5a5a5a5a5a5a5
 
 typedef HANDLE pthread_t;
 typedef struct {
@@ -41,15 +41,12 @@ static inline int pthread_attr_setstack(pthread_attr_t *attributes, void *stack,
     return pthread_attr_setstacksize(attributes, size);
 }
 
-/* How much of a stack was used at most, by any thread with one of 64 MiB. */
-static size_t most_used;
-
 __attribute__((noinline)) static DWORD WINAPI start_thread(void *data) {
     const struct started started = *(struct started *)data;
     uintptr_t bottom, top;
     GetCurrentThreadStackLimits(&bottom, &top);
-    volatile uint8_t *const last = (volatile uint8_t *)(bottom + OF_WINDOWS);
-    volatile uint8_t *at = (volatile uint8_t *)__builtin_frame_address(0) - 512;
+    volatile uint64_t *const last = (volatile uint64_t *)(bottom + OF_WINDOWS);
+    volatile uint64_t *at = (volatile uint64_t *)(((uintptr_t)__builtin_frame_address(0) - 512) & ~(uintptr_t)7);
     const uintptr_t filled = (uintptr_t)at;
     while (at > last) {
         *--at = FILLED;
@@ -64,8 +61,6 @@ __attribute__((noinline)) static DWORD WINAPI start_thread(void *data) {
                 (unsigned long long)((uintptr_t)at - bottom));
         exit(1);
     }
-    const size_t used = filled - (uintptr_t)at;
-    most_used = used > most_used ? used : most_used;
     return 0;
 }
 
