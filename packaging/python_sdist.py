@@ -27,7 +27,7 @@ class Build(build_ext):
     """Builds a library for ctypes, which isn't a module of Python's."""
 
     def get_ext_filename(self, name):
-        return os.path.join("{name}", "libbcs.so")
+        return os.path.join(*name.split(".")) + ".so"
 
     def get_export_symbols(self, extension):
         return extension.export_symbols
