@@ -92,7 +92,8 @@ fn tool(variable: &str, cross_name: &str, name: &str) -> Command {
     println!("cargo::rerun-if-env-changed={own}");
     println!("cargo::rerun-if-env-changed={variable}");
     let is_cross = target != of_cargo("HOST") && of_cargo("CARGO_CFG_TARGET_VENDOR") != "apple";
-    let default = if is_cross { format!("{}-{cross_name}", target.replace("-unknown-", "-")) } else { name.to_owned() };
+    let machine = target.replace("-unknown-", "-").replace("riscv64gc-", "riscv64-");
+    let default = if is_cross { format!("{machine}-{cross_name}") } else { name.to_owned() };
     let words = env::var(own).or_else(|_| env::var(variable)).unwrap_or(default);
     let mut words = words.split_whitespace();
     let mut command = Command::new(words.next().unwrap_or(name));

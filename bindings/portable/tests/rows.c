@@ -104,6 +104,7 @@ static void to(int descriptor, const char *name, int flags) {
 
 /* Starts the program, and answers its status, or -1 if a signal ended it. */
 static int started(char **command, const char *input) {
+    fflush(stdout);
     const pid_t child = fork();
     if (child == 0) {
         to(0, input, O_RDONLY);
