@@ -360,12 +360,17 @@ static bcs_answer scan_if_lowered(struct use *use, const uint8_t *bytes, size_t 
     return use->is_lowered ? bcs_c_handle_scan(use->proved, &use->ask, bytes, bytes_length) : plain(BCS_DONE);
 }
 
-/* The next three write about a refusal. If the depth was lowered, they first make sure that it isn't TooDeep; if it is, that is
-   their answer. */
+/* Whether nothing more can be told at the lowered depth. */
+static bool is_final(bcs_answer answer) {
+    return is_too_deep(answer) || answer.status == BCS_MEMORY;
+}
+
+/* The next three write about a refusal. If the depth was lowered, they first make sure that it isn't TooDeep; if it is, or if
+   memory or stack ran out on the way, that is their answer. */
 static bcs_answer explain(struct use *use, uint32_t form, const uint8_t *bytes, size_t bytes_length, uint8_t *out,
                           size_t out_length) {
     const bcs_answer scanned = scan_if_lowered(use, bytes, bytes_length);
-    return is_too_deep(scanned)
+    return is_final(scanned)
                ? scanned
                : bcs_c_handle_explain(use->proved, &use->ask, form, bytes, bytes_length, out, out_length);
 }
@@ -373,7 +378,7 @@ static bcs_answer explain(struct use *use, uint32_t form, const uint8_t *bytes, 
 static bcs_answer stop_place(struct use *use, uint32_t what, const uint8_t *bytes, size_t bytes_length, uint8_t *out,
                              size_t out_length) {
     const bcs_answer scanned = scan_if_lowered(use, bytes, bytes_length);
-    return is_too_deep(scanned)
+    return is_final(scanned)
                ? scanned
                : bcs_c_handle_stop_place(use->proved, &use->ask, what, bytes, bytes_length, out, out_length);
 }
@@ -382,8 +387,8 @@ static bcs_answer text_place(struct use *use, uint32_t what, const uint8_t *text
                              size_t out_length) {
     const bcs_answer coded = use->is_lowered ? bcs_c_handle_to_bcs(use->proved, &use->ask, text, text_length, NULL, 0)
                                              : plain(BCS_DONE);
-    return is_too_deep(coded) ? coded
-                              : bcs_c_handle_text_place(use->proved, &use->ask, what, text, text_length, out, out_length);
+    return is_final(coded) ? coded
+                           : bcs_c_handle_text_place(use->proved, &use->ask, what, text, text_length, out, out_length);
 }
 
 /* Defines a call twice: with the text of a registry, and with a handle. */
