@@ -17,6 +17,8 @@ export function sorted(names) {
 /** Hands out identifiers, each once. */
 export class Identifiers {
   #taken = new Set(WORDS.split(' '));
+  // the last number that was tried behind each text
+  #numbers = new Map();
 
   /** One for each name, which is the name itself where that is a good one. */
   ofAll(names) {
@@ -27,8 +29,10 @@ export class Identifiers {
   /** One like this text, with a number behind it where others have it. */
   of(text) {
     const wanted = PLAIN.test(text) ? text : cleaned(text);
+    let number = this.#numbers.get(wanted) ?? 1;
     let found = wanted;
-    for (let number = 2; this.#taken.has(found); number++) found = `${wanted}_${number}`;
+    while (this.#taken.has(found)) found = `${wanted}_${++number}`;
+    this.#numbers.set(wanted, number);
     this.#taken.add(found);
     return found;
   }

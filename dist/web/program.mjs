@@ -9,7 +9,7 @@ const FAULT = 4;
 
 /** Runs the program if Node was started with the file of this address. A link to it, as npm makes one, is followed. */
 export function startedBy(address) {
-  if (realpathSync(process.argv[1]) !== realpathSync(fileURLToPath(address))) return;
+  if (!isFile(process.argv[1], fileURLToPath(address))) return;
   // (The thread's own streams aren't used. Node would join them to its own, and set those not to block.)
   const thread = new Worker(new URL('host.mjs', address), {
     workerData: process.argv.slice(2),
@@ -19,6 +19,15 @@ export function startedBy(address) {
   });
   thread.on('error', (error) => (process.exitCode = failed(error)));
   thread.on('exit', (status) => (process.exitCode ??= status));
+}
+
+/** Whether both names are of one file. (Node also has a name without its ending, of which there is no file.) */
+function isFile(name, other) {
+  try {
+    return realpathSync(name) === realpathSync(other);
+  } catch {
+    return false;
+  }
 }
 
 /** Reports what broke the program off, which is memory or a stack that ran out, and gives the status. */

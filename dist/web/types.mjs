@@ -15,16 +15,13 @@ process.exitCode = await run(process.argv.slice(2));
 
 /** Gives the status: 0, 2 of a registry that is refused, 3 of wrong words, 4 of a file. What is wrong goes to standard error. */
 async function run(words) {
-  if (words.length === 1 && ['--help', '-h'].includes(words[0])) {
-    await system.put(Buffer.from(USAGE));
-    return 0;
-  }
-  if (words.length !== 1 || words[0].startsWith('-')) {
+  const isHelp = words.length === 1 && ['--help', '-h'].includes(words[0]);
+  if (!isHelp && (words.length !== 1 || words[0].startsWith('-'))) {
     system.tell(USAGE);
     return 3;
   }
   try {
-    await system.put(Buffer.from(declarationsOf(await containersIn(words[0]))));
+    await system.put(Buffer.from(isHelp ? USAGE : declarationsOf(await containersIn(words[0]))));
     return 0;
   } catch (error) {
     return statusOf(error);

@@ -111,7 +111,10 @@ class Writer {
     const depth = this.#path.push(0) - 1;
     for (let i = 0; i < length - surplus; i++) {
       this.#path[depth] = i;
-      texts.push(this.value(shapeOf(i), value[i]));
+      const item = value[i];
+      // (no format takes `undefined`, and the proved call rejects those whose values aren't looked at, such as F64)
+      if (item === undefined && i >= MOST_COUNTED) this.#reject(shape, value, 'one with far too many items');
+      texts.push(this.value(shapeOf(i), item));
     }
     this.#path.pop();
     return `[${texts.concat(new Array(surplus).fill('null')).join()}]`;
