@@ -20,8 +20,7 @@ def named_files(part: Any) -> Iterator[str]:
 
 
 def contents(bill: archives.File) -> archives.Files:
-    """What stands in the package. The page isn't of it: it is for people, and has the module in it once more. Nor is the module
-    that is translated into C."""
+    """The files of the package. Left out are the page, which contains the module once more, and the module for the C package."""
     left_out = {"bcs.html", "bcs_scalar.wasm"}
     files = {name: file for name, file in archives.tree(facts.WEB).items() if name not in left_out}
     described = archives.taken(facts.ROOT / "bindings/web/package.json")

@@ -92,7 +92,7 @@ struct input {
     size_t length;
 };
 
-/* A call. `number` is a form, a fault, or what is told of a place. */
+/* A call. `number` is a form, a fault, or what is asked about a place. */
 struct call {
     enum proved proved;
     const bcs_c_handle_ask *ask; /* NULL: the call has no format */

@@ -75,7 +75,7 @@ static const char *text_at(u64 place) {
     return text;
 }
 
-/* Copies a text without its 0, as far as there is room. Answers its length, or -1 if there is none, or -2 if it is longer. */
+/* Copies a text without its 0, as far as there is room. Returns its length, -1 if there is no text, or -2 if it is longer. */
 static u64 handed(const char *text, u64 place, u64 room) {
     if (text == NULL) {
         return (u64)-1;

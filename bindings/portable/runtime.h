@@ -23,7 +23,7 @@
 
 /* ---- Traps. */
 
-/* Why code traps. For whoever called it these are all the same. */
+/* Why code traps. The caller treats all of these alike. */
 enum trap {
     WASM_RT_TRAP_OOB = 1,
     WASM_RT_TRAP_INT_OVERFLOW,
