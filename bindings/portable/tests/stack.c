@@ -1,6 +1,6 @@
 /* A value with 500 containers in one another, each with 32 levels of formats, on threads with stacks of several sizes, on one
    handle. A call answers with the value's length, or BCS_MEMORY, and never overruns the stack. Where the library knows how
-   much stack a thread has, and the compiler optimizes, 8 MiB are enough. */
+   much stack a thread has, 8 MiB are enough if the compiler optimizes for a machine of 64 bits, and 64 MiB otherwise. */
 #include "checks.h"
 #include <pthread.h>
 
@@ -62,7 +62,7 @@ int main(void) {
         CHECK(is_done || (answer.status == BCS_MEMORY && answer.fault == BCS_FAULT_NONE && answer.length == 0));
         printf("stack: %lu KiB: %s\n", (unsigned long)sizes[number], is_done ? "done" : "BCS_MEMORY");
 #if defined(__linux__) || defined(__APPLE__) || defined(__FreeBSD__)
-#if defined(__OPTIMIZE__)
+#if defined(__OPTIMIZE__) && UINTPTR_MAX > UINT32_MAX
         CHECK(is_done || sizes[number] < 8192);
 #else
         CHECK(is_done || sizes[number] < 65536);
