@@ -18,9 +18,7 @@ use crate::registries::read_registry;
 use crate::status::Status;
 use bcs_json::{JsonFault, fault_place, read_value};
 use bcs_look_pieces::stop_place;
-use bcs_look_places::{
-    place_of_no_json, place_of_registry_shape, place_of_rule, place_of_text, whole_line,
-};
+use bcs_look_places::{registry_line, text_line};
 use bcs_registry::{Registry, RegistryFault};
 use std::alloc::{AllocError, Global};
 
@@ -108,10 +106,8 @@ fn has_no_way(fault: JsonFault) -> bool
 
 // What was wanted of a text that is refused. Of one that is no JSON, the line and the column stand before it.
 fn words_of_text(alloc: Global, asked: &Asked, text: &[u8], fault: JsonFault) -> Option<Vec<u8>> {
-    let line = match whole_line(alloc, &asked.limits, text, fault) {
-        Some(line) => line,
-        None => place_of_text(alloc, asked.registry, &asked.format, &asked.limits, text)?,
-    };
+    let (registry, format) = (asked.registry, &asked.format);
+    let line = text_line(alloc, registry, format, &asked.limits, text, fault)?;
     let words = half_of(alloc, 1, &line, fault.name())?;
     if fault != JsonFault::NotJson {
         return Vec::from_slice(alloc, words).ok();
@@ -194,14 +190,6 @@ fn told_of_registry(
     text: &[u8],
     fault: RegistryFault,
 ) -> Option<Vec<u8>> {
-    let line = match fault {
-        RegistryFault::NotJson | RegistryFault::OutOfMemory => place_of_no_json(alloc, text)?,
-        RegistryFault::BadShape | RegistryFault::BadNumber => {
-            place_of_registry_shape(alloc, text).ok()??
-        }
-        RegistryFault::TooNested | RegistryFault::RepeatedName | RegistryFault::UnknownName => {
-            place_of_rule(alloc, text).ok()??
-        }
-    };
+    let line = registry_line(alloc, text, fault).ok()??;
     Vec::from_slice(alloc, half_of(alloc, what, &line, fault.name())?).ok()
 }

@@ -20,10 +20,7 @@ pub use Rattle.bcs_decode.specs.Sliced
 pub use Rattle.bcs_decode.specs.Whole
 pub use Rattle.bcs_decode.specs.Parts
 pub use Rattle.bcs_decode.specs.Scanned
-pub use Rattle.bcs_pieces.specs.Piece
-pub use Rattle.bcs_pieces.specs.Pieces
-pub use Rattle.bcs_pieces.specs.Told
-pub use Rattle.bcs_pieces.specs.Stopped
+pub use Rattle.bcs_explain.specs.Covering
 pub use Rattle.bcs_look_pieces.specs.EndsAt
 pub use Rattle.bcs_json.specs.Spells
 pub use Rattle.bcs_json.specs.Refuses
@@ -41,4 +38,3 @@ pub use Rattle.bcs_value.specs.Laws as ValueLaws
 pub use Rattle.bcs_encode.specs.Laws as EncodeLaws
 pub use Rattle.bcs_decode.specs.Laws as DecodeLaws
 pub use Rattle.bcs_json.specs.Laws as JsonLaws
-pub use Rattle.bcs_pieces.specs.Laws as ExplainLaws

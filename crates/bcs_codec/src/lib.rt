@@ -7,6 +7,7 @@ pub use bcs_decode::{
     part, scan, scan_all, scan_from,
 };
 pub use bcs_encode::{EncodeFault, WriteFault, canonicalise, encode, encode_by_entries, write};
+pub use bcs_explain::{Counted, Listener, Meaning, Step as TrailStep, Trail, Wanted, explain};
 pub use bcs_io::{
     ByteSink, ByteSource, ReadSource, SinkFailed, SliceSource, SourceFailed, WriteSink, pieces,
 };
@@ -26,7 +27,6 @@ pub use bcs_look_registry::{
 pub use bcs_look_schema::schema_text;
 pub use bcs_look_text::style::{Form, Paint, Style};
 pub use bcs_num::{NumFault, Width};
-pub use bcs_pieces::{Counted, Listener, Meaning, Step as TrailStep, Trail, Wanted, explain};
 pub use bcs_registry::{
     Container, Format, GrowthFault, Named, Registry, RegistryFault, VariantFormat,
 };

@@ -1,12 +1,3 @@
+pub mod Scans
 pub mod Slices
 pub mod Wholes
-pub mod Leading
-pub mod PastBlocks
-pub mod PastEntries
-pub mod PastParts
-pub mod PastRows
-pub mod PastTexts
-pub mod Scans
-pub mod Sparing
-pub mod Utf8Fronts
-pub mod WorkedRows

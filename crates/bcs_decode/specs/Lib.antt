@@ -13,7 +13,5 @@ pub use Rattle.bcs_decode_parts.specs.Parts
 pub use Rattle.bcs_decode_parts.specs.Steps
 pub use Rattle.bcs_decode_parts.specs.PartLaws
 pub use Rattle.bcs_decode_source.specs.Sees
-pub mod Past
-pub mod Reaching
+pub use Rattle.bcs_decode_source.specs.Reaching
 pub mod Scanned
-pub mod Texts

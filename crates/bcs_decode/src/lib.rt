@@ -1,20 +1,11 @@
 //! Where bytes come from, and the values that they are.
 #![tactic(auto)]
 
-mod blocks;
-mod containers;
 mod decoding;
-mod leaves;
-mod maps;
-mod rows;
 mod scanning;
 mod slice_decoding;
 mod slice_parts;
 mod source_scanning;
-mod texts;
-mod valid;
-mod values;
-mod whole_row;
 
 pub use bcs_decode_parts::{Part, Step, laws as part_laws};
 pub use bcs_decode_spec::{DecodeFault, Reason, Stop, laws};

@@ -2,12 +2,12 @@
 ghost use Rattle.std.specs.Prelude.{◌≡◌, ◌≢◌, ◌↔◌, true, Err, IsErrOf};
 ghost use Rattle.bcs_registry_model.specs.View.{shape_of};
 ghost use Rattle.bcs_registry_model.specs.WellFormed.{Admits};
-ghost use Rattle.bcs_decode.specs.Reaching.{reaches_no_map};
+ghost use Rattle.bcs_decode_source.specs.Reaching.{reaches_no_map};
 ghost use Rattle.bcs_decode.specs.Scanned.{ScansAll, ScansFrom};
 
-use crate::values::value;
 use bcs_decode_source::at::At;
 use bcs_decode_source::reader::Reader;
+use bcs_decode_source::scanning::value;
 use bcs_decode_spec::{DecodeFault, Reason, Stop};
 use bcs_io::ByteSource;
 use bcs_registry::{Format, Registry};

@@ -3,10 +3,9 @@ use Rattle.std.proofs.Common.{◌≡◌, ◌≢◌, ◌∙◌, ◌++◌, ◌==�
 use Rattle.std.specs.List.{AllZip, join_with_byte, slice_split}
 use Rattle.std.proofs.lemmas.List.Splits.{join_with_byte-slice_split, length-slice_split, slice_split_at, slice_split_none}
 use Rattle.bcs_decode_parts.specs.Parts.{Step, item, inner, key}
-use Rattle.bcs_decode_parts.specs.BadStep.{HasNoSlash}
 use Rattle.bcs_decode_parts.specs.Path.{SpellsPath, SpellsStep}
 use Rattle.bcs_decode_parts.specs.PathLaws.{OnePath}
-use Rattle.bcs_decode_parts.proofs.Steps.{begins_with_digit, has_no_slash, one_step}
+use Rattle.bcs_decode_parts.proofs.Steps.{HasNoSlash, begins_with_digit, has_no_slash, one_step}
 
 -- what stands between the slashes
 abbrev pub parts : List ℕ → List (List ℕ)

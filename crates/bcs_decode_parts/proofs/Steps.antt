@@ -1,7 +1,7 @@
 -- A text spells one step at most, and has no slash.
 use Rattle.std.proofs.Common.{◌≡◌, ◌∙◌, ◌<◌, ◌≤◌, ◌^◌, ◌++◌, ◌==◌, ℕ, List, [], ◌∷◌, Ok, ap, arith, codes, decimal, drop, false, get_or, not, refl, subst, sym, true, true≢false}
 use borrow.Author.Tests.{not-true}
-use Rattle.std.specs.List.{list_all}
+use Rattle.std.specs.List.{All, list_all}
 use Rattle.std.specs.Str.Parse.{AllDigits}
 use Rattle.std.proofs.lemmas.Bool.{ne_eqb}
 use Rattle.std.proofs.lemmas.Fmt.{decimal_injective, decimal_is_IsNumeral}
@@ -11,7 +11,6 @@ use Rattle.std.proofs.lemmas.Str.Parse.{digit_from_value}
 use Rattle.hex.specs.Hex.{decode_of, is_hex_digit}
 use Rattle.hex.proofs.HexLemmas.{decode_of-ok}
 use Rattle.bcs_decode_parts.specs.Parts.{Step, item, inner, key}
-use Rattle.bcs_decode_parts.specs.BadStep.{HasNoSlash}
 use Rattle.bcs_decode_parts.specs.Path.{SpellsStep}
 
 -- ---- the three kinds of texts differ
@@ -53,6 +52,9 @@ no_step text digits is none (key bytes) h = none bytes (ap decode_of (one_tail d
 
 abbrev IsNoSlash : ℕ → Type 0
 IsNoSlash b = (b == 47) ≡ false
+
+abbrev pub HasNoSlash : List ℕ → Type 0
+HasNoSlash = All (λ b. (b == 47) ≡ false)
 
 digits_have_none : (ds : List ℕ) → AllDigits 10 ds → HasNoSlash ds
 digits_have_none [] h = All-nil IsNoSlash

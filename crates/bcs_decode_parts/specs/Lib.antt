@@ -6,5 +6,4 @@ pub mod Fronts
 pub mod PartLaws
 pub mod Path
 pub mod PathSteps
-pub mod BadStep
 pub mod PathLaws

@@ -2,7 +2,6 @@
 #![tactic(auto)]
 
 pub mod ahead;
-mod bad_step;
 pub mod here;
 pub mod inside;
 pub mod laws;
@@ -17,7 +16,6 @@ pub mod stepping;
 pub mod variants;
 pub mod walking;
 
-pub use bad_step::{BadStep, first_bad_step};
 pub use part::Part;
 pub use path_fault::PathFault;
 pub use path_step::{PathStep, steps_of};

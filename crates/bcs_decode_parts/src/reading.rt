@@ -30,8 +30,8 @@ pub fn read_path(alloc: Global, word: &str) -> Result<Vec<PathStep>, PathFault>
     Ok(path)
 }
 
-/// The step that the text spells.
-pub(crate) fn read_step(alloc: Global, text: &str) -> Result<PathStep, PathFault>
+// The step that the text spells.
+fn read_step(alloc: Global, text: &str) -> Result<PathStep, PathFault>
     ensures spelled { IfOk result (λ s. SpellsStep text.now (spelled s)) }
     ensures bad { result ≡ Err PathFault.BadPath → (s : Step) → SpellsStep text.now s → ⊥ }
 {

@@ -9,7 +9,8 @@ use Rattle.bcs_num.specs.declared.fault.NumFault.TheVariants as num
 use Rattle.bcs_decode_spec.specs.declared.reason.Reason.{Reason}
 use Rattle.bcs_decode_spec.specs.declared.reason.Reason.TheVariants.{LongForm, NumberTooLarge, BadUtf8}
 use Rattle.bcs_decode_spec.specs.Reading.{Parser, follow, chain, give, fail, shifted, uleb_from, number_read, number_here, bytes_here, flag_here, text_here, node}
-use Rattle.bcs_decode_source.specs.Sees.{node_here, byte_here, tail_read, tail_here}
+use Rattle.bcs_decode_slice.specs.Passing.{node_here}
+use Rattle.bcs_decode_source.specs.Sees.{byte_here, tail_read, tail_here}
 
 number_same : (p m : ℕ) (b : List ℕ) (r : Result (ℕ × ℕ) NumFault) → number_read p m b r ≡ tail_read p p m b r
 number_same p m b (Ok x) = refl

@@ -8,3 +8,12 @@ pub mod StreamedRows
 pub mod ValueViews
 pub mod KeptKeys
 pub mod Readers
+pub mod Leading
+pub mod PastBlocks
+pub mod PastEntries
+pub mod PastParts
+pub mod PastRows
+pub mod PastTexts
+pub mod Sparing
+pub mod Utf8Fronts
+pub mod WorkedRows

@@ -1,15 +1,16 @@
 -- Readers that go on, step after step.
-use Rattle.std.proofs.Common.{◌≡◌, ℕ, ◌≤◌, Bool, true, List, Option, Result, Ok, Err, IfOk, IsErrAnd, refl, ◌∙◌}
+use Rattle.std.proofs.Common.{◌≡◌, ℕ, ◌≤◌, Bool, true, List, Option, Result, Ok, Err, IfOk, IsErr, IsErrAnd, refl, ◌∙◌}
 use Rattle.bcs_decode_spec.specs.declared.reason.Reason.{Reason}
 use Rattle.bcs_decode_spec.specs.declared.decode_fault.DecodeFault.{DecodeFault}
 use Rattle.bcs_decode_spec.specs.declared.decode_fault.DecodeFault.TheVariants.{Stop, Read as ReadFault, OutOfMemory}
 use Rattle.bcs_decode_spec.specs.Reading.{Parser, chain, give, node}
 use Rattle.bcs_decode_source.specs.declared.at.At.{At}
 use Rattle.bcs_decode_source.specs.declared.reader.Reader.{Reader}
-use Rattle.bcs_decode_source.specs.Sees.{is_told, rest_of, FindsFault, Sees, Along, node_here}
+use Rattle.bcs_decode_slice.specs.Passing.{node_here}
+use Rattle.bcs_decode_source.specs.Sees.{is_told, rest_of, FindsFault, Sees, Along}
 use Rattle.bcs_decode_source.specs.Reads.{Ready, IsSame, Reads}
 use Rattle.bcs_decode_source.proofs.Chains.{node_is}
-use Rattle.bcs_decode_source.proofs.Going.{Along-none, Along-then, Along-gave, Goes-then, Halts-then, Sees-as, Along-nodes}
+use Rattle.bcs_decode_source.proofs.Going.{Along-none, Along-then, Along-gave, Goes-then, Halts-then, FindsFault-whole, Sees-as, Along-nodes}
 use Rattle.bcs_decode_source.proofs.StreamedRows.{Found}
 
 pub again : {S : Type 0} (p : Reader S) → IsSame p p
@@ -86,6 +87,18 @@ module _ {S : Type 0} {content : S → Option (List ℕ)} {is_failed : S → Boo
       → IsErrAnd r (λ y. y ≡ e) → Reads content is_failed allowance v (Err e) p f q → Reads content is_failed allowance v r p f q
   Reads-exit {r = Ok x} h k = absurd h
   Reads-exit {r = Err y} h k = rw h k
+
+  -- a step that returns no value may be said to return any
+  pub Reads-never : {X A B : Type 0} {v : X → A} {w : X → B} {r : Result X DecodeFault} {p q : Reader S} {f : Parser A} {h : Parser B}
+      → IsErr r → ((o m : ℕ) (b : List ℕ) (e : Reason × ℕ) → f o m b ≡ Err e → h o m b ≡ Err e) → Reads content is_failed allowance v r p f q → Reads content is_failed allowance w r p h q
+  Reads-never {r = Ok x} never same k = absurd (let none = never in cc)
+  Reads-never {r = Err e} {p = p} {f = f} {h = h} never same k = record {
+    sees = FindsFault-whole e (content p.source.now) (content p.source.now) p.at.now p.at.now h f (λ told. told) (λ e o told stop. same p.at.now.place p.at.now.nodes (rest_of (content p.source.now)) (e, o) stop) k.sees;
+    failed = k.failed;
+    room = k.room;
+    goes = k.goes;
+    same = k.same;
+  }
 
   -- what was read, if it was, makes what the slot holds
   pub Reads-put : {X A B : Type 0} {t : A} {u : B} {r : Result X DecodeFault} {p q : Reader S} {f : Parser A} (k : A → B)

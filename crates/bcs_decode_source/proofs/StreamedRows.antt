@@ -1,5 +1,5 @@
 -- Values that are read in a row.
-use Rattle.std.proofs.Common.{◌≡◌, ℕ, zero, suc, ◌+◌, ◌-◌, ◌<◌, ◌≤◌, true, List, [], ◌∷◌, ◌++◌, map, Option, Some, None, Ok, Err, refl, sym, ap, ◌∙◌, arith}
+use Rattle.std.proofs.Common.{◌≡◌, ℕ, suc, ◌+◌, ◌-◌, ◌<◌, ◌≤◌, true, List, [], ◌∷◌, ◌++◌, map, Option, Some, None, Ok, Err, refl, sym, ap, ◌∙◌, arith}
 use Rattle.std.proofs.lemmas.List.{map_push}
 use Rattle.bcs_registry_model.specs.Shape.{Shape, Shapes, no_shapes, shape}
 use Rattle.bcs_registry_model.specs.Container.{Entries}
@@ -73,20 +73,6 @@ unfolding items_here chain
 items_refused x f n i vs c d p q lt h =
     FindsFault-whole x c d p q (items_here building f n) f (λ told. (h told).1)
     (λ e o told stop. let k : n - i ≡ suc (n - (i + 1)) = omega arith in (h told).0 ∙ rw (k, stop) refl)
-
--- one parser of values is another
-tail_same : (f g : Parser Tree) (n : ℕ) → ((p m : ℕ) (b : List ℕ) → items_here building f n p m b ≡ items_here building g n p m b)
-    → (r : Read Tree) → follow r (λ t. chain (items_here building f n) (λ ts. give (tree t ts))) ≡ follow r (λ t. chain (items_here building g n) (λ ts. give (tree t ts)))
-unfolding chain
-tail_same f g n same (Ok x) = ap (λ r. follow r (λ ts. give (tree x.0 ts))) (same x.1 x.2 x.3)
-tail_same f g n same (Err e) = refl
-
-pub items_same : (f g : Parser Tree) → ((p m : ℕ) (b : List ℕ) → f p m b ≡ g p m b) → (n p m : ℕ) (b : List ℕ) → items_here building f n p m b ≡ items_here building g n p m b
-unfolding items_here chain
-items_same f g same zero p m b = refl
-items_same f g same (suc n) p m b =
-    ap (λ r. follow r (λ t. chain (items_here building f n) (λ ts. give (tree t ts)))) (same p m b)
-    ∙ tail_same f g n (λ q l c. items_same f g same n q l c) (g p m b)
 
 -- ---- values of several formats
 

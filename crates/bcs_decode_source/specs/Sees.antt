@@ -8,9 +8,10 @@ use Rattle.bcs_registry_model.specs.Container.{Entries, Content, content_at}
 use Rattle.bcs_value_model.specs.Tree.{Tree, Trees, Pairs}
 use Rattle.bcs_num.specs.declared.fault.NumFault.{NumFault}
 use Rattle.bcs_num.specs.declared.fault.NumFault.TheVariants as num
-use Rattle.bcs_decode_spec.specs.declared.reason.Reason.TheVariants.{EndOfInput, LongForm, NumberTooLarge, TooDeep, BadBool, BadOption, Unsupported}
+use Rattle.bcs_decode_spec.specs.declared.reason.Reason.TheVariants.{EndOfInput, LongForm, NumberTooLarge, BadBool, BadOption, Unsupported}
 use Rattle.bcs_decode_spec.specs.Reading as Reading
-use Rattle.bcs_decode_spec.specs.Reading.{Parser, node, give, chain, fail_here, bytes_here, length_here, uleb_from, flag_here, text_here, unsigned_here, signed_here, number_here, value_here, items_here, pairs_here, key_here, each_here, named_here, content_here, building}
+use Rattle.bcs_decode_spec.specs.Reading.{Parser, Making, node, give, chain, fail_here, bytes_here, length_here, uleb_from, flag_here, text_here, unsigned_here, signed_here, number_here, value_here, items_here, pairs_here, key_here, each_here, named_here, content_here, building}
+use Rattle.bcs_decode_slice.specs.Passing.{node_here, enter_here}
 use Rattle.bcs_decode_spec.specs.declared.decode_fault.DecodeFault.{DecodeFault}
 use Rattle.bcs_decode_spec.specs.declared.decode_fault.DecodeFault.TheVariants.{Stop, Read, OutOfMemory}
 use Rattle.bcs_decode_source.specs.declared.at.At.{At}
@@ -94,10 +95,6 @@ abbrev pub SparesMemory : {X : Type 0} → Result X DecodeFault → At → Type 
 SparesMemory (Err OutOfMemory) p = p.is_in_key ≡ true
 SparesMemory r p = Unit {0}
 
--- a node begins, and nothing is read
-abbrev pub node_here : Parser (Unit {0})
-node_here = node (give tt)
-
 -- one byte
 unfoldable pub byte_here : Parser ℕ
 byte_here = chain (bytes_here 1) (λ s. give (get_or s 0 0))
@@ -120,11 +117,6 @@ tail_limit (suc zero) = 33554432
 tail_limit (suc (suc zero)) = 262144
 tail_limit (suc (suc (suc zero))) = 2048
 tail_limit _ = 16
-
--- a container is opened, which may have so many within
-unfoldable pub enter_here : ℕ → Parser (Unit {0})
-enter_here zero = fail_here TooDeep
-enter_here (suc d) = node_here
 
 -- how many elements a row has: the size, or else the length that stands there
 abbrev pub count_here : Option ℕ → Parser ℕ
@@ -177,15 +169,20 @@ read registry d s = value_here building registry d s
 abbrev pub row_leaf : Parser Tree → ℕ → Parser Trees
 row_leaf f n = items_here building f n
 
--- a list or an array
-unfoldable pub items_value : Parser Tree → Option ℕ → Parser Tree
-items_value f size = chain (row_here size) (λ n. chain (items_here building f n) (λ ts. give (tree.items ts)))
-
 unfoldable pub flag_node : Parser Bool
 flag_node = chain node_here (λ _. flag_here BadOption)
 
-unfoldable pub option_value : Parser Tree → Parser Tree
-option_value f = chain flag_node (λ some. if some then chain f (λ t. give (tree.present t)) else give tree.absent)
+module _ {V : Type 0} {R : Type 0} {E : Type 0} (make : Making V R E) where
+  unfoldable pub option_node : Parser V → Parser V
+  option_node f = chain flag_node (λ some. if some then chain f (λ t. give (make.present t)) else give make.absent)
+
+  -- a list or an array
+  unfoldable pub items_node : Parser V → Option ℕ → Parser V
+  items_node f size = chain (row_here size) (λ n. chain (items_here make f n) (λ ts. give (make.items ts)))
+
+  -- counted entries, whose keys rise
+  unfoldable pub pairs_node : Parser V → Parser V → Parser V
+  pairs_node f g = chain (row_here None) (λ n. chain (pairs_here make f g None n) (λ ps. give (make.pairs ps)))
 
 -- values in turn
 abbrev pub each : Entries → ℕ → Shapes → Parser Trees
@@ -196,10 +193,6 @@ tuple_value registry d ss = chain node_here (λ _. chain (each registry d ss) (�
 
 unfoldable pub number_node : Parser ℕ
 number_node = chain node_here (λ _. number_here)
-
--- counted entries, whose keys rise
-unfoldable pub pairs_value : Parser Tree → Parser Tree → Parser Tree
-pairs_value f g = chain (row_here None) (λ n. chain (pairs_here building f g None n) (λ ps. give (tree.pairs ps)))
 
 abbrev pub entries_leaf : Parser Tree → Parser Tree → ℕ → Parser Pairs
 entries_leaf f g n = pairs_here building f g None n

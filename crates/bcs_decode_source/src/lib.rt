@@ -15,6 +15,8 @@ mod number_rows;
 pub mod reader;
 mod room;
 mod rows;
+pub mod scanning;
+mod share;
 mod slots;
 mod strings;
 pub mod values;

@@ -2,8 +2,9 @@
 ghost use Rattle.std.specs.Prelude.{◌≡◌, [], length, vec_capacity, Some, IfOk};
 ghost use Rattle.bcs_registry_model.specs.View.{shape_of};
 ghost use Rattle.bcs_value_model.specs.View.{tree_of, entries_pairs};
+ghost use Rattle.bcs_decode_spec.specs.Reading.{building};
 ghost use Rattle.bcs_decode_source.specs.Kept.{Stands, last_bytes, key_of};
-ghost use Rattle.bcs_decode_source.specs.Sees.{read, pairs_value, entries_leaf, key_leaf};
+ghost use Rattle.bcs_decode_source.specs.Sees.{read, pairs_node, entries_leaf, key_leaf};
 ghost use Rattle.bcs_decode_source.specs.Reads.{Ready, Reads, ReadsInMap, room_for};
 
 use crate::entries::{Entries, put_entries};
@@ -21,7 +22,7 @@ use bcs_value_model::slot::keep_entry;
 /// A map.
 #[inline(never)]
 #[cycle(streaming)]
-#[tactic(auto, unfolding(bcs_decode_spec::specs::Reading::chain, bcs_decode_spec::specs::Reading::give, crate::specs::Sees::pairs_value))]
+#[tactic(auto, unfolding(bcs_decode_spec::specs::Reading::chain, bcs_decode_spec::specs::Reading::give, crate::specs::Sees::pairs_node))]
 pub fn pairs<S: ByteSource>(
     reader: &mut Reader<'_, S>,
     key: &Format,
@@ -30,7 +31,7 @@ pub fn pairs<S: ByteSource>(
     slot: &mut Value,
 ) -> Result<(), DecodeFault>
     requires ready { Ready S.is_failed S.allowance reader.old }
-    ensures reads { Reads S.content S.is_failed S.allowance (λ _. tree_of slot.new) result reader.old (pairs_value (read reader.old.registry.now depth (shape_of key.now)) (read reader.old.registry.now depth (shape_of part.now))) reader.new }
+    ensures reads { Reads S.content S.is_failed S.allowance (λ _. tree_of slot.new) result reader.old (pairs_node building (read reader.old.registry.now depth (shape_of key.now)) (read reader.old.registry.now depth (shape_of part.now))) reader.new }
 {
     let count = row_count(reader, None)?;
     let mut entries = Entries::with_room(reader, count)?;

@@ -1,7 +1,8 @@
 //! Where containers and variants begin.
 ghost use Rattle.std.specs.Prelude.{◌<◌, IfOk};
 ghost use Rattle.bcs_decode_source.specs.Reads.{IsStill, Ready, Reads};
-ghost use Rattle.bcs_decode_source.specs.Sees.{SparesMemory, enter_here, number_node};
+ghost use Rattle.bcs_decode_slice.specs.Passing.{enter_here};
+ghost use Rattle.bcs_decode_source.specs.Sees.{SparesMemory, number_node};
 
 use crate::bytes::begin;
 use crate::number::number;

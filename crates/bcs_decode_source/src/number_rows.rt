@@ -1,5 +1,5 @@
 //! Lists of whole numbers from a source, in one loop.
-ghost use Rattle.std.specs.Prelude.{◌≡◌, ℕ, ◌*◌, ◌<◌, ◌≤◌, ◌++◌, ◌⊎◌, [], length, map, take, vec_capacity, OnOk, IfSome, None};
+ghost use Rattle.std.specs.Prelude.{◌≡◌, ℕ, ◌*◌, ◌<◌, ◌≤◌, ◌++◌, [], length, map, take, vec_capacity, OnOk, IfSome, None};
 ghost use Rattle.bcs_registry_model.specs.Whole.{whole_len, whole_shape};
 ghost use Rattle.bcs_value_model.specs.View.{items_trees, tree_of};
 ghost use Rattle.bcs_decode_source.specs.Numbers.{number_of, numbers};
@@ -8,15 +8,13 @@ ghost use Rattle.bcs_decode_source.specs.Sees.{leaf_here, row_leaf};
 
 use crate::bytes::read_exact;
 use crate::reader::Reader;
+use crate::share::{BLOCK, share};
 use bcs_decode_spec::{DecodeFault, Reason, Stop};
 use bcs_io::ByteSource;
 use bcs_num::{front_signed, front_unsigned};
 use bcs_registry_model::WholeNumber;
 use bcs_value_model::Value;
 use std::alloc::AllocError;
-
-/// How many bytes are taken at a time.
-const BLOCK: usize = 512;
 
 /// So many numbers. They are taken by blocks, of no more numbers than may begin.
 #[inline(never)]
@@ -31,10 +29,11 @@ pub fn push_numbers<S: ByteSource>(
     requires reserved { vec_capacity found.old ≡ room_for reader.old count }
     ensures reads { Reads S.content S.is_failed S.allowance (λ _. items_trees found.new.items) result reader.old (row_leaf (leaf_here (whole_shape format)) count) reader.new }
 {
+    let width = format.byte_len();
     let mut block = [0u8; BLOCK];
     let mut done = 0;
     while done < count {
-        let some = share(format, count - done, reader.at.nodes);
+        let some = share(width, count - done, reader.at.nodes);
         if some == 0 {
             return Err(DecodeFault::Stop(Stop {
                 reason: Reason::TooManyNodes,
@@ -42,23 +41,12 @@ pub fn push_numbers<S: ByteSource>(
             }));
         }
         reader.at.nodes -= some;
-        let size = some as usize * format.byte_len();
+        let size = some as usize * width;
         read_exact(reader, &mut block[..size])?;
         push_block(format, &block[..size], found)?;
         done += u64::from(some);
     }
     Ok(())
-}
-
-/// How many of so many numbers are in the next block, where so many nodes may begin.
-fn share(format: WholeNumber, left: u64, nodes: u32) -> u32
-    ensures left { result ≤ left }
-    ensures nodes { result ≤ nodes }
-    ensures room { result * whole_len format ≤ 512 }
-    ensures none { result ≡ 0 → (left ≡ 0) ⊎ (nodes ≡ 0) }
-{
-    let room = (BLOCK / format.byte_len()) as u32;
-    left.min(u64::from(nodes.min(room))) as u32
 }
 
 /// Appends the numbers that the bytes hold.

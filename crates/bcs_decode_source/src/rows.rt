@@ -3,7 +3,8 @@ ghost use Rattle.std.specs.Prelude.{◌≡◌, [], length, vec_capacity};
 ghost use Rattle.bcs_registry_model.specs.Container.{content};
 ghost use Rattle.bcs_registry_model.specs.View.{container_of, shape_of, formats_shapes};
 ghost use Rattle.bcs_value_model.specs.View.{tree_of, items_trees};
-ghost use Rattle.bcs_decode_source.specs.Sees.{read, container_value, row_leaf, items_value, each, tuple_value};
+ghost use Rattle.bcs_decode_spec.specs.Reading.{building};
+ghost use Rattle.bcs_decode_source.specs.Sees.{read, container_value, row_leaf, items_node, each, tuple_value};
 ghost use Rattle.bcs_decode_source.specs.Reads.{Ready, Reads, room_for};
 ghost use Rattle.bcs_decode_source.specs.Known.{IsKnown};
 
@@ -26,7 +27,7 @@ use bcs_value_model::slot::keep;
 /// A list or an array.
 #[inline(never)]
 #[cycle(streaming)]
-#[tactic(auto, unfolding(bcs_decode_spec::specs::Reading::chain, bcs_decode_spec::specs::Reading::give, crate::specs::Sees::items_value))]
+#[tactic(auto, unfolding(bcs_decode_spec::specs::Reading::chain, bcs_decode_spec::specs::Reading::give, crate::specs::Sees::items_node))]
 pub fn items<S: ByteSource>(
     reader: &mut Reader<'_, S>,
     element: &Format,
@@ -35,7 +36,7 @@ pub fn items<S: ByteSource>(
     slot: &mut Value,
 ) -> Result<(), DecodeFault>
     requires ready { Ready S.is_failed S.allowance reader.old }
-    ensures reads { Reads S.content S.is_failed S.allowance (λ _. tree_of slot.new) result reader.old (items_value (read reader.old.registry.now depth (shape_of element.now)) size) reader.new }
+    ensures reads { Reads S.content S.is_failed S.allowance (λ _. tree_of slot.new) result reader.old (items_node building (read reader.old.registry.now depth (shape_of element.now)) size) reader.new }
 {
     let count = row_count(reader, size)?;
     let mut found = Vec::new(reader.alloc);

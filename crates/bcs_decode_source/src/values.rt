@@ -1,7 +1,8 @@
 //! Values from a source, each built in the caller's slot.
 ghost use Rattle.bcs_registry_model.specs.View.{shape_of};
 ghost use Rattle.bcs_value_model.specs.View.{tree_of};
-ghost use Rattle.bcs_decode_source.specs.Sees.{Spares, takes_no_memory, read, option_value};
+ghost use Rattle.bcs_decode_spec.specs.Reading.{building};
+ghost use Rattle.bcs_decode_source.specs.Sees.{Spares, takes_no_memory, read, option_node};
 ghost use Rattle.bcs_decode_source.specs.Reads.{Ready, Reads};
 
 use crate::containers::named;
@@ -45,7 +46,7 @@ pub fn value<S: ByteSource>(
 /// An option.
 #[inline(never)]
 #[cycle(streaming)]
-#[tactic(auto, unfolding(bcs_decode_spec::specs::Reading::chain, bcs_decode_spec::specs::Reading::give, crate::specs::Sees::option_value))]
+#[tactic(auto, unfolding(bcs_decode_spec::specs::Reading::chain, bcs_decode_spec::specs::Reading::give, crate::specs::Sees::option_node))]
 fn option<S: ByteSource>(
     reader: &mut Reader<'_, S>,
     part: &Format,
@@ -53,7 +54,7 @@ fn option<S: ByteSource>(
     slot: &mut Value,
 ) -> Result<(), DecodeFault>
     requires ready { Ready S.is_failed S.allowance reader.old }
-    ensures reads { Reads S.content S.is_failed S.allowance (λ _. tree_of slot.new) result reader.old (option_value (read reader.old.registry.now depth (shape_of part.now))) reader.new }
+    ensures reads { Reads S.content S.is_failed S.allowance (λ _. tree_of slot.new) result reader.old (option_node building (read reader.old.registry.now depth (shape_of part.now))) reader.new }
 {
     if flag_node(reader)? {
         value(reader, part, depth, slot)?;

@@ -3,10 +3,10 @@
 use crate::halt::Halt;
 use crate::lines::{MEANING_WIDTH, PLACE_WIDTH, put_first_row};
 use crate::meaning::put_so_many;
+use bcs_explain::Stop;
 use bcs_look_text::colors::{end_painted, start_color};
 use bcs_look_text::columns::{put_blanks, put_decimal};
 use bcs_look_text::style::{Form, Style};
-use bcs_pieces::Stop;
 use std::alloc::AllocError;
 
 // Red and bold.

@@ -6,8 +6,8 @@ ghost use Rattle.bcs_look_pieces.specs.EndsAt.{EndsAt};
 
 use crate::stopping::stop_of;
 use crate::table::Table;
+use bcs_explain::Stop;
 use bcs_look_text::style::Style;
-use bcs_pieces::Stop;
 use bcs_registry::{Format, Registry};
 use bcs_value::Limits;
 use std::alloc::{AllocError, Global};

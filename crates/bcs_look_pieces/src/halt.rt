@@ -2,8 +2,8 @@
 
 use crate::meaning::{counted_word, put_bits, put_octets, put_so_many};
 use crate::steps::{put_path, put_way};
+use bcs_explain::{Trail, Wanted};
 use bcs_look_text::escaping::put_escaped;
-use bcs_pieces::{Trail, Wanted};
 use std::alloc::{AllocError, Global};
 
 /// The texts of a stop.

@@ -2,10 +2,10 @@
 
 use crate::meaning::put_meaning;
 use crate::steps::{put_branch, put_path, put_way};
+use bcs_explain::{Meaning, Trail};
 use bcs_look_text::colors::{end_color, end_painted, start_color};
 use bcs_look_text::columns::{end_column, put_blanks, put_hex, put_place};
 use bcs_look_text::style::{Form, Paint, Style};
-use bcs_pieces::{Meaning, Trail};
 use std::alloc::AllocError;
 
 /// How many bytes stand on a line.

@@ -1,9 +1,9 @@
 //! What a piece is, in words.
 
 use crate::steps::container_name;
+use bcs_explain::{Counted, Meaning, Trail};
 use bcs_look_text::columns::{put_decimal, put_signed};
 use bcs_look_text::escaping::put_escaped;
-use bcs_pieces::{Counted, Meaning, Trail};
 use std::alloc::AllocError;
 
 /// Appends what a piece of so many bytes is, where the trail leads to it.

@@ -3,8 +3,8 @@
 use crate::halt::Halt;
 use crate::meaning::put_format;
 use crate::steps::{put_path, put_way};
+use bcs_explain::{Meaning, Stop, Trail};
 use bcs_look_text::columns::{put_decimal, put_signed};
-use bcs_pieces::{Meaning, Stop, Trail};
 use serde_json::{Value, json};
 use std::alloc::{AllocError, Global};
 

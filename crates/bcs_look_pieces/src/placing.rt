@@ -7,7 +7,7 @@ ghost use Rattle.bcs_look_pieces.specs.EndsAt.{EndsAt};
 
 use crate::halt::Halt;
 use crate::stopping::stop_of;
-use bcs_pieces::{Listener, Meaning, Reason, Trail, Wanted};
+use bcs_explain::{Listener, Meaning, Reason, Trail, Wanted};
 use bcs_registry::{Format, Registry};
 use bcs_value::Limits;
 use std::alloc::{AllocError, Global};
@@ -60,9 +60,7 @@ struct StopKeeper {
 }
 
 impl Listener for StopKeeper {
-    ghost heard = { λ _ _. ⊤ };
-
-    ghost has_lost = { λ keeper. keeper.has_lost };
+    ghost heard = { λ _ _ _. ⊤ };
 
     fn hear(&mut self, _: u64, _: &[u8], _: &Trail<'_, '_, '_>, _: Meaning<'_>) {}
 

@@ -2,9 +2,9 @@
 //! up in a loop takes no stack; so a way is put back to front, and then turned.
 
 use crate::meaning::put_so_many;
+use bcs_explain::{Step, Trail};
 use bcs_look_text::columns::{put_blanks, put_decimal, put_hex};
 use bcs_look_text::escaping::put_escaped;
-use bcs_pieces::{Step, Trail};
 use std::alloc::AllocError;
 
 // How many bytes of a key are printed in a step. Every piece below the key repeats its step.

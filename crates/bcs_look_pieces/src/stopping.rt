@@ -3,7 +3,7 @@ ghost use Rattle.bcs_registry_model.specs.View.{shape_of};
 ghost use Rattle.bcs_registry_model.specs.WellFormed.{Admits};
 ghost use Rattle.bcs_look_pieces.specs.EndsAt.{EndsAt};
 
-use bcs_pieces::{Listener, Reason, Stop, explain};
+use bcs_explain::{Listener, Reason, Stop, explain};
 use bcs_registry::{Format, Registry};
 use bcs_value::Limits;
 

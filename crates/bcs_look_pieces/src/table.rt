@@ -5,8 +5,8 @@ use crate::damage::put_damage;
 use crate::halt::Halt;
 use crate::lines::put_lines;
 use crate::objects::{put_end_object, put_piece_object, put_stop_object};
+use bcs_explain::{Listener, Meaning, Stop, Trail, Wanted};
 use bcs_look_text::style::{Form, Style};
-use bcs_pieces::{Listener, Meaning, Stop, Trail, Wanted};
 use std::alloc::{AllocError, Global};
 
 /// What is printed of the pieces that were told of so far.
@@ -58,12 +58,10 @@ impl Table {
 }
 
 impl Listener for Table {
-    ghost heard = { λ _ _. ⊤ };
-
-    ghost has_lost = { λ table. table.has_lost };
+    ghost heard = { λ _ _ _. ⊤ };
 
     fn hear(&mut self, place: u64, bytes: &[u8], trail: &Trail<'_, '_, '_>, meaning: Meaning<'_>) {
-        if self.has_lost || bytes.is_empty() {
+        if self.has_lost {
             return;
         }
         let put = match self.style.form {

@@ -9,11 +9,11 @@ use Rattle.bcs_io.proofs.TakingLemmas.{TookThenFailed-then, Took-then}
 use Rattle.bcs_tool_command_line.specs.declared.job.Job.{Job}
 use Rattle.bcs_tool_command_line.specs.declared.line_fault.LineFault.{LineFault}
 use Rattle.bcs_tool_command_line.specs.declared.line_fault.LineFault.TheVariants.{Usage, Help, OutOfMemory}
-use Rattle.bcs_tool_command_line.specs.declared.work.Report.{Report}
+use Rattle.bcs_tool_command_line.specs.declared.work.Outcome.{Outcome}
 use Rattle.bcs_tool_command_line.specs.declared.work.Work.{Work}
-use Rattle.bcs_tool.specs.Pairs.{EndsPairs, IsReportOf, PairRuns}
-use Rattle.bcs_tool.specs.Running.{IsAnswered, IsFailed, PutFront, Runs}
-use Rattle.bcs_tool.specs.declared.pair_interruption.PairInterruption.{PairInterruption}
+use Rattle.bcs_tool.specs.Pairs.{EndsPairs, PairRuns}
+use Rattle.bcs_tool.specs.Running.{Ends, IsOutcomeOf, PutFront, Runs}
+use Rattle.bcs_tool.specs.declared.interruption.Interruption.{Interruption}
 use Rattle.bcs_tool.specs.Endings.{Performs, PerformsOne, PerformsPairs, TellsFault, Put, first_unopened, lacks_file, no_room, over_file, over_input, over_one, over_pairs, pairs_over_file, pairs_over_input, second_unopened, unopened}
 
 module _ {K : Type 0} (taken : K → Option (List ℕ)) (is_failed : K → Bool) where
@@ -47,48 +47,48 @@ module _ {O E : Type 0} (taken : O → Option (List ℕ)) (is_failed : O → Boo
 -- ---- statuses
 
 module _ {S K : Type 0} (content : S → Option (List ℕ)) (has_stopped : S → Bool) (allowance : S → ℕ)
-    (taken : K → Option (List ℕ)) (is_failed : K → Bool) (work : Work) (name : List ℕ) (input input' : S) (out out' : K) (report : Report) where
-  run_status : Runs content has_stopped allowance taken is_failed work name input input' out out' report → report.outcome.status < 5
-  run_status runs = go runs.ends
+    (taken : K → Option (List ℕ)) (is_failed : K → Bool) (work : Work) (name : List ℕ) (input input' : S) (out out' : K) (outcome : Outcome) where
+  run_status : Runs content has_stopped allowance taken is_failed work name input input' out out' outcome → outcome.status < 5
+  run_status runs = go runs.result runs.ends runs.is
     where
-      go : IsAnswered content has_stopped allowance taken is_failed work input out out' report
-          ⊎ IsFailed content has_stopped allowance taken is_failed work name input input' out out' report → report.outcome.status < 5
-      go (inl answered) = omega (arith, answered.below)
-      go (inr failed) = omega (arith, failed.status)
+      go : (result : Result Outcome Interruption) → Ends content has_stopped allowance taken is_failed work input input' out out' result
+          → IsOutcomeOf work name name result outcome → outcome.status < 5
+      go (Ok done) answered is = subst (λ (r : Outcome). r.status < 5) (sym is) (omega (arith, answered.below))
+      go (Err e) fails is = omega (arith, is.status)
 
 -- and so does one of a run over two files
 module _ {F S K : Type 0} (former : F → Option (List ℕ)) (former_stopped : F → Bool) (former_allowance : F → ℕ)
     (content : S → Option (List ℕ)) (has_stopped : S → Bool) (allowance : S → ℕ) (taken : K → Option (List ℕ)) (is_failed : K → Bool)
-    (work : Work) (name other : List ℕ) (first first' : F) (second second' : S) (out out' : K) (report : Report) where
-  pairs_status : PairRuns former former_stopped former_allowance content has_stopped allowance taken is_failed work name other first first' second second' out out' report → report.outcome.status < 5
+    (work : Work) (name other : List ℕ) (first first' : F) (second second' : S) (out out' : K) (outcome : Outcome) where
+  pairs_status : PairRuns former former_stopped former_allowance content has_stopped allowance taken is_failed work name other first first' second second' out out' outcome → outcome.status < 5
   pairs_status runs = go runs.result runs.ends runs.is
     where
-      go : (result : Result Report PairInterruption) → EndsPairs former former_stopped former_allowance content has_stopped allowance taken is_failed work first first' second second' out out' result
-          → IsReportOf work name other result report → report.outcome.status < 5
-      go (Ok done) compared is = subst (λ (r : Report). r.outcome.status < 5) (sym is) (omega (arith, compared.below))
+      go : (result : Result Outcome Interruption) → EndsPairs former former_stopped former_allowance content has_stopped allowance taken is_failed work first first' second second' out out' result
+          → IsOutcomeOf work name other result outcome → outcome.status < 5
+      go (Ok done) compared is = subst (λ (r : Outcome). r.status < 5) (sym is) (omega (arith, compared.below))
       go (Err e) fails is = omega (arith, is.status)
 
 module _ {S O F : Type 0} (content : S → Option (List ℕ)) (has_stopped : S → Bool) (allowance : S → ℕ)
     (taken : O → Option (List ℕ)) (is_failed : O → Bool) (remaining : F → Option (List ℕ)) where
-  one_status : (work : Work) (file : Option (String Global)) (input input' : S) (out out' : O) (report : Report)
-      → PerformsOne content has_stopped allowance taken is_failed remaining work file input input' out out' report → report.outcome.status < 5
-  one_status work file input input' out out' report (unopened name some is a b) = omega (arith, is.1.status)
-  one_status work file input input' out out' report (no_room name some is a b) = omega (arith, is.status)
-  one_status work file input input' out out' report (over_input none runs) = run_status _ _ _ taken is_failed work _ input input' out out' report runs
-  one_status work file input input' out out' report (over_file name source source' some runs a) = run_status _ _ _ taken is_failed work _ source source' out out' report runs
+  one_status : (work : Work) (file : Option (String Global)) (input input' : S) (out out' : O) (outcome : Outcome)
+      → PerformsOne content has_stopped allowance taken is_failed remaining work file input input' out out' outcome → outcome.status < 5
+  one_status work file input input' out out' outcome (unopened name some is a b) = omega (arith, is.1.status)
+  one_status work file input input' out out' outcome (no_room name some is a b) = omega (arith, is.status)
+  one_status work file input input' out out' outcome (over_input none runs) = run_status _ _ _ taken is_failed work _ input input' out out' outcome runs
+  one_status work file input input' out out' outcome (over_file name source source' some runs a) = run_status _ _ _ taken is_failed work _ source source' out out' outcome runs
 
-  files_status : (work : Work) (first : List ℕ) (file : Option (String Global)) (input input' : S) (out out' : O) (report : Report)
-      → PerformsPairs content has_stopped allowance taken is_failed remaining work first file input input' out out' report → report.outcome.status < 5
-  files_status work first file input input' out out' report (first_unopened is a b) = omega (arith, is.1.status)
-  files_status work first file input input' out out' report (second_unopened name lines some is a b) = omega (arith, is.1.status)
-  files_status work first file input input' out out' report (pairs_over_input lines lines' none runs) =
-      pairs_status _ _ _ _ _ _ taken is_failed work _ _ lines lines' input input' out out' report runs
-  files_status work first file input input' out out' report (pairs_over_file name lines lines' source source' some runs a) =
-      pairs_status _ _ _ _ _ _ taken is_failed work _ _ lines lines' source source' out out' report runs
+  files_status : (work : Work) (first : List ℕ) (file : Option (String Global)) (input input' : S) (out out' : O) (outcome : Outcome)
+      → PerformsPairs content has_stopped allowance taken is_failed remaining work first file input input' out out' outcome → outcome.status < 5
+  files_status work first file input input' out out' outcome (first_unopened is a b) = omega (arith, is.1.status)
+  files_status work first file input input' out out' outcome (second_unopened name lines some is a b) = omega (arith, is.1.status)
+  files_status work first file input input' out out' outcome (pairs_over_input lines lines' none runs) =
+      pairs_status _ _ _ _ _ _ taken is_failed work _ _ lines lines' input input' out out' outcome runs
+  files_status work first file input input' out out' outcome (pairs_over_file name lines lines' source source' some runs a) =
+      pairs_status _ _ _ _ _ _ taken is_failed work _ _ lines lines' source source' out out' outcome runs
 
-  pub report_status : (job : Job) (input input' : S) (out out' : O) (report : Report) (status : ℕ)
-      → Performs content has_stopped allowance taken is_failed remaining job input input' out out' report → status ≡ report.outcome.status → status < 5
-  report_status job input input' out out' report status (lacks_file lacks a b) is = omega (arith, lacks.status, is)
-  report_status job input input' out out' report status (over_one work a b performs) is = omega (arith, one_status work job.file input input' out out' report performs, is)
-  report_status job input input' out out' report status (over_pairs work a b performs) is =
-      omega (arith, files_status work (string_bytes job.second) job.file input input' out out' report performs, is)
+  pub report_status : (job : Job) (input input' : S) (out out' : O) (outcome : Outcome) (status : ℕ)
+      → Performs content has_stopped allowance taken is_failed remaining job input input' out out' outcome → status ≡ outcome.status → status < 5
+  report_status job input input' out out' outcome status (lacks_file lacks a b) is = omega (arith, lacks.status, is)
+  report_status job input input' out out' outcome status (over_one work a b performs) is = omega (arith, one_status work job.file input input' out out' outcome performs, is)
+  report_status job input input' out out' outcome status (over_pairs work a b performs) is =
+      omega (arith, files_status work (string_bytes job.second) job.file input input' out out' outcome performs, is)

@@ -6,6 +6,5 @@ pub mod RunLemmas
 pub mod ScanLemmas
 pub mod EndingLemmas
 pub mod Showing
-pub mod PairReads
 pub mod PairLemmas
 pub mod PairRunLemmas

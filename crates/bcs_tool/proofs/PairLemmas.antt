@@ -1,6 +1,5 @@
 -- A comparison of two files, from one pair of lines to the next.
-use Rattle.std.proofs.Common.{◌≡◌, ◌≢◌, ◌<◌, ◌+◌, ◌^◌, ◌++◌, ◌∙◌, inl, inr, ℕ, Bool, false, true, List, [], ◌∷◌, Err, Ok, Option, Result, arith, codes, length, refl, subst, sym, take}
-use Rattle.std.specs.Prelude.{IfSome}
+use Rattle.std.proofs.Common.{◌≡◌, ◌≢◌, ◌<◌, ◌+◌, ◌^◌, ◌++◌, ◌∙◌, inl, inr, ℕ, Bool, false, true, List, [], ◌∷◌, Err, Ok, Option, None, Some, Result, arith, codes, length, refl, subst, sym, take}
 use Rattle.bcs_io.specs.Taking as sink
 use Rattle.bcs_io.proofs.TakingLemmas as taking
 use Rattle.bcs_io.specs.Held.{HeldLine}
@@ -16,18 +15,46 @@ use Rattle.bcs_tool_answers.specs.declared.ending.Ending.TheVariants.{Together, 
 use Rattle.bcs_tool_answers.proofs.PairAnswerLemmas.{as_many_pairs, one_alone, pairs_then}
 use Rattle.bcs_io.specs.declared.taking.TakeFault.{TakeFault}
 use Rattle.bcs_tool_command_line.specs.declared.work.Work.{Work}
-use Rattle.bcs_tool.specs.Lines.{IsTally}
-use Rattle.bcs_tool.specs.PairLines.{AllPaired, ArePairsSoFar, EndsBy, EndsPaired, FailsNext, HasEnded, PutsPair, ReadsBoth, ReadsOn, StopsPair, broken_at, last_output, last_statuses}
-use Rattle.bcs_tool.specs.Pairs.{AnswersBehind, AreAll, BothGaveFew, BrokeInLine, FailsPairsAt, Gave, GaveFew, GaveLine, IsLongAt, PutPairPart, PutPairs}
+use Rattle.bcs_tool.specs.Lines.{FailsNext, IsTally, ReadsOn, broken_at}
+use Rattle.bcs_tool.specs.PairLines.{AllPaired, ArePairsSoFar, EndsBy, EndsPaired, HasEnded, PutsPair, ReadsBoth, ending_of, last_output, last_statuses}
+use Rattle.bcs_tool.specs.Pairs.{AnswersBehind, AreAll, BothGaveFew, FailsPairsAt, GaveFew, GaveLine, PutPairPart, PutPairs, StopsAt}
 use Rattle.bcs_tool.specs.Pairs as behind
-use Rattle.bcs_tool.specs.Running.{AreFirst, IsLongBehind, PutFront}
-use Rattle.bcs_tool.specs.declared.pair_interruption.PairInterruption.{PairInterruption}
-use Rattle.bcs_tool.specs.declared.pair_interruption.Side.TheVariants.{First, Second}
+use Rattle.bcs_tool.specs.Running.{AreFirst, PutFront, take_of}
+use Rattle.bcs_tool.specs.declared.interruption.Interruption.{Interruption}
+use Rattle.bcs_tool.specs.declared.interruption.Side.TheVariants.{First, Second}
 use Rattle.bcs_tool.specs.declared.pair_lines.Compared.{Compared}
 use Rattle.bcs_tool.specs.declared.run_fault.RunFault.{RunFault}
 use Rattle.bcs_tool.specs.declared.run_fault.RunFault.TheVariants.{Take, Write}
 use Rattle.bcs_tool.specs.declared.tally.Tally.{Tally}
-use Rattle.bcs_tool.proofs.ReadLemmas.{MayHave, all_lines, broke_in_line, few_behind, few_given, few_long, few_read, first_behind, first_read, gave, gave_line, line_read, long_behind, none_behind, none_read, room_for_one, some_behind}
+use Rattle.bcs_tool.proofs.ReadLemmas.{MayHave, all_lines, few_behind, few_read, first_behind, first_read, gave_line, line_read, none_behind, none_read, room_for_one, some_behind, stops_at}
+
+module _ {F S : Type 0} (former : F → Option (List ℕ)) (former_stopped : F → Bool) (former_allowance : F → ℕ)
+    (content : S → Option (List ℕ)) (has_stopped : S → Bool) (allowance : S → ℕ) (has_first has_second : Bool)
+    (a b : F) (x y : S) (one one' other other' : HeldLine)
+    (first : ReadsOn former former_stopped former_allowance has_first a b one one') (second : ReadsOn content has_stopped allowance has_second x y other other') where
+  -- by which of two files has a next line, both have one, or one has ended
+  pub both_read : ending_of has_first has_second ≡ None → ReadsBoth former former_stopped former_allowance content has_stopped allowance true true a b x y one one' other other'
+  both_read none = go has_first has_second none (record { of_first = first; of_second = second })
+    where
+      go : (h k : Bool) → ending_of h k ≡ None → ReadsBoth former former_stopped former_allowance content has_stopped allowance h k a b x y one one' other other'
+          → ReadsBoth former former_stopped former_allowance content has_stopped allowance true true a b x y one one' other other'
+      go true true none reads = reads
+      go true false none reads = let bad : ⊥ = cc in absurd bad
+      go false true none reads = let bad : ⊥ = cc in absurd bad
+      go false false none reads = let bad : ⊥ = cc in absurd bad
+
+  pub has_ended : (ending : Ending) → ending_of has_first has_second ≡ Some ending
+      → HasEnded former former_stopped former_allowance content has_stopped allowance ending a b x y one one' other other'
+  has_ended ending some = go has_first has_second some (record { of_first = first; of_second = second })
+    where
+      P : Ending → Type 0
+      P e = HasEnded former former_stopped former_allowance content has_stopped allowance e a b x y one one' other other'
+
+      go : (h k : Bool) → ending_of h k ≡ Some ending → ReadsBoth former former_stopped former_allowance content has_stopped allowance h k a b x y one one' other other' → P ending
+      go true true some reads = let bad : ⊥ = cc in absurd bad
+      go true false some reads = let is : SecondEnds ≡ ending = cc in subst P is reads
+      go false true some reads = let is : FirstEnds ≡ ending = cc in subst P is reads
+      go false false some reads = let is : Together ≡ ending = cc in subst P is reads
 
 module _ {F S K : Type 0} (former : F → Option (List ℕ)) (former_stopped : F → Bool) (former_allowance : F → ℕ)
     (content : S → Option (List ℕ)) (has_stopped : S → Bool) (allowance : S → ℕ) (taken : K → Option (List ℕ)) (is_failed : K → Bool) (work : Work) where
@@ -209,7 +236,7 @@ module _ {F S K : Type 0} (former : F → Option (List ℕ)) (former_stopped : F
         (subst (λ (n : ℕ). GaveFew content has_stopped allowance second x n) second_many (few_read content has_stopped allowance second x far.seconds other.rest far.second_read))
 
     -- the last answer was put, or not
-    pub ends_paired : (ending : Ending) (out'' : K) (result : Result Compared PairInterruption)
+    pub ends_paired : (ending : Ending) (out'' : K) (result : Result Compared Interruption)
         → HasEnded former former_stopped former_allowance content has_stopped allowance ending a b x y one one' other other'
         → EndsBy taken is_failed ending tally out' out'' result
         → EndsPaired former former_stopped former_allowance content has_stopped allowance taken is_failed work first b second y out out'' result
@@ -217,15 +244,11 @@ module _ {F S K : Type 0} (former : F → Option (List ℕ)) (former_stopped : F
         subst (λ (e : Ending). AllPaired former former_stopped former_allowance content has_stopped allowance taken is_failed work first second out out'' (record { tally = compared.tally; ending = e })) (sym same)
         (all_paired ending out'' compared.tally reads put (counts far.statuses far.counted))
     ends_paired ending out'' (Err e) reads (is, some, front) =
-        let P : PairInterruption → Type 0 = λ i. FailsPairsAt former former_stopped former_allowance content has_stopped allowance taken is_failed work first b second y out out''
-        i.side i.interruption.fault i.interruption.answered in
+        let P : Interruption → Type 0 = λ i. FailsPairsAt former former_stopped former_allowance content has_stopped allowance taken is_failed work first b second y out out''
+        i.side i.fault i.answered in
         subst P (sym is) (few_at_end ending reads, part_behind 1 (line_of (codes "different")) out'' (last_behind ending reads some) front)
 
     -- ---- faults
-
-    -- the second wasn't read again
-    second_gave : y ≡ x → Gave content has_stopped allowance second y
-    second_gave same = subst (λ (s : S). Gave content has_stopped allowance second s) (sym same) (far.second_read.given, far.second_read.took)
 
     -- the first gave its next line, or has ended
     first_gave : (has_first : Bool) → ReadsOn former former_stopped former_allowance has_first a b one one' → GaveLine former former_stopped former_allowance first b tally.answered
@@ -233,90 +256,30 @@ module _ {F S K : Type 0} (former : F → Option (List ℕ)) (former_stopped : F
         subst (λ (n : ℕ). GaveLine former former_stopped former_allowance first b n) first_many
         (gave_line former former_stopped former_allowance first a b far.firsts one one' far.first_read has_first on)
 
-    -- the next line of the first isn't there
-    fails_first : (fault : NextFault) → ReadsInput work → FailsNext former former_stopped former_allowance fault a b one one' → y ≡ x
-        → EndsPaired former former_stopped former_allowance content has_stopped allowance taken is_failed work first b second y out out' (Err (broken_at First fault tally.answered))
-    fails_first next_fault.Read reads lost same = (
-      reads,
-      lost.lost.after,
-      second_gave same,
-      (
-        subst (λ (n : ℕ). BrokeInLine former former_stopped former_allowance first b n) first_many
-            (broke_in_line former former_stopped former_allowance first a b far.firsts one one' far.first_read lost),
-        second_few_before same,
-      ),
-      put_pairs,
-    )
-    fails_first next_fault.TooLong reads long same = (
-      reads,
-      subst (λ (n : ℕ). IfSome (former first) (IsLongBehind n)) first_many
-          (long_behind former former_stopped former_allowance first a b far.firsts one one' far.first_read long),
-      second_gave same,
-      (
-        subst (λ (n : ℕ). GaveFew former former_stopped former_allowance first b n) first_many
-            (few_long former former_stopped former_allowance first a b far.firsts one one' far.first_read long),
-        second_few_before same,
-      ),
-      put_pairs,
-    )
-    fails_first next_fault.OutOfMemory reads ran same = (
-      gave former former_stopped former_allowance first a b far.firsts one one' far.first_read ran.given ran.took,
-      second_gave same,
-      (
-        subst (λ (n : ℕ). GaveFew former former_stopped former_allowance first b n) first_many
-            (few_given former former_stopped former_allowance first a b far.firsts one one' far.first_read ran.given ran.took ran.ahead),
-        second_few_before same,
-      ),
-      put_pairs,
-    )
+    -- or it has no next line; and so the second
+    first_stops : (fault : NextFault) → FailsNext former former_stopped former_allowance fault a b one one'
+        → StopsAt former former_stopped former_allowance (take_of fault) first b tally.answered
+    first_stops fault fails =
+        subst (λ (n : ℕ). StopsAt former former_stopped former_allowance (take_of fault) first b n) first_many
+        (stops_at former former_stopped former_allowance first a b far.firsts one one' far.first_read fault fails)
 
-    -- the next line of the second isn't there
-    fails_second : (fault : NextFault) (has_first : Bool) → ReadsInput work → ReadsOn former former_stopped former_allowance has_first a b one one'
+    second_stops : (fault : NextFault) → FailsNext content has_stopped allowance fault x y other other' → StopsAt content has_stopped allowance (take_of fault) second y tally.answered
+    second_stops fault fails =
+        subst (λ (n : ℕ). StopsAt content has_stopped allowance (take_of fault) second y n) second_many
+        (stops_at content has_stopped allowance second x y far.seconds other other' far.second_read fault fails)
+
+    pub fails_first : (fault : NextFault) → ReadsInput work → FailsNext former former_stopped former_allowance fault a b one one' → y ≡ x
+        → EndsPaired former former_stopped former_allowance content has_stopped allowance taken is_failed work first b second y out out' (Err (broken_at First fault tally.answered))
+    fails_first next_fault.Read reads fails same = (reads, (first_stops next_fault.Read fails, second_few_before same), put_pairs)
+    fails_first next_fault.TooLong reads fails same = (reads, (first_stops next_fault.TooLong fails, second_few_before same), put_pairs)
+    fails_first next_fault.OutOfMemory reads fails same = ((first_stops next_fault.OutOfMemory fails, second_few_before same), put_pairs)
+
+    pub fails_second : (fault : NextFault) (has_first : Bool) → ReadsInput work → ReadsOn former former_stopped former_allowance has_first a b one one'
         → FailsNext content has_stopped allowance fault x y other other'
         → EndsPaired former former_stopped former_allowance content has_stopped allowance taken is_failed work first b second y out out' (Err (broken_at Second fault tally.answered))
-    fails_second next_fault.Read has_first reads on lost = (
-      reads,
-      lost.lost.after,
-      first_gave has_first on,
-      (
-        first_few has_first on,
-        subst (λ (n : ℕ). BrokeInLine content has_stopped allowance second y n) second_many
-            (broke_in_line content has_stopped allowance second x y far.seconds other other' far.second_read lost),
-      ),
-      put_pairs,
-    )
-    fails_second next_fault.TooLong has_first reads on long = (
-      reads,
-      subst (λ (n : ℕ). IfSome (content second) (IsLongBehind n)) second_many
-          (long_behind content has_stopped allowance second x y far.seconds other other' far.second_read long),
-      first_gave has_first on,
-      (
-        first_few has_first on,
-        subst (λ (n : ℕ). GaveFew content has_stopped allowance second y n) second_many
-            (few_long content has_stopped allowance second x y far.seconds other other' far.second_read long),
-      ),
-      put_pairs,
-    )
-    fails_second next_fault.OutOfMemory has_first reads on ran = (
-      (first_gave has_first on).gave,
-      gave content has_stopped allowance second x y far.seconds other other' far.second_read ran.given ran.took,
-      (
-        first_few has_first on,
-        subst (λ (n : ℕ). GaveFew content has_stopped allowance second y n) second_many
-            (few_given content has_stopped allowance second x y far.seconds other other' far.second_read ran.given ran.took ran.ahead),
-      ),
-      put_pairs,
-    )
-
-    pub fails_pair : (e : PairInterruption) → ReadsInput work
-        → StopsPair former former_stopped former_allowance content has_stopped allowance e tally.answered a b x y one one' other other'
-        → EndsPaired former former_stopped former_allowance content has_stopped allowance taken is_failed work first b second y out out' (Err e)
-    fails_pair e reads (inl (fault, is, fails, same)) =
-        subst (λ (i : PairInterruption). EndsPaired former former_stopped former_allowance content has_stopped allowance taken is_failed work first b second y out out' (Err i)) (sym is)
-        (fails_first fault reads fails same)
-    fails_pair e reads (inr (fault, has_first, is, on, fails)) =
-        subst (λ (i : PairInterruption). EndsPaired former former_stopped former_allowance content has_stopped allowance taken is_failed work first b second y out out' (Err i)) (sym is)
-        (fails_second fault has_first reads on fails)
+    fails_second next_fault.Read has_first reads on fails = (reads, (first_gave has_first on, second_stops next_fault.Read fails), put_pairs)
+    fails_second next_fault.TooLong has_first reads on fails = (reads, (first_gave has_first on, second_stops next_fault.TooLong fails), put_pairs)
+    fails_second next_fault.OutOfMemory has_first reads on fails = ((first_few has_first on, second_stops next_fault.OutOfMemory fails), put_pairs)
 
     -- the answer to the pair was not put
     pub fails_pair_put : (out'' : K) (fault : RunFault) → ReadsBoth former former_stopped former_allowance content has_stopped allowance true true a b x y one one' other other'
@@ -325,8 +288,6 @@ module _ {F S K : Type 0} (former : F → Option (List ℕ)) (former_stopped : F
     fails_pair_put out'' (Take fault) reads puts =
         let P : TakeFault → Type 0 = λ f. FailsPairsAt former former_stopped former_allowance content has_stopped allowance taken is_failed work first b second y out out'' Second (Take f) tally.answered in
         subst P (sym puts.0) (
-          (first_gave true reads.of_first).gave,
-          (gave_line content has_stopped allowance second x y far.seconds other other' far.second_read true reads.of_second).gave,
           (first_few true reads.of_first, second_few true reads.of_second),
           subst (λ (k : K). PutPairs former former_stopped former_allowance content has_stopped allowance taken is_failed work first second out k tally.answered) (sym puts.1) put_pairs,
         )

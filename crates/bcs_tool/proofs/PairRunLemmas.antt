@@ -1,6 +1,5 @@
 -- What comes of a comparison of two files, by what its steps answered.
-use Rattle.std.proofs.Common.{◌≡◌, ◌++◌, ◌∙◌, ℕ, Bool, List, [], Option, Err, Ok, ap, arith, refl, subst, sym}
-use Rattle.bcs_io.proofs.GivingLemmas as giving
+use Rattle.std.proofs.Common.{◌≡◌, ◌++◌, ◌∙◌, ℕ, Bool, List, [], Option, Err, Ok, Result, ap, arith, refl, subst, sym}
 use Rattle.bcs_io.proofs.TakingLemmas as taking
 use Rattle.bcs_io.specs.Lines.{lines_of}
 use Rattle.bcs_tool_answers.specs.Judging.{ReadsInput}
@@ -13,13 +12,13 @@ use Rattle.bcs_tool_answers.proofs.AnswerLemmas.{status_below}
 use Rattle.bcs_tool_answers.proofs.PairAnswerLemmas.{greatest_pair_below}
 use Rattle.bcs_tool_command_line.specs.FaultPlaces.{TellsPlace}
 use Rattle.bcs_io.specs.declared.taking.TakeFault.TheVariants.{OutOfMemory}
-use Rattle.bcs_tool_command_line.specs.declared.work.Report.{Report}
+use Rattle.bcs_tool_command_line.specs.declared.work.Outcome.{Outcome}
 use Rattle.bcs_tool_command_line.specs.declared.work.Work.{Work}
 use Rattle.bcs_tool.specs.PairLines.{AllPaired}
 use Rattle.bcs_tool.specs.Pairs.{AreCompared, BothGaveFew, EndsPairs, PutPairs, RespondsPairs, compared, refused, refused_alone}
 use Rattle.bcs_tool.specs.Running.{PutsAnswer}
 use Rattle.bcs_tool.specs.declared.interruption.Interruption.{Interruption}
-use Rattle.bcs_tool.specs.declared.pair_interruption.Side.TheVariants.{First}
+use Rattle.bcs_tool.specs.declared.interruption.Side.TheVariants.{Second}
 use Rattle.bcs_tool.specs.declared.pair_lines.Compared.{Compared}
 use Rattle.bcs_tool.specs.declared.run_fault.RunFault.TheVariants.{Take}
 use Rattle.bcs_tool.proofs.ReadLemmas.{few_read, none_read}
@@ -48,17 +47,17 @@ module _ {F S K : Type 0} (former : F → Option (List ℕ)) (former_stopped : F
 
   -- memory ran out before a file was read
   pub no_memory_for_pairs : (first : F) (second : S) (out : K) → EndsPairs former former_stopped former_allowance content has_stopped allowance taken is_failed work first first second second out out
-      (Err (record { side = First; interruption = record { fault = Take OutOfMemory; answered = 0 } }))
-  no_memory_for_pairs first second out = (([], giving.Gave-nothing former former_stopped former_allowance first), ([], giving.Gave-nothing content has_stopped allowance second), none_given first second, nothing_put first second out)
+      (Err (record { fault = Take OutOfMemory; answered = 0; side = Second }))
+  no_memory_for_pairs first second out = (none_given first second, nothing_put first second out)
 
   -- the words are refused, and the one answer was put, or a front of it
   module _ (first : F) (second : S) (out out' : K) (answer : Answer) (none : ¬ ReadsInput work) (is : IsAnswer work [] answer) where
-    pub refused_pairs : (report : Report) → PutsAnswer taken is_failed answer out out' (Ok report)
-        → AreCompared former former_stopped former_allowance content has_stopped allowance taken is_failed work first second out out' report
-    refused_pairs report puts =
+    pub refused_pairs : (result : Result Outcome Interruption) → PutsAnswer taken is_failed answer out out' result
+        → EndsPairs former former_stopped former_allowance content has_stopped allowance taken is_failed work first first second second out out' result
+    refused_pairs (Ok outcome) puts =
         let ones = some_content (former first) in
         let others = some_content (content second) in
-        let P : ℕ → Type 0 = λ status. RespondsPairs work ones.0 others.0 status answer.output.items report.place.items in
+        let P : ℕ → Type 0 = λ status. RespondsPairs work ones.0 others.0 status answer.output.items outcome.place.items in
         record {
           note = puts.note;
           below = omega (arith, puts.status, status_below work [] answer.status answer.output.items is.0);
@@ -69,13 +68,10 @@ module _ {F S K : Type 0} (former : F → Option (List ℕ)) (former_stopped : F
           output = answer.output.items;
           put = puts.put;
           responds = subst P (sym puts.status)
-              (refused answer.status answer.output.items report.place.items none is.0 (subst (λ (place : List ℕ). Places work [] place) (sym puts.place) is.1));
+              (refused answer.status answer.output.items outcome.place.items none is.0 (subst (λ (place : List ℕ). Places work [] place) (sym puts.place) is.1));
         }
-
-    pub refused_pairs_part : (e : Interruption) → PutsAnswer taken is_failed answer out out' (Err e)
-        → EndsPairs former former_stopped former_allowance content has_stopped allowance taken is_failed work first first second second out out' (Err (record { side = First; interruption = e }))
-    refused_pairs_part e puts =
-        let P : Interruption → Type 0 = λ i. EndsPairs former former_stopped former_allowance content has_stopped allowance taken is_failed work first first second second out out' (Err (record { side = First; interruption = i })) in
+    refused_pairs (Err e) puts =
+        let P : Interruption → Type 0 = λ i. EndsPairs former former_stopped former_allowance content has_stopped allowance taken is_failed work first first second second out out' (Err i) in
         subst P (sym puts.0) (
           none_given first second,
           record {
@@ -95,17 +91,17 @@ module _ {F S K : Type 0} (former : F → Option (List ℕ)) (former_stopped : F
         )
 
   -- all pairs were answered, and how many with which status is told
-  pub told_pairs : (first : F) (second : S) (out out' : K) (all : Compared) (report : Report) → ReadsInput work
+  pub told_pairs : (first : F) (second : S) (out out' : K) (all : Compared) (outcome : Outcome) → ReadsInput work
       → AllPaired former former_stopped former_allowance content has_stopped allowance taken is_failed work first second out out' all
-      → report.outcome.status ≡ all.tally.status → report.outcome.note.now ≡ []
-      → TellsPlace work.options.quiet (tally_text all.tally.done all.tally.negative all.tally.refused ++ lacking_text all.ending all.tally.answered) report.place.items
-      → AreCompared former former_stopped former_allowance content has_stopped allowance taken is_failed work first second out out' report
-  told_pairs first second out out' all report reads paired status note tells =
+      → outcome.status ≡ all.tally.status → outcome.note.now ≡ []
+      → TellsPlace work.options.quiet (tally_text all.tally.done all.tally.negative all.tally.refused ++ lacking_text all.ending all.tally.answered) outcome.place.items
+      → AreCompared former former_stopped former_allowance content has_stopped allowance taken is_failed work first second out out' outcome
+  told_pairs first second out out' all outcome reads paired status note tells =
       let counted = paired.counted in
       let text : (tally_text all.tally.done all.tally.negative all.tally.refused ++ lacking_text all.ending all.tally.answered) ≡ pairs_summary all.ending paired.statuses =
       ap (λ (t : List ℕ). t ++ lacking_text all.ending all.tally.answered) (told_counts all.tally paired.statuses counted)
       ∙ ap (λ (n : ℕ). summary paired.statuses ++ lacking_text all.ending n) counted.answered in
-      let P : ℕ → Type 0 = λ s. RespondsPairs work paired.ones paired.others s paired.output report.place.items in
+      let P : ℕ → Type 0 = λ s. RespondsPairs work paired.ones paired.others s paired.output outcome.place.items in
       record {
         note = note;
         below = omega (arith, status, counted.status, greatest_pair_below work (lines_of paired.ones) (lines_of paired.others) all.ending paired.statuses paired.output paired.answers);
@@ -115,6 +111,6 @@ module _ {F S K : Type 0} (former : F → Option (List ℕ)) (former_stopped : F
         second_known = paired.second_known;
         output = paired.output;
         put = paired.put;
-        responds = subst P (sym (status ∙ counted.status)) (compared all.ending paired.statuses paired.output report.place.items reads paired.answers
-            (subst (λ (t : List ℕ). TellsPlace work.options.quiet t report.place.items) text tells));
+        responds = subst P (sym (status ∙ counted.status)) (compared all.ending paired.statuses paired.output outcome.place.items reads paired.answers
+            (subst (λ (t : List ℕ). TellsPlace work.options.quiet t outcome.place.items) text tells));
       }

@@ -9,11 +9,12 @@ use Rattle.bcs_io.specs.Held.{HeldLine}
 use Rattle.bcs_io.specs.Lines.{HasNoLineFeed, before_block, line_feeds, lines_of}
 use Rattle.bcs_io.proofs.Ahead.{block_behind, short_ahead}
 use Rattle.bcs_io.proofs.FeedLemmas.{feeds_append, feeds_before_block, feeds_none}
+use Rattle.bcs_io.specs.declared.next_fault.NextFault.{NextFault}
+use Rattle.bcs_io.specs.declared.next_fault.NextFault.TheVariants as next_fault
 use Rattle.bcs_tool_command_line.specs.Files.{IsContent, size_limit}
-use Rattle.bcs_tool.specs.Lines.{AreRead, StandBefore}
-use Rattle.bcs_tool.specs.PairLines.{ReadsOn}
-use Rattle.bcs_tool.specs.Pairs.{AreAll, BrokeInLine, GaveFew, GaveLine}
-use Rattle.bcs_tool.specs.Running.{AreFirst, IsLongBehind}
+use Rattle.bcs_tool.specs.Lines.{AreRead, FailsNext, ReadsOn, StandBefore}
+use Rattle.bcs_tool.specs.Pairs.{AreAll, BrokeInLine, GaveFew, GaveLine, StopsAt}
+use Rattle.bcs_tool.specs.Running.{AreFirst, IsLongBehind, take_of}
 use Rattle.bcs_tool.proofs.LineLemmas.{all_within, end_past, stand_all, stand_end, stand_first, stand_last, stand_line, stand_long, stand_nothing, stand_past, stand_some, stand_within}
 
 -- what a line and its line feed take of the room
@@ -179,12 +180,18 @@ module _ {S : Type 0} (content : S → Option (List ℕ)) (has_stopped : S → B
     -- the next line was given, or none is left
     pub gave_line : (has_line : Bool) → ReadsOn content has_stopped allowance has_line now later before after → GaveLine content has_stopped allowance input later (length lines)
     gave_line true takes = record {
-      gave = gave takes.given takes.took;
+      few = few_behind true takes;
       within = stand_within (content input) (content later) lines after.line after.rest takes.within (stand_behind takes);
       past = stand_past (content input) (content later) lines after.line after.rest (stand_behind takes);
     }
     gave_line false ends = record {
-      gave = gave [] ends.took;
+      few = few_behind false ends;
       within = all_within (content input) lines (all_lines ends);
       past = end_past (content input) (content later) (length lines) ends.ends;
     }
+
+    -- the next line isn't there
+    pub stops_at : (fault : NextFault) → FailsNext content has_stopped allowance fault now later before after → StopsAt content has_stopped allowance (take_of fault) input later (length lines)
+    stops_at next_fault.Read fails = broke_in_line fails
+    stops_at next_fault.TooLong long = (long_behind long, few_long long)
+    stops_at next_fault.OutOfMemory ran = few_given ran.given ran.took ran.ahead

@@ -18,8 +18,9 @@ use Rattle.bcs_tool_command_line.specs.FaultPlaces.{TellsPlace}
 use Rattle.bcs_tool_command_line.specs.Files.{IsContent, size_limit}
 use Rattle.bcs_io.specs.declared.taking.TakeFault.{TakeFault}
 use Rattle.bcs_io.specs.declared.taking.TakeFault.TheVariants as take_fault
-use Rattle.bcs_tool_command_line.specs.declared.work.Report.{Report}
+use Rattle.bcs_tool_command_line.specs.declared.work.Outcome.{Outcome}
 use Rattle.bcs_tool_command_line.specs.declared.work.Work.{Work}
+use Rattle.bcs_tool.specs.declared.interruption.Side.TheVariants.{Second}
 use Rattle.bcs_tool.specs.Lines.{AllAnswered, IsTally}
 use Rattle.bcs_tool.specs.Running.{AreFirst, Ends, FailsAt, HasLines, IsAnswered, IsUnhurt, PutBefore, PutsAnswer, ReadsNoFurther, Responds, by_line, once}
 use Rattle.bcs_tool.specs.declared.interruption.Interruption.{Interruption}
@@ -82,7 +83,7 @@ module _ {S K : Type 0} (content : S → Option (List ℕ)) (has_stopped : S →
   -- memory ran out before the input was read, or behind all of it
   pub no_memory : (input input' : S) (out : K) → IsUnhurt content has_stopped allowance taken is_failed work input input'
       → ReadsNoFurther content has_stopped allowance taken is_failed work input input' 0
-      → Ends content has_stopped allowance taken is_failed work input input' out out (Err (record { fault = Take take_fault.OutOfMemory; answered = 0 }))
+      → Ends content has_stopped allowance taken is_failed work input input' out out (Err (record { fault = Take take_fault.OutOfMemory; answered = 0; side = Second }))
   no_memory input input' out unhurt no_further = (unhurt, no_further, nothing_before input out)
 
   pub unhurt_whole : (input input' : S) (bytes : List ℕ) → source.Gave content has_stopped allowance input input' bytes → length bytes ≤ size_limit → has_stopped input' ≡ false
@@ -94,7 +95,7 @@ module _ {S K : Type 0} (content : S → Option (List ℕ)) (has_stopped : S →
       → (fault ≡ take_fault.Read → (bytes : List ℕ) × source.GaveThenFailed content has_stopped allowance input input' bytes × (length bytes ≤ size_limit))
       → (fault ≡ take_fault.TooLarge → (bytes : List ℕ) × source.Gave content has_stopped allowance input input' bytes × (length bytes ≡ size_limit + 1))
       → (fault ≡ take_fault.OutOfMemory → (bytes : List ℕ) × source.Gave content has_stopped allowance input input' bytes × (length bytes ≤ size_limit) × (has_stopped input' ≡ false))
-      → Ends content has_stopped allowance taken is_failed work input input' out out (Err (record { fault = Take fault; answered = 0 }))
+      → Ends content has_stopped allowance taken is_failed work input input' out out (Err (record { fault = Take fault; answered = 0; side = Second }))
   not_taken input input' out take_fault.Read reads whole read large memory = (reads, (read refl).1.after, λ lines. absurd (whole lines), nothing_before input out)
   not_taken input input' out take_fault.TooLarge reads whole read large memory =
       let l = large refl in
@@ -103,11 +104,11 @@ module _ {S K : Type 0} (content : S → Option (List ℕ)) (has_stopped : S →
       let m = memory refl in no_memory input input' out (unhurt_whole input input' m.0 m.1 m.2 m.3) (λ lines. absurd (whole lines))
 
   -- one answer was put, or a front of it
-  pub put_once : (input input' : S) (out out' : K) (answer : Answer) (bytes : List ℕ) (result : Result Report Interruption) → ¬ HasLines work
+  pub put_once : (input input' : S) (out out' : K) (answer : Answer) (bytes : List ℕ) (result : Result Outcome Interruption) → ¬ HasLines work
       → IsContent (content input) bytes → IsAnswer work bytes answer → PutsAnswer taken is_failed answer out out' result
       → Ends content has_stopped allowance taken is_failed work input input' out out' result
-  put_once input input' out out' answer bytes (Ok report) whole known is puts =
-      let P : ℕ → Type 0 = λ status. Responds work bytes status answer.output.items report.place.items in
+  put_once input input' out out' answer bytes (Ok outcome) whole known is puts =
+      let P : ℕ → Type 0 = λ status. Responds work bytes status answer.output.items outcome.place.items in
       record {
         note = puts.note;
         below = omega (arith, puts.status, status_below work bytes answer.status answer.output.items is.0);
@@ -117,7 +118,7 @@ module _ {S K : Type 0} (content : S → Option (List ℕ)) (has_stopped : S →
           bytes,
           known,
           subst P (sym puts.status)
-              (once answer.status answer.output.items report.place.items whole is.0 (subst (λ (place : List ℕ). Places work bytes place) (sym puts.place) is.1)),
+              (once answer.status answer.output.items outcome.place.items whole is.0 (subst (λ (place : List ℕ). Places work bytes place) (sym puts.place) is.1)),
         );
       }
   put_once input input' out out' answer bytes (Err e) whole known is puts =
@@ -141,13 +142,13 @@ module _ {S K : Type 0} (content : S → Option (List ℕ)) (has_stopped : S →
       )
 
   -- all lines were answered, and how many with which status is told
-  pub tallied : (input : S) (out out' : K) (tally : Tally) (report : Report) → HasLines work → AllAnswered content has_stopped allowance taken is_failed work input out out' tally
-      → report.outcome.status ≡ tally.status → report.outcome.note.now ≡ [] → TellsPlace work.options.quiet (tally_text tally.done tally.negative tally.refused) report.place.items
-      → IsAnswered content has_stopped allowance taken is_failed work input out out' report
-  tallied input out out' tally report lines all status note tells =
+  pub tallied : (input : S) (out out' : K) (tally : Tally) (outcome : Outcome) → HasLines work → AllAnswered content has_stopped allowance taken is_failed work input out out' tally
+      → outcome.status ≡ tally.status → outcome.note.now ≡ [] → TellsPlace work.options.quiet (tally_text tally.done tally.negative tally.refused) outcome.place.items
+      → IsAnswered content has_stopped allowance taken is_failed work input out out' outcome
+  tallied input out out' tally outcome lines all status note tells =
       let counted = all.counted in
       let text : tally_text tally.done tally.negative tally.refused ≡ summary all.statuses = told_counts tally all.statuses counted in
-      let P : ℕ → Type 0 = λ status. Responds work all.bytes status all.output report.place.items in
+      let P : ℕ → Type 0 = λ status. Responds work all.bytes status all.output outcome.place.items in
       record {
         note = note;
         below = omega (arith, status, counted.status, greatest_below work (lines_of all.bytes) all.statuses all.output all.answers);
@@ -156,7 +157,7 @@ module _ {S K : Type 0} (content : S → Option (List ℕ)) (has_stopped : S →
         responds = inl (
           all.bytes,
           all.known,
-          subst P (sym (status ∙ counted.status)) (by_line all.statuses all.output report.place.items lines all.answers
-              (subst (λ (t : List ℕ). TellsPlace work.options.quiet t report.place.items) text tells)),
+          subst P (sym (status ∙ counted.status)) (by_line all.statuses all.output outcome.place.items lines all.answers
+              (subst (λ (t : List ℕ). TellsPlace work.options.quiet t outcome.place.items) text tells)),
         );
       }

@@ -19,7 +19,7 @@ use Rattle.bcs_tool_answers.specs.Preparing.{IsAskedBy}
 use Rattle.bcs_tool_answers.specs.declared.answer.Answer.{Answer}
 use Rattle.bcs_tool_answers.specs.declared.judging.Asked.{Asked}
 use Rattle.bcs_io.specs.declared.taking.TakeFault.TheVariants as take_fault
-use Rattle.bcs_tool_command_line.specs.declared.work.Report.{Report}
+use Rattle.bcs_tool_command_line.specs.declared.work.Outcome.{Outcome}
 use Rattle.bcs_tool_command_line.specs.declared.work.Work.{Work}
 use Rattle.bcs_tool_command_line.specs.Jobs.{coding_of, is_raw}
 use Rattle.bcs_tool_command_line.specs.declared.coding.Coding.{Coding}
@@ -152,9 +152,9 @@ module _ {S K : Type 0} (content : S → Option (List ℕ)) (has_stopped : S →
       go Write of = absurd of
 
   -- the answer was put, or a front of it
-  pub put_scan : (input input' : S) (out out' : K) (answer : Answer) (result : Result Report Interruption) → IsScanned work (content input) answer
+  pub put_scan : (input input' : S) (out out' : K) (answer : Answer) (result : Result Outcome Interruption) → IsScanned work (content input) answer
       → PutsAnswer taken is_failed answer out out' result → Ends content has_stopped allowance taken is_failed work input input' out out' result
-  put_scan input input' out out' answer (Ok report) is puts = record {
+  put_scan input input' out out' answer (Ok outcome) is puts = record {
     note = puts.note;
     below = omega (arith, puts.status, is.below);
     output = answer.output.items;
@@ -163,11 +163,11 @@ module _ {S K : Type 0} (content : S → Option (List ℕ)) (has_stopped : S →
   }
     where
       responds : (c : Option (List ℕ)) → IfTold c (λ all. Answers work all answer.status answer.output.items)
-          → IfTold c (λ all. Responds work all report.outcome.status answer.output.items report.place.items)
+          → IfTold c (λ all. Responds work all outcome.status answer.output.items outcome.place.items)
       responds None told = tt
       responds (Some all) told =
-          λ are. subst (λ (status : ℕ). Responds work all status answer.output.items report.place.items) (sym puts.status)
-          (once answer.status answer.output.items report.place.items whole (told are) (places.nothing (puts.place ∙ is.place)))
+          λ are. subst (λ (status : ℕ). Responds work all status answer.output.items outcome.place.items) (sym puts.status)
+          (once answer.status answer.output.items outcome.place.items whole (told are) (places.nothing (puts.place ∙ is.place)))
   put_scan input input' out out' answer (Err e) is puts =
       let P : Interruption → Type 0 = λ i. FailsAt content has_stopped allowance taken is_failed work input input' out out' i.fault i.answered in
       subst P (sym puts.0) (

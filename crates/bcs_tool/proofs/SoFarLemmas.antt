@@ -4,7 +4,7 @@ use Rattle.std.specs.Prelude.{IfSome}
 use Rattle.bcs_io.specs.Giving as source
 use Rattle.bcs_io.specs.Taking as sink
 use Rattle.bcs_io.proofs.TakingLemmas as taking
-use Rattle.bcs_io.specs.Advancing.{FailsInLine, HasNoLine, IsTooLong, RunsOut, TakesLine}
+use Rattle.bcs_io.specs.Advancing.{FailsInLine, HasNoLine, IsTooLong, TakesLine}
 use Rattle.bcs_io.specs.Held.{HeldLine}
 use Rattle.bcs_io.specs.declared.next_fault.NextFault.{NextFault}
 use Rattle.bcs_io.specs.declared.next_fault.NextFault.TheVariants as next_fault
@@ -14,7 +14,7 @@ use Rattle.bcs_tool_answers.proofs.LineAnswerLemmas.{answers_snoc, as_many}
 use Rattle.bcs_tool_command_line.specs.Files.{size_limit}
 use Rattle.bcs_io.specs.declared.taking.TakeFault.{TakeFault}
 use Rattle.bcs_tool_command_line.specs.declared.work.Work.{Work}
-use Rattle.bcs_tool.specs.Lines.{AllAnswered, IsSoFar, IsTally}
+use Rattle.bcs_tool.specs.Lines.{AllAnswered, FailsNext, IsSoFar, IsTally}
 use Rattle.bcs_tool.specs.Pairs.{BrokeInLine, GaveFew}
 use Rattle.bcs_tool.specs.Running.{FailsAt, HasLines, IsLongBehind, IsTooLarge, IsUnhurt, PutBefore, PutFront, PutPart, PutsLine, ReadsNoFurther, StopsInLine, of_next}
 use Rattle.bcs_tool.specs.declared.run_fault.RunFault.{RunFault}
@@ -137,24 +137,20 @@ module _ {S K : Type 0} (content : S → Option (List ℕ)) (has_stopped : S →
     }
 
     -- the next line isn't there
-    pub fails_next : (fault : NextFault) (run : RunFault) → run ≡ of_next fault → HasLines work
-        → (fault ≡ next_fault.Read → FailsInLine content has_stopped allowance size_limit now later before after)
-        → (fault ≡ next_fault.TooLong → IsTooLong content has_stopped allowance size_limit now later before after)
-        → (fault ≡ next_fault.OutOfMemory → RunsOut content has_stopped allowance now later before)
-        → FailsAt content has_stopped allowance taken is_failed work input later out out' run tally.answered
-    fails_next fault run is by_line read long memory =
-        let P : RunFault → Type 0 = λ f. FailsAt content has_stopped allowance taken is_failed work input later out out' f tally.answered in
-        subst P (sym is) (go fault read long memory)
-      where
-        go : (fault : NextFault)
-            → (fault ≡ next_fault.Read → FailsInLine content has_stopped allowance size_limit now later before after)
-            → (fault ≡ next_fault.TooLong → IsTooLong content has_stopped allowance size_limit now later before after)
-            → (fault ≡ next_fault.OutOfMemory → RunsOut content has_stopped allowance now later before)
-            → FailsAt content has_stopped allowance taken is_failed work input later out out' (of_next fault) tally.answered
-        go next_fault.Read read long memory = (by_line.1, (read refl).lost.after, stops_in_line (read refl), put_before by_line)
-        go next_fault.TooLong read long memory = (by_line.1, too_large by_line (long refl), no_further (few_long content has_stopped allowance input now later far.lines before after far.read (long refl)), put_before by_line)
-        go next_fault.OutOfMemory read long memory =
-            let ran = memory refl in (unhurt by_line ran.given ran.took, no_further (few_given content has_stopped allowance input now later far.lines before after far.read ran.given ran.took ran.ahead), put_before by_line)
+    pub fails_next : (fault : NextFault) → HasLines work → FailsNext content has_stopped allowance fault now later before after
+        → FailsAt content has_stopped allowance taken is_failed work input later out out' (of_next fault) tally.answered
+    fails_next next_fault.Read by_line fails = (by_line.1, fails.lost.after, stops_in_line fails, put_before by_line)
+    fails_next next_fault.TooLong by_line long = (
+      by_line.1,
+      too_large by_line long,
+      no_further (few_long content has_stopped allowance input now later far.lines before after far.read long),
+      put_before by_line,
+    )
+    fails_next next_fault.OutOfMemory by_line ran = (
+      unhurt by_line ran.given ran.took,
+      no_further (few_given content has_stopped allowance input now later far.lines before after far.read ran.given ran.took ran.ahead),
+      put_before by_line,
+    )
 
     -- the answer to the line was not put
     pub fails_put : (out'' : K) (fault : RunFault) → HasLines work → TakesLine content has_stopped allowance size_limit now later before after

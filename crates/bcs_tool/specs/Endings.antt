@@ -14,7 +14,7 @@ use Rattle.bcs_tool_command_line.specs.declared.origin.Origin.TheVariants.{Stand
 use Rattle.bcs_io.specs.declared.taking.TakeFault.TheVariants as taking
 use Rattle.bcs_tool_command_line.specs.declared.unread_file.UnreadFile.{UnreadFile}
 use Rattle.bcs_tool_command_line.specs.declared.unread_file.UnreadFile.TheVariants.{Unopened, Untaken}
-use Rattle.bcs_tool_command_line.specs.declared.work.Report.{Report}
+use Rattle.bcs_tool_command_line.specs.declared.work.Outcome.{Outcome}
 use Rattle.bcs_tool_command_line.specs.declared.work.Work.{Work}
 use Rattle.bcs_tool_command_line.specs.declared.job.Job.{Job}
 use Rattle.bcs_tool_command_line.specs.declared.line_fault.LineFault.{LineFault}
@@ -30,14 +30,14 @@ module _ {K : Type 0} (taken : K → Option (List ℕ)) (is_failed : K → Bool)
   abbrev pub Put : K → K → List ℕ → Type 0
   Put old new text = sink.Took taken is_failed old new text ⊎ PutFront taken is_failed old new text
 
-  -- the program ends with the report's status; its note stands on a line of the standard error, and then its place on one,
+  -- the program ends with the outcome's status; its note stands on a line of the standard error, and then its place on one,
   -- each where it has one
-  abbrev pub TellsReport : Report → K → K → ℕ → Type 0
-  TellsReport report old new status = (status ≡ report.outcome.status)
-      × (report.outcome.note.now ≡ [] → report.place.items ≡ [] → new ≡ old)
-      × (report.outcome.note.now ≢ [] → report.place.items ≡ [] → Put old new (line_of report.outcome.note.now))
-      × (report.outcome.note.now ≡ [] → report.place.items ≢ [] → Put old new (line_of report.place.items))
-      × (report.outcome.note.now ≢ [] → report.place.items ≢ [] → Put old new (line_of report.outcome.note.now ++ line_of report.place.items))
+  abbrev pub TellsReport : Outcome → K → K → ℕ → Type 0
+  TellsReport outcome old new status = (status ≡ outcome.status)
+      × (outcome.note.now ≡ [] → outcome.place.items ≡ [] → new ≡ old)
+      × (outcome.note.now ≢ [] → outcome.place.items ≡ [] → Put old new (line_of outcome.note.now))
+      × (outcome.note.now ≡ [] → outcome.place.items ≢ [] → Put old new (line_of outcome.place.items))
+      × (outcome.note.now ≢ [] → outcome.place.items ≢ [] → Put old new (line_of outcome.note.now ++ line_of outcome.place.items))
 
 -- ---- words that are no job
 
@@ -63,56 +63,56 @@ IsWordsFault OutOfMemory = Unit {0}
 
 -- a file that the job needs for its work was not read; the place tells which one, unless memory ran out
 module _ {F : Type 0} (remaining : F → Option (List ℕ)) where
-  pub record LacksFile (job : Job) (report : Report) : Type 0 where
+  pub record LacksFile (job : Job) (outcome : Outcome) : Type 0 where
     pub unread : UnreadFile
     pub name : List ℕ
-    pub status : report.outcome.status ≡ 4
-    pub note : report.outcome.note.now ≡ file_note (file_fault_of unread)
-    pub place : TellsPlace job.options.quiet (file_place unread name) report.place.items
+    pub status : outcome.status ≡ 4
+    pub note : outcome.note.now ≡ file_note (file_fault_of unread)
+    pub place : TellsPlace job.options.quiet (file_place unread name) outcome.place.items
     pub named : unread ≢ Untaken taking.OutOfMemory → NamesForWork remaining job name
     pub known : IsFaultOfFiles remaining (file_fault_of unread)
     pub needed : NamesNoFile job → unread ≡ Untaken taking.OutOfMemory
 
 -- the file of this name, of an input, was not read, for this reason
-pub record IsUnread (quiet : Bool) (name : List ℕ) (unread : UnreadFile) (report : Report) : Type 0 where
-  pub status : report.outcome.status ≡ 4
-  pub note : report.outcome.note.now ≡ file_note (file_fault_of unread)
-  pub place : TellsPlace quiet (file_place unread name) report.place.items
+pub record IsUnread (quiet : Bool) (name : List ℕ) (unread : UnreadFile) (outcome : Outcome) : Type 0 where
+  pub status : outcome.status ≡ 4
+  pub note : outcome.note.now ≡ file_note (file_fault_of unread)
+  pub place : TellsPlace quiet (file_place unread name) outcome.place.items
 
 -- it was not opened
-abbrev pub IsUnopened : Bool → List ℕ → Report → Type 0
-IsUnopened quiet name report = (cause : OpenCause) × IsUnread quiet name (Unopened cause) report
+abbrev pub IsUnopened : Bool → List ℕ → Outcome → Type 0
+IsUnopened quiet name outcome = (cause : OpenCause) × IsUnread quiet name (Unopened cause) outcome
 
 module _ {S O F : Type 0} (content : S → Option (List ℕ)) (has_stopped : S → Bool) (allowance : S → ℕ)
     (taken : O → Option (List ℕ)) (is_failed : O → Bool) (remaining : F → Option (List ℕ)) where
   -- what comes of a job with one input: a run over the standard one, or over a file that was opened, by blocks; where the file
   -- wasn't, or there is no memory for a block, nothing is read, or put
-  pub data PerformsOne (work : Work) (file : Option (String Global)) (input input' : S) (out out' : O) (report : Report) : Type 0 where
-    unopened : (name : String Global) → file ≡ Some name → IsUnopened work.options.quiet (string_bytes name) report → input' ≡ input → out' ≡ out
-        → PerformsOne work file input input' out out' report
-    no_room : (name : String Global) → file ≡ Some name → IsUnread work.options.quiet (string_bytes name) (Untaken taking.OutOfMemory) report → input' ≡ input
-        → out' ≡ out → PerformsOne work file input input' out out' report
-    over_input : file ≡ None → Runs content has_stopped allowance taken is_failed work (origin_text StandardInput) input input' out out' report
-        → PerformsOne work file input input' out out' report
+  pub data PerformsOne (work : Work) (file : Option (String Global)) (input input' : S) (out out' : O) (outcome : Outcome) : Type 0 where
+    unopened : (name : String Global) → file ≡ Some name → IsUnopened work.options.quiet (string_bytes name) outcome → input' ≡ input → out' ≡ out
+        → PerformsOne work file input input' out out' outcome
+    no_room : (name : String Global) → file ≡ Some name → IsUnread work.options.quiet (string_bytes name) (Untaken taking.OutOfMemory) outcome → input' ≡ input
+        → out' ≡ out → PerformsOne work file input input' out out' outcome
+    over_input : file ≡ None → Runs content has_stopped allowance taken is_failed work (origin_text StandardInput) input input' out out' outcome
+        → PerformsOne work file input input' out out' outcome
     over_file : (name : String Global) (source source' : ReadSource (BufReader F Global)) → file ≡ Some name
-        → Runs (λ s. reader_remaining remaining (reader_of s)) failed allowance_of taken is_failed work (file_text (string_bytes name)) source source' out out' report
-        → input' ≡ input → PerformsOne work file input input' out out' report
+        → Runs (λ s. reader_remaining remaining (reader_of s)) failed allowance_of taken is_failed work (file_text (string_bytes name)) source source' out out' outcome
+        → input' ≡ input → PerformsOne work file input input' out out' outcome
 
   -- what comes of one that compares the lines of two files, of which the first has this name, and is opened first
-  pub data PerformsPairs (work : Work) (first : List ℕ) (file : Option (String Global)) (input input' : S) (out out' : O) (report : Report) : Type 0 where
-    first_unopened : IsUnopened work.options.quiet first report → input' ≡ input → out' ≡ out → PerformsPairs work first file input input' out out' report
-    second_unopened : (name : String Global) (lines : ReadSource F) → file ≡ Some name → IsUnopened work.options.quiet (string_bytes name) report → input' ≡ input → out' ≡ out
-        → PerformsPairs work first file input input' out out' report
+  pub data PerformsPairs (work : Work) (first : List ℕ) (file : Option (String Global)) (input input' : S) (out out' : O) (outcome : Outcome) : Type 0 where
+    first_unopened : IsUnopened work.options.quiet first outcome → input' ≡ input → out' ≡ out → PerformsPairs work first file input input' out out' outcome
+    second_unopened : (name : String Global) (lines : ReadSource F) → file ≡ Some name → IsUnopened work.options.quiet (string_bytes name) outcome → input' ≡ input → out' ≡ out
+        → PerformsPairs work first file input input' out out' outcome
     pairs_over_input : (lines lines' : ReadSource F) → file ≡ None
         → PairRuns (λ s. remaining (reader_of s)) failed allowance_of content has_stopped allowance taken is_failed work (file_text first) (origin_text StandardInput)
-        lines lines' input input' out out' report → PerformsPairs work first file input input' out out' report
+        lines lines' input input' out out' outcome → PerformsPairs work first file input input' out out' outcome
     pairs_over_file : (name : String Global) (lines lines' source source' : ReadSource F) → file ≡ Some name
         → PairRuns (λ s. remaining (reader_of s)) failed allowance_of (λ s. remaining (reader_of s)) failed allowance_of taken is_failed work (file_text first) (file_text (string_bytes name))
-        lines lines' source source' out out' report → input' ≡ input → PerformsPairs work first file input input' out out' report
+        lines lines' source source' out out' outcome → input' ≡ input → PerformsPairs work first file input input' out out' outcome
 
   -- what comes of a job: a file is lacking for its work, and nothing is read of the input, or put; or its work is done
-  pub data Performs (job : Job) (input input' : S) (out out' : O) (report : Report) : Type 0 where
-    lacks_file : LacksFile remaining job report → input' ≡ input → out' ≡ out → Performs job input input' out out' report
-    over_one : (work : Work) → IsWorkOf remaining job work → ¬ ComparesLines job → PerformsOne work job.file input input' out out' report → Performs job input input' out out' report
-    over_pairs : (work : Work) → IsWorkOf remaining job work → ComparesLines job → PerformsPairs work (string_bytes job.second) job.file input input' out out' report
-        → Performs job input input' out out' report
+  pub data Performs (job : Job) (input input' : S) (out out' : O) (outcome : Outcome) : Type 0 where
+    lacks_file : LacksFile remaining job outcome → input' ≡ input → out' ≡ out → Performs job input input' out out' outcome
+    over_one : (work : Work) → IsWorkOf remaining job work → ¬ ComparesLines job → PerformsOne work job.file input input' out out' outcome → Performs job input input' out out' outcome
+    over_pairs : (work : Work) → IsWorkOf remaining job work → ComparesLines job → PerformsPairs work (string_bytes job.second) job.file input input' out out' outcome
+        → Performs job input input' out out' outcome

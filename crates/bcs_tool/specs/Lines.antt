@@ -1,14 +1,43 @@
 -- What is known of a run over lines, between two of them.
-use Rattle.std.specs.Prelude.{◌≡◌, ◌+◌, ◌<◌, ◌≤◌, ◌++◌, ℕ, List, Bool, All, Option, Some, None, Result, Ok, Err, length}
+use Rattle.std.specs.Prelude.{◌≡◌, ◌+◌, ◌<◌, ◌≤◌, ◌++◌, ℕ, List, Bool, true, false, All, Option, Some, None, Result, Ok, Err, length}
 use Rattle.bcs_io.specs.Giving as source
 use Rattle.bcs_io.specs.Taking as sink
+use Rattle.bcs_io.specs.Advancing.{FailsInLine, HasNoLine, IsTooLong, RunsOut, TakesLine}
+use Rattle.bcs_io.specs.Held.{HeldLine}
 use Rattle.bcs_io.specs.Lines.{HasNoLineFeed, block_size, line_feeds, lines_of}
+use Rattle.bcs_io.specs.declared.next_fault.NextFault.{NextFault}
+use Rattle.bcs_io.specs.declared.next_fault.NextFault.TheVariants as next_fault
 use Rattle.bcs_tool_answers.specs.LineAnswers.{AnswersAll, count_of, greatest}
-use Rattle.bcs_tool_command_line.specs.Files.{IsContent}
+use Rattle.bcs_tool_command_line.specs.Files.{IsContent, size_limit}
 use Rattle.bcs_tool_command_line.specs.declared.work.Work.{Work}
-use Rattle.bcs_tool.specs.Running.{FailsAt}
+use Rattle.bcs_tool.specs.Running.{FailsAt, of_next}
 use Rattle.bcs_tool.specs.declared.interruption.Interruption.{Interruption}
+use Rattle.bcs_tool.specs.declared.interruption.Side.{Side}
 use Rattle.bcs_tool.specs.declared.tally.Tally.{Tally}
+
+-- ---- the next line
+
+-- where a run is broken off, since the next line of this side isn't there
+abbrev pub broken_at : Side → NextFault → ℕ → Interruption
+broken_at side fault count = record { fault = of_next fault; answered = count; side = side }
+
+module _ {S : Type 0} (content : S → Option (List ℕ)) (has_stopped : S → Bool) (allowance : S → ℕ) where
+  -- why the next line isn't there
+  abbrev pub FailsNext : NextFault → S → S → HeldLine → HeldLine → Type 0
+  FailsNext next_fault.Read old new before after = FailsInLine content has_stopped allowance size_limit old new before after
+  FailsNext next_fault.TooLong old new before after = IsTooLong content has_stopped allowance size_limit old new before after
+  FailsNext next_fault.OutOfMemory old new before after = RunsOut content has_stopped allowance old new before
+
+  -- whether there is a next line
+  abbrev pub ReadsOn : Bool → S → S → HeldLine → HeldLine → Type 0
+  ReadsOn true old new before after = TakesLine content has_stopped allowance size_limit old new before after
+  ReadsOn false old new before after = HasNoLine content has_stopped allowance old new before after
+
+  abbrev pub ReadsLine : Side → ℕ → S → S → HeldLine → HeldLine → Result Bool Interruption → Type 0
+  ReadsLine side count old new before after (Ok has_line) = ReadsOn has_line old new before after
+  ReadsLine side count old new before after (Err e) = (fault : NextFault) × (e ≡ broken_at side fault count) × FailsNext fault old new before after
+
+-- ---- between two lines
 
 -- how many lines have which status, and which one is the greatest
 pub record IsTally (tally : Tally) (statuses : List ℕ) : Type 0 where

@@ -1,5 +1,5 @@
 -- What comes of two files that are compared line by line: what is put of the answers, and why that isn't all of them.
-use Rattle.std.specs.Prelude.{◌≡◌, ◌⊎◌, ◌≤◌, ◌<◌, ◌+◌, ◌++◌, ℕ, List, [], ◌∷◌, Bool, true, IfSome, Option, Result, Ok, Err, codes, length, take}
+use Rattle.std.specs.Prelude.{◌≡◌, ◌⊎◌, ◌≤◌, ◌<◌, ◌+◌, ◌++◌, ℕ, List, [], ◌∷◌, Bool, IfSome, Option, Result, Ok, Err, codes, length, take}
 use Rattle.bcs_io.specs.Giving as source
 use Rattle.bcs_io.specs.Taking as sink
 use Rattle.bcs_io.specs.Lines.{before_block, line_feeds, lines_of}
@@ -12,13 +12,14 @@ use Rattle.bcs_tool_answers.specs.declared.ending.Ending.{Ending}
 use Rattle.bcs_tool_answers.specs.declared.ending.Ending.TheVariants.{Together}
 use Rattle.bcs_tool_command_line.specs.FaultPlaces.{TellsPlace}
 use Rattle.bcs_tool_command_line.specs.Files.{IsContent}
+use Rattle.bcs_io.specs.declared.taking.TakeFault.{TakeFault}
 use Rattle.bcs_io.specs.declared.taking.TakeFault.TheVariants.{Read, TooLarge, OutOfMemory}
-use Rattle.bcs_tool_command_line.specs.declared.work.Report.{Report}
+use Rattle.bcs_tool_command_line.specs.declared.work.Outcome.{Outcome}
 use Rattle.bcs_tool_command_line.specs.declared.work.Work.{Work}
-use Rattle.bcs_tool.specs.Running.{AreFirst, IsLongBehind, fault_note, run_place}
-use Rattle.bcs_tool.specs.declared.pair_interruption.PairInterruption.{PairInterruption}
-use Rattle.bcs_tool.specs.declared.pair_interruption.Side.{Side}
-use Rattle.bcs_tool.specs.declared.pair_interruption.Side.TheVariants.{First, Second}
+use Rattle.bcs_tool.specs.Running.{AreFirst, IsLongBehind, IsOutcomeOf}
+use Rattle.bcs_tool.specs.declared.interruption.Interruption.{Interruption}
+use Rattle.bcs_tool.specs.declared.interruption.Side.{Side}
+use Rattle.bcs_tool.specs.declared.interruption.Side.TheVariants.{First, Second}
 use Rattle.bcs_tool.specs.declared.run_fault.RunFault.{RunFault}
 use Rattle.bcs_tool.specs.declared.run_fault.RunFault.TheVariants.{Take, Write}
 
@@ -51,25 +52,26 @@ abbrev pub IsPast : ℕ → List ℕ → List ℕ → Type 0
 IsPast count all left = (count + length (lines_of left) < length (lines_of all)) ⊎ (left ≡ [])
 
 module _ {S : Type 0} (content : S → Option (List ℕ)) (has_stopped : S → Bool) (allowance : S → ℕ) where
-  -- it gave some bytes or none, and no call of it failed
-  abbrev pub Gave : S → S → Type 0
-  Gave old new = (bytes : List ℕ) × source.Gave content has_stopped allowance old new bytes
-
-  -- no call of it failed; and where its content is known, the line behind so many was given, which is not too long, or all
-  -- of the content was
-  pub record GaveLine (old new : S) (count : ℕ) : Type 0 where
-    pub gave : Gave old new
-    pub within : IfSome (content old) (λ all. ¬ IsLongBehind count all)
-    pub past : IfSome (content old) (λ all. IfSome (content new) (IsPast count all))
-
-  -- before the last block that it gave stands no whole line behind so many: no block is asked for before the lines of the
-  -- one before are answered
+  -- no call of it failed, and before the last block that it gave stands no whole line behind so many: no block is asked for before
+  -- the lines of the one before are answered
   abbrev pub GaveFew : S → S → ℕ → Type 0
   GaveFew old new count = (given : List ℕ) × source.Gave content has_stopped allowance old new given × (line_feeds (before_block given) ≤ count)
+
+  -- and where its content is known, the line behind so many was given, which is not too long, or all of the content was
+  pub record GaveLine (old new : S) (count : ℕ) : Type 0 where
+    pub few : GaveFew old new count
+    pub within : IfSome (content old) (λ all. ¬ IsLongBehind count all)
+    pub past : IfSome (content old) (λ all. IfSome (content new) (IsPast count all))
 
   -- it gave no whole line behind so many, and then a call failed
   abbrev pub BrokeInLine : S → S → ℕ → Type 0
   BrokeInLine old new count = (given : List ℕ) × source.GaveThenFailed content has_stopped allowance old new given × (line_feeds given ≤ count)
+
+  -- it has no line behind so many: a call failed, the line is too long, or there was no memory for it
+  abbrev pub StopsAt : TakeFault → S → S → ℕ → Type 0
+  StopsAt Read old new count = BrokeInLine old new count
+  StopsAt TooLarge old new count = IfSome (content old) (IsLongBehind count) × GaveFew old new count
+  StopsAt OutOfMemory old new count = GaveFew old new count
 
 -- ---- the run
 
@@ -102,82 +104,47 @@ module _ {F S K : Type 0} (former : F → Option (List ℕ)) (former_stopped : F
     pub short : shown < length output
     pub put : sink.TookThenFailed taken is_failed out out' (before ++ take shown output)
 
-  -- the file of this side has failed; or the line of it that is next is too long
-  abbrev pub HasStopped : Side → F → S → Type 0
-  HasStopped First first second = former_stopped first ≡ true
-  HasStopped Second first second = has_stopped second ≡ true
-
-  abbrev pub IsLongAt : Side → F → S → ℕ → Type 0
-  IsLongAt First first second count = IfSome (former first) (IsLongBehind count)
-  IsLongAt Second first second count = IfSome (content second) (IsLongBehind count)
-
-  -- the other file is not at fault: A has given its line before B is asked for one
-  abbrev pub IsAtFaultAlone : Side → F → F → S → S → ℕ → Type 0
-  IsAtFaultAlone First first first' second second' count = Gave content has_stopped allowance second second'
-  IsAtFaultAlone Second first first' second second' count = GaveLine former former_stopped former_allowance first first' count
-
   -- neither file was read further than to the line behind so many, but for the rest of a block
   abbrev pub BothGaveFew : F → F → S → S → ℕ → Type 0
   BothGaveFew first first' second second' count = GaveFew former former_stopped former_allowance first first' count
       × GaveFew content has_stopped allowance second second' count
 
-  -- nor before the file of this side failed
-  abbrev pub BrokeAt : Side → F → F → S → S → ℕ → Type 0
-  BrokeAt First first first' second second' count = BrokeInLine former former_stopped former_allowance first first' count
+  -- the file of this side has no next line, and the other is not at fault: A has given its line before B is asked for one
+  abbrev pub IsAtFault : Side → TakeFault → F → F → S → S → ℕ → Type 0
+  IsAtFault First fault first first' second second' count = StopsAt former former_stopped former_allowance fault first first' count
       × GaveFew content has_stopped allowance second second' count
-  BrokeAt Second first first' second second' count = GaveFew former former_stopped former_allowance first first' count
-      × BrokeInLine content has_stopped allowance second second' count
+  IsAtFault Second fault first first' second second' count = GaveLine former former_stopped former_allowance first first' count
+      × StopsAt content has_stopped allowance fault second second' count
 
   -- the run stopped with this fault, behind so many pairs; a file that failed or has a long line is that of this side, and
   -- A's, where both have
   abbrev pub FailsPairsAt : Work → F → F → S → S → K → K → Side → RunFault → ℕ → Type 0
-  FailsPairsAt work first first' second second' out out' side (Take Read) count = ReadsInput work × HasStopped side first' second' × IsAtFaultAlone side first first' second second' count
-      × BrokeAt side first first' second second' count × PutPairs work first second out out' count
-  FailsPairsAt work first first' second second' out out' side (Take TooLarge) count = ReadsInput work × IsLongAt side first second count × IsAtFaultAlone side first first' second second' count
-      × BothGaveFew first first' second second' count × PutPairs work first second out out' count
-  FailsPairsAt work first first' second second' out out' side (Take OutOfMemory) count = Gave former former_stopped former_allowance first first'
-      × Gave content has_stopped allowance second second' × BothGaveFew first first' second second' count × PutPairs work first second out out' count
+  FailsPairsAt work first first' second second' out out' side (Take OutOfMemory) count = BothGaveFew first first' second second' count × PutPairs work first second out out' count
+  FailsPairsAt work first first' second second' out out' side (Take fault) count = ReadsInput work × IsAtFault side fault first first' second second' count
+      × PutPairs work first second out out' count
   FailsPairsAt work first first' second second' out out' side Write count = BothGaveFew first first' second second' count × PutPairPart work first second out out' count
 
   -- the answers to all pairs were put
-  pub record AreCompared (work : Work) (first : F) (second : S) (out out' : K) (report : Report) : Type 0 where
-    pub note : report.outcome.note.now ≡ []
-    pub below : report.outcome.status < 3
+  pub record AreCompared (work : Work) (first : F) (second : S) (out out' : K) (outcome : Outcome) : Type 0 where
+    pub note : outcome.note.now ≡ []
+    pub below : outcome.status < 3
     pub ones : List ℕ
     pub others : List ℕ
     pub first_known : IsContent (former first) ones
     pub second_known : IsContent (content second) others
     pub output : List ℕ
     pub put : sink.Took taken is_failed out out' output
-    pub responds : RespondsPairs work ones others report.outcome.status output report.place.items
+    pub responds : RespondsPairs work ones others outcome.status output outcome.place.items
 
-  abbrev pub EndsPairs : Work → F → F → S → S → K → K → Result Report PairInterruption → Type 0
-  EndsPairs work first first' second second' out out' (Ok report) = AreCompared work first second out out' report
-  EndsPairs work first first' second second' out out' (Err e) = FailsPairsAt work first first' second second' out out' e.side e.interruption.fault e.interruption.answered
-
--- ---- the report
-
--- the text of the file of this side
-abbrev pub side_text : Side → List ℕ → List ℕ → List ℕ
-side_text First name other = name
-side_text Second name other = other
-
--- the report tells where a comparison of files of these texts was broken off
-pub record IsBrokenOff (work : Work) (name other : List ℕ) (e : PairInterruption) (report : Report) : Type 0 where
-  pub status : report.outcome.status ≡ 4
-  pub note : report.outcome.note.now ≡ fault_note e.interruption.fault
-  pub tells : TellsPlace work.options.quiet (run_place work.options.lines e.interruption.fault (side_text e.side name other) e.interruption.answered) report.place.items
-
--- it is the one of a run that went through, or tells where the run was broken off
-abbrev pub IsReportOf : Work → List ℕ → List ℕ → Result Report PairInterruption → Report → Type 0
-IsReportOf work name other (Ok done) report = report ≡ done
-IsReportOf work name other (Err e) report = IsBrokenOff work name other e report
+  abbrev pub EndsPairs : Work → F → F → S → S → K → K → Result Outcome Interruption → Type 0
+  EndsPairs work first first' second second' out out' (Ok outcome) = AreCompared work first second out out' outcome
+  EndsPairs work first first' second second' out out' (Err e) = FailsPairsAt work first first' second second' out out' e.side e.fault e.answered
 
 module _ {F S K : Type 0} (former : F → Option (List ℕ)) (former_stopped : F → Bool) (former_allowance : F → ℕ)
     (content : S → Option (List ℕ)) (has_stopped : S → Bool) (allowance : S → ℕ) (taken : K → Option (List ℕ)) (is_failed : K → Bool) where
   -- what comes of a comparison of two files of these texts; a job that its own words refuse leaves both as they were
-  pub record PairRuns (work : Work) (name other : List ℕ) (first first' : F) (second second' : S) (out out' : K) (report : Report) : Type 0 where
-    pub result : Result Report PairInterruption
+  pub record PairRuns (work : Work) (name other : List ℕ) (first first' : F) (second second' : S) (out out' : K) (outcome : Outcome) : Type 0 where
+    pub result : Result Outcome Interruption
     pub ends : EndsPairs former former_stopped former_allowance content has_stopped allowance taken is_failed work first first' second second' out out' result
-    pub is : IsReportOf work name other result report
+    pub is : IsOutcomeOf work name other result outcome
     pub untouched : ¬ ReadsInput work → (first' ≡ first) × (second' ≡ second)

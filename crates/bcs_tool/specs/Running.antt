@@ -14,14 +14,15 @@ use Rattle.bcs_tool_answers.specs.Judging.{ReadsInput, is_unlimited}
 use Rattle.bcs_tool_answers.specs.LineAnswers.{AnswersAll, greatest, summary}
 use Rattle.bcs_tool_answers.specs.Places.{Places}
 use Rattle.bcs_tool_answers.specs.declared.answer.Answer.{Answer}
-use Rattle.bcs_tool_command_line.specs.FaultPlaces.{TellsPlace, origin_text, output_text, take_place}
+use Rattle.bcs_tool_command_line.specs.FaultPlaces.{TellsPlace, output_text, take_place}
 use Rattle.bcs_tool_command_line.specs.Files.{IsContent, size_limit}
-use Rattle.bcs_tool_command_line.specs.declared.origin.Origin.TheVariants.{StandardInput}
+use Rattle.bcs_io.specs.declared.taking.TakeFault.{TakeFault}
 use Rattle.bcs_io.specs.declared.taking.TakeFault.TheVariants.{Read, TooLarge, OutOfMemory}
 use Rattle.bcs_tool_command_line.specs.declared.work.Outcome.{Outcome}
-use Rattle.bcs_tool_command_line.specs.declared.work.Report.{Report}
 use Rattle.bcs_tool_command_line.specs.declared.work.Work.{Work}
 use Rattle.bcs_tool.specs.declared.interruption.Interruption.{Interruption}
+use Rattle.bcs_tool.specs.declared.interruption.Side.{Side}
+use Rattle.bcs_tool.specs.declared.interruption.Side.TheVariants.{First, Second}
 use Rattle.bcs_tool.specs.declared.run_fault.RunFault.{RunFault}
 use Rattle.bcs_tool.specs.declared.run_fault.RunFault.TheVariants.{Take, Write}
 
@@ -64,11 +65,30 @@ abbrev pub run_place : Bool → RunFault → List ℕ → ℕ → List ℕ
 run_place false fault name count = stream_text fault name
 run_place true fault name count = before_more (stream_text fault name) ++ codes "line " ++ decimal (count + 1)
 
+-- the text of the input of this side
+abbrev pub side_text : Side → List ℕ → List ℕ → List ℕ
+side_text First name other = name
+side_text Second name other = other
+
+-- the outcome tells where a run over inputs of these texts was broken off
+pub record IsBrokenOff (work : Work) (name other : List ℕ) (e : Interruption) (outcome : Outcome) : Type 0 where
+  pub status : outcome.status ≡ 4
+  pub note : outcome.note.now ≡ fault_note e.fault
+  pub tells : TellsPlace work.options.quiet (run_place work.options.lines e.fault (side_text e.side name other) e.answered) outcome.place.items
+
+-- it is the one of a run that went through, or tells where the run was broken off
+abbrev pub IsOutcomeOf : Work → List ℕ → List ℕ → Result Outcome Interruption → Outcome → Type 0
+IsOutcomeOf work name other (Ok done) outcome = outcome ≡ done
+IsOutcomeOf work name other (Err e) outcome = IsBrokenOff work name other e outcome
+
 -- the fault of a run whose next line isn't there
+abbrev pub take_of : NextFault → TakeFault
+take_of next.Read = Read
+take_of next.TooLong = TooLarge
+take_of next.OutOfMemory = OutOfMemory
+
 abbrev pub of_next : NextFault → RunFault
-of_next next.Read = Take Read
-of_next next.TooLong = Take TooLarge
-of_next next.OutOfMemory = Take OutOfMemory
+of_next fault = Take (take_of fault)
 
 -- ---- lines of a content
 
@@ -100,19 +120,19 @@ AnswersNext work content lines status output =
 
 module _ {K : Type 0} (taken : K → Option (List ℕ)) (is_failed : K → Bool) where
   -- the answer was put, and its status and its place are handed on
-  pub record IsPut (answer : Answer) (out out' : K) (report : Report) : Type 0 where
-    pub status : report.outcome.status ≡ answer.status
-    pub note : report.outcome.note.now ≡ []
-    pub place : report.place.items ≡ answer.place.items
+  pub record IsPut (answer : Answer) (out out' : K) (outcome : Outcome) : Type 0 where
+    pub status : outcome.status ≡ answer.status
+    pub note : outcome.note.now ≡ []
+    pub place : outcome.place.items ≡ answer.place.items
     pub put : sink.Took taken is_failed out out' answer.output.items
 
   -- a front of the text was put, less than the whole, and then the output failed
   abbrev pub PutFront : K → K → List ℕ → Type 0
   PutFront out out' text = (n : ℕ) × (n < length text) × sink.TookThenFailed taken is_failed out out' (take n text)
 
-  abbrev pub PutsAnswer : Answer → K → K → Result Report Interruption → Type 0
-  PutsAnswer answer out out' (Ok report) = IsPut answer out out' report
-  PutsAnswer answer out out' (Err e) = (e ≡ record { fault = Write; answered = 0 }) × PutFront out out' answer.output.items
+  abbrev pub PutsAnswer : Answer → K → K → Result Outcome Interruption → Type 0
+  PutsAnswer answer out out' (Ok outcome) = IsPut answer out out' outcome
+  PutsAnswer answer out out' (Err e) = (e ≡ record { fault = Write; answered = 0; side = Second }) × PutFront out out' answer.output.items
 
   -- the answer to a line was put, or a front of it; or there was no memory for it
   abbrev pub PutsLine : Work → List ℕ → K → K → Result ℕ RunFault → Type 0
@@ -183,33 +203,22 @@ module _ {S K : Type 0} (content : S → Option (List ℕ)) (has_stopped : S →
   FailsAt work input input' out out' Write count = ReadsNoFurther work input input' count × PutPart work input out out' count
 
   -- the answers to the whole input were put; of bytes that are judged as they come something is said where they are known
-  pub record IsAnswered (work : Work) (input : S) (out out' : K) (report : Report) : Type 0 where
-    pub note : report.outcome.note.now ≡ []
-    pub below : report.outcome.status < 3
+  pub record IsAnswered (work : Work) (input : S) (out out' : K) (outcome : Outcome) : Type 0 where
+    pub note : outcome.note.now ≡ []
+    pub below : outcome.status < 3
     pub output : List ℕ
     pub put : sink.Took taken is_failed out out' output
-    pub responds : ((bytes : List ℕ) × IsContent (content input) bytes × Responds work bytes report.outcome.status output report.place.items)
-        ⊎ (Streams work × IfTold (content input) (λ all. Responds work all report.outcome.status output report.place.items))
+    pub responds : ((bytes : List ℕ) × IsContent (content input) bytes × Responds work bytes outcome.status output outcome.place.items)
+        ⊎ (Streams work × IfTold (content input) (λ all. Responds work all outcome.status output outcome.place.items))
 
   -- all answers were put, or an interruption came
-  abbrev pub Ends : Work → S → S → K → K → Result Report Interruption → Type 0
-  Ends work input input' out out' (Ok report) = IsAnswered work input out out' report
+  abbrev pub Ends : Work → S → S → K → K → Result Outcome Interruption → Type 0
+  Ends work input input' out out' (Ok outcome) = IsAnswered work input out out' outcome
   Ends work input input' out out' (Err e) = FailsAt work input input' out out' e.fault e.answered
 
-  -- the report tells of this fault, behind so many lines, where the input has this text
-  pub record IsFailed (work : Work) (name : List ℕ) (input input' : S) (out out' : K) (report : Report) : Type 0 where
-    pub fault : RunFault
-    pub count : ℕ
-    pub status : report.outcome.status ≡ 4
-    pub note : report.outcome.note.now ≡ fault_note fault
-    pub tells : TellsPlace work.options.quiet (run_place work.options.lines fault name count) report.place.items
-    pub fails : FailsAt work input input' out out' fault count
-
-  -- what comes of a run; a job that has no input, or that its own words refuse, leaves the input as it was
-  pub record Runs (work : Work) (name : List ℕ) (input input' : S) (out out' : K) (report : Report) : Type 0 where
-    pub ends : IsAnswered work input out out' report ⊎ IsFailed work name input input' out out' report
+  -- what comes of a run over an input of this text; a job that has no input, or that its own words refuse, leaves it as it was
+  pub record Runs (work : Work) (name : List ℕ) (input input' : S) (out out' : K) (outcome : Outcome) : Type 0 where
+    pub result : Result Outcome Interruption
+    pub ends : Ends work input input' out out' result
+    pub is : IsOutcomeOf work name name result outcome
     pub untouched : ¬ ReadsInput work → input' ≡ input
-
-  -- the outcome is that of a run over the standard input, whose place isn't told
-  abbrev pub EndsWith : Work → S → S → K → K → Outcome → Type 0
-  EndsWith work input input' out out' outcome = (report : Report) × Runs work (origin_text StandardInput) input input' out out' report × (outcome ≡ report.outcome)

@@ -11,7 +11,7 @@ ghost use Rattle.bcs_tool.specs.Visible.{breaks_lines};
 use crate::responding::respond;
 use crate::telling::tell_fault;
 use bcs_io::{ByteSink, ByteSource, ReadSource, WriteSink};
-use bcs_tool_command_line::{Job, LineFault, Report};
+use bcs_tool_command_line::{Job, LineFault, Outcome};
 use std::env;
 use std::env::Env;
 use std::io::{BufReader, ErrorKind};
@@ -70,10 +70,10 @@ pub fn start<R: Files + Env + AllocGlobal, S: ByteSource, O: ByteSink, E: ByteSi
     ensures job { IfOk words (λ given. TakesWords (texts_of given.items) →
         ((input.new ≡ input.old) × TellsFault O.taken O.is_failed E.taken E.is_failed
         (not (breaks_lines (texts_of given.items))) LineFault.OutOfMemory out.old out.new errors.old errors.new result)
-        ⊎ ((job : Job) × (report : Report) × IsJobOf (texts_of given.items) job
+        ⊎ ((job : Job) × (outcome : Outcome) × IsJobOf (texts_of given.items) job
         × Performs S.content S.is_failed S.allowance O.taken O.is_failed R.File.remaining
-        job input.old input.new out.old out.new report
-        × TellsReport E.taken E.is_failed report errors.old errors.new result)) }
+        job input.old input.new out.old out.new outcome
+        × TellsReport E.taken E.is_failed outcome errors.old errors.new result)) }
 {
     match words {
         Ok(words) => respond(rt, words.as_slice(), input, out, errors),

@@ -8,8 +8,8 @@ ghost use Rattle.bcs_tool_command_line.specs.Files.{IsFaultOfFiles, IsFileText, 
 use bcs_io::{ByteSource, ReadSource, TakeFault, take_all};
 use bcs_tool_command_line::limits::SIZE_LIMIT;
 use bcs_tool_command_line::{
-    Command, FileFault, FileRefusal, Inputs, Job, OpenCause, UnreadFile, Work, WorkOptions,
-    style_of,
+    Command, FileFault, FileRefusal, Inputs, Job, JobOptions, OpenCause, UnreadFile, Work,
+    with_color,
 };
 use std::alloc::{AllocError, Global};
 use std::env::Env;
@@ -104,9 +104,8 @@ pub fn read_work<R: Files + Env + AllocGlobal>(
             });
         }
     };
-    let style = style_of(rt, &job);
-    let options = job.options;
-    let lines = options.lines;
+    let display = with_color(rt, job.command, job.options.display);
+    let lines = job.options.lines;
     let work = Work {
         command: job.command,
         registry,
@@ -115,15 +114,9 @@ pub fn read_work<R: Files + Env + AllocGlobal>(
         path: job.path,
         raw: job.raw,
         limits: job.limits,
-        options: WorkOptions {
-            name: options.name,
-            base64: options.base64,
-            lines,
-            front: options.front,
-            list: options.list,
-            full: options.full,
-            quiet: options.quiet,
-            style,
+        options: JobOptions {
+            display,
+            ..job.options
         },
     };
     let inputs = Inputs {

@@ -5,11 +5,10 @@ mod command_line;
 mod entry;
 mod files;
 mod interruption;
+mod line_reading;
 mod line_running;
-mod pair_interruption;
 mod pair_lines;
 mod pair_places;
-mod pair_reading;
 mod pair_running;
 mod put_answer;
 mod responding;
@@ -25,14 +24,13 @@ pub use bcs_io::{ByteSink, ByteSource, ReadSource, TakeFault, WriteSink, put_all
 pub use bcs_look_text::style::{Form, Paint, Style};
 pub use bcs_tool_answers::laws;
 pub use bcs_tool_command_line::{
-    Coding, Color, Command, FileFault, FileRefusal, Inputs, Job, JobOptions, LineFault, OpenCause,
-    Origin, Outcome, Report, UnreadFile, Work, WorkOptions,
+    Coding, Color, Command, Display, FileFault, FileRefusal, Inputs, Job, JobOptions, LineFault,
+    OpenCause, Origin, Outcome, UnreadFile, Work,
 };
 pub use command_line::line;
 pub use entry::{program, start, words_of};
 pub use files::{read_named, read_opened, read_work};
-pub use interruption::Interruption;
-pub use pair_interruption::{PairInterruption, Side};
+pub use interruption::{Interruption, Side};
 pub use pair_running::run_pairs;
 pub use responding::respond;
 pub use run_fault::RunFault;

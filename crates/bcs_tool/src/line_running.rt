@@ -5,14 +5,14 @@ ghost use Rattle.bcs_tool.specs.Running.{Ends, PutsLine};
 ghost use Rattle.bcs_tool_answers.specs.Preparing.{IsAskedBy};
 ghost use Rattle.bcs_tool_command_line.specs.Files.{size_limit};
 
-use crate::interruption::Interruption;
+use crate::interruption::{Interruption, Side};
+use crate::line_reading::read_line;
 use crate::run_fault::RunFault;
 use crate::run_places::place_of_tally;
 use crate::tally::Tally;
 use bcs_io::{ByteSink, ByteSource, LineBuffer, TakeFault, put_all};
 use bcs_tool_answers::{Asked, answer_values};
-use bcs_tool_command_line::limits::SIZE_LIMIT;
-use bcs_tool_command_line::{Outcome, Report, Work};
+use bcs_tool_command_line::{Outcome, Work};
 use std::alloc::Global;
 
 /// Puts the answer to each line of the input, and tells how many have which status.
@@ -22,18 +22,16 @@ pub fn run_lines<S: ByteSource, K: ByteSink>(
     asked: &Asked,
     input: &mut S,
     out: &mut K,
-) -> Result<Report, Interruption>
+) -> Result<Outcome, Interruption>
     requires asked { IsAskedBy work.now asked.now }
     requires by_line { work.now.options.lines ≡ true }
     ensures { Ends S.content S.is_failed S.allowance K.taken K.is_failed work.now
         input.old input.new out.old out.new result }
 {
     let tally = put_lines(alloc, work, asked, input, out)?;
-    Ok(Report {
-        outcome: Outcome {
-            status: tally.status,
-            note: "",
-        },
+    Ok(Outcome {
+        status: tally.status,
+        note: "",
         place: place_of_tally(alloc, work.options.quiet, tally),
     })
 }
@@ -54,15 +52,8 @@ fn put_lines<S: ByteSource, K: ByteSink>(
     let mut buffer = LineBuffer::new(alloc);
     let mut tally = Tally::new();
     loop {
-        match buffer.advance(input, SIZE_LIMIT) {
-            Ok(true) => {}
-            Ok(false) => return Ok(tally),
-            Err(fault) => {
-                return Err(Interruption {
-                    fault: RunFault::of_next(fault),
-                    answered: tally.answered,
-                });
-            }
+        if !read_line(&mut buffer, input, Side::Second, tally.answered)? {
+            return Ok(tally);
         }
         match put_line(alloc, work, asked, buffer.line(), out) {
             Ok(status) => tally = tally.with(status),
@@ -70,6 +61,7 @@ fn put_lines<S: ByteSource, K: ByteSink>(
                 return Err(Interruption {
                     fault,
                     answered: tally.answered,
+                    side: Side::Second,
                 });
             }
         }

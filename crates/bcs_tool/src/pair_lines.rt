@@ -1,12 +1,11 @@
 //! Two files that are compared line by line.
 ghost use Rattle.std.specs.Prelude.{◌≡◌, ◌≢◌, ◌≤◌, ◌<◌, ◌+◌, ◌^◌, ℕ, List, length};
 ghost use Rattle.bcs_tool.specs.Lines.{IsTally};
-ghost use Rattle.bcs_tool.specs.PairLines.{EndsBy, EndsPaired, PutsPair};
+ghost use Rattle.bcs_tool.specs.PairLines.{EndsBy, EndsPaired, PutsPair, ending_of};
 ghost use Rattle.bcs_tool_answers.specs.Preparing.{IsAskedBy};
 
-use crate::interruption::Interruption;
-use crate::pair_interruption::{PairInterruption, Side};
-use crate::pair_reading::{Next, advance_pair};
+use crate::interruption::{Interruption, Side};
+use crate::line_reading::read_line;
 use crate::run_fault::RunFault;
 use crate::tally::Tally;
 use bcs_io::{ByteSink, ByteSource, LineBuffer, TakeFault, put_all};
@@ -21,7 +20,8 @@ pub struct Compared {
     pub ending: Ending,
 }
 
-/// Reads pair after pair, and puts the answer to each before the next one is read, until one of the files ends.
+/// Reads pair after pair, and puts the answer to each before the next one is read, until one of the files ends. A line of the
+/// second is read also if the first has ended.
 pub fn compare_lines<F: ByteSource, S: ByteSource, K: ByteSink>(
     alloc: Global,
     work: &Work,
@@ -29,7 +29,7 @@ pub fn compare_lines<F: ByteSource, S: ByteSource, K: ByteSink>(
     first: &mut F,
     second: &mut S,
     out: &mut K,
-) -> Result<Compared, PairInterruption>
+) -> Result<Compared, Interruption>
     requires asked { IsAskedBy work.now asked.now }
     ensures { EndsPaired F.content F.is_failed F.allowance S.content S.is_failed S.allowance K.taken K.is_failed work.now
         first.old first.new second.old second.new out.old out.new result }
@@ -38,14 +38,33 @@ pub fn compare_lines<F: ByteSource, S: ByteSource, K: ByteSink>(
     let mut seconds = LineBuffer::new(alloc);
     let mut tally = Tally::new();
     loop {
-        match advance_pair(&mut firsts, &mut seconds, first, second, tally.answered)? {
-            Next::Pair => {}
-            Next::End(ending) => return end_pairs(ending, tally, out),
+        let has_first = read_line(&mut firsts, first, Side::First, tally.answered)?;
+        let has_second = read_line(&mut seconds, second, Side::Second, tally.answered)?;
+        if let Some(ending) = ending_of(has_first, has_second) {
+            return end_pairs(ending, tally, out);
         }
         match put_pair(alloc, work, asked, firsts.line(), seconds.line(), out) {
             Ok(status) => tally = tally.with(status),
-            Err(fault) => return Err(broken_off(fault, tally.answered)),
+            Err(fault) => {
+                return Err(Interruption {
+                    fault,
+                    answered: tally.answered,
+                    side: Side::Second,
+                });
+            }
         }
+    }
+}
+
+// Which file has ended, by which of them has a next line; neither if both have.
+fn ending_of(has_first: bool, has_second: bool) -> Option<Ending>
+    ensures { result ≡ ending_of has_first has_second }
+{
+    match (has_first, has_second) {
+        (true, true) => None,
+        (true, false) => Some(Ending::SecondEnds),
+        (false, true) => Some(Ending::FirstEnds),
+        (false, false) => Some(Ending::Together),
     }
 }
 
@@ -75,7 +94,7 @@ fn end_pairs<K: ByteSink>(
     ending: Ending,
     tally: Tally,
     out: &mut K,
-) -> Result<Compared, PairInterruption>
+) -> Result<Compared, Interruption>
     requires counted { (statuses : List ℕ) × IsTally tally statuses }
     requires room { ending ≢ Ending.Together → tally.answered + 1 < 2 ^ 64 }
     ensures { EndsBy K.taken K.is_failed ending tally out.old out.new result }
@@ -87,17 +106,11 @@ fn end_pairs<K: ByteSink>(
                 tally: tally.with(1),
                 ending,
             }),
-            Err(_) => Err(broken_off(RunFault::Write, tally.answered)),
+            Err(_) => Err(Interruption {
+                fault: RunFault::Write,
+                answered: tally.answered,
+                side: Side::Second,
+            }),
         },
-    }
-}
-
-// Where a comparison is broken off whose files are not at fault.
-fn broken_off(fault: RunFault, answered: u64) -> PairInterruption
-    ensures { result ≡ record { side = Side.Second; interruption = record { fault = fault; answered = answered } } }
-{
-    PairInterruption {
-        side: Side::Second,
-        interruption: Interruption { fault, answered },
     }
 }

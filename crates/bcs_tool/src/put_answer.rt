@@ -1,27 +1,26 @@
 //! One answer, which is put.
 ghost use Rattle.bcs_tool.specs.Running.{PutsAnswer};
 
-use crate::interruption::Interruption;
+use crate::interruption::{Interruption, Side};
 use crate::run_fault::RunFault;
 use bcs_io::{ByteSink, put_all};
 use bcs_tool_answers::Answer;
-use bcs_tool_command_line::{Outcome, Report};
+use bcs_tool_command_line::Outcome;
 
 /// Puts an answer, and hands on its status and its place.
-pub fn put_answer<K: ByteSink>(answer: Answer, out: &mut K) -> Result<Report, Interruption>
+pub fn put_answer<K: ByteSink>(answer: Answer, out: &mut K) -> Result<Outcome, Interruption>
     ensures { PutsAnswer K.taken K.is_failed answer out.old out.new result }
 {
     match put_all(answer.output.as_slice(), out) {
-        Ok(()) => Ok(Report {
-            outcome: Outcome {
-                status: answer.status,
-                note: "",
-            },
+        Ok(()) => Ok(Outcome {
+            status: answer.status,
+            note: "",
             place: answer.place,
         }),
         Err(_) => Err(Interruption {
             fault: RunFault::Write,
             answered: 0,
+            side: Side::Second,
         }),
     }
 }

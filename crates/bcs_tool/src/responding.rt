@@ -10,12 +10,12 @@ ghost use Rattle.bcs_tool.specs.Visible.{breaks_lines};
 use crate::command_line::line;
 use crate::entry::BLOCK;
 use crate::files::read_work;
-use crate::pair_running::{report_of_pairs, run_pairs};
-use crate::running::{failed, run_from};
+use crate::pair_running::run_pairs;
+use crate::running::{failed, outcome_of, run_from};
 use crate::telling::{tell_fault_of_words, tell_report};
 use bcs_io::{ByteSink, ByteSource, ReadSource, TakeFault};
 use bcs_tool_command_line::{
-    FileFault, Inputs, Job, LineFault, OpenCause, Origin, Report, UnreadFile, Work, place_of_file,
+    FileFault, Inputs, Job, LineFault, OpenCause, Origin, Outcome, UnreadFile, Work, place_of_file,
 };
 use std::alloc::Global;
 use std::env::Env;
@@ -43,10 +43,10 @@ pub fn respond<R: Files + Env + AllocGlobal, S: ByteSource, O: ByteSink, E: Byte
     ensures job { TakesWords (texts_of words.now) →
         ((input.new ≡ input.old) × TellsFault O.taken O.is_failed E.taken E.is_failed
         (not (breaks_lines (texts_of words.now))) LineFault.OutOfMemory out.old out.new errors.old errors.new result)
-        ⊎ ((job : Job) × (report : Report) × IsJobOf (texts_of words.now) job
+        ⊎ ((job : Job) × (outcome : Outcome) × IsJobOf (texts_of words.now) job
         × Performs S.content S.is_failed S.allowance O.taken O.is_failed R.File.remaining
-        job input.old input.new out.old out.new report
-        × TellsReport E.taken E.is_failed report errors.old errors.new result) }
+        job input.old input.new out.old out.new outcome
+        × TellsReport E.taken E.is_failed outcome errors.old errors.new result) }
 {
     match line(rt.alloc(), words) {
         Ok(job) => tell_report(perform(rt, job, input, out), errors),
@@ -60,7 +60,7 @@ fn perform<R: Files + Env + AllocGlobal, S: ByteSource, O: ByteSink>(
     job: Job,
     input: &mut S,
     out: &mut O,
-) -> Report
+) -> Outcome
     ensures { Performs S.content S.is_failed S.allowance O.taken O.is_failed R.File.remaining
         job input.old input.new out.old out.new result }
 {
@@ -86,7 +86,7 @@ fn perform_one<R: Files + Env + AllocGlobal, S: ByteSource, O: ByteSink>(
     file: Option<String>,
     input: &mut S,
     out: &mut O,
-) -> Report
+) -> Outcome
     ensures { PerformsOne S.content S.is_failed S.allowance O.taken O.is_failed R.File.remaining
         work.now file input.old input.new out.old out.new result }
 {
@@ -121,7 +121,7 @@ fn perform_pairs<R: Files + Env + AllocGlobal, S: ByteSource, O: ByteSink>(
     file: Option<String>,
     input: &mut S,
     out: &mut O,
-) -> Report
+) -> Outcome
     ensures { PerformsPairs S.content S.is_failed S.allowance O.taken O.is_failed R.File.remaining
         work.now first.now file input.old input.new out.old out.new result }
 {
@@ -133,28 +133,28 @@ fn perform_pairs<R: Files + Env + AllocGlobal, S: ByteSource, O: ByteSink>(
     let origin = Origin::File(first);
     let Some(name) = file else {
         let result = run_pairs(alloc, work, &mut lines, input, out);
-        return report_of_pairs(alloc, work, result, origin, Origin::StandardInput);
+        return outcome_of(alloc, work, result, origin, Origin::StandardInput);
     };
     let name = name.as_str();
     match File::open(rt, name) {
         Ok(file) => {
             let result = run_pairs(alloc, work, &mut lines, &mut ReadSource::new(file), out);
-            report_of_pairs(alloc, work, result, origin, Origin::File(name))
+            outcome_of(alloc, work, result, origin, Origin::File(name))
         }
         Err(error) => unopened(alloc, work.options.quiet, name, error.kind()),
     }
 }
 
-// The report of a job of which a file of an input was not opened.
-fn unopened(alloc: Global, quiet: bool, name: &str, kind: ErrorKind) -> Report
+// The outcome of a job of which a file of an input was not opened.
+fn unopened(alloc: Global, quiet: bool, name: &str, kind: ErrorKind) -> Outcome
     ensures { IsUnopened quiet name.now result }
 {
     let cause = OpenCause::of(kind);
     unread(alloc, quiet, UnreadFile::Unopened(cause), name)
 }
 
-// The report of a job of which a file of an input was not read.
-fn unread(alloc: Global, quiet: bool, unread: UnreadFile, name: &str) -> Report
+// The outcome of a job of which a file of an input was not read.
+fn unread(alloc: Global, quiet: bool, unread: UnreadFile, name: &str) -> Outcome
     ensures { IsUnread quiet name.now unread result }
 {
     failed(

@@ -1,24 +1,36 @@
 //! Where a run is broken off, and how its lines were answered: what the standard error is told behind the note.
 ghost use Rattle.std.specs.Prelude.{◌≡◌, ◌++◌, IfOk, OnOk};
 ghost use Rattle.std.specs.Fmt.{decimal};
-ghost use Rattle.bcs_tool.specs.Running.{run_place, stream_text};
+ghost use Rattle.bcs_tool.specs.Running.{run_place, side_text, stream_text};
 ghost use Rattle.bcs_tool_answers.specs.LineAnswers.{tally_text};
 ghost use Rattle.bcs_tool_command_line.specs.FaultPlaces.{TellsPlace, origin_text};
 
-use crate::interruption::Interruption;
+use crate::interruption::{Interruption, Side};
 use crate::run_fault::RunFault;
 use crate::tally::Tally;
 use bcs_tool_command_line::{Origin, Work, input_line, output_line};
 use std::alloc::{AllocError, Global};
 
-/// Which stream is at fault, and at which line, where lines are answered. It is empty at a quiet job, and where no memory
-/// is left for it.
+/// Which of these inputs failed, or the output, and at which line, if lines are answered. It is empty at a quiet job, and if
+/// memory runs out.
 pub fn place_of_interruption(
     alloc: Global,
     work: &Work,
     interruption: Interruption,
-    origin: Origin<'_>,
+    first: Origin<'_>,
+    second: Origin<'_>,
 ) -> Vec<u8>
+    ensures { TellsPlace work.now.options.quiet (run_place work.now.options.lines interruption.fault
+        (side_text interruption.side (origin_text first.entry) (origin_text second.entry)) interruption.answered) result.items }
+{
+    let origin = match interruption.side {
+        Side::First => first,
+        Side::Second => second,
+    };
+    place_in(alloc, work, interruption, origin)
+}
+
+fn place_in(alloc: Global, work: &Work, interruption: Interruption, origin: Origin<'_>) -> Vec<u8>
     ensures { TellsPlace work.now.options.quiet (run_place work.now.options.lines interruption.fault (origin_text origin.entry) interruption.answered) result.items }
 {
     if work.options.quiet {

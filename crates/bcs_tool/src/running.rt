@@ -1,6 +1,6 @@
 //! A job, its input and its output.
 ghost use Rattle.std.specs.Prelude.{◌≡◌, false};
-ghost use Rattle.bcs_tool.specs.Running.{Ends, EndsWith, Runs};
+ghost use Rattle.bcs_tool.specs.Running.{Ends, IsOutcomeOf, Runs};
 ghost use Rattle.bcs_tool_answers.specs.Judging.{ReadsInput};
 ghost use Rattle.bcs_tool_answers.specs.Preparing.{IsAskedBy};
 ghost use Rattle.bcs_tool_command_line.specs.FaultPlaces.{origin_text};
@@ -11,9 +11,9 @@ use crate::put_answer::put_answer;
 use crate::run_places::place_of_interruption;
 use crate::scan_running::run_scan;
 use bcs_io::{ByteSink, ByteSource, take_all};
-use bcs_tool_answers::{Asked, Prepared, answer_values, is_unlimited, prepare};
+use bcs_tool_answers::{Asked, answer_values, is_unlimited, prepare};
 use bcs_tool_command_line::limits::SIZE_LIMIT;
-use bcs_tool_command_line::{Origin, Outcome, Report, Work};
+use bcs_tool_command_line::{Origin, Outcome, Work};
 use std::alloc::Global;
 
 /// Puts the answer to a job and its input; or, where the job is for lines, the answer to each line of it. A whole answer is
@@ -25,10 +25,10 @@ pub fn run<S: ByteSource, K: ByteSink>(
     input: &mut S,
     out: &mut K,
 ) -> Outcome
-    ensures { EndsWith S.content S.is_failed S.allowance K.taken K.is_failed work.now
+    ensures { Runs S.content S.is_failed S.allowance K.taken K.is_failed work.now (origin_text Origin.StandardInput)
         input.old input.new out.old out.new result }
 {
-    run_from(alloc, work, Origin::StandardInput, input, out).outcome
+    run_from(alloc, work, Origin::StandardInput, input, out)
 }
 
 /// The same of an input that is this file or the standard input, and where the job is refused or broken off, which is a
@@ -39,27 +39,42 @@ pub fn run_from<S: ByteSource, K: ByteSink>(
     origin: Origin<'_>,
     input: &mut S,
     out: &mut K,
-) -> Report
+) -> Outcome
     ensures { Runs S.content S.is_failed S.allowance K.taken K.is_failed work.now (origin_text origin.entry)
         input.old input.new out.old out.new result }
 {
-    match put_answers(alloc, work, input, out) {
-        Ok(report) => report,
+    let ended = put_answers(alloc, work, input, out);
+    outcome_of(alloc, work, ended, origin, origin)
+}
+
+/// The outcome of a run over inputs of these origins: the one that it has, or where it was broken off.
+pub(crate) fn outcome_of(
+    alloc: Global,
+    work: &Work,
+    ended: Result<Outcome, Interruption>,
+    first: Origin<'_>,
+    second: Origin<'_>,
+) -> Outcome
+    ensures { IsOutcomeOf work.now (origin_text first.entry) (origin_text second.entry) ended result }
+{
+    match ended {
+        Ok(outcome) => outcome,
         Err(interruption) => failed(
             interruption.fault.note(),
-            place_of_interruption(alloc, work, interruption, origin),
+            place_of_interruption(alloc, work, interruption, first, second),
         ),
     }
 }
 
-/// The report of a job that has no answer.
-pub fn failed(note: &'static str, place: Vec<u8>) -> Report
-    ensures status { result.outcome.status ≡ 4 }
-    ensures note { result.outcome.note.now ≡ note.now }
+/// The outcome of a job that has no answer.
+pub fn failed(note: &'static str, place: Vec<u8>) -> Outcome
+    ensures status { result.status ≡ 4 }
+    ensures note { result.note.now ≡ note.now }
     ensures place { result.place.items ≡ place.items }
 {
-    Report {
-        outcome: Outcome { status: 4, note },
+    Outcome {
+        status: 4,
+        note,
         place,
     }
 }
@@ -70,14 +85,14 @@ fn put_answers<S: ByteSource, K: ByteSink>(
     work: &Work,
     input: &mut S,
     out: &mut K,
-) -> Result<Report, Interruption>
+) -> Result<Outcome, Interruption>
     ensures ends { Ends S.content S.is_failed S.allowance K.taken K.is_failed work.now
         input.old input.new out.old out.new result }
     ensures untouched { ¬ ReadsInput work.now → input.new ≡ input.old }
 {
     match prepare(alloc, work)? {
-        Prepared::Answered(answer) => put_answer(answer, out),
-        Prepared::Asked(asked) => {
+        Err(answer) => put_answer(answer, out),
+        Ok(asked) => {
             if work.options.lines {
                 run_lines(alloc, work, &asked, input, out)
             } else if is_unlimited(work) {
@@ -96,7 +111,7 @@ fn run_whole<S: ByteSource, K: ByteSink>(
     asked: &Asked,
     input: &mut S,
     out: &mut K,
-) -> Result<Report, Interruption>
+) -> Result<Outcome, Interruption>
     requires asked { IsAskedBy work.now asked.now }
     requires whole { work.now.options.lines ≡ false }
     ensures { Ends S.content S.is_failed S.allowance K.taken K.is_failed work.now

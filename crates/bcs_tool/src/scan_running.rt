@@ -11,7 +11,7 @@ use crate::put_answer::put_answer;
 use bcs_decode::{DecodeFault, scan_all, scan_from};
 use bcs_io::{ByteSink, ByteSource, TakeFault};
 use bcs_tool_answers::{Answer, Asked, counted, stopped};
-use bcs_tool_command_line::{Report, Work};
+use bcs_tool_command_line::{Outcome, Work};
 use std::alloc::Global;
 
 /// Puts how many bytes the value has that the input gives, or where they stop being one. Where they stand in the value is
@@ -22,7 +22,7 @@ pub fn run_scan<S: ByteSource, K: ByteSink>(
     asked: &Asked,
     input: &mut S,
     out: &mut K,
-) -> Result<Report, Interruption>
+) -> Result<Outcome, Interruption>
     requires asked { IsAskedBy work.now asked.now }
     requires streams { Streams work.now }
     ensures { Ends S.content S.is_failed S.allowance K.taken K.is_failed work.now

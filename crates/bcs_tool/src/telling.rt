@@ -7,7 +7,7 @@ ghost use Rattle.bcs_tool.specs.Visible.{breaks_lines, usage_text};
 
 use crate::visible::{breaks_lines, put_visible};
 use bcs_io::{ByteSink, put_all};
-use bcs_tool_command_line::{LineFault, Report};
+use bcs_tool_command_line::{LineFault, Outcome};
 
 /// Tells why the words are no job, or what they ask for, and gives the status.
 pub fn tell_fault<O: ByteSink, E: ByteSink>(fault: &LineFault, out: &mut O, errors: &mut E) -> u8
@@ -51,24 +51,20 @@ fn tell_fault_by<O: ByteSink, E: ByteSink>(
     }
 }
 
-/// Tells the note of a report on a line, and then its place on one, each where it has one, and gives its status.
-pub fn tell_report<E: ByteSink>(report: Report, errors: &mut E) -> u8
-    ensures { TellsReport E.taken E.is_failed report errors.old errors.new result }
+/// Tells the note of an outcome on a line, and then its place on one, each where it has one, and gives its status.
+pub fn tell_report<E: ByteSink>(outcome: Outcome, errors: &mut E) -> u8
+    ensures { TellsReport E.taken E.is_failed outcome errors.old errors.new result }
 {
-    if report.outcome.note.is_empty() {
-        if !report.place.is_empty() {
-            tell_line(report.place.as_slice(), errors);
+    if outcome.note.is_empty() {
+        if !outcome.place.is_empty() {
+            tell_line(outcome.place.as_slice(), errors);
         }
-    } else if report.place.is_empty() {
-        tell_line(report.outcome.note.as_bytes(), errors);
+    } else if outcome.place.is_empty() {
+        tell_line(outcome.note.as_bytes(), errors);
     } else {
-        tell_lines(
-            report.outcome.note.as_bytes(),
-            report.place.as_slice(),
-            errors,
-        );
+        tell_lines(outcome.note.as_bytes(), outcome.place.as_slice(), errors);
     }
-    report.outcome.status
+    outcome.status
 }
 
 // Tells a text of usage with its hidden characters escaped.

@@ -1,5 +1,5 @@
 -- What the words of a job come to, before its input is read.
-use Rattle.std.specs.Prelude.{◌≡◌, ◌++◌, ℕ, List, string_bytes, true}
+use Rattle.std.specs.Prelude.{◌≡◌, ◌++◌, ℕ, List, Result, Ok, Err, string_bytes, true}
 use Rattle.bcs_registry_model.specs.View.{shape_of}
 use Rattle.bcs_registry_model.specs.WellFormed.{Admits}
 use Rattle.bcs_decode_parts.specs.PathSteps.{all_spelled}
@@ -9,8 +9,6 @@ use Rattle.bcs_tool_answers.specs.Answers.{Answers, Lists}
 use Rattle.bcs_tool_answers.specs.Places.{IsAnswer, Places}
 use Rattle.bcs_tool_answers.specs.declared.answer.Answer.{Answer}
 use Rattle.bcs_tool_answers.specs.declared.judging.Asked.{Asked}
-use Rattle.bcs_tool_answers.specs.declared.preparing.Prepared.{Prepared}
-use Rattle.bcs_tool_answers.specs.declared.preparing.Prepared.TheVariants as prepared
 
 -- the job works on values of this format of this registry, and its PATH spells these steps
 pub record IsAskedBy (work : Work) (asked : Asked) : Type 0 where
@@ -25,6 +23,6 @@ IsVerdict work a = (list input : List ℕ) → Lists work.options.list list
     → Answers work input a.status (list ++ a.output.items) × Places work input a.place.items
 
 -- the job reads no input and has this answer, whatever the input; or it asks for this of its input
-abbrev pub IsPrepared : Work → Prepared → Type 0
-IsPrepared work (prepared.Answered a) = (¬ ReadsInput work) × ((bytes : List ℕ) → IsAnswer work bytes a)
-IsPrepared work (prepared.Asked asked) = IsAskedBy work asked
+abbrev pub IsPrepared : Work → Result Asked Answer → Type 0
+IsPrepared work (Err a) = (¬ ReadsInput work) × ((bytes : List ℕ) → IsAnswer work bytes a)
+IsPrepared work (Ok asked) = IsAskedBy work asked

@@ -186,13 +186,13 @@ fn answer_explain(
         registry,
         format,
         &work.limits,
-        work.options.style,
+        work.options.display.style(),
         bytes,
     )?;
     let Explanation { text, stop } = explained;
     match stop {
         None => Ok(unplaced(alloc, 0, text)),
-        Some(stop) => damaged(alloc, work.options.style.form, text, stop),
+        Some(stop) => damaged(alloc, work.options.display.form, text, stop),
     }
 }
 

@@ -45,7 +45,7 @@ fn answer_wish(
 
 // What stands in the options, lists and maps of the example.
 fn form_of(work: &Work) -> ExampleForm {
-    if work.options.full {
+    if work.options.display.full {
         ExampleForm::Full
     } else {
         ExampleForm::Least

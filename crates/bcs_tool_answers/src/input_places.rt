@@ -4,9 +4,9 @@ ghost use Rattle.bcs_tool_answers.specs.Places.{MayReport};
 use crate::blanks::{blanks_before, without_blanks};
 use crate::places::place_of_line;
 use base64::DecodeError;
-use bcs_look_places::{WrongText, wrong_digits};
+use bcs_look_places::{WrongText, input_line, wrong_digits};
 use bcs_tool_command_line::Work;
-use std::alloc::{AllocError, Global};
+use std::alloc::Global;
 
 /// Where this input is no hexadecimal digits. It is empty at a quiet job, and where no memory is left for it.
 pub fn place_of_digits(alloc: Global, work: &Work, input: &[u8]) -> Vec<u8>
@@ -61,21 +61,4 @@ fn place_of_input(
     }
     let blanks = blanks_before(input);
     place_of_line(alloc, input_line(alloc, blanks, fault, wrong).ok())
-}
-
-fn input_line(
-    alloc: Global,
-    blanks: usize,
-    fault: &str,
-    wrong: WrongText,
-) -> Result<Vec<u8>, AllocError> {
-    let words = wrong.words;
-    let line = match wrong.place {
-        Some(place) => {
-            let byte = blanks.saturating_add(place);
-            format!(in alloc; "at byte {byte} of the input: {fault}: {words}")?
-        }
-        None => format!(in alloc; "at the whole input: {fault}: {words}")?,
-    };
-    Ok(line.into_bytes())
 }

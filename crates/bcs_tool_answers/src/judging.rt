@@ -119,8 +119,8 @@ fn named(alloc: Global, name: &str) -> Result<Format, RegistryFault>
     }
 }
 
-/// Whether a format's word is JSON, and no name of a container.
-pub fn begins_json(word: &str) -> bool
+// Whether a format's word is JSON, and no name of a container.
+fn begins_json(word: &str) -> bool
     ensures { result ≡ is_json_word word.now }
 {
     matches!(word.as_bytes().first(), Some(b'{' | b'"'))

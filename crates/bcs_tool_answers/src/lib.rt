@@ -29,6 +29,6 @@ pub use ending::Ending;
 pub use job_fault::JobFault;
 pub use judging::Asked;
 pub use pair_answers::answer_pair;
-pub use preparing::{Prepared, prepare};
+pub use preparing::prepare;
 pub use scan_answers::is_unlimited;
 pub use value_answers::answer_values;

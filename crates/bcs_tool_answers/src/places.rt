@@ -3,7 +3,7 @@ ghost use Rattle.std.specs.Prelude.{◌≡◌, true};
 ghost use Rattle.std.specs.List.{All};
 ghost use Rattle.bcs_tool_answers.specs.Places.{IsPrintable};
 
-use std::alloc::{AllocError, Global};
+use std::alloc::Global;
 
 /// The place of this line, if each of its bytes is printable ASCII; else none. Every place is made here, so that nothing
 /// need be known of what words the lines.
@@ -24,13 +24,4 @@ fn is_printable(text: &[u8]) -> bool
     ensures { result ≡ true → All IsPrintable text.now }
 {
     text.iter().all(|byte| matches!(byte, b' '..=b'~'))
-}
-
-/// The line, with the name before it that help has for the text in which it stands.
-pub fn in_text(alloc: Global, name: &str, line: &[u8]) -> Result<Vec<u8>, AllocError> {
-    let mut place = Vec::from_slice(alloc, b"in ")?;
-    place.extend_from_slice(name.as_bytes())?;
-    place.extend_from_slice(b", ")?;
-    place.extend_from_slice(line)?;
-    Ok(place)
 }

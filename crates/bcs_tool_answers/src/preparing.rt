@@ -14,25 +14,17 @@ use crate::showing::answer_show;
 use bcs_tool_command_line::{Command, Work};
 use std::alloc::{AllocError, Global};
 
-/// A job whose words were judged.
-#[derive(Drop)]
-pub enum Prepared {
-    /// Its answer, whatever the input: it has no input, or its words are refused.
-    Answered(Answer),
-    /// What it asks for of its input.
-    Asked(Asked),
-}
-
-/// Judges the words of the job. No input is read before.
-pub fn prepare(alloc: Global, work: &Work) -> Result<Prepared, AllocError>
+/// Judges the words of the job. No input is read before. `Ok`: what the job asks of its input. `Err`: the answer, whatever the
+/// input is, since the job has none or its words are refused.
+pub fn prepare(alloc: Global, work: &Work) -> Result<Result<Asked, Answer>, AllocError>
     ensures { IfOk result (λ prepared. IsPrepared work.now prepared) }
 {
     match work.command {
-        Command::Check => Ok(Prepared::Answered(answer_check(alloc, work)?)),
-        Command::Grows => Ok(Prepared::Answered(answer_growth(alloc, work)?)),
-        Command::Show => Ok(Prepared::Answered(answer_show(alloc, work)?)),
-        Command::Example => Ok(Prepared::Answered(answer_example(alloc, work)?)),
-        Command::Schema => Ok(Prepared::Answered(answer_schema(alloc, work)?)),
+        Command::Check => Ok(Err(answer_check(alloc, work)?)),
+        Command::Grows => Ok(Err(answer_growth(alloc, work)?)),
+        Command::Show => Ok(Err(answer_show(alloc, work)?)),
+        Command::Example => Ok(Err(answer_example(alloc, work)?)),
+        Command::Schema => Ok(Err(answer_schema(alloc, work)?)),
         Command::Encode
         | Command::Decode
         | Command::Explain
@@ -55,12 +47,12 @@ fn answer_check(alloc: Global, work: &Work) -> Result<Answer, AllocError>
 }
 
 // What a job that works on values asks for; or the answer to it, whatever the input, where its words are refused.
-fn prepare_asked(alloc: Global, work: &Work) -> Result<Prepared, AllocError>
+fn prepare_asked(alloc: Global, work: &Work) -> Result<Result<Asked, Answer>, AllocError>
     requires { works_on_values work.now.command ≡ true }
     ensures { IfOk result (λ prepared. IsPrepared work.now prepared) }
 {
     match judge_asked(alloc, work) {
-        Ok(asked) => Ok(Prepared::Asked(asked)),
-        Err(fault) => Ok(Prepared::Answered(refused_words(alloc, work, fault)?)),
+        Ok(asked) => Ok(Ok(asked)),
+        Err(fault) => Ok(Err(refused_words(alloc, work, fault)?)),
     }
 }

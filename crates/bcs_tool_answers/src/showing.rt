@@ -49,7 +49,7 @@ fn names_none(work: &Work, registry: &Registry) -> bool
 
 // What is printed of the registry. Its text is there, since the name is that of a container.
 fn registry_text(alloc: Global, work: &Work, registry: &Registry) -> Result<Vec<u8>, AllocError> {
-    let form = match work.options.style.form {
+    let form = match work.options.display.form {
         Form::Json => RegistryForm::Json,
         Form::Ways | Form::Paths | Form::Tree => RegistryForm::Lines,
     };

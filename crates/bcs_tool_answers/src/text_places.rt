@@ -2,9 +2,9 @@
 ghost use Rattle.bcs_tool_answers.specs.Places.{MayReport};
 
 use crate::judging::Asked;
-use crate::places::{in_text, place_of_line};
+use crate::places::place_of_line;
 use bcs_json::{JsonFault, read_value};
-use bcs_look_places::{place_of_text, put_text_limit, whole_line};
+use bcs_look_places::{line_in, put_text_limit, text_line};
 use bcs_tool_command_line::Work;
 use std::alloc::Global;
 
@@ -40,12 +40,12 @@ fn pair_line(alloc: Global, work: &Work, asked: &Asked, text: &[u8]) -> Option<V
     match fault_of(alloc, work, asked, first) {
         Some(fault) => {
             let line = refusal_line(alloc, work, asked, first, fault)?;
-            in_text(alloc, "A", &line).ok()
+            line_in(alloc, "A", &line).ok()
         }
         None => {
             let fault = fault_of(alloc, work, asked, text)?;
             let line = refusal_line(alloc, work, asked, text, fault)?;
-            in_text(alloc, "B", &line).ok()
+            line_in(alloc, "B", &line).ok()
         }
     }
 }
@@ -55,7 +55,7 @@ fn fault_of(alloc: Global, work: &Work, asked: &Asked, text: &[u8]) -> Option<Js
     read_value(alloc, &asked.registry, &asked.format, &work.limits, text).err()
 }
 
-// The line of a text that is refused with this fault: as a whole, or at a place in it.
+// The line of a text that is refused with this fault.
 fn refusal_line(
     alloc: Global,
     work: &Work,
@@ -66,20 +66,8 @@ fn refusal_line(
     if fault == JsonFault::OutOfMemory {
         return None;
     }
-    match whole_line(alloc, &work.limits, text, fault) {
-        Some(line) => Some(line),
-        None => placed_line(alloc, work, asked, text, fault),
-    }
-}
-
-fn placed_line(
-    alloc: Global,
-    work: &Work,
-    asked: &Asked,
-    text: &[u8],
-    fault: JsonFault,
-) -> Option<Vec<u8>> {
-    let mut line = place_of_text(alloc, &asked.registry, &asked.format, &work.limits, text)?;
-    put_text_limit(&work.limits, fault, &mut line).ok()?;
+    let limits = &work.limits;
+    let mut line = text_line(alloc, &asked.registry, &asked.format, limits, text, fault)?;
+    put_text_limit(limits, fault, &mut line).ok()?;
     Some(line)
 }

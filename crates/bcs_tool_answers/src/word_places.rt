@@ -2,12 +2,9 @@
 ghost use Rattle.bcs_tool_answers.specs.Places.{MayReport};
 
 use crate::job_fault::JobFault;
-use crate::judging::begins_json;
-use crate::places::{in_text, place_of_line};
+use crate::places::place_of_line;
 use bcs_look_places::{
-    place_of_container, place_of_format_shape, place_of_growth, place_of_name,
-    place_of_no_format_json, place_of_no_json, place_of_path, place_of_registry_shape,
-    place_of_rule, place_of_word,
+    format_line, line_in, place_of_container, place_of_growth, place_of_path, registry_line,
 };
 use bcs_registry::{Registry, RegistryFault};
 use bcs_tool_command_line::{Command, Work};
@@ -51,7 +48,7 @@ fn words_line(
     fault: JobFault,
 ) -> Result<Option<Vec<u8>>, RegistryFault> {
     match fault {
-        JobFault::Registry(fault) => registry_line(alloc, work, fault),
+        JobFault::Registry(fault) => registries_line(alloc, work, fault),
         JobFault::Growth(_) => Ok(None),
         JobFault::BadPath => Ok(place_of_path(alloc, work.path.as_str())?),
     }
@@ -59,14 +56,14 @@ fn words_line(
 
 // The line of this fault, which is that of the registry, or else of the word that is judged behind it. No word behind the
 // one that has the fault is looked at.
-fn registry_line(
+fn registries_line(
     alloc: Global,
     work: &Work,
     fault: RegistryFault,
 ) -> Result<Option<Vec<u8>>, RegistryFault> {
     let is_grows = work.command == Command::Grows;
     if Registry::read(alloc, work.registry.as_slice()).is_err() {
-        let line = text_line(alloc, work.registry.as_slice(), fault)?;
+        let line = registry_line(alloc, work.registry.as_slice(), fault)?;
         return if is_grows {
             named(alloc, "OLD", line)
         } else {
@@ -76,7 +73,7 @@ fn registry_line(
     match work.command {
         Command::Check => Ok(None),
         Command::Grows => {
-            let line = text_line(alloc, work.second.as_slice(), fault)?;
+            let line = registry_line(alloc, work.second.as_slice(), fault)?;
             named(alloc, "NEW", line)
         }
         Command::Show => name_line(alloc, work),
@@ -88,7 +85,9 @@ fn registry_line(
         | Command::Normalise
         | Command::Same
         | Command::Part
-        | Command::Scan => format_line(alloc, work, fault),
+        | Command::Scan => {
+            format_line(alloc, work.registry.as_slice(), work.format.as_str(), fault)
+        }
     }
 }
 
@@ -99,45 +98,8 @@ fn named(
     line: Option<Vec<u8>>,
 ) -> Result<Option<Vec<u8>>, RegistryFault> {
     match line {
-        Some(line) => Ok(Some(in_text(alloc, name, &line)?)),
+        Some(line) => Ok(Some(line_in(alloc, name, &line)?)),
         None => Ok(None),
-    }
-}
-
-// Where a registry's text has this fault.
-fn text_line(
-    alloc: Global,
-    text: &[u8],
-    fault: RegistryFault,
-) -> Result<Option<Vec<u8>>, RegistryFault> {
-    match fault {
-        RegistryFault::NotJson => Ok(place_of_no_json(alloc, text)),
-        RegistryFault::BadShape | RegistryFault::BadNumber => place_of_registry_shape(alloc, text),
-        RegistryFault::TooNested | RegistryFault::RepeatedName | RegistryFault::UnknownName => {
-            place_of_rule(alloc, text)
-        }
-        RegistryFault::OutOfMemory => Ok(None),
-    }
-}
-
-// Where FORMAT has this fault.
-fn format_line(
-    alloc: Global,
-    work: &Work,
-    fault: RegistryFault,
-) -> Result<Option<Vec<u8>>, RegistryFault> {
-    let registry = work.registry.as_slice();
-    let word = work.format.as_str();
-    if !begins_json(word) {
-        return place_of_word(alloc, registry, word);
-    }
-    match fault {
-        RegistryFault::NotJson => Ok(place_of_no_format_json(alloc, word)),
-        RegistryFault::BadShape | RegistryFault::BadNumber => place_of_format_shape(alloc, word),
-        RegistryFault::UnknownName => place_of_name(alloc, registry, word),
-        RegistryFault::TooNested | RegistryFault::RepeatedName | RegistryFault::OutOfMemory => {
-            Ok(None)
-        }
     }
 }
 

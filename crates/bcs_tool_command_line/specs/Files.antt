@@ -1,10 +1,6 @@
 -- The files that a job names.
 use Rattle.std.specs.Prelude.{◌≡◌, ◌≢◌, ◌⊎◌, ◌≤◌, ◌<◌, ◌==◌, ℕ, List, [], ◌∷◌, Bool, true, false, codes, length, IfSome, Option, Some, None, string_bytes}
 use Rattle.bcs_io.specs.Notes.{take_note}
-use Rattle.bcs_look_text.specs.declared.style.Form.TheVariants.{Ways}
-use Rattle.bcs_look_text.specs.declared.style.Paint.TheVariants.{Plain, Colored}
-use Rattle.bcs_look_text.specs.declared.style.Style.{Style}
-use Rattle.bcs_tool_command_line.specs.declared.color.Color.TheVariants.{Always, Never}
 use Rattle.bcs_tool_command_line.specs.declared.command.Command.{Command}
 use Rattle.bcs_tool_command_line.specs.declared.command.Command.TheVariants.{Check, Grows, Show, Example, Schema, Encode, Decode, Explain, Normalise, Same, Part, Scan}
 use Rattle.bcs_tool_command_line.specs.declared.file_fault.FileFault.{FileFault}
@@ -16,7 +12,6 @@ use Rattle.bcs_tool_command_line.specs.declared.unread_file.UnreadFile.{UnreadFi
 use Rattle.bcs_tool_command_line.specs.declared.unread_file.UnreadFile.TheVariants.{Unopened, Untaken}
 use Rattle.bcs_tool_command_line.specs.declared.work.Inputs.{Inputs}
 use Rattle.bcs_tool_command_line.specs.declared.work.Work.{Work}
-use Rattle.bcs_tool_command_line.specs.declared.work.WorkOptions.{WorkOptions}
 
 -- the most bytes of an input, and of a registry's text
 abbrev pub size_limit : ℕ
@@ -46,18 +41,6 @@ abbrev pub IsContent : Option (List ℕ) → List ℕ → Type 0
 IsContent None bytes = Unit {0}
 IsContent (Some content) bytes = bytes ≡ content
 
--- no option is set
-pub record HasNone (options : WorkOptions) : Type 0 where
-  pub name : options.name ≡ None
-  pub base64 : options.base64 ≡ false
-  pub lines : options.lines ≡ false
-  pub front : options.front ≡ false
-  pub list : options.list ≡ false
-  pub full : options.full ≡ false
-  pub quiet : options.quiet ≡ false
-  pub form : options.style.form ≡ Ways
-  pub paint : options.style.paint ≡ Plain
-
 -- the job compares two files line by line, so that A is an input as B is
 abbrev pub ComparesLines : Job → Type 0
 ComparesLines job = (job.command ≡ Same) × (job.options.lines ≡ true)
@@ -77,12 +60,6 @@ pub record IsInputsOf (job : Job) (inputs : Inputs) : Type 0 where
   pub compared : IfSome inputs.first (λ name. ComparesLines job × (name ≡ job.second))
   pub other : inputs.first ≡ None → ¬ ComparesLines job
   pub file : inputs.file ≡ job.file
-
--- pieces are printed in the form that the job says, and in color where it says so; where it says nothing of color, either way
-pub record IsStyleOf (job : Job) (style : Style) : Type 0 where
-  pub form : style.form ≡ job.options.form
-  pub always : job.options.color ≡ Always → style.paint ≡ Colored
-  pub never : job.options.color ≡ Never → style.paint ≡ Plain
 
 -- What files gave. Which file a name opens, no clause of std says: it is known what an opened file gave, and
 -- not which it is.
@@ -135,7 +112,7 @@ module _ {F : Type 0} (remaining : F → Option (List ℕ)) where
   IsSecondOf Part lines word text = text ≡ []
   IsSecondOf Scan lines word text = text ≡ []
 
-  -- the job's work
+  -- the job's work. Its options are the job's, except for those of output that people read
   pub record IsWorkOf (job : Job) (work : Work) : Type 0 where
     pub command : work.command ≡ job.command
     pub registry : IsTextOfWord (string_bytes job.registry) work.registry.items
@@ -144,11 +121,4 @@ module _ {F : Type 0} (remaining : F → Option (List ℕ)) where
     pub path : work.path ≡ job.path
     pub raw : work.raw ≡ job.raw
     pub limits : work.limits ≡ job.limits
-    pub name : work.options.name ≡ job.options.name
-    pub base64 : work.options.base64 ≡ job.options.base64
-    pub lines : work.options.lines ≡ job.options.lines
-    pub front : work.options.front ≡ job.options.front
-    pub list : work.options.list ≡ job.options.list
-    pub full : work.options.full ≡ job.options.full
-    pub quiet : work.options.quiet ≡ job.options.quiet
-    pub style : IsStyleOf job work.options.style
+    pub options : work.options ≡ record job.options { display = work.options.display }

@@ -5,13 +5,9 @@ use Rattle.std.specs.Str.Parse.{IsNumeral, digits_value, without_leading_plus}
 use Rattle.std.specs.Option.{option_or}
 use Rattle.clap.specs.Words.{Row, Text, first_of, one_of, subcommand_of}
 use Rattle.bcs_value_model.specs.Limits.{Bounds}
-use Rattle.bcs_look_text.specs.declared.style.Form.{Form}
-use Rattle.bcs_look_text.specs.declared.style.Form.TheVariants.{Ways, Paths, Tree, Json}
 use Rattle.bcs_tool_command_line.specs.CommandLine.{bcs_app}
 use Rattle.bcs_tool_command_line.specs.declared.coding.Coding.{Coding}
 use Rattle.bcs_tool_command_line.specs.declared.coding.Coding.TheVariants.{Hexadecimal, Base64, Raw}
-use Rattle.bcs_tool_command_line.specs.declared.color.Color.{Color}
-use Rattle.bcs_tool_command_line.specs.declared.color.Color.TheVariants.{Auto, Always, Never}
 use Rattle.bcs_tool_command_line.specs.declared.command.Command.{Command}
 use Rattle.bcs_tool_command_line.specs.declared.command.Command.TheVariants.{Check, Grows, Show, Example, Schema, Encode, Decode, Explain, Normalise, Same, Part, Scan}
 use Rattle.bcs_tool_command_line.specs.declared.job.Job.{Job}
@@ -59,16 +55,6 @@ is_raw Hexadecimal = false
 is_raw Base64 = false
 is_raw Raw = true
 
--- how pieces are printed: `--json` goes before `--tree`, and that before `--paths`
-abbrev pub form_of : List Row → Form
-form_of found = if is_set (codes "json") found then Json
-    else (if is_set (codes "tree") found then Tree
-    else (if is_set (codes "paths") found then Paths else Ways))
-
--- what is said of color: `--no-color` goes before `--color`
-abbrev pub color_of : List Row → Color
-color_of found = if is_set (codes "no-color") found then Never else (if is_set (codes "color") found then Always else Auto)
-
 -- the word writes the number n, of at most `most`, or there is none and n is `most`
 abbrev pub WritesLimit : ℕ → Option Text → ℕ → Type 0
 WritesLimit most None n = n ≡ most
@@ -79,17 +65,14 @@ abbrev pub WritesLimits : List Row → Bounds → Type 0
 WritesLimits found limits = WritesLimit 500 (one_of (codes "depth") found) limits.depth
     × WritesLimit 4294967295 (one_of (codes "nodes") found) limits.nodes
 
--- the options, where clap found these arguments
+-- the options, where clap found these arguments. Nothing is said of those for output that people read
 pub record HasOptions (found : List Row) (options : JobOptions) : Type 0 where
   pub name : option_map string_bytes options.name ≡ option_or (first_of (codes "NAME") found) (first_of (codes "variant") found)
   pub base64 : options.base64 ≡ is_set (codes "base64") found
   pub lines : options.lines ≡ is_set (codes "lines") found
   pub front : options.front ≡ is_set (codes "front") found
   pub list : options.list ≡ is_set (codes "list") found
-  pub full : options.full ≡ is_set (codes "full") found
   pub quiet : options.quiet ≡ is_set (codes "quiet") found
-  pub form : options.form ≡ form_of found
-  pub color : options.color ≡ color_of found
 
 -- no option is set
 pub record HasNoOptions (options : JobOptions) : Type 0 where
@@ -98,10 +81,7 @@ pub record HasNoOptions (options : JobOptions) : Type 0 where
   pub lines : options.lines ≡ false
   pub front : options.front ≡ false
   pub list : options.list ≡ false
-  pub full : options.full ≡ false
   pub quiet : options.quiet ≡ false
-  pub form : options.form ≡ Ways
-  pub color : options.color ≡ Auto
 
 -- the job of a command, where clap found these arguments
 pub record IsJob (command : Command) (found : List Row) (job : Job) : Type 0 where

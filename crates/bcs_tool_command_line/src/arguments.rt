@@ -2,12 +2,11 @@
 ghost use Rattle.std.specs.Prelude.{◌≡◌, ℕ, IfOk, option_map, string_bytes};
 ghost use Rattle.clap.specs.Words.{found_of, one_of, rows_of};
 ghost use Rattle.bcs_value_model.specs.Limits.{Bounds};
-ghost use Rattle.bcs_tool_command_line.specs.Jobs.{HasOptions, IsJob, WritesLimit, WritesLimits, color_of as color_in, form_of as form_in, is_set as is_set_in, text_or_empty};
+ghost use Rattle.bcs_tool_command_line.specs.Jobs.{HasOptions, IsJob, WritesLimit, WritesLimits, is_set as is_set_in, text_or_empty};
 
-use crate::color::Color;
 use crate::command::Command;
+use crate::display::Display;
 use crate::job::{Job, JobOptions};
-use bcs_look_text::style::Form;
 use bcs_value::Limits;
 use clap::ArgMatches;
 use std::alloc::{AllocError, Global};
@@ -40,46 +39,16 @@ fn options_of(alloc: Global, given: &ArgMatches<'_>) -> Result<JobOptions, Alloc
         lines: is_set(given, "lines"),
         front: is_set(given, "front"),
         list: is_set(given, "list"),
-        full: is_set(given, "full"),
         quiet: is_set(given, "quiet"),
-        form: form_of(given),
-        color: color_of(given),
+        display: Display::given(given),
     })
 }
 
-// Whether an option without a value was given.
-fn is_set(given: &ArgMatches<'_>, option: &str) -> bool
+/// Whether an option without a value was given.
+pub(crate) fn is_set(given: &ArgMatches<'_>, option: &str) -> bool
     ensures { result ≡ is_set_in option.now (rows_of (found_of given.now)) }
 {
     given.get_str(option).unwrap_or("") == "true"
-}
-
-// How pieces are printed.
-fn form_of(given: &ArgMatches<'_>) -> Form
-    ensures { result ≡ form_in (rows_of (found_of given.now)) }
-{
-    if is_set(given, "json") {
-        Form::Json
-    } else if is_set(given, "tree") {
-        Form::Tree
-    } else if is_set(given, "paths") {
-        Form::Paths
-    } else {
-        Form::Ways
-    }
-}
-
-// What is said of color.
-fn color_of(given: &ArgMatches<'_>) -> Color
-    ensures { result ≡ color_in (rows_of (found_of given.now)) }
-{
-    if is_set(given, "no-color") {
-        Color::Never
-    } else if is_set(given, "color") {
-        Color::Always
-    } else {
-        Color::Auto
-    }
 }
 
 // The text of a word, which is empty where there is none.

@@ -3,9 +3,8 @@ ghost use Rattle.std.specs.Prelude.{◌≡◌};
 ghost use Rattle.bcs_tool_command_line.specs.Jobs.{HasNoOptions, coding};
 
 use crate::coding::Coding;
-use crate::color::Color;
 use crate::command::Command;
-use bcs_look_text::style::Form;
+use crate::display::Display;
 use bcs_value::Limits;
 
 /// What a command line asks for: the command and its arguments as they are. An argument that the command doesn't have is
@@ -44,15 +43,10 @@ pub struct JobOptions {
     pub front: bool,
     /// `--list`: all differences of two registries are printed first.
     pub list: bool,
-    /// `--full`: an example has one element in each list, map and option.
-    pub full: bool,
     /// `--quiet`: the line that says where a refusal occurred is left out.
     pub quiet: bool,
-    /// `--paths`, `--tree`, `--json`: how pieces are printed; the last of these overrides the others. `--json` applies to a
-    /// registry, too.
-    pub form: Form,
-    /// `--color`, `--no-color`: whether they are printed in color. `--no-color` overrides `--color`.
-    pub color: Color,
+    /// The options of output that people read.
+    pub display: Display,
 }
 
 impl Job {
@@ -104,10 +98,8 @@ impl JobOptions {
             lines: false,
             front: false,
             list: false,
-            full: false,
             quiet: false,
-            form: Form::Ways,
-            color: Color::Auto,
+            display: Display::none(),
         }
     }
 }

@@ -1,34 +1,30 @@
-//! How pieces are printed.
-ghost use Rattle.bcs_tool_command_line.specs.Files.{IsStyleOf};
+//! Whether output that people read is in color.
 
-use crate::{Color, Command, Job};
-use bcs_look_text::style::{Paint, Style};
+use crate::{Color, Command, Display};
 use std::env::{Env, VarError};
 use std::rt::Files;
 use std::{env, fs};
 
-/// The form that the job says, in color where it says so. Where it says nothing of color, pieces are printed in color on
-/// a terminal, if NO_COLOR isn't set.
-pub fn style_of<R: Files + Env + AllocGlobal>(rt: &R, job: &Job) -> Style
-    ensures { IsStyleOf job.now result }
-{
-    let paint = match job.options.color {
-        Color::Always => Paint::Colored,
-        Color::Never => Paint::Plain,
-        Color::Auto => usual_paint(rt, job.command),
+/// The same options with the color decided. If the command line leaves it open, pieces are in color on a terminal, unless
+/// NO_COLOR is set.
+pub fn with_color<R: Files + Env + AllocGlobal>(
+    rt: &R,
+    command: Command,
+    display: Display,
+) -> Display {
+    let color = match display.color {
+        Color::Auto => usual_color(rt, command),
+        given => given,
     };
-    Style {
-        form: job.options.form,
-        paint,
-    }
+    Display { color, ..display }
 }
 
 // Color for a command that has any, on a terminal.
-fn usual_paint<R: Files + Env + AllocGlobal>(rt: &R, command: Command) -> Paint {
+fn usual_color<R: Files + Env + AllocGlobal>(rt: &R, command: Command) -> Color {
     if command == Command::Explain && allows_color(rt) && is_on_terminal(rt) {
-        Paint::Colored
+        Color::Always
     } else {
-        Paint::Plain
+        Color::Never
     }
 }
 

@@ -1,10 +1,8 @@
 //! What a run is given, and how it ends.
 ghost use Rattle.std.specs.Prelude.{◌≡◌};
-ghost use Rattle.bcs_tool_command_line.specs.Jobs.{coding_of};
-ghost use Rattle.bcs_tool_command_line.specs.Files.{HasNone};
+ghost use Rattle.bcs_tool_command_line.specs.Jobs.{HasNoOptions, coding_of};
 
-use crate::{Coding, Command};
-use bcs_look_text::style::{Form, Paint, Style};
+use crate::{Coding, Command, JobOptions};
 use bcs_value::Limits;
 
 /// A job whose named files were read.
@@ -23,29 +21,8 @@ pub struct Work {
     pub raw: bool,
     /// What a value may hold.
     pub limits: Limits,
-    /// What further commands and options ask for.
-    pub options: WorkOptions,
-}
-
-/// What a work asks for in addition.
-#[derive(Debug, Drop)]
-pub struct WorkOptions {
-    /// NAME, or what `--variant` names, as it is; `None` if neither was given.
-    pub name: Option<String>,
-    /// Whether bytes are read and written as base64, which overrides `raw`.
-    pub base64: bool,
-    /// Whether each line of the input is an input of its own.
-    pub lines: bool,
-    /// Whether a value is accepted at the start of the bytes, and the rest is left.
-    pub front: bool,
-    /// Whether all differences of two registries are printed first.
-    pub list: bool,
-    /// Whether an example has one element in each list, map and option.
-    pub full: bool,
-    /// Whether the line that says where a refusal or a fault occurred is left out.
-    pub quiet: bool,
-    /// How pieces are printed, and a registry.
-    pub style: Style,
+    /// The options of the job, with the color decided.
+    pub options: JobOptions,
 }
 
 impl Work {
@@ -62,7 +39,7 @@ impl Work {
         ensures files { (result.registry ≡ registry) × (result.second ≡ second) }
         ensures words { (result.command ≡ command) × (result.format ≡ format) × (result.path ≡ path)
             × (result.raw ≡ raw) × (result.limits ≡ limits) }
-        ensures options { HasNone result.options }
+        ensures options { HasNoOptions result.options }
     {
         Work {
             command,
@@ -72,7 +49,7 @@ impl Work {
             path,
             raw,
             limits,
-            options: WorkOptions::none(),
+            options: JobOptions::none(),
         }
     }
 
@@ -81,27 +58,6 @@ impl Work {
         ensures { result ≡ coding_of self.now }
     {
         Coding::of(self.raw, self.options.base64)
-    }
-}
-
-impl WorkOptions {
-    /// The options of a command line without any.
-    pub fn none() -> WorkOptions
-        ensures { HasNone result }
-    {
-        WorkOptions {
-            name: None,
-            base64: false,
-            lines: false,
-            front: false,
-            list: false,
-            full: false,
-            quiet: false,
-            style: Style {
-                form: Form::Ways,
-                paint: Paint::Plain,
-            },
-        }
     }
 }
 
@@ -114,21 +70,15 @@ pub struct Inputs {
     pub file: Option<String>,
 }
 
-/// How a run ended.
-#[derive(Clone, Copy, Debug, Drop, PartialEq, Eq)]
-pub struct Outcome {
-    /// 0 where it is done, 1 where the answer is a no, 2 where it is refused, and 4 where a read, a
-    /// write or memory failed or the input is too large.
-    pub status: u8,
-    /// The line for the standard error: empty except with status 4.
-    pub note: &'static str,
-}
-
 /// How a run ended, and where.
 #[derive(Debug, Drop)]
-pub struct Report {
-    pub outcome: Outcome,
-    /// Where the refusal stands, and what was wanted there; or which file or stream is at fault: the line for the
-    /// standard error behind the note. Empty where there is none.
+pub struct Outcome {
+    /// 0 if it is done, 1 if the answer is a no, 2 if it is refused, and 4 if a read, a write or memory failed or the input is
+    /// too large.
+    pub status: u8,
+    /// The line for standard error: empty except with status 4.
+    pub note: &'static str,
+    /// The line for standard error after the note: where the refusal is, and what was expected there; or which file or stream
+    /// failed. Empty if there is none.
     pub place: Vec<u8>,
 }

@@ -7,8 +7,8 @@ use crate::words::{bytes, call, number, word_of};
 use bcs_codec::pieces::{PieceSink, PieceSource, RepeatSource};
 use bcs_codec::{DecodeFault, EncodeFault, Reason, Stop, WriteFault};
 use bcs_tool::{
-    ByteSource, Command, FileFault, Interruption, LineFault, OpenCause, PairInterruption, Report,
-    TakeFault, UnreadFile, Work, line, read_named, respond, run, run_pairs, take_all,
+    ByteSource, Command, FileFault, Interruption, LineFault, OpenCause, Outcome, TakeFault,
+    UnreadFile, Work, line, read_named, respond, run, run_pairs, take_all,
 };
 use std::alloc::{AllocError, Global};
 use std::fmt::Display;
@@ -219,13 +219,17 @@ fn pairs_ended(
 fn ended_told(
     alloc: Global,
     put: &[u8],
-    ended: Result<Report, PairInterruption>,
+    ended: Result<Outcome, Interruption>,
 ) -> Result<String, RowFault> {
     let put = put_text(alloc, put)?;
     let told = match ended {
-        Ok(report) => format!(in alloc; "{put} {}", report.outcome.status),
-        Err(PairInterruption { side, interruption }) => {
-            let Interruption { fault, answered } = interruption;
+        Ok(outcome) => format!(in alloc; "{put} {}", outcome.status),
+        Err(interruption) => {
+            let Interruption {
+                fault,
+                answered,
+                side,
+            } = interruption;
             format!(in alloc; "{put} {} at {side:?} behind {answered}", fault.note())
         }
     };

@@ -11,14 +11,16 @@ use Rattle.bcs_registry_model.specs.declared.format.Format.{Format}
 use Rattle.bcs_value_model.specs.Tree as tree
 use Rattle.bcs_value_model.specs.View.{tree_of}
 use Rattle.bcs_decode_source.specs.Kept.{last_bytes, key_of}
-use Rattle.bcs_decode_source.specs.Sees.{rest_of, number_node, read, option_value, items_value, pairs_value, tuple_value, enter_here, container_value, content_value}
-use Rattle.bcs_decode_spec.specs.Reading.{key_here, chain, give}
+use Rattle.bcs_decode_slice.specs.Passing.{enter_here}
+use Rattle.bcs_decode_source.specs.Sees.{rest_of, number_node, read, option_node, items_node, pairs_node, tuple_value, container_value, content_value}
+use Rattle.bcs_decode_spec.specs.Reading.{key_here, chain, give, building}
+use Rattle.bcs_decode_slice.proofs.PassingParts.{items_same}
 use Rattle.bcs_decode_source.proofs.Going.{Along-none, Along-then, Along-map, AlongMap-then, AlongMap-value, AlongMap-key, front_length, Halts-then, Halts-after, FindsFault-whole, FindsFault-judged}
 use Rattle.bcs_decode_source.proofs.KeptKeys.{Stands-begun, Stands-more, last_kept, same_key}
 use Rattle.bcs_decode_source.proofs.StreamedKeys.{key_stop, kept_wrong, kept_right}
 use Rattle.bcs_decode_spec.proofs.LookedUp.{content_found, content_missing, choice_found, choice_missing, levels_in, field_levels_in, formats_next, fields_next}
-use Rattle.bcs_decode_source.proofs.Streamed.{read_leaf, read_whole, read_container, container_missing, container_stop, read_Opt, read_Seq, read_TupleArray, read_Map, read_Tuple, read_TypeName, unit_is, read_tuple, content_shape, enum_stop, enum_unknown, enum_refused, enum_on}
-use Rattle.bcs_decode_source.proofs.StreamedRows.{items_same, items_none, items_more, items_done, items_refused, each_none, each_more, each_done, each_refused, pairs_none, pairs_more, pairs_done, key_refused, value_refused}
+use Rattle.bcs_decode_source.proofs.Streamed.{read_leaf, read_whole, read_container, container_missing, container_stop, read_Opt, read_Seq, read_TupleArray, read_Map, read_Tuple, read_TypeName, unit_is, read_tuple, content_shape, enum_stop, enum_unknown, enum_refused, enum_built}
+use Rattle.bcs_decode_source.proofs.StreamedRows.{items_none, items_more, items_done, items_refused, each_none, each_more, each_done, each_refused, pairs_none, pairs_more, pairs_done, key_refused, value_refused}
 use Rattle.bcs_registry_model.proofs.KindShapes.{shape_seen}
 use Rattle.bcs_registry_model.proofs.Admitted.{content_at-inside, choice_at-inside}
 use Rattle.bcs_decode_source.proofs.Readers.{again, IsSame-then, Reads-as, Reads-then, Reads-put, Onward-none, Onward-then, Onward-done, Onward-ends, Onward-stops, Onward-lacks, Reads-exit}
@@ -33,19 +35,19 @@ values::value-returns-in-Scalar-clause-reads g t c =
 
 pub values::value-returns-in-Opt-clause-reads : goal.values::value-returns-in-Opt-clause-reads
 values::value-returns-in-Opt-clause-reads g t c =
-    Reads-as (read_Opt c.args.reader.now.registry.now c.args.depth c.args.format.now _ (shape_seen c.args.format.now c.kind.result _ c.kind.ensures c.in-Opt.is)) c.option.ensures.reads
+    Reads-as (read_Opt building c.args.reader.now.registry.now c.args.depth c.args.format.now _ (shape_seen c.args.format.now c.kind.result _ c.kind.ensures c.in-Opt.is)) c.option.ensures.reads
 
 pub values::value-returns-in-Seq-clause-reads : goal.values::value-returns-in-Seq-clause-reads
 values::value-returns-in-Seq-clause-reads g t c =
-    Reads-as (read_Seq c.args.reader.now.registry.now c.args.depth c.args.format.now _ (shape_seen c.args.format.now c.kind.result _ c.kind.ensures c.in-Seq.is)) c.items.ensures.reads
+    Reads-as (read_Seq building c.args.reader.now.registry.now c.args.depth c.args.format.now _ (shape_seen c.args.format.now c.kind.result _ c.kind.ensures c.in-Seq.is)) c.items.ensures.reads
 
 pub values::value-returns-in-TupleArray-clause-reads : goal.values::value-returns-in-TupleArray-clause-reads
 values::value-returns-in-TupleArray-clause-reads g t c =
-    Reads-as (read_TupleArray c.args.reader.now.registry.now c.args.depth c.args.format.now _ _ (shape_seen c.args.format.now c.kind.result _ c.kind.ensures c.in-TupleArray.is)) c.items-in-TupleArray.ensures.reads
+    Reads-as (read_TupleArray building c.args.reader.now.registry.now c.args.depth c.args.format.now _ _ (shape_seen c.args.format.now c.kind.result _ c.kind.ensures c.in-TupleArray.is)) c.items-in-TupleArray.ensures.reads
 
 pub values::value-returns-in-Map-clause-reads : goal.values::value-returns-in-Map-clause-reads
 values::value-returns-in-Map-clause-reads g t c =
-    Reads-as (read_Map c.args.reader.now.registry.now c.args.depth c.args.format.now _ _ (shape_seen c.args.format.now c.kind.result _ c.kind.ensures c.in-Map.is)) c.pairs.ensures.reads
+    Reads-as (read_Map building c.args.reader.now.registry.now c.args.depth c.args.format.now _ _ (shape_seen c.args.format.now c.kind.result _ c.kind.ensures c.in-Map.is)) c.pairs.ensures.reads
 
 pub values::value-returns-in-Tuple-clause-reads : goal.values::value-returns-in-Tuple-clause-reads
 values::value-returns-in-Tuple-clause-reads g t c =
@@ -75,7 +77,7 @@ rows::row-returns-in-Some-named_container g t c =
     let r = c.args.reader.now.registry.now in
     let found = c.in-Some-named_container.ensures.found in
     let k = content (container_of c.in-Some-named_container.container.now) in
-    record { reads = Reads-as (λ p m b. items_same (read r c.args.depth (shape_of c.args.element.now)) (container_value r c.args.depth k) (read_container r c.args.depth (shape_of c.args.element.now) found.0 k found.1 found.2) c.args.count p m b) c.containers.ensures.reads }
+    record { reads = Reads-as (λ p m b. items_same building (read r c.args.depth (shape_of c.args.element.now)) (container_value r c.args.depth k) (read_container r c.args.depth (shape_of c.args.element.now) found.0 k found.1 found.2) c.args.count p m b) c.containers.ensures.reads }
 
 pub rows::row-returns-in_err-value : goal.rows::row-returns-in_err-value
 rows::row-returns-in_err-value g t c =
@@ -311,13 +313,13 @@ maps::next_key-returns-clause-last g t c =
 pub containers::content-returns-in_err-number-in-Enum : goal.containers::content-returns-in_err-number-in-Enum
 containers::content-returns-in_err-number-in-Enum g t c =
     let is = ap (λ k. content (container_of k)) c.in-Enum.is in
-    record { reads = Reads-exit c.from_residual.ensures.1 (Onward-ends (Onward-none c.requires.ready) c.in_err-number-in-Enum.ensures.reads (FindsFault-whole c.in_err-number-in-Enum.field-0.0 (g.S.ByteSource.content c.args.reader.now.source.now) (g.S.ByteSource.content c.args.reader.now.source.now) c.args.reader.now.at.now c.args.reader.now.at.now (content_value c.args.reader.now.registry.now c.args.depth (content (container_of c.args.found.now))) number_node (λ told. told) (λ e o told stop. ap (λ k. content_value c.args.reader.now.registry.now c.args.depth k c.args.reader.now.at.now.place c.args.reader.now.at.now.nodes (rest_of (g.S.ByteSource.content c.args.reader.now.source.now))) is ∙ enum_stop c.args.reader.now.registry.now c.args.depth c.args.reader.now.at.now.place c.args.reader.now.at.now.nodes (rest_of (g.S.ByteSource.content c.args.reader.now.source.now)) (map choice_of c.in-Enum.variants.entries) e o stop) c.in_err-number-in-Enum.ensures.reads.sees)) }
+    record { reads = Reads-exit c.from_residual.ensures.1 (Onward-ends (Onward-none c.requires.ready) c.in_err-number-in-Enum.ensures.reads (FindsFault-whole c.in_err-number-in-Enum.field-0.0 (g.S.ByteSource.content c.args.reader.now.source.now) (g.S.ByteSource.content c.args.reader.now.source.now) c.args.reader.now.at.now c.args.reader.now.at.now (content_value c.args.reader.now.registry.now c.args.depth (content (container_of c.args.found.now))) number_node (λ told. told) (λ e o told stop. ap (λ k. content_value c.args.reader.now.registry.now c.args.depth k c.args.reader.now.at.now.place c.args.reader.now.at.now.nodes (rest_of (g.S.ByteSource.content c.args.reader.now.source.now))) is ∙ enum_stop building c.args.reader.now.registry.now c.args.depth c.args.reader.now.at.now.place c.args.reader.now.at.now.nodes (rest_of (g.S.ByteSource.content c.args.reader.now.source.now)) (map choice_of c.in-Enum.variants.entries) (e, o) stop) c.in_err-number-in-Enum.ensures.reads.sees)) }
 
 pub containers::content-returns-in_default : goal.containers::content-returns-in_default
 containers::content-returns-in_default g t c =
     let is = ap (λ k. content (container_of k)) c.in-Enum.is in
     let on = Onward-then (Onward-none c.requires.ready) c.in_ok-number-in-Enum.ensures.reads in
-    record { reads = Onward-stops on (omega (arith, on.goes.later)) (λ told. ap (λ k. content_value c.args.reader.now.registry.now c.args.depth k c.args.reader.now.at.now.place c.args.reader.now.at.now.nodes (rest_of (g.S.ByteSource.content c.args.reader.now.source.now))) is ∙ enum_unknown c.args.reader.now.registry.now c.args.depth c.args.reader.now.at.now.place c.args.reader.now.at.now.nodes (rest_of (g.S.ByteSource.content c.args.reader.now.source.now)) (map choice_of c.in-Enum.variants.entries) c.in_ok-number-in-Enum.number _ _ _ (c.in_ok-number-in-Enum.ensures.reads.sees told).0 (choice_missing c.in_ok-number-in-Enum.number c.in-Enum.variants.entries c.get.result c.get.ensures.value c.in_default.is)) }
+    record { reads = Onward-stops on (omega (arith, on.goes.later)) (λ told. ap (λ k. content_value c.args.reader.now.registry.now c.args.depth k c.args.reader.now.at.now.place c.args.reader.now.at.now.nodes (rest_of (g.S.ByteSource.content c.args.reader.now.source.now))) is ∙ enum_unknown building c.args.reader.now.registry.now c.args.depth c.args.reader.now.at.now.place c.args.reader.now.at.now.nodes (rest_of (g.S.ByteSource.content c.args.reader.now.source.now)) (map choice_of c.in-Enum.variants.entries) c.in_ok-number-in-Enum.number _ _ _ (c.in_ok-number-in-Enum.ensures.reads.sees told).0 (choice_missing c.in_ok-number-in-Enum.number c.in-Enum.variants.entries c.get.result c.get.ensures.value c.in_default.is)) }
 
 pub containers::content-returns-in_err-payload-in-Enum : goal.containers::content-returns-in_err-payload-in-Enum
 containers::content-returns-in_err-payload-in-Enum g t c =
@@ -349,7 +351,7 @@ pub containers::content-returns-in_ok-wrap_variant-in-Enum : goal.containers::co
 containers::content-returns-in_ok-wrap_variant-in-Enum g t c =
     let is = ap (λ k. content (container_of k)) c.in-Enum.is in
     let chosen : choice_at c.in_ok-number-in-Enum.number (map choice_of c.in-Enum.variants.entries) ≡ of (payload_shape (payload_of c.in-Some.variant.now.value)) = choice_found c.in_ok-number-in-Enum.number c.in-Enum.variants.entries c.in-Some.variant c.get.result c.get.ensures.value c.in-Some.is in
-    record { reads = Onward-done (Onward-then (Onward-then (Onward-none c.requires.ready) c.in_ok-number-in-Enum.ensures.reads) c.in_ok-payload-in-Enum.ensures.reads) (λ told. (let number = c.in_ok-number-in-Enum.ensures.reads.sees told in let part = (rw c.in_ok-number-in-Enum.ensures.reads.same.registry at c.in_ok-payload-in-Enum.ensures.reads.sees) number.1 in (ap (λ k. content_value c.args.reader.now.registry.now c.args.depth k c.args.reader.now.at.now.place c.args.reader.now.at.now.nodes (rest_of (g.S.ByteSource.content c.args.reader.now.source.now))) is ∙ enum_on c.args.reader.now.registry.now c.args.depth c.args.reader.now.at.now.place c.args.reader.now.at.now.nodes (rest_of (g.S.ByteSource.content c.args.reader.now.source.now)) (map choice_of c.in-Enum.variants.entries) c.in_ok-number-in-Enum.number _ _ _ (payload_shape (payload_of c.in-Some.variant.now.value)) _ _ _ _ number.0 chosen part.0 ∙ rw (sym c.in_ok-wrap_variant-in-Enum.ensures.wrapped) refl, part.1))) }
+    record { reads = Onward-done (Onward-then (Onward-then (Onward-none c.requires.ready) c.in_ok-number-in-Enum.ensures.reads) c.in_ok-payload-in-Enum.ensures.reads) (λ told. (let number = c.in_ok-number-in-Enum.ensures.reads.sees told in let part = (rw c.in_ok-number-in-Enum.ensures.reads.same.registry at c.in_ok-payload-in-Enum.ensures.reads.sees) number.1 in (ap (λ k. content_value c.args.reader.now.registry.now c.args.depth k c.args.reader.now.at.now.place c.args.reader.now.at.now.nodes (rest_of (g.S.ByteSource.content c.args.reader.now.source.now))) is ∙ enum_built c.args.reader.now.registry.now c.args.depth c.args.reader.now.at.now.place c.args.reader.now.at.now.nodes (rest_of (g.S.ByteSource.content c.args.reader.now.source.now)) (map choice_of c.in-Enum.variants.entries) c.in_ok-number-in-Enum.number _ _ _ (payload_shape (payload_of c.in-Some.variant.now.value)) _ _ _ _ number.0 chosen part.0 ∙ rw (sym c.in_ok-wrap_variant-in-Enum.ensures.wrapped) refl, part.1))) }
 
 pub containers::payload-returns-in-Unit : goal.containers::payload-returns-in-Unit
 containers::payload-returns-in-Unit g t c =
@@ -428,12 +430,12 @@ containers::container-returns g t c =
     record { reads = Onward-done on (grind (arith, common_steps)) }
 
 pub maps::pairs-returns-in-Ok : goal.maps::pairs-returns-in-Ok
-unfolding chain give pairs_value
+unfolding chain give pairs_node
 maps::pairs-returns-in-Ok g t c =
     record { reads = record { sees = (grind (arith, common_steps)); failed = search rules; room = search rules; goes = (Along-then c.in_ok-count.ensures.reads.goes c.in-Ok.ensures.reads.goes); same = search rules } }
 
 pub maps::pairs-returns-in-Err : goal.maps::pairs-returns-in-Err
-unfolding chain give pairs_value
+unfolding chain give pairs_node
 maps::pairs-returns-in-Err g t c =
     record { reads = record { sees = (grind (arith, common_steps)); failed = search rules; room = search rules; goes = (Halts-then c.in-Err.fault _ _ _ _ _ _ c.in_ok-count.ensures.reads.goes c.in-Err.ensures.reads.goes); same = search rules } }
 
@@ -441,18 +443,18 @@ pub maps::next_key-follow-requires-clause-long : goal.maps::next_key-follow-requ
 maps::next_key-follow-requires-clause-long g t c = grind (arith, common_steps)
 
 pub values::option-returns-in_ok-wrap_present : goal.values::option-returns-in_ok-wrap_present
-unfolding chain give option_value
+unfolding chain give option_node
 values::option-returns-in_ok-wrap_present g t c =
     let on = Onward-then (Onward-then (Onward-none c.requires.ready) c.in_ok-flag_node.ensures.reads) c.in_ok-value.ensures.reads in
     record { reads = Onward-done on (grind (arith, common_steps)) }
 
 pub values::option-returns-else-branch : goal.values::option-returns-else-branch
-unfolding chain give option_value
+unfolding chain give option_node
 values::option-returns-else-branch g t c =
     record { reads = Onward-done (Onward-then (Onward-none c.requires.ready) c.in_ok-flag_node.ensures.reads) (grind (arith, common_steps)) }
 
 pub rows::items-returns : goal.rows::items-returns
-unfolding items_value
+unfolding items_node
 rows::items-returns g t c =
     record { reads = rw c.finish.ensures.same (Reads-then _ c.in_ok-count.ensures.reads (Reads-put tree.items c.finish.ensures.put (rw (← c.in_ok-count.ensures.reads.same.registry) c.row-read.ensures.reads))) }
 

@@ -1,9 +1,9 @@
 use Rattle.std.proofs.Common.{refl, ap, ◌∙◌, false, rules}
 use Rattle.std.proofs.lemmas.Result.{err_from_is_err_and}
 use Rattle.bcs_registry_model.specs.View.{shape_of}
-use Rattle.bcs_decode.specs.Reaching.{reaches_no_map}
+use Rattle.bcs_decode_source.specs.Reaching.{reaches_no_map}
 use Rattle.bcs_decode.proofs.Scans.{scanned, stopped, lost_at_once}
-use Rattle.bcs_decode.proofs.Sparing.{never_lacks}
+use Rattle.bcs_decode_source.proofs.Sparing.{never_lacks}
 use Rattle.bcs_decode.proofs.source_scanning.scan_from.Goals as goal
 
 pub returns-in_err-value-clause-told : goal.returns-in_err-value-clause-told

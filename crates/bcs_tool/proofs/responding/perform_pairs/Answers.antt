@@ -1,7 +1,7 @@
 use Rattle.std.proofs.Common.{List, refl, subst, ℕ}
 use Rattle.bcs_tool_command_line.specs.FaultPlaces.{file_text}
 use Rattle.bcs_tool.specs.Endings.{IsUnopened, pairs_over_file, pairs_over_input, second_unopened}
-use Rattle.bcs_tool.specs.Pairs.{IsReportOf}
+use Rattle.bcs_tool.specs.Running.{IsOutcomeOf}
 use Rattle.bcs_tool.proofs.responding.perform_pairs.Goals as goal
 
 -- the standard input
@@ -9,19 +9,19 @@ pub returns-in_default : goal.returns-in_default
 returns-in_default g c =
     let run = c.run_pairs-result in
     pairs_over_input c.new-lines.result run.new.first c.in_default.is
-    (record { result = run.result; ends = run.ensures.ends; is = c.report_of_pairs.ensures; untouched = run.ensures.untouched })
+    (record { result = run.result; ends = run.ensures.ends; is = c.outcome_of.ensures; untouched = run.ensures.untouched })
 
 -- a file
 pub returns-in-Ok-open : goal.returns-in-Ok-open
 returns-in-Ok-open g c =
     let run = c.run_pairs-result-in-Ok-open in
-    let P : List ℕ → Type 0 = λ text. IsReportOf c.args.work.now (file_text c.args.first.now) (file_text text) run.result c.report_of_pairs-in-Ok-open.result in
+    let P : List ℕ → Type 0 = λ text. IsOutcomeOf c.args.work.now (file_text c.args.first.now) (file_text text) run.result c.outcome_of-in-Ok-open.result in
     pairs_over_file c.in-Some.name c.new-lines.result run.new.first c.new.result run.new.second c.in-Some.is
-    (record { result = run.result; ends = run.ensures.ends; is = subst P c.as_str-name.ensures.value c.report_of_pairs-in-Ok-open.ensures; untouched = run.ensures.untouched }) refl
+    (record { result = run.result; ends = run.ensures.ends; is = subst P c.as_str-name.ensures.value c.outcome_of-in-Ok-open.ensures; untouched = run.ensures.untouched }) refl
 
 -- a file that isn't there
 pub returns : goal.returns
 returns g c =
-    let report = c.unopened-in-Err-open in
+    let outcome = c.unopened-in-Err-open in
     second_unopened c.in-Some.name c.new-lines.result c.in-Some.is
-    (subst (λ (name : List ℕ). IsUnopened c.args.work.now.options.quiet name report.result) c.as_str-name.ensures.value report.ensures) refl refl
+    (subst (λ (name : List ℕ). IsUnopened c.args.work.now.options.quiet name outcome.result) c.as_str-name.ensures.value outcome.ensures) refl refl

@@ -1,8 +1,10 @@
 use Rattle.std.proofs.Common.{Result, inl, refl, subst}
 use Rattle.bcs_tool_answers.specs.Preparing.{IsPrepared}
-use Rattle.bcs_tool_answers.specs.declared.preparing.Prepared.{Prepared}
+use Rattle.bcs_tool_answers.specs.declared.answer.Answer.{Answer}
+use Rattle.bcs_tool_answers.specs.declared.judging.Asked.{Asked}
 use Rattle.bcs_io.specs.declared.taking.TakeFault.TheVariants.{OutOfMemory}
-use Rattle.bcs_tool_command_line.specs.declared.work.Report.{Report}
+use Rattle.bcs_tool_command_line.specs.declared.work.Outcome.{Outcome}
+use Rattle.bcs_tool.specs.declared.interruption.Side.TheVariants.{Second}
 use Rattle.bcs_tool.specs.Running.{Ends}
 use Rattle.bcs_tool.specs.declared.interruption.Interruption.{Interruption}
 use Rattle.bcs_tool.specs.declared.run_fault.RunFault.TheVariants.{Take}
@@ -12,18 +14,18 @@ use Rattle.bcs_tool.proofs.running.put_answers.Goals as goal
 pub returns-in_err-answer-clause-ends : goal.returns-in_err-answer-clause-ends
 returns-in_err-answer-clause-ends g c =
     let work = c.args.work.now in
-    let P : Result Report Interruption → Type 0 = λ r. Ends g.S.ByteSource.content g.S.ByteSource.is_failed g.S.ByteSource.allowance g.K.ByteSink.taken g.K.ByteSink.is_failed
+    let P : Result Outcome Interruption → Type 0 = λ r. Ends g.S.ByteSource.content g.S.ByteSource.is_failed g.S.ByteSource.allowance g.K.ByteSink.taken g.K.ByteSink.is_failed
     work c.args.input.now c.args.input.now c.args.out.now c.args.out.now r in
-    handed_on P c.from_residual.result (record { fault = Take OutOfMemory; answered = 0 }) c.from_residual.ensures.1
+    handed_on P c.from_residual.result (record { fault = Take OutOfMemory; answered = 0; side = Second }) c.from_residual.ensures.1
     (no_memory g.S.ByteSource.content g.S.ByteSource.is_failed g.S.ByteSource.allowance g.K.ByteSink.taken g.K.ByteSink.is_failed work
     c.args.input.now c.args.input.now c.args.out.now (inl refl)
     (unread g.S.ByteSource.content g.S.ByteSource.is_failed g.S.ByteSource.allowance g.K.ByteSink.taken g.K.ByteSink.is_failed work c.args.input.now))
 
-pub returns-in-Answered-clause-ends : goal.returns-in-Answered-clause-ends
-returns-in-Answered-clause-ends g c =
+pub returns-in-Err-clause-ends : goal.returns-in-Err-clause-ends
+returns-in-Err-clause-ends g c =
     let work = c.args.work.now in
-    let answer = c.in-Answered.answer in
-    let is = subst (λ (p : Prepared). IsPrepared work p) c.in-Answered.is c.in_ok-answer.ensures in
+    let answer = c.in-Err.answer in
+    let is = subst (λ (p : Result Asked Answer). IsPrepared work p) c.in-Err.is c.in_ok-answer.ensures in
     let content = some_content (g.S.ByteSource.content c.args.input.now) in
     put_once g.S.ByteSource.content g.S.ByteSource.is_failed g.S.ByteSource.allowance g.K.ByteSink.taken g.K.ByteSink.is_failed work
     c.args.input.now c.args.input.now c.args.out.now c.put_answer.new.out answer content.0 c.put_answer.result (no_input_no_lines work is.0)

@@ -2,7 +2,8 @@ use Rattle.std.proofs.Common.{◌∙◌, ◌≤◌, Err, List, Result, ap, arith
 use Rattle.bcs_tool_answers.specs.Places.{IsAnswer}
 use Rattle.bcs_tool_command_line.specs.Files.{size_limit}
 use Rattle.bcs_io.specs.declared.taking.TakeFault.TheVariants.{OutOfMemory}
-use Rattle.bcs_tool_command_line.specs.declared.work.Report.{Report}
+use Rattle.bcs_tool_command_line.specs.declared.work.Outcome.{Outcome}
+use Rattle.bcs_tool.specs.declared.interruption.Side.TheVariants.{Second}
 use Rattle.bcs_tool.specs.Running.{Ends}
 use Rattle.bcs_tool.specs.declared.interruption.Interruption.{Interruption}
 use Rattle.bcs_tool.specs.declared.run_fault.RunFault.TheVariants.{Take}
@@ -15,9 +16,9 @@ returns-in_err-bytes g c =
     let fault = c.in_err-bytes.field-0.0 in
     let is = c.in_err-bytes.was in
     let e = c.take_all.ensures in
-    let P : Result Report Interruption → Type 0 = λ r. Ends g.S.ByteSource.content g.S.ByteSource.is_failed g.S.ByteSource.allowance g.K.ByteSink.taken g.K.ByteSink.is_failed
+    let P : Result Outcome Interruption → Type 0 = λ r. Ends g.S.ByteSource.content g.S.ByteSource.is_failed g.S.ByteSource.allowance g.K.ByteSink.taken g.K.ByteSink.is_failed
     work c.args.input.now c.take_all.new.input c.args.out.now c.args.out.now r in
-    handed_on P c.from_residual.result (record { fault = Take fault; answered = 0 }) c.from_residual.ensures.1
+    handed_on P c.from_residual.result (record { fault = Take fault; answered = 0; side = Second }) c.from_residual.ensures.1
     (not_taken g.S.ByteSource.content g.S.ByteSource.is_failed g.S.ByteSource.allowance g.K.ByteSink.taken g.K.ByteSink.is_failed work
     c.args.input.now c.take_all.new.input c.args.out.now fault (reads_input work c.args.asked.now c.requires.asked) (no_lines work c.requires.whole)
     (λ same. e.read (is ∙ ap Err same)) (λ same. e.too_large (is ∙ ap Err same)) (λ same. e.memory (is ∙ ap Err same)))
@@ -28,9 +29,9 @@ returns-in_err-answer g c =
     let bytes = c.in_ok-bytes.bytes.items in
     let whole = c.in_ok-bytes.ensures.whole in
     let within : length bytes ≤ size_limit = omega (arith, c.in_ok-bytes.ensures.within) in
-    let P : Result Report Interruption → Type 0 = λ r. Ends g.S.ByteSource.content g.S.ByteSource.is_failed g.S.ByteSource.allowance g.K.ByteSink.taken g.K.ByteSink.is_failed
+    let P : Result Outcome Interruption → Type 0 = λ r. Ends g.S.ByteSource.content g.S.ByteSource.is_failed g.S.ByteSource.allowance g.K.ByteSink.taken g.K.ByteSink.is_failed
     work c.args.input.now c.take_all.new.input c.args.out.now c.args.out.now r in
-    handed_on P c.from_residual-in_err-answer.result (record { fault = Take OutOfMemory; answered = 0 }) c.from_residual-in_err-answer.ensures.1
+    handed_on P c.from_residual-in_err-answer.result (record { fault = Take OutOfMemory; answered = 0; side = Second }) c.from_residual-in_err-answer.ensures.1
     (no_memory g.S.ByteSource.content g.S.ByteSource.is_failed g.S.ByteSource.allowance g.K.ByteSink.taken g.K.ByteSink.is_failed work
     c.args.input.now c.take_all.new.input c.args.out.now
     (unhurt_whole g.S.ByteSource.content g.S.ByteSource.is_failed g.S.ByteSource.allowance g.K.ByteSink.taken g.K.ByteSink.is_failed work

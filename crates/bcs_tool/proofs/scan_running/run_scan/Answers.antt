@@ -1,5 +1,5 @@
 use Rattle.std.proofs.Common.{Result}
-use Rattle.bcs_tool_command_line.specs.declared.work.Report.{Report}
+use Rattle.bcs_tool_command_line.specs.declared.work.Outcome.{Outcome}
 use Rattle.bcs_tool.specs.Running.{Ends}
 use Rattle.bcs_tool.specs.declared.interruption.Interruption.{Interruption}
 use Rattle.bcs_tool.proofs.RunLemmas.{handed_on}
@@ -9,7 +9,7 @@ use Rattle.bcs_tool.proofs.scan_running.run_scan.Goals as goal
 pub returns-in_err-answer : goal.returns-in_err-answer
 returns-in_err-answer g c =
     let e = c.in_err-answer.field-0.0 in
-    let P : Result Report Interruption → Type 0 = λ r. Ends g.S.ByteSource.content g.S.ByteSource.is_failed g.S.ByteSource.allowance g.K.ByteSink.taken g.K.ByteSink.is_failed
+    let P : Result Outcome Interruption → Type 0 = λ r. Ends g.S.ByteSource.content g.S.ByteSource.is_failed g.S.ByteSource.allowance g.K.ByteSink.taken g.K.ByteSink.is_failed
     c.args.work.now c.args.input.now c.scan_answer.new.input c.args.out.now c.args.out.now r in
     handed_on P c.from_residual.result e c.from_residual.ensures.1
     (scan_fails g.S.ByteSource.content g.S.ByteSource.is_failed g.S.ByteSource.allowance g.K.ByteSink.taken g.K.ByteSink.is_failed c.args.work.now c.requires.streams

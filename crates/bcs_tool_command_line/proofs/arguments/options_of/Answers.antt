@@ -14,10 +14,7 @@ returns c =
       lines = c.is_set-2.ensures;
       front = c.is_set-3.ensures;
       list = c.is_set-4.ensures;
-      full = c.is_set-5.ensures;
-      quiet = c.is_set-6.ensures;
-      form = c.form_of.ensures;
-      color = c.color_of.ensures;
+      quiet = c.is_set-5.ensures;
     }
 
 pub returns-in_err-given_name : goal.returns-in_err-given_name

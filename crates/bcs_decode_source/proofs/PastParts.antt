@@ -1,0 +1,37 @@
+-- Going past a value with values inside, as its steps are read from a source.
+use Rattle.std.proofs.Common.{◌≡◌, ℕ, zero, suc, Bool, true, false, if◌then◌else◌, List, Ok, Err, refl, ap}
+use Rattle.bcs_registry_model.specs.Shape.{Shape}
+use Rattle.bcs_registry_model.specs.Container.{Entries}
+use Rattle.bcs_registry_model.specs.View.{shape_of}
+use Rattle.bcs_registry_model.specs.declared.format.Format as format
+use Rattle.bcs_decode_spec.specs.declared.reason.Reason.{Reason}
+use Rattle.bcs_decode_spec.specs.Reading.{Parser, chain, give, node, fail_here, skipping}
+use Rattle.bcs_decode_slice.specs.Passing.{skip, unsupported_here}
+use Rattle.bcs_decode_slice.proofs.PassingParts.{chained_bare}
+use Rattle.bcs_decode_source.specs.Sees.{flag_node, option_node, unsupported_leaf}
+
+module _ (registry : Entries) (d : ℕ) (f : format.Format) (p m : ℕ) (b : List ℕ) where
+  -- where the shape alone changes
+  pub past_shape : (s : Shape) → shape_of f ≡ s → skip registry d (shape_of f) p m b ≡ skip registry d s p m b
+  past_shape s h = ap (λ (s : Shape). skip registry d s p m b) h
+
+-- an option, and what it holds
+abbrev pub held_past : Parser (Unit {0}) → Bool → Parser (Unit {0})
+held_past f some = if some then chain f (λ _. give tt) else give tt
+
+pub some_is : (f : Parser (Unit {0})) (some : Bool) (p m : ℕ) (b : List ℕ) → some ≡ true → held_past f some p m b ≡ f p m b
+some_is f some p m b is = rw is (chained_bare f p m b)
+
+pub absent_is : (f : Parser (Unit {0})) (some : Bool) (p m : ℕ) (b : List ℕ) → some ≡ false → held_past f some p m b ≡ Ok (tt, p, m, b)
+unfolding give
+absent_is f some p m b is = rw is refl
+
+pub option_on : (f : Parser (Unit {0})) (p m : ℕ) (b : List ℕ) (some : Bool) (q l : ℕ) (c : List ℕ) → flag_node p m b ≡ Ok (some, q, l, c) → option_node skipping f p m b ≡ held_past f some q l c
+unfolding option_node chain
+option_on f p m b some q l c h = rw h refl
+
+-- a format without values stops at the same place, whatever would be made of a value
+pub unsupported_is : (p m : ℕ) (b : List ℕ) (e : Reason × ℕ) → unsupported_leaf p m b ≡ Err e → unsupported_here p m b ≡ Err e
+unfolding node unsupported_here chain give fail_here
+unsupported_is p zero b e h = cc
+unsupported_is p (suc m) b e h = cc

@@ -1,0 +1,14 @@
+use Rattle.std.proofs.Common.{◌≡◌, length}
+use Rattle.bcs_decode_spec.specs.Reading.{items_here, skipping}
+use Rattle.bcs_decode_slice.specs.Passing.{whole_here}
+use Rattle.bcs_decode_source.proofs.Leading.{Leads}
+use Rattle.bcs_decode_source.proofs.scanning.whole_row.whole_row.Given as goal
+
+abbrev pub invariant-loop-left : goal.invariant-loop-left
+invariant-loop-left g l = record {
+  leads : Leads g.S.ByteSource.content g.S.ByteSource.is_failed g.S.ByteSource.allowance (items_here skipping (whole_here l.width) l.count) (items_here skipping (whole_here l.width) l.left) l.fn.reader l.reader;
+  block : length l.block ≡ 512;
+}
+
+abbrev pub decreases-loop-left : goal.decreases-loop-left
+decreases-loop-left g l = l.left

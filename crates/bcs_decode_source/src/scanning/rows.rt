@@ -1,0 +1,76 @@
+//! Going past values in a row from a source.
+ghost use Rattle.std.specs.Prelude.{◌≡◌, true};
+ghost use Rattle.bcs_registry_model.specs.Shape.{tuple as tuple_shape};
+ghost use Rattle.bcs_registry_model.specs.View.{shape_of, formats_shapes};
+ghost use Rattle.bcs_decode_spec.specs.Reading.{items_here, skipping};
+ghost use Rattle.bcs_decode_slice.specs.Passing.{skip};
+ghost use Rattle.bcs_decode_source.specs.Reads.{Ready, Reads};
+ghost use Rattle.bcs_decode_source.specs.Sees.{SparesMemory, items_node};
+ghost use Rattle.bcs_decode_source.specs.Reaching.{reaches_no_map};
+
+use crate::bytes::begin;
+use crate::number::row_count;
+use crate::reader::Reader;
+use crate::scanning::values::value;
+use crate::scanning::whole_row::whole_row;
+use bcs_decode_slice::whole_row::whole_width;
+use bcs_decode_spec::DecodeFault;
+use bcs_io::ByteSource;
+use bcs_registry::Format;
+
+/// A list or an array.
+#[inline(never)]
+#[cycle(scanning)]
+pub fn items<S: ByteSource>(
+    reader: &mut Reader<'_, S>,
+    element: &Format,
+    size: Option<u64>,
+    depth: u32,
+) -> Result<(), DecodeFault>
+    requires ready { Ready S.is_failed S.allowance reader.old }
+    ensures reads { Reads S.content S.is_failed S.allowance (λ x. x) result reader.old (items_node skipping (skip reader.old.registry.now depth (shape_of element.now)) size) reader.new }
+    ensures spares { reaches_no_map reader.old.registry.now depth (shape_of element.now) ≡ true → SparesMemory result reader.old.at.now }
+{
+    let count = row_count(reader, size)?;
+    elements(reader, element, count, depth)
+}
+
+/// So many values: whole numbers by blocks, and others one by one.
+#[cycle(scanning)]
+fn elements<S: ByteSource>(
+    reader: &mut Reader<'_, S>,
+    element: &Format,
+    count: u64,
+    depth: u32,
+) -> Result<(), DecodeFault>
+    requires ready { Ready S.is_failed S.allowance reader.old }
+    ensures reads { Reads S.content S.is_failed S.allowance (λ x. x) result reader.old (items_here skipping (skip reader.old.registry.now depth (shape_of element.now)) count) reader.new }
+    ensures spares { reaches_no_map reader.old.registry.now depth (shape_of element.now) ≡ true → SparesMemory result reader.old.at.now }
+{
+    if let Some(width) = whole_width(element) {
+        return whole_row(reader, width, count);
+    }
+    for _ in 0..count {
+        value(reader, element, depth)?;
+    }
+    Ok(())
+}
+
+/// A tuple.
+#[inline(never)]
+#[cycle(scanning)]
+pub fn tuple<S: ByteSource>(
+    reader: &mut Reader<'_, S>,
+    formats: &[Format],
+    depth: u32,
+) -> Result<(), DecodeFault>
+    requires ready { Ready S.is_failed S.allowance reader.old }
+    ensures reads { Reads S.content S.is_failed S.allowance (λ x. x) result reader.old (skip reader.old.registry.now depth (tuple_shape (formats_shapes formats.now))) reader.new }
+    ensures spares { reaches_no_map reader.old.registry.now depth (tuple_shape (formats_shapes formats.now)) ≡ true → SparesMemory result reader.old.at.now }
+{
+    begin(reader)?;
+    for format in formats {
+        value(reader, format, depth)?;
+    }
+    Ok(())
+}

@@ -1,0 +1,4 @@
+mod Advancing
+mod Covering
+mod ScalarParsing
+mod Keys

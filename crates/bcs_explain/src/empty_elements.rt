@@ -1,0 +1,41 @@
+//! Skips elements without bytes in one step. They aren't pieces, so nothing is reported.
+ghost use Rattle.std.specs.Prelude.{◌≡◌, ℕ, ◌+◌, ◌-◌, ◌<◌, ◌≤◌, ◌^◌, length};
+ghost use Rattle.bcs_registry_model.specs.View.{shape_of};
+ghost use Rattle.bcs_decode_spec.specs.Reading.{items_here, skipping};
+ghost use Rattle.bcs_decode_slice.specs.Passing.{Onward, skip};
+
+use bcs_decode_slice::cursor::Cursor;
+use bcs_decode_slice::fixed_row::{FEW, LOOKS, sized_row};
+use bcs_decode_slice::measuring::value_size;
+use bcs_registry::{Format, Registry};
+
+/// Skips elements of a long list or array if values of the format have no bytes, at most as many as there are nodes left
+/// for. Returns how many it skipped, so that the elements after them keep their numbers.
+#[inline(never)]
+pub fn skip_empty_elements(
+    registry: &Registry,
+    element: &Format,
+    count: u64,
+    depth: u32,
+    cursor: &mut Cursor,
+) -> u64
+    requires room { cursor.old.place + length cursor.old.rest.now < 2 ^ 64 }
+    ensures within { result ≤ count }
+    ensures whole { items_here skipping (skip registry.now depth (shape_of element.now)) count cursor.old.place cursor.old.nodes cursor.old.rest.now
+        ≡ items_here skipping (skip registry.now depth (shape_of element.now)) (count - result) cursor.new.place cursor.new.nodes cursor.new.rest.now }
+    ensures onward { Onward cursor.old cursor.new }
+    ensures place { cursor.new.place ≡ cursor.old.place }
+    ensures rest { cursor.new.rest.now ≡ cursor.old.rest.now }
+{
+    if count < FEW {
+        return 0;
+    }
+    let mut formats = LOOKS;
+    let Some(size) = value_size(registry, element, depth, &mut formats) else {
+        return 0;
+    };
+    if size.bytes != 0 {
+        return 0;
+    }
+    sized_row(cursor, size, count)
+}

@@ -1,0 +1,22 @@
+//! Reports the pieces of a value's bytes one by one, and the place where the bytes stop.
+#![tactic(auto)]
+
+mod checks;
+mod containers;
+mod empty_elements;
+mod explaining;
+mod listener;
+mod maps;
+mod octets;
+mod prefixes;
+mod reporting;
+mod scalars;
+mod sequences;
+mod strings;
+mod trail;
+mod walking;
+
+pub use bcs_decode_spec::{Reason, Stop};
+pub use explaining::explain;
+pub use listener::{Counted, Listener, Meaning, Wanted};
+pub use trail::{Step, Trail};

@@ -1,5 +1,0 @@
-pub mod Told
-pub mod Chosen
-pub mod Noted
-pub mod Bare
-pub mod EmptyRows

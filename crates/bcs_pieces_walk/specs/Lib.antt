@@ -1,3 +1,0 @@
-pub mod Trail
-pub mod Hearing
-pub mod Leaf

@@ -1,0 +1,72 @@
+//! The options of output that people read.
+
+use crate::arguments::is_set;
+use crate::color::Color;
+use bcs_look_text::style::{Form, Paint, Style};
+use clap::ArgMatches;
+
+/// The options that only `explain`, `show` and `example` read. Everything between the command line and these commands passes
+/// them on as a whole, and no contract mentions a field.
+#[derive(Clone, Copy, Debug)]
+pub struct Display {
+    /// `--paths`, `--tree`, `--json`: how pieces are printed; the last of these overrides the others. `--json` applies to a
+    /// registry, too.
+    pub form: Form,
+    /// `--color`, `--no-color`: whether pieces are printed in color. `--no-color` overrides `--color`.
+    pub color: Color,
+    /// `--full`: an example has one element in each list, map and option.
+    pub full: bool,
+}
+
+impl Display {
+    /// None of the options was given.
+    pub fn none() -> Display {
+        Display {
+            form: Form::Ways,
+            color: Color::Auto,
+            full: false,
+        }
+    }
+
+    /// The options among these arguments.
+    pub(crate) fn given(given: &ArgMatches<'_>) -> Display {
+        Display {
+            form: form_of(given),
+            color: color_of(given),
+            full: is_set(given, "full"),
+        }
+    }
+
+    /// How pieces are printed. They are plain unless color was decided on before.
+    pub fn style(self) -> Style {
+        Style {
+            form: self.form,
+            paint: match self.color {
+                Color::Always => Paint::Colored,
+                Color::Auto | Color::Never => Paint::Plain,
+            },
+        }
+    }
+}
+
+fn form_of(given: &ArgMatches<'_>) -> Form {
+    if is_set(given, "json") {
+        Form::Json
+    } else if is_set(given, "tree") {
+        Form::Tree
+    } else if is_set(given, "paths") {
+        Form::Paths
+    } else {
+        Form::Ways
+    }
+}
+
+fn color_of(given: &ArgMatches<'_>) -> Color {
+    if is_set(given, "no-color") {
+        Color::Never
+    } else if is_set(given, "color") {
+        Color::Always
+    } else {
+        Color::Auto
+    }
+}
