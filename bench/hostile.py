@@ -1,7 +1,7 @@
 #!/usr/bin/env python3
-"""Measures what hostile inputs cost each command of the program: hostile.py BCS. Prints, for each input, how many bytes came
-from the stranger, the status, processor seconds and the most memory, at the program's default limits and at those that
-docs/HOSTILE_INPUT.md recommends. A run ends after 60 processor seconds or at 8 GiB."""
+"""Measures what hostile inputs cost each command of the program: hostile.py BCS. Prints, for each input, how many bytes
+came from the stranger, the status, processor seconds and the most memory, at the program's default limits and at those
+that docs/HOSTILE_INPUT.md recommends. A run ends after 60 processor seconds or at 8 GiB."""
 
 from __future__ import annotations
 
@@ -72,8 +72,17 @@ def attacks() -> list[Attack]:
         Attack("scan: no byte, 40 containers that double", ["scan", "@", "C0"], doubling(40)),
         Attack("decode: no byte, 24 containers that double", ["decode", "@", "C0"], doubling(24)),
         Attack("part: five bytes announce 2,147,483,647 units", ["part", "{}", units, "1"], input=bomb),
-        Attack("explain: 1,000 truth values under a name of 1 MB", ["explain", "@", "S"], long_name(MIB), hexadecimal(b"\xe8\x07" + bytes(1000))),
-        Attack("explain: 100,000 bytes", ["explain", "{}", '{"SEQ":"BOOL"}'], input=hexadecimal(b"\xa0\x8d\x06" + bytes(100_000))),
+        Attack(
+            "explain: 1,000 truth values under a name of 1 MB",
+            ["explain", "@", "S"],
+            long_name(MIB),
+            hexadecimal(b"\xe8\x07" + bytes(1000)),
+        ),
+        Attack(
+            "explain: 100,000 bytes",
+            ["explain", "{}", '{"SEQ":"BOOL"}'],
+            input=hexadecimal(b"\xa0\x8d\x06" + bytes(100_000)),
+        ),
         Attack("show: 10,000 chained containers", ["show", "@"], chain(10_000), takes_limits=False),
         Attack("example --full: 24 containers that double", ["example", "--full", "@", "C0"], doubling(24)),
         Attack("schema: 10,000 chained containers", ["schema", "@", "C0"], chain(10_000), takes_limits=False),
@@ -92,7 +101,13 @@ def cost(program: str, attack: Attack, options: list[str]) -> str:
         given.write(attack.input)
         given.seek(0)
         words = [registry.name if word == "@" else word for word in attack.words]
-        process = subprocess.Popen([program, words[0], *options, *words[1:]], stdin=given, stdout=subprocess.DEVNULL, stderr=subprocess.DEVNULL, preexec_fn=limited)
+        process = subprocess.Popen(
+            [program, words[0], *options, *words[1:]],
+            stdin=given,
+            stdout=subprocess.DEVNULL,
+            stderr=subprocess.DEVNULL,
+            preexec_fn=limited,
+        )
         _, status, used = os.wait4(process.pid, 0)
     ended = "stopped" if os.WIFSIGNALED(status) else f"status {os.WEXITSTATUS(status)}"
     # A child begins with the memory of this script, which hides anything smaller.

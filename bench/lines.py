@@ -1,30 +1,37 @@
 #!/usr/bin/env python3
-"""Times `--lines` on a million transactions like `examples/aptos_transfer.json`: lines.py EXAMPLES FOLDER BCS [PLAIN]. Makes
-the inputs in FOLDER, the same ones each time, and prints a table: seconds and MiB of each program for each job, and of `bcs`
-also for a tenth of the lines, since memory doesn't grow with them."""
+"""Times `--lines` on a million transactions like `examples/aptos_transfer.json`: lines.py EXAMPLES FOLDER BCS [PLAIN].
+Makes the inputs in FOLDER, the same ones each time, and prints a table: seconds and MiB of each program for each job,
+and of `bcs` also for a tenth of the lines, since memory doesn't grow with them."""
+
+from __future__ import annotations
 
 import json
-import os
 import random
-import subprocess
 import sys
-import time
+from collections.abc import Iterator
 from pathlib import Path
+from typing import Any
+
+from usage import measure_success
 
 COUNT = 1_000_000
 
 
-def transfers(example, count):
+def transfers(example: dict[str, Any], count: int) -> Iterator[str]:
     """Transactions that differ in sender, sequence number, receiver and amount, one a line."""
     chance = random.Random(7)
     for number in range(count):
         example["sender"] = chance.randbytes(32).hex()
         example["sequence_number"] = number
-        example["payload"]["EntryFunction"]["args"] = [chance.randbytes(32).hex(), chance.randrange(10**9).to_bytes(8, "little").hex()]
+        example["payload"]["EntryFunction"]["args"] = [
+            chance.randbytes(32).hex(),
+            chance.randrange(10**9).to_bytes(8, "little").hex(),
+        ]
         yield json.dumps(example, separators=(",", ":")) + "\n"
 
 
-def make(examples, folder):
+def make(examples: Path, folder: Path) -> tuple[Path, Path]:
+    """The files with all transactions, and with the first tenth of them."""
     texts = folder / "transfers.jsonl"
     if not texts.exists():
         example = json.loads((examples / "aptos_transfer.json").read_text())
@@ -36,23 +43,7 @@ def make(examples, folder):
     return texts, few
 
 
-def measure(words, source, kept):
-    """Processor seconds, seconds, and MiB."""
-    with open(source, "rb") as given, open(kept, "wb") as answer:
-        start = time.monotonic()
-        process = subprocess.Popen(words, stdin=given, stdout=answer, stderr=subprocess.DEVNULL)
-        _, status, usage = os.wait4(process.pid, 0)
-        wall = time.monotonic() - start
-    if os.waitstatus_to_exitcode(status) != 0:
-        raise SystemExit(f"{words}: status {os.waitstatus_to_exitcode(status)}")
-    return usage.ru_utime + usage.ru_stime, wall, usage.ru_maxrss / 1024
-
-
-def told(found):
-    return "{:.2f} | {:.2f} | {:.1f}".format(*found)
-
-
-def main():
+def main() -> None:
     examples, folder, programs = Path(sys.argv[1]), Path(sys.argv[2]), sys.argv[3:]
     registry = str(examples / "aptos_registry.json")
     texts, few = make(examples, folder)
@@ -67,9 +58,11 @@ def main():
         ("scan", digits, folder / "verdicts", programs[:1]),
     ]
     for command, source, kept, run in jobs:
-        cells = [told(measure([p, command, "--lines", registry, "RawTransaction"], source, kept)) for p in run]
+        costs = [measure_success([p, command, "--lines", registry, "RawTransaction"], source, kept) for p in run]
+        cells = [f"{cost.processor:.2f} | {cost.wall:.2f} | {cost.memory:.1f}" for cost in costs]
         lines = COUNT // 10 if "few" in source.name else COUNT
-        print(f"| {command}, {lines} lines | {source.stat().st_size / 1e6:.0f} | " + " | ".join(cells) + " |", flush=True)
+        size = source.stat().st_size / 1e6
+        print(f"| {command}, {lines} lines | {size:.0f} | " + " | ".join(cells) + " |", flush=True)
 
 
 if __name__ == "__main__":

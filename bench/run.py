@@ -1,76 +1,86 @@
 #!/usr/bin/env python3
-"""Times a program on the jobs of the benchmark, beside the plain one: run.py INPUTS BCS [PLAIN]. Prints a table. The floor
-is what the plain program takes to read the job's inputs and do nothing else: `serde_json` a text, one pass over bytes."""
+"""Times a program on the jobs of the benchmark, beside the plain one: run.py INPUTS BCS [PLAIN]. Prints a table. The
+floor is what the plain program takes to read the job's inputs and do nothing else: `serde_json` for JSON, one pass over
+bytes."""
 
-import os
-import subprocess
+from __future__ import annotations
+
 import sys
-import time
+from collections.abc import Iterator
 from pathlib import Path
+from typing import NamedTuple
+
+from usage import Usage, measure
 
 RUNS = 3
 
 
-def jobs(folder):
-    """The name of each job, its words, the file of its input, and the file to keep its answer in."""
+class Job(NamedTuple):
+    """The arguments of a job, the file of its input, and the file to store its output in."""
+
+    name: str
+    words: list[str]
+    source: Path | None
+    kept: Path | None = None
+
+
+def jobs(folder: Path) -> Iterator[Job]:
     registry = str(folder / "registry.json")
     for name in ["number", "records", "numbers", "map", "bytes"]:
         format = (folder / f"{name}.format").read_text()
         text, digits = folder / f"{name}.json", folder / f"{name}.hex"
-        yield f"encode {name}", ["encode", registry, format], text, digits
-        yield f"decode {name}", ["decode", registry, format], digits, None
-        yield f"explain {name}", ["explain", registry, format], digits, None
-        yield f"normalise {name}", ["normalise", registry, format], text, None
+        yield Job(f"encode {name}", ["encode", registry, format], text, digits)
+        yield Job(f"decode {name}", ["decode", registry, format], digits)
+        yield Job(f"explain {name}", ["explain", registry, format], digits)
+        yield Job(f"normalise {name}", ["normalise", registry, format], text)
     format = (folder / "map.format").read_text()
     again = str(folder / "map_again.json")
     key = "key:" + (b"\x0akey 299999").hex()
-    yield "same map", ["same", registry, format, again], folder / "map.json", None
-    yield "part map", ["part", registry, format, key], folder / "map.hex", None
-    yield "scan --raw options", ["scan", "--raw", "{}", '{"SEQ":{"OPTION":"U8"}}'], folder / "options.bin", None
-    yield "check containers", ["check", str(folder / "containers.json")], None, None
+    yield Job("same map", ["same", registry, format, again], folder / "map.json")
+    yield Job("part map", ["part", registry, format, key], folder / "map.hex")
+    yield Job("scan --raw options", ["scan", "--raw", "{}", '{"SEQ":{"OPTION":"U8"}}'], folder / "options.bin")
+    yield Job("check containers", ["check", str(folder / "containers.json")], None)
 
 
-def measure(program, words, source, answer):
-    """Processor seconds, seconds and MiB of the fastest run; None where the program doesn't answer."""
-    best = None
-    for _ in range(RUNS):
-        given = open(source, "rb") if source else subprocess.DEVNULL
-        kept = open(answer, "wb") if answer else subprocess.DEVNULL
-        start = time.monotonic()
-        process = subprocess.Popen([program, *words], stdin=given, stdout=kept, stderr=subprocess.DEVNULL)
-        _, status, usage = os.wait4(process.pid, 0)
-        wall = time.monotonic() - start
-        if os.waitstatus_to_exitcode(status) != 0:
-            return None
-        found = (usage.ru_utime + usage.ru_stime, wall, usage.ru_maxrss / 1024)
-        best = min(best or found, found)
-    return best
+def fastest(words: list[str], source: Path | None, kept: Path | None = None) -> Usage | None:
+    """The cost of the fastest run; None if the program fails."""
+    costs = [cost for _ in range(RUNS) if (cost := measure(words, source, kept))]
+    return min(costs) if len(costs) == RUNS else None
 
 
-def floor(plain, words, source):
-    """Processor seconds of the least that the job's inputs can take."""
-    inputs = [Path(word) for word in words if word.endswith(("containers.json", "map_again.json"))]
-    if source:
-        inputs.append(source)
-    return sum(measure(plain, ["parse" if path.suffix == ".json" else "pass"], path, None)[0] for path in inputs)
+def floor(plain: str, job: Job) -> float:
+    """The least processor seconds that the job's inputs can take."""
+    inputs = [Path(word) for word in job.words if word.endswith(("containers.json", "map_again.json"))]
+    if job.source:
+        inputs.append(job.source)
+    spent = 0.0
+    for path in inputs:
+        cost = fastest([plain, "parse" if path.suffix == ".json" else "pass"], path)
+        if cost is None:
+            raise SystemExit(f"run: the plain program fails to read {path}")
+        spent += cost.processor
+    return spent
 
 
-def told(found, size):
-    if found is None:
+def cells(cost: Usage | None, size: int) -> str:
+    if cost is None:
         return "none | | |"
-    processor, wall, memory = found
-    return f"{processor:.3f} | {wall:.3f} | {size / 1e6 / processor:.0f} | {memory:.0f}" if processor else "0 | | |"
+    if not cost.processor:
+        return "0 | | |"
+    return f"{cost.processor:.3f} | {cost.wall:.3f} | {size / 1e6 / cost.processor:.0f} | {cost.memory:.0f}"
 
 
-def main():
+def main() -> None:
     folder, programs = Path(sys.argv[1]), sys.argv[2:]
-    print("| Job | Input, MB | " + " | ".join(f"{Path(p).name}: processor s | s | MB/s | MiB" for p in programs) + " | floor |")
+    columns = [f"{Path(program).name}: processor s | s | MB/s | MiB" for program in programs]
+    print("| Job | Input, MB | " + " | ".join(columns) + " | floor |")
     print("|---|---|" + "---|" * (4 * len(programs) + 1))
-    for name, words, source, answer in jobs(folder):
-        size = (source or folder / "containers.json").stat().st_size
-        cells = [told(measure(program, words, source, answer), size) for program in programs]
-        least = f"{floor(programs[1], words, source):.3f}" if len(programs) > 1 else ""
-        print(f"| {name} | {size / 1e6:.1f} | " + " | ".join(cells) + f" | {least} |", flush=True)
+    for job in jobs(folder):
+        size = (job.source or folder / "containers.json").stat().st_size
+        costs = [cells(fastest([program, *job.words], job.source, job.kept), size) for program in programs]
+        least = f"{floor(programs[1], job):.3f}" if len(programs) > 1 else ""
+        print(f"| {job.name} | {size / 1e6:.1f} | " + " | ".join(costs) + f" | {least} |", flush=True)
 
 
-main()
+if __name__ == "__main__":
+    main()

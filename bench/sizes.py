@@ -1,152 +1,171 @@
 #!/usr/bin/env python3
-"""Runs a program at the edges of its sizes: sizes.py BCS. Prints the status, the first bytes of the answer, processor
+"""Runs a program at the edges of its sizes: sizes.py BCS. Prints the status, the first bytes of the output, processor
 seconds, and the most memory, also as a multiple of the input. The stack is 8 MiB, and the memory 6 GiB.
 
-With --bounds it runs jobs over many lines alone, within 16 MiB and 5 processor seconds, and fails where one doesn't end so."""
+With --bounds it only runs jobs over many lines, and fails if one doesn't succeed within 16 MiB and 5 processor
+seconds."""
+
+from __future__ import annotations
 
 import os
 import resource
 import subprocess
 import sys
 import tempfile
+from collections.abc import Iterable, Iterator
+from typing import IO, NamedTuple
+
+import size_registries as registries
 
 STACK = 8 << 20
 MIB = 1 << 20
 MEMORY = 6 << 30
 LIMIT = 256 * MIB
+# The longest list that a length can announce.
+MOST = 2**31 - 1
 
 
-def nested(format, levels):
-    return "".join('{"SEQ":' for _ in range(levels)) + format + "}" * levels
+class Input(NamedTuple):
+    """The same bytes, repeated, between a start and an end."""
+
+    start: bytes
+    unit: bytes = b""
+    times: int = 0
+    end: bytes = b""
+
+    def data(self) -> bytes:
+        return self.start + self.unit * self.times + self.end
 
 
-def key_of_keys(format, levels):
-    return "".join('{"MAP":{"KEY":' for _ in range(levels)) + format + ',"VALUE":"UNIT"}}' * levels
+class Case(NamedTuple):
+    """The arguments of a run, in which @ is a file with the input, and the input."""
+
+    name: str
+    words: list[str]
+    given: Input
 
 
-def chain(content):
-    """A list of containers, each of which holds an option of the next 32 levels deep."""
-    return '{"L":{"NEWTYPESTRUCT":' + content + "}}"
+class Stream(NamedTuple):
+    """The same for input from a pipe, as blocks that have SIZE bytes in all."""
+
+    name: str
+    words: list[str]
+    blocks: Iterable[bytes]
+    size: int
 
 
-def newtypes(count):
-    """So many containers, each of which holds the next one. They don't show in JSON."""
-    inner = [f'"C{number}":{{"NEWTYPESTRUCT":{{"TYPENAME":"C{number + 1}"}}}}' for number in range(count - 1)]
-    return "{" + ",".join(inner + [f'"C{count - 1}":{{"NEWTYPESTRUCT":"U8"}}']) + "}"
+class Ended(NamedTuple):
+    """How a run ended, and how its output, or else its standard error, begins."""
+
+    status: int
+    answer: bytes
+    usage: resource.struct_rusage
+
+    def processor(self) -> float:
+        return self.usage.ru_utime + self.usage.ru_stime
 
 
-def cases():
-    """The name of each case, its words, and a maker of its input."""
-    yield "registry, 256 MiB of one name", ["check", "@"], lambda: b'{"' + b"a" * (LIMIT - 17) + b'":"UNITSTRUCT"}'
-    yield "registry, 64 MiB of small containers", ["check", "@"], lambda: containers(64 * MIB)
-    yield "registry, an enum of a million variants", ["check", "@"], lambda: variants(1_000_000)
-    yield "registry, a name of 1 MB", ["check", "@"], lambda: b'{"' + b"a" * 1_000_000 + b'":"UNITSTRUCT"}'
-    yield "text, 256 MiB of one string", ["encode", "{}", '"STR"'], lambda: b'"' + b"a" * (LIMIT - 2) + b'"'
-    yield "text, 64 MiB of numbers", ["encode", "{}", '{"SEQ":"U8"}'], lambda: b"[" + b"1," * (32 * MIB - 1) + b"1]"
-    yield "text, one byte too large", ["encode", "{}", '"STR"'], lambda: b'"' + b"a" * (LIMIT - 1) + b'"'
-    yield "text, a word of a million variants", ["encode", variants(1_000_000).decode(), "E"], lambda: b'"V999999"'
-    yield "text, an object of a million members", ["encode", fields(1_000_000).decode(), "S"], lambda: members(1_000_000)
-    yield "text, nesting 100", ["encode", "{}", nested('"U8"', 32)], lambda: b"[" * 100 + b"]" * 100
-    inner = newtypes(500)
-    yield "text, 500 containers in one another", ["encode", inner, "C0"], lambda: b"7"
-    yield "text, 500 containers in one another, to its text", ["normalise", inner, "C0"], lambda: b"7"
-    yield "text, one container too many", ["encode", newtypes(501), "C0"], lambda: b"7"
-    yield "hexadecimal, 500 containers in one another", ["decode", inner, "C0"], lambda: b"07"
-    yield "hexadecimal, 256 MiB of one byte string", ["decode", "{}", '"BYTES"'], lambda: b"f8ffff3f" + b"00" * (128 * MIB - 8)
-    yield "bytes, 200 MB of one text", ["decode", "--raw", "{}", '"STR"'], lambda: uleb(200_000_000) + b"a" * 200_000_000
-    yield "bytes, 256 MiB of one byte string", ["decode", "--raw", "{}", '"BYTES"'], lambda: uleb(LIMIT - 4) + b"a" * (LIMIT - 4)
-    yield "bytes, 64 MiB of numbers", ["decode", "--raw", "{}", '{"SEQ":"U16"}'], lambda: uleb(32 * MIB) + b"ab" * (32 * MIB)
-    yield "bytes, a list of 2147483647 units, within 1000 nodes", ["decode", "--nodes", "1000", "{}", '{"SEQ":"UNIT"}'], lambda: b"ffffffff07"
-    empty = '{"U":{"STRUCT":[]}}'
-    row = '{"SEQ":{"TYPENAME":"U"}}'
-    yield "bytes, a list of 2147483647 empty structs, within 1000 nodes", ["decode", "--nodes", "1000", empty, row], lambda: b"ffffffff07"
-    yield "bytes, a list of 2147483647 empty structs, one node too few", ["part", "--nodes", str(2 * (2**31 - 1)), empty, row, "0"], lambda: b"ffffffff07"
-    yield "bytes, a list of 2147483647 empty structs, whose part is taken", ["part", "--nodes", str(2**32 - 1), empty, row, "2147483646"], lambda: b"ffffffff07"
-    yield "bytes, a list of 2147483647 empty structs, more than the memory", ["decode", "--nodes", str(2**32 - 1), empty, row], lambda: b"ffffffff07"
-    for name, content in [("units", '"UNIT"'), ("empty structs", '{"TYPENAME":"U"}')]:
-        array = '{"TUPLEARRAY":{"CONTENT":' + content + ',"SIZE":18446744073709551615}}'
-        yield f"bytes, an array of 2^64-1 {name}", ["decode", empty, array], lambda: b""
-    yield "bytes, 10 million empty structs", ["decode", "--raw", '{"U":"UNITSTRUCT"}', '{"SEQ":{"TYPENAME":"U"}}'], lambda: uleb(10_000_000)
-    deep = chain(nested('{"OPTION":{"TYPENAME":"L"}}', 31))
-    yield "bytes, 500 containers of 32 levels", ["decode", "--raw", deep, "L"], lambda: b"\x01" * (31 * 500) + b"\x00"
-    yield "bytes, 500 containers of 32 levels, explained", ["explain", "--raw", deep, "L"], lambda: b"\x01" * (31 * 500) + b"\x00"
-    keys = '{"K":{"NEWTYPESTRUCT":' + key_of_keys('{"OPTION":{"TYPENAME":"K"}}', 30) + "}}"
-    yield "bytes, 15,000 maps nested as keys", ["decode", "--raw", keys, "K"], lambda: b"\x01" * (31 * 500 - 1) + b"\x00"
-    yield "lines, one of 256 MiB behind a short one", ["encode", "--lines", "{}", '"STR"'], lambda: b'"a"\n"' + b"a" * (LIMIT - 2) + b'"\n'
-    yield "lines, one a byte too long behind a short one", ["encode", "--lines", "{}", '"STR"'], lambda: b'"a"\n"' + b"a" * (LIMIT - 1) + b'"\n'
-    yield "lines, 32 million of one digit", ["encode", "--lines", "{}", '"U8"'], lambda: b"7\n" * 32_000_000
-    yield "part, the last of 32 Mi numbers", ["part", "--raw", "{}", '{"SEQ":"U16"}', str(32 * MIB - 1)], lambda: uleb(32 * MIB) + b"ab" * (32 * MIB)
-
-
-def bounded():
-    """Jobs over many lines: memory is that of the longest line, whatever the size of the input, and the registry is read once."""
-    registry = containers(10_000 * 32).decode()
-    yield "lines, 200,000 of 100 bytes", ["encode", "--lines", "{}", '"STR"'], lambda: (b'"' + b"a" * 97 + b'"\n') * 200_000
-    yield "lines, 20,000 at a registry of 10,000 containers", ["encode", "--lines", registry, "C0009999"], lambda: b"7\n" * 20_000
-
-
-def uleb(number):
+def uleb(number: int) -> bytes:
     digits = []
     while number >= 128:
         digits.append(number & 127 | 128)
         number >>= 7
-    return bytes(digits + [number])
+    return bytes([*digits, number])
 
 
-def containers(size):
-    count = size // 32
-    return ("{" + ",".join(f'"C{number:07}":{{"NEWTYPESTRUCT":"U8"}}' for number in range(count)) + "}").encode()
+def around(size: int, start: bytes = b"", end: bytes = b"") -> Input:
+    """A JSON string of SIZE bytes, between a start and an end."""
+    return Input(start + b'"', b"a", size - 2, b'"' + end)
 
 
-def variants(count):
-    return ('{"E":{"ENUM":{' + ",".join(f'"{number}":{{"V{number}":"UNIT"}}' for number in range(count)) + "}}}").encode()
+def registry_cases() -> Iterator[Case]:
+    for what, length in [("256 MiB of one name", LIMIT - 17), ("a name of 1 MB", 1_000_000)]:
+        yield Case(f"registry, {what}", ["check", "@"], Input(b'{"', b"a", length, b'":"UNITSTRUCT"}'))
+    small = registries.containers(2 * MIB).encode()
+    yield Case("registry, 64 MiB of small containers", ["check", "@"], Input(small))
+    million = registries.variants(1_000_000).encode()
+    yield Case("registry, an enum of a million variants", ["check", "@"], Input(million))
 
 
-def fields(count):
-    return ('{"S":{"STRUCT":[' + ",".join(f'{{"f{number}":"U8"}}' for number in range(count)) + "]}}").encode()
+def json_cases() -> Iterator[Case]:
+    numbers, million = '{"SEQ":"U8"}', 1_000_000
+    yield Case("JSON, 256 MiB of one string", ["encode", "{}", '"STR"'], around(LIMIT))
+    yield Case("JSON, 64 MiB of numbers", ["encode", "{}", numbers], Input(b"[", b"1,", 32 * MIB - 1, b"1]"))
+    yield Case("JSON, one byte too large", ["encode", "{}", '"STR"'], around(LIMIT + 1))
+    variants = ["encode", registries.variants(million), "E"]
+    yield Case("JSON, one of a million variants", variants, Input(b'"V999999"'))
+    fields = ["encode", registries.fields(million), "S"]
+    yield Case("JSON, an object of a million members", fields, Input(registries.members(million).encode()))
+    nested = registries.nested('"U8"', 32)
+    yield Case("JSON, nesting 100", ["encode", "{}", nested], Input(b"[" * 100 + b"]" * 100))
+    inner = registries.newtypes(500)
+    yield Case("JSON, 500 containers in one another", ["encode", inner, "C0"], Input(b"7"))
+    yield Case("JSON, 500 containers in one another, normalised", ["normalise", inner, "C0"], Input(b"7"))
+    yield Case("JSON, one container too many", ["encode", registries.newtypes(501), "C0"], Input(b"7"))
 
 
-def members(count):
-    return ("{" + ",".join(f'"f{number}":1' for number in range(count)) + "}").encode()
+def bytes_cases() -> Iterator[Case]:
+    inner = registries.newtypes(500)
+    yield Case("hexadecimal, 500 containers in one another", ["decode", inner, "C0"], Input(b"07"))
+    digits = Input(b"f8ffff3f", b"00", 128 * MIB - 8)
+    yield Case("hexadecimal, 256 MiB of one byte string", ["decode", "{}", '"BYTES"'], digits)
+    for what, format, length in [
+        ("200 MB of one string", '"STR"', 200_000_000),
+        ("256 MiB of one byte string", '"BYTES"', LIMIT - 4),
+    ]:
+        yield Case(f"bytes, {what}", ["decode", "--raw", "{}", format], Input(uleb(length), b"a", length))
+    format, count = '{"SEQ":"U16"}', 32 * MIB
+    numbers = Input(uleb(count), b"ab", count)
+    yield Case("bytes, 64 MiB of numbers", ["decode", "--raw", "{}", format], numbers)
+    yield Case("part, the last of 32 Mi numbers", ["part", "--raw", "{}", format, str(count - 1)], numbers)
 
 
-def limit(memory=MEMORY, time=resource.RLIM_INFINITY):
-    resource.setrlimit(resource.RLIMIT_STACK, (STACK, STACK))
-    resource.setrlimit(resource.RLIMIT_CPU, (time, time))
-    resource.setrlimit(resource.RLIMIT_AS, (memory, memory))
+def empty_cases() -> Iterator[Case]:
+    """Many values in few bytes."""
+    empty, row = '{"U":{"STRUCT":[]}}', '{"SEQ":{"TYPENAME":"U"}}'
+    structs = f"bytes, a list of {MOST} empty structs"
+    for name, words in [
+        (f"bytes, a list of {MOST} units, within 1000 nodes", ["decode", "--nodes", "1000", "{}", '{"SEQ":"UNIT"}']),
+        (f"{structs}, within 1000 nodes", ["decode", "--nodes", "1000", empty, row]),
+        (f"{structs}, one node too few", ["part", "--nodes", str(2 * MOST), empty, row, "0"]),
+        (f"{structs}, and one part of it", ["part", "--nodes", str(2**32 - 1), empty, row, str(MOST - 1)]),
+        (f"{structs}, more than the memory", ["decode", "--nodes", str(2**32 - 1), empty, row]),
+    ]:
+        yield Case(name, words, Input(b"ffffffff07"))
+    for name, content in [("units", '"UNIT"'), ("empty structs", '{"TYPENAME":"U"}')]:
+        array = '{"TUPLEARRAY":{"CONTENT":' + content + ',"SIZE":18446744073709551615}}'
+        yield Case(f"bytes, an array of 2^64-1 {name}", ["decode", empty, array], Input(b""))
+    words = ["decode", "--raw", '{"U":"UNITSTRUCT"}', row]
+    yield Case("bytes, 10 million empty structs", words, Input(uleb(10_000_000)))
 
 
-def run(program, words, given, *bounds):
-    with tempfile.NamedTemporaryFile() as file, tempfile.NamedTemporaryFile() as registry:
-        file.write(given)
-        file.flush()
-        words = [file.name if word == "@" else word for word in words]
-        # A word has at most 128 KiB, so a long registry is a file.
-        for place, word in enumerate(words):
-            if len(word) > 100_000:
-                registry.write(word.encode())
-                registry.flush()
-                words[place] = registry.name
-        file.seek(0)
-        process = subprocess.Popen([program, *words], stdin=file, stdout=subprocess.PIPE, stderr=subprocess.PIPE,
-                                   preexec_fn=lambda: limit(*bounds))
-        answer = process.stdout.read(24)
-        while process.stdout.read(MIB):
-            pass
-        note = process.stderr.read(24)
-        _, status, usage = os.wait4(process.pid, 0)
-        return os.waitstatus_to_exitcode(status), answer or note, usage
+def deep_cases() -> Iterator[Case]:
+    deep, keys = registries.lists_of_itself(), registries.maps_as_keys()
+    ones = Input(b"", b"\x01", 31 * 500, b"\x00")
+    yield Case("bytes, 500 containers of 32 levels", ["decode", "--raw", deep, "L"], ones)
+    yield Case("bytes, 500 containers of 32 levels, explained", ["explain", "--raw", deep, "L"], ones)
+    fewer = Input(b"", b"\x01", 31 * 500 - 1, b"\x00")
+    yield Case("bytes, 15,000 maps nested as keys", ["decode", "--raw", keys, "K"], fewer)
 
 
-def streams():
-    """The same of inputs that come by a pipe, each a maker of blocks and their bytes in all."""
-    most = 2**31 - 1
-    yield "scan, 4 GiB of two byte strings by a pipe", ["scan", "--raw", "{}", '{"TUPLE":["BYTES","BYTES"]}'], lambda: strings(b"a", most, 2), 2 * (most + 5)
-    yield "scan, 4 GiB of two texts by a pipe", ["scan", "--raw", "{}", '{"TUPLE":["STR","STR"]}'], lambda: strings("é".encode(), most - 1, 2), 2 * (most + 4)
-    yield "scan, 4 GiB of 512 Mi numbers by a pipe", ["scan", "--raw", "{}", '{"SEQ":"U64"}'], lambda: strings(b"a", 2**32, 1, 2**29), 2**32 + 5
+def line_cases() -> Iterator[Case]:
+    words, short = ["encode", "--lines", "{}", '"STR"'], b'"a"\n'
+    yield Case("lines, one of 256 MiB after a short one", words, around(LIMIT, short, b"\n"))
+    yield Case("lines, one a byte too long after a short one", words, around(LIMIT + 1, short, b"\n"))
+    numbers = ["encode", "--lines", "{}", '"U8"']
+    yield Case("lines, 32 million of one digit", numbers, Input(b"", b"7\n", 32_000_000))
 
 
-def strings(unit, size, count, announced=None):
+def bounded() -> Iterator[Case]:
+    """Jobs over many lines: they need memory for the longest line, however large the input is, and read the registry
+    once."""
+    strings = Input(b"", around(99, end=b"\n").data(), 200_000)
+    yield Case("lines, 200,000 of 100 bytes", ["encode", "--lines", "{}", '"STR"'], strings)
+    words = ["encode", "--lines", registries.containers(10_000), "C0009999"]
+    yield Case("lines, 20,000 at a registry of 10,000 containers", words, Input(b"", b"7\n", 20_000))
+
+
+def strings(unit: bytes, size: int, count: int, announced: int | None = None) -> Iterator[bytes]:
     block = unit * (MIB // len(unit))
     for _ in range(count):
         yield uleb(announced or size)
@@ -155,49 +174,94 @@ def strings(unit, size, count, announced=None):
         yield block[: size % MIB]
 
 
-def feed(process, blocks):
+def streams() -> Iterator[Stream]:
+    words = ["scan", "--raw", "{}"]
+    two = strings(b"a", MOST, 2)
+    yield Stream("scan, 4 GiB of two byte strings", [*words, '{"TUPLE":["BYTES","BYTES"]}'], two, 2 * (MOST + 5))
+    two = strings("é".encode(), MOST - 1, 2)
+    yield Stream("scan, 4 GiB of two strings", [*words, '{"TUPLE":["STR","STR"]}'], two, 2 * (MOST + 4))
+    numbers = strings(b"a", 2**32, 1, 2**29)
+    yield Stream("scan, 4 GiB of 512 Mi numbers", [*words, '{"SEQ":"U64"}'], numbers, 2**32 + 5)
+
+
+def started(
+    program: str, words: list[str], given: IO[bytes] | int, memory: int, seconds: int
+) -> subprocess.Popen[bytes]:
+    def limit() -> None:
+        resource.setrlimit(resource.RLIMIT_STACK, (STACK, STACK))
+        resource.setrlimit(resource.RLIMIT_CPU, (seconds, seconds))
+        resource.setrlimit(resource.RLIMIT_AS, (memory, memory))
+
+    return subprocess.Popen(
+        [program, *words], stdin=given, stdout=subprocess.PIPE, stderr=subprocess.PIPE, preexec_fn=limit
+    )
+
+
+def ended(process: subprocess.Popen[bytes]) -> Ended:
+    assert process.stdout and process.stderr
+    answer = process.stdout.read(24)
+    while process.stdout.read(MIB):
+        pass
+    note = process.stderr.read(24)
+    _, status, usage = os.wait4(process.pid, 0)
+    return Ended(os.waitstatus_to_exitcode(status), answer or note, usage)
+
+
+def run(program: str, case: Case, given: bytes, memory: int = MEMORY, seconds: int = resource.RLIM_INFINITY) -> Ended:
+    with tempfile.NamedTemporaryFile() as file, tempfile.NamedTemporaryFile() as registry:
+        file.write(given)
+        file.seek(0)
+        words = [file.name if word == "@" else word for word in case.words]
+        # The system allows arguments of up to 128 KiB, so a long registry is a file.
+        for place, word in enumerate(words):
+            if len(word) > 100_000:
+                registry.write(word.encode())
+                registry.flush()
+                words[place] = registry.name
+        return ended(started(program, words, file, memory, seconds))
+
+
+def run_stream(program: str, stream: Stream) -> Ended:
+    process = started(program, stream.words, subprocess.PIPE, MEMORY, resource.RLIM_INFINITY)
+    assert process.stdin
     try:
-        for block in blocks:
+        for block in stream.blocks:
             process.stdin.write(block)
         process.stdin.close()
     except BrokenPipeError:
         pass
+    return ended(process)
 
 
-def run_stream(program, words, blocks):
-    process = subprocess.Popen([program, *words], stdin=subprocess.PIPE, stdout=subprocess.PIPE, stderr=subprocess.PIPE,
-                               preexec_fn=limit)
-    feed(process, blocks)
-    answer, note = process.stdout.read(24), process.stderr.read(24)
-    _, status, usage = os.wait4(process.pid, 0)
-    return os.waitstatus_to_exitcode(status), answer or note, usage
+def ends_within_bounds(program: str, case: Case) -> bool:
+    end = run(program, case, case.given.data(), 16 * MIB, 5)
+    print(f"sizes: {case.name}: status {end.status}, {end.processor():.2f} processor seconds", flush=True)
+    return end.status == 0
 
 
-def ends_within_bounds(program, name, words, given):
-    status, answer, usage = run(program, words, given, 16 * MIB, 5)
-    print(f"sizes: {name}: status {status}, {usage.ru_utime + usage.ru_stime:.2f} processor seconds", flush=True)
-    return status == 0
-
-
-def main():
-    if sys.argv[2:] == ["--bounds"]:
-        sys.exit(not all([ends_within_bounds(sys.argv[1], name, words, make()) for name, words, make in bounded()]))
-    print("| Case | Input, MB | Status | Answer begins | Processor s | MiB | MiB for each MiB of input |")
-    print("|---|---|---|---|---|---|---|")
-    for name, words, make in cases():
-        given = make()
-        tell(name, max(len(given), sum(map(len, words))), run(sys.argv[1], words, given))
-    for name, words, make, size in streams():
-        tell(name, size, run_stream(sys.argv[1], words, make()))
-
-
-def tell(name, size, ended):
-    status, answer, usage = ended
-    memory = usage.ru_maxrss / 1024
-    shown = answer.decode(errors="replace").strip().replace("|", "\\|").replace("\n", " ")
+def tell(name: str, size: int, end: Ended) -> None:
+    memory = end.usage.ru_maxrss / 1024
+    shown = end.answer.decode(errors="replace").strip().replace("|", "\\|").replace("\n", " ")
     multiple = f"{memory * MIB / size:.1f}" if size > MIB else ""
-    print(f"| {name} | {size / 1e6:.1f} | {status} | `{shown}` | {usage.ru_utime + usage.ru_stime:.2f}"
-          f" | {memory:.0f} | {multiple} |", flush=True)
+    print(
+        f"| {name} | {size / 1e6:.1f} | {end.status} | `{shown}` | {end.processor():.2f} | {memory:.0f} | {multiple} |",
+        flush=True,
+    )
 
 
-main()
+def main() -> None:
+    program = sys.argv[1]
+    if sys.argv[2:] == ["--bounds"]:
+        sys.exit(not all([ends_within_bounds(program, case) for case in bounded()]))
+    print("| Case | Input, MB | Status | Output begins | Processor s | MiB | MiB for each MiB of input |")
+    print("|---|---|---|---|---|---|---|")
+    for cases in [registry_cases, json_cases, bytes_cases, empty_cases, deep_cases, line_cases]:
+        for case in cases():
+            given = case.given.data()
+            tell(case.name, max(len(given), sum(map(len, case.words))), run(program, case, given))
+    for stream in streams():
+        tell(f"{stream.name} from a pipe", stream.size, run_stream(program, stream))
+
+
+if __name__ == "__main__":
+    main()

@@ -1,15 +1,17 @@
-"""Decodes a folder of files by the workers of a Dask cluster, of one machine or of many.
+"""Decodes a folder of files with the workers of a Dask cluster, on one machine or on many.
 
     python3 dask_decode.py SCHEDULER REGISTRY FORMAT FOLDER OUT
 
-SCHEDULER is an address, as tcp://host:8786. Each file FOLDER/NAME.hex has the hexadecimal digits of a value on each line, and
-OUT/NAME.json is what `bcs decode --quiet --lines` prints of it: the value's JSON, or `refused: ..`, on the same line. A file
-is a task. The last line tells how many lines there were, and how many were refused.
+SCHEDULER is an address like tcp://host:8786. Each file FOLDER/NAME.hex has the hexadecimal digits of a value on each
+line, and OUT/NAME.json is what `bcs decode --quiet --lines` prints for it: the value's JSON, or `refused: ..`, on the
+same line. A file is a task. The last line counts the files, the lines, and those that were refused.
 
-Both folders are on a disk that all workers see, and each worker has the module `bcs_proved` (bindings/python). A worker
-writes a file under another name first (NAME.json...part), so that it is there as a whole or not at all; and when a worker
-goes, the scheduler has its files decoded by another one.
+All workers must see both folders, and each needs the module `bcs_proved` (bindings/python). A worker writes a file
+under another name first (NAME.json...part), so a file of answers is either complete or missing. If a worker dies, the
+scheduler gives its files to another one.
 """
+
+from __future__ import annotations
 
 import functools
 import os
@@ -17,22 +19,26 @@ import pathlib
 import re
 import sys
 import uuid
+from typing import TYPE_CHECKING, Any
 
 from dask.distributed import Client
+
+if TYPE_CHECKING:
+    from bcs_proved import Registry
 
 DIGITS = re.compile(rb"(?:[0-9a-fA-F]{2})*")
 
 
 @functools.lru_cache(maxsize=4)
-def open_registry(text):
-    """It stays open in the worker."""
+def open_registry(text: str) -> Registry:
+    """The worker keeps it open."""
     from bcs_proved import Registry
 
     return Registry(text)
 
 
-def decoded(registry, format, line):
-    """The line of an answer, and whether it is of a value."""
+def decoded(registry: Registry, format: str, line: bytes) -> tuple[str, bool]:
+    """The line of an answer, and whether it is a value."""
     from bcs_proved import BytesError
 
     digits = line.strip(b" \t\r\n")
@@ -45,8 +51,8 @@ def decoded(registry, format, line):
         return f"refused: {fault.reason}{place}", False
 
 
-def decode_file(text, format, source, target):
-    """How many lines the file has, and how many of them are refused."""
+def decode_file(text: str, format: str, source: str, target: str) -> tuple[int, int]:
+    """Returns how many lines the file has, and how many of them are refused."""
     registry = open_registry(text)
     part = f"{target}.{uuid.uuid4().hex}.part"
     lines = refused = 0
@@ -60,8 +66,10 @@ def decode_file(text, format, source, target):
     return lines, refused
 
 
-def decode_folder(client, text, format, folder, out):
-    """How many files and lines there are, and how many lines are refused."""
+def decode_folder(
+    client: Any, text: str, format: str, folder: str | os.PathLike[str], out: str | os.PathLike[str]
+) -> tuple[int, int, int]:
+    """Returns how many files and lines there are, and how many lines are refused."""
     import dask_decode  # this file, as the workers have it
 
     sources = sorted(map(str, pathlib.Path(folder).resolve().glob("*.hex")))
@@ -71,7 +79,7 @@ def decode_folder(client, text, format, folder, out):
     return len(sources), sum(lines for lines, _ in counts), sum(refused for _, refused in counts)
 
 
-def main(words):
+def main(words: list[str]) -> int:
     scheduler, registry, format, folder, out = words
     text = pathlib.Path(registry).read_text(encoding="utf-8")
     os.makedirs(out, exist_ok=True)

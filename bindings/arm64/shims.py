@@ -1,9 +1,9 @@
 #!/usr/bin/env python3
 """bindings/arm64/shims.py FOLDER: makes FOLDER/shims.c, a function for each proved call that returns an answer.
 
-A call gives its answer, of 24 bytes, through a pointer. On x86-64 that pointer is the first parameter, and so the LLVM module
-has it. On arm64 it is in a register of its own. So each function here calls the module's with the answer's place in front.
-FOLDER/symbols has the names under which the module's functions are called, for objcopy.
+A call returns its answer of 24 bytes through a pointer. On x86-64 that pointer is the first parameter, as in the LLVM
+module. On arm64 it is in a register of its own. So each function here calls that of the module, and passes the answer's
+address first. FOLDER/symbols lists the new names of the module's functions, for objcopy.
 """
 
 import pathlib

@@ -7,8 +7,8 @@ use std::process::Command;
 
 const WHAT_TO_DO: [&str; 6] = [
     "The proved library libbcs.a was not found. Do one of these:",
-    "  - take the package bcs-proved of the bcs repository, which has it (dist/packages makes it);",
-    "  - install it by ./install or bindings/c/build of that repository, and set BCS_LIB to the folder with libbcs.a;",
+    "  - take the package bcs-proved of the bcs repository, which has it (tools/packages.py makes it);",
+    "  - install it by ./install or bindings/c/build.sh of that repository, and set BCS_LIB to the folder with libbcs.a;",
     "  - or install it so that `pkg-config bcs` finds bcs.pc: for a prefix of your own set PKG_CONFIG_PATH to",
     "    its folder lib/pkgconfig.",
     "  - on a system with POSIX the package compiles the library from C, by the compiler that the variable CC names, or cc.",

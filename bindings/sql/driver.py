@@ -1,29 +1,33 @@
-"""The driver of SQL: reads lines of calls and answers them, as bindings/README.md says, by statements in a database.
+"""The driver for SQL: reads lines of calls and answers them, as bindings/README.md says, with statements in a database.
 
     /usr/bin/python3 bindings/sql/driver.py sqlite EXTENSION
     /usr/bin/python3 bindings/sql/driver.py postgresql CONNECTION
 
-EXTENSION is the loadable file, and CONNECTION what libpq takes, of a database with the extension `bcs`.
+EXTENSION is the loadable file, and CONNECTION is a connection string of libpq, for a database with the extension `bcs`.
 """
+
+from __future__ import annotations
 
 import json
 import re
 import sys
+from collections.abc import Callable
+from typing import Any, Protocol
 
 
 class Unsayable(Exception):
-    """SQL can't hand these bytes over."""
+    """SQL has no way to pass these bytes."""
 
 
 class Answered(Exception):
-    """What the driver answers to a call that is refused."""
+    """The words that the driver answers to a call that is refused."""
 
 
 STATUSES = {"no registry": "registry", "no format of the registry": "format", "no path": "path"}
 
 
-def refusal(message):
-    """The answer that is in the words of an error."""
+def refusal(message: str) -> Answered:
+    """The answer that an error message contains."""
     if message.startswith("bcs: nodes are from"):
         return Answered("limits", "-", "0", "0", "")
     found = re.match(r"bcs: ([a-z ]+): ([A-Za-z0-9]+)(?: at (\d+))?", message)
@@ -34,15 +38,31 @@ def refusal(message):
 
 
 class NoUnicode(bytes):
-    """A text that isn't UTF-8."""
+    """A string that isn't UTF-8."""
+
+
+class Database(Protocol):
+    """What the calls need of a database. ENCODE and DECODE are its expressions for JSON."""
+
+    encode: str
+    decode: str
+
+    def text(self, data: bytes) -> str | bytes:
+        """The argument for a string."""
+
+    def registry(self, data: bytes) -> str | bytes:
+        """The argument for a registry."""
+
+    def value(self, expression: str, *arguments: object) -> Any:
+        """The value of an expression, with an argument for each `?` in it."""
 
 
 class Sqlite:
-    """A text may have any bytes there, and Python gives it those of a BLOB."""
+    """A string may have any bytes there, and Python passes them as a BLOB."""
 
     encode, decode = "bcs_encode(?, ?, ?, ?, ?)", "bcs_decode(?, ?, ?, ?, ?)"
 
-    def __init__(self, extension):
+    def __init__(self, extension: str) -> None:
         import sqlite3
 
         self.error = sqlite3.OperationalError
@@ -50,16 +70,16 @@ class Sqlite:
         self.database.enable_load_extension(True)
         self.database.load_extension(extension)
 
-    def text(self, data):
+    def text(self, data: bytes) -> str | bytes:
         try:
             return data.decode()
         except UnicodeDecodeError:
             return NoUnicode(data)
 
-    def registry(self, data):
+    def registry(self, data: bytes) -> str | bytes:
         return self.text(data)
 
-    def value(self, expression, *arguments):
+    def value(self, expression: str, *arguments: object) -> Any:
         for place, argument in reversed(list(enumerate(arguments))):
             if isinstance(argument, NoUnicode):
                 parts = expression.split("?")
@@ -71,11 +91,11 @@ class Sqlite:
 
 
 class Postgresql:
-    """A text there is Unicode without the character U+0000."""
+    """A string there is Unicode without the character U+0000."""
 
     encode, decode = "bcs_encode_json(?, ?, ?, ?, ?)", "bcs_decode_json(?, ?, ?, ?, ?)::text"
 
-    def __init__(self, connection):
+    def __init__(self, connection: str) -> None:
         import psycopg2
 
         self.error = psycopg2.Error
@@ -85,7 +105,7 @@ class Postgresql:
         self.cursor.execute("set max_stack_depth = '7MB'")
         self.cursor.execute("set bcs.max_nodes = -1")
 
-    def text(self, data):
+    def text(self, data: bytes) -> str:
         try:
             text = data.decode()
         except UnicodeDecodeError:
@@ -94,13 +114,13 @@ class Postgresql:
             raise Unsayable
         return text
 
-    def registry(self, data):
-        """What begins with a letter is the name of one there."""
+    def registry(self, data: bytes) -> str:
+        """An argument that begins with a letter is the name of a registry there."""
         if data[:1].isalpha() or data[:1] == b"_":
             raise Unsayable
         return self.text(data)
 
-    def value(self, expression, *arguments):
+    def value(self, expression: str, *arguments: object) -> Any:
         try:
             self.cursor.execute("select " + expression.replace("?", "%s"), arguments)
             value = self.cursor.fetchone()[0]
@@ -109,45 +129,49 @@ class Postgresql:
         return bytes(value) if isinstance(value, memoryview) else value
 
 
-class Calls:
-    """The calls in a database. Each answers a fault, a place, a length and an output; None where the answer is no."""
+# A fault, a place, a length and an output.
+Answer = tuple[str, int, int, bytes]
 
-    def __init__(self, database):
+
+class Calls:
+    """The calls in a database. Each returns None if the answer is no."""
+
+    def __init__(self, database: Database) -> None:
         self.database = database
 
-    def ask(self, expression, registry, format, limits, *words):
-        """Limits stand last in SQL, nodes before the depth."""
+    def ask(self, expression: str, registry: Any, format: Any, limits: Any, *words: Any) -> Any:
+        """Limits are the last arguments in SQL, nodes before the depth."""
         return self.database.value(expression, registry, format, *words, *limits)
 
-    def text(self, data):
+    def text(self, data: bytes) -> str | bytes:
         return self.database.text(data)
 
-    def written(self, value):
+    def written(self, value: str | bytes) -> Answer:
         data = value.encode() if isinstance(value, str) else value
         return "-", 0, len(data), data
 
-    def check(self, *question):
+    def check(self, *question: Any) -> Answer:
         self.ask("bcs_is(?, ?, ?, ?, ?)", *question, b"")
         return "-", 0, 0, b""
 
-    def to_bcs(self, *question):
+    def to_bcs(self, *question: Any) -> Answer:
         return self.written(self.ask(self.database.encode, *question[:3], self.text(question[3])))
 
-    def from_bcs(self, *question):
+    def from_bcs(self, *question: Any) -> Answer:
         return self.written(self.ask(self.database.decode, *question))
 
-    def normalise(self, *question):
+    def normalise(self, *question: Any) -> Answer:
         expression = "cast(bcs_normalise(?, ?, ?, ?, ?) as text)"
         return self.written(self.ask(expression, *question[:3], self.text(question[3])))
 
-    def compare(self, *question):
+    def compare(self, *question: Any) -> Answer | None:
         texts = [self.text(data) for data in question[3:]]
         return ("-", 0, 0, b"") if self.ask("bcs_equal(?, ?, ?, ?, ?, ?)", *question[:3], *texts) else None
 
-    def scan(self, *question):
+    def scan(self, *question: Any) -> Answer:
         return "-", 0, self.ask("bcs_scan(?, ?, ?, ?, ?)", *question), b""
 
-    def part(self, *question):
+    def part(self, *question: Any) -> Answer | None:
         words = question[3], self.text(question[4])
         data = self.ask("bcs_part(?, ?, ?, ?, ?, ?)", *question[:3], *words)
         if data is None:
@@ -157,8 +181,9 @@ class Calls:
             raise SystemExit("driver: a part isn't at its place")
         return "-", place, len(data), b""
 
-    def explain(self, *question):
-        """The text, and of damage the fault and its place, which bcs_fault has to report as the text does, but for the path."""
+    def explain(self, *question: Any) -> Answer:
+        """The text, and for invalid bytes the fault and its place. bcs_fault must report the same, except for the
+        path."""
         text = self.ask("bcs_explain(?, ?, ?, ?, ?, ?)", *question)
         lines = self.ask("bcs_explain(?, ?, ?, ?, ?, ?)", *question[:4], "json").splitlines()
         last = {name: member for name, member in json.loads(lines[-1]).items() if name != "path"}
@@ -169,28 +194,35 @@ class Calls:
         return last.get("refused", "-"), place, len(text.encode()), text.encode()
 
 
-def answer(calls, words):
-    """SQL has no such calls as these, and a format that is no JSON is a container's name there."""
-    call, *words = words
+def answer(calls: Calls, line: str) -> tuple[str, ...]:
+    """SQL lacks some calls, and takes a format that isn't JSON for the name of a container."""
+    call, *words = line.split("\t")
     if call in ("grows", "fault_name", "text_place", "stop_place", "registry_place"):
         raise Unsayable
     registry, format = (bytes.fromhex(word) for word in words[:2])
     if format[:1] not in (b"{", b'"'):
         raise Unsayable
     rest = [word if call == "explain" and place == 1 else bytes.fromhex(word) for place, word in enumerate(words[4:])]
-    told = getattr(calls, call)(calls.database.registry(registry), calls.text(format), (int(words[3]), int(words[2])), *rest)
+    told = getattr(calls, call)(
+        calls.database.registry(registry), calls.text(format), (int(words[3]), int(words[2])), *rest
+    )
     if told is None:
         return "no", "-", "0", "0", ""
     fault, place, length, output = told
     return "done", fault, str(place), str(length), output.hex()
 
 
-def main():
+def connected(kind: str, where: str) -> Database:
+    kinds: dict[str, Callable[[str], Database]] = {"sqlite": Sqlite, "postgresql": Postgresql}
+    return kinds[kind](where)
+
+
+def main() -> None:
     kind, where = sys.argv[1:]
-    calls = Calls({"sqlite": Sqlite, "postgresql": Postgresql}[kind](where))
+    calls = Calls(connected(kind, where))
     for line in sys.stdin:
         try:
-            told = "\t".join(answer(calls, line.rstrip("\n").split("\t")))
+            told = "\t".join(answer(calls, line.rstrip("\n")))
         except Answered as refused:
             told = "\t".join(refused.args)
         except Unsayable:

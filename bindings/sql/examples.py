@@ -1,17 +1,19 @@
-"""Runs the statements of a README that have an answer behind them, `select ..; -- answer`, and compares.
+"""Runs the statements of a README that are followed by a result, `select ..; -- result`, and compares.
 
     /usr/bin/python3 bindings/sql/examples.py sqlite EXTENSION README
     /usr/bin/python3 bindings/sql/examples.py postgresql CONNECTION README
 """
 
+from __future__ import annotations
+
 import pathlib
 import re
 import sys
 
-from driver import Answered, Postgresql, Sqlite
+from driver import Answered, Database, connected
 
 
-def answered(database, statement):
+def result(database: Database, statement: str) -> str:
     try:
         value = database.value(statement.removeprefix("select "))
     except Answered as refused:
@@ -19,16 +21,16 @@ def answered(database, statement):
     return "null" if value is None else str(value)
 
 
-def main():
+def main() -> int:
     kind, where, readme = sys.argv[1:]
-    database = {"sqlite": Sqlite, "postgresql": Postgresql}[kind](where)
+    database = connected(kind, where)
     rows = re.findall(r"^(select .*); +-- (.*)$", pathlib.Path(readme).read_text(encoding="utf-8"), re.MULTILINE)
     wrong = 0
-    for statement, wanted in rows:
-        told = answered(database, statement)
-        if told != wanted:
+    for statement, expected in rows:
+        found = result(database, statement)
+        if found != expected:
             wrong += 1
-            print(f"examples: FAILED: {statement}\n  wanted {wanted}\n  answer {told}")
+            print(f"examples: FAILED: {statement}\n  expected {expected}\n  result   {found}")
     print(f"examples: {len(rows) - wrong} passed, {wrong} failed")
     return 1 if wrong or not rows else 0
 

@@ -1,10 +1,13 @@
-"""Times 100,000 transfers in PostgreSQL, in SQLite, by Dask and through a pipe: processor seconds, and rows for each of them.
+"""Times 100,000 transfers in PostgreSQL, in SQLite, with Dask and in a pipe: processor seconds, and rows per second of
+them.
 
     /usr/bin/python3 bindings/sql/timings.py pipe PROGRAM
     /usr/bin/python3 bindings/sql/timings.py sqlite EXTENSION
     /usr/bin/python3 bindings/sql/timings.py postgresql CONNECTION      a database with the extension `bcs`
     /usr/bin/python3 bindings/sql/timings.py dask LIBRARY               the module `bcs_proved` on the path
 """
+
+from __future__ import annotations
 
 import os
 import pathlib
@@ -13,6 +16,8 @@ import subprocess
 import sys
 import tempfile
 import threading
+from collections.abc import Iterable, Iterator
+from typing import Any
 
 ROOT = pathlib.Path(__file__).resolve().parent.parent.parent
 COUNT = 100_000
@@ -21,40 +26,42 @@ TRANSFER = bytes.fromhex((ROOT / "examples/aptos_transfer.hex").read_text(encodi
 FORMAT = "RawTransaction"
 
 
-def transfers():
+def transfers() -> Iterator[bytes]:
     """Each has a sequence number of its own."""
     for number in range(COUNT):
         yield TRANSFER[:32] + number.to_bytes(8, "little") + TRANSFER[40:]
 
 
-def tell(what, seconds, count=COUNT):
-    print(f"| {what} | {seconds:.2f} | {count / seconds:,.0f} |", flush=True)
+def tell(what: str, seconds: float) -> None:
+    print(f"| {what} | {seconds:.2f} | {COUNT / seconds:,.0f} |", flush=True)
 
 
-def spent_here():
-    usage = resource.getrusage(resource.RUSAGE_SELF)
+def spent(who: int) -> float:
+    """Processor seconds of this process, or of its children that have ended."""
+    usage = resource.getrusage(who)
     return usage.ru_utime + usage.ru_stime
 
 
-def spent_by(pid):
+def spent_by(pid: int) -> float:
     fields = pathlib.Path(f"/proc/{pid}/stat").read_text().rsplit(")", 1)[1].split()
     return (int(fields[11]) + int(fields[12])) / os.sysconf("SC_CLK_TCK")
 
 
-def pipe(program):
+def pipe(program: str) -> None:
     registry = str(ROOT / "examples/aptos_registry.json")
     digits = "".join(transfer.hex() + "\n" for transfer in transfers()).encode()
-    texts = None
-    for command, given in [("scan", digits), ("decode", digits), ("encode", None)]:
-        before = resource.getrusage(resource.RUSAGE_CHILDREN)
+    texts = b""
+    for command in ["scan", "decode", "encode"]:
+        before = spent(resource.RUSAGE_CHILDREN)
         words = [program, command, "--quiet", "--lines", registry, FORMAT]
-        told = subprocess.run(words, input=given or texts, check=True, capture_output=True).stdout
-        after = resource.getrusage(resource.RUSAGE_CHILDREN)
-        texts = told if command == "decode" else texts
-        tell(f"`bcs {command} --lines`", after.ru_utime + after.ru_stime - before.ru_utime - before.ru_stime)
+        given = texts if command == "encode" else digits
+        printed = subprocess.run(words, input=given, check=True, capture_output=True).stdout
+        if command == "decode":
+            texts = printed
+        tell(f"`bcs {command} --lines`", spent(resource.RUSAGE_CHILDREN) - before)
 
 
-def sqlite(extension):
+def sqlite(extension: str) -> None:
     import sqlite3
 
     database = sqlite3.connect(":memory:")
@@ -71,17 +78,30 @@ def sqlite(extension):
         ("`bcs_decode`", "select count(bcs_decode(?, ?, bytes)) from transfers"),
         ("`bcs_decode(..) ->> 'sender'`", "select count(bcs_decode(?, ?, bytes) ->> 'sender') from transfers"),
         ("`bcs_encode`", "select count(bcs_encode(?, ?, value)) from transfers"),
-        ("`bcs_decode`, the registry from a joined table",
-         "select count(bcs_decode(registry, 'RawTransaction', bytes)) from transfers, registries where ? <> ?"),
+        (
+            "`bcs_decode`, the registry from a joined table",
+            "select count(bcs_decode(registry, 'RawTransaction', bytes)) from transfers, registries where ? <> ?",
+        ),
     ]
     for what, statement in statements:
-        start = spent_here()
+        before = spent(resource.RUSAGE_SELF)
         database.execute(statement, [REGISTRY, FORMAT]).fetchone()
-        tell(what, spent_here() - start)
+        tell(what, spent(resource.RUSAGE_SELF) - before)
 
 
-def in_backends(connection, statement, count):
-    """The statement over a part of the rows in each of so many backends, at once."""
+def at_once(cursors: list[Any], statements: list[str]) -> None:
+    """Executes a statement with each cursor, at the same time."""
+    threads = [
+        threading.Thread(target=cursor.execute, args=[statement]) for cursor, statement in zip(cursors, statements)
+    ]
+    for thread in threads:
+        thread.start()
+    for thread in threads:
+        thread.join()
+
+
+def in_backends(connection: str, statement: str, count: int) -> float:
+    """Processor seconds of COUNT backends, which execute the statement at once, each over its part of the rows."""
     import psycopg2
 
     sessions = [psycopg2.connect(connection) for _ in range(count)]
@@ -93,21 +113,15 @@ def in_backends(connection, statement, count):
         cursor.execute(statement % "id = 0")
     before = sum(map(spent_by, pids))
     share = COUNT // count
-    threads = [
-        threading.Thread(target=cursor.execute, args=[statement % f"id > {number * share} and id <= {(number + 1) * share}"])
-        for number, cursor in enumerate(cursors)
-    ]
-    for thread in threads:
-        thread.start()
-    for thread in threads:
-        thread.join()
+    parts = [f"id > {number * share} and id <= {(number + 1) * share}" for number in range(count)]
+    at_once(cursors, [statement % part for part in parts])
     spent = sum(map(spent_by, pids)) - before
     for session in sessions:
         session.close()
     return spent
 
 
-def postgresql(connection):
+def make_tables(connection: str) -> None:
     import psycopg2
 
     with psycopg2.connect(connection) as session, session.cursor() as cursor:
@@ -124,6 +138,10 @@ def postgresql(connection):
             "update transfers set value = bcs_decode('aptos', 'RawTransaction', bytes),"
             " text = bcs_decode_json('aptos', 'RawTransaction', bytes)"
         )
+
+
+def postgresql(connection: str) -> None:
+    make_tables(connection)
     statements = [
         ("`length(bytes)`, to compare", "sum(length(bytes))"),
         ("`length(value::text)` of `jsonb`, to compare", "sum(length(value::text))"),
@@ -142,32 +160,38 @@ def postgresql(connection):
             tell(f"{what}, {count} backend{'s' if count > 1 else ''}", spent)
 
 
-def dask(library):
+def time_of(processes: Iterable[Any]) -> float:
+    return float(sum(sum(process.cpu_times()[:2]) for process in processes))
+
+
+def write_files(folder: pathlib.Path) -> None:
+    """All transfers, in 20 files."""
+    folder.mkdir()
+    lines = [transfer.hex() + "\n" for transfer in transfers()]
+    for file in range(20):
+        (folder / f"{file:02}.hex").write_text("".join(lines[file * COUNT // 20 : (file + 1) * COUNT // 20]))
+
+
+def dask(library: str) -> None:
     os.environ["BCS_LIBRARY"] = library
     sys.path.insert(0, str(ROOT / "examples"))
     import dask_decode
     import psutil
     from dask.distributed import Client, LocalCluster
 
-    def spent(processes):
-        return sum(sum(process.cpu_times()[:2]) for process in processes)
-
     with tempfile.TemporaryDirectory() as room:
         folder, out = pathlib.Path(room) / "given", pathlib.Path(room) / "out"
-        folder.mkdir()
+        write_files(folder)
         out.mkdir()
-        lines = [transfer.hex() + "\n" for transfer in transfers()]
-        for file in range(20):
-            (folder / f"{file:02}.hex").write_text("".join(lines[file * COUNT // 20 : (file + 1) * COUNT // 20]))
         for count in 1, 2, 4:
             words = {"n_workers": count, "threads_per_worker": 1, "memory_limit": 0, "dashboard_address": None}
             with LocalCluster(local_directory=room, **words) as cluster, Client(cluster) as client:
                 client.wait_for_workers(count)
                 client.upload_file(dask_decode.__file__)
                 processes = [psutil.Process(), *psutil.Process().children(recursive=True)]
-                before = spent(processes)
+                before = time_of(processes)
                 dask_decode.decode_folder(client, REGISTRY, FORMAT, folder, out)
-                tell(f"`dask_decode.py`, {count} worker{'s' if count > 1 else ''}", spent(processes) - before)
+                tell(f"`dask_decode.py`, {count} worker{'s' if count > 1 else ''}", time_of(processes) - before)
 
 
 if __name__ == "__main__":

@@ -1,19 +1,24 @@
-"""Kinds of JSON at formats, for the tests of both databases: the bytes that docs/FORMAT.md gives them, or that they are rejected.
+"""JSON documents at formats, for the tests of both databases: the bytes that docs/FORMAT.md specifies, or a rejection.
 Nothing here calls what is tested."""
+
+from __future__ import annotations
 
 import json
 import re
 from decimal import Decimal
+from typing import Any
 
-REGISTRY = '{"P":{"STRUCT":[{"to":"STR"},{"amount":"U64"}]},"E":{"ENUM":{"0":{"Stop":"UNIT"},"1":{"Send":{"NEWTYPE":"U8"}}}}}'
+REGISTRY = (
+    '{"P":{"STRUCT":[{"to":"STR"},{"amount":"U64"}]},"E":{"ENUM":{"0":{"Stop":"UNIT"},"1":{"Send":{"NEWTYPE":"U8"}}}}}'
+)
 STRUCT, ENUM = {"TYPENAME": "P"}, {"TYPENAME": "E"}
 
 
 class Number(str):
-    """A number of JSON as it is written."""
+    """A JSON number as it is written."""
 
 
-def length(number):
+def length(number: int) -> bytes:
     data = bytearray()
     while number > 127:
         data.append(number & 127 | 128)
@@ -22,14 +27,14 @@ def length(number):
 
 
 class Rejected(Exception):
-    pass
+    """The document represents no value of the format."""
 
 
-def whole(written, is_jsonb):
-    """The whole number that a JSON number holds. jsonb keeps the value and the digits behind the point, and no exponent."""
+def integer(written: str, is_jsonb: bool) -> int:
+    """The integer that a JSON number holds. jsonb stores the value and the digits after the point, and no exponent."""
     if is_jsonb:
         parts = re.fullmatch(r"(-?\d+)(?:\.(\d+))?(?:[eE]([+-]?\d+))?", written)
-        if len(parts[2] or "") > int(parts[3] or 0):
+        if not parts or len(parts[2] or "") > int(parts[3] or 0):
             raise Rejected
         written = str(int(Decimal(written)))
     if not re.fullmatch(r"0|-?[1-9]\d*", written) or not -(2**63) <= int(written) < 2**64:
@@ -37,9 +42,9 @@ def whole(written, is_jsonb):
     return int(written)
 
 
-def encoded_number(format, given, is_jsonb):
+def encoded_number(format: str, given: Any, is_jsonb: bool) -> bytes:
     if isinstance(given, Number):
-        number = whole(given, is_jsonb)
+        number = integer(given, is_jsonb)
     elif isinstance(given, str) and re.fullmatch(r"0|-?[1-9]\d*", given):
         number = int(given)
     else:
@@ -50,24 +55,24 @@ def encoded_number(format, given, is_jsonb):
         raise Rejected from None
 
 
-def encoded_word(format, given, is_jsonb):
-    """At a format without parts."""
+def encoded_word(format: str, given: Any, is_jsonb: bool) -> bytes:
+    """For a format without parts."""
     if re.fullmatch(r"[UI]\d+", format):
         return encoded_number(format, given, is_jsonb)
-    is_text = isinstance(given, str) and not isinstance(given, Number)
+    text = given if isinstance(given, str) and not isinstance(given, Number) else None
     if format == "UNIT" and given is None:
         return b""
     if format == "BOOL" and isinstance(given, bool):
         return bytes([given])
-    if format == "STR" and is_text:
-        return length(len(given.encode())) + given.encode()
-    if format == "BYTES" and is_text and re.fullmatch("([0-9a-fA-F]{2})*", given):
-        return length(len(given) // 2) + bytes.fromhex(given)
+    if format == "STR" and text is not None:
+        return length(len(text.encode())) + text.encode()
+    if format == "BYTES" and text is not None and re.fullmatch("([0-9a-fA-F]{2})*", text):
+        return length(len(text) // 2) + bytes.fromhex(text)
     raise Rejected
 
 
-def encoded_parts(format, given, is_jsonb):
-    (kind, of), = format.items()
+def encoded_parts(format: dict[str, Any], given: Any, is_jsonb: bool) -> bytes:
+    ((kind, of),) = format.items()
     if kind == "OPTION":
         if given is None:
             return b"\0"
@@ -92,33 +97,123 @@ def encoded_parts(format, given, is_jsonb):
     raise Rejected
 
 
-def encoded(format, given, is_jsonb):
-    return (encoded_word if isinstance(format, str) else encoded_parts)(format, given, is_jsonb)
+def encoded(format: Any, given: Any, is_jsonb: bool) -> bytes:
+    if isinstance(format, str):
+        return encoded_word(format, given, is_jsonb)
+    return encoded_parts(format, given, is_jsonb)
 
 
-def digits_of(format, text, is_jsonb=False):
-    """The bytes of a value as hexadecimal digits; none if the JSON document represents no value of the format."""
+def digits_of(format: Any, text: str, is_jsonb: bool = False) -> str | None:
+    """The bytes of a value in hexadecimal; None if the JSON document represents no value of the format."""
     try:
         return encoded(format, json.loads(text, parse_int=Number, parse_float=Number), is_jsonb).hex()
     except Rejected:
         return None
 
 
-FORMATS = [
-    *(f"{sign}{bits}" for sign in "UI" for bits in (8, 16, 32, 64, 128)), "UNIT", "BOOL", "STR", "BYTES", "F32", "F64", "CHAR",
-    {"OPTION": "U8"}, {"OPTION": "UNIT"}, {"SEQ": "U8"}, {"SEQ": "U16"}, {"SEQ": "STR"}, {"TUPLE": ["U8", "BOOL"]},
-    {"MAP": {"KEY": "STR", "VALUE": "U8"}}, STRUCT, ENUM,
+FORMATS: list[Any] = [
+    *(f"{sign}{bits}" for sign in "UI" for bits in (8, 16, 32, 64, 128)),
+    "UNIT",
+    "BOOL",
+    "STR",
+    "BYTES",
+    "F32",
+    "F64",
+    "CHAR",
+    {"OPTION": "U8"},
+    {"OPTION": "UNIT"},
+    {"SEQ": "U8"},
+    {"SEQ": "U16"},
+    {"SEQ": "STR"},
+    {"TUPLE": ["U8", "BOOL"]},
+    {"MAP": {"KEY": "STR", "VALUE": "U8"}},
+    STRUCT,
+    ENUM,
 ]
 NUMBERS = [
-    "0", "7", "-7", "127", "128", "255", "256", "-128", "-129", "65535", "65536", str(2**53 - 1), str(2**53), str(2**53 + 1),
-    str(2**63 - 1), str(2**63), str(-(2**63)), str(-(2**63) - 1), str(2**64 - 1), str(2**64), str(2**128 - 1), str(2**128),
+    "0",
+    "7",
+    "-7",
+    "127",
+    "128",
+    "255",
+    "256",
+    "-128",
+    "-129",
+    "65535",
+    "65536",
+    str(2**53 - 1),
+    str(2**53),
+    str(2**53 + 1),
+    str(2**63 - 1),
+    str(2**63),
+    str(-(2**63)),
+    str(-(2**63) - 1),
+    str(2**64 - 1),
+    str(2**64),
+    str(2**128 - 1),
+    str(2**128),
 ]
 TEXTS = [
-    *NUMBERS, *(f'"{number}"' for number in NUMBERS), "1.0", "1.5", "1e3", "1E0", "1.5e1", "1.50e1", "10e-1", "-0", "-0.0", "0e0",
-    "9007199254740993.0", "9.007199254740993e15", "1.8446744073709551615e19", "1e40", "1e-40", '"1.0"', '"1e3"', '"07"', '"+7"',
-    '" 7"', '"-0"', '""', '"0x07"', '"0a"', '"0A"', '"bob"', '"true"', '"null"', '"é"', "true", "false", "null", "[]", "[7]",
-    "[7.0]", "[256]", '["7"]', "[true]", "[7,true]", "[7,1]", '["a","b"]', '[["a",7]]', '[["b",1],["a",2]]', '[["a",1],["a",2]]',
-    "{}", '{"some":7}', '{"some":null}', '{"a":7}', '{"to":"bob","amount":7}', '{"amount":"7","to":"bob"}', '{"to":"bob"}',
-    '{"to":"bob","amount":7.0}', '{"to":7,"amount":7}', '{"to":"bob","amount":7,"more":1}', '"Stop"', '{"Stop":null}', '{"Send":7}',
-    '{"Send":"7"}', '"Send"',
+    *NUMBERS,
+    *(f'"{number}"' for number in NUMBERS),
+    "1.0",
+    "1.5",
+    "1e3",
+    "1E0",
+    "1.5e1",
+    "1.50e1",
+    "10e-1",
+    "-0",
+    "-0.0",
+    "0e0",
+    "9007199254740993.0",
+    "9.007199254740993e15",
+    "1.8446744073709551615e19",
+    "1e40",
+    "1e-40",
+    '"1.0"',
+    '"1e3"',
+    '"07"',
+    '"+7"',
+    '" 7"',
+    '"-0"',
+    '""',
+    '"0x07"',
+    '"0a"',
+    '"0A"',
+    '"bob"',
+    '"true"',
+    '"null"',
+    '"é"',
+    "true",
+    "false",
+    "null",
+    "[]",
+    "[7]",
+    "[7.0]",
+    "[256]",
+    '["7"]',
+    "[true]",
+    "[7,true]",
+    "[7,1]",
+    '["a","b"]',
+    '[["a",7]]',
+    '[["b",1],["a",2]]',
+    '[["a",1],["a",2]]',
+    "{}",
+    '{"some":7}',
+    '{"some":null}',
+    '{"a":7}',
+    '{"to":"bob","amount":7}',
+    '{"amount":"7","to":"bob"}',
+    '{"to":"bob"}',
+    '{"to":"bob","amount":7.0}',
+    '{"to":7,"amount":7}',
+    '{"to":"bob","amount":7,"more":1}',
+    '"Stop"',
+    '{"Stop":null}',
+    '{"Send":7}',
+    '{"Send":"7"}',
+    '"Send"',
 ]

@@ -1,4 +1,4 @@
-"""What bindings/web/module changes between clang's steps: other names, or other instructions of the same meaning."""
+"""What bindings/web/module.py changes between clang's steps: names, or instructions for others of the same meaning."""
 
 import re
 
@@ -17,13 +17,13 @@ ALONE = {
 
 
 def with_plain_names(code: str) -> str:
-    """The LLVM module with names that an assembler takes, in place of those between quotation marks."""
+    """The LLVM module with names that an assembler accepts, in place of those between quotation marks."""
     names: dict[str, str] = {}
     return re.sub(r'@"[^"]*"', lambda it: names.setdefault(it[0], f"@plain.{len(names)}"), code)
 
 
 def by_shuffles(code: str) -> str:
-    """The LLVM module with the bytes of a number turned round by one shuffle, and not by some thirty shifts."""
+    """The LLVM module with the bytes of a number reversed by one shuffle, and not by some thirty shifts."""
 
     def shuffle(found: re.Match[str]) -> str:
         result, number = found.groups()
@@ -40,7 +40,7 @@ def by_shuffles(code: str) -> str:
 
 
 def by_whole_loads(words: str) -> str:
-    """WebAssembly's words without loads and stores of a vector's parts, which wasm-opt 108 leaves with wide addresses."""
+    """WebAssembly's words without loads and stores of a vector's parts. wasm-opt 108 leaves wide addresses in those."""
     heads = list(HEAD.finditer(words))
     if not heads:
         return words
@@ -50,7 +50,7 @@ def by_whole_loads(words: str) -> str:
 
 
 def whole_function(head: re.Match[str], body: str) -> str:
-    """A function's head and what follows it. It gets three variables: for a vector and for a part of either width."""
+    """A function's head and what follows it, with three more variables: for a vector and for a part of either width."""
     if not PART.search(body):
         return head[0] + body
     own = head[2].split(", ") if head[2] else []
@@ -60,7 +60,7 @@ def whole_function(head: re.Match[str], body: str) -> str:
 
 
 def alone(found: re.Match[str], vector: int) -> str:
-    """The part is read or written alone. Where a vector lies on its address, that is put aside."""
+    """Reads or writes the part alone. A vector that is above its address on the stack is put aside."""
     way, bits, kind, place, lane = found.groups()
     load, store, shape = ALONE[int(bits)]
     part = vector + (2 if bits == "64" else 1)

@@ -1,6 +1,8 @@
-"""Compares proved.h with the proved crate's sources: the names of the calls and their parameters, and the fields of the structs;
-and the numbers of statuses, faults and forms in include/bcs.h, and the fields of an answer. layout.c has the offsets of the
-fields. That library.c defines the calls that bcs.h declares is checked by the compiler, and by `test` that it defines them all.
+"""Compares proved.h with the proved crate's sources: the names of the calls and their parameters, and the fields of the
+structs; and the numbers of statuses, faults and forms in include/bcs.h, and the fields of an answer.
+
+layout.c checks the offsets of the fields. The compiler checks that library.c defines calls as bcs.h declares them, and
+test.sh that it defines all of them.
 
     python3 bindings/c/tests/header.py [CRATE]      CRATE: the folder of the crate; without it crates/bcs_c
 """
@@ -82,7 +84,9 @@ def numbers(code: str, fronts: dict[str, str]) -> dict[str, int]:
 
 def forms_of(code: str) -> dict[str, int]:
     """The arms `7 => Form::Variant`. Any other number is as the first form, which need not have an arm."""
-    found = {"BCS_" + in_capitals(variant): int(number) for number, variant in re.findall(r"(\d+) => Form::(\w+)", code)}
+    found = {
+        "BCS_" + in_capitals(variant): int(number) for number, variant in re.findall(r"(\d+) => Form::(\w+)", code)
+    }
     for variant in re.findall(r"\b_ => Form::(\w+)", code):
         found.setdefault("BCS_" + in_capitals(variant), 0)
     return found

@@ -1,9 +1,15 @@
-"""What hostile input costs: the time of a call, the time until a query is cancelled, and the memory of a fault. PGHOST and PGUSER
-name the server."""
+"""Tests what hostile input costs: the time of a call, the time until a query is cancelled, and the memory of a fault.
+
+PGHOST and PGUSER name the server.
+"""
+
+from __future__ import annotations
 
 import json
 import pathlib
+import time
 import unittest
+from collections.abc import Iterator
 
 from sessions import Database, address_space, process_memory, refusal, run, value
 
@@ -11,7 +17,7 @@ MOST = 50000  # the default of bcs.max_nodes
 ALL = 4294967295
 
 
-def length(number):
+def length(number: int) -> bytes:
     """ULEB128, as docs/FORMAT.md has it."""
     data = bytearray()
     while number > 127:
@@ -20,7 +26,7 @@ def length(number):
     return bytes(data) + bytes([number])
 
 
-def doubling(count):
+def doubling(count: int) -> str:
     """Each container has two of the next, and the last one has no bytes: few bytes have 2 ** count nodes."""
     pair = [{"TYPENAME": f"T{number + 1}"} for number in range(count)]
     registry = {f"T{number}": {"TUPLESTRUCT": [pair[number], pair[number]]} for number in range(count)}
@@ -41,51 +47,71 @@ INPUTS = {
     "a long text": ("{}", '"STR"', length(100_000) + b"a" * 100_000),
 }
 CALLS = [
-    "bcs_is(%s, %s, %s, {})", "bcs_scan(%s, %s, %s, {})", "bcs_fault(%s, %s, %s, {})", "bcs_part_place(%s, %s, %s, '.', {})",
-    "length(bcs_decode(%s, %s, %s, {})::text)", "length(bcs_decode_json(%s, %s, %s, {})::text)",
-    "length(bcs_explain(%s, %s, %s, 'json', {}))", "length(bcs_explain(%s, %s, %s, 'ways', {}))",
+    "bcs_is(%s, %s, %s, {})",
+    "bcs_scan(%s, %s, %s, {})",
+    "bcs_fault(%s, %s, %s, {})",
+    "bcs_part_place(%s, %s, %s, '.', {})",
+    "length(bcs_decode(%s, %s, %s, {})::text)",
+    "length(bcs_decode_json(%s, %s, %s, {})::text)",
+    "length(bcs_explain(%s, %s, %s, 'json', {}))",
+    "length(bcs_explain(%s, %s, %s, 'ways', {}))",
 ]
 
 
 class Measured(Database):
     name = "hostile"
 
-    def setUp(self):
+    def setUp(self) -> None:
         super().setUp()
         self.pid = value(self.session, "select pg_backend_pid()")
         run(self.session, "set jit = off")
 
-    def spent(self):
+    def spent(self) -> float:
         """Processor milliseconds of the session."""
         return int(pathlib.Path(f"/proc/{self.pid}/schedstat").read_text().split()[0]) / 1e6
 
-    def cost(self, statement, *arguments, most=0.0):
+    def cost(self, statement: str, *arguments: object, most: float = 0.0) -> tuple[float, str]:
         """The least of some runs, up to one that takes less than `most`, and the SQLSTATE that it ends with."""
-        costs = []
+        costs: list[float] = []
         while len(costs) < 20 and min(costs, default=most) >= most:
             before = self.spent()
-            state = refusal(self.session, statement, *arguments)
+            state, _ = refusal(self.session, statement, *arguments)
             costs.append(self.spent() - before)
-        return min(costs), state and state[0]
+        return min(costs), state
+
+
+# Processor seconds of the loop below on a processor of 2.5 GHz that isn't shared, and how much slower a machine may be.
+USUAL, MOST_SLOWNESS = 0.09, 2.0
+
+
+def slowness() -> float:
+    """How many times slower this machine is now, between 1 and 2: two machines of one kind have differed by 1.7."""
+    spent = []
+    for _ in range(10):
+        start, total = time.process_time(), 0
+        for number in range(1_000_000):
+            total += number * number
+        spent.append(time.process_time() - start)
+    return min(max(1.0, min(spent) / USUAL), MOST_SLOWNESS)
 
 
 class Costs(Measured):
-    def test_calls(self):
-        """However many nodes a query allows, the setting keeps the call below 50 ms."""
-        worst = 0.0
+    def test_calls(self) -> None:
+        """However many nodes a query allows, the setting keeps the call below 50 ms on a usual machine."""
+        worst, most = 0.0, 50 * slowness()
         for what, question in INPUTS.items():
             for call in CALLS:
                 with self.subTest(input=what, call=call):
-                    cost, state = self.cost("select " + call.format(ALL), *question, most=50)
+                    cost, state = self.cost("select " + call.format(ALL), *question, most=most)
                     worst = max(worst, cost)
-                    self.assertLess(cost, 50)
-                    self.assertIn(state, [None, "54000"])
+                    self.assertLess(cost, most)
+                    self.assertIn(state, ["", "54000"])
                     if what.endswith("beyond all limits"):
                         self.assertEqual(state, "54000")
-        print(f"hostile: the slowest call took {worst:.1f} ms")
+        print(f"hostile: the slowest call took {worst:.1f} ms, and may take {most:.1f}")
 
-    def test_verdicts(self):
-        """The setting makes an error of a verdict, and never another one; the argument is part of the verdict."""
+    def test_verdicts(self) -> None:
+        """The setting turns a verdict into an error, never into another verdict. Only the argument changes verdicts."""
         bomb = "select {}('{{}}', '{{\"SEQ\":\"UNIT\"}}', '\\xffffffff07', {})"
         self.assertIs(value(self.session, bomb.format("bcs_is", 1000)), False)
         self.assertEqual(value(self.session, bomb.format("bcs_fault", MOST) + "->>'refused'"), "TooManyNodes")
@@ -104,20 +130,20 @@ class Costs(Measured):
         run(self.session, "set bcs.max_nodes = -1")
         self.assertIs(value(self.session, bomb.format("bcs_is", ALL)), True)
 
-    def ends(self, state, most, statement, *arguments):
-        """A statement ends so, and takes at most so many milliseconds of processor time, which other processes can't lengthen."""
+    def ends(self, state: str, most: float, statement: str, *arguments: object) -> None:
+        """A statement ends with this state, after `most` milliseconds of processor time at most."""
         before = self.spent()
         self.assertEqual(refusal(self.session, statement, *arguments)[0], state)
         self.assertLess(self.spent() - before, most)
 
-    def test_timeout(self):
-        """A query of many calls ends when it is to end, and one call with all nodes long before."""
+    def test_timeout(self) -> None:
+        """A query with many calls ends at the timeout, and one call with all nodes long before."""
         run(self.session, "set statement_timeout = '1s'")
         self.ends("54000", 100, f"select bcs_scan(%s, 'T0', '', {ALL})", doubling(40))
         calls = f"select count(bcs_is(%s, 'T26', '', {MOST})) from generate_series(1, 1000000) as n"
         self.ends("57014", 1200, calls, doubling(40))
 
-    def test_building(self):
+    def test_building(self) -> None:
         """A call that builds something ends when it is cancelled, also with all nodes, and with a text of 100 MB."""
         run(self.session, "set bcs.max_nodes = -1")
         run(self.session, "set statement_timeout = '200ms'")
@@ -131,25 +157,29 @@ class Costs(Measured):
 
 
 class Faults(Measured):
-    """The last byte of a list is bad. bcs_fault finds that like bcs_is, and walks twice more for the place and what was expected. Under
-    a long key the way there is long, too."""
+    """The last byte of a list is bad. bcs_fault finds that like bcs_is, and then walks twice more.
 
-    def inputs(self, size):
-        """A list, and one under a long key, which is part of the way to each of its elements."""
+    That is for the place and for what was expected. Under a long key the path to the place is long, too.
+    """
+
+    def inputs(self, size: int) -> Iterator[tuple[str, str, bytes, str]]:
+        """A list, and one under a long key, which is part of the path to each of its elements."""
         yield "{}", '{"SEQ":"BOOL"}', length(size) + b"\1" * (size - 1) + b"\2", f"[{size - 1}]"
         half = size // 2
         listed = length(half) + b"\1" * (half - 1) + b"\2"
         map = '{"MAP":{"KEY":"STR","VALUE":{"SEQ":"BOOL"}}}'
         yield "{}", map, b"\1" + length(half) + b"k" * half + listed, f"[{half - 1}]"
 
-    def test_sizes(self):
+    def test_sizes(self) -> None:
         run(self.session, "set bcs.max_nodes = -1")
         for size in 40_000, 400_000:
             for registry, format, data, end in self.inputs(size):
                 with self.subTest(size=size, format=format):
                     question = registry, format, data
                     fault = value(self.session, "select bcs_fault(%s, %s, %s, 1000000)", *question)
-                    self.assertEqual((fault["refused"], fault["place"], fault["want"]), ("BadBool", len(data) - 1, "BOOL"))
+                    self.assertEqual(
+                        (fault["refused"], fault["place"], fault["want"]), ("BadBool", len(data) - 1, "BOOL")
+                    )
                     self.assertTrue(fault["name"].endswith(end))
                     judged = self.cost("select bcs_is(%s, %s, %s, 1000000)", *question)[0]
                     most = 6 * judged + len(data) / 10_000
@@ -157,7 +187,7 @@ class Faults(Measured):
                     self.assertLess(cost, most)
                     print(f"hostile: bcs_fault of {len(data)} bytes took {cost:.1f} ms, and bcs_is {judged:.1f}")
 
-    def test_memory(self):
+    def test_memory(self) -> None:
         """It needs little memory in addition to its input."""
         run(self.session, "set bcs.max_nodes = -1")
         for registry, format, data, _ in self.inputs(400_000):
@@ -165,8 +195,6 @@ class Faults(Measured):
             with address_space(self.pid, process_memory(self.pid, "VmSize") + (16 << 20)):
                 fault = value(self.session, "select bcs_fault(%s, %s, %s, 1000000)", registry, format, data)
             self.assertEqual(fault["refused"], "BadBool")
-
-
 
 
 if __name__ == "__main__":

@@ -1,23 +1,63 @@
-"""The owner of a database plants functions, operators and types that the extension might call by mistake, and a superuser then
-uses the extension. Nothing that was planted may run, and the owner may gain no right. PGHOST and PGUSER name the server."""
+"""Tests that the owner of a database can't gain rights through the extension.
+
+The owner plants functions, operators and types that the extension might call by mistake, and a superuser then uses the
+extension. Nothing that was planted may run. PGHOST and PGUSER name the server.
+"""
+
+from __future__ import annotations
 
 import unittest
+from typing import Any
 
 import psycopg2
 from sessions import PAYMENT, PAYMENTS, connect, refusal, run, value
 
 # Types of the arguments of planted functions: each fits a call of the extension's functions in some way.
 SIGNATURES = [
-    "text, text, text", "text, text, bytea", "text, text, bytea, int4", "text, text, bytea, int8", "text, text, bytea, int4, int4",
-    "text, text, json", "text, text, jsonb", "json, text, text", "json, text, bytea", "json, json, json", "jsonb, text, bytea",
-    "varchar, varchar, varchar", "name, name, name", "text, name, bytea", "text, text, text, text", "text, text, bytea, text",
-    "text, text, bytea, text, int4, int4", "anyelement, anyelement, anyelement", "anyelement, text, bytea",
-    "anynonarray, anynonarray, bytea", "VARIADIC text[]", "text, VARIADIC text[]", "regclass, text", "text, text", "name, text",
-    "regclass, unknown_text", "text", "regclass", "internal",
+    "text, text, text",
+    "text, text, bytea",
+    "text, text, bytea, int4",
+    "text, text, bytea, int8",
+    "text, text, bytea, int4, int4",
+    "text, text, json",
+    "text, text, jsonb",
+    "json, text, text",
+    "json, text, bytea",
+    "json, json, json",
+    "jsonb, text, bytea",
+    "varchar, varchar, varchar",
+    "name, name, name",
+    "text, name, bytea",
+    "text, text, text, text",
+    "text, text, bytea, text",
+    "text, text, bytea, text, int4, int4",
+    "anyelement, anyelement, anyelement",
+    "anyelement, text, bytea",
+    "anynonarray, anynonarray, bytea",
+    "VARIADIC text[]",
+    "text, VARIADIC text[]",
+    "regclass, text",
+    "text, text",
+    "name, text",
+    "regclass, unknown_text",
+    "text",
+    "regclass",
+    "internal",
 ]
 OPERATORS = ["~", "=", "<>", "->>", "||", "~~", "<", "@>"]
-OPERANDS = ["text, text", "text, varchar", "varchar, text", "name, text", "text, name", "text, bpchar", "json, text", "jsonb, text",
-            "anyelement, anyelement", "anyelement, text", "text, unknown_text"]
+OPERANDS = [
+    "text, text",
+    "text, varchar",
+    "varchar, text",
+    "name, text",
+    "text, name",
+    "text, bpchar",
+    "json, text",
+    "jsonb, text",
+    "anyelement, anyelement",
+    "anyelement, text",
+    "text, unknown_text",
+]
 TYPES = ["text", "bytea", "json", "jsonb", "int4", "int8", "bool", "regclass", "trigger", "internal"]
 
 PLANTING = """
@@ -37,7 +77,7 @@ end $$;
 """
 
 
-def planted(session, statement):
+def planted(session: Any, statement: str) -> bool:
     """Whether the server accepts a planted object. It refuses some, such as a function of `internal`."""
     try:
         run(session, statement)
@@ -46,8 +86,8 @@ def planted(session, statement):
         return False
 
 
-def plant(session, names):
-    """Returns how many objects were planted. Those of types come last, since they would hide the types of the others."""
+def plant(session: Any, names: list[str]) -> int:
+    """Returns how many objects were planted. Types come last, since they would hide the types in the other objects."""
     run(session, PLANTING)
     count = 0
     gain = "language plpgsql as $$ begin perform evil.gain('%s'); return true; end $$"
@@ -57,9 +97,10 @@ def plant(session, names):
             for types in SIGNATURES:
                 head = f'create function {schema}."{name}"({types}) returns boolean '
                 count += planted(session, head + gain % f"{name}({types})")
-        count += planted(session, f"create function {schema}.operate(text, text) returns boolean " + gain % "operate")
+        operate = f"create function {schema}.operate({{}}) returns boolean "
+        count += planted(session, operate.format("text, text") + gain % "operate")
         for types in OPERANDS:
-            planted(session, f"create function {schema}.operate({types}) returns boolean " + gain % f"operate({types})")
+            planted(session, operate.format(types) + gain % f"operate({types})")
             for operator in OPERATORS:
                 left, right = types.split(", ")
                 words = f"function = {schema}.operate, leftarg = {left}, rightarg = {right}"
@@ -73,7 +114,7 @@ def plant(session, names):
 class Rights(unittest.TestCase):
     """A server with the role `mallory`, who owns a database and no more."""
 
-    def setUp(self):
+    def setUp(self) -> None:
         self.server = connect("postgres")
         self.addCleanup(self.server.close)
         self.addCleanup(self.forget)
@@ -83,28 +124,39 @@ class Rights(unittest.TestCase):
         run(self.server, "create database rights")
         before = connect("rights")
         run(before, "create extension bcs")
-        names = "select array_agg(distinct proname::text) from pg_proc, pg_depend where objid = pg_proc.oid and deptype = 'e' " \
-                "and classid = 'pg_proc'::regclass and refobjid = (select oid from pg_extension where extname = 'bcs')"
-        self.names = value(before, names) + ["pg_extension_config_dump", "int8", "int4", "text", "bytea", "json", "textregexeq"]
+        names = (
+            "select array_agg(distinct proname::text) from pg_proc, pg_depend where objid = pg_proc.oid "
+            "and deptype = 'e' and classid = 'pg_proc'::regclass "
+            "and refobjid = (select oid from pg_extension where extname = 'bcs')"
+        )
+        self.names = value(before, names) + [
+            "pg_extension_config_dump",
+            "int8",
+            "int4",
+            "text",
+            "bytea",
+            "json",
+            "textregexeq",
+        ]
         before.close()
 
-    def forget(self):
+    def forget(self) -> None:
         for name in ["attacked", "rights"]:
             run(self.server, f"drop database if exists {name}")
         run(self.server, "drop role if exists mallory")
 
-    def mallory(self):
+    def mallory(self) -> Any:
         session = psycopg2.connect(dbname="attacked", user="mallory")
         session.autocommit = True
         self.addCleanup(session.close)
         return session
 
-    def superuser(self):
+    def superuser(self) -> Any:
         session = connect("attacked")
         self.addCleanup(session.close)
         return session
 
-    def use(self, schema, owner):
+    def use(self, schema: str, owner: Any) -> None:
         """What a superuser does, where each argument has its type."""
         session = self.superuser()
         run(session, f"insert into {schema}.bcs_registries values ('payments', %s)", PAYMENTS)
@@ -117,21 +169,25 @@ class Rights(unittest.TestCase):
             data = typed(PAYMENT, "bytea")
             self.assertIs(value(session, f"select {schema}.bcs_is({front}{data}{limits}"), True)
             self.assertEqual(value(session, f"select {schema}.bcs_scan({front}{data}{limits}"), 12)
-            self.assertEqual(value(session, f"select {schema}.bcs_decode({front}{data}{limits}"), {"to": "bob", "amount": "7"})
+            self.assertEqual(
+                value(session, f"select {schema}.bcs_decode({front}{data}{limits}"), {"to": "bob", "amount": "7"}
+            )
             text = typed('{"to":"bob","amount":7}', "text")
-            self.assertEqual(bytes(value(session, f"select {schema}.bcs_encode_json({front}{text}{limits}")).hex(), PAYMENT[2:])
+            self.assertEqual(
+                bytes(value(session, f"select {schema}.bcs_encode_json({front}{text}{limits}")).hex(), PAYMENT[2:]
+            )
         self.assertEqual(refusal(session, f"insert into {schema}.bcs_registries values ('bad', '7')")[0], "23514")
         run(session, f"delete from {schema}.bcs_registries")
         run(session, f"truncate {schema}.bcs_registries")
         run(session, "drop extension bcs")
         self.check_harmless(owner)
 
-    def check_harmless(self, owner):
+    def check_harmless(self, owner: Any) -> None:
         self.assertIs(value(self.server, "select rolsuper from pg_roles where rolname = 'mallory'"), False)
         self.assertEqual(value(owner, "select coalesce(array_agg(distinct what), '{}') from evil.ran"), [])
 
-    def test_planted_objects(self):
-        """Created where the search path leads, which is mallory's schema, in `public`, and in a schema of the superuser's."""
+    def test_planted_objects(self) -> None:
+        """Created where the search path leads (mallory's schema), in `public`, and in a schema of the superuser's."""
         owner = self.mallory()
         run(owner, "alter database attacked set search_path = evil, public, pg_catalog")
         count = plant(owner, self.names)
@@ -148,20 +204,22 @@ class Rights(unittest.TestCase):
         self.assertIs(value(self.superuser(), "select evil.gain('the test itself'::pg_catalog.text)"), True)
         self.assertIs(value(self.server, "select rolsuper from pg_roles where rolname = 'mallory'"), True)
 
-    def test_one_overload(self):
+    def test_one_overload(self) -> None:
         """An overload that fits untyped literals better than the extension's function does."""
         owner = self.mallory()
         run(owner, PLANTING)
-        run(owner, "create function public.bcs_is(text, text, text) returns boolean language sql as $$ select evil.gain('is') $$")
+        head = "create function public.bcs_is(text, text, text) returns boolean"
+        run(owner, f"{head} language sql as $$ select evil.gain('is') $$")
         run(self.superuser(), "create extension bcs")
         self.use("public", owner)
 
-    def test_objects_of_the_extension(self):
+    def test_objects_of_the_extension(self) -> None:
         """The owner of the schema can neither replace them, nor drop them alone, nor write to the table."""
         owner, session = self.mallory(), self.superuser()
         run(session, "create extension bcs")
         run(session, "insert into bcs_registries values ('payments', %s)", PAYMENTS)
-        head = "create or replace function bcs_is(registry text, format text, bytes bytea, nodes int8 default 1, depth int4 default 1)"
+        words = "registry text, format text, bytes bytea, nodes int8 default 1, depth int4 default 1"
+        head = f"create or replace function bcs_is({words})"
         for statement, state in [
             (head + " returns boolean language sql as 'select true'", "42501"),
             ("drop function bcs_is(text, text, bytea, int8, int4)", "2BP01"),
@@ -175,8 +233,8 @@ class Rights(unittest.TestCase):
         ]:
             self.assertEqual((statement, refusal(owner, statement)[0]), (statement, state))
 
-    def test_setting(self):
-        """Nobody but a superuser raises bcs.max_nodes: not before the library is loaded, and not for a role or the database."""
+    def test_setting(self) -> None:
+        """Only a superuser can raise bcs.max_nodes, also before the library is loaded, and for a role or a database."""
         run(self.superuser(), "create extension bcs")
         bomb = """select bcs_scan('{}', '{"SEQ":"UNIT"}', '\\xffffff07', 4294967295)"""
         for statement in [

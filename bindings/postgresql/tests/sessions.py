@@ -1,6 +1,10 @@
-"""What takes more than one session: names that another one changes, calls that are cancelled, want of memory in a backend, and
-memory over many calls; and databases of other encodings. The variables PGHOST and PGUSER say where the server is, and the
-extension isn't in its databases yet."""
+"""Tests what needs more than one session, and databases of other encodings.
+
+Such as names that another session changes, calls that are cancelled, running out of memory in a backend, and memory
+over many calls. The variables PGHOST and PGUSER name the server. Its databases don't have the extension yet.
+"""
+
+from __future__ import annotations
 
 import contextlib
 import json
@@ -12,6 +16,8 @@ import subprocess
 import threading
 import time
 import unittest
+from collections.abc import Iterator
+from typing import Any
 
 import psycopg2
 
@@ -23,41 +29,43 @@ PAYMENT = "\\x03626f620700000000000000"
 ENDLESS = """select bcs_decode_json('{}', '{"SEQ":"UNIT"}', '\\xffffff7f', 4294967295)"""
 
 
-def connect(database):
+def connect(database: str) -> Any:
     connection = psycopg2.connect(dbname=database)
     connection.autocommit = True
     return connection
 
 
-def value(connection, statement, *arguments):
+def value(connection: Any, statement: str, *arguments: object) -> Any:
     with connection.cursor() as cursor:
         cursor.execute(statement, arguments)
         return cursor.fetchone()[0]
 
 
-def run(connection, statement, *arguments):
+def run(connection: Any, statement: str, *arguments: object) -> None:
     with connection.cursor() as cursor:
         cursor.execute(statement, arguments)
 
 
-def refusal(connection, statement, *arguments):
-    """The SQLSTATE and the message of the error that a statement ends with."""
+def refusal(connection: Any, statement: str, *arguments: object) -> tuple[str, str]:
+    """The SQLSTATE and the message of the error that a statement ends with. Both are empty if it succeeds."""
     try:
         run(connection, statement, *arguments)
     except psycopg2.Error as fault:
         return fault.pgcode, fault.diag.message_primary
-    return None
+    return "", ""
 
 
-def process_memory(pid, name):
+def process_memory(pid: int, name: str) -> int:
     """A line of the process's status, in bytes."""
     status = pathlib.Path(f"/proc/{pid}/status").read_text()
-    return int(re.search(rf"^{name}:\s+(\d+) kB$", status, re.MULTILINE)[1]) * 1024
+    found = re.search(rf"^{name}:\s+(\d+) kB$", status, re.MULTILINE)
+    assert found
+    return int(found[1]) * 1024
 
 
 @contextlib.contextmanager
-def address_space(pid, length):
-    """For a while the process may have no more."""
+def address_space(pid: int, length: int) -> Iterator[None]:
+    """Limits the process's address space for a while."""
     before = resource.prlimit(pid, resource.RLIMIT_AS)
     resource.prlimit(pid, resource.RLIMIT_AS, (length, before[1]))
     try:
@@ -71,7 +79,7 @@ class Database(unittest.TestCase):
 
     name, options = "sessions", ""
 
-    def setUp(self):
+    def setUp(self) -> None:
         server = connect("postgres")
         run(server, f"drop database if exists {self.name}")
         run(server, f"create database {self.name} {self.options}")
@@ -79,7 +87,7 @@ class Database(unittest.TestCase):
         self.session = self.opened()
         run(self.session, "create extension bcs")
 
-    def opened(self):
+    def opened(self) -> Any:
         session = connect(self.name)
         self.addCleanup(session.close)
         return session
@@ -88,12 +96,12 @@ class Database(unittest.TestCase):
 class Names(Database):
     decoded = f"select bcs_decode_json('payments', 'Payment', '{PAYMENT}')::text"
 
-    def setUp(self):
+    def setUp(self) -> None:
         super().setUp()
         run(self.session, "insert into bcs_registries values ('payments', %s)", PAYMENTS)
         self.other = self.opened()
 
-    def test_change_by_another_session(self):
+    def test_change_by_another_session(self) -> None:
         self.assertEqual(value(self.other, self.decoded), '{"amount":"7","to":"bob"}')
         run(self.session, "begin")
         run(self.session, "update bcs_registries set registry = %s", OTHER)
@@ -102,10 +110,14 @@ class Names(Database):
         run(self.session, "commit")
         self.assertEqual(value(self.other, self.decoded), '{"cents":"7","to":"bob"}')
 
-    def test_change_within_a_transaction(self):
+    def test_change_within_a_transaction(self) -> None:
         """Of the session that asks, which locks no table in between. Also by a statement that was prepared."""
         run(self.other, f"prepare decoded as {self.decoded}")
-        for ask, level in [(self.decoded, "read committed"), (self.decoded, "repeatable read"), ("execute decoded", "read committed")]:
+        for ask, level in [
+            (self.decoded, "read committed"),
+            (self.decoded, "repeatable read"),
+            ("execute decoded", "read committed"),
+        ]:
             run(self.session, "update bcs_registries set registry = %s", PAYMENTS)
             run(self.other, f"begin isolation level {level}")
             self.assertEqual(value(self.other, ask), '{"amount":"7","to":"bob"}')
@@ -113,14 +125,15 @@ class Names(Database):
             self.assertEqual(value(self.other, ask), '{"cents":"7","to":"bob"}', (ask, level))
             run(self.other, "commit")
 
-    def test_change_that_fails(self):
+    def test_change_that_fails(self) -> None:
         """After a function in the statement has used the new text."""
-        run(self.session, f"create function used() returns text volatile language plpgsql as $$ begin return ({self.decoded}); end $$")
+        body = f"$$ begin return ({self.decoded}); end $$"
+        run(self.session, f"create function used() returns text volatile language plpgsql as {body}")
         change = "update bcs_registries set registry = %s returning 1 / (position('cents' in used()) * 0)"
         self.assertEqual(refusal(self.session, change.replace("%s", f"'{OTHER}'"))[0], "22012")
         self.assertEqual(value(self.session, self.decoded), '{"amount":"7","to":"bob"}')
 
-    def test_change_by_replication(self):
+    def test_change_by_replication(self) -> None:
         """Which fires the triggers of rows alone."""
         server = connect("postgres")
         self.addCleanup(server.close)
@@ -132,8 +145,12 @@ class Names(Database):
         self.assertEqual(value(reader, self.decoded), '{"amount":"7","to":"bob"}')
         run(self.session, "create publication names for table bcs_registries")
         value(self.session, "select count(*) from pg_create_logical_replication_slot('names', 'pgoutput')")
-        run(replica, f"""create subscription names connection 'host={os.environ["PGHOST"]} user={os.environ["PGUSER"]} dbname={self.name}'
-            publication names with (create_slot = false, slot_name = 'names', copy_data = false)""")
+        source = f"host={os.environ['PGHOST']} user={os.environ['PGUSER']} dbname={self.name}"
+        run(
+            replica,
+            f"""create subscription names connection '{source}'
+            publication names with (create_slot = false, slot_name = 'names', copy_data = false)""",
+        )
         try:
             run(self.session, "update bcs_registries set registry = %s", OTHER)
             end = time.monotonic() + 30
@@ -145,7 +162,7 @@ class Names(Database):
             replica.close()
             reader.close()
 
-    def test_older_snapshot(self):
+    def test_older_snapshot(self) -> None:
         """A name has the newest text, as catalogs have, and no older one stays open."""
         run(self.other, "begin isolation level repeatable read")
         value(self.other, "select count(*) from bcs_registries")
@@ -154,18 +171,21 @@ class Names(Database):
         run(self.other, "commit")
         self.assertEqual(value(self.other, self.decoded), '{"cents":"7","to":"bob"}')
 
-    def test_new_extension(self):
+    def test_new_extension(self) -> None:
         value(self.other, self.decoded)
         run(self.session, "drop extension bcs")
         run(self.session, "create extension bcs")
         self.assertEqual(refusal(self.other, self.decoded), ("22023", "bcs: no registry is called payments"))
 
-    def test_dump(self):
+    def test_dump(self) -> None:
         """With the names, an index that uses a text, and a view that uses a name."""
         run(self.session, "create table transfers (bytes bytea)")
         run(self.session, f"insert into transfers values ('{PAYMENT}')")
         run(self.session, "create index by_text on transfers ((bcs_decode(%s, 'Payment', bytes) ->> 'to'))", PAYMENTS)
-        run(self.session, "create view named as select bcs_decode('payments', 'Payment', bytes) ->> 'to' as recipient from transfers")
+        run(
+            self.session,
+            "create view named as select bcs_decode('payments', 'Payment', bytes) ->> 'to' as recipient from transfers",
+        )
         dump = subprocess.run(["pg_dump", self.name], check=True, capture_output=True).stdout
         server = connect("postgres")
         run(server, "drop database if exists restored")
@@ -185,11 +205,11 @@ class Names(Database):
 
 
 class Cancelling(Database):
-    def setUp(self):
+    def setUp(self) -> None:
         super().setUp()
         run(self.session, "set bcs.max_nodes = -1")
 
-    def test_timeout(self):
+    def test_timeout(self) -> None:
         run(self.session, "set statement_timeout = 300")
         start = time.monotonic()
         self.assertEqual(refusal(self.session, ENDLESS)[0], "57014")
@@ -197,10 +217,10 @@ class Cancelling(Database):
         run(self.session, "set statement_timeout = 0")
         self.assertIs(value(self.session, "select bcs_is('{}', '\"U8\"', '\\x07')"), True)
 
-    def test_end_of_session(self):
+    def test_end_of_session(self) -> None:
         """And of no other one, as a crash would have it."""
         other, pid = self.opened(), value(self.session, "select pg_backend_pid()")
-        told = []
+        told: list[tuple[str, str]] = []
         call = threading.Thread(target=lambda: told.append(refusal(self.session, ENDLESS)))
         call.start()
         time.sleep(0.3)
@@ -211,19 +231,19 @@ class Cancelling(Database):
 
 
 class Memory(Database):
-    def setUp(self):
+    def setUp(self) -> None:
         super().setUp()
         run(self.session, "set bcs.max_nodes = -1")
 
-    def test_want_of_memory(self):
-        """The error tells it, and the session goes on."""
+    def test_want_of_memory(self) -> None:
+        """The error reports it, and the session goes on."""
         pid = value(self.session, "select pg_backend_pid()")
         with address_space(pid, process_memory(pid, "VmSize") + (64 << 20)):
             self.assertEqual(refusal(self.session, ENDLESS), ("53200", "out of memory"))
         self.assertEqual(value(self.session, "select pg_backend_pid()"), pid)
 
-    def test_want_of_memory_anywhere(self):
-        """With any room that is too small a call and the reading of a registry are refused, and with enough they are right."""
+    def test_want_of_memory_anywhere(self) -> None:
+        """With too little memory a call and the reading of a registry fail, and with enough they are right."""
         call = """select length(bcs_encode_json(%s, 'A', '[' || repeat('true,', 299999) || 'true]', 1000000))"""
         registry = '{"A":{"NEWTYPESTRUCT":{"SEQ":"BOOL"}},"B":{"STRUCT":[%s]}}'
         fields = ",".join(f'{{"field{number}":"U64"}}' for number in range(20000))
@@ -239,8 +259,8 @@ class Memory(Database):
         self.assertEqual(value(self.session, call, registry % fields), 300003)
         self.assertEqual(value(self.session, "select pg_backend_pid()"), pid)
 
-    def test_many_calls(self):
-        """Also of refusals, a tenth of them. What the server's compiler of expressions takes isn't looked at."""
+    def test_many_calls(self) -> None:
+        """A tenth of them are refused. What the server's compiler of expressions allocates isn't measured."""
         calls = """do $$ begin
             perform count(bcs_decode_json(%s, 'Payment', set_byte(%s, 4, n %% 256))) from generate_series(1, %s) as n;
             for n in 1 .. %s loop
@@ -254,7 +274,7 @@ class Memory(Database):
         pid = value(self.session, "select pg_backend_pid()")
         run(self.session, "set jit = off")
 
-        def spent(count):
+        def spent(count: int) -> tuple[int, int]:
             run(self.session, calls, PAYMENTS, PAYMENT, count * 9 // 10, count // 10, PAYMENTS, PAYMENT)
             contexts = value(self.session, "select sum(total_bytes)::bigint from pg_backend_memory_contexts")
             return contexts, process_memory(pid, "RssAnon")
@@ -269,7 +289,7 @@ class Memory(Database):
 class Latin1(Database):
     name, options = "latin1", "template template0 encoding 'LATIN1' locale 'C'"
 
-    def test_texts(self):
+    def test_texts(self) -> None:
         self.assertEqual(bytes(value(self.session, "select bcs_encode('{}', '\"STR\"', '\"é\"')")).hex(), "02c3a9")
         self.assertEqual(bytes(value(self.session, "select bcs_encode_json('{}', '\"STR\"', '\"é\"')")).hex(), "02c3a9")
         self.assertEqual(value(self.session, "select bcs_decode_json('{}', '\"STR\"', '\\x02c3a9')::text"), '"é"')
@@ -277,20 +297,24 @@ class Latin1(Database):
         self.assertEqual(value(self.session, "select bcs_normalise('{}', '\"STR\"', '\"\\u00e9\"')::text"), '"é"')
         self.assertIs(value(self.session, "select bcs_equal('{}', '\"STR\"', '\"\\u00e9\"', '\"é\"')"), True)
 
-    def test_no_such_character(self):
+    def test_no_such_character(self) -> None:
         self.assertEqual(refusal(self.session, "select bcs_decode_json('{}', '\"STR\"', '\\x03e282ac')")[0], "22P05")
         self.assertEqual(refusal(self.session, "select bcs_decode('{}', '\"STR\"', '\\x03e282ac')")[0], "22P05")
-        self.assertEqual(bytes(value(self.session, "select bcs_encode_json('{}', '\"STR\"', '\"\\u20ac\"')")).hex(), "03e282ac")
+        self.assertEqual(
+            bytes(value(self.session, "select bcs_encode_json('{}', '\"STR\"', '\"\\u20ac\"')")).hex(), "03e282ac"
+        )
         named = """select bcs_encode_json('{"A":{"STRUCT":[{"\\u20ac":"U8"}]}}', 'A', '{"\\u20ac":256}')"""
         self.assertEqual(refusal(self.session, named), ("22P02", "bcs: no value of the format: BadNumber at /\\u20ac"))
 
-    def test_names(self):
+    def test_names(self) -> None:
         registry = '{"Zürich":{"STRUCT":[{"größe":"BOOL"}]}}'
         self.assertEqual(value(self.session, "select bcs_decode(%s, 'Zürich', '\\x01')", registry), {"größe": True})
         told = refusal(self.session, "select bcs_decode(%s, 'Zürich', '\\x02')", registry)
         self.assertEqual(told[0], "22P03")
         self.assertEqual(told[1], "bcs: no bytes of the format: BadBool at 0 in .gr\\u00f6\\u00dfe")
-        self.assertEqual(value(self.session, "select bcs_fault(%s, 'Zürich', '\\x02') ->> 'name'", registry), ".gr\\u00f6\\u00dfe")
+        self.assertEqual(
+            value(self.session, "select bcs_fault(%s, 'Zürich', '\\x02') ->> 'name'", registry), ".gr\\u00f6\\u00dfe"
+        )
         told = refusal(self.session, "select bcs_encode(%s, 'Zürich', '{\"größe\":7}')", registry)
         self.assertEqual(told, ("22P02", "bcs: no value of the format: BadShape at /gr\\u00f6\\u00dfe"))
         run(self.session, "insert into bcs_registries values ('stadt', %s)", registry)
@@ -300,19 +324,21 @@ class Latin1(Database):
 class EucJp(Database):
     name, options = "euc_jp", "template template0 encoding 'EUC_JP' locale 'C'"
 
-    def test_texts(self):
+    def test_texts(self) -> None:
         self.assertEqual(bytes(value(self.session, "select bcs_encode('{}', '\"STR\"', '\"日\"')")).hex(), "03e697a5")
         self.assertEqual(value(self.session, "select bcs_decode_json('{}', '\"STR\"', '\\x03e697a5')::text"), '"日"')
 
 
 class SqlAscii(Database):
-    """Which holds any bytes: a text that is no UTF-8 is refused."""
+    """Such a database can contain any bytes: a text that isn't UTF-8 is refused."""
 
     name, options = "sql_ascii", "template template0 encoding 'SQL_ASCII' locale 'C'"
 
-    def test_texts(self):
+    def test_texts(self) -> None:
         self.session.set_client_encoding("SQL_ASCII")
-        self.assertEqual(bytes(value(self.session, "select bcs_encode_json('{}', '\"STR\"', E'\"\\xc3\\xa9\"')")).hex(), "02c3a9")
+        self.assertEqual(
+            bytes(value(self.session, "select bcs_encode_json('{}', '\"STR\"', E'\"\\xc3\\xa9\"')")).hex(), "02c3a9"
+        )
         decoded = "select bcs_decode_json('{}', '\"STR\"', '\\x02c3a9')::text::bytea"
         self.assertEqual(bytes(value(self.session, decoded)).hex(), "22c3a922")
         self.assertEqual(refusal(self.session, "select bcs_encode_json('{}', '\"STR\"', E'\"\\xff\"')")[0], "22021")

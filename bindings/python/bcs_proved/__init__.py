@@ -7,13 +7,14 @@
     >>> registry.decode("Payment", bytes.fromhex("03626f620700000000000000"))
     {'amount': '7', 'to': 'bob'}
 
-A value is what `json` makes of its JSON: a struct is a dict, a MAP a list of pairs, BYTES a string of hexadecimal digits, and
-whole numbers of 64 and 128 bits come as strings of digits. With `native=True` they come as `int`, and BYTES and lists of U8
-as `bytes`. The format decides what `encode` accepts at each place: `bytes` at BYTES and lists of U8, an `int` at a number, and
-so on; any other type raises ValueTypeError. The methods with `_text` in their names read and return the JSON text itself.
+A value is what `json` makes of its JSON: a struct is a dict, a MAP a list of pairs, BYTES a string of hexadecimal
+digits, and whole numbers of 64 and 128 bits come as strings of digits. With `native=True` they come as `int`, and BYTES
+and lists of U8 as `bytes`. The format decides what `encode` accepts at each place: `bytes` at BYTES and lists of U8, an
+`int` at a number, and so on; any other type raises ValueTypeError. The methods with `_text` in their names read and
+return the JSON text itself.
 
-A format is a container's name, such as "Payment"; or its JSON, which begins with `{` or `"`, such as '"U8"' or '{"SEQ":"U8"}';
-or a dict, such as {"SEQ": "U8"}.
+A format is a container's name, such as "Payment"; or its JSON, which begins with `{` or `"`, such as '"U8"' or
+'{"SEQ":"U8"}'; or a dict, such as {"SEQ": "U8"}.
 
 Any number of threads may use one registry at the same time. Calls release the GIL.
 """
@@ -58,12 +59,12 @@ Data = Union[bytes, bytearray, memoryview]
 
 
 class BcsError(Exception):
-    """Something is refused. `reason` is the fault's name, as "BadBool"; `place` is where bytes stop being a value, counted
-    from the front, and None where the fault has no place.
+    """Something is refused. `reason` is the fault's name, as "BadBool"; `place` is where bytes stop being a value,
+    counted from the front, and None where the fault has no place.
 
-    `pointer` says where it is: of a text as a JSON Pointer, as "/payload/args/1", which is empty where the text is refused as
-    a whole; of bytes the way to where they stop, as ".payload.args[1]"; and of a registry its place as `bcs` prints it.
-    `expected` says what was wanted there, in words for people. Each is None where it isn't told."""
+    `pointer` says where it is: of a text as a JSON Pointer, as "/payload/args/1", which is empty where the text is
+    refused as a whole; of bytes the way to where they stop, as ".payload.args[1]"; and of a registry its place as `bcs`
+    prints it. `expected` says what was wanted there, in words for people. Each is None where it isn't told."""
 
     what = "refused"
 
@@ -77,7 +78,9 @@ class BcsError(Exception):
         super().__init__(reason, place, pointer, expected)
 
     def __str__(self) -> str:
-        where = ", ".join([*([] if self.place is None else [str(self.place)]), *([self.pointer] if self.pointer else [])])
+        where = ", ".join(
+            [*([] if self.place is None else [str(self.place)]), *([self.pointer] if self.pointer else [])]
+        )
         words = f": {self.expected}" if self.expected else ""
         return f"{self.what}: {self.reason}{f' at {where}' if where else ''}{words}"
 
@@ -101,8 +104,9 @@ class TextError(BcsError):
 
 
 class ValueTypeError(TextError, TypeError):
-    """A value has a type that its format doesn't accept, such as `bytes` at a U64. It is raised before the library is called.
-    `pointer` is the JSON Pointer of the value, and `expected` names the types: "U64 takes an int, not bytes"."""
+    """A value has a type that its format doesn't accept, such as `bytes` at a U64. It is raised before the library is
+    called. `pointer` is the JSON Pointer of the value, and `expected` names the types, such as
+    "U64 takes an int, not bytes"."""
 
 
 class BytesError(BcsError):
@@ -122,8 +126,8 @@ _MOST_NODES = 4294967295
 
 @dataclasses.dataclass(frozen=True)
 class Limits:
-    """How many containers may be open at once, and how many nodes a value may have. Without `nodes`, methods that read bytes
-    allow 16 nodes for each byte and 1,000,000 more, and the others allow 4294967295."""
+    """How many containers may be open at once, and how many nodes a value may have. Without `nodes`, methods that read
+    bytes allow 16 nodes for each byte and 1,000,000 more, and the others allow 4294967295."""
 
     depth: int = 500
     nodes: Optional[int] = None
@@ -139,8 +143,8 @@ class Limits:
 
     @classmethod
     def standard(cls) -> Limits:
-        """The limits of the specification: 500 containers and 4294967295 nodes. Five bytes can have that many nodes, which
-        take some gigabytes of memory, so don't use these limits for bytes from strangers."""
+        """The limits of the specification: 500 containers and 4294967295 nodes. Five bytes can have that many nodes,
+        which take some gigabytes of memory, so don't use these limits for bytes from strangers."""
         return cls(nodes=_MOST_NODES)
 
 
@@ -226,12 +230,12 @@ _Told = Callable[[int], "tuple[_Answer, bytes]"]
 
 
 _IS_WINDOWS = sys.platform == "win32"
-_LIBRARY, _BUILD = ("bcs.dll", "bindings/windows/build") if _IS_WINDOWS else ("libbcs.so", "bindings/c/build")
+_LIBRARY, _BUILD = ("bcs.dll", "bindings/windows/build.sh") if _IS_WINDOWS else ("libbcs.so", "bindings/c/build.sh")
 
 
 class Library:
-    """The dynamic library. It is looked for where `path` says; else where the variable BCS_LIBRARY says; else beside this
-    file; else, on Linux, where the system looks for libraries."""
+    """The dynamic library. It is looked for where `path` says; else where the variable BCS_LIBRARY says; else beside
+    this file; else, on Linux, where the system looks for libraries."""
 
     def __init__(self, path: Union[str, os.PathLike[str], None] = None) -> None:
         self.path = os.fspath(path) if path is not None else self._found()
@@ -352,8 +356,8 @@ _Ask = tuple[bytes, int, int, int]
 
 
 class _Handle:
-    """An open registry of the library. A call refers to it while it runs, and so does the registry until it is closed. The
-    last of them to let go frees it."""
+    """An open registry of the library. A call refers to it while it runs, and so does the registry until it is closed.
+    The last of them to let go frees it."""
 
     def __init__(self, library: Library, text: bytes) -> None:
         self.pointer = ctypes.c_void_p()
@@ -364,13 +368,13 @@ class _Handle:
 
 
 class Registry:
-    """A registry, of a JSON text, of what `json` makes of one, or of a file that a `pathlib.Path` names. Raises RegistryError
-    where it is none. It is pickled by its text, and so goes to other processes.
+    """A registry, of a JSON text, of what `json` makes of one, or of a file that a `pathlib.Path` names. Raises
+    RegistryError if it is invalid. It is pickled by its text, so it can be sent to other processes.
 
     `library` is where the dynamic library is, or one that is loaded; without it, it is looked for as `Library` says.
 
-    A registry holds memory of the library, and gives it back where nothing refers to it any more; or before, by `close` or at
-    the end of a `with`.
+    A registry holds memory of the library, and gives it back where nothing refers to it any more; or before, by `close`
+    or at the end of a `with`.
     """
 
     def __init__(
@@ -416,8 +420,8 @@ class Registry:
         return values.Native(self._containers)
 
     def close(self) -> None:
-        """Frees the registry's memory, once no call of another thread uses it any more. Afterwards all methods except `grows`
-        and `growth_fault` raise ValueError."""
+        """Frees the registry's memory, once no call of another thread uses it any more. Afterwards all methods except
+        `grows` and `growth_fault` raise ValueError."""
         self._handle = None
 
     def __enter__(self) -> Registry:
@@ -444,8 +448,8 @@ class Registry:
         return None
 
     def encode(self, format: Format, value: Any, limits: Optional[Limits] = None) -> bytes:
-        """The bytes of a value. Raises TextError if it isn't a value of the format, and ValueTypeError, which is one of these,
-        if a part of it has a type that the format doesn't accept there."""
+        """The bytes of a value. Raises TextError if it isn't a value of the format, and ValueTypeError, which is one of
+        these, if a part of it has a type that the format doesn't accept there."""
         json_of_format = _json_of_format(format)
         return self._put_text("bcs_handle_to_bcs", json_of_format, self._json_of(json_of_format, value, limits), limits)
 
@@ -509,8 +513,8 @@ class Registry:
         return answer.length
 
     def part(self, format: Format, data: Data, path: str, limits: Optional[Limits] = None) -> Optional[Part]:
-        """The part of the value at the front to which a path leads, or None where it leads nowhere. A path is "." for the
-        whole, or steps such as "2/inner/key:0161/0". Raises BytesError, or PathError where the path is none."""
+        """The part of the value at the front to which a path leads, or None if it leads nowhere. A path is "." for
+        the whole, or steps such as "2/inner/key:0161/0". Raises BytesError, or PathError if the path is invalid."""
         data, steps = _bytes_of(data), _bytes_of_text(path)
         ask = self._ask(_json_of_format(format), limits, data)
         answer = self._call("bcs_handle_part", ask, data, len(data), steps, len(steps))
@@ -520,14 +524,13 @@ class Registry:
         return Part(answer.place, data[answer.place : answer.place + answer.length])
 
     def explain(self, format: Format, data: Data, limits: Optional[Limits] = None) -> list[dict[str, Any]]:
-        """The pieces of bytes, a dict for each with "place", "bytes", "kind", "what", "value", "name" and "path". Last stands
-        {"end": N}, or where the bytes stop being a value a dict with "refused", "place", "want", "name" and "path"."""
+        """The pieces of bytes, a dict for each with "place", "bytes", "kind", "what", "value", "name" and "path". The
+        last one is {"end": N}, or for invalid bytes a dict with "refused", "place", "want", "name" and "path"."""
         return [json.loads(line) for line in self.explain_text(format, data, Form.JSON, limits).split("\n")[:-1]]
 
-    def explain_text(
-        self, format: Format, data: Data, form: Form = Form.WAYS, limits: Optional[Limits] = None
-    ) -> str:
-        """The pieces of bytes as lines, as `bcs explain` prints them. Damage is no error here: it stands in the last line."""
+    def explain_text(self, format: Format, data: Data, form: Form = Form.WAYS, limits: Optional[Limits] = None) -> str:
+        """The pieces of bytes as lines, as `bcs explain` prints them. Invalid bytes are no error here:
+        the last line reports them."""
         data = _bytes_of(data)
         ask = self._ask(_json_of_format(format), limits, data)
         room = min(100 * len(data) + 1000, 1000000)

@@ -2,9 +2,9 @@
 
     python -m bcs_proved.types registry.json > payments.py
 
-REGISTRY is a file, or the registry's JSON, which begins with `{`. Each container is a type: `decode(.., native=True)` gives its
-values, and `encode` takes them. The status is 2 of a registry that is refused, 3 of wrong words, and 4 of a file that can't be
-read; standard error says why.
+REGISTRY is a file, or the registry's JSON, which begins with `{`. Each container is a type: `decode(.., native=True)`
+gives its values, and `encode` takes them. The status is 2 of a registry that is refused, 3 of wrong words, and 4 of a
+file that can't be read; standard error says why.
 """
 
 from __future__ import annotations
@@ -32,14 +32,41 @@ from typing import TYPE_CHECKING, Any, Literal, NoReturn, Optional, TypedDict, U
 if TYPE_CHECKING:
     from typing_extensions import TypeAlias
 '''
-# What no type may be called: words of Python, what the module imports, and what is there in each module, since checkers take a
-# name that comes later for that. (The second line has what isn't there in each version of Python.)
+# What no type may be called: words of Python, what the module imports, and what is there in each module, since checkers
+# take a name that comes later for that. (The second line has what isn't there in each version of Python.)
 _TAKEN = [
-    *["TYPE_CHECKING", "Any", "Literal", "NoReturn", "Optional", "TypedDict", "Union", "final", "TypeAlias", "annotations"],
-    *["aiter", "anext", "EncodingWarning", "BaseExceptionGroup", "ExceptionGroup", "PythonFinalizationError", "WindowsError"],
+    *[
+        "TYPE_CHECKING",
+        "Any",
+        "Literal",
+        "NoReturn",
+        "Optional",
+        "TypedDict",
+        "Union",
+        "final",
+        "TypeAlias",
+        "annotations",
+    ],
+    *[
+        "aiter",
+        "anext",
+        "EncodingWarning",
+        "BaseExceptionGroup",
+        "ExceptionGroup",
+        "PythonFinalizationError",
+        "WindowsError",
+    ],
     *["ellipsis", "function", "reveal_type", "reveal_locals", "case", "match", *keyword.kwlist, *dir(builtins)],
 ]
-_LEAVES = {"UNIT": "None", "BOOL": "bool", "STR": "str", "BYTES": "bytes", "CHAR": "NoReturn", "F32": "NoReturn", "F64": "NoReturn"}
+_LEAVES = {
+    "UNIT": "None",
+    "BOOL": "bool",
+    "STR": "str",
+    "BYTES": "bytes",
+    "CHAR": "NoReturn",
+    "F32": "NoReturn",
+    "F64": "NoReturn",
+}
 _PLAIN = re.compile(r"[A-Za-z][A-Za-z0-9_]*")
 # A field that may stand in the body of a class, where a name that begins with two underscores would become another one.
 _FIELD = re.compile(r"_?[A-Za-z][A-Za-z0-9_]*")
@@ -83,8 +110,8 @@ class _Identifiers:
 
 
 class _Writer:
-    """Writes the types of containers. In expressions that Python evaluates a type's name stands in quotes, since it may come
-    later."""
+    """Writes the types of containers. In expressions that Python evaluates a type's name stands in quotes, since it may
+    come later."""
 
     def __init__(self, containers: Mapping[str, Any]) -> None:
         self._containers = containers
@@ -142,7 +169,9 @@ class _Writer:
     def _variant(self, own: str, name: str, kind: str, inner: Any) -> list[str]:
         """The type of an object with the one member, behind that of its fields, if it has any."""
         if kind != "STRUCT":
-            return [self._dict(own, {name: self._format(inner) if kind == "NEWTYPE" else self._row(inner)}, is_final=True)]
+            return [
+                self._dict(own, {name: self._format(inner) if kind == "NEWTYPE" else self._row(inner)}, is_final=True)
+            ]
         fields = self._identifiers.of(f"{own}_Fields")
         return [self._dict(fields, self._fields(inner)), self._dict(own, {name: f'"{fields}"'}, is_final=True)]
 
@@ -181,8 +210,8 @@ class _Writer:
         return self._options[held]
 
     def _row(self, formats: list[Any]) -> str:
-        """A list, since JSON has no others, of what may stand at any place in it. Checkers can't tell which of two lists, or of
-        two dicts, an expression is to be, so there anything may stand."""
+        """A list, since JSON has no others, of what may stand at any place in it. Checkers can't tell which of two
+        lists, or of two dicts, an expression is to be, so there anything may stand."""
         parts = {self._format(format): format for format in formats}
         if "NoReturn" in parts:
             return "NoReturn"

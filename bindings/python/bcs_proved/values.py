@@ -1,4 +1,4 @@
-"""Converts Python values to the JSON of docs/FORMAT.md. The format decides what each value becomes, so no value is guessed.
+"""Converts Python values to the JSON of docs/FORMAT.md. The format decides what each value becomes.
 
 `Formats` reads the formats of a registry, `json_of` converts a value of one of them, and `Native` converts back.
 """
@@ -29,8 +29,8 @@ _quoted = json.JSONEncoder(ensure_ascii=False).encode
 
 
 class Rejected(Exception):
-    """A value isn't passed to the library: its type is none that the format takes, and then `found` is that type; or it is too
-    wide or nests too deep for any format. `pointer` is its JSON Pointer."""
+    """A value isn't passed to the library: its type is none that the format takes, and then `found` is that type; or it
+    is too wide or nests too deep for any format. `pointer` is its JSON Pointer."""
 
     def __init__(self, reason: str, expected: str, found: Optional[type] = None) -> None:
         super().__init__(reason, expected, found)
@@ -50,8 +50,8 @@ class Format:
     takes = ""
 
     def open(self, value: Any, out: list[str]) -> _Parts:
-        """Writes a scalar, or returns the parts of an array or object, which writes brackets and commas as they are taken. The
-        value itself is copied first, since converting its parts may run the caller's code."""
+        """Writes a scalar, or returns the parts of an array or object, which writes brackets and commas as they are
+        taken. The value itself is copied first, since converting its parts may run the caller's code."""
         raise NotImplementedError
 
     def resolved(self) -> Format:
@@ -63,8 +63,8 @@ class Format:
 
 
 def json_of(format: Format, value: Any, nodes: int) -> bytes:
-    """The JSON of a value, unless it surely has more nodes than this. Raises Rejected. It doesn't recurse, so deep values need
-    no stack."""
+    """The JSON of a value, unless it surely has more nodes than this. Raises Rejected. It doesn't recurse, so deep
+    values need no stack."""
     out: list[str] = []
     # (a node has at most four pieces of text, like an empty list that is the key or value in a map)
     most = 4 * nodes + 4
@@ -253,7 +253,9 @@ class _List(Format):
     def __init__(self, word: str, element: Format, is_of_octets: bool) -> None:
         self._element = element
         self._is_of_octets = is_of_octets
-        self.takes = f"{word} of U8 takes bytes, hexadecimal digits or a list of int" if is_of_octets else f"{word} takes a list"
+        self.takes = (
+            f"{word} of U8 takes bytes, hexadecimal digits or a list of int" if is_of_octets else f"{word} takes a list"
+        )
 
     def open(self, value: Any, out: list[str]) -> _Parts:
         items = _items_of(value)
@@ -488,7 +490,7 @@ class Formats:
 
 
 def json_of_format(format: Mapping[str, Any]) -> bytes:
-    """The JSON of a registry or of a format. It is copied first, since `json` would turn `True` and `None` into names."""
+    """The JSON of a registry or of a format. It is copied first, since `json` would make names of `True` and `None`."""
     copied: list[Any] = [format]
     inner: list[tuple[Any, int]] = [(copied, 0)]
     while inner:
@@ -526,8 +528,8 @@ _WIDE_NUMBERS = {"U64", "U128", "I64", "I128"}
 
 
 class Native:
-    """Walks through a format and the JSON of one of its values, which the library made. It recurses at most 100 levels deep,
-    like the JSON; the loop follows newtypes of newtypes."""
+    """Walks through a format and the JSON of one of its values, which the library made. It recurses at most 100 levels
+    deep, like the JSON; the loop follows newtypes of newtypes."""
 
     def __init__(self, containers: Mapping[str, Any]) -> None:
         self._containers = containers

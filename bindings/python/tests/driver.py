@@ -8,8 +8,8 @@ from typing import Callable, Optional
 
 sys.path.insert(0, str(pathlib.Path(__file__).resolve().parent.parent))
 
-import bcs_proved
-from bcs_proved import Form, Limits, Registry
+import bcs_proved  # noqa: E402 (the folder has to be known first)
+from bcs_proved import Form, Limits, Registry  # noqa: E402
 
 registry_of = functools.lru_cache(maxsize=1)(Registry)
 

@@ -1,5 +1,5 @@
-"""Calls on a thread with a small stack, which is the first argument, in bytes: prints what became of each. test_hostile.py runs
-it, since a stack that overflows ends the process."""
+"""Calls on a thread with a small stack, which is the first argument, in bytes: prints what became of each.
+test_hostile.py runs it, since a stack that overflows ends the process."""
 
 import json
 import sys
@@ -10,7 +10,10 @@ from bcs_proved import Registry
 
 CHAIN = 500
 LIST = {"L": {"STRUCT": [{"next": {"OPTION": {"TYPENAME": "L"}}}]}}
-NEWTYPES = {f"N{place}": {"NEWTYPESTRUCT": {"TYPENAME": f"N{place + 1}"} if place + 1 < CHAIN else "U8"} for place in range(CHAIN)}
+NEWTYPES = {
+    f"N{place}": {"NEWTYPESTRUCT": {"TYPENAME": f"N{place + 1}"} if place + 1 < CHAIN else "U8"}
+    for place in range(CHAIN)
+}
 TREE = {"T": {"NEWTYPESTRUCT": {"SEQ": {"TYPENAME": "T"}}}}
 WIDE = {"W": {"TUPLESTRUCT": [{"MAP": {"KEY": "U8", "VALUE": {"OPTION": {"SEQ": {"TYPENAME": "W"}}}}}]}}
 

@@ -61,7 +61,12 @@ class Done(unittest.TestCase):
         self.assertEqual(self.registry.encode('"STR"', "\u20ac\0"), b"\x04\xe2\x82\xac\0")
 
     def test_formats(self) -> None:
-        formats: list[Format] = ["Payment", '{"TYPENAME":"Payment"}', b'{"TYPENAME":"Payment"}', {"TYPENAME": "Payment"}]
+        formats: list[Format] = [
+            "Payment",
+            '{"TYPENAME":"Payment"}',
+            b'{"TYPENAME":"Payment"}',
+            {"TYPENAME": "Payment"},
+        ]
         for format in formats:
             self.registry.check(format)
             self.assertEqual(self.registry.scan(format, self.bytes), 12)
@@ -114,7 +119,9 @@ class Done(unittest.TestCase):
         many = [list(range(200))] * 1000
         encoded = self.registry.encode({"SEQ": {"SEQ": "U64"}}, many)
         self.assertEqual(len(encoded), 2 + 1000 * (2 + 200 * 8))
-        self.assertTrue(self.registry.equal({"SEQ": {"SEQ": "U64"}}, self.registry.decode({"SEQ": {"SEQ": "U64"}}, encoded), many))
+        self.assertTrue(
+            self.registry.equal({"SEQ": {"SEQ": "U64"}}, self.registry.decode({"SEQ": {"SEQ": "U64"}}, encoded), many)
+        )
         self.assertGreater(len(self.registry.explain_text({"SEQ": {"SEQ": "U64"}}, encoded)), 1000 * 200 * 100)
 
     def test_fronts_and_parts(self) -> None:
@@ -128,7 +135,15 @@ class Done(unittest.TestCase):
             self.registry.explain({"SEQ": "U16"}, b"\x01\x05\0"),
             [
                 {"bytes": "01", "kind": "length", "name": ".", "path": ".", "place": 0, "value": 1, "what": "SEQ"},
-                {"bytes": "0500", "kind": "unsigned", "name": "[0]", "path": "0", "place": 1, "value": "5", "what": "U16"},
+                {
+                    "bytes": "0500",
+                    "kind": "unsigned",
+                    "name": "[0]",
+                    "path": "0",
+                    "place": 1,
+                    "value": "5",
+                    "what": "U16",
+                },
                 {"end": 3},
             ],
         )
@@ -137,7 +152,9 @@ class Done(unittest.TestCase):
             [{"name": ".", "path": ".", "place": 2, "refused": "BadUtf8", "want": "2 bytes of STR"}],
         )
         self.assertEqual(self.registry.explain_text('"U8"', b"\xff").split(), ["0", "ff", "U8", "255", "."])
-        self.assertEqual(self.registry.explain_text('"U8"', b"\xff", Form.PATHS).split(), ["0", "ff", "U8", "255", ".", "."])
+        self.assertEqual(
+            self.registry.explain_text('"U8"', b"\xff", Form.PATHS).split(), ["0", "ff", "U8", "255", ".", "."]
+        )
 
     def test_growth(self) -> None:
         none, newer = Registry("{}"), Registry({**PAYMENT, "New": "UNITSTRUCT"})
@@ -183,7 +200,10 @@ class Refused(unittest.TestCase):
             ({1.0: "UNITSTRUCT"}, "names in a registry or format are str, not float"),
             ({b"A": "UNITSTRUCT"}, "names in a registry or format are str, not bytes"),
             ({"A": b"UNITSTRUCT"}, "a registry or format has dicts, lists, str and int, and no bytes"),
-            ({"A": {"NEWTYPESTRUCT": {"SEQ": b"U8"}}}, "a registry or format has dicts, lists, str and int, and no bytes"),
+            (
+                {"A": {"NEWTYPESTRUCT": {"SEQ": b"U8"}}},
+                "a registry or format has dicts, lists, str and int, and no bytes",
+            ),
             ({"A": {"TUPLESTRUCT": {"U8"}}}, "a registry or format has dicts, lists, str and int, and no set"),
             ({"A": {"ENUM": {0: {"A": "UNIT"}, "0": {"B": "UNIT"}}}}, "two names of a registry or format are equal"),
         ]
@@ -252,9 +272,21 @@ class Refused(unittest.TestCase):
 
     def test_what_is_no_text_and_no_bytes(self) -> None:
         """Python makes five zeros of `bytes(5)`."""
-        words: list[Any] = [5, None, [1], array.array("H", [7]), ctypes.c_uint64(7), memoryview(b"\1\2\3\4").cast("B", [2, 2])]
+        words: list[Any] = [
+            5,
+            None,
+            [1],
+            array.array("H", [7]),
+            ctypes.c_uint64(7),
+            memoryview(b"\1\2\3\4").cast("B", [2, 2]),
+        ]
         for word in words:
-            calls: list[Any] = [self.registry.decode, self.registry.scan, self.registry.explain, self.registry.encode_text]
+            calls: list[Any] = [
+                self.registry.decode,
+                self.registry.scan,
+                self.registry.explain,
+                self.registry.encode_text,
+            ]
             for call in calls:
                 with self.assertRaises(TypeError):
                     call('"BYTES"', word)

@@ -98,7 +98,9 @@ class Threads(unittest.TestCase):
                 faults.append(fault)
 
         texts = {
-            name: text_of(name) for _, _, front in TRANSACTIONS for name in (f"{front}.json", f"{front}.hex", f"{front}_normal.json")
+            name: text_of(name)
+            for _, _, front in TRANSACTIONS
+            for name in (f"{front}.json", f"{front}.hex", f"{front}_normal.json")
         }
         threads = [threading.Thread(target=code_all, args=(first,)) for first in range(8)]
         for thread in threads:

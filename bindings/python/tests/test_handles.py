@@ -38,11 +38,12 @@ class CountingLibrary(Library):
 
 class Outputs(unittest.TestCase):
     def test_lengths_have_64_bits(self) -> None:
-        """The length of an output isn't cut to 32 bits. The buffer of 4 GiB is never touched, and no copy of it is made."""
+        """The length of an output isn't cut to 32 bits. The buffer of 4 GiB is never touched or copied."""
         asked: list[int] = []
 
         class Copied:
-            def __init__(self, _: object) -> None: ...
+            def __init__(self, _: object) -> None:
+                ...
 
             def __getitem__(self, part: slice) -> "Copied":
                 asked.append(part.stop)
@@ -52,7 +53,7 @@ class Outputs(unittest.TestCase):
                 return b""
 
         library = CountingLibrary()
-        library.ask = lambda *_: _Answer(status=0, length=2**32 + 3)  # type: ignore[method-assign]
+        library.ask = lambda *_: _Answer(status=0, length=2**32 + 3)  # type: ignore[assignment]
         with unittest.mock.patch("bcs_proved.memoryview", Copied, create=True):
             library.put("bcs_fault_name", 40, 1)
         self.assertEqual(asked, [2**32 + 3])

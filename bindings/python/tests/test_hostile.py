@@ -1,5 +1,5 @@
-"""Values that run code while they are converted, that hold themselves or nest without end, bytes that need much memory, and
-threads with small stacks."""
+"""Values that run code while they are converted, that hold themselves or nest without end, bytes that need much memory,
+and threads with small stacks."""
 
 import array
 import ctypes
@@ -147,7 +147,10 @@ class Reentrant(unittest.TestCase):
         """Each call, with a text that is longer than what it is called from, and one that is refused."""
         self.runs += 1
         self.assertEqual(self.registry.encode("Payment", ALICE), ALICE_BYTES)
-        self.assertEqual(self.registry.encode({"SEQ": "U64"}, [self.runs] * 100), bytes([100]) + self.runs.to_bytes(8, "little") * 100)
+        self.assertEqual(
+            self.registry.encode({"SEQ": "U64"}, [self.runs] * 100),
+            bytes([100]) + self.runs.to_bytes(8, "little") * 100,
+        )
         self.assertEqual(self.registry.normalise("Payment", ALICE), {"to": "alice", "amount": "5000"})
         self.assertTrue(self.registry.equal("Payment", ALICE, ALICE))
         self.assertEqual(self.registry.decode("Payment", ALICE_BYTES, native=True), ALICE)
@@ -228,7 +231,9 @@ class Reentrant(unittest.TestCase):
         thread.start()
         try:
             for _ in range(2000):
-                self.assertEqual(len(set(self.registry.encode({"TUPLEARRAY": {"CONTENT": "U8", "SIZE": 1000}}, data))), 1)
+                self.assertEqual(
+                    len(set(self.registry.encode({"TUPLEARRAY": {"CONTENT": "U8", "SIZE": 1000}}, data))), 1
+                )
         finally:
             is_done.set()
             thread.join()
@@ -239,7 +244,9 @@ class Reentrant(unittest.TestCase):
         self.assertEqual(self.registry.encode({"TUPLE": ["U8"]}, OtherList([1])), b"\1")
         self.assertEqual(self.registry.encode('"BYTES"', OtherBytes(b"ab")), b"\2ab")
         self.assertEqual(self.registry.encode({"SEQ": "U8"}, EndlessBytes(b"ab")), b"\2ab")
-        self.assertEqual(self.registry.encode("Payment", {OtherText("amount"): 7, OtherText("to"): OtherText("bob")}), BOB_BYTES)
+        self.assertEqual(
+            self.registry.encode("Payment", {OtherText("amount"): 7, OtherText("to"): OtherText("bob")}), BOB_BYTES
+        )
         self.assertEqual(self.registry.encode("Pair", Twice("a", "b")), b"\7\7")
         wrong: list[tuple[Any, Any]] = [
             ({"SEQ": "U16"}, EndlessBytes(b"ab")),
@@ -281,7 +288,7 @@ class Nesting(unittest.TestCase):
             Registry({"A": format_of_itself})
 
     def test_shared_parts(self) -> None:
-        """61 lists are 2**60 nodes, if each is in the next one twice. A limit on nodes holds before they are all converted."""
+        """61 lists are 2**60 nodes, if each is in the next one twice. A limit on nodes ends the conversion early."""
         value: list[Any] = []
         for _ in range(60):
             value = [value, value]
@@ -329,9 +336,14 @@ class Nesting(unittest.TestCase):
             registry = Registry({name: {"NEWTYPESTRUCT": held} for name, held in zip(names, inner)})
             self.assertEqual(self.encoded(registry, "N0", 7), answer)
         count = 5000
-        structs = {f"S{place}": {"STRUCT": [{"x": {"OPTION": {"TYPENAME": f"S{(place + 1) % count}"}}}]} for place in range(count)}
+        structs = {
+            f"S{place}": {"STRUCT": [{"x": {"OPTION": {"TYPENAME": f"S{(place + 1) % count}"}}}]}
+            for place in range(count)
+        }
         self.assertEqual(self.encoded(Registry(structs), "S0", {"x": {"some": {"x": None}}}), b"\1\0")
-        lists = {f"S{place}": {"NEWTYPESTRUCT": {"SEQ": {"TYPENAME": f"S{(place + 1) % count}"}}} for place in range(count)}
+        lists = {
+            f"S{place}": {"NEWTYPESTRUCT": {"SEQ": {"TYPENAME": f"S{(place + 1) % count}"}}} for place in range(count)
+        }
         self.assertEqual(self.encoded(Registry(lists), "S0", [[], [[]]]), b"\2\0\1\0")
 
     def encoded(self, registry: Registry, format: str, value: Any) -> Any:
@@ -414,7 +426,8 @@ class Memory(unittest.TestCase):
         self.assertEqual((told.returncode, told.stdout, told.stderr), (0, "MemoryError\n", ""))
 
     def test_the_limit(self) -> None:
-        """16 for each byte and 1,000,000 more; the list itself is one, and each unit another. Three bytes are the length."""
+        """16 for each byte and 1,000,000 more; the list itself is one, and so is each unit. Three bytes are the
+        length."""
         registry = Registry({})
         most = 1_000_000 + 16 * 3 - 1
         for count, limits, is_value in [

@@ -57,13 +57,13 @@ class Places(unittest.TestCase):
         told = run(self.folder, before=ON_WINDOWS, LD_LIBRARY_PATH=self.folder, PATH=self.folder)
         self.assertNotEqual(told.returncode, 0)
         self.assertIn(f"can't load {pathlib.Path(self.folder).resolve() / MODULE.name / 'bcs.dll'}", told.stderr)
-        self.assertIn("bindings/windows/build", told.stderr)
+        self.assertIn("bindings/windows/build.sh", told.stderr)
 
     def test_nowhere(self) -> None:
         told = run(self.folder, BCS_LIBRARY="/nowhere/libbcs.so")
         self.assertNotEqual(told.returncode, 0)
         self.assertIn("/nowhere/libbcs.so", told.stderr)
-        self.assertIn("bindings/c/build", told.stderr)
+        self.assertIn("bindings/c/build.sh", told.stderr)
 
 
 if __name__ == "__main__":

@@ -10,8 +10,8 @@ EXAMPLES = pathlib.Path(__file__).resolve().parents[3] / "examples"
 
 
 class Excess:
-    """For each container the most that a value's nodes can have above so many for each of its bytes: infinite if longer values
-    have more, and negative infinity if there is no value."""
+    """For each container the most that a value's nodes can have above so many for each of its bytes: infinite if longer
+    values have more, and negative infinity if there is no value."""
 
     def __init__(self, containers: dict[str, Any], nodes_each: int) -> None:
         self._each = nodes_each

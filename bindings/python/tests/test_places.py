@@ -16,7 +16,9 @@ class Places(unittest.TestCase):
     def setUp(self) -> None:
         self.registry = Registry(SHAPES)
 
-    def tells(self, error: type[BcsError], pointer: Optional[str], expected: Optional[str], call: Any, *words: Any) -> BcsError:
+    def tells(
+        self, error: type[BcsError], pointer: Optional[str], expected: Optional[str], call: Any, *words: Any
+    ) -> BcsError:
         with self.assertRaises(error) as raised:
             call(*words)
         self.assertEqual((raised.exception.pointer, raised.exception.expected), (pointer, expected))
@@ -37,11 +39,20 @@ class Places(unittest.TestCase):
         types = "BYTES takes bytes or hexadecimal digits, not int"
         self.tells(ValueTypeError, "/~0~1/1", types, self.registry.encode, "Point", {"x": 1, "~/": [b"", 7]})
         self.tells(TextError, "", "wanted BOOL, true or false", self.registry.encode_text, '"BOOL"', "7")
-        told = self.tells(TextError, "", "line 1, column 1: serde_json stops reading there", self.registry.encode_text, '"U8"', "x")
+        told = self.tells(
+            TextError, "", "line 1, column 1: serde_json stops reading there", self.registry.encode_text, '"U8"', "x"
+        )
         self.assertEqual(told.reason, "NotJson")
 
     def test_a_message(self) -> None:
-        told = self.tells(TextError, "/x", "wanted a whole number from 0 to 255 (U8)", self.registry.encode, "Point", {"x": -1, "~/": []})
+        told = self.tells(
+            TextError,
+            "/x",
+            "wanted a whole number from 0 to 255 (U8)",
+            self.registry.encode,
+            "Point",
+            {"x": -1, "~/": []},
+        )
         self.assertEqual(str(told), "no value of the format: BadNumber at /x: wanted a whole number from 0 to 255 (U8)")
         again = pickle.loads(pickle.dumps(told))
         self.assertEqual((str(again), again.pointer, again.reason), (str(told), "/x", "BadNumber"))

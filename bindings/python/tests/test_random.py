@@ -1,5 +1,5 @@
-"""Random values of random registries, in any of the types that a format accepts, there and back. Their bytes are made here, by
-the rules of docs/FORMAT.md."""
+"""Random values of random registries, in any of the types that a format accepts, there and back. Their bytes are made
+here, by the rules of docs/FORMAT.md."""
 
 import array
 import random
@@ -75,7 +75,8 @@ def a_registry(draw: random.Random) -> dict[str, Any]:
 
 
 class Drawn:
-    """A value as `decode` with `native` returns it, the same value in other types, its bytes, and how many nodes it has."""
+    """A value as `decode` with `native` returns it, the same value in other types, its bytes, and how many nodes it
+    has."""
 
     def __init__(self, native: Any, dressed: Any, data: bytes, nodes: int = 1) -> None:
         self.native, self.dressed, self.data, self.nodes = native, dressed, data, nodes
@@ -121,7 +122,11 @@ class Values:
             return Drawn(truth, truth, bytes([truth]))
         if word == "STR":
             text = "".join(self._draw.choices(CHARACTERS, k=self._draw.choice([0, 1, 3, 60])))
-            return Drawn(text, self._draw.choice([text, numpy.str_(text)]) if "\0" not in text else text, self._prefixed(text.encode()))
+            return Drawn(
+                text,
+                self._draw.choice([text, numpy.str_(text)]) if "\0" not in text else text,
+                self._prefixed(text.encode()),
+            )
         if word == "BYTES":
             data = self._draw.randbytes(self._draw.choice([0, 1, 3, 200]))
             return Drawn(data, self._octets(data), self._prefixed(data))
@@ -232,7 +237,9 @@ class There(unittest.TestCase):
             values = Values(draw, containers)
             with Registry(containers) as registry:
                 for _ in range(VALUES):
-                    format = draw.choice([{"TYPENAME": draw.choice(list(containers))}, a_format(draw, list(containers), 3)])
+                    format = draw.choice(
+                        [{"TYPENAME": draw.choice(list(containers))}, a_format(draw, list(containers), 3)]
+                    )
                     self.agrees(registry, format, values.value(format))
                     done += 1
         self.assertEqual(done, REGISTRIES * VALUES)

@@ -1,5 +1,5 @@
-"""The types that `bcs_proved.types` writes, judged by mypy: right and wrong values, what random values are decoded to, and the
-README's example; and the command."""
+"""The types that `bcs_proved.types` writes, judged by mypy: right and wrong values, what random values are decoded to,
+and the README's example; and the command."""
 
 import json
 import os
@@ -22,7 +22,7 @@ REGISTRIES = {
     "aptos": ROOT / "examples/aptos_registry.json",
     "sui": ROOT / "examples/sui_registry.json",
     "shapes": ROOT / "bindings/web/tests/shapes.json",
-    "hostile": ROOT / "bindings/rows/hostile_names.json",
+    "hostile": ROOT / "tests/rows/hostile_names.json",
 }
 EACH = 3
 TEXTS = ["", "a", '"', "'", "\\", "\n", "\u2028", "名前", "😀", "%s", "{x}", "\0"]
@@ -71,7 +71,9 @@ class Values:
             return self._random.randbytes(self._random.randrange(4))
         bits = int(word[1:])
         least = -(2 ** (bits - 1)) if word[0] == "I" else 0
-        return self._random.choice([0, 1, least, least + 2**bits - 1, self._random.randrange(least, least + 2**bits)])
+        return self._random.choice(
+            [0, 1, least, least + 2**bits - 1, self._random.randrange(least, least + 2**bits)]
+        )
 
     def _list(self, format: Any, length: int, deep: int) -> Any:
         return self._random.randbytes(length) if format == "U8" else self._row([format] * length, deep)
@@ -121,7 +123,11 @@ def random_values(name: str, containers: dict[str, Any]) -> list[str]:
 
 
 def run(*words: str, folder: str = ".") -> subprocess.CompletedProcess[str]:
-    environment = {**os.environ, "PYTHONPATH": os.pathsep.join([folder, str(HERE.parent)]), "MYPYPATH": str(HERE.parent)}
+    environment = {
+        **os.environ,
+        "PYTHONPATH": os.pathsep.join([folder, str(HERE.parent)]),
+        "MYPYPATH": str(HERE.parent),
+    }
     return subprocess.run(words, cwd=folder, env=environment, capture_output=True, text=True, check=False)
 
 
@@ -155,7 +161,7 @@ class Types(unittest.TestCase):
         options = ["--strict", "--no-error-summary", "--cache-dir", os.devnull]
         mypy = run("mypy", *options, *files, str(HERE.parent / "bcs_proved"), folder=self.folder)
         self.write("report", mypy.stdout + mypy.stderr)
-        marked = run(sys.executable, str(ROOT / "bindings/marked_errors.py"), "report", *files, folder=self.folder)
+        marked = run(sys.executable, str(ROOT / "tests/marked_errors.py"), "report", *files, folder=self.folder)
         self.assertEqual((marked.stdout, marked.stderr), ("24 wrong lines are refused, and no others\n", ""))
         ran = run(sys.executable, "typed.py", str(ROOT), folder=self.folder)
         self.assertEqual((ran.returncode, ran.stderr), (0, ""))

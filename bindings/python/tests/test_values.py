@@ -1,5 +1,5 @@
-"""Every type of Python at every format: a cell of the table is the bytes of docs/FORMAT.md, or a rejection with its pointer and
-its words. A cell that isn't listed for a value is the rejection of the value itself."""
+"""Every type of Python at every format: a cell of the table is the bytes of docs/FORMAT.md, or a rejection with its
+pointer and its words. A cell that isn't listed for a value is the rejection of the value itself."""
 
 import array
 import collections
@@ -50,7 +50,10 @@ COLUMNS: dict[str, tuple[Any, str]] = {
     "BYTES": ('"BYTES"', "BYTES takes bytes or hexadecimal digits"),
     "OPTION": ({"OPTION": "U8"}, SOME),
     "SEQ U8": ({"SEQ": "U8"}, "SEQ of U8 takes bytes, hexadecimal digits or a list of int"),
-    "ARRAY U8": ({"TUPLEARRAY": {"CONTENT": "U8", "SIZE": 2}}, "TUPLEARRAY of U8 takes bytes, hexadecimal digits or a list of int"),
+    "ARRAY U8": (
+        {"TUPLEARRAY": {"CONTENT": "U8", "SIZE": 2}},
+        "TUPLEARRAY of U8 takes bytes, hexadecimal digits or a list of int",
+    ),
     "SEQ U64": ({"SEQ": "U64"}, "SEQ takes a list"),
     "ARRAY I16": ({"TUPLEARRAY": {"CONTENT": "I16", "SIZE": 2}}, "TUPLEARRAY takes a list"),
     "SEQ Byte": ({"SEQ": {"TYPENAME": "Byte"}}, "SEQ takes a list"),
@@ -194,7 +197,11 @@ def no_names(found: str) -> Cells:
     cells: Cells = {column: Wrong("", f"STRUCT takes names that are str, not {found}") for column in ["Point", "Empty"]}
     cells |= {"Shape": Wrong("", f"ENUM takes names that are str, not {found}")}
     cells |= {"OPTION": Wrong("", f"OPTION takes names that are str, not {found}")}
-    return {**cells, "MAP": Wrong("/0/0", f"STR takes a str, not {found}"), "MAP U8": Wrong("/0/0", f"U8 takes an int, not {found}")}
+    return {
+        **cells,
+        "MAP": Wrong("/0/0", f"STR takes a str, not {found}"),
+        "MAP U8": Wrong("/0/0", f"U8 takes an int, not {found}"),
+    }
 
 
 class Color(enum.IntEnum):
@@ -398,13 +405,18 @@ NUMPY: dict[str, Value] = {
         f"numpy array {dtype}": numpy_array([1, 2], dtype, array_of(numpy_name(dtype), 1, 2))
         for dtype in [*NUMPY_INTS[1:], ">u2", ">u8", ">i4"]
     },
-    **{f"numpy array {dtype}": numpy_array([1, 2], dtype, rejected_array(numpy_name(dtype))) for dtype in NUMPY_OTHERS[:-1]},
+    **{
+        f"numpy array {dtype}": numpy_array([1, 2], dtype, rejected_array(numpy_name(dtype)))
+        for dtype in NUMPY_OTHERS[:-1]
+    },
     **{f"numpy array {dtype}": numpy_array([1, 2], dtype, {}) for dtype in ["c16", "S1", "U1", "M8[s]", "m8[s]"]},
     "numpy array u8 5000": numpy_array([5000, 1, 2], "u8", array_of("numpy.uint64", 5000, 1, 2)),
     "numpy array i8 -5": numpy_array([1, -5], "i8", array_of("numpy.int64", 1, -5)),
     "numpy array O": numpy_array([1, 2], "O", array_of("int", 1, 2)),
     "numpy array, empty": numpy_array([], "f8", array_of("int")),
-    "numpy array, every other": Value(numpy.array([1, 0, 2, 0], "u8")[::2], "numpy.ndarray", array_of("numpy.uint64", 1, 2)),
+    "numpy array, every other": Value(
+        numpy.array([1, 0, 2, 0], "u8")[::2], "numpy.ndarray", array_of("numpy.uint64", 1, 2)
+    ),
     "numpy array of no dimension": numpy_array(5, "i8", number(5)),
     "numpy array of no dimension, f8": numpy_array(5, "f8", {}),
     "numpy array of two dimensions, u1": numpy_array(
@@ -413,11 +425,21 @@ NUMPY: dict[str, Value] = {
     "numpy array of two dimensions, u2": numpy_array(
         [[1, 2], [3, 4]],
         "u2",
-        {**rejected_array("numpy.ndarray"), "SEQ SEQ U8": "02020102020304", "SEQ SEQ U16": "02020100020002" + "03000400"},
+        {
+            **rejected_array("numpy.ndarray"),
+            "SEQ SEQ U8": "02020102020304",
+            "SEQ SEQ U16": "02020100020002" + "03000400",
+        },
     ),
     "numpy masked array, u1": Value(masked([1, 2], "u1"), "numpy.ma.core.MaskedArray", {}),
-    "numpy masked array of no dimension": Value(numpy.ma.array(5, mask=True, dtype="u1"), "numpy.ma.core.MaskedArray", {}),  # type: ignore[no-untyped-call]
-    "numpy masked array, u8": Value(masked([1, 2], "u8"), "numpy.ma.core.MaskedArray", rejected_array("numpy.ma.core.MaskedConstant")),
+    "numpy masked array of no dimension": Value(
+        numpy.ma.array(5, mask=True, dtype="u1"),  # type: ignore[no-untyped-call]
+        "numpy.ma.core.MaskedArray",
+        {},
+    ),
+    "numpy masked array, u8": Value(
+        masked([1, 2], "u8"), "numpy.ma.core.MaskedArray", rejected_array("numpy.ma.core.MaskedConstant")
+    ),
 }
 LISTS: dict[str, Value] = {
     "[1, 2]": Value([1, 2], "list", list_of("int", 1, 2)),
@@ -433,7 +455,11 @@ LISTS: dict[str, Value] = {
     "[10**5000, 1]": Value(
         [10**5000, 1],
         "list",
-        {**rejected_list("int"), **array_of("int", 10**5000, 1), **{column: Refusal("BadNumber", "/0") for column in ["TUPLE", "Pair"]}},
+        {
+            **rejected_list("int"),
+            **array_of("int", 10**5000, 1),
+            **{column: Refusal("BadNumber", "/0") for column in ["TUPLE", "Pair"]},
+        },
     ),
     "two bytes objects": Value([b"\1", b"\2"], "list", {**rejected_list("bytes"), "SEQ SEQ U8": "0201010102"}),
     "[1, b'x']": Value(
@@ -441,7 +467,11 @@ LISTS: dict[str, Value] = {
         "list",
         {
             **rejected_list("int"),
-            **{column: Wrong("/1", f"{words}, not bytes") for column, words in ELEMENTS.items() if " SEQ " not in column},
+            **{
+                column: Wrong("/1", f"{words}, not bytes")
+                for column, words in ELEMENTS.items()
+                if " SEQ " not in column
+            },
             "TUPLE": Wrong("/1", "U16 takes an int, not bytes"),
             "Pair": "010178",
         },
@@ -475,7 +505,11 @@ DICTS: dict[str, Value] = {
     "a point with bytes": Value(
         {"x": b"\1", "y": True},
         "dict",
-        {**members("x", "y"), **in_maps(Wrong("/0/1", "U8 takes an int, not bytes")), "Point": Wrong("/x", "U8 takes an int, not bytes")},
+        {
+            **members("x", "y"),
+            **in_maps(Wrong("/0/1", "U8 takes an int, not bytes")),
+            "Point": Wrong("/x", "U8 takes an int, not bytes"),
+        },
     ),
     "an option": Value(
         {"some": 5}, "dict", {**members("some"), **in_maps(NAMED), "OPTION": "0105", "MAP": "0104736f6d6505"}
@@ -502,7 +536,9 @@ DICTS: dict[str, Value] = {
         },
     ),
     "a dot": Value(
-        {"Dot": None}, "dict", {**members("Dot"), **in_maps(Wrong("/0/1", "U8 takes an int, not NoneType")), "Shape": "00"}
+        {"Dot": None},
+        "dict",
+        {**members("Dot"), **in_maps(Wrong("/0/1", "U8 takes an int, not NoneType")), "Shape": "00"},
     ),
     "a dot of 5": Value(
         {"Dot": 5},
@@ -510,10 +546,14 @@ DICTS: dict[str, Value] = {
         {**members("Dot"), **in_maps(NAMED), "MAP": "0103446f7405", "Shape": Wrong("/Dot", "UNIT takes None, not int")},
     ),
     "a box": Value(
-        {"Box": [1, 2]}, "dict", {**members("Box"), **in_maps(Wrong("/0/1", "U8 takes an int, not list")), "Shape": "030102"}
+        {"Box": [1, 2]},
+        "dict",
+        {**members("Box"), **in_maps(Wrong("/0/1", "U8 takes an int, not list")), "Shape": "030102"},
     ),
     "a name": Value(
-        {"Named": {"x": 7}}, "dict", {**members("Named"), **in_maps(Wrong("/0/1", "U8 takes an int, not dict")), "Shape": "0407"}
+        {"Named": {"x": 7}},
+        "dict",
+        {**members("Named"), **in_maps(Wrong("/0/1", "U8 takes an int, not dict")), "Shape": "0407"},
     ),
     "{True: 5}": Value({True: 5}, "dict", no_names("bool")),
     "{None: 5}": Value({None: 5}, "dict", no_names("NoneType")),

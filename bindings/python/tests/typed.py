@@ -1,5 +1,5 @@
-"""Values with the types that `bcs_proved.types` wrote of the registries in examples/. mypy reads this, and it runs. Lines with a
-comment of an error are refused by mypy, with this text, and no others are."""
+"""Values with the types that `bcs_proved.types` wrote of the registries in examples/. mypy reads this, and it runs.
+Lines with a comment of an error are refused by mypy, with this text, and no others are."""
 
 import pathlib
 import sys
@@ -27,7 +27,10 @@ call: aptos.EntryFunction = {
     "module": {"address": one, "name": "coin"},
     "function": "transfer",
     "ty_args": [coin],
-    "args": [bytes.fromhex("2d133ddd281bb6205558357cc6ac75661817e9aaeac3afebc32842759cbf7fa9"), bytes.fromhex("8813000000000000")],
+    "args": [
+        bytes.fromhex("2d133ddd281bb6205558357cc6ac75661817e9aaeac3afebc32842759cbf7fa9"),
+        bytes.fromhex("8813000000000000"),
+    ],
 }
 transfer: aptos.RawTransaction = {
     "sender": bytes.fromhex("7deeccb1080854f499ec8b4c1b213b82c5e34b925cf6875fec02d4b77adbd2d6"),
@@ -59,8 +62,17 @@ def right() -> None:
     assert staked["V1"]["gas_data"]["budget"] > 0 and SUI.encode("TransactionData", staked) == bytes_of("sui_stake.hex")
     prices: shapes.Prices = [["a", {"some": 7}], ["b", None]]
     assert SHAPES.decode("Prices", SHAPES.encode("Prices", prices), native=True) == prices
-    some: list[shapes.Shape] = ["Dot", {"Box": [1, 2]}, {"Named": {"side": 3}}, {"Bare": {}}, {"Maybe": {"some": "Dot"}}]
-    assert SHAPES.decode({"SEQ": {"TYPENAME": "Shape"}}, SHAPES.encode({"SEQ": {"TYPENAME": "Shape"}}, some), native=True) == some
+    some: list[shapes.Shape] = [
+        "Dot",
+        {"Box": [1, 2]},
+        {"Named": {"side": 3}},
+        {"Bare": {}},
+        {"Maybe": {"some": "Dot"}},
+    ]
+    assert (
+        SHAPES.decode({"SEQ": {"TYPENAME": "Shape"}}, SHAPES.encode({"SEQ": {"TYPENAME": "Shape"}}, some), native=True)
+        == some
+    )
     chain: shapes.Chain = {"value": 1, "next": {"some": {"value": 2, "next": None}}}
     tree: shapes.Tree = [[], [[]]]
     assert SHAPES.encode("Chain", chain) == b"\1\1\2\0" and SHAPES.encode("Tree", tree) == b"\2\0\1\0"
@@ -75,8 +87,14 @@ def wrong(script: aptos.Script, back: aptos.RawTransaction, prices: shapes.Price
     carried: aptos.TransactionPayload = {"Script": call}  # error: Incompatible types
     module: aptos.ModuleId = {"address": one}  # error: Missing key "name" for TypedDict "ModuleId"
     more: aptos.ModuleId = {"address": one, "name": "coin", "fee": 1}  # error: Extra key "fee" for TypedDict "ModuleId"
-    digits: aptos.ModuleId = {"address": "01", "name": "coin"}  # error: (expression has type "str", TypedDict item "address" has type "bytes")
-    absent: aptos.Multisig = {"multisig_address": one, "transaction_payload": {"EntryFunction": call}}  # error: TypedDict item "transaction_payload" has type "Optional[Some_MultisigTransactionPayload]"
+    digits: aptos.ModuleId = {
+        "address": "01",  # error: (expression has type "str", TypedDict item "address" has type "bytes")
+        "name": "coin",
+    }
+    absent: aptos.Multisig = {
+        "multisig_address": one,
+        "transaction_payload": {"EntryFunction": call},  # error: has type "Optional[Some_MultisigTransactionPayload]"
+    }
     decimal: shapes.Id = "7"  # error: (expression has type "str", variable has type "int")
     wide: shapes.Prices = [["a", 7]]  # error: List item 1 has incompatible type "int"
     mapped: shapes.Prices = {"a": None}  # error: Incompatible types
@@ -90,7 +108,23 @@ def wrong(script: aptos.Script, back: aptos.RawTransaction, prices: shapes.Price
     code = back["payload"]["Script"]  # error: has no key "Script"
     entry: bytes = prices[0][1]  # error: Incompatible types
     staked: sui.TransactionData = back  # error: Incompatible types
-    told: Union[Any, str] = (tags, tag, other, named, both, carried, module, more, digits, absent, decimal, wide, mapped, unit, empty)
+    told: Union[Any, str] = (
+        tags,
+        tag,
+        other,
+        named,
+        both,
+        carried,
+        module,
+        more,
+        digits,
+        absent,
+        decimal,
+        wide,
+        mapped,
+        unit,
+        empty,
+    )
     print(told, floating, endless, never, number, fee, code, entry, staked)
 
 

@@ -1,4 +1,4 @@
-//! Makes the calls that are asked for on standard input, a line each, and answers each by a line. `bindings/rows` starts
+//! Makes the calls that are asked for on standard input, a line each, and answers each by a line. `tests/rows` starts
 //! it, and asks it the rows of the repository's tests.
 use bcs_proved::{Error, ErrorKind, Form, Format, Limits, Registry};
 use std::io::{self, BufRead, Write};

@@ -1,7 +1,9 @@
-"""What hostile input costs: the schema of a file from a stranger, values longer than the connection allows, and faults.
+"""Tests what hostile input costs: a stranger's schema, values longer than the connection allows, and faults.
 
     /usr/bin/python3 bindings/sqlite/tests/hostile.py EXTENSION
 """
+
+from __future__ import annotations
 
 import contextlib
 import ctypes
@@ -12,14 +14,22 @@ import sys
 import tempfile
 import time
 import unittest
+from collections.abc import Iterator
 
 EXTENSION = sys.argv.pop(1)
 ENDLESS = "'{}', '{\"SEQ\":\"UNIT\"}', x'ffffff07'"
 # Each function with the inputs of a bomb, or with other ones.
 FUNCTIONS = {
-    "bcs_decode": ENDLESS, "bcs_is": ENDLESS, "bcs_scan": ENDLESS, "bcs_fault": ENDLESS, "bcs_part": ENDLESS + ", '.'",
-    "bcs_part_place": ENDLESS + ", '.'", "bcs_explain": ENDLESS + ", 'ways'", "bcs_encode": "'{}', '\"U8\"', 7",
-    "bcs_normalise": "'{}', '\"U8\"', 7", "bcs_equal": "'{}', '\"U8\"', 7, 7",
+    "bcs_decode": ENDLESS,
+    "bcs_is": ENDLESS,
+    "bcs_scan": ENDLESS,
+    "bcs_fault": ENDLESS,
+    "bcs_part": ENDLESS + ", '.'",
+    "bcs_part_place": ENDLESS + ", '.'",
+    "bcs_explain": ENDLESS + ", 'ways'",
+    "bcs_encode": "'{}', '\"U8\"', 7",
+    "bcs_normalise": "'{}', '\"U8\"', 7",
+    "bcs_equal": "'{}', '\"U8\"', 7, 7",
 }
 BOUNDED = FUNCTIONS.keys() - {"bcs_explain"}
 # The places of a schema where an expression is.
@@ -35,7 +45,7 @@ SCHEMAS = {
 USES = {"a view": "select * from v", "a generated column": "select * from t"}
 
 
-def length(number):
+def length(number: int) -> bytes:
     """ULEB128, as docs/FORMAT.md has it."""
     data = bytearray()
     while number > 127:
@@ -44,16 +54,16 @@ def length(number):
     return bytes(data) + bytes([number])
 
 
-def taken(is_reset=False):
+def taken(is_reset: bool = False) -> int:
     """The most memory that SQLite had at a time."""
     highwater = ctypes.CDLL("libsqlite3.so.0").sqlite3_memory_highwater
     highwater.argtypes, highwater.restype = [ctypes.c_int], ctypes.c_int64
-    return highwater(is_reset)
+    return int(highwater(is_reset))
 
 
 @contextlib.contextmanager
-def heap(megabytes):
-    """For a while SQLite has no more memory. (Its pragma could only lower the limit.)"""
+def heap(megabytes: int) -> Iterator[None]:
+    """Limits SQLite's memory for a while. (Its pragma could only lower the limit.)"""
     limit = ctypes.CDLL("libsqlite3.so.0").sqlite3_hard_heap_limit64
     limit.argtypes, limit.restype = [ctypes.c_int64], ctypes.c_int64
     limit(megabytes * 1000000)
@@ -63,7 +73,7 @@ def heap(megabytes):
         limit(0)
 
 
-def opened(path=":memory:"):
+def opened(path: str | pathlib.Path = ":memory:") -> sqlite3.Connection:
     database = sqlite3.connect(path)
     database.enable_load_extension(True)
     database.load_extension(EXTENSION)
@@ -71,12 +81,12 @@ def opened(path=":memory:"):
 
 
 class Hostile(unittest.TestCase):
-    def setUp(self):
+    def setUp(self) -> None:
         folder = tempfile.TemporaryDirectory()
         self.addCleanup(folder.cleanup)
         self.path = pathlib.Path(folder.name) / "hostile.db"
 
-    def used(self, schema, expression):
+    def used(self, schema: str, expression: str) -> str | None:
         """What a file with the schema does in a connection that doesn't trust it: an error, or nothing."""
         self.path.unlink(missing_ok=True)
         stranger = opened(self.path)
@@ -94,8 +104,8 @@ class Hostile(unittest.TestCase):
         finally:
             database.close()
 
-    def test_schemas(self):
-        """No function that takes nodes runs, nor bcs_explain; each other one does, and is refused for its nodes at most."""
+    def test_schemas(self) -> None:
+        """No call with a limit of nodes runs, nor does bcs_explain. The others are refused for their nodes at most."""
         count = 0
         for schema in SCHEMAS:
             for name, inputs in FUNCTIONS.items():
@@ -108,7 +118,7 @@ class Hostile(unittest.TestCase):
                     count += 1
         print(f"hostile: {count} expressions in schemas")
 
-    def test_trusted(self):
+    def test_trusted(self) -> None:
         """In the application's own statements all of them run."""
         database = opened()
         database.execute("pragma trusted_schema = off")
@@ -119,13 +129,15 @@ class Hostile(unittest.TestCase):
                 except sqlite3.Error as fault:
                     self.assertIn("TooManyNodes", str(fault))
 
-    def test_memory(self):
-        """The most that a few bytes take in a schema: the default nodes, all without bytes."""
+    def test_memory(self) -> None:
+        """The most that a few bytes cost in a schema: the default number of nodes, all without bytes."""
         pair = [{"TYPENAME": f"T{number + 1}"} for number in range(40)]
         doubling = {f"T{number}": {"TUPLESTRUCT": [pair[number], pair[number]]} for number in range(40)}
         questions = [
-            ("{}", '{"SEQ":"UNIT"}', length(999_999)), ("{}", '{"SEQ":{"SEQ":"UNIT"}}', b"\1" + length(999_998)),
-            (json.dumps({**doubling, "T40": "UNITSTRUCT"}), "T23", b""), (json.dumps({**doubling, "T40": "UNITSTRUCT"}), "T0", b""),
+            ("{}", '{"SEQ":"UNIT"}', length(999_999)),
+            ("{}", '{"SEQ":{"SEQ":"UNIT"}}', b"\1" + length(999_998)),
+            (json.dumps({**doubling, "T40": "UNITSTRUCT"}), "T23", b""),
+            (json.dumps({**doubling, "T40": "UNITSTRUCT"}), "T0", b""),
         ]
         for question in questions:
             with contextlib.closing(opened()) as database, heap(100):
@@ -136,10 +148,10 @@ class Hostile(unittest.TestCase):
                     self.assertIn("TooManyNodes", str(fault))
                 print(f"hostile: decoding {question[1]} took {time.process_time() - start:.2f} s")
 
-    def test_long_names(self):
-        """An answer has the names of a registry for each element. A long one can't make it take more memory; long inputs can."""
+    def test_long_names(self) -> None:
+        """An answer has a registry's names for each element. Only long inputs make it allocate more, not long names."""
         named = '{"A":{"STRUCT":[{"%s":"UNIT"}]}}' % ("x" * 100_000)
-        decoded = "select length(bcs_decode(?, '{\"SEQ\":{\"TYPENAME\":\"A\"}}', ?))"
+        decoded = 'select length(bcs_decode(?, \'{"SEQ":{"TYPENAME":"A"}}\', ?))'
         element = len('{"":null},') + 100_000
         with contextlib.closing(opened()) as database:
             self.assertEqual(database.execute(decoded, [named, length(500)]).fetchone(), (500 * element + 1,))
@@ -150,38 +162,45 @@ class Hostile(unittest.TestCase):
                 self.assertLess(taken(), 300_000_000)
         with contextlib.closing(opened()) as database:
             data = length(100_000_000) + bytes(100_000_000)
-            self.assertEqual(database.execute("select length(bcs_decode('{}', '\"BYTES\"', ?))", [data]).fetchone(), (200_000_002,))
+            self.assertEqual(
+                database.execute("select length(bcs_decode('{}', '\"BYTES\"', ?))", [data]).fetchone(), (200_000_002,)
+            )
 
-    def test_length(self):
-        """A connection's limit on values is that of the answers, before their memory is asked for."""
+    def test_length(self) -> None:
+        """A connection's limit on values also holds for answers, before their memory is allocated."""
         database = opened()
         database.setlimit(sqlite3.SQLITE_LIMIT_LENGTH, 100_000)
         units = "'{}', '{\"SEQ\":\"UNIT\"}', x'bf843d'"
         with self.assertRaisesRegex(sqlite3.DataError, "too big"):
             database.execute(f"select bcs_decode({units})")
-        self.assertEqual(database.execute("select length(bcs_decode('{}', '{\"SEQ\":\"UNIT\"}', x'904e'))").fetchone(), (50001,))
+        self.assertEqual(
+            database.execute("select length(bcs_decode('{}', '{\"SEQ\":\"UNIT\"}', x'904e'))").fetchone(), (50001,)
+        )
         with self.assertRaisesRegex(sqlite3.DataError, "too big"):
-            database.execute("select bcs_explain('{}', '{\"SEQ\":\"BOOL\"}', x'8827' || zeroblob(5000), 'ways')".replace(
-                "x'8827' || zeroblob(5000)", "?"), [length(5000) + bytes(5000)])
+            explained = "select bcs_explain('{}', '{\"SEQ\":\"BOOL\"}', ?, 'ways')"
+            database.execute(explained, [length(5000) + bytes(5000)])
 
 
 class Faults(unittest.TestCase):
-    """The last byte of a list is bad. bcs_fault finds that like bcs_is, and walks twice more for the place and what was expected. Under
-    a long key the way there is long, too."""
+    """The last byte of a list is bad. bcs_fault finds that like bcs_is, and then walks twice more.
 
-    def inputs(self, size):
+    That is for the place and for what was expected. Under a long key the path to the place is long, too.
+    """
+
+    def inputs(self, size: int) -> Iterator[tuple[str, bytes, str]]:
         yield '{"SEQ":"BOOL"}', length(size) + b"\1" * (size - 1) + b"\2", f"[{size - 1}]"
         half = size // 2
         listed = length(half) + b"\1" * (half - 1) + b"\2"
-        yield '{"MAP":{"KEY":"STR","VALUE":{"SEQ":"BOOL"}}}', b"\1" + length(half) + b"k" * half + listed, f"[{half - 1}]"
+        map = '{"MAP":{"KEY":"STR","VALUE":{"SEQ":"BOOL"}}}'
+        yield map, b"\1" + length(half) + b"k" * half + listed, f"[{half - 1}]"
 
-    def test_sizes(self):
+    def test_sizes(self) -> None:
         for size in 40_000, 400_000:
             for format, data, end in self.inputs(size):
                 with self.subTest(size=size, format=format):
                     self.check(format, data, end)
 
-    def check(self, format, data, end):
+    def check(self, format: str, data: bytes, end: str) -> None:
         database = opened()
         costs = {}
         for name in "bcs_is", "bcs_fault":
@@ -195,8 +214,9 @@ class Faults(unittest.TestCase):
         fault = json.loads(answer)
         self.assertEqual((fault["refused"], fault["place"], fault["want"]), ("BadBool", len(data) - 1, "BOOL"))
         self.assertTrue(fault["name"].endswith(end))
-        print(f"hostile: bcs_fault of {len(data)} bytes took {costs['bcs_fault']:.1f} ms, and bcs_is {costs['bcs_is']:.1f}")
-        self.assertLess(costs["bcs_fault"], 6 * costs["bcs_is"] + len(data) / 10_000)
+        cost, judged = costs["bcs_fault"], costs["bcs_is"]
+        print(f"hostile: bcs_fault of {len(data)} bytes took {cost:.1f} ms, and bcs_is {judged:.1f}")
+        self.assertLess(cost, 6 * judged + len(data) / 10_000)
 
 
 if __name__ == "__main__":

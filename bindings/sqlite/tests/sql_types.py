@@ -1,21 +1,26 @@
-"""Every type of SQLite at every argument, and every kind of JSON at every format: the right answer, or a rejection. What is right
-is worked out by ../../sql/values.py.
+"""Tests every type of SQLite at every argument, and every kind of JSON at every format.
+
+Each gets the right answer, which bindings/sql/values.py works out, or is rejected.
 
     /usr/bin/python3 bindings/sqlite/tests/sql_types.py EXTENSION
 """
+
+from __future__ import annotations
 
 import json
 import pathlib
 import sqlite3
 import sys
 import unittest
+from typing import Any
 
 sys.path.append(str(pathlib.Path(__file__).resolve().parents[2] / "sql"))
-from values import FORMATS, REGISTRY, TEXTS, digits_of
+from values import FORMATS, REGISTRY, TEXTS, digits_of  # noqa: E402
 
 EXTENSION = sys.argv.pop(1)
 U64_OF_7 = "07" + "00" * 7
-# A value of each type that could pass for 7, for {} or for U8. Both jsonb's form of 123 and the bytes of 7 are digits as a text.
+# A value of each type that could pass for 7, for {} or for U8. As text, both jsonb's form of 123 and the bytes of 7 are
+# digits.
 VALUES = {
     "INTEGER": ["7", "-7", "9223372036854775807", "true"],
     "REAL": ["7.0", "9007199254740993.0", "18446744073709551615", "1e3", "1e400", "-0.0"],
@@ -34,33 +39,56 @@ CALLS = [
     ("bcs_normalise('{}', '\"U64\"', ?)", ["TEXT", "INTEGER"], VALUE),
     ("bcs_equal('{}', '\"U64\"', ?, '8')", ["TEXT", "INTEGER"], VALUE),
     ("bcs_equal('{}', '\"U64\"', '8', ?)", ["TEXT", "INTEGER"], VALUE),
-    *((call, ["BLOB"], PLAIN) for call in [
-        "bcs_decode('{}', '\"U8\"', ?)", "bcs_is('{}', '\"U8\"', ?)", "bcs_scan('{}', '\"U8\"', ?)", "bcs_fault('{}', '\"U8\"', ?)",
-        "bcs_part('{}', '\"U8\"', ?, '.')", "bcs_part_place('{}', '\"U8\"', ?, '.')", "bcs_explain('{}', '\"U8\"', ?, 'json')",
-    ]),
-    *((call, ["TEXT", "BLOB"], NEITHER("registry", "TEXT", "BLOB")) for call in [
-        "bcs_is(?, '\"U8\"', x'07')", "bcs_encode(?, '\"U8\"', 7)",
-    ]),
-    *((call, ["TEXT"], FORMAT) for call in ["bcs_is('{}', ?, x'07')", "bcs_encode('{}', ?, 7)", "bcs_equal('{}', ?, 7, 8)"]),
-    *((call, ["TEXT"], WORD) for call in ["bcs_part('{}', '\"U8\"', x'07', ?)", "bcs_explain('{}', '\"U8\"', x'07', ?)"]),
-    *((call, ["INTEGER"], LIMITS) for call in [
-        "bcs_is('{}', '\"U8\"', x'07', ?)", "bcs_is('{}', '\"U8\"', x'07', 1, ?)", "bcs_encode('{}', '\"U8\"', 7, ?)",
-        "bcs_part('{}', '\"U8\"', x'07', '.', ?)",
-    ]),
+    *(
+        (call, ["BLOB"], PLAIN)
+        for call in [
+            "bcs_decode('{}', '\"U8\"', ?)",
+            "bcs_is('{}', '\"U8\"', ?)",
+            "bcs_scan('{}', '\"U8\"', ?)",
+            "bcs_fault('{}', '\"U8\"', ?)",
+            "bcs_part('{}', '\"U8\"', ?, '.')",
+            "bcs_part_place('{}', '\"U8\"', ?, '.')",
+            "bcs_explain('{}', '\"U8\"', ?, 'json')",
+        ]
+    ),
+    *(
+        (call, ["TEXT", "BLOB"], NEITHER("registry", "TEXT", "BLOB"))
+        for call in [
+            "bcs_is(?, '\"U8\"', x'07')",
+            "bcs_encode(?, '\"U8\"', 7)",
+        ]
+    ),
+    *(
+        (call, ["TEXT"], FORMAT)
+        for call in ["bcs_is('{}', ?, x'07')", "bcs_encode('{}', ?, 7)", "bcs_equal('{}', ?, 7, 8)"]
+    ),
+    *(
+        (call, ["TEXT"], WORD)
+        for call in ["bcs_part('{}', '\"U8\"', x'07', ?)", "bcs_explain('{}', '\"U8\"', x'07', ?)"]
+    ),
+    *(
+        (call, ["INTEGER"], LIMITS)
+        for call in [
+            "bcs_is('{}', '\"U8\"', x'07', ?)",
+            "bcs_is('{}', '\"U8\"', x'07', 1, ?)",
+            "bcs_encode('{}', '\"U8\"', 7, ?)",
+            "bcs_part('{}', '\"U8\"', x'07', '.', ?)",
+        ]
+    ),
 ]
 
 
 class Types(unittest.TestCase):
     encoding = "UTF-8"
 
-    def setUp(self):
+    def setUp(self) -> None:
         self.database = sqlite3.connect(":memory:")
         self.addCleanup(self.database.close)
         self.database.execute(f"pragma encoding = '{self.encoding}'")
         self.database.enable_load_extension(True)
         self.database.load_extension(EXTENSION)
 
-    def told(self, expression, *arguments):
+    def told(self, expression: str, *arguments: object) -> Any:
         """What an expression answers, bytes as digits, or the text of its error."""
         try:
             answer = self.database.execute("select " + expression, arguments).fetchone()[0]
@@ -68,8 +96,8 @@ class Types(unittest.TestCase):
             return str(fault)
         return answer.hex() if isinstance(answer, bytes) else answer
 
-    def test_json_at_formats(self):
-        """A value as a text, and as the subtype JSON; what is taken comes back as the same bytes."""
+    def test_json_at_formats(self) -> None:
+        """A value as a text, and as the subtype JSON. What is accepted comes back as the same bytes."""
         count = 0
         for format in FORMATS:
             words = REGISTRY, json.dumps(format)
@@ -85,7 +113,7 @@ class Types(unittest.TestCase):
                 count += 1
         print(f"types: {count} JSON values at formats, in {self.encoding}")
 
-    def test_integers(self):
+    def test_integers(self) -> None:
         """An INTEGER is its digits, at each format."""
         for format in FORMATS:
             for number in [0, 1, 7, -7, 255, 256, 2**53 + 1, 2**63 - 1, -(2**63)]:
@@ -96,8 +124,8 @@ class Types(unittest.TestCase):
                 else:
                     self.assertEqual((format, number, told), (format, number, right))
 
-    def test_types(self):
-        """What has another type is told so, and nothing is converted."""
+    def test_types(self) -> None:
+        """A value of another type is rejected with that reason. Nothing is converted."""
         for call, types, message in CALLS:
             for type, expressions in VALUES.items():
                 for expression in expressions:
@@ -109,13 +137,22 @@ class Types(unittest.TestCase):
                     else:
                         self.assertNotEqual((call, expression, told), (call, expression, message))
 
-    def test_columns(self):
-        """A column converts what is stored in it, and what it made of a text is no other number."""
+    def test_columns(self) -> None:
+        """A column converts what is stored in it, and never makes another number of a text."""
         self.database.execute("create table t (t text, i integer, n numeric, r real, b blob)")
-        for written, numeric in [("7", "07"), ("18446744073709551615", VALUE), ("9007199254740993", None), ("1e3", "e803"), ("7.0", "07")]:
+        for written, numeric in [
+            ("7", "07"),
+            ("18446744073709551615", VALUE),
+            ("9007199254740993", None),
+            ("1e3", "e803"),
+            ("7.0", "07"),
+        ]:
             self.database.execute("delete from t")
             self.database.execute("insert into t values (?1, ?1, ?1, ?1, ?1)", [written])
-            text = digits_of("U64", written) or "bcs: no value of the format: BadNumber: wanted a whole number from 0 to 18446744073709551615 (U64)"
+            text = (
+                digits_of("U64", written)
+                or "bcs: no value of the format: BadNumber: wanted a whole number from 0 to 18446744073709551615 (U64)"
+            )
             if numeric is None:
                 numeric = text
             elif numeric != VALUE:
@@ -123,15 +160,21 @@ class Types(unittest.TestCase):
             told = {column: self.told(f"bcs_encode('{{}}', '\"U64\"', {column}) from t") for column in "tinrb"}
             self.assertEqual((written, told), (written, {"t": text, "i": numeric, "n": numeric, "r": VALUE, "b": text}))
 
-    def test_answers(self):
-        """The right answers of what is taken."""
+    def test_answers(self) -> None:
+        """The right answers for what is accepted."""
         for expression, right in [
-            ("bcs_encode('{}', '\"U64\"', '7')", U64_OF_7), ("bcs_encode('{}', '\"U64\"', 7)", U64_OF_7),
-            ("bcs_encode('{}', '\"U64\"', json('7'))", U64_OF_7), ("bcs_encode('{}', '\"U64\"', json_extract('[7]', '$[0]'))", U64_OF_7),
-            ("bcs_encode('{}', '\"I8\"', -7)", "f9"), ("bcs_encode('{}', '\"U64\"', 9223372036854775807)", "ff" * 7 + "7f"),
-            ("bcs_encode('{}', '\"U64\"', '18446744073709551615')", "ff" * 8), ("bcs_equal('{}', '\"U64\"', 7, '\"7\"')", 1),
-            ("bcs_is(x'7b7d', '\"U8\"', x'07')", 1), ("bcs_is(x'7b7d', '\"U8\"', x'')", 0),
-            ("bcs_decode('{}', '\"STR\"', x'0137')", '"7"'), ("bcs_decode('{}', '\"U8\"', x'37')", "55"),
+            ("bcs_encode('{}', '\"U64\"', '7')", U64_OF_7),
+            ("bcs_encode('{}', '\"U64\"', 7)", U64_OF_7),
+            ("bcs_encode('{}', '\"U64\"', json('7'))", U64_OF_7),
+            ("bcs_encode('{}', '\"U64\"', json_extract('[7]', '$[0]'))", U64_OF_7),
+            ("bcs_encode('{}', '\"I8\"', -7)", "f9"),
+            ("bcs_encode('{}', '\"U64\"', 9223372036854775807)", "ff" * 7 + "7f"),
+            ("bcs_encode('{}', '\"U64\"', '18446744073709551615')", "ff" * 8),
+            ("bcs_equal('{}', '\"U64\"', 7, '\"7\"')", 1),
+            ("bcs_is(x'7b7d', '\"U8\"', x'07')", 1),
+            ("bcs_is(x'7b7d', '\"U8\"', x'')", 0),
+            ("bcs_decode('{}', '\"STR\"', x'0137')", '"7"'),
+            ("bcs_decode('{}', '\"U8\"', x'37')", "55"),
         ]:
             self.assertEqual((expression, self.told(expression)), (expression, right))
 

@@ -1,11 +1,13 @@
 #!/usr/bin/env python3
-"""Asks two drivers the same changed texts and bytes, and compares their answers line by line.
+"""Asks two drivers about the same changed texts and bytes, and compares their answers line by line.
 
-    python3 tests/against_native.py COUNT DRIVER [WORD]... -- OTHER-DRIVER [WORD]...
+    python3 bindings/web/tests/against_native.py COUNT DRIVER [WORD]... -- OTHER-DRIVER [WORD]...
 
-What a driver reads and writes bindings/README.md says. The changes are drawn from the values of examples/ and from
-rows of crates/test_calls, and are the same in each run.
+bindings/README.md says what a driver reads and writes. The inputs are values of examples/ and rows of crates/test_calls
+with changes, which are the same in each run.
 """
+
+from __future__ import annotations
 
 import collections
 import json
@@ -31,13 +33,15 @@ class Seed(NamedTuple):
 
 
 def example(registry: str, container: str, name: str) -> Seed:
-    read = lambda file: (ROOT / "examples" / file).read_bytes()
+    def read(file: str) -> bytes:
+        return (ROOT / "examples" / file).read_bytes()
+
     format = json.dumps({"TYPENAME": container}).encode()
     return Seed(read(f"{registry}.json"), format, read(f"{name}.json"), bytes.fromhex(read(f"{name}.hex").decode()))
 
 
 def rows() -> list[Seed]:
-    """The rows `json` whose answer has the bytes."""
+    """The rows `json` whose answer contains the bytes."""
     seeds, registry = [], b"{}"
     folder = ROOT / "crates/test_calls"
     lines = [(folder / name).read_text(encoding="utf-8").split("\n") for name in ("stdin", "stdout")]
@@ -93,7 +97,8 @@ def answers(command: list[str], asked: str) -> list[str]:
     with tempfile.TemporaryFile("w+") as file:
         file.write(asked)
         file.seek(0)
-        return subprocess.run(command, stdin=file, stdout=subprocess.PIPE, text=True, check=True).stdout.split("\n")[:-1]
+        told = subprocess.run(command, stdin=file, stdout=subprocess.PIPE, text=True, check=True).stdout
+    return told.split("\n")[:-1]
 
 
 def main(words: list[str]) -> int:

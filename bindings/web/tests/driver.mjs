@@ -1,4 +1,4 @@
-// node tests/driver.mjs bcs.wasm: answers the lines that bindings/rows asks, by the calls of bcs.mjs.
+// node tests/driver.mjs bcs.wasm: answers the lines that tests/rows asks, by the calls of bcs.mjs.
 import assert from 'node:assert/strict';
 import { readFileSync } from 'node:fs';
 import { createInterface } from 'node:readline';

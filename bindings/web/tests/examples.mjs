@@ -83,5 +83,5 @@ test('package.json asks for the Node that the documents name', () => {
   const at = (name) => readFileSync(new URL(`../${name}`, import.meta.url), 'utf8');
   const [, least] = /with Node (\d+) or later/.exec(at('../../README.md'));
   assert.equal(JSON.parse(at('package.json')).engines.node, `>=${least}`);
-  assert.ok(at('test').includes(`[ "$version" -ge ${least} ]`));
+  assert.ok(at('test.sh').includes(`[ "$version" -ge ${least} ]`));
 });

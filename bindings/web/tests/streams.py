@@ -1,10 +1,10 @@
 #!/usr/bin/env python3
 """Runs the program in Node with pipes, terminals, closed streams, large files and little memory.
 
-    python3 tests/streams.py FOLDER [PROGRAM]
+    python3 bindings/web/tests/streams.py FOLDER [PROGRAM]
 
-FOLDER has the files that bindings/web/build made. If PROGRAM is given, the native one, it has to give the same in all cases but
-those of OF_NODE.
+FOLDER has the files that bindings/web/build.sh made. PROGRAM is the native program. It has to answer the same in all
+cases but those of OF_NODE.
 """
 
 from __future__ import annotations
@@ -81,7 +81,8 @@ def slow_reader(run: Runner, blocks: bool = True) -> None:
         taken += piece
     os.close(ours)
     told = finished(program)
-    expect(f"a slow reader, {blocks=}", Told(told.status, bytes(taken), told.errors), 0, b'"' + b"ab" * MEGABYTE + b'"\n')
+    digits = b'"' + b"ab" * MEGABYTE + b'"\n'
+    expect(f"a slow reader, {blocks=}", told._replace(output=bytes(taken)), 0, digits)
 
 
 def terminal(run: Runner, blocks: bool = True) -> None:
@@ -99,7 +100,7 @@ def terminal(run: Runner, blocks: bool = True) -> None:
 
 
 def without_blocking(run: Runner) -> None:
-    """The same where another process set the stream not to block. The native program gives up there, and Node's waits."""
+    """The same after another process set the stream not to block. The native program gives up then, and Node waits."""
     for case in (slow_pipe, slow_reader, terminal):
         case(run, False)
 
@@ -149,9 +150,10 @@ def large(run: Runner) -> None:
         with file.open("wb") as put:
             put.write(b"\x80\x84\xaf\x5f")
             put.truncate(4 + size)
-        expect("200 MB of a file", finished(run(["scan", *BYTES, str(file)])), 0, f"ok {size + 4}\n".encode())
+        right = f"ok {size + 4}\n".encode()
+        expect("200 MB of a file", finished(run(["scan", *BYTES, str(file)])), 0, right)
         with file.open("rb") as taken, subprocess.Popen(["cat"], stdin=taken, stdout=subprocess.PIPE) as cat:
-            expect("200 MB of a pipe", finished(run(["scan", *BYTES], stdin=cat.stdout)), 0, f"ok {size + 4}\n".encode())
+            expect("200 MB of a pipe", finished(run(["scan", *BYTES], stdin=cat.stdout)), 0, right)
         with file.open("wb") as put:
             put.truncate(MOST_INPUT + 1)
         fault = b"fault: too large\nin the standard input\n"
@@ -160,7 +162,7 @@ def large(run: Runner) -> None:
 
 
 def names(run: Runner) -> None:
-    """Files that can't be opened or read, each with the cause that the program knows."""
+    """Files that can't be opened or read, each with its cause."""
     with tempfile.TemporaryDirectory() as folder:
         room = pathlib.Path(folder)
         (room / "file").write_text("{}")
@@ -177,13 +179,14 @@ def names(run: Runner) -> None:
             "": "open\nin the file : No such file or directory",
         }
         for name, fault in causes.items():
-            expect(f"the file {name[:20]}", finished(run(["check", name], cwd=room)), 4, b"", f"fault: {fault}\n".encode())
+            told = finished(run(["check", name], cwd=room))
+            expect(f"the file {name[:20]}", told, 4, b"", f"fault: {fault}\n".encode())
         for name in ("link", "nö 漢"):
             expect(f"the file {name}", finished(run(["check", name], cwd=room)), 0, b"ok 0\n")
 
 
 def colours(run: Runner) -> None:
-    """Colours are put on a terminal, unless NO_COLOR is set to a text that isn't empty, and in a pipe with --color alone."""
+    """A terminal gets colours, unless NO_COLOR is set and not empty. A pipe gets them with --color only."""
     plain = b" 0 07 U8 7 .\n"
     coloured = b"\x1b[36m 0\x1b[0m 07 \x1b[32mU8 7\x1b[0m .\n"
     for value, on_terminal in (("", coloured), ("1", plain)):
@@ -191,12 +194,14 @@ def colours(run: Runner) -> None:
         ours, theirs = pty.openpty()
         tty.setraw(theirs)
         told = finished_with(run(["explain", "{}", '"U8"'], stdin=subprocess.PIPE, stdout=theirs, env=variables), b"07")
-        expect(f"colours on a terminal, {value=}", one_blank(told._replace(output=os.read(ours, 1000))), 0, on_terminal)
+        told = one_blank(told._replace(output=os.read(ours, 1000)))
+        expect(f"colours on a terminal, {value=}", told, 0, on_terminal)
         os.close(theirs)
         os.close(ours)
         for option, output in (("--quiet", plain), ("--color", coloured)):
             program = run(["explain", option, "{}", '"U8"'], stdin=subprocess.PIPE, env=variables)
-            expect(f"colours in a pipe, {value=}, {option}", one_blank(finished_with(program, b"07")), 0, output)
+            told = one_blank(finished_with(program, b"07"))
+            expect(f"colours in a pipe, {value=}, {option}", told, 0, output)
 
 
 def one_blank(told: Told) -> Told:
@@ -204,14 +209,14 @@ def one_blank(told: Told) -> Told:
 
 
 def little_memory(run: Runner) -> None:
-    """Bytes that announce two billion values, where the system grants a gigabyte."""
+    """Bytes that announce two billion values, with a gigabyte of memory."""
     words = ["decode", "{}", '{"SEQ":"UNIT"}']
     program = run(words, stdin=subprocess.PIPE, preexec_fn=limit(resource.RLIMIT_DATA, 1 << 30))
     expect("a gigabyte of memory", finished_with(program, b"ffffffff07"), 4, b"", b"fault: memory\n")
 
 
 def no_instance(run: Runner) -> None:
-    """Addresses for Node itself alone. Its engine reserves eight gigabytes of them for a module's memory."""
+    """Addresses for Node alone. Its engine reserves eight gigabytes of them for a module's memory."""
     program = run(["check", "{}"], preexec_fn=limit(resource.RLIMIT_AS, 4 << 30))
     expect("no addresses", finished(program), 4, b"", b"fault: memory\n")
 
@@ -221,7 +226,7 @@ def limit(kind: int, size: int) -> Callable[[], None]:
 
 
 def closed_streams(run: Runner) -> None:
-    """Node opens /dev/null in the place of a stream that is closed, so an input has no bytes and an output is lost."""
+    """Node opens /dev/null in place of a closed stream, so an input is empty and an output is lost."""
     told = finished(run(NUMBER, stdin=None, preexec_fn=functools.partial(os.close, 0)))
     expect("a closed input", told._replace(errors=b""), 2, b"refused: NotJson\n")
     told = finished(run(["check", "{}"], stdout=None, preexec_fn=functools.partial(os.close, 1)))
@@ -231,12 +236,20 @@ def closed_streams(run: Runner) -> None:
 def runner(command: list[str]) -> Runner:
     def run(words: list[str], **settings: object) -> subprocess.Popen[bytes]:
         streams: dict[str, object] = {"stdin": subprocess.DEVNULL, "stdout": subprocess.PIPE, "stderr": subprocess.PIPE}
-        return subprocess.Popen([*command, *words], **{**streams, **settings})  # type: ignore[call-overload, no-any-return]
+        settings = streams | settings
+        return subprocess.Popen([*command, *words], **settings)  # type: ignore[call-overload, no-any-return]
 
     return run
 
 
-EVERYWHERE: list[Callable[[Runner], None]] = [slow_pipe, slow_reader, terminal, terminal_output, closed_reader, closed_errors]
+EVERYWHERE: list[Callable[[Runner], None]] = [
+    slow_pipe,
+    slow_reader,
+    terminal,
+    terminal_output,
+    closed_reader,
+    closed_errors,
+]
 EVERYWHERE += [large, names, colours]
 OF_NODE: list[Callable[[Runner], None]] = [without_blocking, little_memory, no_instance, closed_streams]
 

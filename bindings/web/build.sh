@@ -1,0 +1,30 @@
+#!/bin/sh
+# bindings/web/build.sh [--code FILE] [--program-code FILE] FOLDER: makes everything that JavaScript needs in a folder:
+# bcs.wasm, bcs64.wasm and bcs_program.wasm; bcs.mjs with the modules that it imports, and bcs.d.mts; the page bcs.html; and
+# bcs_scalar.wasm, from which bindings/portable makes C. The files are the LLVM modules of the proved library and of the
+# proved program, as `tools/proved_code.py` makes them with `--module` and `--program-module`. A module that isn't named is
+# made first.
+set -eu
+unset CDPATH
+here=$(cd "$(dirname "$0")" && pwd)
+
+unset code program_code
+while [ $# -gt 1 ]; do
+    case $1 in
+        --code) code=$2 ;;
+        --program-code) program_code=$2 ;;
+        *) break ;;
+    esac
+    shift 2
+done
+if [ $# != 1 ] || [ "$1" != "${1#-}" ]; then
+    echo "Usage: bindings/web/build.sh [--code FILE] [--program-code FILE] FOLDER" >&2
+    exit 3
+fi
+folder=$1
+"$here/module.py" ${code+--code "$code"} ${program_code+--program-code "$program_code"} "$folder"
+for name in bcs loader errors support calls values shapes hex octets program host system types declarations identifiers; do
+    install -m 644 "$here/$name.mjs" "$folder/"
+done
+install -m 644 "$here/bcs.d.mts" "$folder/"
+"$here/page/build.py" "$folder"

@@ -1,0 +1,118 @@
+#!/usr/bin/env python3
+"""bindings/web/page/build.py FOLDER: makes FOLDER/bcs.html from the sources here and FOLDER/bcs.wasm.
+
+The page is one file with everything in it. Modules are joined into one script for the page and one for its worker,
+without their imports and the word `export`. The page's policy names its script by its checksum, so that nothing else
+runs.
+"""
+
+from __future__ import annotations
+
+import base64
+import gzip
+import hashlib
+import json
+import pathlib
+import re
+import sys
+
+HERE = pathlib.Path(__file__).resolve().parent
+EXAMPLES = HERE.parent.parent.parent / "examples"
+
+# Each module comes after those that it imports.
+WORKER = ["../errors", "../hex", "../octets", "../shapes", "../values", "../calls", "../support", "../loader"]
+WORKER += ["layout", "blank", "outline", "worker"]
+SCRIPT = ["../hex", "../support", "names", "reasons", "lights", "link", "pane", "places", "questions", "digits", "tree"]
+SCRIPT += ["main"]
+
+# The title, the registry, the container, the side, and the file with the value; without a file the value is blank.
+LISTED = [
+    ("Aptos: a transfer", "aptos_registry", "RawTransaction", "text", "aptos_transfer.json"),
+    ("Aptos: two of three signatures", "aptos_registry", "SignedTransaction", "text", "aptos_two_of_three.json"),
+    ("Aptos: damaged bytes", "aptos_registry", "RawTransaction", "bytes", "aptos_transfer_damaged.hex"),
+    ("Sui: a transfer", "sui_registry", "TransactionData", "text", "sui_transfer.json"),
+    ("Sui: a stake", "sui_registry", "TransactionData", "text", "sui_stake.json"),
+    ("Sui: damaged bytes", "sui_registry", "TransactionData", "bytes", "sui_stake_damaged.hex"),
+    ("Diem: a blank transaction", "diem_transaction", "RawTransaction", "text", None),
+]
+
+
+def joined(names: list[str]) -> str:
+    parts = [plain((HERE / f"{name}.mjs").read_text(encoding="utf-8")) for name in names]
+    script = '"use strict";\n' + "\n".join(parts)
+    raise_at_repeated_names(script)
+    return script
+
+
+def plain(module: str) -> str:
+    """A module as a part of a script."""
+    module = re.sub(r"^import\s[^;]*;\n", "", module, flags=re.MULTILINE)
+    return re.sub(r"^export ", "", module, flags=re.MULTILINE)
+
+
+def raise_at_repeated_names(script: str) -> None:
+    names = re.findall(r"^(?:async )?(?:function|class|const|let) (\w+)", script, flags=re.MULTILINE)
+    repeated = {name for name in names if names.count(name) > 1}
+    if repeated:
+        sys.exit(f"two modules of one script have the names: {', '.join(sorted(repeated))}")
+
+
+def example(title: str, registry: str, container: str, side: str, file: str | None) -> dict[str, str]:
+    return {
+        "title": title,
+        "registry": (EXAMPLES / f"{registry}.json").read_text(encoding="utf-8"),
+        "format": json.dumps({"TYPENAME": container}, separators=(",", ":")),
+        "side": side,
+        "content": (EXAMPLES / file).read_text(encoding="utf-8").strip() if file else "",
+    }
+
+
+def checksum(text: str) -> str:
+    return "'sha256-" + base64.b64encode(hashlib.sha256(text.encode()).digest()).decode() + "'"
+
+
+def policy(script: str, style: str) -> str:
+    return "; ".join(
+        [
+            "default-src 'none'",
+            f"script-src {checksum(script)} 'wasm-unsafe-eval'",
+            f"style-src {checksum(style)}",
+            "worker-src blob:",
+            "connect-src 'none'",
+            "base-uri 'none'",
+            "form-action 'none'",
+            "require-trusted-types-for 'script'",
+            "trusted-types bcs-worker",
+        ]
+    )
+
+
+def within_script(text: str) -> str:
+    """A text in a script element, which ends at the first `</script`."""
+    if re.search(r"</script|<!--", text, flags=re.IGNORECASE):
+        sys.exit("a source has the end of a script element, or a comment of HTML, in it")
+    return text
+
+
+def main(folder: str) -> None:
+    room = pathlib.Path(folder)
+    module = gzip.compress((room / "bcs.wasm").read_bytes(), 9, mtime=0)
+    script, style = joined(SCRIPT), (HERE / "page.css").read_text(encoding="utf-8")
+    values = {
+        "POLICY": policy(script, style),
+        "STYLE": style,
+        "EXAMPLES": json.dumps([example(*row) for row in LISTED]).replace("<", "\\u003c"),
+        "MODULE": base64.b64encode(module).decode(),
+        "WORKER": within_script(joined(WORKER)),
+        "SCRIPT": within_script(script),
+    }
+    page = (HERE / "page.html").read_text(encoding="utf-8")
+    page = re.sub(r"\{\{(\w+)\}\}", lambda found: values[found[1]], page)
+    (room / "bcs.html").write_text(page, encoding="utf-8")
+    print(f"bcs.html {len(page.encode())} bytes")
+
+
+if __name__ == "__main__":
+    if len(sys.argv) != 2:
+        sys.exit(__doc__)
+    main(sys.argv[1])

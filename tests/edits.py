@@ -1,0 +1,106 @@
+#!/usr/bin/env python3
+"""tests/edits.py LOG: checks why the prover rejected the must-fail edits. LOG is what `rt ci` or `rt must-fail`
+printed.
+
+Every edit was rejected because a goal of a clause stayed open. Any other reason, for example that the borrow checker
+doesn't accept the edited function, says nothing about the contract. And the edits that tests/edits.rows lists are
+there, were tried, and were rejected by the clause named there. """
+
+import pathlib
+import re
+import sys
+from typing import NamedTuple
+
+ROOT = pathlib.Path(__file__).resolve().parent.parent
+ROWS = ROOT / "tests/edits.rows"
+# Where the proof of a goal fails; and where a goal has no proof, which is told at a line of the source.
+ANSWER = re.compile(r"(?:\./)?proofs/(?P<path>\S+)/Answers\.antt:\d+:\d+: error: `(?P<goal>[^`]+)`")
+SOURCE = re.compile(
+    r"note: (?P<file>src/\S+?):(?P<line>\d+):\d+: it is not proved that what .* holds [^(]*\(`(?P<goal>[^`]+)`\)"
+)
+
+
+class Row(NamedTuple):
+    """An edit, the public call that it turns, and the function of that crate with the clause that refuses it."""
+
+    edit: str
+    call: str
+    function: str
+    clause: str
+
+    @property
+    def crate(self) -> str:
+        return self.edit.partition("/")[0]
+
+
+def rows() -> list[Row]:
+    lines = [line for line in ROWS.read_text(encoding="utf-8").splitlines() if line and not line.startswith("#")]
+    return [Row(*line.split("\t")) for line in lines]
+
+
+def function_at(file: pathlib.Path, line: int) -> str:
+    """The function in which a line of the source stands. An edit changes no line's number."""
+    names: list[str] = re.findall(r"\bfn (\w+)", "\n".join(file.read_text(encoding="utf-8").split("\n")[:line]))
+    return names[-1] if names else ""
+
+
+def refused_by(row: Row, told: str) -> tuple[str, str]:
+    """The function and the clause that reject the edit: `ensures` if the clause has no name, and the goal if it isn't
+    an `ensures`."""
+    if found := ANSWER.match(told):
+        function = found["path"].rpartition("/")[2]
+    elif found := SOURCE.match(told):
+        function = function_at(ROOT / "crates" / row.crate / found["file"], int(found["line"]))
+    else:
+        return "", ""
+    kind, _, clause = found["goal"].partition("-clause-")
+    return function, (clause or "ensures") if kind.partition("-")[0] == "returns" else found["goal"]
+
+
+def wrong_with(row: Row, log: str) -> str:
+    """What is wrong with a row, or nothing."""
+    crate = ROOT / "crates" / row.crate
+    if not (ROOT / "crates" / row.edit.replace("/", "/must-fail/")).with_suffix(".edit").is_file():
+        return "there is no such edit"
+    if not any(
+        re.search(rf"\bpub fn {row.call}\b", file.read_text(encoding="utf-8")) for file in crate.glob("src/**/*.rt")
+    ):
+        return f"{row.crate} has no public call {row.call}"
+    told: list[str] = re.findall(rf"must-fail {re.escape(row.edit)}\.edit: (.*)", log)
+    if len(told) != 1:
+        return f"it was tried {len(told)} times"
+    if not told[0].startswith("refused, as it must be: "):
+        return told[0][:200]
+    by = refused_by(row, told[0].removeprefix("refused, as it must be: "))
+    return (
+        ""
+        if by == (row.function, row.clause)
+        else f"it is refused by {' '.join(by)}, and not by {row.function} {row.clause}: {told[0]}"
+    )
+
+
+def rejected_otherwise(log: str) -> list[str]:
+    """The lines of edits that no clause rejected."""
+    lines = re.findall(r"must-fail \S+\.edit: .*", log)
+    return [line for line in lines if not re.search(r": refused, as it must be: (note: |\S+:\d+:\d+: error: )", line)]
+
+
+def main(words: list[str]) -> int:
+    if len(words) != 1:
+        print(__doc__)
+        return 3
+    log = pathlib.Path(words[0]).read_text(encoding="utf-8", errors="replace")
+    otherwise = rejected_otherwise(log)
+    for line in otherwise:
+        print(f"edits: FAILED: no clause rejects this: {line}")
+    listed = rows()
+    wrong = {row.edit: what for row in listed if (what := wrong_with(row, log))}
+    for edit, what in wrong.items():
+        print(f"edits: FAILED: {edit}: {what}")
+    right = len(listed) - len(wrong)
+    print(f"edits: the clauses that tests/edits.rows names reject {right} planted bugs, and {len(wrong)} not")
+    return 1 if otherwise or wrong or not listed else 0
+
+
+if __name__ == "__main__":
+    sys.exit(main(sys.argv[1:]))

@@ -1,0 +1,109 @@
+#!/usr/bin/env python3
+"""Runs `bcs explain` at each row of explain.rows and at the bytes of the examples, whose tables are stored beside them.
+
+    tests/explain.py [FOLDER]
+
+FOLDER has the program `bcs`; without it, the proved one is tested, as `rt ci` or `rt run` left it. The expected answers
+were made from the rules, and never by the program.
+"""
+
+import os
+import pathlib
+import re
+import subprocess
+import sys
+from collections.abc import Iterator
+from typing import NamedTuple
+
+ROOT = pathlib.Path(__file__).resolve().parent.parent
+sys.path.insert(0, str(ROOT / "tests/rows"))
+from explain_rows import EXAMPLES, ExplainRow, joined, rows_of_table  # noqa: E402 (the folder has to be known first)
+
+ROW_OF_BYTES = re.compile(r"\| (\d+) \|([^|]*)\|.*")
+
+
+class HandWritten(NamedTuple):
+    """Bytes in a row of BYTES.md, as digits: the file that has them, and where."""
+
+    file: str
+    place: int
+    digits: str
+
+
+def explain(words: list[str], stdin: str, stderr: int | None) -> subprocess.CompletedProcess[str]:
+    command = [b"bcs", b"explain", *(word.encode() for word in words)]
+    return subprocess.run(command, input=stdin, stdout=subprocess.PIPE, stderr=stderr, encoding="utf-8")
+
+
+def faults_of_row(row: ExplainRow) -> Iterator[str]:
+    ended = explain([*row.options, row.registry.decode(), row.format], f"{row.digits}\n", None)
+    is_refused = "refused:" in row.wanted or '"refused":' in row.wanted
+    if ended.returncode != (2 if is_refused else 0) or joined(ended.stdout) != row.wanted:
+        yield f"{row.name}: status {ended.returncode}, {ended.stdout}"
+
+
+def faults_of_example(name: str, registry: str, format: str) -> Iterator[str]:
+    ended = explain([f"examples/{registry}.json", format, f"examples/{name}.hex"], "", subprocess.STDOUT)
+    if ended.stdout != pathlib.Path(f"examples/{name}.explained").read_text(encoding="utf-8"):
+        yield f"the table of {name}: {ended.stdout[:300]}"
+
+
+def hand_written() -> Iterator[HandWritten]:
+    """The rows of the tables that were written by hand."""
+    name = ""
+    for line in pathlib.Path("examples/BYTES.md").read_text(encoding="utf-8").split("\n"):
+        if line.startswith("## "):
+            name = re.sub("[`,]", "", line.split()[1])
+        elif row := ROW_OF_BYTES.fullmatch(line):
+            yield HandWritten(name, int(row[1]), digits_of(row[2].replace("`", "").split()))
+
+
+def digits_of(words: list[str]) -> str:
+    """Digits in which `00 × 3` stands for 000000."""
+    digits = ""
+    for number, word in enumerate(words):
+        if number and words[number - 1] == "×":
+            digits += (int(word) - 1) * words[number - 2]
+        elif word != "×":
+            digits += word
+    return digits
+
+
+def faults_by_hand(row: HandWritten) -> Iterator[str]:
+    """The value's file has these bytes, and a line of its table begins there."""
+    path = pathlib.Path("examples") / row.file
+    digits = path.read_text(encoding="utf-8").replace("\n", "")
+    table = path.with_suffix(".explained").read_text(encoding="utf-8")
+    if not digits.startswith(row.digits, 2 * row.place) or not re.search(rf"^ *{row.place}  ", table, re.MULTILINE):
+        yield f"BYTES.md at {row.place} of {row.file}"
+
+
+def faults_of_paths() -> Iterator[str]:
+    """The word PATH of each piece leads `part` to it."""
+    ended = subprocess.run(["tests/paths.py"], stdout=subprocess.PIPE, stderr=subprocess.STDOUT, text=True)
+    if ended.returncode != 0:
+        yield ended.stdout
+
+
+def main(folder: str) -> int:
+    program = pathlib.Path(folder).resolve() / "bcs"
+    os.chdir(ROOT)
+    if not os.access(program, os.X_OK):
+        sys.exit(f"explain: FAILED: {program} isn't a program")
+    os.environ["PATH"] = f"{program.parent}:{os.environ['PATH']}"
+    rows, by_hand = list(rows_of_table(ROOT)), list(hand_written())
+    tests = [
+        *map(faults_of_row, rows),
+        *(faults_of_example(name, *words) for name, words in EXAMPLES.items()),
+        *map(faults_by_hand, by_hand),
+        faults_of_paths(),
+    ]
+    faults = [fault for test in tests for fault in test]
+    for fault in faults:
+        print(f"explain: FAILED: {fault}")
+    print(f"explain: {len(tests) - len(faults)} passed, {len(faults)} failed")
+    return 0 if rows and by_hand and not faults else 1
+
+
+if __name__ == "__main__":
+    sys.exit(main(sys.argv[1] if len(sys.argv) > 1 else str(ROOT / "crates/bcs/out")))

@@ -1,0 +1,238 @@
+"""The jobs at which tests/memory.py runs `bcs` with its requests for memory refused, and the files that they need."""
+
+from memory_of_program import Job
+
+S = '{"S":{"NEWTYPESTRUCT":"I16"}}'
+I16, U8, BOOL = '"I16"', '"U8"', '"BOOL"'
+LIST = '{"SEQ":"I16"}'
+PAIRS = '{"MAP":{"KEY":"U16","VALUE":"BOOL"}}'
+NESTED = '{"L":{"STRUCT":[{"next":{"OPTION":{"TYPENAME":"L"}}}]}}'
+OPENED = "fault: open"
+NO_FILE = "in the file no.file: No such file or directory"
+NOT_JSON = "at line 1, column 1: NotJson: serde_json stops reading there"
+TOO_MANY_NODES = "at .: TooManyNodes: wanted I16; --nodes allows 1"
+WRONG_NUMBER = "BadNumber: wanted a whole number from -32768 to 32767 (I16)"
+VARIANTS = '{"E":{"ENUM":{"0":{"B":"UNIT"},"1":{"A":{"NEWTYPE":"U8"}}}}}'
+FULL = '{"MAP":{"KEY":{"OPTION":{"TUPLE":["U8"]}},"VALUE":{"TYPENAME":"E"}}}'
+TALLY = "lines with status 0: {}, with status 1: {}, with status 2: {}".format
+DEPTH = "TooDeep: more containers are open than allowed; --depth allows 0"
+LOOKS_LIKE_YAML = "; it looks like YAML, and docs/REGISTRIES.md says how it becomes JSON"
+UNKNOWN = '{"S":{"NEWTYPESTRUCT":{"TYPENAME":"T"}}}'
+
+# As many containers are open as is allowed in `nested`. The standard input of every run is `number`.
+FILES = {
+    "registry": f"{S}\n".encode(),
+    "number": b"-4660\n",
+    "bytes": b"\xcc\xed",
+    "base64": b"zO0=\n",
+    "map": b"[[1,true],[256,false]]\n",
+    "map_bytes": b"\2\0\1\0\1\0\1",
+    "nested": 499 * b"\1" + b"\0",
+    "digits": b"cced\ncc\nzz",
+    "lines": b"7\n[\n-4660",
+    "fewer": b"7\n[\n",
+    "list": b"[1,32767]\n",
+    "large": b"[1,32768]\n",
+    "open": b"[\n",
+    "yaml": b"S: UNITSTRUCT\n",
+}
+
+# The program's words, its files, its input and its answer.
+WORDS_AND_ANSWERS = [
+    Job(0, "cced", ["encode", "@registry", "S"]),
+    Job(0, "cced", ["encode", "{}", I16, "@number"]),
+    Job(0, "\xcc\xed", ["encode", "{}", I16, "@number", "--raw"]),
+    Job(0, "-4660", ["decode", "--raw", "@registry", "S", "--nodes", "1000", "@bytes"]),
+    Job(0, "*cced*I16 -4660*", ["explain", "--raw", "@registry", "S", "@bytes"], hints=3),
+    Job(0, '{"bytes":"cced",*', ["explain", "--json", "--raw", "@registry", "S", "@bytes"], hints=3),
+    Job(0, "*cced*.  inner", ["explain", "--paths", "--no-color", "--raw", "@registry", "S", "@bytes"]),
+    Job(
+        2,
+        "*cced*refused: TooManyNodes at 0",
+        ["explain", "--raw", "@registry", "S", "--nodes", "1", "@bytes"],
+        hints=3,
+    ),
+    Job(0, "\xcc\xed", ["part", "--raw", "@registry", "S", "inner", "@bytes"]),
+    Job(0, "zO0=", ["encode", "--base64", "{}", I16, "@number"]),
+    Job(0, "zO0=", ["part", "--base64", "@registry", "S", "inner", "@base64"]),
+    Job(
+        2,
+        "refused: BadBase64",
+        ["decode", "--base64", "{}", I16, "@bytes"],
+        place="at byte 0 of the input: BadBase64: a character that is no sign of base64",
+        left_out=5,
+    ),
+    Job(0, "-4660", ["normalise", "{}", I16, "@number"]),
+    Job(0, "equal", ["same", "--depth=0", "{}", I16, "@number", "@number"]),
+    Job(0, "ok 0", ["check", "{}"]),
+    Job(0, "grows", ["grows", "{}", "@registry"]),
+    Job(0, "S: container added\ngrows", ["grows", "--list", "{}", "@registry"]),
+    Job(2, "S: Missing\nrefused: Missing", ["grows", "--quiet", "--list", "@registry", "{}"]),
+]
+# A map, and as many open containers as are allowed.
+MAPS = [
+    Job(0, "02000100010001", ["encode", "{}", PAIRS, "@map"]),
+    Job(0, "[[256,false],[1,true]]", ["normalise", "{}", PAIRS, "@map"]),
+    Job(0, "equal", ["same", "{}", PAIRS, "@map", "@map"]),
+    Job(0, "[[256,false],[1,true]]", ["decode", "--raw", "{}", PAIRS, "@map_bytes"]),
+    Job(0, "\1", ["part", "--raw", "{}", PAIRS, "key:0100", "@map_bytes"]),
+    Job(2, "refused: TooNested", ["decode", "--raw", NESTED, "L", "@nested"]),
+    Job(0, "ok 500", ["scan", "--raw", NESTED, "L", "@nested"]),
+]
+# A registry in readable form, and examples.
+DISPLAYS = [
+    Job(0, "S: NEWTYPESTRUCT, 2 bytes, used by no other\n  I16", ["show", "@registry"]),
+    Job(0, S, ["show", "--json", "@registry", "S"]),
+    Job(
+        2,
+        "refused: UnknownName",
+        ["show", "@registry", "T"],
+        place="at NAME: UnknownName: no container is called T",
+        left_out=14,
+    ),
+    Job(0, '*"type": "boolean"*', ["schema", "@registry", BOOL]),
+    Job(0, '*"#/$defs/I16"*', ["schema", "@registry", "S"]),
+    Job(0, "[]", ["example", "{}", LIST]),
+    Job(0, '{"A":0}', ["example", "--variant", "A", VARIANTS, "E"]),
+    Job(0, '[[{"some":[0]},"X"]]', ["example", "--full", '{"E":{"ENUM":{"0":{"X":"UNIT"}}}}', FULL]),
+    Job(2, "refused: UnknownVariant", ["example", "--variant", "C", '{"E":{"ENUM":{"0":{"B":"UNIT"}}}}', "E"]),
+]
+# Verdicts without a text: of bytes that are in memory, and of others that are checked as they come.
+VERDICTS = [
+    Job(0, "ok 2", ["scan", "--raw", "@registry", "S", "@bytes"]),
+    Job(0, "ok 1", ["scan", "--raw", "--front", "{}", U8, "@bytes"]),
+    Job(2, "refused: TrailingBytes at 1", ["scan", "--raw", "{}", U8, "@bytes"]),
+    Job(
+        2,
+        "refused: BadHex",
+        ["scan", "{}", I16, "@digits"],
+        place="at byte 4 of the input: BadHex: a character that is no hexadecimal digit",
+        left_out=4,
+    ),
+]
+LINES = [
+    Job(
+        2,
+        "0700\nrefused: NotJson\ncced",
+        ["encode", "--lines", "{}", I16, "@lines"],
+        place=TALLY(2, 0, 1),
+        left_out=6,
+    ),
+    Job(2, "7\nrefused: NotJson\n-4660", ["normalise", "--quiet", "--lines", "{}", I16, "@lines"]),
+    Job(
+        2,
+        "ok 2\nrefused: EndOfInput at 1\nrefused: BadHex",
+        ["scan", "--lines", "@registry", "S", "@digits"],
+        place=TALLY(1, 0, 2),
+        left_out=6,
+    ),
+    Job(
+        2,
+        "equal\nrefused: NotJson\ndifferent",
+        ["same", "--lines", "{}", I16, "@lines", "@fewer"],
+        place=TALLY(1, 1, 1) + "; B has no line 3",
+        left_out=7,
+    ),
+    Job(1, "different\ndifferent", ["same", "--quiet", "--lines", "@registry", "S", "@number", "@lines"]),
+    Job(4, "", ["same", "--lines", "{}", I16, "no.file"], place=f"{OPENED}\n{NO_FILE}", left_out=3),
+]
+# What is refused, and where.
+REFUSALS = [
+    Job(
+        2,
+        "refused: TooManyNodes at 0",
+        ["decode", "--raw", "@registry", "S", "--nodes", "1", "@bytes"],
+        place=TOO_MANY_NODES,
+        left_out=14,
+    ),
+    Job(
+        2,
+        "refused: TooManyNodes at 0",
+        ["part", "--raw", "@registry", "S", ".", "--nodes", "1", "@bytes"],
+        place=TOO_MANY_NODES,
+        left_out=14,
+    ),
+    Job(
+        2,
+        "refused: BadPath",
+        ["part", "{}", I16, "key:00/07"],
+        place="at PATH, step 2 07: BadPath: wanted a number, inner, or key: and hexadecimal digits",
+        left_out=6,
+    ),
+    Job(
+        2,
+        "refused: BadNumber",
+        ["encode", "{}", LIST, "@large"],
+        place=f"at /1: {WRONG_NUMBER}",
+        hints=2,
+        left_out=11,
+    ),
+    Job(
+        2,
+        "refused: NotJson",
+        ["normalise", "{}", I16, "@open"],
+        place="at line 2, column 0: NotJson: serde_json stops reading there",
+        left_out=5,
+    ),
+    Job(
+        2,
+        "refused: BadNumber",
+        ["same", "{}", LIST, "@list", "@large"],
+        place=f"in B, at /1: {WRONG_NUMBER}",
+        hints=3,
+        left_out=22,
+    ),
+    Job(
+        2,
+        "refused: TooDeep",
+        ["same", "--depth=0", "@registry", "S", "@number", "@number"],
+        place=f"in A, at the whole text: {DEPTH}",
+        left_out=14,
+    ),
+    Job(2, "refused: NotJson", ["check", "{"], place=NOT_JSON, hints=3, left_out=5),
+    Job(2, "refused: NotJson", ["check", "@yaml"], place=NOT_JSON + LOOKS_LIKE_YAML, hints=3, left_out=6),
+    Job(
+        2,
+        "refused: BadShape",
+        ["check", '{"S":7}'],
+        place="at /S: BadShape: wanted a container",
+        hints=6,
+        left_out=9,
+    ),
+    Job(
+        2,
+        "refused: UnknownName",
+        ["grows", "{}", UNKNOWN],
+        place="in NEW, at S: UnknownName: no container is called T",
+        left_out=16,
+    ),
+    Job(
+        2,
+        "refused: BadShape",
+        ["decode", "{}", '{"SEQ":7}'],
+        place="at FORMAT, /SEQ: BadShape: wanted a format",
+        left_out=9,
+    ),
+]
+# Files that aren't there, or can't be read.
+REFUSED_FILES = [
+    Job(4, "", ["check", "no.file"], place=f"{OPENED}\n{NO_FILE}", left_out=3),
+    Job(4, "", ["encode", "{}", I16, "no.file"], place=f"{OPENED}\n{NO_FILE}", left_out=3),
+    Job(4, "", ["same", "{}", I16, ".", "no.file"], place="fault: read\nin the file .", left_out=2),
+]
+# The texts of help, of the version and of usage.
+TEXTS = [
+    Job(0, "*Commands:*", ["--help"]),
+    Job(0, "*Example:*", ["help", "encode"]),
+    Job(0, "*Example:*", ["encode", "--help"]),
+    Job(0, "*Example:*", ["part", "--help"]),
+    Job(0, "bcs *", ["--version"]),
+    Job(3, "*error: *", []),
+    Job(3, "*frobnicate*", ["frobnicate"], hints=62),
+    Job(3, "*Usage: *", ["encode", "{}"]),
+    Job(3, "*extra*", ["check", "{}", "extra"]),
+    Job(3, "*--raw*", ["check", "{}", "--raw"], hints=6),
+]
+
+# In their words the name of a file begins with @.
+JOBS = [*WORDS_AND_ANSWERS, *MAPS, *DISPLAYS, *VERDICTS, *LINES, *REFUSALS, *REFUSED_FILES, *TEXTS]

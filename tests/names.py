@@ -1,0 +1,102 @@
+#!/usr/bin/env python3
+"""tests/names.py [FILE..]: whether what the documents name in `crates/` is there. Without a word: README.md,
+CONTRIBUTING.md, CHANGELOG.md, docs/ and the READMEs of the crates; and whether the crates have the `unsafe impl`s
+listed here and no others, since the prover takes those on trust.
+
+It looks at each path `crates/..`, and between backticks at each crate's name, at the file of definitions of a name
+`CRATE/File`, at "the files `a` and `b` of `CRATE`", and at `src/..`, `specs/..`, `proofs/..` and `must-fail/..` of the
+crate that was named last in the same line, or that the document is of.
+"""
+
+import pathlib
+import re
+import sys
+
+ROOT = pathlib.Path(__file__).resolve().parent.parent
+CRATES = ROOT / "crates"
+# What begins as a crate's name does, and is none; where the calls of C are spoken of all names of its header.
+OTHERS = {"bcs_app", "bcs_program", "bcs_command", "bcs_handle_scan", "bcs_proved"}
+HEADERS = ("bindings/c/include/bcs.h", "bindings/c/proved.h")
+CALLS = {name for file in HEADERS for name in re.findall(r"\bbcs_\w+", (ROOT / file).read_text(encoding="utf-8"))}
+
+# What is unsafe in the crates besides blocks, which are proved, and attributes.
+UNSAFE = ["crates/bcs_c/src/handle.rt: unsafe impl Send for Handle"]
+
+PATH = re.compile(r"(?<!\w/)\bcrates/[\w./*-]*[\w*]")
+NAME = re.compile(r"\b(?:(?:bcs|test|bench)_\w+|example_library\b)")
+CODE = re.compile(r"`([^`]+)`")
+PART = re.compile(r"(?:src|specs|proofs|must-fail)/[\w./*+-]*[\w*]")
+# "the files `a` and `b` of `NAME`" are files of that crate's code.
+OF_CRATE = re.compile(r"\bfiles? ((?:`\w+`(?:, | and )?)+) of \[?`(\w+)`")
+
+
+def is_there(path: pathlib.Path) -> bool:
+    """A file or a folder, of which a name may leave out `.antt` or `.rt`; `*` and `..` stand for anything."""
+    name = str(path.relative_to(ROOT)).replace("..", "*")
+    return any(any(ROOT.glob(name + end)) for end in ("", ".antt", ".rt"))
+
+
+def missing_of(code: str, own: str, crate: str) -> tuple[list[str], str]:
+    """What words between backticks name that isn't there, and the crate that was named last."""
+    missing = []
+    for found in NAME.finditer(code):
+        name, behind = found[0], code[found.end() :]
+        if name in OTHERS or (own == "bcs_c" and name in CALLS):
+            continue
+        crate = name
+        file = re.match(r"/([A-Z]\w*)$", behind)
+        if not (CRATES / name).is_dir() or (file and not is_there(CRATES / name / "specs" / file[1])):
+            missing.append(code)
+    owners = [name for name in (crate, own) if name]
+    if owners and PART.fullmatch(code) and not any(is_there(CRATES / name / code) for name in owners):
+        missing.append(f"{code} of {owners[0]}")
+    return missing, crate
+
+
+def missing_in(file: pathlib.Path) -> list[str]:
+    # These pages speak of the calls of C, as the README of their crate does.
+    own = (
+        "bcs_c"
+        if file.name in ("CHANGELOG.md", "EMBEDDING.md", "HOSTILE_INPUT.md")
+        else file.parent.name
+        if file.parent.parent == CRATES
+        else ""
+    )
+    missing = []
+    for number, line in enumerate(file.read_text(encoding="utf-8").splitlines(), 1):
+        crate, found = "", [path for path in PATH.findall(line) if not is_there(ROOT / path)]
+        for files, name in OF_CRATE.findall(line):
+            found += [
+                f"{file} of {name}"
+                for file in re.findall(r"`(\w+)`", files)
+                if not (CRATES / name / f"src/{file}.rt").exists()
+            ]
+        for code in CODE.findall(line):
+            more, crate = missing_of(code, own, crate)
+            found += more
+        missing += [f"{number}: {name}" for name in dict.fromkeys(found)]
+    return missing
+
+
+def unsafe_items() -> list[str]:
+    """Each word `unsafe` with the words behind it up to a brace, by its file, but for blocks and attributes."""
+    found = []
+    for file in sorted(CRATES.glob("*/src/**/*.rt")):
+        items = re.findall(r"\bunsafe\b(?!\(|\s*\{)[^{]*", file.read_text(encoding="utf-8"))
+        found += [f"{file.relative_to(ROOT)}: {' '.join(words.split())}" for words in items]
+    return found
+
+
+files = [pathlib.Path(word).resolve() for word in sys.argv[1:]]
+documents = ["README.md", "CONTRIBUTING.md", "CHANGELOG.md", "docs/*.md", "crates/*/README.md"]
+files = files or [file for document in documents for file in sorted(ROOT.glob(document))]
+wrong = [f"{file.relative_to(ROOT)}:{name}" for file in files for name in missing_in(file)]
+for place in wrong:
+    print(f"names: FAILED: {place} isn't there")
+print(
+    f"names: what {len(files)} documents name in crates/ is there" if not wrong else f"names: {len(wrong)} aren't there"
+)
+items = UNSAFE if sys.argv[1:] else unsafe_items()
+if items != UNSAFE:
+    print("names: FAILED: tests/names.py lists other `unsafe` items than the crates have:", *items, sep="\n    ")
+sys.exit(1 if wrong or items != UNSAFE else 0)

@@ -1,0 +1,148 @@
+"""The parts of tests/packages.py that make the packages, and check their files without installing them."""
+
+from __future__ import annotations
+
+import pathlib
+import re
+import shutil
+import sys
+from typing import NamedTuple
+
+from trials import ROOT, Failed, Word, ran, refused, run
+
+# The list of licences of Debian's package node-spdx-license-ids.
+SPDX_LICENCES = "/usr/share/nodejs/spdx-license-ids/index.json"
+# The descriptions of packages that name the licence and the version.
+DESCRIPTIONS = ["bindings/rust/Cargo.toml", "bindings/python/pyproject.toml", "bindings/web/package.json"]
+
+
+class Rooms(NamedTuple):
+    """The folders of a run."""
+
+    top: pathlib.Path
+
+    @property
+    def tree(self) -> pathlib.Path:
+        """A copy of the repository."""
+        return self.top / "tree"
+
+    @property
+    def made(self) -> pathlib.Path:
+        """The packages."""
+        return self.top / "made"
+
+    def debian(self, kind: str) -> pathlib.Path:
+        """A bare Debian, of a kind that tests/bare.sh knows."""
+        return self.top / kind
+
+    def package(self, pattern: str) -> pathlib.Path:
+        """The only package with such a name."""
+        found = sorted(self.made.glob(pattern))
+        if len(found) != 1:
+            raise Failed(f"{pattern}: {len(found)} packages, and not one: {found}")
+        return found[0]
+
+
+def last_line(path: pathlib.Path) -> str:
+    return path.read_text(encoding="utf-8").splitlines()[-1] if path.exists() else ""
+
+
+def copy_repository(rooms: Rooms) -> str:
+    """What a clone has, with changes that aren't committed yet, and with current files in dist/."""
+    for name in run("git", "ls-files", "-z", "--cached", "--others", "--exclude-standard").split("\0"):
+        if name and (ROOT / name).exists():
+            (rooms.tree / name).parent.mkdir(parents=True, exist_ok=True)
+            shutil.copy2(ROOT / name, rooms.tree / name)
+    sources = "sources " + run(rooms.tree / "tools/dist_sources.sh").strip()
+    if last_line(ROOT / "dist/BUILT_FROM") == sources:
+        return "packages are made of dist/"
+    if last_line(ROOT / "out/dist/BUILT_FROM") != sources:
+        raise Failed("dist/ and out/dist are older than the sources: run tools/make_dist.sh out/dist")
+    refused(rooms.tree / "tools/packages.py", rooms.made, reason="older than these sources")
+    run(rooms.tree / "tools/take_dist.sh", ROOT / "out/dist")
+    return "packages are made of out/dist"
+
+
+def agree_on_licence_and_version(rooms: Rooms) -> str:
+    """Descriptions and README.md name the same ones. Another licence in one of them is found."""
+    told = run("tests/same_packages.py")
+    other = rooms.top / "other"
+    for name in [*DESCRIPTIONS, "README.md", *(path.name for path in ROOT.glob("LICENSE-*"))]:
+        (other / name).parent.mkdir(parents=True, exist_ok=True)
+        shutil.copy(ROOT / name, other / name)
+    run("tests/same_packages.py", other)
+    description = other / "bindings/web/package.json"
+    description.write_text(re.sub('"license": "[^"]*"', '"license": "Zlib"', description.read_text(encoding="utf-8")))
+    refused("tests/same_packages.py", other, reason="package.json says the license .*Zlib")
+    return told
+
+
+def make_twice(rooms: Rooms) -> str:
+    again = rooms.top / "again"
+    run(rooms.tree / "tools/packages.py", rooms.made)
+    run(rooms.tree / "tools/packages.py", again)
+    run("diff", "-r", rooms.made, again)
+    shutil.rmtree(again)
+    run("sha256sum", "--quiet", "-c", "SHA256SUMS", folder=rooms.made)
+    lines = (rooms.made / "SHA256SUMS").read_text(encoding="utf-8").splitlines()
+    return f"{len(lines)} files, twice the same bytes"
+
+
+def refuse_damage(rooms: Rooms) -> str:
+    """A changed byte, an additional file and newer sources are found before anything is made."""
+    damaged = rooms.top / "damaged"
+    shutil.copytree(rooms.tree, damaged)
+    program, more, source = (
+        damaged / name for name in ["dist/x86_64-linux/bcs", "dist/web/more.mjs", "crates/bcs/src/main.rt"]
+    )
+    command: list[Word] = [damaged / "tools/packages.py", damaged / "made"]
+    whole = program.read_bytes()
+    program.write_bytes(whole + b"x")
+    refused(*command, reason="isn't the file that dist/SHA256SUMS has")
+    program.write_bytes(whole)
+    more.touch()
+    refused(*command, reason=r"dist/SHA256SUMS doesn't list dist/web/more\.mjs")
+    more.unlink()
+    source.write_bytes(source.read_bytes() + b"\n")
+    refused(*command, reason="dist/ is older than these sources")
+    if (damaged / "made").exists():
+        raise Failed("packages were made of damaged files")
+    shutil.rmtree(damaged)
+    return "dist/ with a changed byte, an additional file or newer sources is rejected"
+
+
+def check_bill(rooms: Rooms) -> str:
+    return run(sys.executable, "tests/packages_bill.py", rooms.package("*.spdx.json"), SPDX_LICENCES)
+
+
+def check_debian_packages(rooms: Rooms) -> str:
+    packages = sorted(rooms.made.glob("*.deb"))
+    run("lintian", "--allow-root", "--fail-on", "error", *packages)
+    return f"no error in {len(packages)}"
+
+
+def check_wheels(rooms: Rooms) -> str:
+    """Colours in the output are removed."""
+    return re.sub(r"\x1b\[[0-9;]*m", "", run("twine", "check", "--strict", *sorted(rooms.made.glob("*.whl"))))
+
+
+def check_manual(rooms: Rooms) -> str:
+    unpacked = rooms.top / "program"
+    run("dpkg-deb", "-x", rooms.package("bcs_*_amd64.deb"), unpacked)
+    page = str(unpacked / "usr/share/man/man1/bcs.1.gz")
+    shown = ran("man", "--warnings", "-E", "UTF-8", "-l", "-Tutf8", page, variables={"MANROFFSEQ": ""})
+    if shown.returncode != 0 or shown.stderr:
+        raise Failed(f"status {shown.returncode}: {shown.stderr}")
+    return f"{len(shown.stdout.splitlines())} lines, no warning"
+
+
+def compile_c_files(rooms: Rooms) -> str:
+    """Whether compilers warn of the program and the library in C. tests/everywhere.py runs them."""
+    run("tar", "-C", rooms.top, "-xJf", rooms.package("bcs-*-c.tar.xz"))
+    (folder,) = rooms.top.glob("bcs-*-c")
+    compilers = [name for name in ["gcc", "clang"] if shutil.which(name)]
+    for compiler in compilers:
+        options = ["-std=gnu11", "-Wall", "-Wextra", "-Werror", "-Iinclude", "-fsyntax-only"]
+        tests = sorted((folder / "tests").glob("*.c"))
+        run(compiler, *options, "bcs.c", "bcs_library.c", *tests, "example.c", folder=folder)
+    return f"no warning from {' and '.join(compilers)}"

@@ -1,0 +1,182 @@
+#!/usr/bin/env python3
+"""Tests what a table of rows can't: many lines, deep registries, memory and time, and the examples of the README.
+
+    tests/program.py [FOLDER]
+
+FOLDER has the program `bcs`; without it, the proved one is tested, as `rt ci` or `rt run` left it. It must name the
+logic of the toolchain that is installed here.
+"""
+
+import json
+import os
+import pathlib
+import re
+import resource
+import subprocess
+import sys
+import tempfile
+from concurrent.futures import ThreadPoolExecutor
+from typing import NoReturn
+
+ROOT = pathlib.Path(__file__).resolve().parent.parent
+COUNT = 10_000
+STACK = 8 << 20
+# Of the containers in examples/. Fewer mean that a registry wasn't read.
+LEAST_CONTAINERS = 400
+LEVELS = 32
+# The options of `example`.
+FORMS: list[list[str]] = [[], ["--full"]]
+
+
+def fail(what: str) -> NoReturn:
+    sys.exit(f"program: FAILED: {what}")
+
+
+def passed(what: str) -> None:
+    print(f"program: {what}", flush=True)
+
+
+def set_stack() -> None:
+    resource.setrlimit(resource.RLIMIT_STACK, (STACK, STACK))
+
+
+def output_of(*command: str | pathlib.Path) -> str:
+    return subprocess.run(command, stdout=subprocess.PIPE, encoding="utf-8", check=True).stdout
+
+
+class Program:
+    """The program, and a folder for its input."""
+
+    def __init__(self, path: pathlib.Path, room: pathlib.Path) -> None:
+        self.path, self.room = path, room
+
+    def run(self, *words: str, stdin: str = "") -> subprocess.CompletedProcess[str]:
+        return subprocess.run([self.path, *words], input=stdin, stdout=subprocess.PIPE, encoding="utf-8")
+
+    def file(self, name: str, lines: list[str]) -> str:
+        path = self.room / name
+        path.write_text("".join(f"{line}\n" for line in lines), encoding="utf-8")
+        return str(path)
+
+    def expect(self, words: list[str], status: int, lines: list[str]) -> None:
+        """Checks what the program answers to these arguments."""
+        ended = self.run(*words)
+        if ended.returncode != status or ended.stdout != "".join(f"{line}\n" for line in lines):
+            fail(f"{' '.join(words)[:300]}: status {ended.returncode}, {ended.stdout[:300]}")
+
+    def check_version(self) -> None:
+        said, kit = self.run("--version").stdout.rstrip("\n"), output_of("rt", "version").rstrip("\n")
+        if said.partition("proved with Rattle ")[2] != kit.partition(" ")[2]:
+            fail(f"it says '{said}', and the toolchain is {kit}")
+        passed(said)
+
+    def check_lines(self) -> None:
+        """Every fifth line is no number. So the status is 2."""
+        numbers = range(1, COUNT + 1)
+        texts = [str(number) if number % 5 else "x" for number in numbers]
+        digits = [number.to_bytes(2, "little").hex() if number % 5 else "refused: NotJson" for number in numbers]
+        back = [str(number) if number % 5 else "refused: BadHex" for number in numbers]
+        job = ["--quiet", "--lines", "{}", '"U16"']
+        self.expect(["encode", *job, self.file("numbers", texts)], 2, digits)
+        self.expect(["decode", *job, self.file("digits", digits)], 2, back)
+        passed(f"{COUNT} lines, and back")
+
+    def check_pairs(self) -> None:
+        """Numbers beside others, of which every seventh is greater by one."""
+        ones = self.file("ones", [str(number) for number in range(1, COUNT + 1)])
+        others = self.file("others", [str(number + (number % 7 == 0)) for number in range(1, COUNT + 1)])
+        verdicts = ["equal" if number % 7 else "different" for number in range(1, COUNT + 1)]
+        self.expect(["same", "--quiet", "--lines", "{}", '"U16"', ones, others], 1, verdicts)
+        passed(f"{COUNT} pairs of lines")
+
+    def check_costs(self) -> None:
+        path = str(self.path)
+        tests = {
+            "many lines take more memory or time than they may": ["bench/sizes.py", path, "--bounds"],
+            "a place is wrong, or takes more time than it may": ["tests/places.py", path],
+            "a scan reads otherwise than it may": ["tests/reading.py", path],
+        }
+        for what, command in tests.items():
+            if subprocess.run([sys.executable, *command]).returncode != 0:
+                fail(what)
+
+    def check_many_containers(self) -> None:
+        made = output_of(sys.executable, "bench/many_containers.py")
+        if made != pathlib.Path("examples/many_containers.json").read_text(encoding="utf-8"):
+            fail("examples/many_containers.json isn't what its script prints")
+        self.expect(["check", "examples/many_containers.json"], 0, ["ok 400"])
+        passed("a registry of 400 containers")
+
+    def check_deep_examples(self) -> None:
+        """500 containers are open, each a variant, a field and 32 levels of tuples. The JSON would nest too deep."""
+        registry = self.file("deep", [deep_registry()])
+        for form in FORMS:
+            command = [str(self.path), "example", *form, registry, "C100"]
+            ended = subprocess.run(command, stdout=subprocess.PIPE, encoding="utf-8", preexec_fn=set_stack)
+            if (ended.returncode, ended.stdout) != (2, "refused: TooNested\n"):
+                fail(f"example {form} of 500 open containers: status {ended.returncode}, {ended.stdout[:300]}")
+        passed("examples in which 500 containers are open")
+
+    def check_examples(self) -> None:
+        """Each container of a registry in examples/ has an example, and a full one, that `encode` accepts."""
+        containers = [
+            (str(registry), name)
+            for registry in sorted(pathlib.Path("examples").glob("*.json"))
+            if self.run("check", "--quiet", str(registry)).returncode == 0
+            for name in json.loads(registry.read_text(encoding="utf-8"))
+        ]
+        with ThreadPoolExecutor(os.cpu_count()) as lanes:
+            for wrong in lanes.map(lambda container: self.wrong_example(*container), containers):
+                if wrong:
+                    fail(wrong)
+        if len(containers) <= LEAST_CONTAINERS:
+            fail(f"the registries of examples/ have only {len(containers)} containers")
+        passed(f"encode takes the examples of {len(containers)} containers")
+
+    def wrong_example(self, registry: str, name: str) -> str:
+        for form in FORMS:
+            example = self.run("example", *form, registry, name)
+            encoded = self.run("encode", registry, name, stdin=example.stdout)
+            if example.returncode != 0 or encoded.returncode != 0:
+                return f"example {form} of {name} in {registry}"
+        return ""
+
+
+def deep_registry() -> str:
+    containers = {}
+    for number in range(100, 600):
+        content = "U8" if number == 599 else {"TYPENAME": f"C{number + 1}"}
+        for _ in range(LEVELS):
+            content = {"TUPLE": [content]}
+        containers[f"C{number}"] = {"ENUM": {"0": {"V": {"STRUCT": [{"f": content}]}}}}
+    return json.dumps(containers)
+
+
+def check_readme() -> None:
+    """The library example of the README is the program `example_library`."""
+    block = re.search(r"^```rust\n(.*?)^```$", pathlib.Path("README.md").read_text(encoding="utf-8"), re.M | re.S)
+    source = re.search(r"^use .*", pathlib.Path("crates/example_library/src/main.rt").read_text("utf-8"), re.M | re.S)
+    if not block or not source or block[1] != source[0]:
+        fail("the README's library example isn't crates/example_library/src/main.rt")
+    passed("the README's library example is crates/example_library/src/main.rt")
+
+
+def main(folder: str) -> None:
+    path = pathlib.Path(folder).resolve() / "bcs"
+    if not os.access(path, os.X_OK):
+        fail(f"{path} isn't a program")
+    os.chdir(ROOT)
+    with tempfile.TemporaryDirectory() as room:
+        program = Program(path, pathlib.Path(room))
+        program.check_version()
+        program.check_lines()
+        program.check_pairs()
+        program.check_costs()
+        program.check_many_containers()
+        check_readme()
+        program.check_deep_examples()
+        program.check_examples()
+
+
+if __name__ == "__main__":
+    main(sys.argv[1] if len(sys.argv) > 1 else str(ROOT / "crates/bcs/out"))

@@ -1,0 +1,119 @@
+#!/bin/sh
+# Checks the files in dist/: `tools/compare_dist.sh [FOLDER]`. If dist/ was built from these sources, each file must be
+# byte for byte the one that tools/make_dist.sh made in FOLDER (default: out/dist), whichever toolchain built it. If the
+# sources have changed since, the last commit that changed these files must have had the sources that BUILT_FROM names,
+# and the last line reports that dist/ is older.
+set -eu
+unset CDPATH
+export LC_ALL=C GIT_NO_REPLACE_OBJECTS=1
+cd "$(dirname "$0")/.."
+folder=${1:-out/dist}
+built='LIBRARIES x86_64-linux aarch64-linux x86_64-windows web'
+
+fail() {
+    echo "dist: FAILED: $1"
+    exit 1
+}
+
+# read_label FILE: sets `kit` and `sources` to the toolchain and the checksum that a BUILT_FROM names.
+read_label() {
+    [ -f "$1" ] || fail "there is no $1: run tools/take_dist.sh"
+    kit=$(sed -n '1{/^[[:print:]]\{1,\}$/p;}' "$1")
+    sources=$(sed -n '2s/^sources \([0-9a-f]\{64\}\)$/\1/p' "$1")
+    { [ -n "$kit" ] && [ -n "$sources" ] && printf '%s\nsources %s\n' "$kit" "$sources" | cmp -s - "$1"; } \
+        || fail "$1 doesn't name a kit and a checksum: run tools/take_dist.sh"
+}
+
+# list_files: prints type and name of everything that isn't a folder, since only regular files are allowed.
+list_files() {
+    local name
+    for name in $built; do
+        (cd dist && find "$name" ! -type d -printf '%y %p\n') || return
+    done
+}
+
+check_sums() {
+    local program
+    (cd dist && sha256sum --check --quiet --strict SHA256SUMS) \
+        || fail "a file differs from its checksum in SHA256SUMS: run tools/take_dist.sh"
+    { list_files >"$room/files" && sort -k 2 -o "$room/files" "$room/files" \
+        && sed 's/^[0-9a-f]*  /f /' dist/SHA256SUMS | diff - "$room/files"; } \
+        || fail "SHA256SUMS doesn't list exactly the files of dist/: run tools/take_dist.sh"
+    for program in x86_64-linux/bcs x86_64-linux/libbcs.so aarch64-linux/bcs aarch64-linux/libbcs.so; do
+        [ -x "dist/$program" ] || fail "$program isn't executable: run tools/take_dist.sh"
+    done
+}
+
+# list_differences FOLDER NAME..: prints a line for each file of these names that isn't the same in the folder and in dist/.
+# If diff can't compare them, its message is such a line.
+list_differences() {
+    local compared="$1" name
+    shift
+    for name in "$@"; do
+        diff --recursive --brief --no-dereference "$compared/$name" "dist/$name" 2>&1 || true
+    done
+}
+
+# compare_builds: dist/ and the folder come from the same sources, so nothing may differ.
+compare_builds() {
+    local found dist_kit="$kit" built_from
+    built_from=$(tools/dist_sources.sh --built-from) || fail "comparing needs the toolchain"
+    [ "$built_from" = "$(cat "$folder/BUILT_FROM")" ] \
+        || fail "$folder wasn't made from these sources by this kit: run tools/make_dist.sh $folder"
+    read_label "$folder/BUILT_FROM"
+    # shellcheck disable=SC2086 # these are several names
+    found=$(list_differences "$folder" SHA256SUMS $built)
+    if [ -n "$found" ]; then
+        echo "$found"
+        fail "dist/ ($dist_kit) isn't what $kit builds from the same sources: run tools/take_dist.sh"
+    fi
+    echo "dist: $(wc -l <dist/SHA256SUMS) files are byte for byte what $kit builds from these sources (dist/ was built by $dist_kit)"
+}
+
+# check_out COMMIT FOLDER: makes a fresh clone with the commit's files. (`git archive` would obey attributes that leave
+# files out, and then show other sources than those that the gate of that commit had.)
+check_out() {
+    git clone --quiet --shared --no-checkout . "$2" && git -C "$2" checkout --quiet --detach "$1"
+}
+
+# forget_git_variables: drops the variables that lead git to another repository.
+forget_git_variables() {
+    local names name
+    names=$(git rev-parse --local-env-vars)
+    for name in $names; do
+        unset "$name"
+    done
+}
+
+# check_history: dist/ is that of its last commit, and that commit has the sources that BUILT_FROM names.
+check_history() {
+    local older="dist/ is older than these sources" name top commit tag found
+    command -v git >/dev/null || fail "$older, and checking its last commit needs git"
+    forget_git_variables
+    { top=$(git rev-parse --show-toplevel 2>&1) && [ "$(cd "$top" && pwd -P)" = "$(pwd -P)" ]; } \
+        || fail "$older, and git finds no history of this folder: $top"
+    [ "$(git rev-parse --is-shallow-repository)" = false ] || fail "$older, and this clone is shallow: run git fetch --unshallow"
+    set -- BUILT_FROM SHA256SUMS
+    for name in $built; do
+        set -- "$@" "$name"
+    done
+    { commit=$(cd dist && git rev-list -1 HEAD -- "$@") && [ -n "$commit" ]; } \
+        || fail "$older, and no commit has its files: run tools/take_dist.sh"
+    check_out "$commit" "$room/then" || fail "$older, and its last commit $commit can't be checked out"
+    found=$(list_differences "$room/then/dist" "$@")
+    [ -z "$found" ] || fail "$older, and has changes that aren't committed: run tools/take_dist.sh
+$(echo "$found" | sed "s,$room/then,$commit,g")"
+    [ "$("$room/then/tools/dist_sources.sh")" = "$sources" ] \
+        || fail "BUILT_FROM names neither these sources nor those of $commit, the last commit that changed dist/: run tools/take_dist.sh"
+    tag=$(git tag --points-at HEAD)
+    [ -z "$tag" ] || fail "$older, and a release (the tag $(echo "$tag" | paste -s -d , -)) needs a current one: run tools/take_dist.sh"
+    echo "dist: OLDER than these sources, so it wasn't compared. $kit built it in $commit"
+}
+
+room=$(mktemp -d)
+trap 'rm -rf "$room"' EXIT
+trap 'exit 1' HUP INT TERM
+check_sums
+read_label dist/BUILT_FROM
+{ now=$(tools/dist_sources.sh) && [ -n "$now" ]; } || fail "the checksum of the sources can't be computed"
+if [ "$now" = "$sources" ]; then compare_builds; else check_history; fi

@@ -1,0 +1,72 @@
+#!/usr/bin/env python3
+"""The package for every other system: the program and the library in C, which any compiler of C with POSIX makes.
+
+tools/packaging/c_package.py DIST FOLDER makes a folder with its files from a folder as dist/, for tests.
+"""
+
+from __future__ import annotations
+
+import functools
+import pathlib
+import sys
+
+import archives
+import facts
+
+FOLDER = facts.ROOT / "bindings/portable"
+C = facts.ROOT / "bindings/c"
+LIBRARY, PROGRAM = "web/bcs_scalar.wasm", "web/bcs_program.wasm"
+TESTS = ["calls.c", "refusals.c", "handles.c", "places.c", "threads.c", "checks.h", "jobs.h"]
+OWN_TESTS = ["rows.c", "stack.c"]
+
+sys.path.insert(0, str(FOLDER))
+import flat_rows  # noqa: E402 (the folder has to be known first)
+import translation  # noqa: E402
+
+
+@functools.cache
+def library() -> archives.File:
+    """bcs_library.c, which packages for Rust, Python and Go have too."""
+    return archives.text(translation.library(facts.DIST / LIBRARY, facts.licence()))
+
+
+@functools.cache
+def program() -> archives.File:
+    return archives.text(translation.program(facts.DIST / PROGRAM, facts.licence()))
+
+
+def tests() -> archives.Files:
+    files = {f"tests/{name}": archives.taken(C / "tests" / name) for name in TESTS}
+    files |= {f"tests/{name}": archives.taken(FOLDER / "tests" / name) for name in OWN_TESTS}
+    rows = (facts.ROOT / "tests/rows/bcs.rows").read_text(encoding="utf-8")
+    return files | {"tests/bcs.rows": archives.text(flat_rows.flat(rows))}
+
+
+def contents(bill: archives.File) -> archives.Files:
+    files = tests()
+    files |= {"bcs.c": program(), "bcs_library.c": library()}
+    files["include/bcs.h"] = archives.taken(C / "include/bcs.h")
+    files["example.c"] = archives.taken(C / "example.c")
+    for name in ["Makefile", "CMakeLists.txt", "Package.swift"]:
+        files[name] = archives.taken(FOLDER / name)
+    files["README.md"] = archives.text(facts.readme("bindings/portable"))
+    files[f"{facts.NAME}.spdx.json"] = bill
+    for name in facts.licence_files().values():
+        files[name] = archives.taken(facts.ROOT / name)
+    return files
+
+
+def make(bill: archives.File) -> dict[str, bytes]:
+    name = f"{facts.NAME}-{facts.version()}-c"
+    return {f"{name}.tar.xz": archives.xz(archives.tar(contents(bill), f"{name}/"))}
+
+
+def main() -> None:
+    facts.DIST, folder = map(pathlib.Path, sys.argv[1:])
+    for name, file in contents(archives.text("{}\n")).items():
+        (folder / name).parent.mkdir(parents=True, exist_ok=True)
+        (folder / name).write_bytes(file.data)
+
+
+if __name__ == "__main__":
+    main()

@@ -1,0 +1,198 @@
+#!/bin/sh
+# tools/packaging/completions.sh SHELL PROGRAM: prints the program's completions for bash, zsh or fish. Commands, options and
+# their arguments come from the program's own help. The containers of the registry on the line are those that `bcs show`
+# lists. The completions ask the program that is installed beside them (../../../bin/bcs from their file), and never one that
+# the line or PATH happens to name.
+# shellcheck disable=SC2016 # these are programs in awk, bash, zsh and fish, in which $ has a meaning of its own
+set -eu
+unset CDPATH
+here=$(cd "$(dirname "$0")" && pwd)
+
+fail() {
+    printf 'tools/packaging/completions.sh: %s\n' "$1" >&2
+    exit 1
+}
+
+# What all three need from a line of the help's table.
+read_help='
+    BEGIN {
+        split("REG OLD NEW FILE A B", files, " ")
+        for (at in files) stands_for["" files[at]] = "file"
+        stands_for["FORMAT"] = stands_for["NAME"] = "container"
+        stands_for["PATH"] = "anything"
+    }
+    # (Every awk has rules of its own for backslashes in the text that gsub puts in.)
+    function in_quotes(text,    parts, count, at, quoted) {
+        count = split(text, parts, "\047")
+        quoted = parts[1]
+        for (at = 2; at <= count; at++) quoted = quoted quote_within parts[at]
+        return "\047" quoted "\047"
+    }
+    $1 == "command" { commands = commands (commands == "" ? "" : " ") $3; texts[$3] = $4 }
+    $1 == "argument" {
+        word = $3; gsub(/[^A-Z]/, "", word)
+        kind = stands_for[word]
+        if (kind == "") { print "tools/packaging/completions.sh: unknown argument in the help: " $3 >"/dev/stderr"; failed = 1; exit 1 }
+        place = ++words[$2]
+    }
+    $1 == "option" {
+        has_value = sub(/ <.*/, "", $3)
+        short = $3 ~ /^-[a-zA-Z],/ ? substr($3, 2, 1) : ""
+        sub(/.*--/, "", $3)
+    }'
+
+bash_completions='
+    $1 == "argument" { kinds[$2] = kinds[$2] " " kind }
+    $1 == "option" { options[$2] = options[$2] (short == "" ? " " : " -" short " ") "--" $3 }
+    has_value && !seen[$3]++ { valued = valued (valued == "" ? "" : " | ") "--" $3 }
+    { has_value = 0 }
+    END {
+        if (failed) exit 1
+        print "_bcs() {"
+        print "    local word=${COMP_WORDS[COMP_CWORD]} words=() kinds=() options=\047" substr(options[""], 2) "\047 at"
+        print "    COMPREPLY=()"
+        print "    for ((at = 1; at < COMP_CWORD; at++)); do"
+        print "        case ${COMP_WORDS[at]} in"
+        print "            " valued ") at=$((at + 1)) && if [ \"${COMP_WORDS[at]}\" = \"=\" ]; then at=$((at + 1)); fi ;;"
+        print "            -*) ;;"
+        print "            *) words+=(\"${COMP_WORDS[at]}\") ;;"
+        print "        esac"
+        print "    done"
+        print "    [ \"$at\" = \"$COMP_CWORD\" ] || return 0"
+        print "    case ${words[0]} in"
+        count = split(commands, names, " ")
+        for (at = 1; at <= count; at++) if (names[at] in options)
+            print "        " names[at] ") options=\047" substr(options[names[at]], 2) "\047 kinds=(" substr(kinds[names[at]], 2) ") ;;"
+        print "        help) options=\047\047 words=(\"${words[@]:1}\") ;;"
+        print "    esac"
+        print "    if [[ $word == -* ]]; then"
+        print "        mapfile -t COMPREPLY < <(compgen -W \"$options\" -- \"$word\")"
+        print "    elif [ ${#words[@]} = 0 ]; then"
+        print "        mapfile -t COMPREPLY < <(compgen -W \047" commands "\047 -- \"$word\")"
+        print "    elif [ \"${kinds[${#words[@]} - 1]}\" = container ]; then"
+        print "        mapfile -t COMPREPLY < <(compgen -W \"$(_bcs_containers \"${words[1]}\")\" -- \"$word\")"
+        print "    elif [ \"${kinds[${#words[@]} - 1]}\" = file ]; then"
+        print "        compopt -o default"
+        print "    fi"
+        print "}"
+        print "complete -F _bcs bcs"
+    }'
+bash_containers='
+_bcs_program=$(readlink -f -- "${BASH_SOURCE[0]}")
+_bcs_program=${_bcs_program%/share/bash-completion/completions/*}/bin/bcs
+
+# _bcs_containers REGISTRY, as it is on the line. Here xargs takes the quotes away.
+_bcs_containers() {
+    local registry lines
+    registry=$(xargs printf %s 2>/dev/null <<<"${1/#\~\//$HOME/}")
+    [[ $registry == "{"* || -f $registry ]] || return 0
+    lines=$("$_bcs_program" show --quiet -- "$registry" 2>/dev/null </dev/null) || return 0
+    sed -n "s/^\([A-Za-z_][A-Za-z_0-9]*\): .*/\1/p" <<<"$lines"
+}
+'
+
+zsh_completions='
+    function spec(text) { gsub(/\[/, "\\[", text); gsub(/\]/, "\\]", text); gsub(/:/, "\\:", text); return text }
+    $1 == "argument" { action = kind == "file" ? "_files" : kind == "container" ? "_bcs_containers" : " "
+        add($2, place ":" word ":" action) }
+    function add(command, text) { specs[command] = specs[command] " " in_quotes(text) }
+    $1 == "option" && short != "" { add($2, "-" short "[" spec($4) "]") }
+    $1 == "option" { add($2, "--" $3 (has_value ? "=" : "") "[" spec($4) "]" (has_value ? ":value: " : "")) }
+    END {
+        if (failed) exit 1
+        count = split(commands, names, " ")
+        print "_bcs() {"
+        print "    local curcontext=$curcontext state line"
+        print "    typeset -A opt_args"
+        print "    local -a commands"
+        print "    commands=("
+        for (at = 1; at <= count; at++) print "        " in_quotes(names[at] ":" texts[names[at]])
+        print "    )"
+        print "    _arguments -C" specs[""] " \0471:command:->command\047 \047*::word:->words\047 && return"
+        print "    case $state in"
+        print "        command) _describe -t commands command commands ;;"
+        print "        words)"
+        print "            case $words[1] in"
+        for (at = 1; at <= count; at++) if (names[at] in specs) print "                " names[at] ") _arguments" specs[names[at]] " ;;"
+        print "                help) _arguments \0471:command: _describe -t commands command commands\047 ;;"
+        print "            esac"
+        print "            ;;"
+        print "    esac"
+        print "}"
+        print "_bcs \"$@\""
+    }'
+zsh_containers='
+typeset -g _bcs_program=${${(%):-%x}:A}
+_bcs_program=${_bcs_program%/share/zsh/site-functions/*}/bin/bcs
+
+_bcs_containers() {
+    local registry=${(Q)line[1]/#\~\//$HOME/} lines
+    local -a names
+    [[ $registry == "{"* || -f $registry ]] || return 1
+    lines=$($_bcs_program show --quiet -- $registry 2>/dev/null </dev/null) || return 1
+    names=(${(f)"$(sed -n "s/^\([A-Za-z_][A-Za-z_0-9]*\): .*/\1/p" <<<$lines)"})
+    compadd -a names
+}
+'
+
+fish_completions='
+    BEGIN { print "complete -c bcs -f" }
+    function rule(condition, rest) { lines = lines "complete -c bcs -n " in_quotes(condition) " " rest "\n" }
+    $1 == "command" { rule("__bcs_at 0", "-a " $3 " -d " in_quotes($4)); rule("__bcs_at 1 help", "-a " $3 " -d " in_quotes($4)) }
+    $1 == "argument" && kind == "file" { rule("__bcs_at " place " " $2, "-F") }
+    $1 == "argument" && kind == "container" { rule("__bcs_at " place " " $2, "-a \"(__bcs_containers)\"") }
+    $1 == "option" { rule($2 == "" ? "__bcs_at 0" : "__bcs_in " $2,
+        (short == "" ? "" : "-s " short " ") "-l " $3 (has_value ? " -x" : "") " -d " in_quotes($4)) }
+    has_value && !seen[$3]++ { valued = valued " --" $3 }
+    { has_value = 0 }
+    END { if (failed) exit 1; print "set -g __bcs_valued" valued; printf "%s", lines }'
+fish_containers='
+set -g __bcs_program (string replace -r "/share/fish/vendor_completions.d/[^/]*\$" "/bin/bcs" -- (realpath (status filename)))
+
+# The words before the cursor, except for the program, options and their values.
+function __bcs_words
+    set -l is_value no
+    for word in (commandline -opc)[2..-1]
+        if test $is_value = yes
+            set is_value no
+        else if contains -- $word $__bcs_valued
+            set is_value yes
+        else if not string match -q -- "-*" $word
+            printf "%s\n" $word
+        end
+    end
+end
+
+# __bcs_at NUMBER [COMMAND]: whether there are that many words, and the first one is the command.
+function __bcs_at
+    set -l words (__bcs_words)
+    test (count $words) = $argv[1]; and begin; test (count $argv) = 1; or test $words[1] = $argv[2]; end
+end
+
+function __bcs_in
+    set -l words (__bcs_words)
+    test (count $words) -gt 0; and test $words[1] = $argv[1]
+end
+
+function __bcs_containers
+    set -l registry (string replace -r "^~/" "$HOME/" -- (__bcs_words)[2])
+    string match -q "{*" -- "$registry"; or test -f "$registry"; or return
+    set -l lines ($__bcs_program show --quiet -- "$registry" 2>/dev/null </dev/null); or return
+    string replace -rf "^([A-Za-z_][A-Za-z_0-9]*): .*" "\$1" -- $lines
+end
+'
+
+[ $# = 2 ] || fail "usage: tools/packaging/completions.sh SHELL PROGRAM"
+first_line=
+quote_within="'\\\\''"
+case $1 in
+    bash) completions=$bash_completions containers=$bash_containers ;;
+    zsh) completions=$zsh_completions containers=$zsh_containers first_line='#compdef bcs' ;;
+    fish) completions=$fish_completions containers=$fish_containers quote_within="\\\\'" ;;
+    *) fail "there are no completions for the shell $1" ;;
+esac
+# (A failure on the left side of a pipe would be lost.)
+help=$("$here/help.sh" "$2")
+[ -z "$first_line" ] || echo "$first_line"
+printf '# Completions of bcs for %s, made from its own help.\n%s\n' "$1" "$containers"
+printf '%s\n' "$help" | awk -F'\t' -v quote_within="$quote_within" "$read_help $completions"

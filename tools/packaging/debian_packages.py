@@ -1,0 +1,120 @@
+"""The packages for Debian: `bcs` with the program, and `libbcs-dev` with the libraries."""
+
+from __future__ import annotations
+
+import email.utils
+import hashlib
+import textwrap
+
+import archives
+import facts
+import installed
+
+DESCRIPTION = """\
+It encodes, decodes, explains and compares values of Binary Canonical
+Serialization (BCS), which the Diem family of chains signs and hashes. A
+serde-reflection registry in JSON says which formats there are. The code is
+proved against its contracts.
+"""
+LIBRARY_DESCRIPTION = """\
+The same calls for C: the header, a static and a dynamic library, and what
+pkg-config has to know.
+"""
+# Debian's name of a licence where it is another, and the text where Debian has it already.
+DEBIAN_NAMES = {"MIT": "Expat"}
+KNOWN_TEXTS = {"Apache-2.0": "On Debian systems the text is in\n/usr/share/common-licenses/Apache-2.0.\n"}
+
+
+def described(
+    machine: facts.Machine, name: str, section: str, summary: str, description: str, files: archives.Files
+) -> str:
+    glibc = ".".join(
+        str(part) for part in facts.glibc_needed(machine.folder / ("bcs" if name == "bcs" else "libbcs.so"))
+    )
+    size = sum(len(file.data) + 1023 for file in files.values()) // 1024
+    return (
+        f"Package: {name}\nVersion: {facts.version()}\nArchitecture: {machine.debian}\nMaintainer: {facts.MAINTAINER}\n"
+        f"Installed-Size: {size}\nDepends: libc6 (>= {glibc})\nSection: {section}\nPriority: optional\n"
+        f"Description: {summary}\n{textwrap.indent(description, ' ')}"
+    )
+
+
+def terms(word: str, file: str) -> str:
+    """The text of a licence, in which an empty line is a dot."""
+    text = KNOWN_TEXTS.get(word) or (facts.ROOT / file).read_text(encoding="utf-8")
+    lines = "".join(f" {line or '.'}\n" for line in text.splitlines())
+    return f"License: {DEBIAN_NAMES.get(word, word)}\n{lines}"
+
+
+def copyright_file() -> str:
+    """What licence the code is under, and which libraries of the toolchain are in it, with theirs."""
+    expression = facts.licence().replace(" OR ", " or ").replace(" AND ", " and ")
+    for word, name in DEBIAN_NAMES.items():
+        expression = expression.replace(word, name)
+    ports = "".join(f" {library}\n" for library in facts.libraries())
+    return (
+        "Format: https://www.debian.org/doc/packaging-manuals/copyright-format/1.0/\nUpstream-Name: bcs\n"
+        "Comment: These libraries of the toolchain are in the code, with the licences\n"
+        f" of what they are ports of:\n{ports}\n"
+        f"Files: *\nCopyright: {facts.COPYRIGHT}\nLicense: {expression}\n\n"
+        + "\n".join(terms(word, file) for word, file in facts.licence_files().items())
+    )
+
+
+def changelog(name: str) -> str:
+    version, date = facts.version(), email.utils.formatdate(facts.EPOCH)
+    return (
+        f"{name} ({version}) unstable; urgency=medium\n\n  * What bcs {version} has.\n\n"
+        f" -- {facts.MAINTAINER}  {date}\n"
+    )
+
+
+def papers(name: str, bill: archives.File) -> archives.Files:
+    """What each package of Debian has in its folder of documents."""
+    folder = f"usr/share/doc/{name}"
+    return {
+        f"{folder}/copyright": archives.text(copyright_file()),
+        f"{folder}/changelog.gz": archives.File(archives.gzipped(changelog(name).encode())),
+        f"{folder}/bcs.spdx.json.gz": archives.File(archives.gzipped(bill.data)),
+    }
+
+
+def library_files(machine: facts.Machine) -> archives.Files:
+    """As Debian has libraries: in the folder of the machine's kind, and the dynamic one without leave to be run."""
+    folder = f"{machine.processor}-linux-gnu"
+    files = {}
+    for name, file in installed.files("/usr", "--library", "--no-record", machine=machine).items():
+        if name.endswith("/bcs.pc"):
+            file = archives.text(file.data.decode().replace("}/lib\n", f"}}/lib/{folder}\n"))
+        files[name.replace("usr/lib/", f"usr/lib/{folder}/")] = file._replace(is_program=False)
+    return files
+
+
+def package(
+    machine: facts.Machine, name: str, control: str, files: archives.Files, more: dict[str, str]
+) -> dict[str, bytes]:
+    sums = [f"{hashlib.md5(files[path].data).hexdigest()}  {path}\n" for path in sorted(files) if not files[path].link]
+    papers = {"control": control, "md5sums": "".join(sums), **more}
+    packed = {path: archives.text(content) for path, content in papers.items()}
+    members = {
+        "debian-binary": b"2.0\n",
+        "control.tar.xz": archives.xz(archives.tar(packed, "./", with_folders=True)),
+        "data.tar.xz": archives.xz(archives.tar(files, "./", with_folders=True)),
+    }
+    return {f"{name}_{facts.version()}_{machine.debian}.deb": archives.ar(members)}
+
+
+def make_for(machine: facts.Machine, bill: archives.File) -> dict[str, bytes]:
+    program = installed.files("/usr", "--program", "--no-record", machine=machine) | papers("bcs", bill)
+    control = described(machine, "bcs", "utils", facts.SUMMARY, DESCRIPTION, program)
+    made = package(machine, "bcs", control, program, {})
+    library = library_files(machine) | papers("libbcs-dev", bill)
+    summary = f"{facts.SUMMARY} (libraries for C)"
+    control = described(machine, "libbcs-dev", "libdevel", summary, LIBRARY_DESCRIPTION, library)
+    # The system's cache of libraries is made anew, so that programs find the dynamic one.
+    more = {"triggers": "activate-noawait ldconfig\n", "shlibs": f"libbcs 0 libbcs-dev (>= {facts.version()})\n"}
+    return made | package(machine, "libbcs-dev", control, library, more)
+
+
+def make(bill: archives.File) -> dict[str, bytes]:
+    return {name: data for machine in facts.MACHINES for name, data in make_for(machine, bill).items()}

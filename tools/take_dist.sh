@@ -1,0 +1,49 @@
+#!/bin/sh
+# Replaces the files in dist/ by those that tools/make_dist.sh made in a folder: `tools/take_dist.sh [FOLDER]`. The
+# default is out/dist, where the gate leaves them. If the folder doesn't exist or wasn't made from these sources, it is
+# made first.
+set -eu
+unset CDPATH
+cd "$(dirname "$0")/.."
+folder=${1:-out/dist}
+names='x86_64-linux aarch64-linux x86_64-windows web LIBRARIES SHA256SUMS BUILT_FROM'
+
+fail() {
+    echo "tools/take_dist.sh: $1; dist/ is as it was" >&2
+    exit 1
+}
+
+# put_back: restores the old files unless all new ones are in place, and removes the room.
+put_back() {
+    local name
+    trap '' HUP INT TERM
+    for name in $names; do
+        if [ "$taken" = no ] && [ -e "$room/old/$name" ]; then
+            rm -rf "dist/$name"
+            mv "$room/old/$name" dist/
+        fi
+    done
+    rm -rf "$room"
+}
+
+{ built_from=$(tools/dist_sources.sh --built-from) && [ -n "$built_from" ]; } || fail "these sources have no checksum"
+[ "$built_from" = "$(cat "$folder/BUILT_FROM" 2>/dev/null)" ] || tools/make_dist.sh "$folder"
+
+# The new files are complete before an old one moves, and renaming within dist/ copies nothing. Until all of them are in
+# place, the old ones are in dist/.take.*/old, even if SIGKILL ends this.
+taken=no
+room=$(mktemp -d dist/.take.XXXXXX)
+trap put_back EXIT
+trap 'exit 1' HUP INT TERM
+mkdir "$room/new" "$room/old"
+for name in $names; do
+    cp -R --preserve=mode "$folder/$name" "$room/new"
+done
+(cd "$room/new" && sha256sum --check --quiet --strict SHA256SUMS) || fail "$folder isn't complete"
+[ "$built_from" = "$(cat "$room/new/BUILT_FROM")" ] || fail "$folder wasn't made from these sources"
+for name in $names; do
+    [ ! -e "dist/$name" ] || mv "dist/$name" "$room/old/"
+    mv "$room/new/$name" dist/
+done
+taken=yes
+echo "dist/ is built from these sources: $(wc -l <dist/SHA256SUMS) files"
