@@ -1,6 +1,7 @@
 pub mod Passings
 pub mod Steps
 pub mod PassingParts
+pub mod Openings
 pub mod WholeRows
 pub mod Reaching
 pub mod FixedParts

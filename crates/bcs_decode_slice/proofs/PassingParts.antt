@@ -212,7 +212,7 @@ module _ (registry : Entries) (d : ℕ) (p m : ℕ) (b : List ℕ) where
   unfolding content_here fail_here
   content_nothing = refl
 
-  variant_is : (cs : List Choice) → content_past registry d (one_of cs) p m b ≡ follow (variant_past p m b) (λ x. chain (choice_here skipping (named_here skipping registry d) x.0 (choice_at x.1 cs)) (λ _. give tt))
+  pub variant_is : (cs : List Choice) → content_past registry d (one_of cs) p m b ≡ follow (variant_past p m b) (λ x. chain (choice_here skipping (named_here skipping registry d) x.0 (choice_at x.1 cs)) (λ _. give tt))
   unfolding content_here
   variant_is cs = node_variants registry d cs p m b
 

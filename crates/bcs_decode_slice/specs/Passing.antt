@@ -1,12 +1,12 @@
 -- What going past a part of the bytes says of the cursor.
 use Rattle.std.specs.Prelude.{◌≡◌, ℕ, zero, suc, ◌+◌, ◌≤◌, Bool, length, Result, Ok, Err}
 use Rattle.bcs_registry_model.specs.Shape.{Shape}
-use Rattle.bcs_registry_model.specs.Container.{Entries}
+use Rattle.bcs_registry_model.specs.Container.{Entries, Content, of, one_of, nothing, choice_at}
 use Rattle.bcs_decode_slice.specs.declared.cursor.Cursor.{Cursor}
 use Rattle.bcs_decode_spec.specs.declared.stop.Stop.{Stop}
 use Rattle.bcs_decode_spec.specs.declared.reason.Reason.{Reason}
-use Rattle.bcs_decode_spec.specs.declared.reason.Reason.TheVariants.{BadBool, TooDeep, Unsupported}
-use Rattle.bcs_decode_spec.specs.Reading.{Parser, node, chain, give, fail_here, flag_here, number_here, length_here, bytes_here, text_here, value_here, skipping}
+use Rattle.bcs_decode_spec.specs.declared.reason.Reason.TheVariants.{BadBool, TooDeep, UnknownVariant, Unsupported}
+use Rattle.bcs_decode_spec.specs.Reading.{Parser, node, chain, give, fail, fail_here, flag_here, number_here, length_here, bytes_here, text_here, value_here, skipping}
 
 -- what was returned, seen by view, is what the parser reads from the cursor on, and where it ends
 abbrev pub Passes : {X A : Type 0} → (X → A) → Result X Stop → Parser A → Cursor → Cursor → Type 0
@@ -57,3 +57,14 @@ variant_past = chain node_here (λ _ start. chain number_here (λ n. give (start
 unfoldable pub enter_here : ℕ → Parser (Unit {0})
 enter_here zero = fail_here TooDeep
 enter_here (suc d) = node_here
+
+-- what the number of a variant stands for, whose place is start
+unfoldable pub chosen_here : ℕ → Content → Parser Shape
+chosen_here start (of s) = give s
+chosen_here start _ = fail UnknownVariant start
+
+-- which format comes next in a container: a struct's own, or that of the variant whose number is read
+unfoldable pub opened_here : Content → Parser Shape
+opened_here (of s) = give s
+opened_here (one_of cs) = chain variant_past (λ x. chosen_here x.0 (choice_at x.1 cs))
+opened_here nothing = fail_here Unsupported

@@ -1,13 +1,14 @@
 //! Which formats have values of one size, and of which.
-ghost use Rattle.std.specs.Prelude.{◌≡◌, ◌<◌, ◌≤◌, IfSome, map};
-ghost use Rattle.bcs_registry_model.specs.Container.{content, field_shapes};
+ghost use Rattle.std.specs.Prelude.{◌≡◌, ◌<◌, ◌≤◌, IfSome};
+ghost use Rattle.bcs_registry_model.specs.Container.{content};
+ghost use Rattle.bcs_registry_model.specs.Layout.{row_formats};
 ghost use Rattle.bcs_registry_model.specs.Shape.{name as name_shape, tuple as tuple_shape, array as array_shape};
-ghost use Rattle.bcs_registry_model.specs.View.{shape_of, formats_shapes, field_of, container_of};
+ghost use Rattle.bcs_registry_model.specs.View.{shape_of, formats_shapes, container_of};
 ghost use Rattle.bcs_decode_slice.specs.Fixed.{IsFixed, IsFixedInside};
 
 use crate::fixed_size::{FixedSize, NODE, whole_size};
-use bcs_registry::{Container, Format, Named, Registry};
-use bcs_registry_model::Kind;
+use bcs_registry::{Container, Format, Registry};
+use bcs_registry_model::{Content, Kind, Layout, Row};
 
 /// The size of each value of the format, inside which so many containers may open. `None`: the values differ in size,
 /// or some bytes are none, or more than `looks` formats would have to be looked at.
@@ -27,7 +28,7 @@ pub fn value_size(
     *looks -= 1;
     match format.kind() {
         Kind::TypeName(name) => named_size(registry, name, depth, looks),
-        Kind::Tuple(formats) => tuple_size(registry, formats, depth, looks),
+        Kind::Tuple(formats) => row_size(registry, Row::Formats(formats), depth, looks),
         Kind::TupleArray(element, size) => array_size(registry, element, size, depth, looks),
         Kind::Scalar(_) => whole_size(format),
         Kind::Opt(_) | Kind::Seq(_) | Kind::Map(_, _) => None,
@@ -55,36 +56,14 @@ fn array_size(
 
 /// The size of a value of each format in turn.
 #[cycle(measuring)]
-fn tuple_size(
-    registry: &Registry,
-    formats: &[Format],
-    depth: u32,
-    looks: &mut u32,
-) -> Option<FixedSize>
-    ensures fixed { IfSome result (λ z. IsFixed registry.now depth (tuple_shape (formats_shapes formats.now)) z.bytes z.nodes × (0 < z.nodes)) }
+#[inline(always)]
+fn row_size(registry: &Registry, row: Row<'_>, depth: u32, looks: &mut u32) -> Option<FixedSize>
+    ensures fixed { IfSome result (λ z. IsFixed registry.now depth (tuple_shape (formats_shapes (row_formats row.entry))) z.bytes z.nodes × (0 < z.nodes)) }
     ensures looks { looks.new ≤ looks.old }
 {
     let mut whole = NODE;
-    for format in formats {
-        whole = whole.followed_by(value_size(registry, format, depth, looks)?)?;
-    }
-    Some(whole)
-}
-
-/// The size of a value of each field's format in turn.
-#[cycle(measuring)]
-fn structure_size(
-    registry: &Registry,
-    fields: &[Named<Format>],
-    depth: u32,
-    looks: &mut u32,
-) -> Option<FixedSize>
-    ensures fixed { IfSome result (λ z. IsFixed registry.now depth (tuple_shape (field_shapes (map field_of fields.now))) z.bytes z.nodes × (0 < z.nodes)) }
-    ensures looks { looks.new ≤ looks.old }
-{
-    let mut whole = NODE;
-    for field in fields {
-        whole = whole.followed_by(value_size(registry, &field.value, depth, looks)?)?;
+    for place in 0..row.len() {
+        whole = whole.followed_by(value_size(registry, row.at(place), depth, looks)?)?;
     }
     Some(whole)
 }
@@ -113,11 +92,15 @@ fn content_size(
     ensures fixed { IfSome result (λ z. IsFixedInside registry.now depth (content (container_of container.now)) z.bytes z.nodes × (0 < z.nodes)) }
     ensures looks { looks.new ≤ looks.old }
 {
-    match container {
-        Container::UnitStruct => Some(NODE),
-        Container::NewTypeStruct(format) => value_size(registry, format, depth, looks),
-        Container::TupleStruct(formats) => tuple_size(registry, formats, depth, looks),
-        Container::Struct(fields) => structure_size(registry, fields, depth, looks),
-        Container::Enum(_) => None,
+    match container.content() {
+        Content::Of(Layout::Unit) => Some(NODE),
+        Content::Of(Layout::NewType(format)) => value_size(registry, format, depth, looks),
+        Content::Of(Layout::Tuple(formats)) => {
+            row_size(registry, Row::Formats(formats), depth, looks)
+        }
+        Content::Of(Layout::Struct(fields)) => {
+            row_size(registry, Row::Fields(fields), depth, looks)
+        }
+        Content::OneOf(_) => None,
     }
 }

@@ -1,8 +1,9 @@
-//! Going past values of a format, front to back. `value`, `content` and `next_key` are part of their callers, and
+//! Going past values of a format, front to back. `value`, `content`, `laid` and `next_key` are part of their callers, and
 //! nothing else is, so that each level of a format takes one small frame of the stack.
 ghost use Rattle.std.specs.Prelude.{◌≡◌, ℕ, ◌+◌, ◌<◌, ◌≤◌, ◌^◌, List, None, length, map};
 ghost use Rattle.bcs_registry_model.specs.Container as spec;
 ghost use Rattle.bcs_registry_model.specs.Container.{content_at, field_shapes, payload_shape};
+ghost use Rattle.bcs_registry_model.specs.Layout.{layout_shape};
 ghost use Rattle.bcs_registry_model.specs.Shape.{name as name_shape, tuple as tuple_shape};
 ghost use Rattle.bcs_registry_model.specs.View.{shape_of, formats_shapes, field_of, payload_of, container_of};
 ghost use Rattle.bcs_registry_model.specs.WellFormed.{IsWellFormed};
@@ -13,14 +14,15 @@ ghost use Rattle.bcs_decode_slice.specs.Passing.{Passes, Onward, skip};
 use crate::cursor::{Cursor, node};
 use crate::fixed_row::fixed_row;
 use crate::named_container::named_container;
+use crate::opening::opened;
 use crate::shallow::{
-    bytes_value, counted, enter, flag_value, text_value, truth, unsupported, variant_number, whole,
+    bytes_value, counted, enter, flag_value, text_value, truth, unsupported, whole,
 };
 use crate::whole_row::{whole_row, whole_width};
 use bcs_decode_spec::{Reason, Stop};
 use bcs_keys::following::follows;
 use bcs_registry::{Container, Format, Named, Registry, VariantFormat};
-use bcs_registry_model::{Kind, Scalar};
+use bcs_registry_model::{Kind, Layout, Scalar};
 
 /// Goes past a value of the format, inside which so many containers may open.
 #[cycle(scanning)]
@@ -246,26 +248,32 @@ fn content<'a>(
     ensures passes { Passes (λ x. x) result (content_here skipping (named_here skipping registry.now depth) (spec.content (container_of container.now))) cursor.old cursor.new }
     ensures onward { Onward cursor.old cursor.new }
 {
-    match container {
-        Container::UnitStruct => node(cursor),
-        Container::NewTypeStruct(format) => value(registry, format, depth, cursor),
-        Container::TupleStruct(formats) => tuple(registry, formats, depth, cursor),
-        Container::Struct(fields) => structure(registry, fields, depth, cursor),
-        Container::Enum(variants) => {
-            let (start, number) = variant_number(cursor)?;
-            match variants.get(&number) {
-                Some(variant) => payload(registry, &variant.value, depth, cursor),
-                None => Err(Stop {
-                    reason: Reason::UnknownVariant,
-                    place: start,
-                }),
-            }
-        }
+    let layout = opened(container, cursor)?;
+    laid(registry, layout, depth, cursor)
+}
+
+/// What a struct or a variant holds.
+#[cycle(scanning)]
+#[inline(always)]
+fn laid<'a>(
+    registry: &Registry,
+    layout: Layout<'_>,
+    depth: u32,
+    cursor: &mut Cursor<'a>,
+) -> Result<(), Stop>
+    requires room { cursor.old.place + length cursor.old.rest.now < 2 ^ 64 }
+    ensures passes { Passes (λ x. x) result (skip registry.now depth (layout_shape layout.entry)) cursor.old cursor.new }
+    ensures onward { Onward cursor.old cursor.new }
+{
+    match layout {
+        Layout::Unit => node(cursor),
+        Layout::NewType(format) => value(registry, format, depth, cursor),
+        Layout::Tuple(formats) => tuple(registry, formats, depth, cursor),
+        Layout::Struct(fields) => structure(registry, fields, depth, cursor),
     }
 }
 
 /// What a variant carries.
-#[cycle(scanning)]
 #[inline(never)]
 pub fn payload<'a>(
     registry: &Registry,
@@ -277,10 +285,5 @@ pub fn payload<'a>(
     ensures passes { Passes (λ x. x) result (skip registry.now depth (payload_shape (payload_of payload.now))) cursor.old cursor.new }
     ensures onward { Onward cursor.old cursor.new }
 {
-    match payload {
-        VariantFormat::Unit => node(cursor),
-        VariantFormat::NewType(format) => value(registry, format, depth, cursor),
-        VariantFormat::Tuple(formats) => tuple(registry, formats, depth, cursor),
-        VariantFormat::Struct(fields) => structure(registry, fields, depth, cursor),
-    }
+    laid(registry, payload.layout(), depth, cursor)
 }

@@ -1,4 +1,4 @@
--- What stands at a place in JSON, without the names of fields: as a `Content`, by which proofs go from JSON to bytes.
+-- The content at a place in JSON as a `Content`, which has no names of fields. Proofs use it to get from JSON to bytes.
 use Rattle.std.proofs.Common.{◌≡◌, List, ℕ, Option, Some, None, refl}
 use Rattle.std.specs.Option.{option_map_or}
 use Rattle.bcs_registry_model.specs.Shape.{tuple as tuple_shape}

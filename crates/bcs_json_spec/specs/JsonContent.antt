@@ -1,4 +1,4 @@
--- What stands at a place in JSON: as `Content`, but fields have their names, and variants are found by theirs.
+-- The content at a place in JSON: like `Content`, but fields have names, and variants are found by name.
 use Rattle.std.specs.Prelude.{ℕ, List}
 use Rattle.std.specs.Option.{option_map_or}
 use Rattle.bcs_registry_model.specs.Shape.{Shape, unit as unit_shape, tuple as tuple_shape}

@@ -1,6 +1,7 @@
 pub mod FormatViews
 pub mod WordsBack
 pub mod KindShapes
+pub mod FieldRows
 pub mod Lookup
 pub mod KnownNames
 pub mod Inside

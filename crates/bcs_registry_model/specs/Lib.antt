@@ -3,6 +3,7 @@ pub mod Whole
 pub mod Container
 pub mod View
 pub mod Kind
+pub mod Layout
 pub mod WellFormed
 pub mod Breaks
 pub mod Rules

@@ -41,7 +41,7 @@ pub fn program(rt: &HostRuntime) -> ExitCode
 /// How many bytes are read at a time where a job takes a few of them at a time.
 pub(crate) const BLOCK: usize = 65536;
 
-// How many bytes of the standard input are read ahead. With `--front` there are none, so what follows the value stays there.
+// How many bytes of standard input are read ahead: none with `--front`, so that what follows the value stays unread.
 fn read_ahead(words: &Result<Vec<String>, LineFault>) -> usize {
     match words {
         Ok(words) if words.iter().any(|word| word.as_str() == "--front") => 0,

@@ -2,9 +2,11 @@ use Rattle.std.proofs.Common.{◌≡◌, ◌∙◌, ◌+◌, ◌*◌, [], drop, 
 use Rattle.std.proofs.lemmas.List.{drop_all}
 use Rattle.std.proofs.lemmas.Option.{IfSome_then}
 use Rattle.bcs_registry_model.specs.Shape.{Shape, unit as unit_shape, name as name_shape, tuple as tuple_shape, array as array_shape}
-use Rattle.bcs_registry_model.specs.Container.{of, content, field_shapes}
-use Rattle.bcs_registry_model.specs.View.{shape_of, formats_shapes, field_of, container_of}
-use Rattle.bcs_decode_spec.proofs.LookedUp.{content_found, formats_next, fields_next}
+use Rattle.bcs_registry_model.specs.Container.{of, content}
+use Rattle.bcs_registry_model.specs.Layout.{content_seen, layout_shape, row_formats}
+use Rattle.bcs_registry_model.specs.View.{shape_of, formats_shapes, container_of}
+use Rattle.bcs_decode_spec.proofs.LookedUp.{content_found, formats_next}
+use Rattle.bcs_registry_model.proofs.FieldRows.{fields_row}
 use Rattle.bcs_decode_slice.specs.Passing.{skip}
 use Rattle.bcs_decode_slice.proofs.PassingParts.{each}
 use Rattle.bcs_decode_slice.proofs.Reaching.{reaches_on, reaches_as, goes_as}
@@ -29,27 +31,27 @@ array_size-returns-clause-fixed t c =
     IfSome_then c.followed_by.result c.followed_by.ensures.sum (λ z sum.
     (goes_as (skip r d (array_shape s n)) (0 + n * e.bytes) z.bytes (1 + n * e.nodes) z.nodes (omega (arith, sum.0, product.0)) (omega (arith, sum.1, product.1)) goes, omega (arith, sum.1)))
 
--- ---- tuples
+-- ---- rows
 
-pub tuple_size-loop-format-init : goal.tuple_size-loop-format-init
-tuple_size-loop-format-init t c = record {
+pub row_size-loop-place-init : goal.row_size-loop-place-init
+row_size-loop-place-init t c = record {
   looks = omega arith;
   begun = omega arith;
-  reaches = tuple_reaches c.args.registry.now c.args.depth (formats_shapes c.args.formats.now);
+  reaches = tuple_reaches c.args.registry.now c.args.depth (formats_shapes (row_formats c.args.row));
 }
 
-pub tuple_size-loop-format-preserved : goal.tuple_size-loop-format-preserved
-tuple_size-loop-format-preserved t c =
+pub row_size-loop-place-preserved : goal.row_size-loop-place-preserved
+row_size-loop-place-preserved t c =
     let r = c.args.registry.now in
     let d = c.args.depth in
-    let xs = c.args.formats.now in
-    let l = c.loop-format in
-    let x = c.format-item.result in
+    let xs = row_formats c.args.row in
+    let l = c.loop-place in
+    let x = c.at.result.now in
     let size = c.in_ok-value_size.field-0 in
     let sum = c.in_ok-whole.ensures.sum in
-    let here = formats_shapes (drop l.format-index xs) in
-    let rest = formats_shapes (drop (l.format-index + 1) xs) in
-    let next = formats_next xs l.format-index x (omega arith) c.format-item.is in
+    let here = formats_shapes (drop l.place xs) in
+    let rest = formats_shapes (drop (l.place + 1) xs) in
+    let next = formats_next xs l.place x (omega arith) c.at.ensures in
     record {
       looks = omega (arith, l.invariant.looks, c.value_size.ensures.looks);
       begun = omega (arith, sum.1, l.invariant.begun);
@@ -58,52 +60,14 @@ tuple_size-loop-format-preserved t c =
           (each_reaches r d here (shape_of x) rest size.bytes size.nodes next c.in_ok-value_size.ensures.fixed.0));
     }
 
-pub tuple_size-returns-clause-fixed : goal.tuple_size-returns-clause-fixed
-tuple_size-returns-clause-fixed t c =
+pub row_size-returns-clause-fixed : goal.row_size-returns-clause-fixed
+row_size-returns-clause-fixed t c =
     let r = c.args.registry.now in
     let d = c.args.depth in
-    let xs = c.args.formats.now in
-    let l = c.loop-format in
-    let none : drop l.format-index xs ≡ [] = drop_all l.format-index xs (omega arith) in
-    (each_ends r d (skip r d (tuple_shape (formats_shapes xs))) (formats_shapes (drop l.format-index xs)) l.whole.bytes l.whole.nodes (ap (λ ys. formats_shapes ys) none) l.invariant.reaches, l.invariant.begun)
-
--- ---- fields
-
-pub structure_size-loop-field-init : goal.structure_size-loop-field-init
-structure_size-loop-field-init t c = record {
-  looks = omega arith;
-  begun = omega arith;
-  reaches = tuple_reaches c.args.registry.now c.args.depth (field_shapes (map field_of c.args.fields.now));
-}
-
-pub structure_size-loop-field-preserved : goal.structure_size-loop-field-preserved
-structure_size-loop-field-preserved t c =
-    let r = c.args.registry.now in
-    let d = c.args.depth in
-    let xs = c.args.fields.now in
-    let l = c.loop-field in
-    let x = c.field-item.result in
-    let size = c.in_ok-value_size.field-0 in
-    let sum = c.in_ok-whole.ensures.sum in
-    let here = field_shapes (map field_of (drop l.field-index xs)) in
-    let rest = field_shapes (map field_of (drop (l.field-index + 1) xs)) in
-    let next = fields_next xs l.field-index x (omega arith) c.field-item.is in
-    record {
-      looks = omega (arith, l.invariant.looks, c.value_size.ensures.looks);
-      begun = omega (arith, sum.1, l.invariant.begun);
-      reaches = reaches_as (skip r d (tuple_shape (field_shapes (map field_of xs)))) (each r d rest) (l.whole.bytes + size.bytes) c.in_ok-whole.whole.bytes (l.whole.nodes + size.nodes) c.in_ok-whole.whole.nodes sum.0 sum.1
-          (reaches_on (skip r d (tuple_shape (field_shapes (map field_of xs)))) (each r d here) (each r d rest) l.whole.bytes size.bytes l.whole.nodes size.nodes l.invariant.reaches
-          (each_reaches r d here (shape_of x.value) rest size.bytes size.nodes next c.in_ok-value_size.ensures.fixed.0));
-    }
-
-pub structure_size-returns-clause-fixed : goal.structure_size-returns-clause-fixed
-structure_size-returns-clause-fixed t c =
-    let r = c.args.registry.now in
-    let d = c.args.depth in
-    let xs = c.args.fields.now in
-    let l = c.loop-field in
-    let none : drop l.field-index xs ≡ [] = drop_all l.field-index xs (omega arith) in
-    (each_ends r d (skip r d (tuple_shape (field_shapes (map field_of xs)))) (field_shapes (map field_of (drop l.field-index xs))) l.whole.bytes l.whole.nodes (ap (λ ys. field_shapes (map field_of ys)) none) l.invariant.reaches, l.invariant.begun)
+    let xs = row_formats c.args.row in
+    let l = c.loop-place in
+    let none : drop l.place xs ≡ [] = drop_all l.place xs (omega arith) in
+    (each_ends r d (skip r d (tuple_shape (formats_shapes xs))) (formats_shapes (drop l.place xs)) l.whole.bytes l.whole.nodes (ap (λ ys. formats_shapes ys) none) l.invariant.reaches, l.invariant.begun)
 
 -- ---- containers
 
@@ -117,31 +81,29 @@ named_size-returns-clause-fixed t c =
     IfSome_then c.followed_by.result c.followed_by.ensures.sum (λ z sum.
     (goes_as (skip r d (name_shape c.args.name.now)) (0 + inside.bytes) z.bytes (1 + inside.nodes) z.nodes sum.0 sum.1 goes, omega (arith, sum.1)))
 
-pub content_size-returns-in-UnitStruct-clause-fixed : goal.content_size-returns-in-UnitStruct-clause-fixed
-content_size-returns-in-UnitStruct-clause-fixed t c =
-    let is : content (container_of c.args.container.now) ≡ of unit_shape = ap (λ k. content (container_of k)) c.in-UnitStruct.is in
-    (inside_goes c.args.registry.now c.args.depth (content (container_of c.args.container.now)) unit_shape 0 1 is (unit_goes c.args.registry.now c.args.depth), omega arith)
+pub content_size-returns-in-Of-Unit-clause-fixed : goal.content_size-returns-in-Of-Unit-clause-fixed
+content_size-returns-in-Of-Unit-clause-fixed t c =
+    let is : content (container_of c.args.container.now) ≡ of unit_shape = sym c.content.ensures ∙ ap content_seen c.in-Of-Unit.is ∙ ap (λ l. of (layout_shape l)) c.in-Of-Unit.field-0-is in
+    (inside_goes c.args.registry.now c.args.depth _ unit_shape 0 1 is (unit_goes c.args.registry.now c.args.depth), omega arith)
 
-pub content_size-returns-in-NewTypeStruct-clause-fixed : goal.content_size-returns-in-NewTypeStruct-clause-fixed
-content_size-returns-in-NewTypeStruct-clause-fixed t c =
-    let k = content (container_of c.args.container.now) in
-    let s : Shape = shape_of c.in-NewTypeStruct.format in
-    let is : k ≡ of s = ap (λ k. content (container_of k)) c.in-NewTypeStruct.is in
+pub content_size-returns-in-Of-NewType-clause-fixed : goal.content_size-returns-in-Of-NewType-clause-fixed
+content_size-returns-in-Of-NewType-clause-fixed t c =
+    let s : Shape = shape_of c.in-Of-NewType.format.now in
+    let is : content (container_of c.args.container.now) ≡ of s = sym c.content.ensures ∙ ap content_seen c.in-Of-NewType.is ∙ ap (λ l. of (layout_shape l)) c.in-Of-NewType.field-0-is in
     IfSome_then c.value_size.result c.value_size.ensures.fixed (λ z h.
-    (inside_goes c.args.registry.now c.args.depth k s z.bytes z.nodes is h.0, h.1))
+    (inside_goes c.args.registry.now c.args.depth _ s z.bytes z.nodes is h.0, h.1))
 
-pub content_size-returns-in-TupleStruct-clause-fixed : goal.content_size-returns-in-TupleStruct-clause-fixed
-content_size-returns-in-TupleStruct-clause-fixed t c =
-    let k = content (container_of c.args.container.now) in
-    let s : Shape = tuple_shape (formats_shapes c.deref.result.now) in
-    let is : k ≡ of s = ap (λ k. content (container_of k)) c.in-TupleStruct.is ∙ ap (λ fs. of (tuple_shape (formats_shapes fs))) (sym c.deref.ensures.value) in
-    IfSome_then c.tuple_size.result c.tuple_size.ensures.fixed (λ z h.
-    (inside_goes c.args.registry.now c.args.depth k s z.bytes z.nodes is h.0, h.1))
+pub content_size-returns-in-Of-Tuple-clause-fixed : goal.content_size-returns-in-Of-Tuple-clause-fixed
+content_size-returns-in-Of-Tuple-clause-fixed t c =
+    let s : Shape = tuple_shape (formats_shapes c.in-Of-Tuple.formats.now) in
+    let is : content (container_of c.args.container.now) ≡ of s = sym c.content.ensures ∙ ap content_seen c.in-Of-Tuple.is ∙ ap (λ l. of (layout_shape l)) c.in-Of-Tuple.field-0-is in
+    IfSome_then c.row_size.result c.row_size.ensures.fixed (λ z h.
+    (inside_goes c.args.registry.now c.args.depth _ s z.bytes z.nodes is h.0, h.1))
 
-pub content_size-returns-in-Struct-clause-fixed : goal.content_size-returns-in-Struct-clause-fixed
-content_size-returns-in-Struct-clause-fixed t c =
-    let k = content (container_of c.args.container.now) in
-    let s : Shape = tuple_shape (field_shapes (map field_of c.deref-in-Struct.result.now)) in
-    let is : k ≡ of s = ap (λ k. content (container_of k)) c.in-Struct.is ∙ ap (λ fs. of (tuple_shape (field_shapes (map field_of fs)))) (sym c.deref-in-Struct.ensures.value) in
-    IfSome_then c.structure_size.result c.structure_size.ensures.fixed (λ z h.
-    (inside_goes c.args.registry.now c.args.depth k s z.bytes z.nodes is h.0, h.1))
+pub content_size-returns-in-Of-Struct-clause-fixed : goal.content_size-returns-in-Of-Struct-clause-fixed
+content_size-returns-in-Of-Struct-clause-fixed t c =
+    let fs = c.in-Of-Struct.fields.now in
+    let s : Shape = tuple_shape (formats_shapes (map (λ f. f.value) fs)) in
+    let is : content (container_of c.args.container.now) ≡ of s = sym c.content.ensures ∙ ap content_seen c.in-Of-Struct.is ∙ ap (λ l. of (layout_shape l)) c.in-Of-Struct.field-0-is ∙ ap (λ ss. of (tuple_shape ss)) (sym (fields_row fs)) in
+    IfSome_then c.row_size-in-Of-Struct.result c.row_size-in-Of-Struct.ensures.fixed (λ z h.
+    (inside_goes c.args.registry.now c.args.depth _ s z.bytes z.nodes is h.0, h.1))

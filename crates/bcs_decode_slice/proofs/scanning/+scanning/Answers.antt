@@ -1,18 +1,18 @@
-use Rattle.std.proofs.Common.{◌≡◌, ℕ, List, ◌∙◌, ◌-◌, ◌≤◌, suc, [], None, drop, map, ap, sym, arith}
+use Rattle.std.proofs.Common.{◌≡◌, ℕ, List, ◌∙◌, ◌-◌, [], None, drop, map, ap, sym, arith}
 use Rattle.std.proofs.lemmas.List.{drop_all}
 use Rattle.std.proofs.lemmas.Result.{err_from_is_err_and}
-use Rattle.bcs_registry_model.specs.Shape.{Shape, name as name_shape, tuple as tuple_shape}
-use Rattle.bcs_registry_model.specs.Container.{Entries, Content, of, one_of, nothing, content, field_shapes, payload_shape, content_at, choice_at}
-use Rattle.bcs_registry_model.specs.WellFormed.{levels, shapes_levels}
-use Rattle.bcs_registry_model.specs.View.{shape_of, formats_shapes, field_of, payload_of, choice_of, container_of}
-use Rattle.bcs_registry_model.specs.declared.container.Container.{Container}
+use Rattle.bcs_registry_model.specs.Shape.{Shape, name as name_shape}
+use Rattle.bcs_registry_model.specs.Container.{Content, nothing, content, field_shapes, content_at}
+use Rattle.bcs_registry_model.specs.Layout.{layout_shape}
+use Rattle.bcs_registry_model.specs.WellFormed.{levels}
+use Rattle.bcs_registry_model.specs.View.{shape_of, formats_shapes, field_of, container_of}
 use Rattle.bcs_decode_spec.specs.Reading.{items_here, pairs_here, skipping}
 use Rattle.bcs_registry_model.proofs.KindShapes.{shape_seen}
 use Rattle.bcs_decode_slice.specs.Passing.{skip, node_here, truth_here, whole_here, text_past, bytes_past, unsupported_here}
 use Rattle.bcs_decode_slice.proofs.Passings.{past_scalar, unit_is, passes_from, passes_here}
-use Rattle.bcs_decode_slice.proofs.PassingParts.{option_stop, option_some, option_none, list_stop, list_on, map_stop, map_on, array_stop, array_on, items_stop, items_on, items_end, pairs_stop_key, pairs_stop_value, pairs_on, pairs_end, each, tuple_stop, tuple_on, each_end, each_stop, each_on, named_stop, named_on, content_past, content_shape, content_nothing, variant_stop, variant_unknown, variant_on, named_past}
-use Rattle.bcs_decode_spec.proofs.LookedUp.{content_found, content_missing, choice_found, choice_missing, levels_in, field_levels_in, formats_next, fields_next}
-use Rattle.bcs_registry_model.proofs.Admitted.{content_at-inside, choice_at-inside}
+use Rattle.bcs_decode_slice.proofs.PassingParts.{option_stop, option_some, option_none, list_stop, list_on, map_stop, map_on, array_stop, array_on, items_stop, items_on, items_end, pairs_stop_key, pairs_stop_value, pairs_on, pairs_end, each, tuple_stop, tuple_on, each_end, each_stop, each_on, named_stop, named_on, content_past, content_nothing, named_past}
+use Rattle.bcs_decode_slice.proofs.Openings.{content_stop, content_on}
+use Rattle.bcs_decode_spec.proofs.LookedUp.{content_found, content_missing, levels_in, field_levels_in, formats_next, fields_next}
 use Rattle.bcs_decode_slice.proofs.scanning.+scanning.Goals as goal
 
 -- ---- values in a row
@@ -138,127 +138,38 @@ containers-returns-clause-passes t c name is =
 
 -- ---- what stands in containers
 
-content_as : (registry : Entries) (d p m : ℕ) (b : List ℕ) (k j : Container) → k ≡ j → content_past registry d (content (container_of k)) p m b ≡ content_past registry d (content (container_of j)) p m b
-content_as registry d p m b k j is = ap (λ (x : Container). content_past registry d (content (container_of x)) p m b) is
+pub content-laid-requires : goal.content-laid-requires
+content-laid-requires t c =
+    let low = c.in_ok-layout.ensures.levels c.args.registry.now c.requires.found.0 c.requires.well_formed c.requires.found.1 in
+    (omega (arith, low), omega (arith, c.requires.room, c.in_ok-layout.ensures.onward.0))
 
-pub content-value-requires : goal.content-value-requires
-content-value-requires t c =
-    let r = c.args.registry.now in
-    let s : Shape = shape_of c.in-NewTypeStruct.format in
-    let is : content_at c.requires.found.0 r ≡ of s = c.requires.found.1 ∙ ap (λ k. content (container_of k)) c.in-NewTypeStruct.is in
-    let low : levels s ≤ 33 = (content_at-inside r c.requires.well_formed c.requires.found.0 s is).1 in
-    (omega (arith, low), c.requires.room)
-
-pub content-tuple-requires : goal.content-tuple-requires
-content-tuple-requires t c =
-    let r = c.args.registry.now in
-    let ss = formats_shapes c.in-TupleStruct.formats.items in
-    let is : content_at c.requires.found.0 r ≡ of (tuple_shape ss) = c.requires.found.1 ∙ ap (λ k. content (container_of k)) c.in-TupleStruct.is in
-    let low : suc (shapes_levels ss) ≤ 33 = (content_at-inside r c.requires.well_formed c.requires.found.0 (tuple_shape ss) is).1 in
-    let same : shapes_levels (formats_shapes c.deref.result.now) ≡ shapes_levels ss = ap (λ fs. shapes_levels (formats_shapes fs)) c.deref.ensures.value in
-    (omega (arith, low, same), c.requires.room)
-
-pub content-structure-requires : goal.content-structure-requires
-content-structure-requires t c =
-    let r = c.args.registry.now in
-    let ss = field_shapes (map field_of c.in-Struct.fields.items) in
-    let is : content_at c.requires.found.0 r ≡ of (tuple_shape ss) = c.requires.found.1 ∙ ap (λ k. content (container_of k)) c.in-Struct.is in
-    let low : suc (shapes_levels ss) ≤ 33 = (content_at-inside r c.requires.well_formed c.requires.found.0 (tuple_shape ss) is).1 in
-    let same : shapes_levels (field_shapes (map field_of c.deref-in-Struct.result.now)) ≡ shapes_levels ss = ap (λ fs. shapes_levels (field_shapes (map field_of fs))) c.deref-in-Struct.ensures.value in
-    (omega (arith, low, same), c.requires.room)
-
-pub content-payload-requires : goal.content-payload-requires
-content-payload-requires t c =
-    let r = c.args.registry.now in
-    let cs = map choice_of c.in-Enum.variants.entries in
-    let s : Shape = payload_shape (payload_of c.in-Some.variant.now.value) in
-    let is : content_at c.requires.found.0 r ≡ one_of cs = c.requires.found.1 ∙ ap (λ k. content (container_of k)) c.in-Enum.is in
-    let at : choice_at c.in_ok-start-in-Enum.number cs ≡ of s = choice_found c.in_ok-start-in-Enum.number c.in-Enum.variants.entries c.in-Some.variant c.get.result c.get.ensures.value c.in-Some.is in
-    let low : levels s ≤ 33 = (choice_at-inside r c.requires.well_formed c.requires.found.0 cs is c.in_ok-start-in-Enum.number s at).1 in
-    (omega (arith, low), omega (arith, c.requires.room, c.in_ok-start-in-Enum.ensures.onward.0))
-
-pub content-returns-in-UnitStruct-clause-passes : goal.content-returns-in-UnitStruct-clause-passes
-content-returns-in-UnitStruct-clause-passes t c =
-    let r = c.args.registry.now in
-    let d = c.args.depth in
-    let at = c.args.cursor.now in
-    passes_from (λ x. x) c.node.result _ node_here c.args.cursor.now at c.node.new.cursor
-    (content_as r d at.place at.nodes at.rest.now c.args.container.now _ c.in-UnitStruct.is
-    ∙ content_shape r d at.place at.nodes at.rest.now _ ∙ unit_is r d at.place at.nodes at.rest.now)
-    c.node.ensures.passes
-
-pub content-returns-in-NewTypeStruct-clause-passes : goal.content-returns-in-NewTypeStruct-clause-passes
-content-returns-in-NewTypeStruct-clause-passes t c =
-    let r = c.args.registry.now in
-    let d = c.args.depth in
-    let at = c.args.cursor.now in
-    let s : Shape = shape_of c.in-NewTypeStruct.format in
-    passes_from (λ x. x) c.value.result _ (skip r d s) c.args.cursor.now at c.value.new.cursor
-    (content_as r d at.place at.nodes at.rest.now c.args.container.now _ c.in-NewTypeStruct.is
-    ∙ content_shape r d at.place at.nodes at.rest.now s)
-    c.value.ensures.passes
-
-pub content-returns-in-TupleStruct-clause-passes : goal.content-returns-in-TupleStruct-clause-passes
-content-returns-in-TupleStruct-clause-passes t c =
-    let r = c.args.registry.now in
-    let d = c.args.depth in
-    let at = c.args.cursor.now in
-    let s : Shape = tuple_shape (formats_shapes c.in-TupleStruct.formats.items) in
-    passes_from (λ x. x) c.tuple.result _ (skip r d (tuple_shape (formats_shapes c.deref.result.now))) c.args.cursor.now at c.tuple.new.cursor
-    (content_as r d at.place at.nodes at.rest.now c.args.container.now _ c.in-TupleStruct.is
-    ∙ content_shape r d at.place at.nodes at.rest.now s
-    ∙ ap (λ fs. skip r d (tuple_shape (formats_shapes fs)) at.place at.nodes at.rest.now) (sym c.deref.ensures.value))
-    c.tuple.ensures.passes
-
-pub content-returns-in-Struct-clause-passes : goal.content-returns-in-Struct-clause-passes
-content-returns-in-Struct-clause-passes t c =
-    let r = c.args.registry.now in
-    let d = c.args.depth in
-    let at = c.args.cursor.now in
-    let s : Shape = tuple_shape (field_shapes (map field_of c.in-Struct.fields.items)) in
-    passes_from (λ x. x) c.structure.result _ (skip r d (tuple_shape (field_shapes (map field_of c.deref-in-Struct.result.now)))) c.args.cursor.now at c.structure.new.cursor
-    (content_as r d at.place at.nodes at.rest.now c.args.container.now _ c.in-Struct.is
-    ∙ content_shape r d at.place at.nodes at.rest.now s
-    ∙ ap (λ fs. skip r d (tuple_shape (field_shapes (map field_of fs))) at.place at.nodes at.rest.now) (sym c.deref-in-Struct.ensures.value))
-    c.structure.ensures.passes
-
-pub content-returns-in_err-start-in-Enum-clause-passes : goal.content-returns-in_err-start-in-Enum-clause-passes
-content-returns-in_err-start-in-Enum-clause-passes t c =
+pub content-returns-in_err-layout-clause-passes : goal.content-returns-in_err-layout-clause-passes
+content-returns-in_err-layout-clause-passes t c =
     let p = err_from_is_err_and c.from_residual.result c.from_residual.ensures.1 in
+    rw (p.1, p.2) (content_stop c.args.registry.now c.args.depth _ _ _ _ _ c.in_err-layout.ensures.passes)
+
+pub content-returns-clause-passes : goal.content-returns-clause-passes
+content-returns-clause-passes t c =
     let r = c.args.registry.now in
     let d = c.args.depth in
-    let at = c.args.cursor.now in
-    rw (p.1, p.2)
-    (content_as r d at.place at.nodes at.rest.now c.args.container.now _ c.in-Enum.is
-    ∙ variant_stop r d at.place at.nodes at.rest.now (map choice_of c.in-Enum.variants.entries) _ c.in_err-start-in-Enum.ensures.passes)
+    let s : Shape = layout_shape c.in_ok-layout.layout in
+    passes_from (λ x. x) c.laid.result _ (skip r d s) c.args.cursor.now c.opened.new.cursor c.laid.new.cursor
+    (content_on r d (content (container_of c.args.container.now)) _ _ _ s _ _ _ c.in_ok-layout.ensures.passes)
+    c.laid.ensures.passes
 
-pub content-returns-in-Some-clause-passes : goal.content-returns-in-Some-clause-passes
-content-returns-in-Some-clause-passes t c =
-    let r = c.args.registry.now in
-    let d = c.args.depth in
-    let at = c.args.cursor.now in
-    let cs = map choice_of c.in-Enum.variants.entries in
-    let s : Shape = payload_shape (payload_of c.in-Some.variant.now.value) in
-    let chosen : choice_at c.in_ok-start-in-Enum.number cs ≡ of s = choice_found c.in_ok-start-in-Enum.number c.in-Enum.variants.entries c.in-Some.variant c.get.result c.get.ensures.value c.in-Some.is in
-    passes_from (λ x. x) c.payload.result _ (skip r d s) c.args.cursor.now c.variant_number.new.cursor c.payload.new.cursor
-    (content_as r d at.place at.nodes at.rest.now c.args.container.now _ c.in-Enum.is
-    ∙ variant_on r d at.place at.nodes at.rest.now cs c.in_ok-start-in-Enum.start c.in_ok-start-in-Enum.number _ _ _ s c.in_ok-start-in-Enum.ensures.passes chosen)
-    c.payload.ensures.passes
+pub laid-value-requires : goal.laid-value-requires
+laid-value-requires t c = (omega (arith, ap (λ k. levels (layout_shape k)) c.in-NewType.is), c.requires.room)
 
-pub content-returns-in-None-clause-passes : goal.content-returns-in-None-clause-passes
-content-returns-in-None-clause-passes t c =
-    let r = c.args.registry.now in
-    let d = c.args.depth in
-    let at = c.args.cursor.now in
-    let cs = map choice_of c.in-Enum.variants.entries in
-    let none : choice_at c.in_ok-start-in-Enum.number cs ≡ nothing = choice_missing c.in_ok-start-in-Enum.number c.in-Enum.variants.entries c.get.result c.get.ensures.value c.in-None.is in
-    content_as r d at.place at.nodes at.rest.now c.args.container.now _ c.in-Enum.is
-    ∙ variant_unknown r d at.place at.nodes at.rest.now cs c.in_ok-start-in-Enum.start c.in_ok-start-in-Enum.number _ _ _ c.in_ok-start-in-Enum.ensures.passes none
+pub laid-tuple-requires : goal.laid-tuple-requires
+laid-tuple-requires t c = (omega (arith, ap (λ k. levels (layout_shape k)) c.in-Tuple.is), c.requires.room)
 
-pub payload-returns-in-Unit-clause-passes : goal.payload-returns-in-Unit-clause-passes
-payload-returns-in-Unit-clause-passes t c =
+pub laid-structure-requires : goal.laid-structure-requires
+laid-structure-requires t c = (omega (arith, ap (λ k. levels (layout_shape k)) c.in-Struct.is), c.requires.room)
+
+pub laid-returns-in-Unit-clause-passes : goal.laid-returns-in-Unit-clause-passes
+laid-returns-in-Unit-clause-passes t c =
     passes_here c.node.result _ node_here c.args.cursor.now c.node.new.cursor
-    (λ p m b. ap (λ k. skip c.args.registry.now c.args.depth (payload_shape (payload_of k)) p m b) c.in-Unit.is ∙ unit_is c.args.registry.now c.args.depth p m b)
+    (λ p m b. ap (λ k. skip c.args.registry.now c.args.depth (layout_shape k) p m b) c.in-Unit.is ∙ unit_is c.args.registry.now c.args.depth p m b)
     c.node.ensures.passes
 
 -- ---- tuple

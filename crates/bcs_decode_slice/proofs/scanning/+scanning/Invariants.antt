@@ -1,7 +1,8 @@
 use Rattle.std.proofs.Common.{◌≡◌, ℕ, List, ◌+◌, ◌-◌, ◌*◌, ◌<◌, ◌^◌, None, length, max, map, drop}
-use Rattle.bcs_registry_model.specs.Container.{content, content_at, field_shapes, payload_shape}
+use Rattle.bcs_registry_model.specs.Container.{content, content_at, field_shapes}
+use Rattle.bcs_registry_model.specs.Layout.{layout_shape}
 use Rattle.bcs_registry_model.specs.Shape.{name as name_shape}
-use Rattle.bcs_registry_model.specs.View.{shape_of, formats_shapes, field_of, payload_of, container_of}
+use Rattle.bcs_registry_model.specs.View.{shape_of, formats_shapes, field_of, container_of}
 use Rattle.bcs_registry_model.specs.WellFormed.{levels, shapes_levels}
 use Rattle.bcs_decode_spec.specs.Reading.{items_here, pairs_here, skipping}
 use Rattle.bcs_keys.specs.Following.{key_bytes}
@@ -40,8 +41,8 @@ decreases-containers l = work l.depth 0 + 4
 abbrev pub decreases-content : goal.decreases-content
 decreases-content l = work l.depth 34
 
-abbrev pub decreases-payload : goal.decreases-payload
-decreases-payload l = work l.depth (levels (payload_shape (payload_of l.payload.now))) + 7
+abbrev pub decreases-laid : goal.decreases-laid
+decreases-laid l = work l.depth (levels (layout_shape l.layout)) + 7
 
 abbrev pub invariant-elements-loop : goal.invariant-elements-loop
 invariant-elements-loop l = record {
