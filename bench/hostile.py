@@ -44,6 +44,15 @@ def chain(count: int) -> bytes:
     return json.dumps({**made, f"C{count}": "UNITSTRUCT"}).encode()
 
 
+def ring(count: int) -> bytes:
+    """Containers each of which may hold the next one, and the last the first."""
+    made = {}
+    for at in range(count):
+        following = {"OPTION": {"TYPENAME": f"C{(at + 1) % count}"}}
+        made[f"C{at}"] = {"STRUCT": [{"a": "U64"}, {"b": following}]}
+    return json.dumps(made).encode()
+
+
 def containers(count: int) -> bytes:
     return json.dumps({f"C{at}": {"STRUCT": [{"a": "U8"}, {"b": "STR"}]} for at in range(count)}).encode()
 
@@ -83,9 +92,16 @@ def attacks() -> list[Attack]:
             ["explain", "{}", '{"SEQ":"BOOL"}'],
             input=hexadecimal(b"\xa0\x8d\x06" + bytes(100_000)),
         ),
+        Attack(
+            "explain --json: 100,000 bytes",
+            ["explain", "--json", "{}", '{"SEQ":"BOOL"}'],
+            input=hexadecimal(b"\xa0\x8d\x06" + bytes(100_000)),
+        ),
         Attack("show: 10,000 chained containers", ["show", "@"], chain(10_000), takes_limits=False),
+        Attack("show: a ring of 10,000 containers", ["show", "@"], ring(10_000), takes_limits=False),
         Attack("example --full: 24 containers that double", ["example", "--full", "@", "C0"], doubling(24)),
         Attack("schema: 10,000 chained containers", ["schema", "@", "C0"], chain(10_000), takes_limits=False),
+        Attack("schema: 100,000 chained containers", ["schema", "@", "C0"], chain(100_000), takes_limits=False),
     ]
 
 

@@ -1,12 +1,48 @@
-//! A piece as a JSON object, and the objects that stand behind the last piece. Each is on a line of its own.
+//! A piece as a JSON object, and the objects that stand behind the last piece. Each is on a line of its own. The fields of
+//! the structs are in the order of their names, in which the members are printed.
 
 use crate::halt::Halt;
 use crate::meaning::put_format;
 use crate::steps::{put_path, put_way};
 use bcs_explain::{Meaning, Stop, Trail};
 use bcs_look_text::columns::{put_decimal, put_signed};
-use serde_json::{Value, json};
+use serde::Serialize;
 use std::alloc::{AllocError, Global};
+
+#[derive(Drop, Serialize)]
+struct PieceObject<'a> {
+    bytes: String,
+    kind: &'a str,
+    name: String,
+    path: Option<String>,
+    place: u64,
+    value: PieceValue<'a>,
+    what: String,
+}
+
+#[derive(Drop, Serialize)]
+#[serde(untagged)]
+enum PieceValue<'a> {
+    Flag(bool),
+    Count(u64),
+    /// A whole number, as it may have 128 bits.
+    Digits(String),
+    Text(&'a str),
+}
+
+#[derive(Drop, Serialize)]
+struct EndObject {
+    end: usize,
+}
+
+#[derive(Drop, Serialize)]
+struct StopObject<'a> {
+    name: String,
+    path: Option<String>,
+    place: u64,
+    refused: &'a str,
+    want: String,
+}
 
 /// Appends the object of a piece.
 pub(crate) fn put_piece_object(
@@ -17,41 +53,39 @@ pub(crate) fn put_piece_object(
     out: &mut Vec<u8>,
 ) -> Result<(), AllocError> {
     let alloc = *out.allocator();
-    let object = json!(in alloc; {
-        "bytes": (Value::String(hex::encode(alloc, bytes)?)),
-        "kind": kind_word(meaning),
-        "name": (way_value(alloc, trail)?),
-        "path": (word_value(alloc, trail)?),
-        "place": place,
-        "value": (meaning_value(alloc, bytes.len(), meaning)?),
-        "what": (format_value(alloc, trail, bytes.len(), meaning)?)
-    })?;
-    put_object(object, out)
+    let object = PieceObject {
+        bytes: hex::encode(alloc, bytes)?,
+        kind: kind_word(meaning),
+        name: way_text(alloc, trail)?,
+        path: word_text(alloc, trail)?,
+        place,
+        value: meaning_value(alloc, bytes.len(), meaning)?,
+        what: format_text(alloc, trail, bytes.len(), meaning)?,
+    };
+    put_object(&object, out)
 }
 
 /// Appends the object of the end of a whole value.
 pub(crate) fn put_end_object(end: usize, out: &mut Vec<u8>) -> Result<(), AllocError> {
-    put_object(json!(in *out.allocator(); {"end": end})?, out)
+    put_object(&EndObject { end }, out)
 }
 
 /// Appends the object of where bytes stop being a value, and why.
 pub(crate) fn put_stop_object(stop: Stop, halt: Halt, out: &mut Vec<u8>) -> Result<(), AllocError> {
-    let name = text_value(halt.way)?;
-    let path = path_value(halt.path)?;
-    let want = text_value(halt.wanted)?;
-    let object = json!(in *out.allocator(); {
-        "name": name,
-        "path": path,
-        "place": stop.place,
-        "refused": stop.reason.name(),
-        "want": want
-    })?;
-    put_object(object, out)
+    let object = StopObject {
+        name: ascii_text(halt.way)?,
+        path: path_text(halt.path)?,
+        place: stop.place,
+        refused: stop.reason.name(),
+        want: ascii_text(halt.wanted)?,
+    };
+    put_object(&object, out)
 }
 
-fn put_object(object: Value, out: &mut Vec<u8>) -> Result<(), AllocError> {
-    let text = object.to_string(*out.allocator())?;
-    out.extend_from_slice(text.as_bytes())?;
+// Only an allocation fails here: a struct of texts and numbers has no other fault. No clause of `serde_json` says so.
+fn put_object<T: Serialize>(object: &T, out: &mut Vec<u8>) -> Result<(), AllocError> {
+    let line = serde_json::to_vec(*out.allocator(), object).map_err(|_| AllocError)?;
+    out.extend_from_slice(&line)?;
     Ok(out.push(b'\n')?)
 }
 
@@ -70,61 +104,67 @@ fn kind_word(meaning: Meaning<'_>) -> &'static str {
 }
 
 // A whole number is a text of its digits, as it may have 128 bits; what is counted is a number.
-fn meaning_value(alloc: Global, size: usize, meaning: Meaning<'_>) -> Result<Value, AllocError> {
+fn meaning_value<'a>(
+    alloc: Global,
+    size: usize,
+    meaning: Meaning<'a>,
+) -> Result<PieceValue<'a>, AllocError> {
     match meaning {
-        Meaning::Truth(flag) | Meaning::Option(flag) => Ok(Value::Bool(flag)),
+        Meaning::Truth(flag) | Meaning::Option(flag) => Ok(PieceValue::Flag(flag)),
         Meaning::Unsigned(number) => {
             let mut digits = Vec::new(alloc);
             put_decimal(number, &mut digits)?;
-            text_value(digits)
+            Ok(PieceValue::Digits(ascii_text(digits)?))
         }
         Meaning::Signed(width, bits) => {
             let mut digits = Vec::new(alloc);
             put_signed(width, bits, &mut digits)?;
-            text_value(digits)
+            Ok(PieceValue::Digits(ascii_text(digits)?))
         }
-        Meaning::Length(_, number) | Meaning::Variant(number, _) => Ok(Value::from(number)),
-        Meaning::Text(text) => Value::try_from_str(alloc, text),
-        Meaning::Bytes(_) | Meaning::Octets => Ok(Value::from(size)),
+        Meaning::Length(_, number) | Meaning::Variant(number, _) => {
+            Ok(PieceValue::Count(u64::from(number)))
+        }
+        Meaning::Text(text) => Ok(PieceValue::Text(text)),
+        Meaning::Bytes(_) | Meaning::Octets => Ok(PieceValue::Count(size as u64)),
     }
 }
 
 // What the piece is of, by names.
-fn way_value(alloc: Global, trail: &Trail<'_, '_, '_>) -> Result<Value, AllocError> {
+fn way_text(alloc: Global, trail: &Trail<'_, '_, '_>) -> Result<String, AllocError> {
     let mut way = Vec::new(alloc);
     put_way(trail, &mut way)?;
-    text_value(way)
+    ascii_text(way)
 }
 
-fn word_value(alloc: Global, trail: &Trail<'_, '_, '_>) -> Result<Value, AllocError> {
+fn word_text(alloc: Global, trail: &Trail<'_, '_, '_>) -> Result<Option<String>, AllocError> {
     let mut path = Vec::new(alloc);
     put_path(trail, &mut path)?;
-    path_value(path)
+    path_text(path)
 }
 
-fn format_value(
+fn format_text(
     alloc: Global,
     trail: &Trail<'_, '_, '_>,
     size: usize,
     meaning: Meaning<'_>,
-) -> Result<Value, AllocError> {
+) -> Result<String, AllocError> {
     let mut format = Vec::new(alloc);
     put_format(trail, size, meaning, &mut format)?;
-    text_value(format)
+    ascii_text(format)
 }
 
 // The word PATH, or `null` where no path leads.
-fn path_value(path: Vec<u8>) -> Result<Value, AllocError> {
+fn path_text(path: Vec<u8>) -> Result<Option<String>, AllocError> {
     if path.as_slice() == b"-".as_slice() {
-        return Ok(Value::Null);
+        return Ok(None);
     }
-    text_value(path)
+    Ok(Some(ascii_text(path)?))
 }
 
 // All that is put together here is ASCII, so it is never refused; no clause says so.
-fn text_value(bytes: Vec<u8>) -> Result<Value, AllocError> {
+fn ascii_text(bytes: Vec<u8>) -> Result<String, AllocError> {
     match String::from_utf8(bytes) {
-        Ok(text) => Ok(Value::String(text)),
+        Ok(text) => Ok(text),
         Err(_) => Err(AllocError),
     }
 }

@@ -1,124 +1,166 @@
 //! The sizes of containers, counted in rounds.
 
-use crate::counting::inner_sizes;
+use crate::formulas::{Formula, Step, sizes_at};
 use crate::sizes::Sizes;
 use bcs_registry_model::Container;
-use bcs_registry_model::mentions::{Mentions, names_in};
 use std::alloc::{AllocError, Global};
 use std::collections::BTreeMap;
-
-/// Containers by name.
-type Containers<'a> = BTreeMap<&'a str, &'a Container>;
 
 /// How many bytes the values of each container have in which at most `depth` containers are open at once, the container
 /// itself included. Each name of the map has its sizes. Fails only for want of memory.
 ///
 /// Before the first round no container may be open. In each round one more may, and only those are counted again whose
-/// sizes rest on sizes that changed.
+/// sizes rest on sizes that changed. So a round takes time by the size of the registry at most.
 pub fn container_sizes<'a>(
     alloc: Global,
     containers: &'a BTreeMap<String, Container>,
     depth: u32,
 ) -> Result<BTreeMap<&'a str, Sizes>, AllocError> {
-    let users = users_by_name(alloc, containers)?;
-    let (mut known, mut waiting) = before_rounds(alloc, containers)?;
+    let formulas = formulas_of(alloc, containers)?;
+    let users = users_by_number(alloc, &formulas)?;
+    let mut rounds = Rounds::new(alloc, formulas.len())?;
     for _round in 0..depth {
-        let changed = changed_sizes(alloc, &waiting, &known)?;
-        if changed.is_empty() {
+        rounds.count(&formulas)?;
+        if rounds.changed.is_empty() {
             break;
         }
-        waiting = users_of(alloc, &changed, &users)?;
-        put_all(&changed, &mut known)?;
+        rounds.wait_for(&users)?;
     }
-    Ok(known)
+    named(alloc, containers, &rounds.known)
 }
 
-/// The containers by the names on which their sizes rest.
-fn users_by_name(
+/// The formula of each container. A container's number is its place among the names.
+fn formulas_of(
     alloc: Global,
     containers: &BTreeMap<String, Container>,
-) -> Result<BTreeMap<&str, Containers<'_>>, AllocError> {
-    let mut users = BTreeMap::new(alloc);
-    for (user, container) in containers {
-        put_user(alloc, user.as_str(), container, &mut users)?;
+) -> Result<Vec<Formula>, AllocError> {
+    let mut numbers = BTreeMap::new(alloc);
+    for (number, (name, _)) in containers.iter().enumerate() {
+        numbers.insert(name.as_str(), number)?;
+    }
+    let mut formulas = Vec::with_capacity(alloc, containers.len())?;
+    for (_, container) in containers {
+        formulas.push(Formula::of(alloc, container, &numbers)?)?;
+    }
+    Ok(formulas)
+}
+
+/// The containers in whose formulas each container is, by their numbers.
+fn users_by_number(alloc: Global, formulas: &[Formula]) -> Result<Vec<Vec<usize>>, AllocError> {
+    let mut users = Vec::with_capacity(alloc, formulas.len())?;
+    for _ in formulas {
+        users.push(Vec::new(alloc))?;
+    }
+    for (user, formula) in formulas.iter().enumerate() {
+        push_user(user, formula, &mut users)?;
     }
     Ok(users)
 }
 
-/// Puts the container under each name on which its sizes rest.
-fn put_user<'a>(
-    alloc: Global,
-    user: &'a str,
-    container: &'a Container,
-    users: &mut BTreeMap<&'a str, Containers<'a>>,
-) -> Result<(), AllocError> {
-    for name in &names_in(alloc, container, Mentions::Unlisted)? {
-        match users.get_mut(*name) {
-            Some(others) => {
-                others.insert(user, container)?;
-            }
-            None => {
-                let mut first = BTreeMap::new(alloc);
-                first.insert(user, container)?;
-                users.insert(*name, first)?;
+fn push_user(user: usize, formula: &Formula, users: &mut [Vec<usize>]) -> Result<(), AllocError> {
+    for step in &formula.steps {
+        if let Step::Container(number) = step {
+            if let Some(others) = users.get_mut(*number) {
+                others.push(user)?;
             }
         }
     }
     Ok(())
 }
 
-/// No container has a value before the first round, and each waits to be counted.
-fn before_rounds(
-    alloc: Global,
-    containers: &BTreeMap<String, Container>,
-) -> Result<(BTreeMap<&str, Sizes>, Containers<'_>), AllocError> {
-    let mut known = BTreeMap::new(alloc);
-    let mut waiting = BTreeMap::new(alloc);
-    for (name, container) in containers {
-        known.insert(name.as_str(), Sizes::NoValue)?;
-        waiting.insert(name.as_str(), container)?;
-    }
-    Ok((known, waiting))
+/// What is known after some rounds, by the numbers of the containers.
+#[derive(Drop)]
+struct Rounds {
+    known: Vec<Sizes>,
+    /// The containers that are counted in the next round.
+    waiting: Vec<usize>,
+    /// Whether a container is among those that wait. Each waits once at most.
+    waits: Vec<bool>,
+    /// What the last round changed.
+    changed: Vec<(usize, Sizes)>,
+    stack: Vec<Sizes>,
 }
 
-/// The sizes that are other if one container more may be open: in each that waits stands what is known so far.
-fn changed_sizes<'a>(
+impl Rounds {
+    /// No container has a value before the first round, and each waits to be counted.
+    fn new(alloc: Global, count: usize) -> Result<Rounds, AllocError> {
+        let mut waiting = Vec::with_capacity(alloc, count)?;
+        for number in 0..count {
+            waiting.push(number)?;
+        }
+        Ok(Rounds {
+            known: vec![in alloc; Sizes::NoValue; count]?,
+            waiting,
+            waits: vec![in alloc; true; count]?,
+            changed: Vec::new(alloc),
+            stack: Vec::new(alloc),
+        })
+    }
+
+    /// Counts those that wait. All of them see what was known before the round.
+    fn count(&mut self, formulas: &[Formula]) -> Result<(), AllocError> {
+        self.changed.clear();
+        for number in &self.waiting {
+            if let Some(formula) = formulas.get(*number) {
+                let sizes = formula.sizes(&self.known, &mut self.stack)?;
+                if sizes != sizes_at(&self.known, *number) {
+                    self.changed.push((*number, sizes))?;
+                }
+            }
+        }
+        for (number, sizes) in &self.changed {
+            if let Some(known) = self.known.get_mut(*number) {
+                *known = *sizes;
+            }
+        }
+        Ok(())
+    }
+
+    /// Lets those wait whose sizes rest on sizes that changed.
+    fn wait_for(&mut self, users: &[Vec<usize>]) -> Result<(), AllocError> {
+        for number in &self.waiting {
+            set(*number, false, &mut self.waits);
+        }
+        self.waiting.clear();
+        for (number, _) in &self.changed {
+            if let Some(others) = users.get(*number) {
+                push_new(others, &mut self.waiting, &mut self.waits)?;
+            }
+        }
+        Ok(())
+    }
+}
+
+/// Appends those that don't wait yet.
+fn push_new(
+    others: &[usize],
+    waiting: &mut Vec<usize>,
+    waits: &mut [bool],
+) -> Result<(), AllocError> {
+    for number in others {
+        if waits.get(*number) == Some(&false) {
+            set(*number, true, waits);
+            waiting.push(*number)?;
+        }
+    }
+    Ok(())
+}
+
+fn set(number: usize, is_waiting: bool, waits: &mut [bool]) {
+    if let Some(place) = waits.get_mut(number) {
+        *place = is_waiting;
+    }
+}
+
+/// The sizes under the names of the containers.
+fn named<'a>(
     alloc: Global,
-    waiting: &Containers<'a>,
-    known: &BTreeMap<&'a str, Sizes>,
+    containers: &'a BTreeMap<String, Container>,
+    known: &[Sizes],
 ) -> Result<BTreeMap<&'a str, Sizes>, AllocError> {
-    let mut changed = BTreeMap::new(alloc);
-    for (name, container) in waiting {
-        let sizes = inner_sizes(container, known);
-        if known.get(*name) != Some(&sizes) {
-            changed.insert(*name, sizes)?;
-        }
+    let mut sizes = BTreeMap::new(alloc);
+    for (number, (name, _)) in containers.iter().enumerate() {
+        sizes.insert(name.as_str(), sizes_at(known, number))?;
     }
-    Ok(changed)
-}
-
-/// The containers whose sizes rest on those that changed.
-fn users_of<'a>(
-    alloc: Global,
-    changed: &BTreeMap<&'a str, Sizes>,
-    users: &BTreeMap<&'a str, Containers<'a>>,
-) -> Result<Containers<'a>, AllocError> {
-    let mut waiting = BTreeMap::new(alloc);
-    for (name, _) in changed {
-        if let Some(others) = users.get(*name) {
-            put_all(others, &mut waiting)?;
-        }
-    }
-    Ok(waiting)
-}
-
-/// Puts each under its name.
-fn put_all<'a, V: Copy>(
-    from: &BTreeMap<&'a str, V>,
-    to: &mut BTreeMap<&'a str, V>,
-) -> Result<(), AllocError> {
-    for (name, value) in from {
-        to.insert(*name, *value)?;
-    }
-    Ok(())
+    Ok(sizes)
 }

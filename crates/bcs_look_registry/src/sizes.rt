@@ -62,6 +62,11 @@ impl Sizes {
         }
     }
 
+    /// An option of the value: a byte alone, or a byte and the value.
+    pub(crate) fn optional(self) -> Sizes {
+        Sizes::exactly(1).or(Sizes::exactly(1).followed_by(self))
+    }
+
     /// So many values in a row.
     pub(crate) fn times(self, count: u64) -> Sizes {
         match self {

@@ -1,50 +1,35 @@
 //! Schemas of containers.
 
-use crate::definitions::Definitions;
 use crate::formats::{format_schema, formats_schema};
-use crate::pieces::{choice_schema, no_text, put_word, single_schema, type_schema};
+use crate::pieces::{choice_schema, no_text, single_schema, type_schema};
 use bcs_registry::{Container, Format, Named, Registry, VariantFormat};
 use bcs_value::Limits;
 use serde_json::{Map, Value, json};
-use std::alloc::AllocError;
+use std::alloc::{AllocError, Global};
 use std::collections::BTreeMap;
 
-/// Defines the containers that wait, and those that begin to wait meanwhile.
-pub(crate) fn define_containers(definitions: &mut Definitions<'_>) -> Result<(), AllocError> {
-    // Each container waits once at most.
-    for _defined in 0..definitions.registry.len() {
-        let Some(entry) = definitions.next_waiting() else {
-            break;
-        };
-        let mut schema = container_schema(definitions, entry.container)?;
-        put_word(definitions.alloc, "title", entry.name, &mut schema)?;
-        definitions.define(entry.name, schema)?;
-    }
-    Ok(())
-}
-
-fn container_schema<'r>(
-    definitions: &mut Definitions<'r>,
-    container: &'r Container,
+/// The schema of the texts of a container.
+pub(crate) fn container_schema(
+    alloc: Global,
+    registry: &Registry,
+    container: &Container,
 ) -> Result<Value, AllocError> {
     match container {
-        Container::UnitStruct => type_schema(definitions.alloc, "null"),
-        Container::NewTypeStruct(format) if is_newtypes_alone(definitions.registry, format) => {
-            no_text(
-                definitions.alloc,
-                "more newtype structs in one another than may be open",
-            )
-        }
-        Container::NewTypeStruct(format) => format_schema(definitions, format),
-        Container::TupleStruct(formats) => formats_schema(definitions, formats),
-        Container::Struct(fields) => fields_schema(definitions, fields),
-        Container::Enum(variants) => variants_schema(definitions, variants),
+        Container::UnitStruct => type_schema(alloc, "null"),
+        Container::NewTypeStruct(format) if is_newtypes_alone(registry, format) => no_text(
+            alloc,
+            "more newtype structs in one another than may be open",
+        ),
+        Container::NewTypeStruct(format) => format_schema(alloc, registry, format),
+        Container::TupleStruct(formats) => formats_schema(alloc, registry, formats),
+        Container::Struct(fields) => fields_schema(alloc, registry, fields),
+        Container::Enum(variants) => variants_schema(alloc, registry, variants),
     }
 }
 
 /// Whether nothing but newtype structs stand in one another there, as many as may be open at once or more. Then each text
 /// is `TooDeep`, and a validator might follow their references without end.
-fn is_newtypes_alone(registry: &Registry, format: &Format) -> bool {
+pub(crate) fn is_newtypes_alone(registry: &Registry, format: &Format) -> bool {
     let mut format = format;
     for _ in 0..Limits::standard().depth() {
         let Format::TypeName(name) = format else {
@@ -59,15 +44,15 @@ fn is_newtypes_alone(registry: &Registry, format: &Format) -> bool {
 }
 
 /// The schema of an object of exactly these fields, of which `required` has the order.
-fn fields_schema<'r>(
-    definitions: &mut Definitions<'r>,
-    fields: &'r [Named<Format>],
+fn fields_schema(
+    alloc: Global,
+    registry: &Registry,
+    fields: &[Named<Format>],
 ) -> Result<Value, AllocError> {
-    let alloc = definitions.alloc;
     let mut properties = Map::new(alloc);
     let mut required = Vec::with_capacity(alloc, fields.len())?;
     for field in fields {
-        let schema = format_schema(definitions, &field.value)?;
+        let schema = format_schema(alloc, registry, &field.value)?;
         serde_json::put(&mut properties, alloc, field.name.as_str(), schema)?;
         required.push(Value::try_from_str(alloc, field.name.as_str())?)?;
     }
@@ -80,11 +65,11 @@ fn fields_schema<'r>(
 }
 
 /// The schema of an enum: the names of unit variants, and each variant as an object.
-fn variants_schema<'r>(
-    definitions: &mut Definitions<'r>,
-    variants: &'r BTreeMap<u32, Named<VariantFormat>>,
+fn variants_schema(
+    alloc: Global,
+    registry: &Registry,
+    variants: &BTreeMap<u32, Named<VariantFormat>>,
 ) -> Result<Value, AllocError> {
-    let alloc = definitions.alloc;
     let mut names = Vec::new(alloc);
     let mut choices = Vec::new(alloc);
     for (_, variant) in variants {
@@ -92,7 +77,7 @@ fn variants_schema<'r>(
         if let VariantFormat::Unit = variant.value {
             names.push(Value::try_from_str(alloc, name)?)?;
         }
-        let payload = payload_schema(definitions, &variant.value)?;
+        let payload = payload_schema(alloc, registry, &variant.value)?;
         choices.push(single_schema(alloc, name, payload)?)?;
     }
     if !names.is_empty() {
@@ -101,14 +86,15 @@ fn variants_schema<'r>(
     choice_schema(alloc, choices)
 }
 
-fn payload_schema<'r>(
-    definitions: &mut Definitions<'r>,
-    payload: &'r VariantFormat,
+fn payload_schema(
+    alloc: Global,
+    registry: &Registry,
+    payload: &VariantFormat,
 ) -> Result<Value, AllocError> {
     match payload {
-        VariantFormat::Unit => type_schema(definitions.alloc, "null"),
-        VariantFormat::NewType(format) => format_schema(definitions, format),
-        VariantFormat::Tuple(formats) => formats_schema(definitions, formats),
-        VariantFormat::Struct(fields) => fields_schema(definitions, fields),
+        VariantFormat::Unit => type_schema(alloc, "null"),
+        VariantFormat::NewType(format) => format_schema(alloc, registry, format),
+        VariantFormat::Tuple(formats) => formats_schema(alloc, registry, formats),
+        VariantFormat::Struct(fields) => fields_schema(alloc, registry, fields),
     }
 }

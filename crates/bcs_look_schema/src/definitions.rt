@@ -1,75 +1,161 @@
-//! The schemas that are named, each of which stands once.
+//! What a format comes to: the containers that it names, that these name, and so on, and the whole numbers among their
+//! formats. Each is defined once.
 
-use crate::pieces::no_text;
-use crate::references::reference;
+use crate::containers::{container_schema, is_newtypes_alone};
+use crate::pieces::put_word;
 use crate::whole_numbers::{WholeNumbers, whole_number_schema};
-use bcs_registry::{Container, Registry};
-use serde_json::{Map, Value};
+use bcs_registry::{Container, Format, Named, Registry, VariantFormat};
+use bcs_registry_model::{Kind, Scalar};
+use serde_json::Value;
 use std::alloc::{AllocError, Global};
-use std::collections::BTreeSet;
+use std::collections::BTreeMap;
 
-/// A container with its name.
+/// What is defined under a name.
 #[derive(Clone, Copy)]
-pub(crate) struct Entry<'r> {
-    pub(crate) name: &'r str,
-    pub(crate) container: &'r Container,
+pub(crate) enum Definition<'r> {
+    Container(&'r Container),
+    WholeNumbers(WholeNumbers),
 }
 
-/// The schemas of containers and whole numbers, by their names, and the containers that are still to be defined.
-#[derive(Drop)]
-pub(crate) struct Definitions<'r> {
-    pub(crate) alloc: Global,
-    pub(crate) registry: &'r Registry,
-    named: BTreeSet<&'r str>,
-    waiting: Vec<Entry<'r>>,
-    members: Map<String, Value>,
-}
+/// The definitions by their names.
+pub(crate) type Definitions<'r> = BTreeMap<&'r str, Definition<'r>>;
 
-impl<'r> Definitions<'r> {
-    pub(crate) fn new(alloc: Global, registry: &'r Registry) -> Self {
-        Definitions {
-            alloc,
-            registry,
-            named: BTreeSet::new(alloc),
-            waiting: Vec::new(alloc),
-            members: Map::new(alloc),
-        }
-    }
-
-    /// The schema that stands for the container of this name. At its first use the container begins to wait.
-    pub(crate) fn container(&mut self, name: &'r str) -> Result<Value, AllocError> {
-        let Some(container) = self.registry.container(name) else {
-            return no_text(self.alloc, "no container has the name");
+/// The definitions that the schema of the format refers to, and their schemas in turn.
+pub(crate) fn definitions_of<'r>(
+    alloc: Global,
+    registry: &'r Registry,
+    format: &'r Format,
+) -> Result<Definitions<'r>, AllocError> {
+    let mut search = Search {
+        registry,
+        found: BTreeMap::new(alloc),
+        open: Vec::new(alloc),
+    };
+    search_format(format, &mut search)?;
+    // Each container is opened once at most.
+    for _opened in 0..registry.len() {
+        let Some(container) = search.open.pop() else {
+            break;
         };
-        if self.named.insert(name)? {
-            self.waiting.push(Entry { name, container })?;
+        search_container(container, &mut search)?;
+    }
+    let Search { found, .. } = search;
+    Ok(found)
+}
+
+/// The schema of what is defined, with its name as a title.
+pub(crate) fn definition_schema(
+    alloc: Global,
+    registry: &Registry,
+    name: &str,
+    definition: &Definition<'_>,
+) -> Result<Value, AllocError> {
+    match definition {
+        Definition::Container(container) => {
+            let mut schema = container_schema(alloc, registry, container)?;
+            put_word(alloc, "title", name, &mut schema)?;
+            Ok(schema)
         }
-        reference(self.alloc, name)
+        Definition::WholeNumbers(numbers) => whole_number_schema(alloc, *numbers),
     }
+}
 
-    /// The schema that stands for the whole numbers: their own, if a container has their word for a name.
-    pub(crate) fn whole_number(&mut self, numbers: WholeNumbers) -> Result<Value, AllocError> {
-        if self.registry.container(numbers.word).is_some() {
-            return whole_number_schema(self.alloc, numbers);
+/// What was found so far, and the containers whose formats are still to be searched.
+#[derive(Drop)]
+struct Search<'r> {
+    registry: &'r Registry,
+    found: Definitions<'r>,
+    open: Vec<&'r Container>,
+}
+
+impl<'r> Search<'r> {
+    /// Finds the container of this name, and opens it if it wasn't found before.
+    fn find_container(&mut self, name: &'r str) -> Result<(), AllocError> {
+        match self.registry.container(name) {
+            Some(container) if !self.found.contains_key(name) => {
+                self.found.insert(name, Definition::Container(container))?;
+                Ok(self.open.push(container)?)
+            }
+            _ => Ok(()),
         }
-        if !self.members.contains_key(numbers.word) {
-            let schema = whole_number_schema(self.alloc, numbers)?;
-            self.define(numbers.word, schema)?;
+    }
+
+    /// Finds the whole numbers. They aren't defined if a container has their word for a name.
+    fn find_whole_numbers(&mut self, numbers: WholeNumbers) -> Result<(), AllocError> {
+        if self.registry.container(numbers.word).is_none() {
+            self.found
+                .insert(numbers.word, Definition::WholeNumbers(numbers))?;
         }
-        reference(self.alloc, numbers.word)
+        Ok(())
     }
+}
 
-    /// A container that is still to be defined, which it then no longer is.
-    pub(crate) fn next_waiting(&mut self) -> Option<Entry<'r>> {
-        self.waiting.pop()
+fn search_container<'r>(
+    container: &'r Container,
+    search: &mut Search<'r>,
+) -> Result<(), AllocError> {
+    match container {
+        Container::UnitStruct => Ok(()),
+        Container::NewTypeStruct(format) if is_newtypes_alone(search.registry, format) => Ok(()),
+        Container::NewTypeStruct(format) => search_format(format, search),
+        Container::TupleStruct(formats) => search_formats(formats, search),
+        Container::Struct(fields) => search_fields(fields, search),
+        Container::Enum(variants) => search_variants(variants, search),
     }
+}
 
-    pub(crate) fn define(&mut self, name: &str, schema: Value) -> Result<(), AllocError> {
-        serde_json::put(&mut self.members, self.alloc, name, schema)
+fn search_fields<'r>(
+    fields: &'r [Named<Format>],
+    search: &mut Search<'r>,
+) -> Result<(), AllocError> {
+    for field in fields {
+        search_format(&field.value, search)?;
     }
+    Ok(())
+}
 
-    /// All that was defined.
-    pub(crate) fn into_members(self) -> Map<String, Value> {
-        self.members
+fn search_variants<'r>(
+    variants: &'r BTreeMap<u32, Named<VariantFormat>>,
+    search: &mut Search<'r>,
+) -> Result<(), AllocError> {
+    for (_, variant) in variants {
+        match &variant.value {
+            VariantFormat::Unit => {}
+            VariantFormat::NewType(format) => search_format(format, search)?,
+            VariantFormat::Tuple(formats) => search_formats(formats, search)?,
+            VariantFormat::Struct(fields) => search_fields(fields, search)?,
+        }
+    }
+    Ok(())
+}
+
+#[cycle(search)]
+fn search_formats<'r>(formats: &'r [Format], search: &mut Search<'r>) -> Result<(), AllocError> {
+    for format in formats {
+        search_format(format, search)?;
+    }
+    Ok(())
+}
+
+#[cycle(search)]
+fn search_format<'r>(format: &'r Format, search: &mut Search<'r>) -> Result<(), AllocError> {
+    match format {
+        Format::TypeName(name) => search.find_container(name.as_str()),
+        Format::Opt(inner) | Format::Seq(inner) | Format::TupleArray(inner, _) => {
+            search_format(inner, search)
+        }
+        Format::Map(key, value) => {
+            search_format(key, search)?;
+            search_format(value, search)
+        }
+        Format::Tuple(formats) => search_formats(formats, search),
+        _ => search_scalar(format, search),
+    }
+}
+
+fn search_scalar(format: &Format, search: &mut Search<'_>) -> Result<(), AllocError> {
+    match format.kind() {
+        Kind::Scalar(Scalar::Whole(number)) => search.find_whole_numbers(WholeNumbers::of(number)),
+        _ => Ok(()),
     }
 }

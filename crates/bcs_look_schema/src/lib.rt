@@ -5,6 +5,7 @@ mod containers;
 mod decimals;
 mod definitions;
 mod digits;
+mod document;
 mod formats;
 mod lists;
 mod pieces;

@@ -1,7 +1,7 @@
 //! The schema of a format's texts, as a text.
 
-use crate::containers::define_containers;
-use crate::definitions::Definitions;
+use crate::definitions::definitions_of;
+use crate::document::{DEFINITIONS, Document};
 use crate::formats::format_schema;
 use crate::pieces::{put_member, put_word};
 use bcs_registry::{Format, Registry};
@@ -23,14 +23,19 @@ pub fn schema_text(
     registry: &Registry,
     format: &Format,
 ) -> Result<String, AllocError> {
-    let mut definitions = Definitions::new(alloc, registry);
-    let mut schema = format_schema(&mut definitions, format)?;
-    define_containers(&mut definitions)?;
+    let definitions = definitions_of(alloc, registry, format)?;
+    let mut schema = format_schema(alloc, registry, format)?;
     put_word(alloc, "$schema", DIALECT, &mut schema)?;
     put_word(alloc, "$comment", UNSAID, &mut schema)?;
-    let members = definitions.into_members();
-    if !members.is_empty() {
-        put_member(alloc, "$defs", Value::Object(members), &mut schema)?;
+    if !definitions.is_empty() {
+        put_member(alloc, DEFINITIONS, Value::Null, &mut schema)?;
     }
-    schema.to_string_pretty(alloc)
+    let document = Document {
+        alloc,
+        registry,
+        schema,
+        definitions,
+    };
+    // Only an allocation fails here. No clause of `serde_json` says so.
+    serde_json::to_string_pretty(alloc, &document).map_err(|_| AllocError)
 }
