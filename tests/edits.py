@@ -16,7 +16,7 @@ ROWS = ROOT / "tests/edits.rows"
 # Where the proof of a goal fails; and where a goal has no proof, which is told at a line of the source.
 ANSWER = re.compile(r"(?:\./)?proofs/(?P<path>\S+)/Answers\.antt:\d+:\d+: error: `(?P<goal>[^`]+)`")
 SOURCE = re.compile(
-    r"note: (?P<file>src/\S+?):(?P<line>\d+):\d+: it is not proved that what .* holds [^(]*\(`(?P<goal>[^`]+)`\)"
+    r"note: (?P<file>src/\S+?):(?P<line>\d+):\d+: it is not proved that .* holds [^(]*\(`(?P<goal>[^`]+)`\)"
 )
 
 
@@ -39,8 +39,12 @@ def rows() -> list[Row]:
 
 
 def function_at(file: pathlib.Path, line: int) -> str:
-    """The function in which a line of the source stands. An edit changes no line's number."""
-    names: list[str] = re.findall(r"\bfn (\w+)", "\n".join(file.read_text(encoding="utf-8").split("\n")[:line]))
+    """The function that a line of the source belongs to, which may be one of the attributes before the function. An
+    edit changes no line's number."""
+    lines = file.read_text(encoding="utf-8").split("\n")
+    while lines[line - 1].lstrip().startswith("#["):
+        line += 1
+    names: list[str] = re.findall(r"\bfn (\w+)", "\n".join(lines[:line]))
     return names[-1] if names else ""
 
 

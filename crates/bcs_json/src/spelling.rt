@@ -11,6 +11,7 @@ ghost use Rattle.bcs_json_spec.specs.declared.json_fault.JsonFault.TheVariants.{
 
 use bcs_json_reader::reading::read;
 use bcs_json_spec::JsonFault;
+use bcs_json_tokens::{GivenUp, value_of_text};
 use bcs_registry::{Format, Registry};
 use bcs_registry_json::{NESTING_LIMIT, nests_within, read_json};
 use bcs_value::{Limits, Value};
@@ -32,7 +33,7 @@ pub(crate) fn json_of(alloc: Global, text: &[u8]) -> Result<Json, JsonFault>
 }
 
 /// The value that a text spells, its pairs as they stand there. It isn't judged yet: it may have too many nodes, too
-/// long lengths, or equal keys.
+/// long lengths, or equal keys. A plain text is read from its tokens, and any other by way of its JSON.
 pub(crate) fn spelled(
     alloc: Global,
     registry: &Registry,
@@ -43,6 +44,11 @@ pub(crate) fn spelled(
     ensures spelled { IfOk result (λ v. SpelledBy registry.now limits.now (shape_of format.now) text.now (tree_of v)) }
     ensures fault { IfErr result (λ e. e ≢ OutOfMemory → RefusesText registry.now limits.now (shape_of format.now) text.now e) }
 {
+    match value_of_text(alloc, registry, format, limits, text) {
+        Ok(value) => return Ok(value),
+        Err(GivenUp::OutOfMemory) => return Err(JsonFault::OutOfMemory),
+        Err(GivenUp::Unusual) => {}
+    }
     let json = json_of(alloc, text)?;
     let value = read(alloc, registry, format, limits.depth(), json)?;
     Ok(value)

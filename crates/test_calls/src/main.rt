@@ -18,6 +18,7 @@ mod setting;
 mod sources;
 mod streams;
 mod texts;
+mod tokens;
 mod value_words;
 mod values;
 mod verdicts;

@@ -5,7 +5,7 @@ use crate::setting::Setting;
 use crate::words::unrolled;
 use crate::{
     encodings, fault_numbers, jobs, likeness, numbers, parts, registries, repeating, sources,
-    streams, texts, values, verdicts,
+    streams, texts, tokens, values, verdicts,
 };
 use std::alloc::{AllocError, Global};
 
@@ -61,6 +61,7 @@ fn answered(
         | "quiet_value"
         | "stand_value" => encodings::answer(alloc, setting, question, words),
         "json" | "text" | "same" | "pairs" => texts::answer(alloc, setting, question, words),
+        "tokens" => tokens::answer(alloc, setting, words),
         "repeat" => repeating::answer(alloc, setting, words),
         "fault_numbers" => fault_numbers::answer(alloc, words),
         "run"

@@ -1,0 +1,9 @@
+use Rattle.std.proofs.Common.{Ok, ap, sym}
+use Rattle.json.specs.Reads.{token_of}
+use Rattle.serde_json.specs.Data.{boolean}
+use Rattle.bcs_json_tokens.specs.Tokens.{alone}
+use Rattle.bcs_json_tokens.proofs.Values.{tree_truth}
+use Rattle.bcs_json_tokens.proofs.leaves.bool_of_token.Goals as goal
+
+pub returns-in-Bool : goal.returns-in-Bool
+returns-in-Bool c = record { json = boolean c.in-Bool.truth; is = ap (λ k. alone (token_of k)) c.in-Bool.is; told = ap Ok (sym (tree_truth c.in-Bool.truth)) }

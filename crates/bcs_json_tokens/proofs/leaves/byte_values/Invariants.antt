@@ -1,0 +1,8 @@
+use Rattle.std.proofs.Common.{◌≡◌, drop}
+use Rattle.bcs_json_spec.specs.Bytes.{byte_trees}
+use Rattle.bcs_json_reader.proofs.Rows.{joined}
+use Rattle.bcs_json_tokens.proofs.leaves.byte_values.Given as goal
+
+-- the whole is what was made so far, before what is still to be made
+abbrev pub invariant-loop-byte : goal.invariant-loop-byte
+invariant-loop-byte l = byte_trees l.bytes ≡ joined l.found.items (byte_trees (drop l.byte-index l.bytes))

@@ -1,0 +1,42 @@
+//! The public call: the value that a text spells.
+ghost use Rattle.std.specs.Prelude.{IfOk};
+ghost use Rattle.bcs_registry_model.specs.View.{shape_of};
+ghost use Rattle.bcs_value_model.specs.View.{tree_of};
+ghost use Rattle.bcs_json_spec.specs.Texts.{SpelledBy};
+
+use crate::given_up::GivenUp;
+use crate::reading::next_value;
+use bcs_registry::{Format, Registry};
+use bcs_registry_json::NESTING_LIMIT;
+use bcs_value::{Limits, Value};
+use json::{Reader, Scratch};
+use std::alloc::Global;
+
+/// The value that a text spells, read from its tokens. If it gives up, the text may still spell a value.
+pub fn value_of_text(
+    alloc: Global,
+    registry: &Registry,
+    format: &Format,
+    limits: &Limits,
+    text: &[u8],
+) -> Result<Value, GivenUp>
+    ensures { IfOk result (λ v. SpelledBy registry.now limits.now (shape_of format.now) text.now (tree_of v)) }
+{
+    let Ok(text) = simdutf8::compat::from_utf8(text) else {
+        return Err(GivenUp::Unusual);
+    };
+    let mut scratch = Scratch::new(alloc);
+    let mut reader = Reader::new(text, &mut scratch)?;
+    let value = next_value(
+        alloc,
+        registry,
+        format,
+        limits.depth(),
+        NESTING_LIMIT as usize,
+        &mut reader,
+    )?;
+    if reader.next().is_some() {
+        return Err(GivenUp::Unusual);
+    }
+    Ok(value)
+}
