@@ -2,13 +2,11 @@
 use Rattle.bcs_c.proofs.Steps.{◌≡◌, ℕ, List, [], ◌∷◌, ◌++◌, refl, subst, lit<, true, ◌&&◌, T, Ura, bare, impl, tnil, dnil, ty_ptr, Val, vstruct, of_list, has_ty, WT, Fml, full_share, ent, guard, guard_i, via, fst∗, snd∗, never, Logic, sem, Item, Goal, Seq, Step, step, ‵, given, ◌$◌, move, drop, fsplit, fjoin, fpick, fpack, learn, use1, feq_i, feq_l, fact_use, RawPtr, lone, layout, Laws, RattleType, Valss, Ptr, block_ptr, null_ptr, ptr_val, lies_at, in_a_block, Testable, nothing, shape, to, within, Al, handle_tells, Good, dealloc_token-Testable, and_tt, box_owns, Global, Option, None, Some}
 use Rattle.std.proofs.alloc.Global.TheLaws as heap_laws
 use Rattle.std.specs.contracts.alloc.Global as heap
-use Rattle.std.specs.contracts.impls.GlobalAllocator.TheImpl.{ghosts}
+use Rattle.bcs_c.proofs.Prelude.{ghosts, holds, Handle}
 use Rattle.bcs_registry.specs.contracts.registry.Registry as registry
 use Rattle.bcs_c.proofs.RawBoxes as raw
 use Rattle.bcs_c.proofs.RawBoxes.{both}
-use Rattle.bcs_c.specs.Holding.{holds}
 use Rattle.bcs_c.specs.contracts.handle.Handle as handle
-use Rattle.bcs_c.specs.declared.handle.Handle.{Handle}
 
 -- the registry's type, the allocator's with its laws, and that of a box of a registry as its pointer
 abbrev pub R : RattleType

@@ -1,3 +1,4 @@
+pub mod Prelude
 pub mod Once
 pub mod Refusals
 pub mod PartAnswers

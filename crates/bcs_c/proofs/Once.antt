@@ -1,19 +1,7 @@
 -- One thing at most is asked for, and then it isn't refused. What is answered of a registry is answered of its text too, and of
 -- a handle in which it is open.
-use Rattle.std.proofs.Common.{◌≡◌, ◌∙◌, ℕ, List, Option, Some, None, ap, arith, refl, subst, sym}
-use Rattle.bcs_registry_model.specs.Container.{Entries}
-use Rattle.bcs_registry_model.specs.Shape.{Shape}
-use Rattle.bcs_registry.proofs.OneFault.{one_fault, one_format_fault}
-use Rattle.bcs_registry.proofs.OneText.{same_format, same_registry}
-use Rattle.bcs_value_model.specs.Limits.{Bounds}
-use Rattle.bcs_c.specs.Answers.{plain}
-use Rattle.bcs_c.specs.Asking.{AnswersIfAsked, AsksFor, Has, RefusesAsk, RefusesSource, Request, Source, Whatever, by_texts, given, kept, no_format, no_limits, no_registry, on_handle, refused, rest, written}
-use Rattle.bcs_c.specs.Registries.{IsFormat, IsRegistry, RefusesFormat, RefusesRegistry, has_fault, no_memory}
-use Rattle.bcs_c.specs.declared.answer.Answer.{Answer}
-use Rattle.bcs_c.specs.declared.ask.Ask.{Ask}
-use Rattle.bcs_c.specs.declared.ask.HandleAsk.{HandleAsk}
-use Rattle.bcs_c.specs.declared.status.Status.{Status}
-use Rattle.bcs_c.specs.declared.status.Status.TheVariants.{Memory, Registry}
+use Rattle.bcs_c.proofs.Prelude.{◌≡◌, ◌∙◌, ℕ, List, Option, Some, None, ap, arith, refl, subst, sym, Entries, Shape, one_fault, one_format_fault, same_format, same_registry, Bounds, plain, AnswersIfAsked, AsksFor, Has, RefusesAsk, RefusesSource, Request, Source, Whatever, by_texts, given, kept, no_format, no_limits, no_registry, on_handle, refused, rest, written, IsFormat, IsRegistry, RefusesFormat, RefusesRegistry, has_fault, Answer, Ask, HandleAsk, Status, Memory, Registry}
+use Rattle.bcs_c.specs.Registries.{no_memory}
 
 -- ---- registries and formats
 

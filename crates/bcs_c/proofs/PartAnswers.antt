@@ -1,23 +1,7 @@
 -- The answers to a path, by what `part` hands out.
-use Rattle.std.proofs.Common.{◌≡◌, ◌≢◌, ℕ, List, Option, Some, None, length, drop, take, ap, subst, ◌∙◌}
-use Rattle.bcs_registry_model.specs.Container.{Entries, of}
-use Rattle.bcs_registry_model.specs.Shape.{Shape}
-use Rattle.bcs_value_model.specs.Limits.{Bounds}
-use Rattle.bcs_value_model.specs.Tree.{Tree}
-use Rattle.bcs_encode_spec.specs.Plain.{plain as bytes_of}
-use Rattle.bcs_decode_spec.specs.Accepting.{Accepts}
-use Rattle.bcs_decode_spec.specs.Stopping.{Stops}
-use Rattle.bcs_decode_spec.specs.declared.reason.Reason.{Reason}
-use Rattle.bcs_decode_spec.proofs.Verdicts.{accepts_once_is, no_two_verdicts_are, stops_once_is}
-use Rattle.bcs_decode_parts.specs.Parts.{Part, part_at}
-use Rattle.bcs_decode_parts.specs.Steps.{GivesPart}
+use Rattle.bcs_c.proofs.Prelude.{◌≡◌, ◌≢◌, ℕ, List, Option, Some, None, length, drop, take, ap, subst, ◌∙◌, Entries, of, Shape, Bounds, Tree, bytes_of, Accepts, Stops, Reason, accepts_once_is, no_two_verdicts_are, stops_once_is, Part, part_at, GivesPart, one_path, placed, plain, stop_at, IsUnlessMemory, AnswersPart, AnswersSteps, Finds, IsPath, RefusesPath, Steps, found, no_path, no_text, out_of_memory, stepped, stopped, Answer, Memory, No}
 use Rattle.bcs_decode_parts.specs.declared.part.Part as declared
-use Rattle.bcs_decode_parts.proofs.Parts.{one_path}
-use Rattle.bcs_c.specs.Answers.{placed, plain, stop_at}
-use Rattle.bcs_c.specs.Asking.{IsUnlessMemory}
-use Rattle.bcs_c.specs.Parts.{AnswersPart, AnswersSteps, Finds, IsPath, RefusesPath, Steps, found, no_memory, no_path, no_text, out_of_memory, refused, stepped, stopped}
-use Rattle.bcs_c.specs.declared.answer.Answer.{Answer}
-use Rattle.bcs_c.specs.declared.status.Status.TheVariants.{Memory, No}
+use Rattle.bcs_c.specs.Parts.{no_memory, refused}
 
 module _ (registry : Entries) (b : List ℕ) (a : Answer) where
   -- what is handed out is told

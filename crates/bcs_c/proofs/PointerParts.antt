@@ -1,9 +1,5 @@
 -- What was put of a row, before what is left of it.
-use Rattle.std.proofs.Common.{◌≡◌, ◌∙◌, ℕ, ◌+◌, ◌<◌, ◌≤◌, List, ◌∷◌, ◌++◌, ap, sym, drop, drop_of_length-le, get_or, length, append_assoc, append-nil, flat_map, map}
-use Rattle.std.proofs.lemmas.List.{drop_more}
-use Rattle.bcs_json_spec.specs.Place.{pointer_step_of}
-use Rattle.bcs_json_spec.specs.declared.json_step.JsonStep.{JsonStep}
-use Rattle.bcs_c.specs.Pointers.{marked, marked_sign, pointer, pointer_step}
+use Rattle.bcs_c.proofs.Prelude.{◌≡◌, ◌∙◌, ℕ, ◌+◌, ◌<◌, ◌≤◌, List, ◌∷◌, ◌++◌, ap, sym, drop, drop_of_length-le, get_or, length, append_assoc, append-nil, flat_map, map, drop_more, pointer_step_of, JsonStep, marked, marked_sign, pointer, pointer_step}
 
 -- one byte more was put
 pub sign_more : (put name : List ℕ) (i d : ℕ) → i < length name

@@ -1,26 +1,11 @@
 -- What a fault of a library comes to.
-use Rattle.std.proofs.Common.{◌≡◌, ◌≢◌, ◌⊎◌, ◌∙◌, ℕ, Err, List, Result, ap, inl, inr, refl}
-use Rattle.bcs_registry_model.specs.declared.fault.RegistryFault.{RegistryFault}
+use Rattle.bcs_c.proofs.Prelude.{◌≡◌, ◌≢◌, ◌⊎◌, ◌∙◌, ℕ, Err, List, Result, ap, inl, inr, refl, RegistryFault, Entries, Shape, Reason, Stop, Bounds, Tree, Denotes, RefusesText, JsonFault, plain, refusal, stop_at, AnswersComparing, RefusesOne, AnswersText, RefusesFor, has_fault, Answer, Text, Status, Memory, Refused}
 use Rattle.bcs_registry_model.specs.declared.fault.RegistryFault.TheVariants as registry
-use Rattle.bcs_registry_model.specs.Container.{Entries}
-use Rattle.bcs_registry_model.specs.Shape.{Shape}
-use Rattle.bcs_decode_spec.specs.declared.reason.Reason.{Reason}
-use Rattle.bcs_decode_spec.specs.declared.stop.Stop.{Stop}
-use Rattle.bcs_value_model.specs.Limits.{Bounds}
-use Rattle.bcs_value_model.specs.Tree.{Tree}
-use Rattle.bcs_json_spec.specs.Texts.{Denotes, RefusesText}
-use Rattle.bcs_json_spec.specs.declared.json_fault.JsonFault.{JsonFault}
 use Rattle.bcs_json_spec.specs.declared.json_fault.JsonFault.TheVariants as json
-use Rattle.bcs_c.specs.Answers.{plain, refusal, stop_at}
-use Rattle.bcs_c.specs.Compared.{AnswersComparing, RefusesOne}
 use Rattle.bcs_c.specs.Compared as compared
-use Rattle.bcs_c.specs.Denoted.{AnswersText}
 use Rattle.bcs_c.specs.Denoted as denoted
-use Rattle.bcs_c.specs.Registries.{RefusesFor, has_fault, no_memory}
-use Rattle.bcs_c.specs.declared.answer.Answer.{Answer}
-use Rattle.bcs_c.specs.declared.fault.Fault.TheVariants.{Registry, Text}
-use Rattle.bcs_c.specs.declared.status.Status.{Status}
-use Rattle.bcs_c.specs.declared.status.Status.TheVariants.{Memory, Refused}
+use Rattle.bcs_c.specs.Registries.{no_memory}
+use Rattle.bcs_c.specs.declared.fault.Fault.TheVariants.{Registry}
 
 -- memory ran out, or not
 registry_memory : (e : RegistryFault) → (e ≡ registry.OutOfMemory) ⊎ (e ≢ registry.OutOfMemory)

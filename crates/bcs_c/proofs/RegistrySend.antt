@@ -1,12 +1,8 @@
 -- A registry may go to another thread, since all that it is made of may. `search` finds no more than a layer or two at once.
-use denote.Enum.Declared.{shape}
-use denote.Param.Send.{IsSend, enum_send, recorded_send, sendable}
-use Rattle.std.proofs.Crossing.{Vec-send, crosses}
+use Rattle.bcs_c.proofs.Prelude.{shape, IsSend, enum_send, recorded_send, sendable, Vec-send, crosses, ghosts, send-Format}
 use Rattle.std.proofs.MapsCrossing as maps
 use Rattle.std.specs.contracts.alloc.Global as Global
-use Rattle.std.specs.contracts.impls.GlobalAllocator.TheImpl.{ghosts}
 use Rattle.std.specs.contracts.vec.Vec as Vec
-use Rattle.bcs_registry_model.proofs.format.Format.TheLaws.TheKnot.{send-Format}
 use Rattle.bcs_registry_model.specs.contracts.container.Container as Container
 use Rattle.bcs_registry_model.specs.contracts.format.Format as Format
 use Rattle.bcs_registry_model.specs.contracts.named.Named as Named

@@ -4,9 +4,9 @@ use Rattle.bcs_registry_model.specs.Container.{Entries}
 use Rattle.bcs_registry_model.specs.Shape.{Shape}
 use Rattle.bcs_value_model.specs.Limits.{Bounds}
 use Rattle.bcs_decode_spec.specs.declared.stop.Stop.{Stop}
-use Rattle.bcs_look_text.specs.declared.style.Form.{Form}
-use Rattle.bcs_look_text.specs.declared.style.Form.TheVariants.{Json, Paths, Tree, Ways}
-use Rattle.bcs_look_pieces.specs.EndsAt.{EndsAt}
+use Rattle.bcs_display_text.specs.declared.style.Form.{Form}
+use Rattle.bcs_display_text.specs.declared.style.Form.TheVariants.{Json, Paths, Tree, Ways}
+use Rattle.bcs_display_pieces.specs.EndsAt.{EndsAt}
 use Rattle.bcs_c.specs.Answers.{plain, with_stop}
 use Rattle.bcs_c.specs.Output.{Puts}
 use Rattle.bcs_c.specs.declared.answer.Answer.{Answer}

@@ -11,7 +11,7 @@ use Rattle.bcs_json_spec.specs.Place.{PointerStep}
 use Rattle.bcs_json_spec.specs.Texts.{Denotes, MisspellsAt, RefusesText}
 use Rattle.bcs_json_spec.specs.declared.json_fault.JsonFault.{JsonFault}
 use Rattle.bcs_json_spec.specs.declared.json_fault.JsonFault.TheVariants.{NotJson, TooNested, TooManyNodes, TooLong, RepeatedKey}
-use Rattle.bcs_look_pieces.specs.EndsAt.{EndsAt}
+use Rattle.bcs_display_pieces.specs.EndsAt.{EndsAt}
 use Rattle.bcs_c.specs.Answers.{plain}
 use Rattle.bcs_c.specs.Output.{Puts}
 use Rattle.bcs_c.specs.Pointers.{pointer}

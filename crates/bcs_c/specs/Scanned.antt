@@ -1,4 +1,4 @@
--- What is answered to bytes that are judged.
+-- What is answered to bytes that are validated.
 use Rattle.std.specs.Prelude.{◌≡◌, ℕ, List}
 use Rattle.bcs_registry_model.specs.Container.{Entries}
 use Rattle.bcs_registry_model.specs.Shape.{Shape}

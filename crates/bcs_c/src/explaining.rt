@@ -11,8 +11,8 @@ use crate::ask::{Ask, HandleAsk, read_ask};
 use crate::output::put;
 use crate::registries::read_registry;
 use crate::status::Status;
-use bcs_look_pieces::explain_text;
-use bcs_look_text::style::{Form, Paint, Style};
+use bcs_display_pieces::explain_text;
+use bcs_display_text::style::{Form, Paint, Style};
 use bcs_registry::Registry;
 use std::alloc::Global;
 

@@ -4,7 +4,6 @@ ghost use Rattle.bcs_registry_model.specs.declared.fault.RegistryFault.{Registry
 ghost use Rattle.bcs_registry_model.specs.declared.growth_fault.GrowthFault.{GrowthFault};
 ghost use Rattle.bcs_decode_spec.specs.declared.reason.Reason.{Reason};
 ghost use Rattle.bcs_json_spec.specs.declared.json_fault.JsonFault.{JsonFault};
-ghost use Rattle.bcs_c.specs.Faults.{growth_number, reason_number, registry_number, text_number};
 ghost use Rattle.bcs_c.specs.Named.{IsNumbered};
 ghost use Rattle.bcs_c.specs.declared.fault.Fault.{Fault};
 ghost use Rattle.bcs_c.specs.declared.fault.Fault.TheVariants.{Growth, Registry, Stop, Text};

@@ -16,9 +16,9 @@ use crate::output::put;
 use crate::pointers::pointer_of;
 use crate::registries::read_registry;
 use crate::status::Status;
+use bcs_display_errors::{registry_line, text_line};
+use bcs_display_pieces::stop_place;
 use bcs_json::{JsonFault, fault_place, read_value};
-use bcs_look_pieces::stop_place;
-use bcs_look_places::{registry_line, text_line};
 use bcs_registry::{Registry, RegistryFault};
 use std::alloc::{AllocError, Global};
 

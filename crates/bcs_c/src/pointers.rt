@@ -1,10 +1,10 @@
 //! JSON Pointers.
-ghost use Rattle.std.specs.Prelude.{◌≡◌, ◌++◌, IfOk, OnOk, map, string_bytes};
+ghost use Rattle.std.specs.Prelude.{◌≡◌, ◌++◌, IfOk, OnOk, map};
 ghost use Rattle.bcs_json_spec.specs.Place.{pointer_step_of};
 ghost use Rattle.bcs_c.specs.Pointers.{marked, marked_sign, pointer, pointer_step};
 
+use bcs_display_text::columns::put_decimal;
 use bcs_json_spec::JsonStep;
-use bcs_look_text::columns::put_decimal;
 use std::alloc::{AllocError, Global};
 
 /// The steps down to JSON, as a JSON Pointer.

@@ -1,9 +1,6 @@
 //! Where the value at the front of bytes ends, for C.
 ghost use Rattle.std.specs.Prelude.{◌≡◌, ℕ};
 ghost use Rattle.std.specs.declared.option.Option.TheVariants.{Some};
-ghost use Rattle.bcs_registry_model.specs.Container.{Entries};
-ghost use Rattle.bcs_registry_model.specs.Shape.{Shape};
-ghost use Rattle.bcs_value_model.specs.Limits.{Bounds};
 ghost use Rattle.bcs_value_model.specs.Tree.{Tree};
 ghost use Rattle.bcs_decode_spec.specs.Accepting.{Accepts};
 ghost use Rattle.bcs_decode_spec.specs.Stopping.{Stops};

@@ -3,7 +3,7 @@ pub use Rattle.bcs_registry.specs.Container
 pub use Rattle.bcs_registry.specs.WellFormed
 pub use Rattle.bcs_registry.specs.Grows
 pub use Rattle.bcs_registry.specs.Text
-pub use Rattle.bcs_look_registry.specs.Shows
+pub use Rattle.bcs_display_registry.specs.Shows
 pub use Rattle.bcs_value.specs.Tree
 pub use Rattle.bcs_value.specs.Fits
 pub use Rattle.bcs_value.specs.Same
@@ -21,7 +21,7 @@ pub use Rattle.bcs_decode.specs.Whole
 pub use Rattle.bcs_decode.specs.Parts
 pub use Rattle.bcs_decode.specs.Scanned
 pub use Rattle.bcs_explain.specs.Covering
-pub use Rattle.bcs_look_pieces.specs.EndsAt
+pub use Rattle.bcs_display_pieces.specs.EndsAt
 pub use Rattle.bcs_json.specs.Spells
 pub use Rattle.bcs_json.specs.Refuses
 pub use Rattle.bcs_json.specs.Place

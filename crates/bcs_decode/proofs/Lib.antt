@@ -1,3 +1,4 @@
+pub mod Prelude
 pub mod Scans
 pub mod Slices
 pub mod Wholes

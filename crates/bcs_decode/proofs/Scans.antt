@@ -1,37 +1,20 @@
 -- From what is seen of told bytes to what is promised.
-use Rattle.std.proofs.Common.{◌≡◌, ◌<◌, ℕ, suc, List, [], ◌∷◌, inr, subst, sym, length-drop, length, drop, Option, Some, None, Ok, Err, refl, ap, ap₂, ◌∙◌, arith}
-use Rattle.std.specs.Io.KnownBytes.{Consumes, IsAtEnd}
-use Rattle.bcs_registry_model.specs.Shape.{Shape}
-use Rattle.bcs_registry_model.specs.Container.{Entries}
-use Rattle.bcs_value_model.specs.Limits.{Bounds}
-use Rattle.bcs_decode_spec.specs.declared.reason.Reason.TheVariants.{TrailingBytes}
-use Rattle.bcs_decode_spec.specs.declared.decode_fault.DecodeFault.{DecodeFault}
-use Rattle.bcs_decode_spec.specs.declared.decode_fault.DecodeFault.TheVariants.{Stop, Read, OutOfMemory}
-use Rattle.bcs_decode_spec.specs.Accepting.{Accepts}
+use Rattle.bcs_decode.proofs.Prelude.{◌≡◌, ◌<◌, ℕ, suc, List, [], ◌∷◌, inr, subst, sym, length-drop, length, drop, Option, Some, None, Ok, Err, refl, ap, ap₂, ◌∙◌, arith, Consumes, IsAtEnd, Shape, Entries, Bounds, TrailingBytes, DecodeFault, Stop, Read, OutOfMemory, Accepts, skip_value, StopsAll, is_decoded, no_encoding_stops, skips_accepts, skips_stops, skip, Progress, rest_of, FindsFault, Along, Halts, Found, ScansFrom, ScansAll}
 use Rattle.bcs_decode_spec.specs.Reading as Reading
-use Rattle.bcs_decode_spec.specs.Reading.{skip_value}
-use Rattle.bcs_decode_spec.specs.Stopping.{StopsAll}
-use Rattle.bcs_decode_spec.proofs.Encoded.{is_decoded, no_encoding_stops}
-use Rattle.bcs_decode_spec.proofs.Verdicts.{skips_accepts, skips_stops}
-use Rattle.bcs_decode_slice.specs.Passing.{skip}
-use Rattle.bcs_decode_source.specs.declared.at.At.{At}
-use Rattle.bcs_decode_source.specs.Sees.{rest_of, FindsFault, Along, Halts}
-use Rattle.bcs_decode_source.proofs.StreamedRows.{Found}
 use Rattle.bcs_decode.proofs.Wholes as whole
 use Rattle.bcs_decode.proofs.Wholes.{some_same, drop-suc, told_rest, from_all, gave}
-use Rattle.bcs_decode.specs.Scanned.{ScansFrom, ScansAll}
 
 module _ (registry : Entries) (limits : Bounds) (s : Shape) where
-  from_start : (p : At) → p.place ≡ 0 → p.nodes ≡ limits.nodes → (b : List ℕ) (x : Reading.Read (Unit {0})) → skip registry limits.depth s p.place p.nodes b ≡ x → skip_value registry limits s b ≡ x
+  from_start : (p : Progress) → p.place ≡ 0 → p.nodes ≡ limits.nodes → (b : List ℕ) (x : Reading.Read (Unit {0})) → skip registry limits.depth s p.place p.nodes b ≡ x → skip_value registry limits s b ≡ x
   from_start p place nodes b x h = ap₂ (λ (o m : ℕ). skip registry limits.depth s o m b) (sym place) (sym nodes) ∙ h
 
-  pub scanned : (c d : Option (List ℕ)) (p q : At) → p.place ≡ 0 → p.nodes ≡ limits.nodes → Found tt (skip registry limits.depth s) c d p q → Along c p d q → ScansFrom registry limits s c d (Ok q.place)
+  pub scanned : (c d : Option (List ℕ)) (p q : Progress) → p.place ≡ 0 → p.nodes ≡ limits.nodes → Found tt (skip registry limits.depth s) c d p q → Along c p d q → ScansFrom registry limits s c d (Ok q.place)
   scanned None d p q place nodes h along = tt
   scanned (Some b) d p q place nodes h along =
       let l = along.gone b (from_all b p place) in
       (told_rest q.place b d l, l.within, λ bytes. skips_accepts registry limits s b q.place q.nodes (rest_of d) bytes (from_start p place nodes b _ (h refl).0))
 
-  pub stopped : (c d : Option (List ℕ)) (x : DecodeFault) (p q : At) → p.place ≡ 0 → p.nodes ≡ limits.nodes → FindsFault x c p (skip registry limits.depth s) → Halts x c p d q → ScansFrom registry limits s c d (Err x)
+  pub stopped : (c d : Option (List ℕ)) (x : DecodeFault) (p q : Progress) → p.place ≡ 0 → p.nodes ≡ limits.nodes → FindsFault x c p (skip registry limits.depth s) → Halts x c p d q → ScansFrom registry limits s c d (Err x)
   stopped None d x p q place nodes h k = tt
   stopped (Some b) d (Stop stop) p q place nodes h k = λ bytes.
       (let l = k.0 b (from_all b p place) in (

@@ -1,21 +1,6 @@
 -- Bytes at whose front a value stands, and bytes that are a value's encoding.
-use Rattle.std.proofs.Common.{◌≡◌, ℕ, List, length, Option, Some, Ok, Err, refl, subst}
-use Rattle.bcs_registry_model.specs.Shape.{Shape}
-use Rattle.bcs_registry_model.specs.Container.{Entries}
-use Rattle.bcs_value_model.specs.Limits.{Bounds}
-use Rattle.bcs_value_model.specs.Tree.{Tree}
-use Rattle.bcs_value_model.specs.View.{tree_of}
-use Rattle.bcs_value_model.specs.declared.value.Value.{Value}
-use Rattle.bcs_encode_spec.specs.Encodes.{Encodes}
-use Rattle.bcs_decode_spec.specs.declared.decode_fault.DecodeFault.{DecodeFault}
-use Rattle.bcs_decode_spec.specs.declared.decode_fault.DecodeFault.TheVariants.{Stop, Read, OutOfMemory}
+use Rattle.bcs_decode.proofs.Prelude.{◌≡◌, ℕ, List, length, Option, Some, Ok, Err, refl, subst, Shape, Entries, Bounds, Tree, tree_of, Value, Encodes, DecodeFault, Stop, Read, OutOfMemory, Accepts, IsDecoded, AreBytes, encoded_is_accepted_is, is_decoded, accepts_once_is, no_two_verdicts_are, DecodesSlice, DecodesFrom}
 use Rattle.bcs_decode_spec.specs.declared.stop.Stop as stop
-use Rattle.bcs_decode_spec.specs.Accepting.{Accepts, IsDecoded}
-use Rattle.bcs_decode_spec.specs.Exact.{AreBytes}
-use Rattle.bcs_decode_spec.proofs.Encoded.{encoded_is_accepted_is, is_decoded}
-use Rattle.bcs_decode_spec.proofs.Verdicts.{accepts_once_is, no_two_verdicts_are}
-use Rattle.bcs_decode.specs.Sliced.{DecodesSlice}
-use Rattle.bcs_decode.specs.Whole.{DecodesFrom}
 
 pub refused_slice : (registry : Entries) (limits : Bounds) (s : Shape) (b : List ℕ) (rest : Option (List ℕ)) (x : DecodeFault) → AreBytes b → DecodesFrom registry limits s (Some b) rest (Err x)
     → (x ≡ Read → ⊥) → ((n : ℕ) × (c : Tree) × Accepts registry limits s b n c) → DecodesSlice registry limits s b (Err x)

@@ -1,28 +1,6 @@
 -- From what is seen of told bytes to what is promised.
-use Rattle.std.proofs.Common.{◌≡◌, ◌<◌, ℕ, zero, suc, List, [], ◌∷◌, inl, inr, subst, length-drop, length, drop, Option, Some, None, Ok, Err, refl, sym, ap, ap₂, ◌∙◌, arith}
-use Rattle.std.proofs.lemmas.List.{drop_at}
-use Rattle.std.specs.Io.KnownBytes.{Consumes, IsAtEnd}
-use Rattle.bcs_decode_spec.specs.Accepting.{Accepts}
-use Rattle.bcs_decode_spec.specs.declared.reason.Reason.TheVariants.{TrailingBytes}
-use Rattle.bcs_registry_model.specs.Shape.{Shape}
-use Rattle.bcs_registry_model.specs.Container.{Entries}
-use Rattle.bcs_value_model.specs.Limits.{Bounds}
-use Rattle.bcs_value_model.specs.Tree.{Tree}
-use Rattle.bcs_value_model.specs.View.{tree_of}
-use Rattle.bcs_value_model.specs.declared.value.Value.{Value}
-use Rattle.bcs_decode_source.specs.declared.at.At.{At}
-use Rattle.bcs_decode_spec.specs.declared.decode_fault.DecodeFault.{DecodeFault}
-use Rattle.bcs_decode_spec.specs.declared.decode_fault.DecodeFault.TheVariants.{Stop, Read, OutOfMemory}
-use Rattle.bcs_decode_source.specs.Sees.{FindsFault, Left, Along, GaveFront, Halts, read}
-use Rattle.bcs_decode.specs.Whole.{FrontGone, DecodesAll, DecodesFrom, DecodesFront}
+use Rattle.bcs_decode.proofs.Prelude.{◌≡◌, ◌<◌, ℕ, zero, suc, List, [], ◌∷◌, inl, inr, subst, length-drop, length, drop, Option, Some, None, Ok, Err, refl, sym, ap, ap₂, ◌∙◌, arith, drop_at, Consumes, IsAtEnd, Accepts, TrailingBytes, Shape, Entries, Bounds, Tree, tree_of, Value, Progress, DecodeFault, Stop, Read, OutOfMemory, FindsFault, Left, Along, GaveFront, Halts, read, FrontGone, DecodesAll, DecodesFrom, DecodesFront, read_value, Along-gave, Found, exact_value, reads_accepts, is_decoded, no_encoding_stops, StopsAll}
 use Rattle.bcs_decode_spec.specs.Reading as Reading
-use Rattle.bcs_decode_spec.specs.Reading.{read_value}
-use Rattle.bcs_decode_source.proofs.Going.{Along-gave}
-use Rattle.bcs_decode_source.proofs.StreamedRows.{Found}
-use Rattle.bcs_decode_spec.proofs.Values.{exact_value}
-use Rattle.bcs_decode_spec.proofs.Verdicts.{reads_accepts}
-use Rattle.bcs_decode_spec.proofs.Encoded.{is_decoded, no_encoding_stops}
-use Rattle.bcs_decode_spec.specs.Stopping.{StopsAll}
 
 pub some_same : {x y : List ℕ} → Some x ≡ Some y → x ≡ y
 some_same h = cc
@@ -36,19 +14,19 @@ pub told_rest : (n : ℕ) (b : List ℕ) (d : Option (List ℕ)) → Left b n d 
 told_rest n b None l = absurd (let e = l.told in cc)
 told_rest n b (Some c) l = ap Some l.is
 
-pub from_all : (b : List ℕ) (p : At) → p.place ≡ 0 → Left b p.place (Some b)
+pub from_all : (b : List ℕ) (p : Progress) → p.place ≡ 0 → Left b p.place (Some b)
 from_all b p place = record { told = refl; within = omega arith; is = ap (λ i. drop i b) (sym place) }
 
-pub gave : (b : List ℕ) (d : Option (List ℕ)) (p : At) → p.place ≡ 0 → GaveFront (Some b) p d → FrontGone b d
+pub gave : (b : List ℕ) (d : Option (List ℕ)) (p : Progress) → p.place ≡ 0 → GaveFront (Some b) p d → FrontGone b d
 gave b d p place k =
     let front = k b (from_all b p place) in
     (front.0, front.2.within, told_rest front.0 b d front.2)
 
 module _ (registry : Entries) (limits : Bounds) (s : Shape) where
-  from_start : (p : At) → p.place ≡ 0 → p.nodes ≡ limits.nodes → (b : List ℕ) (x : Reading.Read Tree) → read registry limits.depth s p.place p.nodes b ≡ x → read_value registry limits s b ≡ x
+  from_start : (p : Progress) → p.place ≡ 0 → p.nodes ≡ limits.nodes → (b : List ℕ) (x : Reading.Read Tree) → read registry limits.depth s p.place p.nodes b ≡ x → read_value registry limits s b ≡ x
   from_start p place nodes b x h = ap₂ (λ (o m : ℕ). read registry limits.depth s o m b) (sym place) (sym nodes) ∙ h
 
-  pub decoded : (c d : Option (List ℕ)) (v : Value) (p q : At) → p.place ≡ 0 → p.nodes ≡ limits.nodes → Found (tree_of v) (read registry limits.depth s) c d p q → Along c p d q → DecodesFront registry limits s c d (Ok (v, q.place))
+  pub decoded : (c d : Option (List ℕ)) (v : Value) (p q : Progress) → p.place ≡ 0 → p.nodes ≡ limits.nodes → Found (tree_of v) (read registry limits.depth s) c d p q → Along c p d q → DecodesFront registry limits s c d (Ok (v, q.place))
   decoded None d v p q place nodes h along = tt
   decoded (Some b) None v p q place nodes h along = let w = (h refl).1 in absurd cc
   decoded (Some b) (Some c) v p q place nodes h along = (
@@ -60,7 +38,7 @@ module _ (registry : Entries) (limits : Bounds) (s : Shape) where
         (reads_accepts registry limits s b (tree_of v) q.place q.nodes c bytes e, ap Some (sym (ap (drop q.place) t.3 ∙ drop_at t.1 c q.place l)))),
   )
 
-  pub stopped : (c d : Option (List ℕ)) (x : DecodeFault) (p q : At) → p.place ≡ 0 → p.nodes ≡ limits.nodes → FindsFault x c p (read registry limits.depth s) → Halts x c p d q → DecodesFront registry limits s c d (Err x)
+  pub stopped : (c d : Option (List ℕ)) (x : DecodeFault) (p q : Progress) → p.place ≡ 0 → p.nodes ≡ limits.nodes → FindsFault x c p (read registry limits.depth s) → Halts x c p d q → DecodesFront registry limits s c d (Err x)
   stopped None d x p q place nodes h k = tt
   stopped (Some b) d (Stop stop) p q place nodes h k = λ bytes.
       (let l = k.0 b (from_all b p place) in (

@@ -1,4 +1,4 @@
--- What is answered of a source whose value is judged.
+-- What is answered of a source whose value is validated.
 use Rattle.std.specs.Prelude.{◌≡◌, ◌≤◌, ℕ, List, [], length, drop, Option, Some, None, Result, Ok, Err}
 use Rattle.bcs_registry_model.specs.Shape.{Shape}
 use Rattle.bcs_registry_model.specs.Container.{Entries}

@@ -5,7 +5,7 @@ ghost use Rattle.bcs_registry_model.specs.WellFormed.{Admits};
 ghost use Rattle.bcs_decode_source.specs.Sees.{takes_no_memory};
 ghost use Rattle.bcs_decode.specs.Whole.{AreKnown, DecodesAll, DecodesFrom, DecodesFront};
 
-use bcs_decode_source::at::At;
+use bcs_decode_source::progress::Progress;
 use bcs_decode_source::reader::Reader;
 use bcs_decode_source::values::value;
 use bcs_decode_spec::{DecodeFault, Reason, Stop};
@@ -80,7 +80,7 @@ pub(crate) fn front<S: ByteSource>(
     if source.failed() {
         return Err(DecodeFault::Read);
     }
-    let mut at = At {
+    let mut at = Progress {
         place: 0,
         known,
         nodes: limits.nodes(),

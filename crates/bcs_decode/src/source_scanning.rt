@@ -1,11 +1,11 @@
-//! Values at the front of sources, judged.
+//! Values at the front of sources, validated.
 ghost use Rattle.std.specs.Prelude.{◌≡◌, ◌≢◌, ◌↔◌, true, Err, IsErrOf};
 ghost use Rattle.bcs_registry_model.specs.View.{shape_of};
 ghost use Rattle.bcs_registry_model.specs.WellFormed.{Admits};
 ghost use Rattle.bcs_decode_source.specs.Reaching.{reaches_no_map};
 ghost use Rattle.bcs_decode.specs.Scanned.{ScansAll, ScansFrom};
 
-use bcs_decode_source::at::At;
+use bcs_decode_source::progress::Progress;
 use bcs_decode_source::reader::Reader;
 use bcs_decode_source::scanning::value;
 use bcs_decode_spec::{DecodeFault, Reason, Stop};
@@ -33,7 +33,7 @@ pub fn scan_from<S: ByteSource>(
     if source.failed() {
         return Err(DecodeFault::Read);
     }
-    let mut at = At {
+    let mut at = Progress {
         place: 0,
         known: 0,
         nodes: limits.nodes(),

@@ -1,15 +1,5 @@
 -- Where a step arrives.
-use Rattle.std.proofs.Common.{◌≡◌, ℕ, ◌≤◌, List, ◌++◌, length, Option, Some, None, sym, ap, subst, ◌∙◌, append_assoc, arith}
-use Rattle.std.proofs.lemmas.List.{length-append}
-use Rattle.bcs_registry_model.specs.Container.{Entries, Content}
-use Rattle.bcs_value_model.specs.Tree.{Tree, nodes}
-use Rattle.bcs_encode_spec.specs.Plain.{plain}
-use Rattle.bcs_decode_spec.specs.Accepting.{IsDecodable}
-use Rattle.bcs_decode_parts.specs.Parts.{Step, Part, part_after}
-use Rattle.bcs_decode_parts.specs.declared.ahead.Ahead.{Ahead}
-use Rattle.bcs_decode_parts.specs.declared.here.Reached.{Reached}
-use Rattle.bcs_decode_parts.specs.Here.{content_of}
-use Rattle.bcs_decode_parts.specs.Fronts.{Fronts, Reaches, LeadsTo, StepsTo}
+use Rattle.bcs_decode_parts.proofs.Prelude.{◌≡◌, ℕ, ◌≤◌, List, ◌++◌, length, Option, Some, None, sym, ap, subst, ◌∙◌, append_assoc, arith, length-append, Entries, Content, Tree, nodes, plain, IsDecodable, Step, Part, part_after, Ahead, Reached, content_of, Fronts, Reaches, LeadsTo, StepsTo}
 
 -- the same limits
 pub record AsLimited (a b : Ahead) : Type 0 where

@@ -1,12 +1,5 @@
 -- The format of a number in a row of formats: what stands before it, and what after it.
-use Rattle.std.proofs.Common.{◌≡◌, ℕ, ◌+◌, ◌<◌, List, [], ◌∷◌, ◌++◌, length, get_or, map, take, drop, suc, refl, sym, ap, ap₂, ◌∙◌, arith}
-use Rattle.std.proofs.lemmas.List.{length-take, take-append-drop}
-use Rattle.bcs_registry_model.specs.Shape.{Shapes, shape}
-use Rattle.bcs_registry_model.specs.Container.{field_shapes}
-use Rattle.bcs_registry_model.specs.View.{shape_of, formats_shapes, field_of}
-use Rattle.bcs_registry_model.specs.declared.format.Format.{Format}
-use Rattle.bcs_registry_model.specs.declared.named.Named.{Named}
-use Rattle.bcs_decode_spec.proofs.LookedUp.{formats_next, fields_next}
+use Rattle.bcs_decode_parts.proofs.Prelude.{◌≡◌, ℕ, ◌+◌, ◌<◌, List, [], ◌∷◌, ◌++◌, length, get_or, map, take, drop, suc, refl, sym, ap, ap₂, ◌∙◌, arith, length-take, take-append-drop, Shapes, shape, field_shapes, shape_of, formats_shapes, field_of, Format, Named, formats_next, fields_next}
 use Rattle.bcs_decode_parts.proofs.Rows.{shapes_joined, shapes_count}
 
 formats_joined : (fs gs : List Format) → formats_shapes (fs ++ gs) ≡ shapes_joined (formats_shapes fs) (formats_shapes gs)

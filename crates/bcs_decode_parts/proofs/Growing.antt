@@ -1,21 +1,7 @@
 -- The parts of a value stay the same in a registry that the older one grows to.
-use Rattle.std.proofs.Common.{◌≡◌, ℕ, zero, suc, ◌+◌, ◌==◌, ◌&&◌, List, [], ◌∷◌, ◌++◌, length, Bool, true, false, if◌then◌else◌, Option, Some, None, refl, sym, ap, ap₂, subst, ◌∙◌}
-use Rattle.std.specs.Str.{bytes_eq}
-use Rattle.std.proofs.lemmas.Bool.{false≢true, and_parts}
-use Rattle.bcs_num.specs.Uleb.{uleb}
+use Rattle.bcs_decode_parts.proofs.Prelude.{◌≡◌, ℕ, zero, suc, ◌+◌, ◌==◌, ◌&&◌, List, [], ◌∷◌, ◌++◌, length, Bool, true, false, if◌then◌else◌, Option, Some, None, refl, sym, ap, ap₂, subst, ◌∙◌, bytes_eq, false≢true, and_parts, uleb, Shape, Shapes, no_shapes, shape, Entries, Content, of, one_of, nothing, content_at, choice_at, Grows, StaysIn, content_at-grows, choice_at-grows, Tree, Trees, no_trees, tree, Pairs, no_pairs, pair, count, fits, all_fit, each_fits, pairs_fit, payload_fits, plain, plain_newer, fitting_stays, stays_alike, Step, item, inner, key, Part, part_after, part_onward, item_of, item_in, value_of, step_at, part_at, IsSamePart, GrowthKeepsParts}
 use Rattle.bcs_registry_model.specs.Shape as shape
-use Rattle.bcs_registry_model.specs.Shape.{Shape, Shapes, no_shapes, shape}
-use Rattle.bcs_registry_model.specs.Container.{Entries, Content, of, one_of, nothing, content_at, choice_at}
-use Rattle.bcs_registry_model.specs.Grows.{Grows}
-use Rattle.bcs_registry_model.proofs.GrowthLaws.{StaysIn, content_at-grows, choice_at-grows}
 use Rattle.bcs_value_model.specs.Tree as tree
-use Rattle.bcs_value_model.specs.Tree.{Tree, Trees, no_trees, tree, Pairs, no_pairs, pair, count}
-use Rattle.bcs_value_model.specs.Fits.{fits, all_fit, each_fits, pairs_fit}
-use Rattle.bcs_value_model.proofs.VariantFits.{payload_fits}
-use Rattle.bcs_encode_spec.specs.Plain.{plain}
-use Rattle.bcs_encode_spec.proofs.Growth.{plain_newer, fitting_stays, stays_alike}
-use Rattle.bcs_decode_parts.specs.Parts.{Step, item, inner, key, Part, part_after, part_onward, item_of, item_in, value_of, step_at, part_at}
-use Rattle.bcs_decode_parts.specs.PartLaws.{IsSamePart, GrowthKeepsParts}
 
 module _ (older newer : Entries) (grows : Grows older newer) where
   -- a part of a fitting tree, and the one that it is in the newer registry

@@ -1,20 +1,7 @@
 -- A step to what an option, a container or a variant holds.
-use Rattle.std.proofs.Common.{◌≡◌, ℕ, ◌-◌, ◌<◌, ◌^◌, List, [], ◌∷◌, ◌++◌, Some, false, refl, sym, subst, ◌∙◌, append_assoc, arith}
-use Rattle.bcs_num.specs.Uleb.{uleb}
+use Rattle.bcs_decode_parts.proofs.Prelude.{◌≡◌, ℕ, ◌-◌, ◌<◌, ◌^◌, List, [], ◌∷◌, ◌++◌, Some, false, refl, sym, subst, ◌∙◌, append_assoc, arith, uleb, Shape, Entries, Content, Choice, of, one_of, content_at, choice_at, Tree, number_fits, payload_fits, plain, IsDecodable, decodable, inner, step_at, Ahead, Reached, content_of, Fronts, LeadsTo}
 use Rattle.bcs_registry_model.specs.Shape as shape
-use Rattle.bcs_registry_model.specs.Shape.{Shape}
-use Rattle.bcs_registry_model.specs.Container.{Entries, Content, Choice, of, one_of, content_at, choice_at}
 use Rattle.bcs_value_model.specs.Tree as tree
-use Rattle.bcs_value_model.specs.Tree.{Tree}
-use Rattle.bcs_value_model.proofs.VariantFits.{number_fits, payload_fits}
-use Rattle.bcs_encode_spec.specs.Plain.{plain}
-use Rattle.bcs_decode_spec.specs.Accepting.{IsDecodable}
-use Rattle.bcs_decode_spec.proofs.Decodable.{decodable}
-use Rattle.bcs_decode_parts.specs.Parts.{inner, step_at}
-use Rattle.bcs_decode_parts.specs.declared.ahead.Ahead.{Ahead}
-use Rattle.bcs_decode_parts.specs.declared.here.Reached.{Reached}
-use Rattle.bcs_decode_parts.specs.Here.{content_of}
-use Rattle.bcs_decode_parts.specs.Fronts.{Fronts, LeadsTo}
 use Rattle.bcs_decode_parts.proofs.Arrivals.{AsLimited, fronts, reached}
 
 module _ (registry : Entries) (ahead : Ahead) where

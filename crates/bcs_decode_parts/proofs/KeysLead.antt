@@ -1,17 +1,5 @@
 -- A key leads to one entry of a canonical map.
-use Rattle.std.proofs.Common.{◌≡◌, ℕ, ◌+◌, List, ◌++◌, length, Bool, true, false, Some, refl, sym, ap, subst, arith}
-use Rattle.std.proofs.lemmas.List.{length-append}
-use Rattle.std.proofs.lemmas.Slice.Eq.{bytes_eq-Decides}
-use Rattle.std.specs.Str.{bytes_eq}
-use Rattle.bcs_num.specs.Uleb.{uleb}
-use Rattle.bcs_registry_model.specs.Shape.{Shape}
-use Rattle.bcs_registry_model.specs.Container.{Entries, of}
-use Rattle.bcs_value_model.specs.Tree.{Tree, Pairs, no_pairs, pair, pair_count}
-use Rattle.bcs_encode_spec.specs.Plain.{plain, plain_pairs}
-use Rattle.bcs_encode_spec.specs.Canonical.{Below, Rises, RisesFrom}
-use Rattle.bcs_encode_spec.proofs.BelowLaws.{Below-irrefl, Below-trans}
-use Rattle.bcs_decode_parts.specs.Parts.{part_after, value_of}
-use Rattle.bcs_decode_parts.specs.PartLaws.{joined, KeyLeadsToOne}
+use Rattle.bcs_decode_parts.proofs.Prelude.{◌≡◌, ℕ, ◌+◌, List, ◌++◌, length, Bool, true, false, Some, refl, sym, ap, subst, arith, length-append, bytes_eq-Decides, bytes_eq, uleb, Shape, Entries, of, Tree, Pairs, no_pairs, pair, pair_count, plain, plain_pairs, Below, Rises, RisesFrom, Below-irrefl, Below-trans, part_after, value_of, joined, KeyLeadsToOne}
 
 -- bytes are equal, or they aren't
 pub same_bytes : (a b : List ℕ) → a ≡ b → bytes_eq a b ≡ true

@@ -1,23 +1,7 @@
 -- A step to the value of an entry.
-use Rattle.std.proofs.Common.{◌≡◌, ℕ, ◌-◌, ◌<◌, ◌^◌, nat_le, List, ◌++◌, length, Option, Some, None, refl, sym, ap, subst, ◌∙◌, append_assoc, arith}
-use Rattle.std.proofs.lemmas.Bool.{and_parts, leb-true}
-use Rattle.std.proofs.lemmas.List.{length-append}
-use Rattle.bcs_num.specs.Uleb.{uleb}
+use Rattle.bcs_decode_parts.proofs.Prelude.{◌≡◌, ℕ, ◌-◌, ◌<◌, ◌^◌, nat_le, List, ◌++◌, length, Option, Some, None, refl, sym, ap, subst, ◌∙◌, append_assoc, arith, and_parts, leb-true, length-append, uleb, Shape, Entries, of, Tree, Pairs, no_pairs, pair, pair_count, pairs_nodes, plain, plain_pairs, length_limit, pairs_hold, IsDecodable, AllRise, are_pairs, key, value_of, step_at, Ahead, Reached, content_of, Fronts, LeadsTo}
 use Rattle.bcs_registry_model.specs.Shape as shape
-use Rattle.bcs_registry_model.specs.Shape.{Shape}
-use Rattle.bcs_registry_model.specs.Container.{Entries, of}
 use Rattle.bcs_value_model.specs.Tree as tree
-use Rattle.bcs_value_model.specs.Tree.{Tree, Pairs, no_pairs, pair, pair_count, pairs_nodes}
-use Rattle.bcs_encode_spec.specs.Plain.{plain, plain_pairs}
-use Rattle.bcs_encode_spec.specs.Lengths.{length_limit, pairs_hold}
-use Rattle.bcs_decode_spec.specs.Accepting.{IsDecodable}
-use Rattle.bcs_decode_spec.specs.Stopping.{AllRise}
-use Rattle.bcs_decode_spec.proofs.Decodable.{are_pairs}
-use Rattle.bcs_decode_parts.specs.Parts.{key, value_of, step_at}
-use Rattle.bcs_decode_parts.specs.declared.ahead.Ahead.{Ahead}
-use Rattle.bcs_decode_parts.specs.declared.here.Reached.{Reached}
-use Rattle.bcs_decode_parts.specs.Here.{content_of}
-use Rattle.bcs_decode_parts.specs.Fronts.{Fronts, LeadsTo}
 use Rattle.bcs_decode_parts.proofs.Arrivals.{AsLimited, fronts, reached, somewhere, leads_after}
 use Rattle.bcs_decode_parts.proofs.KeysLead.{same_bytes, other_bytes}
 use Rattle.bcs_decode_parts.proofs.RowSteps.{NumberIs, RestIs, NoneStands}

@@ -1,8 +1,5 @@
 -- What opens in one way opens so in other words.
-use Rattle.std.proofs.Common.{◌≡◌, subst}
-use Rattle.bcs_registry_model.specs.Container.{Content}
-use Rattle.bcs_decode_parts.specs.declared.inside.Inside.{Inside}
-use Rattle.bcs_decode_parts.specs.Inside.{Opens}
+use Rattle.bcs_decode_parts.proofs.Prelude.{◌≡◌, subst, Content, Inside, Opens}
 
 pub opens_as : (f : Content) (i j : Inside) → Opens f i → i ≡ j → Opens f j
 opens_as f i j h e = subst (λ (x : Inside). Opens f x) e h

@@ -1,8 +1,5 @@
 -- The number at the front of bytes.
-use Rattle.std.proofs.Common.{◌≡◌, ℕ, ◌<◌, ◌≤◌, ◌^◌, List, ◌++◌, length, take, drop, Result, Ok, Err, refl, sym, ap, ◌∙◌, arith}
-use Rattle.std.proofs.lemmas.List.{length-append, take_at, drop_at}
-use Rattle.bcs_num.specs.Uleb.{uleb}
-use Rattle.bcs_num.specs.declared.fault.NumFault.{NumFault}
+use Rattle.bcs_decode_parts.proofs.Prelude.{◌≡◌, ℕ, ◌<◌, ◌≤◌, ◌^◌, List, ◌++◌, length, take, drop, Result, Ok, Err, refl, sym, ap, ◌∙◌, arith, length-append, take_at, drop_at, uleb, NumFault}
 
 module _ (b : List ℕ) (r : Result (ℕ × ℕ) NumFault) (only : (n l : ℕ) → n < 2 ^ 32 → l ≤ length b → take l b ≡ uleb n → r ≡ Ok (n, l)) (n : ℕ) (after : List ℕ) (small : n < 2 ^ 32) (is : b ≡ uleb n ++ after) where
   taken : r ≡ Ok (n, length (uleb n))

@@ -1,10 +1,5 @@
 -- The texts of a path's steps are what stands between the slashes of its word.
-use Rattle.std.proofs.Common.{◌≡◌, ◌≢◌, ◌∙◌, ◌++◌, ◌==◌, ℕ, List, [], ◌∷◌, ap, arith, codes, get_or, length, refl, subst, sym}
-use Rattle.std.specs.List.{AllZip, join_with_byte, slice_split}
-use Rattle.std.proofs.lemmas.List.Splits.{join_with_byte-slice_split, length-slice_split, slice_split_at, slice_split_none}
-use Rattle.bcs_decode_parts.specs.Parts.{Step, item, inner, key}
-use Rattle.bcs_decode_parts.specs.Path.{SpellsPath, SpellsStep}
-use Rattle.bcs_decode_parts.specs.PathLaws.{OnePath}
+use Rattle.bcs_decode_parts.proofs.Prelude.{◌≡◌, ◌≢◌, ◌∙◌, ◌++◌, ◌==◌, ℕ, List, [], ◌∷◌, ap, arith, codes, get_or, length, refl, subst, sym, AllZip, join_with_byte, slice_split, join_with_byte-slice_split, length-slice_split, slice_split_at, slice_split_none, Step, item, inner, key, SpellsPath, SpellsStep, OnePath}
 use Rattle.bcs_decode_parts.proofs.Steps.{HasNoSlash, begins_with_digit, has_no_slash, one_step}
 
 -- what stands between the slashes

@@ -1,10 +1,6 @@
 -- Steps that are read part by part, as the parts are cut off their word.
-use Rattle.std.proofs.Common.{◌≡◌, ◌≢◌, ◌∙◌, ◌++◌, ℕ, List, [], ◌∷◌, Option, Some, None, ap, codes, refl, subst, sym}
-use Rattle.std.specs.Iterator.{AlwaysYields}
-use Rattle.std.specs.List.{AllZip}
-use Rattle.std.proofs.lemmas.List.{append-nil, append_assoc}
-use Rattle.bcs_decode_parts.specs.Parts.{Step}
-use Rattle.bcs_decode_parts.specs.Path.{SpellsNoPath, SpellsPath, SpellsStep}
+use Rattle.bcs_decode_parts.proofs.Prelude.{◌≡◌, ◌≢◌, ◌∙◌, ◌++◌, ℕ, List, [], ◌∷◌, Option, Some, None, ap, codes, refl, subst, sym, AlwaysYields, AllZip, append-nil, Step, SpellsNoPath, SpellsPath, SpellsStep}
+use Rattle.std.proofs.lemmas.List.{append_assoc}
 use Rattle.bcs_decode_parts.proofs.Parts.{one_more, part_spells, parts, parts_spell, spelled_by_parts}
 
 module _ {S A : Type 0} (steps : S → Option A → S → Type 0) (text_of : A → List ℕ) where

@@ -1,18 +1,8 @@
 -- Steps in a row.
-use Rattle.std.proofs.Common.{◌≡◌, ℕ, ◌+◌, ◌<◌, List, [], ◌∷◌, ◌++◌, length, get_or, map, take, drop, Option, Some, None, sym, ap, subst, ◌∙◌, append_assoc, arith}
-use Rattle.std.proofs.lemmas.List.{length-append, drop_more, take_at, drop_at, drop-drop}
-use Rattle.bcs_registry_model.specs.Container.{Entries, Content}
-use Rattle.bcs_value_model.specs.Tree.{Tree}
-use Rattle.bcs_encode_spec.specs.Plain.{plain}
+use Rattle.bcs_decode_parts.proofs.Prelude.{◌≡◌, ℕ, ◌+◌, ◌<◌, List, [], ◌∷◌, ◌++◌, length, get_or, map, take, drop, Option, Some, None, sym, ap, subst, ◌∙◌, append_assoc, arith, length-append, drop_more, take_at, drop_at, drop-drop, Entries, Content, Tree, plain, part_after, part_onward, step_at, part_at, Ahead, Reached, content_of, Fronts, LeadsTo, StepsTo, step_of, GivesPart}
 use Rattle.bcs_decode_parts.specs.Parts as parts
-use Rattle.bcs_decode_parts.specs.Parts.{part_after, part_onward, step_at, part_at}
-use Rattle.bcs_decode_parts.specs.declared.ahead.Ahead.{Ahead}
-use Rattle.bcs_decode_parts.specs.declared.here.Reached.{Reached}
 use Rattle.bcs_decode_parts.specs.declared.part.Part.{Part}
 use Rattle.bcs_decode_parts.specs.declared.step.Step.{Step}
-use Rattle.bcs_decode_parts.specs.Here.{content_of}
-use Rattle.bcs_decode_parts.specs.Fronts.{Fronts, LeadsTo, StepsTo}
-use Rattle.bcs_decode_parts.specs.Steps.{step_of, GivesPart}
 use Rattle.bcs_decode_parts.proofs.RowSteps.{RestIs, NoneStands}
 
 module _ (registry : Entries) where

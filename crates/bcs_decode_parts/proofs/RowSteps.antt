@@ -1,24 +1,7 @@
 -- A step to an element of a list, an array, a tuple or a struct.
-use Rattle.std.proofs.Common.{◌≡◌, ℕ, ◌<◌, ◌≤◌, ◌^◌, ◌==◌, nat_le, false, List, ◌++◌, length, Some, None, refl, sym, ap, subst, ◌∙◌, append_assoc, arith}
-use Rattle.std.proofs.lemmas.Bool.{and_parts, and_from, eq-eqb, leb-true}
-use Rattle.bcs_num.specs.Uleb.{uleb}
+use Rattle.bcs_decode_parts.proofs.Prelude.{◌≡◌, ℕ, ◌<◌, ◌≤◌, ◌^◌, ◌==◌, nat_le, false, List, ◌++◌, length, Some, None, refl, sym, ap, subst, ◌∙◌, append_assoc, arith, and_parts, and_from, eq-eqb, leb-true, uleb, Shape, Shapes, Entries, Content, of, Tree, Trees, tree, count, trees_nodes, all_fit, nat-same, plain, plain_items, plain_each, length_limit, all_hold, IsDecodable, AllAre, decodable, are_items, items_are, item, part_after, item_of, item_in, step_at, Ahead, Reached, content_of, Fronts, LeadsTo}
 use Rattle.bcs_registry_model.specs.Shape as shape
-use Rattle.bcs_registry_model.specs.Shape.{Shape, Shapes}
-use Rattle.bcs_registry_model.specs.Container.{Entries, Content, of}
 use Rattle.bcs_value_model.specs.Tree as tree
-use Rattle.bcs_value_model.specs.Tree.{Tree, Trees, tree, count, trees_nodes}
-use Rattle.bcs_value_model.specs.Fits.{all_fit}
-use Rattle.bcs_value_model.proofs.Equivalence.{nat-same}
-use Rattle.bcs_encode_spec.specs.Plain.{plain, plain_items, plain_each}
-use Rattle.bcs_encode_spec.specs.Lengths.{length_limit, all_hold}
-use Rattle.bcs_decode_spec.specs.Accepting.{IsDecodable}
-use Rattle.bcs_decode_spec.specs.Stopping.{AllAre}
-use Rattle.bcs_decode_spec.proofs.Decodable.{decodable, are_items, items_are}
-use Rattle.bcs_decode_parts.specs.Parts.{item, part_after, item_of, item_in, step_at}
-use Rattle.bcs_decode_parts.specs.declared.ahead.Ahead.{Ahead}
-use Rattle.bcs_decode_parts.specs.declared.here.Reached.{Reached}
-use Rattle.bcs_decode_parts.specs.Here.{content_of}
-use Rattle.bcs_decode_parts.specs.Fronts.{Fronts, LeadsTo}
 use Rattle.bcs_decode_parts.proofs.Rows.{shapes_joined, shapes_count, ItemAt, item_at, no_item, EachAt, each_at, no_field}
 use Rattle.bcs_decode_parts.proofs.Arrivals.{AsLimited, fronts, reached, nowhere, somewhere, leads_after}
 

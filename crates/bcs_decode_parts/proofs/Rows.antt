@@ -1,15 +1,5 @@
 -- The element of a number among values in a row: what stands before it, and what after it.
-use Rattle.std.proofs.Common.{◌≡◌, ℕ, zero, suc, ◌+◌, ◌<◌, ◌≤◌, List, ◌++◌, length, Some, None, refl, sym, ap, ◌∙◌, append_assoc, arith}
-use Rattle.std.proofs.lemmas.Bool.{false≢true}
-use Rattle.std.proofs.lemmas.List.{length-append}
-use Rattle.bcs_registry_model.specs.Shape.{Shape, Shapes, no_shapes, shape}
-use Rattle.bcs_registry_model.specs.Container.{Entries, of}
-use Rattle.bcs_value_model.specs.Tree.{Tree, Trees, no_trees, tree, count, nodes, trees_nodes}
-use Rattle.bcs_encode_spec.specs.Plain.{plain, plain_items, plain_each}
-use Rattle.bcs_decode_spec.specs.Accepting.{IsDecodable}
-use Rattle.bcs_decode_spec.specs.Stopping.{AllAre}
-use Rattle.bcs_decode_spec.proofs.Decodable.{EachIs, each_is, is_each}
-use Rattle.bcs_decode_parts.specs.Parts.{part_after, item_of, item_in}
+use Rattle.bcs_decode_parts.proofs.Prelude.{◌≡◌, ℕ, zero, suc, ◌+◌, ◌<◌, ◌≤◌, List, ◌++◌, length, Some, None, refl, sym, ap, ◌∙◌, append_assoc, arith, false≢true, length-append, Shape, Shapes, no_shapes, shape, Entries, of, Tree, Trees, no_trees, tree, count, nodes, trees_nodes, plain, plain_items, plain_each, IsDecodable, AllAre, EachIs, each_is, is_each, part_after, item_of, item_in}
 
 -- as one row
 abbrev pub shapes_joined : Shapes → Shapes → Shapes

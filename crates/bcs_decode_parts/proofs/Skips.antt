@@ -1,23 +1,6 @@
 -- A value that stands ahead is gone past.
-use Rattle.std.proofs.Common.{◌≡◌, ℕ, suc, ◌-◌, List, ◌++◌, length, take, drop, Ok, Err, refl, sym, ap, ◌∙◌, arith}
-use Rattle.std.proofs.lemmas.List.{length-append, take-append-drop, take_at, drop_at}
+use Rattle.bcs_decode_parts.proofs.Prelude.{◌≡◌, ℕ, suc, ◌-◌, List, ◌++◌, length, take, drop, Ok, Err, refl, sym, ap, ◌∙◌, arith, length-append, take-append-drop, take_at, drop_at, Shape, Entries, of, Tree, nodes, Bounds, plain, Reason, Accepts, Parser, Read, items_here, shape_here, value_here, node, chain, skipping, parts, decodable, accepts_skips, skip, Cursor, bare, Ahead, Fronts}
 use Rattle.bcs_registry_model.specs.Shape as shape
-use Rattle.bcs_registry_model.specs.Shape.{Shape}
-use Rattle.bcs_registry_model.specs.Container.{Entries, of}
-use Rattle.bcs_value_model.specs.Tree.{Tree, nodes}
-use Rattle.bcs_value_model.specs.Limits.{Bounds}
-use Rattle.bcs_encode_spec.specs.Plain.{plain}
-use Rattle.bcs_decode_spec.specs.declared.reason.Reason.{Reason}
-use Rattle.bcs_decode_spec.specs.Accepting.{Accepts}
-use Rattle.bcs_decode_spec.specs.Reading.{Parser, Read, items_here, shape_here, value_here, node, chain, skipping}
-use Rattle.bcs_decode_spec.proofs.Combine.{parts}
-use Rattle.bcs_decode_spec.proofs.Decodable.{decodable}
-use Rattle.bcs_decode_spec.proofs.Verdicts.{accepts_skips}
-use Rattle.bcs_decode_slice.specs.Passing.{skip}
-use Rattle.bcs_decode_slice.specs.declared.cursor.Cursor.{Cursor}
-use Rattle.bcs_decode_slice.proofs.Passings.{bare}
-use Rattle.bcs_decode_parts.specs.declared.ahead.Ahead.{Ahead}
-use Rattle.bcs_decode_parts.specs.Fronts.{Fronts}
 
 module _ (registry : Entries) (ahead : Ahead) where
   module _ (s : Shape) (t : Tree) (after : List ℕ) (h : Fronts registry ahead (of s) t after) where

@@ -1,14 +1,6 @@
 -- A word spells the steps of a path, or spells none.
-use Rattle.std.proofs.Common.{◌≡◌, ◌∙◌, ◌++◌, ◌<◌, ◌^◌, ◌⊎◌, inl, inr, ℕ, List, [], ◌∷◌, Bool, true, false, Result, Ok, Err, ap, arith, bytes_eq, codes, decimal, drop, nat_lt, refl, sym, true≢false}
-use Rattle.std.proofs.lemmas.Bool.Decides.{Decides-ltb}
-use Rattle.std.proofs.lemmas.Fmt.{decimal_is_IsNumeral}
-use Rattle.std.proofs.lemmas.Slice.Eq.{bytes_eq-Decides}
-use Rattle.std.specs.List.{AllZip}
-use Rattle.std.specs.Str.Parse.{digits_value}
-use Rattle.hex.specs.Hex.{decode_of}
-use Rattle.hex.specs.declared.error.FromHexError.{FromHexError}
-use Rattle.bcs_decode_parts.specs.Parts.{Step, item, inner, key}
-use Rattle.bcs_decode_parts.specs.Path.{SpellsNoPath, SpellsPath, SpellsStep}
+use Rattle.bcs_decode_parts.proofs.Prelude.{◌≡◌, ◌∙◌, ◌++◌, ◌<◌, ◌^◌, ◌⊎◌, inl, inr, ℕ, List, [], ◌∷◌, Bool, true, false, Result, Ok, Err, ap, arith, codes, decimal, drop, nat_lt, refl, sym, true≢false, Decides-ltb, decimal_is_IsNumeral, bytes_eq-Decides, AllZip, digits_value, decode_of, FromHexError, Step, item, inner, key, SpellsNoPath, SpellsPath, SpellsStep}
+use Rattle.std.proofs.Common.{bytes_eq}
 use Rattle.bcs_decode_parts.proofs.Parts.{parts, parts_spell, spelled_by_parts}
 
 -- ---- a step

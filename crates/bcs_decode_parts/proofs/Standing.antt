@@ -1,16 +1,7 @@
 -- A part's bytes stand in those of the whole, at its place.
-use Rattle.std.proofs.Common.{◌≡◌, ℕ, zero, suc, ◌+◌, List, [], ◌∷◌, ◌++◌, length, Bool, true, false, if◌then◌else◌, Option, Some, None, refl, sym, ap, subst, ◌∙◌, append_assoc, arith}
-use Rattle.std.proofs.lemmas.List.{length-append, append-nil}
-use Rattle.std.specs.Str.{bytes_eq}
-use Rattle.bcs_num.specs.Uleb.{uleb}
+use Rattle.bcs_decode_parts.proofs.Prelude.{◌≡◌, ℕ, zero, suc, ◌+◌, List, [], ◌∷◌, ◌++◌, length, Bool, true, false, if◌then◌else◌, Option, Some, None, refl, sym, ap, subst, ◌∙◌, append_assoc, arith, length-append, append-nil, bytes_eq, uleb, Shape, Shapes, no_shapes, shape, Entries, Content, of, one_of, content_at, choice_at, Tree, Trees, no_trees, tree, Pairs, no_pairs, pair, count, pair_count, plain, plain_items, plain_each, plain_pairs, Step, item, inner, key, Part, part_after, part_onward, item_of, item_in, value_of, step_at, part_at, Stands, PartStands}
 use Rattle.bcs_registry_model.specs.Shape as shape
-use Rattle.bcs_registry_model.specs.Shape.{Shape, Shapes, no_shapes, shape}
-use Rattle.bcs_registry_model.specs.Container.{Entries, Content, of, one_of, content_at, choice_at}
 use Rattle.bcs_value_model.specs.Tree as tree
-use Rattle.bcs_value_model.specs.Tree.{Tree, Trees, no_trees, tree, Pairs, no_pairs, pair, count, pair_count}
-use Rattle.bcs_encode_spec.specs.Plain.{plain, plain_items, plain_each, plain_pairs}
-use Rattle.bcs_decode_parts.specs.Parts.{Step, item, inner, key, Part, part_after, part_onward, item_of, item_in, value_of, step_at, part_at, Stands}
-use Rattle.bcs_decode_parts.specs.PartLaws.{PartStands}
 
 module _ (registry : Entries) where
   -- further on in longer bytes

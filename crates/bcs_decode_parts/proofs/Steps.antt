@@ -1,17 +1,5 @@
 -- A text spells one step at most, and has no slash.
-use Rattle.std.proofs.Common.{◌≡◌, ◌∙◌, ◌<◌, ◌≤◌, ◌^◌, ◌++◌, ◌==◌, ℕ, List, [], ◌∷◌, Ok, ap, arith, codes, decimal, drop, false, get_or, not, refl, subst, sym, true, true≢false}
-use borrow.Author.Tests.{not-true}
-use Rattle.std.specs.List.{All, list_all}
-use Rattle.std.specs.Str.Parse.{AllDigits}
-use Rattle.std.proofs.lemmas.Bool.{ne_eqb}
-use Rattle.std.proofs.lemmas.Fmt.{decimal_injective, decimal_is_IsNumeral}
-use Rattle.std.proofs.lemmas.List.Elements.{All-append, All-cons, All-nil, All-weaker}
-use Rattle.std.proofs.lemmas.List.Sums.{AllPass-from_list_all}
-use Rattle.std.proofs.lemmas.Str.Parse.{digit_from_value}
-use Rattle.hex.specs.Hex.{decode_of, is_hex_digit}
-use Rattle.hex.proofs.HexLemmas.{decode_of-ok}
-use Rattle.bcs_decode_parts.specs.Parts.{Step, item, inner, key}
-use Rattle.bcs_decode_parts.specs.Path.{SpellsStep}
+use Rattle.bcs_decode_parts.proofs.Prelude.{◌≡◌, ◌∙◌, ◌<◌, ◌≤◌, ◌^◌, ◌++◌, ◌==◌, ℕ, List, [], ◌∷◌, Ok, ap, arith, codes, decimal, drop, false, get_or, not, refl, subst, sym, true, true≢false, not-true, All, list_all, AllDigits, ne_eqb, decimal_injective, decimal_is_IsNumeral, All-append, All-cons, All-nil, All-weaker, AllPass-from_list_all, digit_from_value, decode_of, is_hex_digit, decode_of-ok, Step, item, inner, key, SpellsStep}
 
 -- ---- the three kinds of texts differ
 

@@ -1,13 +1,8 @@
 -- What the definition says of some values, by computation.
-use Rattle.std.proofs.Common.{◌≡◌, [], ◌∷◌, Some, None, true, false, refl}
-use Rattle.std.specs.Int.{w16}
-use Rattle.bcs_num.specs.Uleb.{uleb}
+use Rattle.bcs_decode_parts.proofs.Prelude.{◌≡◌, [], ◌∷◌, Some, None, true, false, refl, w16, uleb, Content, of, Tree, no_pairs, pair, part_at, item, key}
 use Rattle.bcs_num.specs.Le as le_file
 use Rattle.bcs_registry_model.specs.Shape as shape
-use Rattle.bcs_registry_model.specs.Container.{Content, of}
 use Rattle.bcs_value_model.specs.Tree as tree
-use Rattle.bcs_value_model.specs.Tree.{Tree, no_pairs, pair}
-use Rattle.bcs_decode_parts.specs.Parts.{part_at, item, key}
 
 -- {256: false, 1: true}, as its keys' bytes rise
 abbrev switches : Tree

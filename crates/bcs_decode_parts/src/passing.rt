@@ -1,6 +1,6 @@
 //! The bytes after what stands ahead.
 ghost use Rattle.std.specs.Prelude.{◌≡◌, List, ℕ, map};
-ghost use Rattle.bcs_registry_model.specs.Container.{Content, field_shapes, of, payload_shape};
+ghost use Rattle.bcs_registry_model.specs.Container.{field_shapes, of, payload_shape};
 ghost use Rattle.bcs_registry_model.specs.Shape.{array as array_shape, tuple as tuple_shape};
 ghost use Rattle.bcs_registry_model.specs.View.{shape_of, formats_shapes, field_of, payload_of};
 ghost use Rattle.bcs_value_model.specs.Tree.{Tree};

@@ -1,12 +1,7 @@
 -- The size of a format's values, from those of its parts.
-use Rattle.std.proofs.Common.{◌≡◌, ℕ, zero, suc, ◌+◌, ◌-◌, ◌*◌, ◌<◌, ◌≤◌, List, drop, refl, ap, ◌∙◌, arith}
+use Rattle.bcs_decode_slice.proofs.Prelude.{◌≡◌, ℕ, zero, suc, ◌+◌, ◌-◌, ◌*◌, ◌<◌, ◌≤◌, List, drop, refl, ap, ◌∙◌, arith, Shape, Shapes, Entries, Content, of, content_at, Parser, give, items_here, skipping, value_here, shape_here, skip, whole_here, GoesPast, IsFixed, IsFixedInside}
 use Rattle.bcs_registry_model.specs.Shape as shape
-use Rattle.bcs_registry_model.specs.Shape.{Shape, Shapes}
-use Rattle.bcs_registry_model.specs.Container.{Entries, Content, of, content_at}
-use Rattle.bcs_decode_spec.specs.Reading.{Parser, give, items_here, skipping, value_here, shape_here}
-use Rattle.bcs_decode_slice.specs.Passing.{skip, whole_here}
 use Rattle.bcs_decode_slice.proofs.Passings.{enter_more, unit_is}
-use Rattle.bcs_decode_slice.specs.Fixed.{GoesPast, IsFixed, IsFixedInside}
 use Rattle.bcs_decode_slice.proofs.PassingParts.{each, each_end, each_on, tuple_on, named_on, content_past, content_shape, items_end, node_then}
 use Rattle.bcs_decode_slice.proofs.WholeRows.{one_on}
 use Rattle.bcs_decode_slice.proofs.Reaching.{Reaches, reaches_on, reaches_end, node_goes, items_reach}

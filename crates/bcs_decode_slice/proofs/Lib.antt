@@ -1,3 +1,4 @@
+pub mod Prelude
 pub mod Passings
 pub mod Steps
 pub mod PassingParts

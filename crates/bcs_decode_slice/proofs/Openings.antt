@@ -1,11 +1,5 @@
 -- What a container holds, opened before what it holds is gone past.
-use Rattle.std.proofs.Common.{◌≡◌, ℕ, ◌≤◌, List, Ok, Err, refl, ap, ◌∙◌}
-use Rattle.bcs_registry_model.specs.Shape.{Shape}
-use Rattle.bcs_registry_model.specs.Container.{Entries, Choice, Content, of, one_of, nothing, choice_at}
-use Rattle.bcs_decode_spec.specs.declared.reason.Reason.{Reason}
-use Rattle.bcs_decode_spec.specs.declared.reason.Reason.TheVariants.{UnknownVariant}
-use Rattle.bcs_decode_spec.specs.Reading.{Read, follow, chain, give, fail, fail_here, choice_here, named_here, value_here, skipping}
-use Rattle.bcs_decode_slice.specs.Passing.{skip, variant_past, chosen_here, opened_here}
+use Rattle.bcs_decode_slice.proofs.Prelude.{◌≡◌, ℕ, ◌≤◌, List, Ok, Err, refl, ap, ◌∙◌, Shape, Entries, Choice, Content, of, one_of, nothing, choice_at, Reason, UnknownVariant, Read, follow, chain, give, fail, fail_here, choice_here, named_here, value_here, skipping, skip, variant_past, chosen_here, opened_here}
 use Rattle.bcs_decode_slice.proofs.Passings.{bare}
 use Rattle.bcs_decode_slice.proofs.PassingParts.{content_past, content_shape, content_nothing, variant_is}
 

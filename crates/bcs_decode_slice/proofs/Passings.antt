@@ -1,25 +1,7 @@
 -- Going past a value, format by format.
-use Rattle.std.proofs.Common.{◌≡◌, ℕ, zero, suc, ◌+◌, ◌<◌, ◌≤◌, List, length, Result, Ok, Err, refl, ap, ◌∙◌, arith}
-use Rattle.std.proofs.lemmas.Bool.{le-ltb}
-use Rattle.std.specs.Int.{Width, byte_len, from_le_bytes, cast_signed}
+use Rattle.bcs_decode_slice.proofs.Prelude.{◌≡◌, ℕ, zero, suc, ◌+◌, ◌<◌, ◌≤◌, List, length, Result, Ok, Err, refl, ap, ◌∙◌, arith, le-ltb, Width, byte_len, from_le_bytes, cast_signed, Entries, shape_of, scalar_shape, whole_shape, whole_len, IntegerKind, Unsigned, Signed, Scalar, width_of, NumberWidth, W1, W2, W4, W8, W16, Format, BadBool, TooDeep, Unsupported, Read, Parser, follow, chain, give, fail_here, node, length_here, bytes_here, text_here, flag_here, unsigned_here, signed_here, shape_here, value_here, Cursor, Stop, Passes, node_here, skip, truth_here, whole_here, counted_here, text_past, bytes_past, unsupported_here, enter_here}
 use Rattle.bcs_registry_model.specs.Shape as shape
-use Rattle.bcs_registry_model.specs.Container.{Entries}
-use Rattle.bcs_registry_model.specs.View.{shape_of}
-use Rattle.bcs_registry_model.specs.Kind.{scalar_shape}
-use Rattle.bcs_registry_model.specs.Whole.{whole_shape, whole_len}
-use Rattle.bcs_registry_model.specs.declared.whole_number.WholeNumber.{WholeNumber}
-use Rattle.bcs_registry_model.specs.declared.whole_number.WholeNumber.TheVariants.{Unsigned, Signed}
-use Rattle.bcs_registry_model.specs.declared.scalar.Scalar.{Scalar}
 use Rattle.bcs_registry_model.specs.declared.scalar.Scalar.TheVariants as scalar
-use Rattle.bcs_num.specs.Le.{width_of}
-use Rattle.bcs_num.specs.declared.width.Width.{Width as NumberWidth}
-use Rattle.bcs_num.specs.declared.width.Width.TheVariants.{W1, W2, W4, W8, W16}
-use Rattle.bcs_registry_model.specs.declared.format.Format.{Format}
-use Rattle.bcs_decode_spec.specs.declared.reason.Reason.TheVariants.{BadBool, TooDeep, Unsupported}
-use Rattle.bcs_decode_spec.specs.Reading.{Read, Parser, follow, chain, give, fail_here, node, length_here, bytes_here, text_here, flag_here, unsigned_here, signed_here, shape_here, value_here}
-use Rattle.bcs_decode_slice.specs.declared.cursor.Cursor.{Cursor}
-use Rattle.bcs_decode_spec.specs.declared.stop.Stop.{Stop}
-use Rattle.bcs_decode_slice.specs.Passing.{Passes, node_here, skip, truth_here, whole_here, counted_here, text_past, bytes_past, unsupported_here, enter_here}
 
 pub enter_none : (d : ℕ) → d ≡ 0 → (p m : ℕ) (b : List ℕ) → enter_here d p m b ≡ Err (TooDeep, p)
 unfolding enter_here fail_here
@@ -82,7 +64,7 @@ width_small W4 = omega arith
 width_small W8 = omega arith
 width_small W16 = omega arith
 
-pub whole_len-small : (n : WholeNumber) → whole_len n ≤ 16
+pub whole_len-small : (n : IntegerKind) → whole_len n ≤ 16
 whole_len-small (Unsigned w) = width_small w
 whole_len-small (Signed w) = width_small w
 
@@ -123,7 +105,7 @@ module _ (registry : Entries) (d : ℕ) where
 
   -- ---- formats without parts
 
-  pub past_whole : (n : WholeNumber) (p m : ℕ) (b : List ℕ) → skip registry d (whole_shape n) p m b ≡ whole_here (whole_len n) p m b
+  pub past_whole : (n : IntegerKind) (p m : ℕ) (b : List ℕ) → skip registry d (whole_shape n) p m b ≡ whole_here (whole_len n) p m b
   past_whole (Unsigned w) p m b = unsigned_is (width_of w) p m b
   past_whole (Signed w) p m b = signed_is (width_of w) p m b
 

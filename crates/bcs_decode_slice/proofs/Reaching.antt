@@ -1,11 +1,6 @@
 -- Parsers that go past so many bytes and nodes, and what reads on from there.
-use Rattle.std.proofs.Common.{◌≡◌, ℕ, zero, suc, ◌+◌, ◌-◌, ◌*◌, ◌≤◌, List, length, drop, refl, ◌∙◌, arith}
-use Rattle.std.proofs.Math.Nat.{suc-mul}
-use Rattle.std.proofs.lemmas.List.{length-drop, drop-drop}
-use Rattle.bcs_decode_spec.specs.Reading.{Parser, chain, give, node, items_here, skipping}
-use Rattle.bcs_decode_slice.specs.Passing.{node_here}
+use Rattle.bcs_decode_slice.proofs.Prelude.{◌≡◌, ℕ, zero, suc, ◌+◌, ◌-◌, ◌*◌, ◌≤◌, List, length, drop, refl, ◌∙◌, arith, suc-mul, length-drop, drop-drop, Parser, chain, give, node, items_here, skipping, node_here, GoesPast}
 use Rattle.bcs_decode_slice.proofs.Passings.{bare}
-use Rattle.bcs_decode_slice.specs.Fixed.{GoesPast}
 
 -- wherever so many bytes and nodes are left, the one parser goes past them, and the other reads on
 abbrev pub Reaches : Parser (Unit {0}) → Parser (Unit {0}) → ℕ → ℕ → Type 0

@@ -1,13 +1,5 @@
 -- What the steps of a cursor need of the parsers.
-use Rattle.std.proofs.Common.{◌≡◌, ℕ, ◌+◌, ◌<◌, ◌≤◌, ◌^◌, List, ◌++◌, length, take, drop, Ok, Err, refl, sym, ap, subst, ◌∙◌, arith, inl, inr, Bool, true, false, if◌then◌else◌, IsUtf8}
-use Rattle.std.proofs.lemmas.List.{take-append-drop, length-take}
-use Rattle.std.specs.Str.{is_utf8}
-use Rattle.std.specs.Str.Lossy.{utf8_valid_len}
-use Rattle.std.proofs.lemmas.Str.{IsUtf8-from_is_utf8, is_utf8-from_IsUtf8}
-use Rattle.bcs_num.specs.Uleb.{uleb, IsUnended, IsLongForm, IsTooLarge}
-use Rattle.bcs_decode_spec.specs.declared.reason.Reason.TheVariants.{EndOfInput, LongForm, NumberTooLarge, BadUtf8}
-use Rattle.bcs_decode_spec.specs.Reading.{follow, chain, give, fail, number_here, bytes_here, text_here}
-use Rattle.bcs_decode_spec.proofs.Numbers.{exact_number}
+use Rattle.bcs_decode_slice.proofs.Prelude.{◌≡◌, ℕ, ◌+◌, ◌<◌, ◌≤◌, ◌^◌, List, ◌++◌, length, take, drop, Ok, Err, refl, sym, ap, subst, ◌∙◌, arith, inl, inr, Bool, true, false, if◌then◌else◌, IsUtf8, take-append-drop, length-take, is_utf8, utf8_valid_len, IsUtf8-from_is_utf8, is_utf8-from_IsUtf8, uleb, IsUnended, IsLongForm, IsTooLarge, EndOfInput, LongForm, NumberTooLarge, BadUtf8, follow, chain, give, fail, number_here, bytes_here, text_here, exact_number}
 
 pub number_found : (p m : ℕ) (b : List ℕ) (n k : ℕ) → n < 2 ^ 32 → k ≤ length b → take k b ≡ uleb n → number_here p m b ≡ Ok (n, p + k, m, drop k b)
 number_found p m b n k small within is =

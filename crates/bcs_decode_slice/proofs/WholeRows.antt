@@ -1,12 +1,5 @@
 -- Going past a row of values that each have so many bytes, in one step.
-use Rattle.std.proofs.Common.{◌≡◌, ℕ, zero, suc, ◌+◌, ◌-◌, ◌*◌, ◌<◌, ◌≤◌, List, length, drop, Ok, Err, refl, ap, ◌∙◌, arith, ◌/◌, ◌⊎◌, inl, inr, mul-le-mul_right}
-use Rattle.std.proofs.Math.Nat.{suc-mul}
-use Rattle.std.proofs.lemmas.Bool.{le-ltb, lt-ltb}
-use Rattle.std.proofs.lemmas.List.{length-drop, drop-drop}
-use Rattle.bcs_decode_spec.specs.declared.reason.Reason.{Reason}
-use Rattle.bcs_decode_spec.specs.declared.reason.Reason.TheVariants.{EndOfInput, TooManyNodes}
-use Rattle.bcs_decode_spec.specs.Reading.{chain, give, node, bytes_here, items_here, skipping}
-use Rattle.bcs_decode_slice.specs.Passing.{whole_here}
+use Rattle.bcs_decode_slice.proofs.Prelude.{◌≡◌, ℕ, zero, suc, ◌+◌, ◌-◌, ◌*◌, ◌<◌, ◌≤◌, List, length, drop, Ok, Err, refl, ap, ◌∙◌, arith, ◌/◌, ◌⊎◌, inl, inr, mul-le-mul_right, suc-mul, le-ltb, lt-ltb, length-drop, drop-drop, Reason, EndOfInput, TooManyNodes, chain, give, node, bytes_here, items_here, skipping, whole_here}
 use Rattle.bcs_decode_slice.proofs.Passings.{bare}
 
 module _ (w : ℕ) where

@@ -4,7 +4,7 @@ ghost use Rattle.bcs_registry_model.specs.Container.{Entries};
 ghost use Rattle.bcs_registry_model.specs.View.{shape_of};
 ghost use Rattle.bcs_decode_slice.specs.Fixed.{IsFixed};
 
-use crate::whole_row::whole_width;
+use crate::integers::integer_width;
 use bcs_registry_model::Format;
 
 /// The bytes and the nodes of each value of a format.
@@ -45,7 +45,7 @@ impl FixedSize {
 pub fn whole_size(format: &Format) -> Option<FixedSize>
     ensures { IfSome result (λ z. (0 < z.nodes) × ((registry : Entries) (d : ℕ) → IsFixed registry d (shape_of format.now) z.bytes z.nodes)) }
 {
-    let width = whole_width(format)?;
+    let width = integer_width(format)?;
     Some(FixedSize {
         bytes: width as u64,
         nodes: 1,

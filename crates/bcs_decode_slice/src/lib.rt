@@ -2,11 +2,11 @@
 #![tactic(auto)]
 
 pub mod cursor;
-pub mod fixed_row;
 mod fixed_size;
+pub mod fixed_size_list;
+pub mod integers;
 pub mod measuring;
 pub mod named_container;
 pub mod opening;
 pub mod scanning;
 pub mod shallow;
-pub mod whole_row;

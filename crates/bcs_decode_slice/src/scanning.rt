@@ -8,19 +8,19 @@ ghost use Rattle.bcs_registry_model.specs.Shape.{name as name_shape, tuple as tu
 ghost use Rattle.bcs_registry_model.specs.View.{shape_of, formats_shapes, field_of, payload_of, container_of};
 ghost use Rattle.bcs_registry_model.specs.WellFormed.{IsWellFormed};
 ghost use Rattle.bcs_decode_spec.specs.Reading.{content_here, items_here, key_here, named_here, pairs_here, skipping};
-ghost use Rattle.bcs_keys.specs.Following.{key_bytes};
+ghost use Rattle.bcs_key_order.specs.Following.{key_bytes};
 ghost use Rattle.bcs_decode_slice.specs.Passing.{Passes, Onward, skip};
 
 use crate::cursor::{Cursor, node};
-use crate::fixed_row::fixed_row;
+use crate::fixed_size_list::skip_fixed_size_list;
+use crate::integers::{integer_width, skip_integers};
 use crate::named_container::named_container;
 use crate::opening::opened;
 use crate::shallow::{
     bytes_value, counted, enter, flag_value, text_value, truth, unsupported, whole,
 };
-use crate::whole_row::{whole_row, whole_width};
 use bcs_decode_spec::{Reason, Stop};
-use bcs_keys::following::follows;
+use bcs_key_order::following::follows;
 use bcs_registry::{Container, Format, Named, Registry, VariantFormat};
 use bcs_registry_model::{Kind, Layout, Scalar};
 
@@ -83,10 +83,10 @@ pub fn elements<'a>(
     ensures passes { Passes (λ x. x) result (items_here skipping (skip registry.now depth (shape_of element.now)) count) cursor.old cursor.new }
     ensures onward { Onward cursor.old cursor.new }
 {
-    if let Some(width) = whole_width(element) {
-        return whole_row(cursor, width, count);
+    if let Some(width) = integer_width(element) {
+        return skip_integers(cursor, width, count);
     }
-    let gone = fixed_row(registry, element, count, depth, cursor);
+    let gone = skip_fixed_size_list(registry, element, count, depth, cursor);
     if gone == count {
         return Ok(());
     }

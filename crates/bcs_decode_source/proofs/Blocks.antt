@@ -1,12 +1,6 @@
 -- A byte string that is read by blocks.
-use Rattle.std.proofs.Common.{◌≡◌, ℕ, ◌+◌, ◌-◌, ◌≤◌, true, List, [], ◌++◌, length, drop, length-append, take-add, take, take_all, length-drop, append_assoc, Option, Ok, Err, inl, inr, refl, sym, ap, ◌∙◌, arith}
-use Rattle.std.proofs.lemmas.Bool.{le-ltb, lt-ltb, cases_lt}
-use Rattle.std.proofs.lemmas.List.{drop-drop, drop_all, drop_at, take_at, append-nil}
-use Rattle.bcs_decode_spec.specs.declared.decode_fault.DecodeFault.{DecodeFault}
-use Rattle.bcs_decode_source.specs.declared.at.At.{At}
-use Rattle.bcs_decode_spec.specs.Reading.{Read, follow, give, bytes_here}
-use Rattle.bcs_decode_source.specs.Sees.{is_told, rest_of, FindsFault}
-use Rattle.bcs_decode_source.proofs.Going.{FindsFault-whole}
+use Rattle.bcs_decode_source.proofs.Prelude.{◌≡◌, ℕ, ◌+◌, ◌-◌, ◌≤◌, true, List, [], ◌++◌, length, drop, length-append, take-add, take, take_all, length-drop, append_assoc, Option, Ok, Err, inl, inr, refl, sym, ap, ◌∙◌, arith, le-ltb, lt-ltb, cases_lt, drop-drop, drop_all, drop_at, take_at, append-nil, DecodeFault, Progress, Read, follow, give, bytes_here, is_told, rest_of, FindsFault}
+use Rattle.bcs_decode_source.proofs.SourceSteps.{FindsFault-whole}
 
 abbrev pub with_front : List ℕ → Read (List ℕ) → Read (List ℕ)
 with_front xs r = follow r (λ ys. give (xs ++ ys))
@@ -29,7 +23,7 @@ bytes_split k n p m b h = elim (cases_lt (length b) k) [
 ]
 
 -- the blocks so far, where the bytes are told
-abbrev pub BytesSoFar : ℕ → List ℕ → Option (List ℕ) → At → Option (List ℕ) → At → Type 0
+abbrev pub BytesSoFar : ℕ → List ℕ → Option (List ℕ) → Progress → Option (List ℕ) → Progress → Type 0
 BytesSoFar n xs c p d q = is_told c ≡ true → (bytes_here n p.place p.nodes (rest_of c) ≡ with_front xs (bytes_here (n - length xs) q.place q.nodes (rest_of d))) × (is_told d ≡ true)
 
 with_none : (r : Read (List ℕ)) → with_front [] r ≡ r
@@ -42,12 +36,12 @@ unfolding give
 with_more xs ys (Ok x) = ap (λ l. Ok (l, x.1, x.2, x.3)) (sym (append_assoc xs ys x.0))
 with_more xs ys (Err e) = refl
 
-pub bytes_none : (n : ℕ) (c : Option (List ℕ)) (p : At) → BytesSoFar n [] c p c p
+pub bytes_none : (n : ℕ) (c : Option (List ℕ)) (p : Progress) → BytesSoFar n [] c p c p
 bytes_none n c p told =
     let all : n - 0 ≡ n = omega arith in
     (rw all (sym (with_none (bytes_here n p.place p.nodes (rest_of c)))), told)
 
-pub bytes_more : (n k : ℕ) (xs ys : List ℕ) (c d e : Option (List ℕ)) (p q r : At) → k ≤ n - length xs → length xs ≤ n → length ys ≡ k → BytesSoFar n xs c p d q
+pub bytes_more : (n k : ℕ) (xs ys : List ℕ) (c d e : Option (List ℕ)) (p q r : Progress) → k ≤ n - length xs → length xs ≤ n → length ys ≡ k → BytesSoFar n xs c p d q
     → (is_told d ≡ true → (bytes_here k q.place q.nodes (rest_of d) ≡ Ok (ys, r.place, r.nodes, rest_of e)) × (is_told e ≡ true)) → BytesSoFar n (xs ++ ys) c p e r
 bytes_more n k xs ys c d e p q r few within long h j told =
     let a = h told in
@@ -60,7 +54,7 @@ bytes_more n k xs ys c d e p q r few within long h j told =
       b.1,
     )
 
-pub bytes_done : (n : ℕ) (xs : List ℕ) (c d : Option (List ℕ)) (p q : At) → n ≤ length xs → BytesSoFar n xs c p d q
+pub bytes_done : (n : ℕ) (xs : List ℕ) (c d : Option (List ℕ)) (p q : Progress) → n ≤ length xs → BytesSoFar n xs c p d q
     → is_told c ≡ true → (bytes_here n p.place p.nodes (rest_of c) ≡ Ok (xs, q.place, q.nodes, rest_of d)) × (is_told d ≡ true)
 unfolding bytes_here give
 bytes_done n xs c d p q all h told =
@@ -69,7 +63,7 @@ bytes_done n xs c d p q all h told =
     let far : q.place + 0 ≡ q.place = omega arith in
     (a.0 ∙ rw (none, le-ltb (length (rest_of d)) 0 (omega arith), far, append-nil xs) refl, a.1)
 
-pub bytes_refused : (x : DecodeFault) (n k : ℕ) (xs : List ℕ) (c d : Option (List ℕ)) (p q : At) → k ≤ n - length xs → BytesSoFar n xs c p d q
+pub bytes_refused : (x : DecodeFault) (n k : ℕ) (xs : List ℕ) (c d : Option (List ℕ)) (p q : Progress) → k ≤ n - length xs → BytesSoFar n xs c p d q
     → FindsFault x d q (bytes_here k) → FindsFault x c p (bytes_here n)
 bytes_refused x n k xs c d p q few h =
     FindsFault-whole x c d p q (bytes_here n) (bytes_here k) (λ told. (h told).1)

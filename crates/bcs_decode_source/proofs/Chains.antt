@@ -1,16 +1,7 @@
 -- Parsers, step by step as they are read from a source.
-use Rattle.std.proofs.Common.{◌≡◌, ℕ, zero, suc, ◌+◌, ◌-◌, ◌*◌, ◌<◌, ◌≤◌, ◌==◌, nat_lt, ◌&&◌, Bool, true, false, if◌then◌else◌, List, [], ◌∷◌, length, Result, Ok, Err, refl, ◌∙◌, arith, ◌⊎◌, inl, inr}
-use Rattle.std.proofs.lemmas.Bool.{le-ltb, lt-ltb, and_left, and_right, ne_eqb, false_from_ne_true}
-use Rattle.std.proofs.lemmas.Str.{IsUtf8-from_is_utf8, is_utf8-from_IsUtf8}
-use Rattle.std.specs.Str.{is_utf8, IsUtf8}
-use Rattle.std.specs.Str.Lossy.{utf8_valid_len}
-use Rattle.bcs_num.specs.declared.fault.NumFault.{NumFault}
+use Rattle.bcs_decode_source.proofs.Prelude.{◌≡◌, ℕ, zero, suc, ◌+◌, ◌-◌, ◌*◌, ◌<◌, ◌≤◌, ◌==◌, nat_lt, ◌&&◌, Bool, true, false, if◌then◌else◌, List, [], ◌∷◌, length, Result, Ok, Err, refl, ◌∙◌, arith, ◌⊎◌, inl, inr, le-ltb, lt-ltb, and_left, and_right, ne_eqb, false_from_ne_true, IsUtf8-from_is_utf8, is_utf8-from_IsUtf8, is_utf8, utf8_valid_len, NumFault, Reason, LongForm, NumberTooLarge, BadUtf8, Parser, follow, chain, give, fail, shifted, uleb_from, number_read, number_here, bytes_here, flag_here, text_here, node, node_here, byte_here, tail_read, tail_here}
+use Rattle.std.specs.Str.{IsUtf8}
 use Rattle.bcs_num.specs.declared.fault.NumFault.TheVariants as num
-use Rattle.bcs_decode_spec.specs.declared.reason.Reason.{Reason}
-use Rattle.bcs_decode_spec.specs.declared.reason.Reason.TheVariants.{LongForm, NumberTooLarge, BadUtf8}
-use Rattle.bcs_decode_spec.specs.Reading.{Parser, follow, chain, give, fail, shifted, uleb_from, number_read, number_here, bytes_here, flag_here, text_here, node}
-use Rattle.bcs_decode_slice.specs.Passing.{node_here}
-use Rattle.bcs_decode_source.specs.Sees.{byte_here, tail_read, tail_here}
 
 number_same : (p m : ℕ) (b : List ℕ) (r : Result (ℕ × ℕ) NumFault) → number_read p m b r ≡ tail_read p p m b r
 number_same p m b (Ok x) = refl

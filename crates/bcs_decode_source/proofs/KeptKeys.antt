@@ -1,9 +1,6 @@
 -- The keys of a map among the bytes that are kept.
-use Rattle.std.proofs.Common.{◌≡◌, ℕ, ◌+◌, ◌-◌, ◌≤◌, List, length, take, drop, take-take, Option, Some, None, refl, sym, ap, ◌∙◌, arith}
-use Rattle.std.proofs.lemmas.List.{drop-take}
+use Rattle.bcs_decode_source.proofs.Prelude.{◌≡◌, ℕ, ◌+◌, ◌-◌, ◌≤◌, List, length, take, drop, take-take, Option, Some, None, refl, sym, ap, ◌∙◌, arith, drop-take, Span, Stands, last_bytes, key_of}
 use Rattle.std.specs.List.{slice_range}
-use Rattle.bcs_decode_source.specs.declared.keys.Span.{Span}
-use Rattle.bcs_decode_source.specs.Kept.{Stands, last_bytes, key_of}
 
 pub Stands-begun : (last : Option Span) (begun n : ℕ) → Stands last begun n → begun ≤ n
 Stands-begun None begun n h = h

@@ -1,30 +1,20 @@
 -- Readers on their way: what one parser finds from the start is what another finds from here on.
-use Rattle.std.proofs.Common.{◌≡◌, ℕ, ◌≤◌, Bool, true, List, Option, Result, Ok, Err, refl, sym, ap, ◌∙◌}
-use Rattle.bcs_registry_model.specs.Container.{Entries}
-use Rattle.bcs_decode_spec.specs.declared.reason.Reason.{Reason}
-use Rattle.bcs_decode_spec.specs.declared.decode_fault.DecodeFault.{DecodeFault}
-use Rattle.bcs_decode_spec.specs.declared.decode_fault.DecodeFault.TheVariants.{Stop}
-use Rattle.bcs_decode_spec.specs.Reading.{Parser, chain, give, bytes_here}
-use Rattle.bcs_decode_source.specs.declared.at.At.{At}
-use Rattle.bcs_decode_source.specs.declared.reader.Reader.{Reader}
-use Rattle.bcs_decode_source.specs.Sees.{is_told, rest_of, FindsFault, Sees}
-use Rattle.bcs_decode_source.specs.Reads.{Ready, Reads}
-use Rattle.bcs_decode_source.proofs.Going.{Goes-then, FindsFault-whole}
+use Rattle.bcs_decode_source.proofs.Prelude.{◌≡◌, ℕ, ◌≤◌, Bool, true, List, Option, Result, Ok, Err, refl, sym, ap, ◌∙◌, Entries, Reason, DecodeFault, Stop, Parser, chain, give, bytes_here, Progress, Reader, is_told, rest_of, FindsFault, Sees, Ready, Reads, chained_bare}
+use Rattle.bcs_decode_source.proofs.SourceSteps.{Goes-then, FindsFault-whole}
 use Rattle.bcs_decode_source.proofs.Readers.{IsSame-then, Reads-as, Onward, Onward-none, Onward-then, Onward-nodes, Onward-done, Onward-ends, Onward-stops}
 use Rattle.bcs_decode_source.proofs.StreamedRows.{Found}
-use Rattle.bcs_decode_slice.proofs.PassingParts.{chained_bare}
 
 -- ---- told bytes
 
-abbrev pub LeadsTo : Parser (Unit {0}) → Parser (Unit {0}) → Option (List ℕ) → At → Option (List ℕ) → At → Type 0
+abbrev pub LeadsTo : Parser (Unit {0}) → Parser (Unit {0}) → Option (List ℕ) → Progress → Option (List ℕ) → Progress → Type 0
 LeadsTo f g c p d q = is_told c ≡ true → (f p.place p.nodes (rest_of c) ≡ g q.place q.nodes (rest_of d)) × (is_told d ≡ true)
 
-pub leads_none : (f g : Parser (Unit {0})) (c : Option (List ℕ)) (p : At) → ((b : List ℕ) → f p.place p.nodes b ≡ g p.place p.nodes b) → LeadsTo f g c p c p
+pub leads_none : (f g : Parser (Unit {0})) (c : Option (List ℕ)) (p : Progress) → ((b : List ℕ) → f p.place p.nodes b ≡ g p.place p.nodes b) → LeadsTo f g c p c p
 leads_none f g c p same told = (same (rest_of c), told)
 
-module _ (f g : Parser (Unit {0})) (c d : Option (List ℕ)) (p q : At) (h : LeadsTo f g c p d q) where
+module _ (f g : Parser (Unit {0})) (c d : Option (List ℕ)) (p q : Progress) (h : LeadsTo f g c p d q) where
   -- a step
-  pub leads_on : {X A : Type 0} (v : X → A) (x : X) (k : Parser (Unit {0})) (l : Parser A) (e : Option (List ℕ)) (s : At) → Sees v (Ok x) d q l s e
+  pub leads_on : {X A : Type 0} (v : X → A) (x : X) (k : Parser (Unit {0})) (l : Parser A) (e : Option (List ℕ)) (s : Progress) → Sees v (Ok x) d q l s e
       → ((b t : List ℕ) → l q.place q.nodes b ≡ Ok (v x, s.place, s.nodes, t) → g q.place q.nodes b ≡ k s.place s.nodes t) → LeadsTo f k c p e s
   leads_on v x k l e s sees next told =
       let a = h told in

@@ -1,6 +1,7 @@
+pub mod Prelude
 pub mod Blocks
 pub mod Chains
-pub mod Going
+pub mod SourceSteps
 pub mod NumberRows
 pub mod Streamed
 pub mod StreamedKeys
@@ -14,6 +15,6 @@ pub mod PastEntries
 pub mod PastParts
 pub mod PastRows
 pub mod PastTexts
-pub mod Sparing
+pub mod MemoryFaults
 pub mod Utf8Fronts
 pub mod WorkedRows

@@ -1,26 +1,8 @@
 -- Lists of whole numbers that are read by blocks.
-use Rattle.std.proofs.Common.{◌≡◌, ℕ, zero, suc, ◌+◌, ◌-◌, ◌*◌, ◌<◌, ◌≤◌, true, List, [], ◌∷◌, ◌++◌, map, length, take, drop, Option, Ok, Err, inl, inr, refl, sym, ap, ◌∙◌, arith, length-drop, take-add, append_assoc}
-use Rattle.std.proofs.Math.Nat.{suc-mul}
-use Rattle.std.proofs.lemmas.Bool.{le-ltb, lt-ltb, cases_lt}
-use Rattle.std.proofs.lemmas.List.{drop-drop, take_at, drop_at, length-take-le, append-nil, map_push}
-use Rattle.std.specs.Int.{byte_len, from_le_bytes, cast_signed}
-use Rattle.bcs_num.specs.Le.{width_of}
-use Rattle.bcs_num.proofs.LeReading.{byte_len_within}
-use Rattle.bcs_registry_model.specs.Whole.{whole_len, whole_shape}
-use Rattle.bcs_registry_model.specs.declared.whole_number.WholeNumber.{WholeNumber}
-use Rattle.bcs_registry_model.specs.declared.whole_number.WholeNumber.TheVariants.{Unsigned, Signed}
+use Rattle.bcs_decode_source.proofs.Prelude.{◌≡◌, ℕ, zero, suc, ◌+◌, ◌-◌, ◌*◌, ◌<◌, ◌≤◌, true, List, [], ◌∷◌, ◌++◌, map, length, take, drop, Option, Ok, Err, inl, inr, refl, sym, ap, ◌∙◌, arith, length-drop, take-add, append_assoc, suc-mul, le-ltb, lt-ltb, cases_lt, drop-drop, take_at, drop_at, append-nil, map_push, byte_len, from_le_bytes, cast_signed, width_of, byte_len_within, whole_len, whole_shape, IntegerKind, Unsigned, Signed, Tree, Trees, tree_of, trees_of, items_trees, Value, DecodeFault, Stop, TooManyNodes, Progress, Parser, Read, follow, chain, give, node, bytes_here, unsigned_here, signed_here, items_here, building, number_of, numbers, is_told, rest_of, FindsFault, leaf_here}
+use Rattle.std.proofs.lemmas.List.{length-take-le}
 use Rattle.bcs_value_model.specs.Tree as tree
-use Rattle.bcs_value_model.specs.Tree.{Tree, Trees}
-use Rattle.bcs_value_model.specs.View.{tree_of, trees_of, items_trees}
-use Rattle.bcs_value_model.specs.declared.value.Value.{Value}
-use Rattle.bcs_decode_spec.specs.declared.decode_fault.DecodeFault.{DecodeFault}
-use Rattle.bcs_decode_spec.specs.declared.decode_fault.DecodeFault.TheVariants.{Stop}
-use Rattle.bcs_decode_spec.specs.declared.reason.Reason.TheVariants.{TooManyNodes}
-use Rattle.bcs_decode_source.specs.declared.at.At.{At}
-use Rattle.bcs_decode_spec.specs.Reading.{Parser, Read, follow, chain, give, node, bytes_here, unsigned_here, signed_here, items_here, building}
-use Rattle.bcs_decode_source.specs.Numbers.{number_of, numbers}
-use Rattle.bcs_decode_source.specs.Sees.{is_told, rest_of, FindsFault, leaf_here}
-use Rattle.bcs_decode_source.proofs.Going.{FindsFault-whole}
+use Rattle.bcs_decode_source.proofs.SourceSteps.{FindsFault-whole}
 use Rattle.bcs_decode_source.proofs.StreamedRows.{joined, items_before, before_none, ItemsSoFar, items_refused}
 
 -- ---- rows that were read, one after the other
@@ -46,26 +28,26 @@ unfolding give
 made (Ok x) f g = refl
 made (Err e) f g = refl
 
-number_read : (f : WholeNumber) (p m : ℕ) (b : List ℕ) → leaf_here (whole_shape f) p (suc m) b ≡ follow (bytes_here (whole_len f) p m b) (λ s. give (number_of f s))
+number_read : (f : IntegerKind) (p m : ℕ) (b : List ℕ) → leaf_here (whole_shape f) p (suc m) b ≡ follow (bytes_here (whole_len f) p m b) (λ s. give (number_of f s))
 unfolding node chain unsigned_here signed_here
 number_read (Unsigned w) p m b = made (bytes_here (byte_len (width_of w)) p m b) (from_le_bytes (width_of w)) tree.unsigned
 number_read (Signed w) p m b = made (bytes_here (byte_len (width_of w)) p m b) (λ s. cast_signed (width_of w) (from_le_bytes (width_of w) s)) tree.signed
 
-number_none : (f : WholeNumber) (p m : ℕ) (b : List ℕ) → m ≡ 0 → leaf_here (whole_shape f) p m b ≡ Err (TooManyNodes, p)
+number_none : (f : IntegerKind) (p m : ℕ) (b : List ℕ) → m ≡ 0 → leaf_here (whole_shape f) p m b ≡ Err (TooManyNodes, p)
 unfolding node
 number_none (Unsigned w) p m b h = rw h refl
 number_none (Signed w) p m b h = rw h refl
 
 -- ---- numbers in a row
 
-abbrev row : WholeNumber → ℕ → Parser Trees
+abbrev row : IntegerKind → ℕ → Parser Trees
 row f n = items_here building (leaf_here (whole_shape f)) n
 
 -- the first k numbers have these bytes, and the others come after them
-abbrev after : WholeNumber → ℕ → ℕ → List ℕ → Parser Trees
+abbrev after : IntegerKind → ℕ → ℕ → List ℕ → Parser Trees
 after f k n xs q l c = items_before (trees_of (numbers f k xs)) (row f (n - k) q l c)
 
-none_read : (f : WholeNumber) (n p m : ℕ) (b : List ℕ) → row f n p m b ≡ follow (bytes_here (0 * whole_len f) p (m - 0) b) (after f 0 n)
+none_read : (f : IntegerKind) (n p m : ℕ) (b : List ℕ) → row f n p m b ≡ follow (bytes_here (0 * whole_len f) p (m - 0) b) (after f 0 n)
 unfolding bytes_here
 none_read f n p m b =
     let no : 0 * whole_len f ≡ 0 = omega arith in
@@ -74,7 +56,7 @@ none_read f n p m b =
     let place : p + 0 ≡ p = omega arith in
     rw (no, left, le-ltb (length b) 0 (omega arith), place, all) (sym (before_none (row f n p m b)))
 
-more_read : (f : WholeNumber) (j n p m : ℕ) (b : List ℕ)
+more_read : (f : IntegerKind) (j n p m : ℕ) (b : List ℕ)
     → ((q l : ℕ) (c : List ℕ) → j ≤ l → row f n q l c ≡ follow (bytes_here (j * whole_len f) q (l - j) c) (after f j n)) → j ≤ m
     → row f (suc n) p (suc m) b ≡ follow (bytes_here (suc j * whole_len f) p (suc m - suc j) b) (after f (suc j) (suc n))
 unfolding items_here chain bytes_here give
@@ -111,7 +93,7 @@ more_read f j n p m b others le =
           ])
     ])
 
-numbers_split : (f : WholeNumber) (k n p m : ℕ) (b : List ℕ) → k ≤ n → k ≤ m → row f n p m b ≡ follow (bytes_here (k * whole_len f) p (m - k) b) (after f k n)
+numbers_split : (f : IntegerKind) (k n p m : ℕ) (b : List ℕ) → k ≤ n → k ≤ m → row f n p m b ≡ follow (bytes_here (k * whole_len f) p (m - k) b) (after f k n)
 numbers_split f zero n p m b h g = none_read f n p m b
 numbers_split f (suc k) zero p m b h g = absurd (omega arith)
 numbers_split f (suc k) (suc n) p zero b h g = absurd (omega arith)
@@ -119,9 +101,9 @@ numbers_split f (suc k) (suc n) p (suc m) b h g = more_read f k n p m b (λ q l 
 
 -- ---- blocks of a list
 
-module _ (f : WholeNumber) (n i k : ℕ) (c d : Option (List ℕ)) (p q s : At) (place : s.place ≡ q.place) (begun : s.nodes ≡ q.nodes - k) (few : k ≤ n - i) (nodes : k ≤ q.nodes) where
+module _ (f : IntegerKind) (n i k : ℕ) (c d : Option (List ℕ)) (p q s : Progress) (place : s.place ≡ q.place) (begun : s.nodes ≡ q.nodes - k) (few : k ≤ n - i) (nodes : k ≤ q.nodes) where
   -- a block was read
-  pub numbers_more : (vs us : List Value) (xs : List ℕ) (e : Option (List ℕ)) (r : At) → ItemsSoFar (leaf_here (whole_shape f)) n i vs c d p q
+  pub numbers_more : (vs us : List Value) (xs : List ℕ) (e : Option (List ℕ)) (r : Progress) → ItemsSoFar (leaf_here (whole_shape f)) n i vs c d p q
       → (is_told d ≡ true → (bytes_here (k * whole_len f) s.place s.nodes (rest_of d) ≡ Ok (xs, r.place, r.nodes, rest_of e)) × (is_told e ≡ true))
       → map tree_of us ≡ map tree_of vs ++ numbers f k xs → ItemsSoFar (leaf_here (whole_shape f)) n (i + k) us c e p r
   numbers_more vs us xs e r h j found told =
@@ -147,22 +129,22 @@ module _ (f : WholeNumber) (n i k : ℕ) (c d : Option (List ℕ)) (p q s : At) 
       (h told).0 ∙ ap (items_before (items_trees vs)) ends)
 
 -- no number may begin
-pub numbers_none : (f : WholeNumber) (n i : ℕ) (vs : List Value) (c d : Option (List ℕ)) (p q : At) → i < n → q.nodes ≡ 0 → ItemsSoFar (leaf_here (whole_shape f)) n i vs c d p q
+pub numbers_none : (f : IntegerKind) (n i : ℕ) (vs : List Value) (c d : Option (List ℕ)) (p q : Progress) → i < n → q.nodes ≡ 0 → ItemsSoFar (leaf_here (whole_shape f)) n i vs c d p q
     → FindsFault (Stop (record { reason = TooManyNodes; place = q.place })) c p (items_here building (leaf_here (whole_shape f)) n)
 numbers_none f n i vs c d p q lt none h =
     items_refused (Stop (record { reason = TooManyNodes; place = q.place })) (leaf_here (whole_shape f)) n i vs c d p q lt h (λ told. number_none f q.place q.nodes (rest_of d) none)
 
 -- ---- the numbers of a block
 
-wide : (f : WholeNumber) → 0 < whole_len f
+wide : (f : IntegerKind) → 0 < whole_len f
 wide (Unsigned w) = (byte_len_within (width_of w)).0
 wide (Signed w) = (byte_len_within (width_of w)).0
 
 -- the numbers so far, and those that the bytes left hold, are all
-abbrev pub PushedSoFar : WholeNumber → List Value → List ℕ → List Tree → Type 0
+abbrev pub PushedSoFar : IntegerKind → List Value → List ℕ → List Tree → Type 0
 PushedSoFar f vs rest all = (k : ℕ) × (length rest ≡ k * whole_len f) × (map tree_of vs ++ numbers f k rest ≡ all)
 
-pub pushed_more : (f : WholeNumber) (vs : List Value) (rest : List ℕ) (all : List Tree) (v : Value) → whole_len f ≤ length rest → tree_of v ≡ number_of f (take (whole_len f) rest)
+pub pushed_more : (f : IntegerKind) (vs : List Value) (rest : List ℕ) (all : List Tree) (v : Value) → whole_len f ≤ length rest → tree_of v ≡ number_of f (take (whole_len f) rest)
     → PushedSoFar f vs rest all → PushedSoFar f (vs ++ v ∷ []) (drop (whole_len f) rest) all
 pushed_more f vs rest all v long is (zero, left, whole) = absurd (let none : 0 * whole_len f ≡ 0 = omega arith in omega (arith, none, wide f))
 pushed_more f vs rest all v long is (suc k, left, whole) =
@@ -173,6 +155,6 @@ pushed_more f vs rest all v long is (suc k, left, whole) =
           ∙ ap (λ t. map tree_of vs ++ t ∷ numbers f k (drop w rest)) is ∙ whole,
     )
 
-pub pushed_all : (f : WholeNumber) (vs : List Value) (rest : List ℕ) (all : List Tree) → length rest < whole_len f → PushedSoFar f vs rest all → map tree_of vs ≡ all
+pub pushed_all : (f : IntegerKind) (vs : List Value) (rest : List ℕ) (all : List Tree) → length rest < whole_len f → PushedSoFar f vs rest all → map tree_of vs ≡ all
 pushed_all f vs rest all short (zero, left, whole) = sym (append-nil (map tree_of vs)) ∙ whole
 pushed_all f vs rest all short (suc k, left, whole) = absurd (omega (arith, suc-mul k (whole_len f)))

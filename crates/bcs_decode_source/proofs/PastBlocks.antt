@@ -1,10 +1,6 @@
 -- Bytes that are gone past by blocks.
-use Rattle.std.proofs.Common.{◌≡◌, ℕ, ◌+◌, ◌-◌, ◌≤◌, List, length, take, length-take, Ok, Err, inl, inr, refl, ap, ◌∙◌, arith}
-use Rattle.std.proofs.lemmas.Bool.{le-ltb, lt-ltb, cases_lt}
-use Rattle.bcs_decode_spec.specs.declared.reason.Reason.{Reason}
-use Rattle.bcs_decode_spec.specs.Reading.{Read, follow, chain, give, bytes_here}
+use Rattle.bcs_decode_source.proofs.Prelude.{◌≡◌, ℕ, ◌+◌, ◌-◌, ◌≤◌, List, length, take, length-take, Ok, Err, inl, inr, refl, ap, ◌∙◌, arith, le-ltb, lt-ltb, cases_lt, Reason, Read, follow, chain, give, bytes_here, bytes_run}
 use Rattle.bcs_decode_source.proofs.Blocks.{with_front, bytes_split}
-use Rattle.bcs_decode_source.specs.Past.{bytes_run}
 
 abbrev bare : Read (List ℕ) → Read (Unit {0})
 bare r = follow r (λ _. give tt)

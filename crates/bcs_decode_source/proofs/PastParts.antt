@@ -1,14 +1,6 @@
 -- Going past a value with values inside, as its steps are read from a source.
-use Rattle.std.proofs.Common.{◌≡◌, ℕ, zero, suc, Bool, true, false, if◌then◌else◌, List, Ok, Err, refl, ap}
-use Rattle.bcs_registry_model.specs.Shape.{Shape}
-use Rattle.bcs_registry_model.specs.Container.{Entries}
-use Rattle.bcs_registry_model.specs.View.{shape_of}
+use Rattle.bcs_decode_source.proofs.Prelude.{◌≡◌, ℕ, zero, suc, Bool, true, false, if◌then◌else◌, List, Ok, Err, refl, ap, Shape, Entries, shape_of, Reason, Parser, chain, give, node, fail_here, skipping, skip, unsupported_here, chained_bare, flag_node, option_node, unsupported_leaf}
 use Rattle.bcs_registry_model.specs.declared.format.Format as format
-use Rattle.bcs_decode_spec.specs.declared.reason.Reason.{Reason}
-use Rattle.bcs_decode_spec.specs.Reading.{Parser, chain, give, node, fail_here, skipping}
-use Rattle.bcs_decode_slice.specs.Passing.{skip, unsupported_here}
-use Rattle.bcs_decode_slice.proofs.PassingParts.{chained_bare}
-use Rattle.bcs_decode_source.specs.Sees.{flag_node, option_node, unsupported_leaf}
 
 module _ (registry : Entries) (d : ℕ) (f : format.Format) (p m : ℕ) (b : List ℕ) where
   -- where the shape alone changes

@@ -1,12 +1,5 @@
 -- Rows of whole numbers that are gone past by blocks.
-use Rattle.std.proofs.Common.{◌≡◌, ℕ, zero, suc, ◌+◌, ◌-◌, ◌*◌, ◌<◌, ◌≤◌, List, length, drop, length-drop, Ok, Err, inl, inr, refl, ap, ◌∙◌, arith}
-use Rattle.std.proofs.Math.Nat.{suc-mul}
-use Rattle.std.proofs.lemmas.Bool.{le-ltb, lt-ltb, cases_lt}
-use Rattle.std.proofs.lemmas.List.{drop-drop}
-use Rattle.bcs_decode_spec.specs.declared.reason.Reason.TheVariants.{TooManyNodes}
-use Rattle.bcs_decode_spec.specs.Reading.{Parser, follow, chain, give, node, bytes_here, items_here, skipping}
-use Rattle.bcs_decode_slice.specs.Passing.{whole_here}
-use Rattle.bcs_decode_slice.proofs.Passings.{bare}
+use Rattle.bcs_decode_source.proofs.Prelude.{◌≡◌, ℕ, zero, suc, ◌+◌, ◌-◌, ◌*◌, ◌<◌, ◌≤◌, List, length, drop, length-drop, Ok, Err, inl, inr, refl, ap, ◌∙◌, arith, suc-mul, le-ltb, lt-ltb, cases_lt, drop-drop, TooManyNodes, Parser, follow, chain, give, node, bytes_here, items_here, skipping, whole_here, bare}
 
 abbrev row : ℕ → ℕ → Parser (Unit {0})
 row w n = items_here skipping (whole_here w) n

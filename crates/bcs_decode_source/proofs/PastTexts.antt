@@ -1,25 +1,15 @@
--- Texts that are judged by blocks.
-use Rattle.std.proofs.Common.{◌≡◌, ℕ, ◌+◌, ◌-◌, ◌<◌, ◌≤◌, true, List, [], ◌++◌, length, take, drop, take_all, take-add, length-append, length-take, length-drop, append_assoc, slice_range, IsUtf8, Option, Ok, Err, inl, inr, refl, sym, ap, subst, ◌∙◌, arith, ◌⊎◌}
-use Rattle.std.proofs.lemmas.List.{append-nil}
-use Rattle.std.proofs.lemmas.Str.{IsUtf8-append, IsUtf8-nil}
-use Rattle.std.specs.Str.Lossy.{utf8_valid_len}
-use Rattle.bcs_decode_spec.specs.declared.reason.Reason.TheVariants.{BadUtf8}
-use Rattle.bcs_decode_spec.specs.declared.decode_fault.DecodeFault.{DecodeFault}
-use Rattle.bcs_decode_spec.specs.Reading.{chain, give, bytes_here, text_here}
-use Rattle.bcs_decode_source.specs.declared.at.At.{At}
-use Rattle.bcs_decode_source.specs.Sees.{is_told, rest_of, FindsFault}
+-- Texts that are validated by blocks.
+use Rattle.bcs_decode_source.proofs.Prelude.{◌≡◌, ℕ, ◌+◌, ◌-◌, ◌<◌, ◌≤◌, true, List, [], ◌++◌, length, take, drop, take_all, take-add, length-append, length-take, length-drop, append_assoc, slice_range, IsUtf8, Option, Ok, Err, inl, inr, refl, sym, ap, subst, ◌∙◌, arith, ◌⊎◌, append-nil, IsUtf8-append, IsUtf8-nil, utf8_valid_len, BadUtf8, DecodeFault, chain, give, bytes_here, text_here, Progress, is_told, rest_of, FindsFault, bytes_run, text_run, BeginsNoText}
 use Rattle.bcs_decode_source.proofs.Blocks.{with_front, BytesSoFar, bytes_none, bytes_more, bytes_refused}
 use Rattle.bcs_decode_source.proofs.Chains.{text_right, text_wrong}
-use Rattle.bcs_decode_source.proofs.Going.{FindsFault-whole}
+use Rattle.bcs_decode_source.proofs.SourceSteps.{FindsFault-whole}
 use Rattle.bcs_decode_source.proofs.StreamedRows.{Found}
-use Rattle.bcs_decode_source.specs.Past.{bytes_run, text_run}
-use Rattle.bcs_decode_source.specs.Texts.{BeginsNoText}
 use Rattle.bcs_decode_source.proofs.PastBlocks.{bytes_were, bytes_were_not}
 use Rattle.bcs_decode_source.proofs.Utf8Fronts.{nothing_behind, no_text_more, text_ends}
 
 -- of a text of n bytes done were read, of which the good first ones are a text, and the others begin none and are held
 -- at the front of the block
-pub record TextSoFar (n good done : ℕ) (block : List ℕ) (c : Option (List ℕ)) (p : At) (d : Option (List ℕ)) (q : At) : Type 0 where
+pub record TextSoFar (n good done : ℕ) (block : List ℕ) (c : Option (List ℕ)) (p : Progress) (d : Option (List ℕ)) (q : Progress) : Type 0 where
   pub front : List ℕ
   pub text : IsUtf8 front
   pub size : length front ≡ good
@@ -30,7 +20,7 @@ pub record TextSoFar (n good done : ℕ) (block : List ℕ) (c : Option (List �
   pub far : q.place ≡ p.place + done
   pub sees : BytesSoFar n (front ++ take (done - good) block) c p d q
 
-pub text_none : (n : ℕ) (block : List ℕ) (c : Option (List ℕ)) (p : At) → TextSoFar n 0 0 block c p c p
+pub text_none : (n : ℕ) (block : List ℕ) (c : Option (List ℕ)) (p : Progress) → TextSoFar n 0 0 block c p c p
 text_none n block c p = record {
   front = [];
   text = IsUtf8-nil;
@@ -55,12 +45,12 @@ joined front old new held size valid same few =
     ∙ ap (λ l. front ++ l) (sym (take-add held size new) ∙ ap (λ i. take i new) (sym whole) ∙ take-add valid (held + size - valid) new)
     ∙ sym (append_assoc front (take valid new) (slice_range new valid (held + size)))
 
-module _ (n good done : ℕ) (block : List ℕ) (c d : Option (List ℕ)) (p q : At) (h : TextSoFar n good done block c p d q) where
+module _ (n good done : ℕ) (block : List ℕ) (c d : Option (List ℕ)) (p q : Progress) (h : TextSoFar n good done block c p d q) where
   long : length (h.front ++ take (done - good) block) ≡ done
   long = length-append h.front (take (done - good) block) ∙ omega (arith, h.size, h.held, h.order)
 
   -- a block was read, of which so many bytes are valid behind those that are held
-  pub text_more : (size valid : ℕ) (new moved : List ℕ) (e : Option (List ℕ)) (r : At) → size ≤ n - done → (done - good) + size ≤ length new → take (done - good) new ≡ take (done - good) block
+  pub text_more : (size valid : ℕ) (new moved : List ℕ) (e : Option (List ℕ)) (r : Progress) → size ≤ n - done → (done - good) + size ≤ length new → take (done - good) new ≡ take (done - good) block
       → valid ≤ (done - good) + size → IsUtf8 (take valid new) → take ((done - good) + size - valid) moved ≡ slice_range new valid ((done - good) + size)
       → BeginsNoText (slice_range new valid ((done - good) + size)) → r.place ≡ q.place + size
       → (is_told d ≡ true → (bytes_here size q.place q.nodes (rest_of d) ≡ Ok (slice_range new (done - good) ((done - good) + size), r.place, r.nodes, rest_of e)) × (is_told e ≡ true))
@@ -100,7 +90,7 @@ module _ (n good done : ℕ) (block : List ℕ) (c d : Option (List ℕ)) (p q :
       let whole = (h.sees told).0 ∙ ap (with_front (h.front ++ take (done - good) block)) none in
       rw whole refl)) refused
 
-  module _ (e : Option (List ℕ)) (r : At) (others : is_told d ≡ true → (bytes_run (n - done) q.place q.nodes (rest_of d) ≡ Ok (tt, r.place, r.nodes, rest_of e)) × (is_told e ≡ true)) where
+  module _ (e : Option (List ℕ)) (r : Progress) (others : is_told d ≡ true → (bytes_run (n - done) q.place q.nodes (rest_of d) ≡ Ok (tt, r.place, r.nodes, rest_of e)) × (is_told e ≡ true)) where
     -- all bytes that come after those that were read
     abbrev tail : List ℕ
     tail = take (n - done) (rest_of d)

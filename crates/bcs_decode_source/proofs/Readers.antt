@@ -1,16 +1,7 @@
 -- Readers that go on, step after step.
-use Rattle.std.proofs.Common.{◌≡◌, ℕ, ◌≤◌, Bool, true, List, Option, Result, Ok, Err, IfOk, IsErr, IsErrAnd, refl, ◌∙◌}
-use Rattle.bcs_decode_spec.specs.declared.reason.Reason.{Reason}
-use Rattle.bcs_decode_spec.specs.declared.decode_fault.DecodeFault.{DecodeFault}
-use Rattle.bcs_decode_spec.specs.declared.decode_fault.DecodeFault.TheVariants.{Stop, Read as ReadFault, OutOfMemory}
-use Rattle.bcs_decode_spec.specs.Reading.{Parser, chain, give, node}
-use Rattle.bcs_decode_source.specs.declared.at.At.{At}
-use Rattle.bcs_decode_source.specs.declared.reader.Reader.{Reader}
-use Rattle.bcs_decode_slice.specs.Passing.{node_here}
-use Rattle.bcs_decode_source.specs.Sees.{is_told, rest_of, FindsFault, Sees, Along}
-use Rattle.bcs_decode_source.specs.Reads.{Ready, IsSame, Reads}
+use Rattle.bcs_decode_source.proofs.Prelude.{◌≡◌, ℕ, ◌≤◌, Bool, true, List, Option, Result, Ok, Err, IfOk, IsErr, IsErrAnd, refl, ◌∙◌, Reason, DecodeFault, Stop, ReadFault, OutOfMemory, Parser, chain, give, node, Progress, Reader, node_here, is_told, rest_of, FindsFault, Sees, Along, Ready, IsSame, Reads}
 use Rattle.bcs_decode_source.proofs.Chains.{node_is}
-use Rattle.bcs_decode_source.proofs.Going.{Along-none, Along-then, Along-gave, Goes-then, Halts-then, FindsFault-whole, Sees-as, Along-nodes}
+use Rattle.bcs_decode_source.proofs.SourceSteps.{Along-none, Along-then, Along-gave, Goes-then, Halts-then, FindsFault-whole, Sees-as, Along-nodes}
 use Rattle.bcs_decode_source.proofs.StreamedRows.{Found}
 
 pub again : {S : Type 0} (p : Reader S) → IsSame p p
@@ -19,7 +10,7 @@ again p = record { registry = refl; source = refl; at = refl }
 pub IsSame-then : {S : Type 0} {p q r : Reader S} → IsSame p q → IsSame q r → IsSame p r
 IsSame-then h k = record { registry = k.registry ∙ h.registry; source = k.source ∙ h.source; at = k.at ∙ h.at }
 
-Sees-then : {X Y A B : Type 0} (v : X → A) (w : Y → B) (x : X) (r : Result Y DecodeFault) (c d e : Option (List ℕ)) (p q s : At) (f : Parser A) (h : A → Parser B)
+Sees-then : {X Y A B : Type 0} (v : X → A) (w : Y → B) (x : X) (r : Result Y DecodeFault) (c d e : Option (List ℕ)) (p q s : Progress) (f : Parser A) (h : A → Parser B)
     → Sees v (Ok x) c p f q d → Sees w r d q (h (v x)) s e → Sees w r c p (chain f h) s e
 unfolding chain
 Sees-then v w x (Ok y) c d e p q s f h first next = λ told. (let a = first told in let b = next a.1 in (rw (a.0, b.0) refl, b.1))
@@ -27,7 +18,7 @@ Sees-then v w x (Err (Stop y)) c d e p q s f h first next = λ told. (let a = fi
 Sees-then v w x (Err ReadFault) c d e p q s f h first next = tt
 Sees-then v w x (Err OutOfMemory) c d e p q s f h first next = tt
 
-FindsFault-then : {A B : Type 0} (x : DecodeFault) (c : Option (List ℕ)) (p : At) (f : Parser A) (h : A → Parser B) → FindsFault x c p f → FindsFault x c p (chain f h)
+FindsFault-then : {A B : Type 0} (x : DecodeFault) (c : Option (List ℕ)) (p : Progress) (f : Parser A) (h : A → Parser B) → FindsFault x c p f → FindsFault x c p (chain f h)
 unfolding chain
 FindsFault-then (Stop s) c p f h k = λ told. (rw (k told) refl)
 FindsFault-then ReadFault c p f h k = tt

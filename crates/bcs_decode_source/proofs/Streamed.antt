@@ -1,25 +1,10 @@
 -- The parsers of values, as they are read from a source.
-use Rattle.std.proofs.Common.{◌≡◌, ℕ, zero, suc, ◌-◌, ◌<◌, List, Some, None, Ok, Err, refl, ap, ◌∙◌, arith}
+use Rattle.bcs_decode_source.proofs.Prelude.{◌≡◌, ℕ, zero, suc, ◌-◌, ◌<◌, List, Some, None, Ok, Err, refl, ap, ◌∙◌, arith, Shape, Shapes, Entries, Content, Choice, of, one_of, nothing, content_at, choice_at, shape_of, scalar_shape, whole_shape, Scalar, IntegerKind, Unsigned, Signed, Tree, TooDeep, Unsupported, UnknownVariant, Reason, Parser, Making, follow, chain, give, fail, fail_here, content_here, choice_here, variant_here, node, value_here, shape_here, option_here, items_here, pairs_here, length_here, named_here, building, skipping, skip, node_here, enter_here, bare, content_past, read, leaf_here, unit_leaf, flag_node, option_node, items_node, row_here, pairs_node, tuple_value, container_value, named_value, content_value, number_node}
 use Rattle.bcs_registry_model.specs.Shape as shape
-use Rattle.bcs_registry_model.specs.Shape.{Shape, Shapes}
-use Rattle.bcs_registry_model.specs.Container.{Entries, Content, Choice, of, one_of, nothing, content_at, choice_at}
-use Rattle.bcs_registry_model.specs.View.{shape_of}
-use Rattle.bcs_registry_model.specs.Kind.{scalar_shape}
-use Rattle.bcs_registry_model.specs.Whole.{whole_shape}
-use Rattle.bcs_registry_model.specs.declared.scalar.Scalar.{Scalar}
 use Rattle.bcs_registry_model.specs.declared.scalar.Scalar.TheVariants as scalar
-use Rattle.bcs_registry_model.specs.declared.whole_number.WholeNumber.{WholeNumber}
-use Rattle.bcs_registry_model.specs.declared.whole_number.WholeNumber.TheVariants.{Unsigned, Signed}
 use Rattle.bcs_registry_model.specs.declared.format.Format as format
 use Rattle.bcs_value_model.specs.Tree as tree
-use Rattle.bcs_value_model.specs.Tree.{Tree}
-use Rattle.bcs_decode_spec.specs.declared.reason.Reason.TheVariants.{TooDeep, Unsupported, UnknownVariant}
-use Rattle.bcs_decode_spec.specs.declared.reason.Reason.{Reason}
-use Rattle.bcs_decode_spec.specs.Reading.{Parser, Making, follow, chain, give, fail, fail_here, content_here, choice_here, variant_here, node, value_here, shape_here, option_here, items_here, pairs_here, length_here, named_here, building, skipping}
-use Rattle.bcs_decode_slice.specs.Passing.{skip, node_here, enter_here}
-use Rattle.bcs_decode_slice.proofs.Passings.{bare}
-use Rattle.bcs_decode_slice.proofs.PassingParts.{content_past}
-use Rattle.bcs_decode_source.specs.Sees.{read, leaf_here, unit_leaf, flag_node, option_node, items_node, row_here, pairs_node, each, tuple_value, container_value, named_value, content_value, number_node}
+use Rattle.bcs_decode_source.specs.Sees.{each}
 
 pub enter_none : (d p m : ℕ) (b : List ℕ) → d ≡ 0 → enter_here d p m b ≡ fail_here TooDeep p m b
 unfolding enter_here
@@ -147,7 +132,7 @@ unfolding value_here shape_here
 read_container registry d s name c is has p m b = rw is (named_is registry d name p m b) ∙ ap (λ (k : Content). container_value registry d k p m b) has
 
 -- a whole number is read as a leaf
-pub read_whole : (registry : Entries) (d : ℕ) (s : Shape) (n : WholeNumber) → s ≡ whole_shape n → read registry d s ≡ leaf_here (whole_shape n)
+pub read_whole : (registry : Entries) (d : ℕ) (s : Shape) (n : IntegerKind) → s ≡ whole_shape n → read registry d s ≡ leaf_here (whole_shape n)
 unfolding value_here shape_here
 read_whole registry d s (Unsigned w) h = rw h refl
 read_whole registry d s (Signed w) h = rw h refl

@@ -1,12 +1,6 @@
 -- A key that was read from a source or gone past, and recorded.
-use Rattle.std.proofs.Common.{◌≡◌, ◌-◌, ℕ, true, List, length, take, drop, Option, Ok, Err, refl, sym, ap, ◌∙◌}
-use Rattle.bcs_decode_spec.specs.declared.reason.Reason.{Reason}
-use Rattle.bcs_decode_source.specs.declared.at.At.{At}
-use Rattle.bcs_decode_source.specs.declared.keys.Span.{Span}
-use Rattle.bcs_decode_spec.specs.Reading.{Parser, give, key_here, key_after}
-use Rattle.bcs_decode_source.specs.Kept.{Stands, last_bytes}
-use Rattle.bcs_decode_source.specs.Sees.{is_told, rest_of, Along}
-use Rattle.bcs_decode_source.proofs.Going.{recorded_key}
+use Rattle.bcs_decode_source.proofs.Prelude.{◌≡◌, ◌-◌, ℕ, true, List, length, take, drop, Option, Ok, Err, refl, sym, ap, ◌∙◌, Reason, Progress, Span, Parser, give, key_here, key_after, Stands, last_bytes, is_told, rest_of, Along}
+use Rattle.bcs_decode_source.proofs.SourceSteps.{recorded_key}
 use Rattle.bcs_decode_source.proofs.KeptKeys.{last_kept}
 
 pub key_stop : {A : Type 0} (f : Parser A) (last : Option (List ℕ)) (p m : ℕ) (b : List ℕ) (e : Reason) (o : ℕ) → f p m b ≡ Err (e, o) → key_here f last p m b ≡ Err (e, o)
@@ -23,7 +17,7 @@ key_right : {A : Type 0} (f : Parser A) (last : Option (List ℕ)) (p m : ℕ) (
 unfolding key_here give
 key_right f last p m b t q l c bytes h is right = rw (h, ← is, right q l c) refl
 
-module _ {A : Type 0} (f : Parser A) (last : Option Span) (begun from : ℕ) (c d : Option (List ℕ)) (p v : At) (t : A) (told : is_told c ≡ true) (size : from ≡ length p.kept.items) (stands : Stands last begun (length p.kept.items)) (h : Along c (record p { is_in_key = true }) d v) (read : f p.place p.nodes (rest_of c) ≡ Ok (t, v.place, v.nodes, rest_of d)) where
+module _ {A : Type 0} (f : Parser A) (last : Option Span) (begun from : ℕ) (c d : Option (List ℕ)) (p v : Progress) (t : A) (told : is_told c ≡ true) (size : from ≡ length p.kept.items) (stands : Stands last begun (length p.kept.items)) (h : Along c (record p { is_in_key = true }) d v) (read : f p.place p.nodes (rest_of c) ≡ Ok (t, v.place, v.nodes, rest_of d)) where
   bytes_of : drop from v.kept.items ≡ take (v.place - p.place) (rest_of c)
   bytes_of = ap (λ n. drop n v.kept.items) size ∙ recorded_key c d (record p { is_in_key = true }) v told refl h
 

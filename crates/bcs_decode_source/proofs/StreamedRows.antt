@@ -1,19 +1,10 @@
 -- Values that are read in a row.
-use Rattle.std.proofs.Common.{◌≡◌, ℕ, suc, ◌+◌, ◌-◌, ◌<◌, ◌≤◌, true, List, [], ◌∷◌, ◌++◌, map, Option, Some, None, Ok, Err, refl, sym, ap, ◌∙◌, arith}
-use Rattle.std.proofs.lemmas.List.{map_push}
-use Rattle.bcs_registry_model.specs.Shape.{Shape, Shapes, no_shapes, shape}
-use Rattle.bcs_registry_model.specs.Container.{Entries}
-use Rattle.bcs_value_model.specs.Tree.{Tree, Trees, no_trees, tree, Pairs, no_pairs, pair}
-use Rattle.bcs_value_model.specs.View.{tree_of, trees_of, items_trees, pairs_of, entries_pairs}
-use Rattle.bcs_value_model.specs.declared.value.Value.{Value}
-use Rattle.bcs_decode_spec.specs.declared.decode_fault.DecodeFault.{DecodeFault}
-use Rattle.bcs_decode_source.specs.declared.at.At.{At}
-use Rattle.bcs_decode_spec.specs.Reading.{Parser, Read, follow, chain, give, items_here, pairs_here, key_here, each_here, value_here, building}
-use Rattle.bcs_decode_source.specs.Sees.{is_told, rest_of, FindsFault, read, each}
-use Rattle.bcs_decode_source.proofs.Going.{FindsFault-whole}
+use Rattle.bcs_decode_source.proofs.Prelude.{◌≡◌, ℕ, suc, ◌+◌, ◌-◌, ◌<◌, ◌≤◌, true, List, [], ◌∷◌, ◌++◌, map, Option, Some, None, Ok, Err, refl, sym, ap, ◌∙◌, arith, map_push, Shape, Shapes, no_shapes, shape, Entries, Tree, Trees, no_trees, tree, Pairs, no_pairs, pair, tree_of, trees_of, items_trees, pairs_of, entries_pairs, Value, DecodeFault, Progress, Parser, Read, follow, chain, give, items_here, pairs_here, key_here, each_here, value_here, building, is_told, rest_of, FindsFault, read}
+use Rattle.bcs_decode_source.specs.Sees.{each}
+use Rattle.bcs_decode_source.proofs.SourceSteps.{FindsFault-whole}
 
 -- what was read of a told source
-abbrev pub Found : {A : Type 0} → A → Parser A → Option (List ℕ) → Option (List ℕ) → At → At → Type 0
+abbrev pub Found : {A : Type 0} → A → Parser A → Option (List ℕ) → Option (List ℕ) → Progress → Progress → Type 0
 Found x f c d p q = is_told c ≡ true → (f p.place p.nodes (rest_of c) ≡ Ok (x, q.place, q.nodes, rest_of d)) × (is_told d ≡ true)
 
 -- these, and then those
@@ -47,13 +38,13 @@ before_none (Err e) = refl
 
 -- ---- so many values
 
-abbrev pub ItemsSoFar : Parser Tree → ℕ → ℕ → List Value → Option (List ℕ) → Option (List ℕ) → At → At → Type 0
+abbrev pub ItemsSoFar : Parser Tree → ℕ → ℕ → List Value → Option (List ℕ) → Option (List ℕ) → Progress → Progress → Type 0
 ItemsSoFar f n i vs c d p q = is_told c ≡ true → (items_here building f n p.place p.nodes (rest_of c) ≡ items_before (items_trees vs) (items_here building f (n - i) q.place q.nodes (rest_of d))) × (is_told d ≡ true)
 
-pub items_none : (f : Parser Tree) (n : ℕ) (vs : List Value) (c : Option (List ℕ)) (p : At) → vs ≡ [] → ItemsSoFar f n 0 vs c c p p
+pub items_none : (f : Parser Tree) (n : ℕ) (vs : List Value) (c : Option (List ℕ)) (p : Progress) → vs ≡ [] → ItemsSoFar f n 0 vs c c p p
 items_none f n vs c p none told = let all : n - 0 ≡ n = omega arith in (rw (none, all) (sym (before_none (items_here building f n p.place p.nodes (rest_of c)))), told)
 
-pub items_more : (f : Parser Tree) (n i : ℕ) (vs : List Value) (v : Value) (c d e : Option (List ℕ)) (p q r : At) → i < n → ItemsSoFar f n i vs c d p q → Found (tree_of v) f d e q r → ItemsSoFar f n (i + 1) (vs ++ v ∷ []) c e p r
+pub items_more : (f : Parser Tree) (n i : ℕ) (vs : List Value) (v : Value) (c d e : Option (List ℕ)) (p q r : Progress) → i < n → ItemsSoFar f n i vs c d p q → Found (tree_of v) f d e q r → ItemsSoFar f n (i + 1) (vs ++ v ∷ []) c e p r
 unfolding items_here chain
 items_more f n i vs v c d e p q r lt h j told =
     let a = h told in
@@ -61,14 +52,14 @@ items_more f n i vs v c d e p q r lt h j told =
     let k : n - i ≡ suc (n - (i + 1)) = omega arith in
     (a.0 ∙ rw (k, b.0) (before_more vs v (items_here building f (n - (i + 1)) r.place r.nodes (rest_of e))), b.1)
 
-pub items_done : (f : Parser Tree) (n i : ℕ) (vs : List Value) (c d : Option (List ℕ)) (p q : At) → n ≤ i → ItemsSoFar f n i vs c d p q → Found (items_trees vs) (items_here building f n) c d p q
+pub items_done : (f : Parser Tree) (n i : ℕ) (vs : List Value) (c d : Option (List ℕ)) (p q : Progress) → n ≤ i → ItemsSoFar f n i vs c d p q → Found (items_trees vs) (items_here building f n) c d p q
 unfolding items_here give
 items_done f n i vs c d p q le h told =
     let a = h told in
     let k : n - i ≡ 0 = omega arith in
     (a.0 ∙ rw k (ap (λ (us : Trees). Ok (us, q.place, q.nodes, rest_of d)) (joined_none (items_trees vs))), a.1)
 
-pub items_refused : (x : DecodeFault) (f : Parser Tree) (n i : ℕ) (vs : List Value) (c d : Option (List ℕ)) (p q : At) → i < n → ItemsSoFar f n i vs c d p q → FindsFault x d q f → FindsFault x c p (items_here building f n)
+pub items_refused : (x : DecodeFault) (f : Parser Tree) (n i : ℕ) (vs : List Value) (c d : Option (List ℕ)) (p q : Progress) → i < n → ItemsSoFar f n i vs c d p q → FindsFault x d q f → FindsFault x c p (items_here building f n)
 unfolding items_here chain
 items_refused x f n i vs c d p q lt h =
     FindsFault-whole x c d p q (items_here building f n) f (λ told. (h told).1)
@@ -77,26 +68,26 @@ items_refused x f n i vs c d p q lt h =
 -- ---- values of several formats
 
 module _ (registry : Entries) (depth : ℕ) where
-  abbrev pub EachSoFar : Shapes → Shapes → List Value → Option (List ℕ) → Option (List ℕ) → At → At → Type 0
+  abbrev pub EachSoFar : Shapes → Shapes → List Value → Option (List ℕ) → Option (List ℕ) → Progress → Progress → Type 0
   EachSoFar ss ts vs c d p q = is_told c ≡ true → (each registry depth ss p.place p.nodes (rest_of c) ≡ items_before (items_trees vs) (each registry depth ts q.place q.nodes (rest_of d))) × (is_told d ≡ true)
 
-  pub each_none : (ss ts : Shapes) (vs : List Value) (c : Option (List ℕ)) (p : At) → ts ≡ ss → vs ≡ [] → EachSoFar ss ts vs c c p p
+  pub each_none : (ss ts : Shapes) (vs : List Value) (c : Option (List ℕ)) (p : Progress) → ts ≡ ss → vs ≡ [] → EachSoFar ss ts vs c c p p
   each_none ss ts vs c p whole none told = (rw (none, whole) (sym (before_none (each registry depth ss p.place p.nodes (rest_of c)))), told)
 
-  pub each_more : (ss ts us : Shapes) (s : Shape) (vs : List Value) (v : Value) (c d e : Option (List ℕ)) (p q r : At) → ts ≡ shape s us → EachSoFar ss ts vs c d p q → Found (tree_of v) (read registry depth s) d e q r → EachSoFar ss us (vs ++ v ∷ []) c e p r
+  pub each_more : (ss ts us : Shapes) (s : Shape) (vs : List Value) (v : Value) (c d e : Option (List ℕ)) (p q r : Progress) → ts ≡ shape s us → EachSoFar ss ts vs c d p q → Found (tree_of v) (read registry depth s) d e q r → EachSoFar ss us (vs ++ v ∷ []) c e p r
   unfolding each_here chain value_here
   each_more ss ts us s vs v c d e p q r is h j told =
       let a = h told in
       let b = j a.1 in
       (a.0 ∙ rw (is, b.0) (before_more vs v (each registry depth us r.place r.nodes (rest_of e))), b.1)
 
-  pub each_done : (ss ts : Shapes) (vs : List Value) (c d : Option (List ℕ)) (p q : At) → ts ≡ no_shapes → EachSoFar ss ts vs c d p q → Found (items_trees vs) (each registry depth ss) c d p q
+  pub each_done : (ss ts : Shapes) (vs : List Value) (c d : Option (List ℕ)) (p q : Progress) → ts ≡ no_shapes → EachSoFar ss ts vs c d p q → Found (items_trees vs) (each registry depth ss) c d p q
   unfolding each_here give
   each_done ss ts vs c d p q is h told =
       let a = h told in
       (a.0 ∙ rw is (ap (λ (us : Trees). Ok (us, q.place, q.nodes, rest_of d)) (joined_none (items_trees vs))), a.1)
 
-  pub each_refused : (x : DecodeFault) (ss ts us : Shapes) (s : Shape) (vs : List Value) (c d : Option (List ℕ)) (p q : At) → ts ≡ shape s us → EachSoFar ss ts vs c d p q → FindsFault x d q (read registry depth s) → FindsFault x c p (each registry depth ss)
+  pub each_refused : (x : DecodeFault) (ss ts us : Shapes) (s : Shape) (vs : List Value) (c d : Option (List ℕ)) (p q : Progress) → ts ≡ shape s us → EachSoFar ss ts vs c d p q → FindsFault x d q (read registry depth s) → FindsFault x c p (each registry depth ss)
   unfolding each_here chain value_here
   each_refused x ss ts us s vs c d p q is h =
       FindsFault-whole x c d p q (each registry depth ss) (read registry depth s) (λ told. (h told).1)
@@ -132,13 +123,13 @@ unfolding give
 pairs_before_more vs u v (Ok x) = ap (λ (us : Pairs). Ok (us, x.1, x.2, x.3)) (sym (pairs_pushed vs (u, v) x.0))
 pairs_before_more vs u v (Err e) = refl
 
-abbrev pub PairsSoFar : Parser Tree → Parser Tree → ℕ → ℕ → Option (List ℕ) → List (Value × Value) → Option (List ℕ) → Option (List ℕ) → At → At → Type 0
+abbrev pub PairsSoFar : Parser Tree → Parser Tree → ℕ → ℕ → Option (List ℕ) → List (Value × Value) → Option (List ℕ) → Option (List ℕ) → Progress → Progress → Type 0
 PairsSoFar f g n i last vs c d p q = is_told c ≡ true → (pairs_here building f g None n p.place p.nodes (rest_of c) ≡ pairs_before (entries_pairs vs) (pairs_here building f g last (n - i) q.place q.nodes (rest_of d))) × (is_told d ≡ true)
 
-pub pairs_none : (f g : Parser Tree) (n : ℕ) (vs : List (Value × Value)) (c : Option (List ℕ)) (p : At) → vs ≡ [] → PairsSoFar f g n 0 None vs c c p p
+pub pairs_none : (f g : Parser Tree) (n : ℕ) (vs : List (Value × Value)) (c : Option (List ℕ)) (p : Progress) → vs ≡ [] → PairsSoFar f g n 0 None vs c c p p
 pairs_none f g n vs c p none told = let all : n - 0 ≡ n = omega arith in (rw (none, all) (sym (pairs_before_none (pairs_here building f g None n p.place p.nodes (rest_of c)))), told)
 
-pub pairs_more : (f g : Parser Tree) (n i : ℕ) (last : Option (List ℕ)) (key : List ℕ) (vs : List (Value × Value)) (u v : Value) (c d e s : Option (List ℕ)) (p q r t : At) → i < n → PairsSoFar f g n i last vs c d p q
+pub pairs_more : (f g : Parser Tree) (n i : ℕ) (last : Option (List ℕ)) (key : List ℕ) (vs : List (Value × Value)) (u v : Value) (c d e s : Option (List ℕ)) (p q r t : Progress) → i < n → PairsSoFar f g n i last vs c d p q
     → Found (tree_of u, key) (key_here f last) d e q r → Found (tree_of v) g e s r t → PairsSoFar f g n (i + 1) (Some key) (vs ++ (u, v) ∷ []) c s p t
 unfolding pairs_here chain
 pairs_more f g n i last key vs u v c d e s p q r t lt h j l told =
@@ -148,7 +139,7 @@ pairs_more f g n i last key vs u v c d e s p q r t lt h j l told =
     let k : n - i ≡ suc (n - (i + 1)) = omega arith in
     (a.0 ∙ rw (k, b.0, w.0) (pairs_before_more vs u v (pairs_here building f g (Some key) (n - (i + 1)) t.place t.nodes (rest_of s))), w.1)
 
-pub pairs_done : (f g : Parser Tree) (n i : ℕ) (last : Option (List ℕ)) (vs : List (Value × Value)) (c d : Option (List ℕ)) (p q : At) → n ≤ i → PairsSoFar f g n i last vs c d p q
+pub pairs_done : (f g : Parser Tree) (n i : ℕ) (last : Option (List ℕ)) (vs : List (Value × Value)) (c d : Option (List ℕ)) (p q : Progress) → n ≤ i → PairsSoFar f g n i last vs c d p q
     → Found (entries_pairs vs) (pairs_here building f g None n) c d p q
 unfolding pairs_here give
 pairs_done f g n i last vs c d p q le h told =
@@ -156,14 +147,14 @@ pairs_done f g n i last vs c d p q le h told =
     let k : n - i ≡ 0 = omega arith in
     (a.0 ∙ rw k (ap (λ (us : Pairs). Ok (us, q.place, q.nodes, rest_of d)) (joined_pairs_none (entries_pairs vs))), a.1)
 
-pub key_refused : (x : DecodeFault) (f g : Parser Tree) (n i : ℕ) (last : Option (List ℕ)) (vs : List (Value × Value)) (c d : Option (List ℕ)) (p q : At) → i < n → PairsSoFar f g n i last vs c d p q
+pub key_refused : (x : DecodeFault) (f g : Parser Tree) (n i : ℕ) (last : Option (List ℕ)) (vs : List (Value × Value)) (c d : Option (List ℕ)) (p q : Progress) → i < n → PairsSoFar f g n i last vs c d p q
     → FindsFault x d q (key_here f last) → FindsFault x c p (pairs_here building f g None n)
 unfolding pairs_here chain
 key_refused x f g n i last vs c d p q lt h =
     FindsFault-whole x c d p q (pairs_here building f g None n) (key_here f last) (λ told. (h told).1)
     (λ e o told stop. let k : n - i ≡ suc (n - (i + 1)) = omega arith in (h told).0 ∙ rw (k, stop) refl)
 
-pub value_refused : (x : DecodeFault) (f g : Parser Tree) (n i : ℕ) (last : Option (List ℕ)) (key : List ℕ) (vs : List (Value × Value)) (u : Value) (c d e : Option (List ℕ)) (p q r : At) → i < n → PairsSoFar f g n i last vs c d p q
+pub value_refused : (x : DecodeFault) (f g : Parser Tree) (n i : ℕ) (last : Option (List ℕ)) (key : List ℕ) (vs : List (Value × Value)) (u : Value) (c d e : Option (List ℕ)) (p q r : Progress) → i < n → PairsSoFar f g n i last vs c d p q
     → Found (tree_of u, key) (key_here f last) d e q r → FindsFault x e r g → FindsFault x c p (pairs_here building f g None n)
 unfolding pairs_here chain
 value_refused x f g n i last key vs u c d e p q r lt h j =

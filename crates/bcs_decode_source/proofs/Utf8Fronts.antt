@@ -1,12 +1,6 @@
 -- Fronts of bytes that are UTF-8.
-use Rattle.std.proofs.Common.{◌≡◌, ℕ, ◌+◌, ◌-◌, ◌<◌, ◌≤◌, Bool, true, false, ◌&&◌, List, [], ◌∷◌, ◌++◌, length, take, drop, take_all, take-take, take_at, drop_at, length-append, length-take, take-add, IsUtf8, inl, inr, refl, sym, ap, subst, ◌∙◌, arith, encode_utf8, encode_utf8_all}
-use Rattle.std.proofs.lemmas.Bool.{cases_lt}
-use Rattle.std.proofs.lemmas.List.{take-append-le, append-nil}
-use Rattle.std.proofs.lemmas.Str.{IsUtf8-append, length-encode, len_utf8_bounds, utf8_valid_len-IsValidUpTo, IsUtf8-drop, IsCharBoundary-from_take}
-use lib.Utf8.{scalar, scalars}
-use Rattle.std.specs.Str.{IsValidUpTo}
-use Rattle.std.specs.Str.Lossy.{utf8_valid_len}
-use Rattle.bcs_decode_source.specs.Texts.{BeginsNoText}
+use Rattle.bcs_decode_source.proofs.Prelude.{◌≡◌, ℕ, ◌+◌, ◌-◌, ◌<◌, ◌≤◌, Bool, true, false, ◌&&◌, List, [], ◌∷◌, ◌++◌, length, take, drop, take_all, take-take, length-append, length-take, take-add, IsUtf8, inl, inr, refl, sym, ap, subst, ◌∙◌, arith, encode_utf8, encode_utf8_all, cases_lt, take-append-le, append-nil, IsUtf8-append, length-encode, len_utf8_bounds, utf8_valid_len-IsValidUpTo, IsUtf8-drop, IsCharBoundary-from_take, scalar, scalars, IsValidUpTo, utf8_valid_len, BeginsNoText}
+use Rattle.std.proofs.Common.{take_at, drop_at}
 
 pub nothing_behind : (s : List ℕ) → length s ≡ 0 → BeginsNoText s
 nothing_behind s none n some within good = absurd (omega (arith, none))

@@ -1,8 +1,6 @@
 -- Values, level by level.
-use Rattle.std.proofs.Common.{◌≡◌, ℕ, ℤ, Bool, Vec, Global, String, string_bytes, rules}
+use Rattle.bcs_decode_source.proofs.Prelude.{◌≡◌, ℕ, ℤ, Bool, Vec, Global, String, string_bytes, rules, tree_of, Value, the_lemmas}
 use Rattle.bcs_value_model.specs.Tree as tree
-use Rattle.bcs_value_model.specs.View.{tree_of}
-use Rattle.bcs_value_model.specs.declared.value.Value.{Value, the_lemmas}
 use Rattle.bcs_value_model.specs.declared.value.Value as value
 
 pub tree_unit : tree_of value.Unit ≡ tree.unit

@@ -1,11 +1,6 @@
 -- What the definition says of some formats, by computation.
-use Rattle.std.proofs.Common.{◌≡◌, ℕ, [], ◌∷◌, true, false, codes, refl}
-use Rattle.std.specs.Int.{w8}
+use Rattle.bcs_decode_source.proofs.Prelude.{◌≡◌, ℕ, [], ◌∷◌, true, false, codes, refl, w8, Shape, no_shapes, Entries, unit, newtype, newtype_struct, field_struct, enumeration, takes_no_memory, reaches_no_map}
 use Rattle.bcs_registry_model.specs.Shape as shape
-use Rattle.bcs_registry_model.specs.Shape.{Shape, no_shapes}
-use Rattle.bcs_registry_model.specs.Container.{Entries, unit, newtype, newtype_struct, field_struct, enumeration}
-use Rattle.bcs_decode_source.specs.Sees.{takes_no_memory}
-use Rattle.bcs_decode_source.specs.Reaching.{reaches_no_map}
 
 -- a map of numbers
 abbrev counts : Shape

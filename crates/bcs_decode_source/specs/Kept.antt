@@ -4,7 +4,7 @@ use Rattle.std.specs.List.{slice_range}
 use Rattle.bcs_decode_spec.specs.declared.decode_fault.DecodeFault.{DecodeFault}
 use Rattle.bcs_decode_spec.specs.declared.decode_fault.DecodeFault.TheVariants.{Stop, Read, OutOfMemory}
 use Rattle.bcs_decode_spec.specs.Reading.{Parser}
-use Rattle.bcs_decode_source.specs.declared.at.At.{At}
+use Rattle.bcs_decode_source.specs.declared.progress.Progress.{Progress}
 use Rattle.bcs_decode_source.specs.declared.keys.Span.{Span}
 
 -- the bytes of the last key, among those that are kept
@@ -22,14 +22,14 @@ Stands None begun n = begun ≤ n
 Stands (Some s) begun n = (begun ≤ s.from) × (s.from ≤ s.to) × (s.to ≤ n)
 
 -- the place, the nodes that are left and whether a key is open are the same
-pub record SamePlace (p q : At) : Type 0 where
+pub record SamePlace (p q : Progress) : Type 0 where
   pub place : q.place ≡ p.place
   pub nodes : q.nodes ≡ p.nodes
   pub key : q.is_in_key ≡ p.is_in_key
 
 -- a test that reads nothing
-abbrev pub Judges : Result (Unit {0}) DecodeFault → Parser (Unit {0}) → ℕ → Type 0
-Judges (Ok u) f o = (p m : ℕ) (b : List ℕ) → f p m b ≡ Ok (tt, p, m, b)
-Judges (Err (Stop s)) f o = (s.place ≡ o) × ((p m : ℕ) (b : List ℕ) → f p m b ≡ Err (s.reason, s.place))
-Judges (Err Read) f o = ⊥
-Judges (Err OutOfMemory) f o = ⊥
+abbrev pub Validates : Result (Unit {0}) DecodeFault → Parser (Unit {0}) → ℕ → Type 0
+Validates (Ok u) f o = (p m : ℕ) (b : List ℕ) → f p m b ≡ Ok (tt, p, m, b)
+Validates (Err (Stop s)) f o = (s.place ≡ o) × ((p m : ℕ) (b : List ℕ) → f p m b ≡ Err (s.reason, s.place))
+Validates (Err Read) f o = ⊥
+Validates (Err OutOfMemory) f o = ⊥

@@ -14,7 +14,7 @@ use Rattle.bcs_decode_spec.specs.Reading.{Parser, Making, node, give, chain, fai
 use Rattle.bcs_decode_slice.specs.Passing.{node_here, enter_here}
 use Rattle.bcs_decode_spec.specs.declared.decode_fault.DecodeFault.{DecodeFault}
 use Rattle.bcs_decode_spec.specs.declared.decode_fault.DecodeFault.TheVariants.{Stop, Read, OutOfMemory}
-use Rattle.bcs_decode_source.specs.declared.at.At.{At}
+use Rattle.bcs_decode_source.specs.declared.progress.Progress.{Progress}
 
 -- the told bytes
 abbrev pub rest_of : Option (List ℕ) → List ℕ
@@ -26,13 +26,13 @@ is_told None = false
 is_told (Some b) = true
 
 -- the fault is what the parser finds in the told bytes, unless it has another cause
-abbrev pub FindsFault : {A : Type 0} → DecodeFault → Option (List ℕ) → At → Parser A → Type 0
+abbrev pub FindsFault : {A : Type 0} → DecodeFault → Option (List ℕ) → Progress → Parser A → Type 0
 FindsFault (Stop s) c p f = is_told c ≡ true → f p.place p.nodes (rest_of c) ≡ Err (s.reason, s.place)
 FindsFault Read c p f = Unit {0}
 FindsFault OutOfMemory c p f = Unit {0}
 
 -- what was returned, seen by view, is what the parser finds in the told bytes c from p on; after it come q and d
-abbrev pub Sees : {X A : Type 0} → (X → A) → Result X DecodeFault → Option (List ℕ) → At → Parser A → At → Option (List ℕ) → Type 0
+abbrev pub Sees : {X A : Type 0} → (X → A) → Result X DecodeFault → Option (List ℕ) → Progress → Parser A → Progress → Option (List ℕ) → Type 0
 Sees view (Ok x) c p f q d = is_told c ≡ true → (f p.place p.nodes (rest_of c) ≡ Ok (view x, q.place, q.nodes, rest_of d)) × (is_told d ≡ true)
 Sees view (Err e) c p f q d = FindsFault e c p f
 
@@ -50,12 +50,12 @@ pub record Left (b : List ℕ) (p : ℕ) (c : Option (List ℕ)) : Type 0 where
   pub is : rest_of c ≡ drop p b
 
 -- behind these bytes the buffer has those of b from a place on
-pub record Records (b base : List ℕ) (from : ℕ) (p : At) : Type 0 where
+pub record Records (b base : List ℕ) (from : ℕ) (p : Progress) : Type 0 where
   pub begun : from ≤ p.place
   pub is : p.kept.items ≡ base ++ take (p.place - from) (drop from b)
 
 -- from p to q only bytes were gone past, and recorded where a key is open
-pub record Along (c : Option (List ℕ)) (p : At) (d : Option (List ℕ)) (q : At) : Type 0 where
+pub record Along (c : Option (List ℕ)) (p : Progress) (d : Option (List ℕ)) (q : Progress) : Type 0 where
   pub gone : (b : List ℕ) → Left b p.place c → Left b q.place d
   pub later : p.place ≤ q.place
   pub same : q.is_in_key ≡ p.is_in_key
@@ -64,36 +64,36 @@ pub record Along (c : Option (List ℕ)) (p : At) (d : Option (List ℕ)) (q : A
   pub recorded : p.is_in_key ≡ true → (b base : List ℕ) (from : ℕ) → Left b p.place c → Records b base from p → Records b base from q
 
 -- from p on the source gave a front of the bytes that were to come, and the others are still to come
-abbrev pub GaveFront : Option (List ℕ) → At → Option (List ℕ) → Type 0
+abbrev pub GaveFront : Option (List ℕ) → Progress → Option (List ℕ) → Type 0
 GaveFront c p d = (b : List ℕ) → Left b p.place c → (n : ℕ) × (p.place ≤ n) × Left b n d
 
 -- at a stop too only bytes were gone past, and no fewer than come before its place; at another fault a front was given,
 -- however long
-abbrev pub Halts : DecodeFault → Option (List ℕ) → At → Option (List ℕ) → At → Type 0
+abbrev pub Halts : DecodeFault → Option (List ℕ) → Progress → Option (List ℕ) → Progress → Type 0
 Halts (Stop s) c p d q = ((b : List ℕ) → Left b p.place c → Left b q.place d) × (s.place ≤ q.place)
 Halts Read c p d q = GaveFront c p d
 Halts OutOfMemory c p d q = GaveFront c p d
 
-abbrev pub Goes : {X : Type 0} → Result X DecodeFault → Option (List ℕ) → At → Option (List ℕ) → At → Type 0
+abbrev pub Goes : {X : Type 0} → Result X DecodeFault → Option (List ℕ) → Progress → Option (List ℕ) → Progress → Type 0
 Goes (Ok x) c p d q = Along c p d q
 Goes (Err e) c p d q = Halts e c p d q
 
 -- the same within a map: of the bytes that are kept the first n stayed
-pub record AlongMap (n : ℕ) (c : Option (List ℕ)) (p : At) (d : Option (List ℕ)) (q : At) : Type 0 where
+pub record AlongMap (n : ℕ) (c : Option (List ℕ)) (p : Progress) (d : Option (List ℕ)) (q : Progress) : Type 0 where
   pub gone : (b : List ℕ) → Left b p.place c → Left b q.place d
   pub later : p.place ≤ q.place
   pub same : q.is_in_key ≡ p.is_in_key
   pub front : take n q.kept.items ≡ take n p.kept.items
   pub recorded : p.is_in_key ≡ true → (b base : List ℕ) (from : ℕ) → Left b p.place c → Records b base from p → Records b base from q
 
-abbrev pub GoesInMap : {X : Type 0} → ℕ → Result X DecodeFault → Option (List ℕ) → At → Option (List ℕ) → At → Type 0
+abbrev pub GoesInMap : {X : Type 0} → ℕ → Result X DecodeFault → Option (List ℕ) → Progress → Option (List ℕ) → Progress → Type 0
 GoesInMap n (Ok x) c p d q = AlongMap n c p d q
 GoesInMap n (Err e) c p d q = Halts e c p d q
 
 -- want of memory is answered in an open key alone
-abbrev pub SparesMemory : {X : Type 0} → Result X DecodeFault → At → Type 0
-SparesMemory (Err OutOfMemory) p = p.is_in_key ≡ true
-SparesMemory r p = Unit {0}
+abbrev pub OutOfMemoryOnlyInKey : {X : Type 0} → Result X DecodeFault → Progress → Type 0
+OutOfMemoryOnlyInKey (Err OutOfMemory) p = p.is_in_key ≡ true
+OutOfMemoryOnlyInKey r p = Unit {0}
 
 -- one byte
 unfoldable pub byte_here : Parser ℕ
@@ -220,6 +220,6 @@ takes_no_memory (shape.signed w) = true
 takes_no_memory _ = false
 
 -- want of memory is answered in an open key, or of a format whose values take memory
-abbrev pub Spares : {X : Type 0} → Bool → Result X DecodeFault → At → Type 0
-Spares true r p = SparesMemory r p
-Spares false r p = Unit {0}
+abbrev pub OutOfMemoryIfAllocating : {X : Type 0} → Bool → Result X DecodeFault → Progress → Type 0
+OutOfMemoryIfAllocating true r p = OutOfMemoryOnlyInKey r p
+OutOfMemoryIfAllocating false r p = Unit {0}

@@ -1,4 +1,4 @@
--- Texts that are judged by blocks.
+-- Texts that are validated by blocks.
 use Rattle.std.specs.Prelude.{ℕ, ◌<◌, ◌≤◌, List, length, take}
 use Rattle.std.specs.Str.{IsUtf8}
 

@@ -5,9 +5,9 @@ ghost use Rattle.bcs_decode_spec.specs.declared.decode_fault.DecodeFault.TheVari
 ghost use Rattle.bcs_decode_source.specs.Kept.{SamePlace};
 ghost use Rattle.bcs_decode_source.specs.Reads.{IsStill, Ready, Reads};
 ghost use Rattle.bcs_decode_slice.specs.Passing.{node_here};
-ghost use Rattle.bcs_decode_source.specs.Sees.{SparesMemory, byte_here};
+ghost use Rattle.bcs_decode_source.specs.Sees.{OutOfMemoryOnlyInKey, byte_here};
 
-use crate::at::At;
+use crate::progress::Progress;
 use crate::reader::Reader;
 use bcs_decode_spec::{DecodeFault, Reason, Stop};
 use bcs_io::ByteSource;
@@ -19,7 +19,7 @@ pub fn begin<S: ByteSource>(reader: &mut Reader<'_, S>) -> Result<(), DecodeFaul
     requires ready { Ready S.is_failed S.allowance reader.old }
     ensures reads { Reads S.content S.is_failed S.allowance (λ x. x) result reader.old node_here reader.new }
     ensures still { IsStill reader.old reader.new }
-    ensures spares { SparesMemory result reader.old.at.now }
+    ensures memory { OutOfMemoryOnlyInKey result reader.old.at.now }
 {
     if reader.at.nodes == 0 {
         return Err(DecodeFault::Stop(Stop {
@@ -40,7 +40,7 @@ pub fn read_exact<S: ByteSource>(
 ) -> Result<(), DecodeFault>
     requires ready { Ready S.is_failed S.allowance reader.old }
     ensures reads { Reads S.content S.is_failed S.allowance (λ _. buf.new) result reader.old (bytes_here (length buf.old)) reader.new }
-    ensures spares { SparesMemory result reader.old.at.now }
+    ensures memory { OutOfMemoryOnlyInKey result reader.old.at.now }
     ensures len { length buf.new ≡ length buf.old }
     ensures far { OnOk result (reader.new.at.now.place ≡ reader.old.at.now.place + length buf.old) }
 {
@@ -59,7 +59,7 @@ pub fn read_exact<S: ByteSource>(
 }
 
 /// Records bytes that were taken, where a key is open.
-fn record(at: &mut At, bytes: &[u8]) -> Result<(), DecodeFault>
+fn record(at: &mut Progress, bytes: &[u8]) -> Result<(), DecodeFault>
     ensures same { SamePlace at.old at.new }
     ensures unrecorded { at.old.is_in_key ≡ false → (result ≡ Ok tt) × (at.new.kept.items ≡ at.old.kept.items) }
     ensures recorded { at.old.is_in_key ≡ true → OnOk result (at.new.kept.items ≡ at.old.kept.items ++ bytes.now) }
@@ -76,7 +76,7 @@ fn record(at: &mut At, bytes: &[u8]) -> Result<(), DecodeFault>
 pub fn byte<S: ByteSource>(reader: &mut Reader<'_, S>) -> Result<u8, DecodeFault>
     requires ready { Ready S.is_failed S.allowance reader.old }
     ensures reads { Reads S.content S.is_failed S.allowance (λ x. x) result reader.old byte_here reader.new }
-    ensures spares { SparesMemory result reader.old.at.now }
+    ensures memory { OutOfMemoryOnlyInKey result reader.old.at.now }
 {
     let found: [u8; 1] = array(reader)?;
     Ok(found[0])
@@ -89,7 +89,7 @@ pub fn array<S: ByteSource, const N: usize>(
 ) -> Result<[u8; N], DecodeFault>
     requires ready { Ready S.is_failed S.allowance reader.old }
     ensures reads { Reads S.content S.is_failed S.allowance (λ x. x) result reader.old (bytes_here N) reader.new }
-    ensures spares { SparesMemory result reader.old.at.now }
+    ensures memory { OutOfMemoryOnlyInKey result reader.old.at.now }
 {
     let mut buf = [0u8; N];
     read_exact(reader, &mut buf)?;

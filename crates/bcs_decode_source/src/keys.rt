@@ -1,11 +1,11 @@
 //! The keys of a map that is being read.
 ghost use Rattle.std.specs.Prelude.{◌≡◌, ℕ, ◌≤◌, length, take, drop, false, true, Some, IfOk};
 ghost use Rattle.bcs_decode_spec.specs.Reading.{key_after};
-ghost use Rattle.bcs_decode_source.specs.Kept.{Judges, SamePlace, Stands, last_bytes};
+ghost use Rattle.bcs_decode_source.specs.Kept.{Validates, SamePlace, Stands, last_bytes};
 
-use crate::at::At;
+use crate::progress::Progress;
 use bcs_decode_spec::DecodeFault;
-use bcs_keys::following::follows;
+use bcs_key_order::following::follows;
 
 /// The keys of a map that is being read, among the bytes that are kept.
 #[derive(Drop)]
@@ -25,10 +25,15 @@ pub struct Span {
 
 /// Tests that the key that is kept from `from` on may follow the last one, and makes it the last.
 #[inline(never)]
-pub fn follow(at: &mut At, keys: &mut MapKeys, from: usize, start: u64) -> Result<(), DecodeFault>
+pub fn follow(
+    at: &mut Progress,
+    keys: &mut MapKeys,
+    from: usize,
+    start: u64,
+) -> Result<(), DecodeFault>
     requires stands { Stands keys.old.last keys.old.begun from }
     requires long { from ≤ length at.old.kept.items }
-    ensures judges { Judges result (key_after (last_bytes keys.old.last at.old.kept.items) (drop from at.old.kept.items) start) start }
+    ensures validates { Validates result (key_after (last_bytes keys.old.last at.old.kept.items) (drop from at.old.kept.items) start) start }
     ensures same { SamePlace at.old at.new }
     ensures recorded { at.old.is_in_key ≡ true → at.new.kept.items ≡ at.old.kept.items }
     ensures front { take keys.old.begun at.new.kept.items ≡ take keys.old.begun at.old.kept.items }
@@ -36,16 +41,16 @@ pub fn follow(at: &mut At, keys: &mut MapKeys, from: usize, start: u64) -> Resul
     ensures stands { IfOk result (λ _. Stands keys.new.last keys.new.begun (length at.new.kept.items)) }
     ensures last { IfOk result (λ _. last_bytes keys.new.last at.new.kept.items ≡ Some (drop from at.old.kept.items)) }
 {
-    judge(keys, at.kept.as_slice(), from, start)?;
+    validate(keys, at.kept.as_slice(), from, start)?;
     settle(at, keys, from);
     Ok(())
 }
 
 /// Whether the key that is kept from `from` on may follow the last one.
-fn judge(keys: &MapKeys, kept: &[u8], from: usize, start: u64) -> Result<(), DecodeFault>
+fn validate(keys: &MapKeys, kept: &[u8], from: usize, start: u64) -> Result<(), DecodeFault>
     requires stands { Stands keys.now.last keys.now.begun from }
     requires long { from ≤ length kept.now }
-    ensures judges { Judges result (key_after (last_bytes keys.now.last kept.now) (drop from kept.now) start) start }
+    ensures validates { Validates result (key_after (last_bytes keys.now.last kept.now) (drop from kept.now) start) start }
 {
     let last = match keys.last {
         Some(last) => Some(&kept[last.from..last.to]),
@@ -58,7 +63,7 @@ fn judge(keys: &MapKeys, kept: &[u8], from: usize, start: u64) -> Result<(), Dec
 }
 
 /// Makes the key that is kept from `from` on the last one. Outside keys it is moved to where the map began.
-fn settle(at: &mut At, keys: &mut MapKeys, from: usize)
+fn settle(at: &mut Progress, keys: &mut MapKeys, from: usize)
     requires stands { Stands keys.old.last keys.old.begun from }
     requires long { from ≤ length at.old.kept.items }
     ensures same { SamePlace at.old at.new }
@@ -84,7 +89,7 @@ fn settle(at: &mut At, keys: &mut MapKeys, from: usize)
 
 /// Lets the last key of a map go that stands outside keys.
 #[inline(never)]
-pub fn let_go(at: &mut At, keys: &MapKeys)
+pub fn forget_last_key(at: &mut Progress, keys: &MapKeys)
     ensures same { SamePlace at.old at.new }
     ensures recorded { at.old.is_in_key ≡ true → at.new.kept.items ≡ at.old.kept.items }
     ensures unrecorded { at.old.is_in_key ≡ false → at.new.kept.items ≡ take keys.now.begun at.old.kept.items }

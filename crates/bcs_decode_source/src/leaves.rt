@@ -6,7 +6,7 @@ ghost use Rattle.bcs_num.specs.Le.{width_of};
 ghost use Rattle.bcs_value_model.specs.View.{tree_of};
 ghost use Rattle.bcs_decode_spec.specs.Reading.{flag_here, unsigned_here, signed_here};
 ghost use Rattle.bcs_decode_source.specs.Reads.{IsStill, Ready, Reads};
-ghost use Rattle.bcs_decode_source.specs.Sees.{SparesMemory, flag_node, unit_leaf, truth_leaf, unsigned_leaf, signed_leaf, unsupported_leaf, text_leaf, bytes_leaf};
+ghost use Rattle.bcs_decode_source.specs.Sees.{OutOfMemoryOnlyInKey, flag_node, unit_leaf, truth_leaf, unsigned_leaf, signed_leaf, unsupported_leaf, text_leaf, bytes_leaf};
 
 use crate::bytes::{array, begin, byte};
 use crate::number::length;
@@ -22,7 +22,7 @@ use bcs_value_model::Value;
 pub fn flag<S: ByteSource>(reader: &mut Reader<'_, S>, bad: Reason) -> Result<bool, DecodeFault>
     requires ready { Ready S.is_failed S.allowance reader.old }
     ensures reads { Reads S.content S.is_failed S.allowance (λ x. x) result reader.old (flag_here bad) reader.new }
-    ensures spares { SparesMemory result reader.old.at.now }
+    ensures memory { OutOfMemoryOnlyInKey result reader.old.at.now }
 {
     let start = reader.at.place;
     let byte = byte(reader)?;
@@ -40,7 +40,7 @@ pub fn flag<S: ByteSource>(reader: &mut Reader<'_, S>, bad: Reason) -> Result<bo
 pub fn flag_node<S: ByteSource>(reader: &mut Reader<'_, S>) -> Result<bool, DecodeFault>
     requires ready { Ready S.is_failed S.allowance reader.old }
     ensures reads { Reads S.content S.is_failed S.allowance (λ x. x) result reader.old flag_node reader.new }
-    ensures spares { SparesMemory result reader.old.at.now }
+    ensures memory { OutOfMemoryOnlyInKey result reader.old.at.now }
 {
     begin(reader)?;
     flag(reader, Reason::BadOption)
@@ -55,7 +55,7 @@ pub fn unsigned<S: ByteSource>(
 ) -> Result<u128, DecodeFault>
     requires ready { Ready S.is_failed S.allowance reader.old }
     ensures reads { Reads S.content S.is_failed S.allowance (λ x. x) result reader.old (unsigned_here (width_of width)) reader.new }
-    ensures spares { SparesMemory result reader.old.at.now }
+    ensures memory { OutOfMemoryOnlyInKey result reader.old.at.now }
 {
     match width {
         Width::W1 => Ok(u128::from(u8::from_le_bytes(array(reader)?))),
@@ -72,7 +72,7 @@ pub fn unsigned<S: ByteSource>(
 pub fn signed<S: ByteSource>(reader: &mut Reader<'_, S>, width: Width) -> Result<i128, DecodeFault>
     requires ready { Ready S.is_failed S.allowance reader.old }
     ensures reads { Reads S.content S.is_failed S.allowance (λ x. x) result reader.old (signed_here (width_of width)) reader.new }
-    ensures spares { SparesMemory result reader.old.at.now }
+    ensures memory { OutOfMemoryOnlyInKey result reader.old.at.now }
 {
     match width {
         Width::W1 => Ok(i128::from(i8::from_le_bytes(array(reader)?))),
@@ -92,7 +92,7 @@ pub fn put_unit<S: ByteSource>(
 ) -> Result<(), DecodeFault>
     requires ready { Ready S.is_failed S.allowance reader.old }
     ensures reads { Reads S.content S.is_failed S.allowance (λ _. tree_of slot.new) result reader.old unit_leaf reader.new }
-    ensures spares { SparesMemory result reader.old.at.now }
+    ensures memory { OutOfMemoryOnlyInKey result reader.old.at.now }
 {
     begin(reader)?;
     *slot = Value::Unit;
@@ -107,7 +107,7 @@ pub fn put_truth<S: ByteSource>(
 ) -> Result<(), DecodeFault>
     requires ready { Ready S.is_failed S.allowance reader.old }
     ensures reads { Reads S.content S.is_failed S.allowance (λ _. tree_of slot.new) result reader.old truth_leaf reader.new }
-    ensures spares { SparesMemory result reader.old.at.now }
+    ensures memory { OutOfMemoryOnlyInKey result reader.old.at.now }
 {
     begin(reader)?;
     let truth = flag(reader, Reason::BadBool)?;
@@ -124,7 +124,7 @@ pub fn put_unsigned<S: ByteSource>(
 ) -> Result<(), DecodeFault>
     requires ready { Ready S.is_failed S.allowance reader.old }
     ensures reads { Reads S.content S.is_failed S.allowance (λ _. tree_of slot.new) result reader.old (unsigned_leaf (width_of width)) reader.new }
-    ensures spares { SparesMemory result reader.old.at.now }
+    ensures memory { OutOfMemoryOnlyInKey result reader.old.at.now }
 {
     begin(reader)?;
     let number = unsigned(reader, width)?;
@@ -141,7 +141,7 @@ pub fn put_signed<S: ByteSource>(
 ) -> Result<(), DecodeFault>
     requires ready { Ready S.is_failed S.allowance reader.old }
     ensures reads { Reads S.content S.is_failed S.allowance (λ _. tree_of slot.new) result reader.old (signed_leaf (width_of width)) reader.new }
-    ensures spares { SparesMemory result reader.old.at.now }
+    ensures memory { OutOfMemoryOnlyInKey result reader.old.at.now }
 {
     begin(reader)?;
     let number = signed(reader, width)?;
@@ -189,7 +189,7 @@ pub fn refuse<S: ByteSource>(reader: &mut Reader<'_, S>) -> Result<(), DecodeFau
     ensures reads { Reads S.content S.is_failed S.allowance (λ _. no_value) result reader.old unsupported_leaf reader.new }
     ensures still { IsStill reader.old reader.new }
     ensures refused { IsErr result }
-    ensures spares { SparesMemory result reader.old.at.now }
+    ensures memory { OutOfMemoryOnlyInKey result reader.old.at.now }
 {
     begin(reader)?;
     Err(DecodeFault::Stop(Stop {

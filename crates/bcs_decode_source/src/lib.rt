@@ -1,7 +1,6 @@
 //! Values from a source, read from front to back.
 #![tactic(auto)]
 
-pub mod at;
 pub mod bytes;
 mod containers;
 mod entries;
@@ -12,6 +11,7 @@ mod maps;
 pub mod names;
 pub mod number;
 mod number_rows;
+pub mod progress;
 pub mod reader;
 mod room;
 mod rows;

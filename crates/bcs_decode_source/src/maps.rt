@@ -8,7 +8,7 @@ ghost use Rattle.bcs_decode_source.specs.Sees.{read, pairs_node, entries_leaf, k
 ghost use Rattle.bcs_decode_source.specs.Reads.{Ready, Reads, ReadsInMap, room_for};
 
 use crate::entries::{Entries, put_entries};
-use crate::keys::{MapKeys, follow, let_go};
+use crate::keys::{MapKeys, follow, forget_last_key};
 use crate::number::row_count;
 use crate::reader::Reader;
 use crate::slots::discard;
@@ -72,7 +72,7 @@ fn each_entry<S: ByteSource>(
         value(reader, part, depth, slot)?;
         keep_entry(&mut entries.found, &mut entries.key, slot)?;
     }
-    let_go(reader.at, &keys);
+    forget_last_key(reader.at, &keys);
     Ok(())
 }
 

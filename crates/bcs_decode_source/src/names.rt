@@ -2,7 +2,7 @@
 ghost use Rattle.std.specs.Prelude.{◌<◌, IfOk};
 ghost use Rattle.bcs_decode_source.specs.Reads.{IsStill, Ready, Reads};
 ghost use Rattle.bcs_decode_slice.specs.Passing.{enter_here};
-ghost use Rattle.bcs_decode_source.specs.Sees.{SparesMemory, number_node};
+ghost use Rattle.bcs_decode_source.specs.Sees.{OutOfMemoryOnlyInKey, number_node};
 
 use crate::bytes::begin;
 use crate::number::number;
@@ -17,7 +17,7 @@ pub fn enter<S: ByteSource>(reader: &mut Reader<'_, S>, depth: u32) -> Result<()
     requires ready { Ready S.is_failed S.allowance reader.old }
     ensures reads { Reads S.content S.is_failed S.allowance (λ x. x) result reader.old (enter_here depth) reader.new }
     ensures still { IsStill reader.old reader.new }
-    ensures spares { SparesMemory result reader.old.at.now }
+    ensures memory { OutOfMemoryOnlyInKey result reader.old.at.now }
     ensures positive { IfOk result (λ _. 0 < depth) }
 {
     if depth == 0 {
@@ -34,7 +34,7 @@ pub fn enter<S: ByteSource>(reader: &mut Reader<'_, S>, depth: u32) -> Result<()
 pub fn variant_number<S: ByteSource>(reader: &mut Reader<'_, S>) -> Result<u32, DecodeFault>
     requires ready { Ready S.is_failed S.allowance reader.old }
     ensures reads { Reads S.content S.is_failed S.allowance (λ x. x) result reader.old number_node reader.new }
-    ensures spares { SparesMemory result reader.old.at.now }
+    ensures memory { OutOfMemoryOnlyInKey result reader.old.at.now }
 {
     begin(reader)?;
     number(reader)

@@ -2,7 +2,7 @@
 ghost use Rattle.std.specs.Prelude.{◌<◌, ◌≤◌, IfOk};
 ghost use Rattle.bcs_decode_spec.specs.Reading.{number_here, length_here};
 ghost use Rattle.bcs_decode_source.specs.Reads.{Ready, Reads};
-ghost use Rattle.bcs_decode_source.specs.Sees.{SparesMemory, tail_here, tail_limit, row_here};
+ghost use Rattle.bcs_decode_source.specs.Sees.{OutOfMemoryOnlyInKey, tail_here, tail_limit, row_here};
 
 use crate::bytes::{begin, byte};
 use crate::reader::Reader;
@@ -15,7 +15,7 @@ use bcs_num::LENGTH_LIMIT;
 pub fn number<S: ByteSource>(reader: &mut Reader<'_, S>) -> Result<u32, DecodeFault>
     requires ready { Ready S.is_failed S.allowance reader.old }
     ensures reads { Reads S.content S.is_failed S.allowance (λ x. x) result reader.old number_here reader.new }
-    ensures spares { SparesMemory result reader.old.at.now }
+    ensures memory { OutOfMemoryOnlyInKey result reader.old.at.now }
 {
     let start = reader.at.place;
     tail(reader, start, 0)
@@ -32,7 +32,7 @@ fn tail<S: ByteSource>(
     requires index { index ≤ 4 }
     requires start { start ≤ reader.old.at.now.place }
     ensures reads { Reads S.content S.is_failed S.allowance (λ x. x) result reader.old (tail_here start index) reader.new }
-    ensures spares { SparesMemory result reader.old.at.now }
+    ensures memory { OutOfMemoryOnlyInKey result reader.old.at.now }
     ensures below { IfOk result (λ n. n < tail_limit index) }
 {
     let byte = byte(reader)?;
@@ -60,7 +60,7 @@ fn tail<S: ByteSource>(
 pub fn length<S: ByteSource>(reader: &mut Reader<'_, S>) -> Result<u32, DecodeFault>
     requires ready { Ready S.is_failed S.allowance reader.old }
     ensures reads { Reads S.content S.is_failed S.allowance (λ x. x) result reader.old length_here reader.new }
-    ensures spares { SparesMemory result reader.old.at.now }
+    ensures memory { OutOfMemoryOnlyInKey result reader.old.at.now }
 {
     let start = reader.at.place;
     let length = number(reader)?;
@@ -82,7 +82,7 @@ pub fn row_count<S: ByteSource>(
 ) -> Result<u64, DecodeFault>
     requires ready { Ready S.is_failed S.allowance reader.old }
     ensures reads { Reads S.content S.is_failed S.allowance (λ x. x) result reader.old (row_here size) reader.new }
-    ensures spares { SparesMemory result reader.old.at.now }
+    ensures memory { OutOfMemoryOnlyInKey result reader.old.at.now }
 {
     begin(reader)?;
     match size {

@@ -11,8 +11,8 @@ use crate::reader::Reader;
 use crate::share::{BLOCK, share};
 use bcs_decode_spec::{DecodeFault, Reason, Stop};
 use bcs_io::ByteSource;
-use bcs_num::{front_signed, front_unsigned};
-use bcs_registry_model::WholeNumber;
+use bcs_num::{leading_signed, leading_unsigned};
+use bcs_registry_model::IntegerKind;
 use bcs_value_model::Value;
 use std::alloc::AllocError;
 
@@ -20,7 +20,7 @@ use std::alloc::AllocError;
 #[inline(never)]
 pub fn push_numbers<S: ByteSource>(
     reader: &mut Reader<'_, S>,
-    format: WholeNumber,
+    format: IntegerKind,
     count: u64,
     found: &mut Vec<Value>,
 ) -> Result<(), DecodeFault>
@@ -50,7 +50,7 @@ pub fn push_numbers<S: ByteSource>(
 }
 
 /// Appends the numbers that the bytes hold.
-fn push_block(format: WholeNumber, bytes: &[u8], found: &mut Vec<Value>) -> Result<(), AllocError>
+fn push_block(format: IntegerKind, bytes: &[u8], found: &mut Vec<Value>) -> Result<(), AllocError>
     ensures { (n : ℕ) → length bytes.now ≡ n * whole_len format
         → OnOk result (map tree_of found.new.items ≡ map tree_of found.old.items ++ numbers format n bytes.now) }
 {
@@ -64,12 +64,12 @@ fn push_block(format: WholeNumber, bytes: &[u8], found: &mut Vec<Value>) -> Resu
 
 /// The number at the front. `None`: there are fewer bytes than it has.
 #[inline(always)]
-fn front_number(format: WholeNumber, bytes: &[u8]) -> Option<Value>
+fn front_number(format: IntegerKind, bytes: &[u8]) -> Option<Value>
     ensures found { IfSome result (λ v. (whole_len format ≤ length bytes.now) × (tree_of v ≡ number_of format (take (whole_len format) bytes.now))) }
     ensures none { result ≡ None → length bytes.now < whole_len format }
 {
     match format {
-        WholeNumber::Unsigned(width) => Some(Value::Unsigned(front_unsigned(width, bytes)?)),
-        WholeNumber::Signed(width) => Some(Value::Signed(front_signed(width, bytes)?)),
+        IntegerKind::Unsigned(width) => Some(Value::Unsigned(leading_unsigned(width, bytes)?)),
+        IntegerKind::Signed(width) => Some(Value::Signed(leading_signed(width, bytes)?)),
     }
 }

@@ -1,6 +1,6 @@
 //! What a value is read with.
 
-use crate::at::At;
+use crate::progress::Progress;
 use bcs_registry::Registry;
 use std::alloc::Global;
 
@@ -10,5 +10,5 @@ pub struct Reader<'a, S> {
     pub alloc: Global,
     pub registry: &'a Registry,
     pub source: &'a mut S,
-    pub at: &'a mut At,
+    pub at: &'a mut Progress,
 }

@@ -20,7 +20,7 @@ use bcs_decode_slice::named_container::named_container;
 use bcs_decode_spec::DecodeFault;
 use bcs_io::ByteSource;
 use bcs_registry::{Container, Format};
-use bcs_registry_model::WholeNumber;
+use bcs_registry_model::IntegerKind;
 use bcs_value::Value;
 use bcs_value_model::slot::keep;
 
@@ -60,7 +60,7 @@ fn row<S: ByteSource>(
     requires reserved { vec_capacity found.old ≡ room_for reader.old count }
     ensures reads { Reads S.content S.is_failed S.allowance (λ _. items_trees found.new.items) result reader.old (row_leaf (read reader.old.registry.now depth (shape_of element.now)) count) reader.new }
 {
-    if let Some(format) = WholeNumber::of(element) {
+    if let Some(format) = IntegerKind::of(element) {
         return push_numbers(reader, format, count, found);
     }
     if count == 0 {

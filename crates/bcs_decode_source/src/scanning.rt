@@ -2,12 +2,12 @@
 //! so that each level of a format takes little of the stack: 384 bytes where maps nest as keys, and less elsewhere.
 mod blocks;
 mod containers;
+mod integers;
 mod leaves;
 mod maps;
 mod rows;
 mod texts;
 mod valid;
 mod values;
-mod whole_row;
 
 pub use values::value;

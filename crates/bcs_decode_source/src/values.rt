@@ -2,7 +2,7 @@
 ghost use Rattle.bcs_registry_model.specs.View.{shape_of};
 ghost use Rattle.bcs_value_model.specs.View.{tree_of};
 ghost use Rattle.bcs_decode_spec.specs.Reading.{building};
-ghost use Rattle.bcs_decode_source.specs.Sees.{Spares, takes_no_memory, read, option_node};
+ghost use Rattle.bcs_decode_source.specs.Sees.{OutOfMemoryIfAllocating, takes_no_memory, read, option_node};
 ghost use Rattle.bcs_decode_source.specs.Reads.{Ready, Reads};
 
 use crate::containers::named;
@@ -30,7 +30,7 @@ pub fn value<S: ByteSource>(
 ) -> Result<(), DecodeFault>
     requires ready { Ready S.is_failed S.allowance reader.old }
     ensures reads { Reads S.content S.is_failed S.allowance (λ _. tree_of slot.new) result reader.old (read reader.old.registry.now depth (shape_of format.now)) reader.new }
-    ensures spares { Spares (takes_no_memory (shape_of format.now)) result reader.old.at.now }
+    ensures memory { OutOfMemoryIfAllocating (takes_no_memory (shape_of format.now)) result reader.old.at.now }
 {
     match format.kind() {
         Kind::TypeName(name) => named(reader, name, depth, slot),

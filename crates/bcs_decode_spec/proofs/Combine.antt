@@ -1,12 +1,5 @@
 -- Exact parsers, one after another.
-use Rattle.std.proofs.Common.{◌≡◌, ℕ, zero, suc, ◌+◌, ◌<◌, List, [], ◌∷◌, ◌++◌, length, Ok, Err, refl, sym, ap, subst, ◌∙◌, append_assoc, arith, inl, inr, ◌⊎◌}
-use Rattle.std.proofs.lemmas.List.{length-append}
-use Rattle.std.proofs.lemmas.List.Elements.{All-tail}
-use Rattle.bcs_decode_spec.specs.declared.reason.Reason.{Reason}
-use Rattle.bcs_decode_spec.specs.declared.reason.Reason.TheVariants.{TooManyNodes}
-use Rattle.bcs_decode_spec.specs.Reading.{Read, Parser, follow, chain, give, fail, fail_here, node}
-use Rattle.bcs_decode_spec.specs.Stopping.{Stopping, NodeStop, FailStop}
-use Rattle.bcs_decode_spec.specs.Exact.{AreBytes, Reads, Exact}
+use Rattle.bcs_decode_spec.proofs.Prelude.{◌≡◌, ℕ, zero, suc, ◌+◌, ◌<◌, List, [], ◌∷◌, ◌++◌, length, Ok, Err, refl, sym, ap, subst, ◌∙◌, append_assoc, arith, inl, inr, ◌⊎◌, length-append, All-tail, Reason, TooManyNodes, Read, Parser, follow, chain, give, fail, fail_here, node, Stopping, NodeStop, FailStop, AreBytes, Reads, Exact}
 
 abbrev pub done : {A : Type 0} → A → ℕ → ℕ → List ℕ → Read A
 done x p m b = Ok (x, p, m, b)

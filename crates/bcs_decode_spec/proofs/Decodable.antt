@@ -1,17 +1,5 @@
 -- What a decodable value's parts are, and what parts make one.
-use Rattle.std.proofs.Common.{◌≡◌, ℕ, max, ◌≤◌, Bool, true, false, ◌&&◌, List, Option, Some, None, refl, arith}
-use Rattle.std.proofs.lemmas.Bool.{and_parts, and_from}
-use Rattle.std.proofs.Math.Nat.{max-le, le-max_left, le-max_right}
-use Rattle.bcs_registry_model.specs.Shape.{Shape, Shapes, shape}
-use Rattle.bcs_registry_model.specs.Container.{Entries, Content, of}
-use Rattle.bcs_value_model.specs.Tree.{Tree, Trees, no_trees, tree, Pairs, no_pairs, pair, depth, trees_depth, pairs_depth}
-use Rattle.bcs_value_model.specs.Fits.{fits, all_fit, each_fits, pairs_fit}
-use Rattle.bcs_encode_spec.specs.Plain.{plain}
-use Rattle.bcs_encode_spec.specs.Canonical.{IsCanonical, AllCanonical, EachCanonical, PairsCanonical, Rises, RisesFrom}
-use Rattle.bcs_encode_spec.specs.Lengths.{length_limit, lengths_hold, all_hold, each_holds, pairs_hold}
-use Rattle.bcs_encode_spec.proofs.SoundForms.{canonical_distinct}
-use Rattle.bcs_decode_spec.specs.Accepting.{IsDecodable}
-use Rattle.bcs_decode_spec.specs.Stopping.{AllAre, AllRise, Follows}
+use Rattle.bcs_decode_spec.proofs.Prelude.{◌≡◌, ℕ, max, ◌≤◌, Bool, true, false, ◌&&◌, List, Option, Some, None, refl, arith, and_parts, and_from, max-le, le-max_left, le-max_right, Shape, Shapes, shape, Entries, Content, of, Tree, Trees, no_trees, tree, Pairs, no_pairs, pair, depth, trees_depth, pairs_depth, fits, all_fit, each_fits, pairs_fit, plain, IsCanonical, AllCanonical, EachCanonical, PairsCanonical, Rises, RisesFrom, length_limit, lengths_hold, all_hold, each_holds, pairs_hold, canonical_distinct, IsDecodable, AllAre, AllRise, Follows}
 
 module _ (registry : Entries) (d : ℕ) where
   pub decodable : (f : Content) (t : Tree) → fits false registry t f ≡ true → IsCanonical registry t f → depth t ≤ d

@@ -1,19 +1,5 @@
 -- What is accepted is what is encoded.
-use Rattle.std.proofs.Common.{ℕ, List, length, sym, subst, ◌∙◌, arith}
-use Rattle.std.proofs.lemmas.List.{take_all}
-use Rattle.bcs_registry_model.specs.Container.{Entries, of}
-use Rattle.bcs_registry_model.specs.Shape.{Shape}
-use Rattle.bcs_value_model.specs.Tree.{Tree}
-use Rattle.bcs_value_model.specs.Limits.{Bounds}
-use Rattle.bcs_value_model.specs.Same.{Same}
-use Rattle.bcs_value_model.proofs.Equivalence.{same-refl}
-use Rattle.bcs_encode_spec.proofs.FormLaws.{has_one_form}
-use Rattle.bcs_encode_spec.specs.Sound.{IsSoundAt}
-use Rattle.bcs_decode_spec.specs.Accepting.{Accepts, IsDecoded}
-use Rattle.bcs_decode_spec.specs.Stopping.{StopsAll}
-use Rattle.bcs_decode_spec.specs.declared.reason.Reason.{Reason}
-use Rattle.bcs_encode_spec.specs.Encodes.{Encodes}
-use Rattle.bcs_decode_spec.specs.Laws.{AcceptedIsEncoded, EncodedIsAccepted, ExactDecoding}
+use Rattle.bcs_decode_spec.proofs.Prelude.{ℕ, List, length, sym, subst, ◌∙◌, arith, take_all, Entries, of, Shape, Tree, Bounds, Same, same-refl, has_one_form, IsSoundAt, Accepts, IsDecoded, StopsAll, Reason, Encodes, AcceptedIsEncoded, EncodedIsAccepted, ExactDecoding}
 use Rattle.bcs_decode_spec.proofs.Verdicts.{accepts_once_is, no_two_verdicts_of_all_are}
 
 pub accepted_is_encoded_is : AcceptedIsEncoded

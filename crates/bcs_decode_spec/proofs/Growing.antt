@@ -1,23 +1,6 @@
 -- What grows with a registry: what is accepted stays accepted, and stops stay, but where a variant may have come.
-use Rattle.std.proofs.Common.{◌≡◌, ◌≢◌, ℕ, zero, suc, ◌+◌, true, is_some, List, ◌++◌, length, Option, Some, None, refl, sym, ap, ap₂, subst, ◌∙◌, inl, inr}
-use Rattle.std.specs.Option.{option_map_or}
-use Rattle.std.proofs.lemmas.Bool.{false≢true, and_parts}
-use Rattle.bcs_num.specs.Uleb.{uleb}
+use Rattle.bcs_decode_spec.proofs.Prelude.{◌≡◌, ◌≢◌, ℕ, zero, suc, ◌+◌, true, is_some, List, ◌++◌, length, Option, Some, None, refl, sym, ap, ap₂, subst, ◌∙◌, inl, inr, option_map_or, false≢true, and_parts, uleb, Shape, Shapes, no_shapes, shape, Container, unit_struct, newtype_struct, tuple_struct, field_struct, enumeration, Entries, Content, of, one_of, nothing, Choice, content, container_at, content_at, choice_at, Grows, IsWellFormed, has_few_levels, is_known, are_known, StaysIn, HasChoices, content_at-grows, choice_at-grows, content_at-inside, choice_at-inside, Tree, Trees, no_trees, tree, Pairs, no_pairs, pair, plain, plain_items, plain_pairs, keeps_soundness, keeps_order, keeps_bytes, Reason, UnknownVariant, IsDecodable, Stopping, AfterLength, OptionStop, NodeStop, AllAre, ItemsStop, Follows, AllRise, last_key, Misplaced, EntryStop, PairsStop, ShapeStop, EachStop, ChoiceStop, VariantStop, ContentStop, NamedStop, GrowthKeepsAccepting, GrowthKeepsStops, GrowthKeepsStopsAll}
 use Rattle.bcs_registry_model.specs.Shape as shape
-use Rattle.bcs_registry_model.specs.Shape.{Shape, Shapes, no_shapes, shape}
-use Rattle.bcs_registry_model.specs.Container.{Container, unit_struct, newtype_struct, tuple_struct, field_struct, enumeration, Entries, Content, of, one_of, nothing, Choice, content, container_at, content_at, choice_at}
-use Rattle.bcs_registry_model.specs.Grows.{Grows}
-use Rattle.bcs_registry_model.specs.WellFormed.{IsWellFormed, has_few_levels, is_known, are_known}
-use Rattle.bcs_registry_model.proofs.GrowthLaws.{StaysIn, HasChoices, content_at-grows, choice_at-grows}
-use Rattle.bcs_registry_model.proofs.Admitted.{content_at-inside, choice_at-inside}
-use Rattle.bcs_value_model.specs.Tree.{Tree, Trees, no_trees, tree, Pairs, no_pairs, pair}
-use Rattle.bcs_encode_spec.specs.Plain.{plain, plain_items, plain_pairs}
-use Rattle.bcs_encode_spec.proofs.Growth.{keeps_soundness, keeps_order, keeps_bytes}
-use Rattle.bcs_decode_spec.specs.declared.reason.Reason.{Reason}
-use Rattle.bcs_decode_spec.specs.declared.reason.Reason.TheVariants.{UnknownVariant}
-use Rattle.bcs_decode_spec.specs.Accepting.{IsDecodable}
-use Rattle.bcs_decode_spec.specs.Stopping.{Stopping, AfterLength, OptionStop, NodeStop, AllAre, ItemsStop, Follows, AllRise, last_key, Misplaced, EntryStop, PairsStop, ShapeStop, EachStop, ChoiceStop, VariantStop, ContentStop, NamedStop}
-use Rattle.bcs_decode_spec.specs.Laws.{GrowthKeepsAccepting, GrowthKeepsStops, GrowthKeepsStopsAll}
 
 -- a stop for another reason than that no variant has the number stays
 abbrev pub Keeps : Stopping → Stopping → Type 0

@@ -1,14 +1,5 @@
 -- Elements in a row.
-use Rattle.std.proofs.Common.{◌≡◌, ℕ, zero, suc, ◌+◌, List, [], ◌++◌, length, refl, sym, ap, ap₂, subst, ◌∙◌, append_assoc, arith, inl, inr}
-use Rattle.std.proofs.lemmas.List.{length-append, append-nil}
-use Rattle.bcs_registry_model.specs.Shape.{Shape}
-use Rattle.bcs_registry_model.specs.Container.{Entries, Content, of}
-use Rattle.bcs_value_model.specs.Tree.{Tree, Trees, no_trees, tree, count, nodes, trees_nodes}
-use Rattle.bcs_encode_spec.specs.Plain.{plain, plain_items}
-use Rattle.bcs_decode_spec.specs.declared.reason.Reason.{Reason}
-use Rattle.bcs_decode_spec.specs.Reading.{Parser, items_here, building}
-use Rattle.bcs_decode_spec.specs.Stopping.{Stopping, AllAre, ItemsStop}
-use Rattle.bcs_decode_spec.specs.Exact.{Reads, Exact}
+use Rattle.bcs_decode_spec.proofs.Prelude.{◌≡◌, ℕ, zero, suc, ◌+◌, List, [], ◌++◌, length, refl, sym, ap, ap₂, subst, ◌∙◌, append_assoc, arith, inl, inr, length-append, append-nil, Shape, Entries, Content, of, Tree, Trees, no_trees, tree, count, nodes, trees_nodes, plain, plain_items, Reason, Parser, items_here, building, Stopping, AllAre, ItemsStop, Reads, Exact}
 use Rattle.bcs_decode_spec.proofs.Combine.{exact_give, exact_chain, exact_same, GiveReads, NoStop, ThenReads, ThenStop}
 
 -- what is read of a tree

@@ -1,21 +1,5 @@
 -- A key, as the bytes that were gone past.
-use Rattle.std.proofs.Common.{◌≡◌, ℕ, ◌+◌, ◌-◌, List, [], ◌++◌, length, take, Option, Some, None, Ok, Err, refl, sym, ap, ap₂, subst, ◌∙◌, arith, inl, inr, ◌⊎◌}
-use Rattle.std.specs.Ordering.{nat_cmp, match_ordering}
-use Rattle.std.specs.declared.cmp.Ordering.{Ordering}
-use Rattle.std.specs.declared.cmp.Ordering.TheVariants.{Less, Equal, Greater}
-use Rattle.std.specs.Cmp.Lexicographic.{slice_cmp}
-use Rattle.std.proofs.lemmas.List.{append-nil, take_at}
-use Rattle.bcs_registry_model.specs.Shape.{Shape}
-use Rattle.bcs_registry_model.specs.Container.{Entries, of}
-use Rattle.bcs_value_model.specs.Tree.{Tree, nodes}
-use Rattle.bcs_encode_spec.specs.Plain.{plain}
-use Rattle.bcs_encode_spec.specs.Canonical.{Below}
-use Rattle.bcs_encode_spec.proofs.BelowLaws.{same_equal, below_less, below_greater, less_below, order}
-use Rattle.bcs_decode_spec.specs.declared.reason.Reason.{Reason}
-use Rattle.bcs_decode_spec.specs.declared.reason.Reason.TheVariants.{KeyOrder, KeyRepeated}
-use Rattle.bcs_decode_spec.specs.Reading.{Read, Parser, chain, give, fail, key_after, key_here}
-use Rattle.bcs_decode_spec.specs.Stopping.{Stopping, Follows, Misplaced}
-use Rattle.bcs_decode_spec.specs.Exact.{AreBytes, Reads, Exact}
+use Rattle.bcs_decode_spec.proofs.Prelude.{◌≡◌, ℕ, ◌+◌, ◌-◌, List, [], ◌++◌, length, take, Option, Some, None, Ok, Err, refl, sym, ap, ap₂, subst, ◌∙◌, arith, inl, inr, ◌⊎◌, nat_cmp, match_ordering, Ordering, Less, Equal, Greater, slice_cmp, append-nil, take_at, Shape, Entries, of, Tree, nodes, plain, Below, same_equal, below_less, below_greater, less_below, order, Reason, KeyOrder, KeyRepeated, Read, Parser, chain, give, fail, key_after, key_here, Stopping, Follows, Misplaced, AreBytes, Reads, Exact}
 use Rattle.bcs_decode_spec.proofs.Combine.{exact_give, exact_fail, exact_from, exact_chain, exact_same, GiveReads, NoStop, ThenReads, ThenStop}
 use Rattle.bcs_decode_spec.proofs.Items.{Says}
 

@@ -1,3 +1,4 @@
+pub mod Prelude
 pub mod Combine
 pub mod Decodable
 pub mod Encoded
@@ -10,7 +11,7 @@ pub mod OneValue
 pub mod Pairs
 pub mod Scanned
 pub mod Skipped
-pub mod Steady
+pub mod StableVerdict
 pub mod Values
 pub mod Verdicts
 pub mod WorkedRows

@@ -1,12 +1,6 @@
 -- Containers and variants that were looked up, and how many levels a format in a row has.
-use Rattle.std.proofs.Common.{◌≡◌, ℕ, zero, suc, ◌+◌, ◌<◌, ◌≤◌, List, [], ◌∷◌, length, get_or, map, drop, Option, Some, None, option_map, Bor, refl, sym, ap, ◌∙◌, arith}
-use Rattle.std.proofs.lemmas.List.{drop_more}
+use Rattle.bcs_decode_spec.proofs.Prelude.{◌≡◌, ℕ, zero, suc, ◌+◌, ◌<◌, ◌≤◌, List, [], ◌∷◌, length, get_or, map, drop, Option, Some, None, option_map, Bor, refl, sym, ap, ◌∙◌, arith, drop_more, Entries, nothing, content, container_at, content_at, field_shapes, shape_of, formats_shapes, field_of, container_of, levels, shapes_levels, Named, Format}
 use Rattle.bcs_registry_model.specs.Shape as shape
-use Rattle.bcs_registry_model.specs.Container.{Entries, nothing, content, container_at, content_at, field_shapes}
-use Rattle.bcs_registry_model.specs.View.{shape_of, formats_shapes, field_of, container_of}
-use Rattle.bcs_registry_model.specs.WellFormed.{levels, shapes_levels}
-use Rattle.bcs_registry_model.specs.declared.named.Named.{Named}
-use Rattle.bcs_registry_model.specs.declared.format.Format.{Format}
 use Rattle.bcs_registry_model.specs.declared.container.Container as declared
 pub use Rattle.bcs_value_model.proofs.WalkViews.{choice-found as choice_found, choice-missing as choice_missing}
 

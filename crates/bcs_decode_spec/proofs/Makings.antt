@@ -1,15 +1,6 @@
 -- Exact parsers of one value: what is made of what was read.
-use Rattle.std.proofs.Common.{◌≡◌, ℕ, ◌+◌, ◌≤◌, Bool, true, false, if◌then◌else◌, List, [], ◌∷◌, ◌++◌, length, refl, sym, ap, ap₂, subst, ◌∙◌, arith, inl, inr, ◌⊎◌}
-use Rattle.std.proofs.lemmas.List.{append-nil}
-use Rattle.bcs_num.specs.Uleb.{uleb}
+use Rattle.bcs_decode_spec.proofs.Prelude.{◌≡◌, ℕ, ◌+◌, ◌≤◌, Bool, true, false, if◌then◌else◌, List, [], ◌∷◌, ◌++◌, length, refl, sym, ap, ap₂, subst, ◌∙◌, arith, inl, inr, ◌⊎◌, append-nil, uleb, Tree, length_limit, Reason, BadOption, Parser, chain, give, length_here, option_here, building, Stopping, LengthStop, AfterLength, FlagStop, OptionStop, Reads, Exact}
 use Rattle.bcs_value_model.specs.Tree as tree
-use Rattle.bcs_value_model.specs.Tree.{Tree}
-use Rattle.bcs_encode_spec.specs.Lengths.{length_limit}
-use Rattle.bcs_decode_spec.specs.declared.reason.Reason.{Reason}
-use Rattle.bcs_decode_spec.specs.declared.reason.Reason.TheVariants.{BadOption}
-use Rattle.bcs_decode_spec.specs.Reading.{Parser, chain, give, length_here, option_here, building}
-use Rattle.bcs_decode_spec.specs.Stopping.{Stopping, LengthStop, AfterLength, FlagStop, OptionStop}
-use Rattle.bcs_decode_spec.specs.Exact.{Reads, Exact}
 use Rattle.bcs_decode_spec.proofs.Combine.{exact_give, exact_chain, exact_same, GiveReads, NoStop, ThenReads, ThenStop}
 use Rattle.bcs_decode_spec.proofs.Numbers.{LengthReads, exact_length, FlagReads, exact_flag}
 use Rattle.bcs_decode_spec.proofs.Items.{moved}

@@ -1,26 +1,7 @@
 -- Numbers, lengths, byte strings, texts and flags.
-use Rattle.std.proofs.Common.{◌≡◌, ℕ, suc, ◌+◌, ◌-◌, ◌<◌, ◌≤◌, ◌^◌, ◌==◌, nat_lt, Bool, true, false, if◌then◌else◌, ℤ, List, [], ◌∷◌, ◌++◌, length, take, drop, Result, Ok, Err, refl, sym, ap, ap₂, subst, ◌∙◌, arith, inl, inr}
-use Rattle.std.proofs.lemmas.Bool.{and_parts, and_from, cases_lt, cases_Bool, cases_eq, le-ltb, lt-ltb, ltb-true}
-use Rattle.std.proofs.lemmas.List.{length-append, take-append-drop, length-take, take_at, drop_at, append-nil}
-use Rattle.std.proofs.lemmas.List.Elements.{All-nil, All-cons, All-head, All-tail}
-use Rattle.std.specs.Int.{Width, byte_len, from_le_bytes}
-use Rattle.std.specs.Str.{is_utf8}
-use Rattle.std.specs.Str.Lossy.{utf8_valid_len}
-use Rattle.bcs_num.specs.declared.fault.NumFault.{NumFault}
+use Rattle.bcs_decode_spec.proofs.Prelude.{◌≡◌, ℕ, suc, ◌+◌, ◌-◌, ◌<◌, ◌≤◌, ◌^◌, ◌==◌, nat_lt, Bool, true, false, if◌then◌else◌, ℤ, List, [], ◌∷◌, ◌++◌, length, take, drop, Result, Ok, Err, refl, sym, ap, ap₂, subst, ◌∙◌, arith, inl, inr, and_parts, and_from, cases_lt, cases_Bool, cases_eq, le-ltb, lt-ltb, ltb-true, length-append, take-append-drop, length-take, take_at, drop_at, append-nil, All-nil, All-cons, All-head, All-tail, Width, byte_len, from_le_bytes, is_utf8, utf8_valid_len, NumFault, uleb, IsUnsigned, IsSigned, le, le_signed, unsigned_read, unsigned_written, signed_number, signed_read, signed_written, number_from, number_at, number_at_number, number_at_fault, number_at_is_number, number_at_is_fault, are_bytes, length_limit, truth_byte, Reason, EndOfInput, LongForm, NumberTooLarge, LengthTooLarge, BadUtf8, Parser, chain, give, fail, shifted, uleb_from, number_read, number_here, length_here, bytes_here, text_here, flag_here, unsigned_here, signed_here, Stopping, NumberStop, LengthStop, BytesStop, TextStop, FlagStop, AreBytes, Reads, Exact}
 use Rattle.bcs_num.specs.declared.fault.NumFault.TheVariants as num
-use Rattle.bcs_num.specs.Uleb.{uleb}
-use Rattle.bcs_num.specs.Le.{IsUnsigned, IsSigned, le, le_signed}
-use Rattle.bcs_num.proofs.LeReading.{unsigned_read, unsigned_written, signed_number, signed_read, signed_written}
 use Rattle.bcs_num.proofs.UlebReading as reading
-use Rattle.bcs_num.proofs.UlebReading.{number_from, number_at, number_at_number, number_at_fault, number_at_is_number, number_at_is_fault}
-use Rattle.bcs_value_model.specs.Fits.{are_bytes}
-use Rattle.bcs_encode_spec.specs.Lengths.{length_limit}
-use Rattle.bcs_encode_spec.specs.Plain.{truth_byte}
-use Rattle.bcs_decode_spec.specs.declared.reason.Reason.{Reason}
-use Rattle.bcs_decode_spec.specs.declared.reason.Reason.TheVariants.{EndOfInput, LongForm, NumberTooLarge, LengthTooLarge, BadUtf8}
-use Rattle.bcs_decode_spec.specs.Reading.{Parser, chain, give, fail, shifted, uleb_from, number_read, number_here, length_here, bytes_here, text_here, flag_here, unsigned_here, signed_here}
-use Rattle.bcs_decode_spec.specs.Stopping.{Stopping, NumberStop, LengthStop, BytesStop, TextStop, FlagStop}
-use Rattle.bcs_decode_spec.specs.Exact.{AreBytes, Reads, Exact}
 use Rattle.bcs_decode_spec.proofs.Combine.{done, halted, parts, fault_parts, exact_give, exact_fail, exact_from, exact_chain, exact_same, GiveReads, NoStop, FailAt, ThenReads, ThenStop}
 
 -- ---- numbers

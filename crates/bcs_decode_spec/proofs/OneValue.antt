@@ -1,26 +1,7 @@
 -- A value of each kind, over exact parsers of its parts.
-use Rattle.std.proofs.Common.{◌≡◌, ℕ, suc, ◌^◌, ◌==◌, nat_le, false, List, ◌∷◌, ◌++◌, length, None, refl, sym, ap, ap₂, subst, ◌∙◌, arith, inl, inr}
-use Rattle.std.proofs.lemmas.Bool.{false≢true, and_parts, and_from, ltb-true, lt-ltb, leb-true, le-leb, eq-eqb}
-use Rattle.bcs_value_model.proofs.Equivalence.{nat-same}
-use Rattle.std.specs.Int.{Width, byte_len}
-use mir.Val.{bits}
-use Rattle.bcs_num.specs.Uleb.{uleb}
-use Rattle.bcs_num.specs.Le.{le}
-use Rattle.bcs_num.proofs.Ranges.{holds_signed-is, is-holds_signed}
+use Rattle.bcs_decode_spec.proofs.Prelude.{◌≡◌, ℕ, suc, ◌^◌, ◌==◌, nat_le, false, List, ◌∷◌, ◌++◌, length, None, refl, sym, ap, ap₂, subst, ◌∙◌, arith, inl, inr, false≢true, and_parts, and_from, ltb-true, lt-ltb, leb-true, le-leb, eq-eqb, nat-same, Width, byte_len, bits, uleb, le, holds_signed-is, is-holds_signed, Shape, shape, Entries, Content, of, Tree, Trees, tree, Pairs, count, pair_count, nodes, trees_nodes, pairs_nodes, all_fit, plain, plain_items, plain_pairs, length_limit, all_hold, pairs_hold, Reason, BadBool, Unsupported, IsDecodable, Parser, chain, give, fail_here, node, length_here, bytes_here, text_here, flag_here, unsigned_here, signed_here, items_here, pairs_here, option_here, building, Stopping, AfterLength, BytesStop, TextStop, FlagStop, FailStop, OptionStop, NodeStop, ItemsStop, PairsStop, AreBytes, Reads, Exact}
 use Rattle.bcs_registry_model.specs.Shape as shape
-use Rattle.bcs_registry_model.specs.Shape.{Shape, shape}
-use Rattle.bcs_registry_model.specs.Container.{Entries, Content, of}
 use Rattle.bcs_value_model.specs.Tree as tree
-use Rattle.bcs_value_model.specs.Tree.{Tree, Trees, tree, Pairs, count, pair_count, nodes, trees_nodes, pairs_nodes}
-use Rattle.bcs_value_model.specs.Fits.{all_fit}
-use Rattle.bcs_encode_spec.specs.Plain.{plain, plain_items, plain_pairs}
-use Rattle.bcs_encode_spec.specs.Lengths.{length_limit, all_hold, pairs_hold}
-use Rattle.bcs_decode_spec.specs.declared.reason.Reason.{Reason}
-use Rattle.bcs_decode_spec.specs.declared.reason.Reason.TheVariants.{BadBool, Unsupported}
-use Rattle.bcs_decode_spec.specs.Accepting.{IsDecodable}
-use Rattle.bcs_decode_spec.specs.Reading.{Parser, chain, give, fail_here, node, length_here, bytes_here, text_here, flag_here, unsigned_here, signed_here, items_here, pairs_here, option_here, building}
-use Rattle.bcs_decode_spec.specs.Stopping.{Stopping, AfterLength, BytesStop, TextStop, FlagStop, FailStop, OptionStop, NodeStop, ItemsStop, PairsStop}
-use Rattle.bcs_decode_spec.specs.Exact.{AreBytes, Reads, Exact}
 use Rattle.bcs_decode_spec.proofs.Combine.{exact_give, exact_fail_here, exact_same, exact_node, GiveReads, NoReads, NoStop}
 use Rattle.bcs_decode_spec.proofs.Numbers.{BytesReads, exact_bytes, ByteReads, exact_of_bytes, bytes_pass, pass_bytes, TextReads, exact_text, FlagReads, exact_flag, UnsignedReads, exact_unsigned, SignedReads, exact_signed}
 use Rattle.bcs_decode_spec.proofs.Items.{Says, ItemsReads, exact_items}

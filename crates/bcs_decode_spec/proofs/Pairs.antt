@@ -1,14 +1,5 @@
 -- Entries in a row, with keys that rise.
-use Rattle.std.proofs.Common.{◌≡◌, ℕ, zero, suc, ◌+◌, List, [], ◌++◌, length, Option, Some, refl, sym, ap, ap₂, subst, ◌∙◌, append_assoc, arith, inl, inr}
-use Rattle.std.proofs.lemmas.List.{length-append, append-nil}
-use Rattle.bcs_registry_model.specs.Shape.{Shape}
-use Rattle.bcs_registry_model.specs.Container.{Entries, of}
-use Rattle.bcs_value_model.specs.Tree.{Tree, Pairs, no_pairs, pair, pair_count, nodes, pairs_nodes}
-use Rattle.bcs_encode_spec.specs.Plain.{plain, plain_pairs}
-use Rattle.bcs_decode_spec.specs.declared.reason.Reason.{Reason}
-use Rattle.bcs_decode_spec.specs.Reading.{Parser, pairs_here, building}
-use Rattle.bcs_decode_spec.specs.Stopping.{Stopping, AllRise, last_key, EntryStop, PairsStop}
-use Rattle.bcs_decode_spec.specs.Exact.{Reads, Exact}
+use Rattle.bcs_decode_spec.proofs.Prelude.{◌≡◌, ℕ, zero, suc, ◌+◌, List, [], ◌++◌, length, Option, Some, refl, sym, ap, ap₂, subst, ◌∙◌, append_assoc, arith, inl, inr, length-append, append-nil, Shape, Entries, of, Tree, Pairs, no_pairs, pair, pair_count, nodes, pairs_nodes, plain, plain_pairs, Reason, Parser, pairs_here, building, Stopping, AllRise, last_key, EntryStop, PairsStop, Reads, Exact}
 use Rattle.bcs_decode_spec.proofs.Combine.{exact_give, exact_chain, exact_same, GiveReads, NoStop, ThenReads, ThenStop}
 use Rattle.bcs_decode_spec.proofs.Items.{Says, moved}
 use Rattle.bcs_decode_spec.proofs.Keys.{KeyReads, KeyStop, exact_key}

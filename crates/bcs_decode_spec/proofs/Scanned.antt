@@ -1,13 +1,5 @@
 -- What was gone past is the one verdict.
-use Rattle.std.proofs.Common.{◌≡◌, ℕ, ◌-◌, List, drop, Ok, Err, sym, ◌∙◌}
-use Rattle.bcs_registry_model.specs.Shape.{Shape}
-use Rattle.bcs_registry_model.specs.Container.{Entries}
-use Rattle.bcs_value_model.specs.Tree.{Tree, nodes}
-use Rattle.bcs_value_model.specs.Limits.{Bounds}
-use Rattle.bcs_decode_spec.specs.declared.reason.Reason.{Reason}
-use Rattle.bcs_decode_spec.specs.Accepting.{Accepts}
-use Rattle.bcs_decode_spec.specs.Reading.{skip_value}
-use Rattle.bcs_decode_spec.specs.Stopping.{Stops}
+use Rattle.bcs_decode_spec.proofs.Prelude.{◌≡◌, ℕ, ◌-◌, List, drop, Ok, Err, sym, ◌∙◌, Shape, Entries, Tree, nodes, Bounds, Reason, Accepts, skip_value, Stops}
 use Rattle.bcs_decode_spec.proofs.Combine.{parts, fault_parts}
 use Rattle.bcs_decode_spec.proofs.Verdicts.{accepts_skips, stops_skips}
 

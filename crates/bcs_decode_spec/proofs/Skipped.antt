@@ -1,12 +1,6 @@
 -- Reading is the same whatever is made of what is read: one homomorphism, from the tree to nothing among others.
-use Rattle.std.proofs.Common.{◌≡◌, ℕ, zero, suc, ◌-◌, Bool, true, false, if◌then◌else◌, ℤ, List, take, Option, Some, None, Ok, Err, refl, sym, ap, ◌∙◌}
+use Rattle.bcs_decode_spec.proofs.Prelude.{◌≡◌, ℕ, zero, suc, ◌-◌, Bool, true, false, if◌then◌else◌, ℤ, List, take, Option, Some, None, Ok, Err, refl, sym, ap, ◌∙◌, Shape, Shapes, no_shapes, shape, Entries, Content, of, one_of, nothing, Choice, content_at, choice_at, Bounds, Reason, BadBool, BadOption, Unsupported, Read, Parser, follow, chain, give, fail, fail_here, node, number_here, length_here, bytes_here, text_here, flag_here, unsigned_here, signed_here, key_after, key_here, Making, items_here, pairs_here, option_here, shape_here, each_here, choice_here, variant_here, content_here, named_here, value_here, building, skipping, read_value, skip_value}
 use Rattle.bcs_registry_model.specs.Shape as shape
-use Rattle.bcs_registry_model.specs.Shape.{Shape, Shapes, no_shapes, shape}
-use Rattle.bcs_registry_model.specs.Container.{Entries, Content, of, one_of, nothing, Choice, content_at, choice_at}
-use Rattle.bcs_value_model.specs.Limits.{Bounds}
-use Rattle.bcs_decode_spec.specs.declared.reason.Reason.{Reason}
-use Rattle.bcs_decode_spec.specs.declared.reason.Reason.TheVariants.{BadBool, BadOption, Unsupported}
-use Rattle.bcs_decode_spec.specs.Reading.{Read, Parser, follow, chain, give, fail, fail_here, node, number_here, length_here, bytes_here, text_here, flag_here, unsigned_here, signed_here, key_after, key_here, Making, items_here, pairs_here, option_here, shape_here, each_here, choice_here, variant_here, content_here, named_here, value_here, building, skipping, read_value, skip_value}
 
 abbrev pub mapped : {A B : Type 0} → (A → B) → Read A → Read B
 mapped f (Ok x) = Ok (f x.0, x.1, x.2, x.3)

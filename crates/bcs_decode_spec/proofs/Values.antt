@@ -1,21 +1,7 @@
 -- A value of a format is read exactly where bytes begin with one, and stops exactly where they stop.
-use Rattle.std.proofs.Common.{◌≡◌, ℕ, zero, suc, ◌+◌, ◌^◌, false, List, ◌++◌, length, Option, Some, None, refl, sym, ap, ap₂, subst, ◌∙◌, arith, inl, inr}
-use Rattle.std.proofs.lemmas.Bool.{false≢true, and_from, lt-ltb}
-use Rattle.bcs_num.specs.Uleb.{uleb}
+use Rattle.bcs_decode_spec.proofs.Prelude.{◌≡◌, ℕ, zero, suc, ◌+◌, ◌^◌, false, List, ◌++◌, length, Option, Some, None, refl, sym, ap, ap₂, subst, ◌∙◌, arith, inl, inr, false≢true, and_from, lt-ltb, uleb, Shape, Shapes, no_shapes, shape, Entries, Content, of, one_of, nothing, Choice, Payload, content_at, choice_at, choice_numbered, payload_shape, option_map_or, Tree, Trees, no_trees, tree, nodes, trees_nodes, number_fits, payload_fits, plain, plain_each, Reason, TooDeep, UnknownVariant, Unsupported, IsDecodable, Parser, chain, give, node, shape_here, each_here, choice_here, variant_here, content_here, named_here, value_here, building, Stopping, NumberStop, NodeStop, ShapeStop, EachStop, ChoiceStop, VariantStop, ContentStop, NamedStop, Reads, Exact}
 use Rattle.bcs_registry_model.specs.Shape as shape
-use Rattle.bcs_registry_model.specs.Shape.{Shape, Shapes, no_shapes, shape}
-use Rattle.bcs_registry_model.specs.Container.{Entries, Content, of, one_of, nothing, Choice, Payload, content_at, choice_at, choice_numbered, payload_shape}
-use Rattle.std.specs.Option.{option_map_or}
 use Rattle.bcs_value_model.specs.Tree as tree
-use Rattle.bcs_value_model.specs.Tree.{Tree, Trees, no_trees, tree, nodes, trees_nodes}
-use Rattle.bcs_value_model.proofs.VariantFits.{number_fits, payload_fits}
-use Rattle.bcs_encode_spec.specs.Plain.{plain, plain_each}
-use Rattle.bcs_decode_spec.specs.declared.reason.Reason.{Reason}
-use Rattle.bcs_decode_spec.specs.declared.reason.Reason.TheVariants.{TooDeep, UnknownVariant, Unsupported}
-use Rattle.bcs_decode_spec.specs.Accepting.{IsDecodable}
-use Rattle.bcs_decode_spec.specs.Reading.{Parser, chain, give, node, shape_here, each_here, choice_here, variant_here, content_here, named_here, value_here, building}
-use Rattle.bcs_decode_spec.specs.Stopping.{Stopping, NumberStop, NodeStop, ShapeStop, EachStop, ChoiceStop, VariantStop, ContentStop, NamedStop}
-use Rattle.bcs_decode_spec.specs.Exact.{Reads, Exact}
 use Rattle.bcs_decode_spec.proofs.Combine.{exact_give, exact_fail, exact_fail_here, exact_chain, exact_from, exact_same, GiveReads, ThenReads, ThenStop}
 use Rattle.bcs_decode_spec.proofs.Numbers.{NumberReads, exact_number}
 use Rattle.bcs_decode_spec.proofs.Items.{moved}

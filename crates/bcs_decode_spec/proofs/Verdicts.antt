@@ -1,19 +1,5 @@
 -- One verdict for every input.
-use Rattle.std.proofs.Common.{◌≡◌, ℕ, ◌+◌, ◌-◌, List, ◌++◌, length, take, drop, Ok, Err, refl, sym, ap, subst, ◌∙◌, arith, inl, inr, ◌⊎◌}
-use Rattle.std.proofs.lemmas.Bool.{cases_lt}
-use Rattle.std.proofs.lemmas.List.{length-append, length-take, take-append-drop, take_at}
-use Rattle.bcs_registry_model.specs.Shape.{Shape}
-use Rattle.bcs_registry_model.specs.Container.{Entries, of}
-use Rattle.bcs_value_model.specs.Tree.{Tree, nodes}
-use Rattle.bcs_value_model.specs.Limits.{Bounds}
-use Rattle.bcs_encode_spec.specs.Plain.{plain}
-use Rattle.bcs_decode_spec.specs.declared.reason.Reason.{Reason}
-use Rattle.bcs_decode_spec.specs.declared.reason.Reason.TheVariants.{TrailingBytes}
-use Rattle.bcs_decode_spec.specs.Accepting.{Accepts}
-use Rattle.bcs_decode_spec.specs.Reading.{Read, read_value, skip_value}
-use Rattle.bcs_decode_spec.specs.Stopping.{Stops, StopsAll}
-use Rattle.bcs_decode_spec.specs.Exact.{AreBytes}
-use Rattle.bcs_decode_spec.specs.Laws.{SomeVerdict, NoTwoVerdicts, AcceptsOnce, StopsOnce, SomeVerdictOfAll, NoTwoVerdictsOfAll, StopsAllOnce}
+use Rattle.bcs_decode_spec.proofs.Prelude.{◌≡◌, ℕ, ◌+◌, ◌-◌, List, ◌++◌, length, take, drop, Ok, Err, refl, sym, ap, subst, ◌∙◌, arith, inl, inr, ◌⊎◌, cases_lt, length-append, length-take, take-append-drop, take_at, Shape, Entries, of, Tree, nodes, Bounds, plain, Reason, TrailingBytes, Accepts, Read, read_value, skip_value, Stops, StopsAll, AreBytes, SomeVerdict, NoTwoVerdicts, AcceptsOnce, StopsOnce, SomeVerdictOfAll, NoTwoVerdictsOfAll, StopsAllOnce}
 use Rattle.bcs_decode_spec.proofs.Combine.{parts, fault_parts}
 use Rattle.bcs_decode_spec.proofs.Decodable.{decodable}
 use Rattle.bcs_decode_spec.proofs.Skipped.{mapped, forget, skip_is_read}

@@ -1,12 +1,6 @@
 -- What the definitions say of some inputs, by computation.
-use Rattle.std.proofs.Common.{◌≡◌, ℕ, List, [], ◌∷◌, codes, Ok, Err, refl}
-use Rattle.std.specs.Int.{w8, w16}
+use Rattle.bcs_decode_spec.proofs.Prelude.{◌≡◌, ℕ, List, [], ◌∷◌, codes, Ok, Err, refl, w8, w16, Shape, Entries, unit, newtype, newtype_struct, field_struct, enumeration, Bounds, EndOfInput, BadBool, BadOption, LongForm, NumberTooLarge, LengthTooLarge, UnknownVariant, KeyOrder, KeyRepeated, TooDeep, TooManyNodes, Read, skip_value, value_here, shape_here, each_here, named_here, node, chain, give, fail, fail_here, number_here, length_here, bytes_here, flag_here, unsigned_here, key_after, key_here, items_here, pairs_here, option_here, choice_here, variant_here, content_here}
 use Rattle.bcs_registry_model.specs.Shape as shape
-use Rattle.bcs_registry_model.specs.Shape.{Shape}
-use Rattle.bcs_registry_model.specs.Container.{Entries, unit, newtype, newtype_struct, field_struct, enumeration}
-use Rattle.bcs_value_model.specs.Limits.{Bounds}
-use Rattle.bcs_decode_spec.specs.declared.reason.Reason.TheVariants.{EndOfInput, BadBool, BadOption, LongForm, NumberTooLarge, LengthTooLarge, UnknownVariant, KeyOrder, KeyRepeated, TooDeep, TooManyNodes}
-use Rattle.bcs_decode_spec.specs.Reading.{Read, skip_value, value_here, shape_here, each_here, named_here, node, chain, give, fail, fail_here, number_here, length_here, bytes_here, flag_here, unsigned_here, key_after, key_here, items_here, pairs_here, option_here, choice_here, variant_here, content_here}
 
 abbrev of_limits : ℕ → ℕ → Bounds
 of_limits containers nodes = record { depth = containers; nodes = nodes }

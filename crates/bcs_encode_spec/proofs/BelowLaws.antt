@@ -1,13 +1,5 @@
 -- `Below` is a strict order in which any two lists are ranked, and std's comparison of byte slices tells it.
-use Rattle.std.proofs.Common.{◌≡◌, ℕ, ◌<◌, true, false, List, [], ◌∷◌, refl, sym, ap, ap₂, ◌∙◌, arith, inl, inr, ◌⊎◌}
-use Rattle.std.specs.Prelude.{◌↔◌, IsTrue}
-use Rattle.std.specs.Ordering.{nat_cmp, is_lt}
-use Rattle.std.specs.declared.cmp.Ordering.{Ordering}
-use Rattle.std.specs.declared.cmp.Ordering.TheVariants.{Less, Equal, Greater}
-use Rattle.std.specs.Cmp.Lexicographic.{slice_cmp}
-use Rattle.std.proofs.lemmas.Bool.{false≢true, cases_order, lt-ltb, le-ltb, eq-eqb}
-use Rattle.std.proofs.lemmas.Bool.Decides.{nat_tests}
-use Rattle.bcs_encode_spec.specs.Canonical.{Below}
+use Rattle.bcs_encode_spec.proofs.Prelude.{◌≡◌, ℕ, ◌<◌, true, false, List, [], ◌∷◌, refl, sym, ap, ap₂, ◌∙◌, arith, inl, inr, ◌⊎◌, ◌↔◌, IsTrue, nat_cmp, is_lt, Ordering, Less, Equal, Greater, slice_cmp, false≢true, cases_order, lt-ltb, le-ltb, eq-eqb, nat_tests, Below}
 
 pub Below-irrefl : (a : List ℕ) → Below a a → ⊥
 Below-irrefl [] h = h

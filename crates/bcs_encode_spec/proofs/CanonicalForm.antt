@@ -1,15 +1,8 @@
 -- The canonical form of a tree as a function, by which proofs compute: `IsForm` says what it is, and
 -- `one_canonical_form` that it alone is one.
-use Rattle.std.specs.Ordering.{nat_cmp}
-use Rattle.std.specs.Cmp.Lexicographic.{slice_cmp}
-use Rattle.std.specs.declared.cmp.Ordering.{Ordering}
-use Rattle.std.specs.declared.cmp.Ordering.TheVariants.{Less, Equal, Greater}
+use Rattle.bcs_encode_spec.proofs.Prelude.{nat_cmp, slice_cmp, Ordering, Less, Equal, Greater, Shape, Shapes, no_shapes, shape, Entries, Content, of, one_of, content_at, choice_at, Tree, Trees, no_trees, tree, Pairs, no_pairs, pair, plain}
 use Rattle.bcs_registry_model.specs.Shape as shape
-use Rattle.bcs_registry_model.specs.Shape.{Shape, Shapes, no_shapes, shape}
-use Rattle.bcs_registry_model.specs.Container.{Entries, Content, of, one_of, content_at, choice_at}
 use Rattle.bcs_value_model.specs.Tree as tree
-use Rattle.bcs_value_model.specs.Tree.{Tree, Trees, no_trees, tree, Pairs, no_pairs, pair}
-use Rattle.bcs_encode_spec.specs.Plain.{plain}
 
 -- the pair (k, v) before all others, or the pair (l, w) and then the rest, by how the two keys compare
 abbrev pub place : Ordering → Tree → Tree → Tree → Tree → Pairs → Pairs → Pairs

@@ -1,15 +1,5 @@
 -- Lists of entries in the order of their keys' bytes, whatever stands at the keys.
-use Rattle.std.proofs.Common.{◌≡◌, ℕ, ◌+◌, ◌≤◌, true, cond, List, [], ◌∷◌, refl, sym, ap₂, subst, ◌∙◌, arith, inl, inr, ◌⊎◌}
-use Rattle.std.specs.List.{All, sum_by}
-use Rattle.std.specs.List.Sorted.{IsPermutation}
-use Rattle.std.specs.Str.{bytes_eq}
-use Rattle.std.proofs.lemmas.Bool.{cases_Bool}
-use Rattle.std.proofs.lemmas.List.Elements.{All-nil, All-cons, All-head, All-tail, All-weaker}
-use Rattle.std.proofs.lemmas.List.Sorted.{All-permutation, sum_by-IsPermutation}
-use Rattle.std.proofs.lemmas.List.Sums.{sum_by-cons}
-use Rattle.bcs_value_model.proofs.Equivalence.{bytes-same, bytes-refl}
-use Rattle.bcs_encode_spec.specs.Canonical.{Below}
-use Rattle.bcs_encode_spec.specs.Entries.{Keyed, EntriesRiseFrom, EntriesRise, HasTwins}
+use Rattle.bcs_encode_spec.proofs.Prelude.{◌≡◌, ℕ, ◌+◌, ◌≤◌, true, cond, List, [], ◌∷◌, refl, sym, ap₂, subst, ◌∙◌, arith, inl, inr, ◌⊎◌, All, sum_by, IsPermutation, bytes_eq, cases_Bool, All-nil, All-cons, All-head, All-tail, All-weaker, All-permutation, sum_by-IsPermutation, sum_by-cons, bytes-same, bytes-refl, Below, Keyed, EntriesRiseFrom, EntriesRise, HasEqualNeighbours}
 use Rattle.bcs_encode_spec.proofs.BelowLaws.{Below-irrefl, Below-trans}
 
 module _ {V : Type 0} where
@@ -55,18 +45,18 @@ module _ {V : Type 0} where
             omega arith)
       ]
 
-  pub twins_twice : (es : List (Keyed V)) → HasTwins es → Once es → ⊥
+  pub equal_neighbours_twice : (es : List (Keyed V)) → HasEqualNeighbours es → Once es → ⊥
   unfolding Once
-  twins_twice [] h g = h
-  twins_twice (e ∷ []) h g = h
-  twins_twice (e ∷ d ∷ es) (inl is) g =
+  equal_neighbours_twice [] h g = h
+  equal_neighbours_twice (e ∷ []) h g = h
+  equal_neighbours_twice (e ∷ d ∷ es) (inl is) g =
       let c : sum_by (one e.0) (e ∷ d ∷ es) ≡ one e.0 e + sum_by (one e.0) (d ∷ es) = sum_by-cons (one e.0) e (d ∷ es) in
       let f : sum_by (one e.0) (d ∷ es) ≡ one e.0 d + sum_by (one e.0) es = sum_by-cons (one e.0) d es in
       let p : one e.0 e ≡ 1 = one_same e.0 e.0 e.1 refl in
       let q : one e.0 d ≡ 1 = one_same e.0 d.0 d.1 is in
       let k : sum_by (one e.0) (e ∷ d ∷ es) ≤ 1 = g e.0 in
       omega arith
-  twins_twice (e ∷ d ∷ es) (inr more) g = twins_twice (d ∷ es) more
+  equal_neighbours_twice (e ∷ d ∷ es) (inr more) g = equal_neighbours_twice (d ∷ es) more
       (λ b. let c : sum_by (one b) (e ∷ d ∷ es) ≡ one b e + sum_by (one b) (d ∷ es) = sum_by-cons (one b) e (d ∷ es) in
       let k : sum_by (one b) (e ∷ d ∷ es) ≤ 1 = g b in
       omega arith)

@@ -1,16 +1,5 @@
 -- The laws of canonical forms.
-use Rattle.std.proofs.Common.{◌≡◌, ◌≤◌, ℕ, true, false, List, [], ◌++◌, sym, ap, subst, ◌∙◌}
-use Rattle.bcs_registry_model.specs.Container.{Entries, Content, of}
-use Rattle.bcs_value_model.specs.Tree.{Tree}
-use Rattle.bcs_value_model.specs.Fits.{fits}
-use Rattle.bcs_value_model.specs.Same.{same, distinct, Same}
-use Rattle.bcs_value_model.specs.Limits.{Bounds}
-use Rattle.bcs_value_model.proofs.Equivalence.{same-refl, same-sym, same-trans}
-use Rattle.bcs_encode_spec.specs.Plain.{plain}
-use Rattle.bcs_encode_spec.specs.Lengths.{length_limit}
-use Rattle.bcs_encode_spec.specs.Sound.{IsSoundAt}
-use Rattle.bcs_encode_spec.specs.Encodes.{IsForm}
-use Rattle.bcs_encode_spec.specs.Laws.{PrefixFree, OneCanonicalForm, BytesDecide}
+use Rattle.bcs_encode_spec.proofs.Prelude.{◌≡◌, ◌≤◌, ℕ, true, false, List, [], ◌++◌, sym, ap, subst, ◌∙◌, Entries, Content, of, Tree, fits, same, distinct, Same, Bounds, same-refl, same-sym, same-trans, plain, length_limit, IsSoundAt, IsForm, PrefixFree, OneCanonicalForm, BytesDecide}
 use Rattle.bcs_encode_spec.proofs.PrefixLaws.{plain_free}
 use Rattle.bcs_encode_spec.proofs.UniqueForms.{canonical_same}
 use Rattle.bcs_encode_spec.proofs.SoundForms.{canonical_distinct, lengths_hold-form_of}

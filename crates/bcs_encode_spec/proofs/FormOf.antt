@@ -1,24 +1,9 @@
 -- The canonical form that is made by inserting pair after pair.
-use Rattle.std.proofs.Common.{◌≡◌, ℕ, suc, ◌+◌, max, Bool, true, false, not, ◌&&◌, ◌||◌, ◌==◌, ◌^◌, nat_lt, List, [], ◌++◌, refl, sym, ap, ap₂, subst, ◌∙◌, arith, inl, inr}
-use Rattle.std.proofs.lemmas.Bool.{and_parts, and_from, or_left, or_right, cases_Bool, eq-eqb}
+use Rattle.bcs_encode_spec.proofs.Prelude.{◌≡◌, ℕ, suc, ◌+◌, max, Bool, true, false, not, ◌&&◌, ◌||◌, ◌==◌, ◌^◌, nat_lt, List, [], ◌++◌, refl, sym, ap, ap₂, subst, ◌∙◌, arith, inl, inr, and_parts, and_from, or_left, or_right, cases_Bool, eq-eqb, Tree, Trees, no_trees, tree, Pairs, no_pairs, pair, count, pair_count, depth, trees_depth, pairs_depth, nodes, trees_nodes, pairs_nodes, Shape, Shapes, no_shapes, shape, Entries, Content, of, one_of, content_at, choice_at, fits, all_fit, each_fits, pairs_fit, payload_fits, plain, same, all_same, is_within, has_pair, any_pair, all_pairs, distinct, all_distinct, pairs_distinct, Below, Rises, RisesFrom, IsCanonical, AllCanonical, EachCanonical, PairsCanonical, IsEntry, nat_cmp, slice_cmp, Ordering, Less, Equal, Greater, same-refl, all_same-refl, same-sym, same-trans}
 use Rattle.bcs_value_model.specs.Tree as tree
-use Rattle.bcs_value_model.specs.Tree.{Tree, Trees, no_trees, tree, Pairs, no_pairs, pair, count, pair_count, depth, trees_depth, pairs_depth, nodes, trees_nodes, pairs_nodes}
 use Rattle.bcs_registry_model.specs.Shape as shape
-use Rattle.bcs_registry_model.specs.Shape.{Shape, Shapes, no_shapes, shape}
-use Rattle.bcs_registry_model.specs.Container.{Entries, Content, of, one_of, content_at, choice_at}
-use Rattle.bcs_value_model.specs.Fits.{fits, all_fit, each_fits, pairs_fit}
-use Rattle.bcs_value_model.proofs.VariantFits.{payload_fits}
-use Rattle.bcs_encode_spec.specs.Plain.{plain}
-use Rattle.bcs_value_model.specs.Same.{same, all_same, is_within, has_pair, any_pair, all_pairs, distinct, all_distinct, pairs_distinct}
-use Rattle.bcs_encode_spec.specs.Canonical.{Below, Rises, RisesFrom, IsCanonical, AllCanonical, EachCanonical, PairsCanonical}
-use Rattle.bcs_value_model.specs.Words.{IsEntry}
-use Rattle.std.specs.Ordering.{nat_cmp}
-use Rattle.std.specs.Cmp.Lexicographic.{slice_cmp}
-use Rattle.std.specs.declared.cmp.Ordering.{Ordering}
-use Rattle.std.specs.declared.cmp.Ordering.TheVariants.{Less, Equal, Greater}
 use Rattle.bcs_encode_spec.proofs.CanonicalForm.{place, insert, form_of, items_form, each_form, pairs_form}
 use Rattle.bcs_encode_spec.proofs.BelowLaws.{order, below_less, below_greater}
-use Rattle.bcs_value_model.proofs.Equivalence.{same-refl, all_same-refl, same-sym, same-trans}
 use Rattle.bcs_encode_spec.proofs.UniqueForms.{all_at, fits_at}
 use Rattle.bcs_encode_spec.proofs.PrefixLaws.{plain_free}
 

@@ -1,26 +1,7 @@
 -- Bytes, canonical order and lengths stay in a registry that the older one grows to.
-use Rattle.std.proofs.Common.{◌≡◌, ℕ, true, false, ◌&&◌, ◌==◌, List, ◌∷◌, ◌++◌, Option, Some, None, refl, sym, ap, ap₂, subst, ◌∙◌}
-use Rattle.std.specs.Option.{option_map_or}
-use Rattle.std.proofs.lemmas.Bool.{false≢true, and_parts}
-use Rattle.bcs_num.specs.Uleb.{uleb}
+use Rattle.bcs_encode_spec.proofs.Prelude.{◌≡◌, ℕ, true, false, ◌&&◌, ◌==◌, List, ◌∷◌, ◌++◌, Option, Some, None, refl, sym, ap, ap₂, subst, ◌∙◌, option_map_or, false≢true, and_parts, uleb, Shape, Shapes, no_shapes, shape, Payload, Choice, Entries, Content, of, one_of, nothing, payload_shape, choice_numbered, content_at, choice_at, Grows, HasChoices, StaysIn, content_at-grows, Tree, Trees, no_trees, tree, Pairs, no_pairs, pair, count, pair_count, fits, all_fit, each_fits, pairs_fit, payload_fits, fits-grows, plain, plain_items, plain_each, plain_pairs, lengths_hold, all_hold, each_holds, pairs_hold, Bounds, length_limit, IsSoundAt, IsForm, GrowthKeepsSoundness, GrowthKeepsBytes, GrowthKeepsOrder, GrowthKeepsEncodings, Below, Rises, RisesFrom, IsCanonical, AllCanonical, EachCanonical, PairsCanonical}
 use Rattle.bcs_registry_model.specs.Shape as shape
-use Rattle.bcs_registry_model.specs.Shape.{Shape, Shapes, no_shapes, shape}
-use Rattle.bcs_registry_model.specs.Container.{Payload, Choice, Entries, Content, of, one_of, nothing, payload_shape, choice_numbered, content_at, choice_at}
-use Rattle.bcs_registry_model.specs.Grows.{Grows}
-use Rattle.bcs_registry_model.proofs.GrowthLaws.{HasChoices, StaysIn, content_at-grows}
 use Rattle.bcs_value_model.specs.Tree as tree
-use Rattle.bcs_value_model.specs.Tree.{Tree, Trees, no_trees, tree, Pairs, no_pairs, pair, count, pair_count}
-use Rattle.bcs_value_model.specs.Fits.{fits, all_fit, each_fits, pairs_fit}
-use Rattle.bcs_value_model.proofs.VariantFits.{payload_fits}
-use Rattle.bcs_value_model.proofs.Growth.{fits-grows}
-use Rattle.bcs_encode_spec.specs.Plain.{plain, plain_items, plain_each, plain_pairs}
-use Rattle.bcs_encode_spec.specs.Lengths.{lengths_hold, all_hold, each_holds, pairs_hold}
-use Rattle.bcs_value_model.specs.Limits.{Bounds}
-use Rattle.bcs_encode_spec.specs.Lengths.{length_limit}
-use Rattle.bcs_encode_spec.specs.Sound.{IsSoundAt}
-use Rattle.bcs_encode_spec.specs.Encodes.{IsForm}
-use Rattle.bcs_encode_spec.specs.Laws.{GrowthKeepsSoundness, GrowthKeepsBytes, GrowthKeepsOrder, GrowthKeepsEncodings}
-use Rattle.bcs_encode_spec.specs.Canonical.{Below, Rises, RisesFrom, IsCanonical, AllCanonical, EachCanonical, PairsCanonical}
 
 nothing_fits : (registry : Entries) (t : Tree) → fits false registry t nothing ≡ true → ⊥
 nothing_fits registry t h = absurd (false≢true h)

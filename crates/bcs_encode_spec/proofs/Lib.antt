@@ -1,3 +1,4 @@
+pub mod Prelude
 pub mod BelowLaws
 pub mod EntryOrder
 pub mod FormLaws

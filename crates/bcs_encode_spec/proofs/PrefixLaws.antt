@@ -1,19 +1,7 @@
 -- No value's bytes begin another's.
-use Rattle.std.proofs.Common.{◌≡◌, ℕ, ◌^◌, Bool, true, false, ◌&&◌, ◌==◌, List, [], ◌∷◌, ◌++◌, length, refl, sym, ap, ap₂, subst, ◌∙◌, append_assoc}
-use Rattle.std.proofs.lemmas.Bool.{false≢true, and_parts, eqb-true, ltb-true}
-use mir.Val.{bits}
-use Rattle.bcs_num.specs.Uleb.{uleb}
-use Rattle.bcs_num.proofs.Ranges.{holds_signed-is}
-use Rattle.bcs_num.proofs.UlebLaws.{uleb_prefix_free}
-use Rattle.bcs_num.proofs.LeLaws.{le_prefix_free, le_signed_prefix_free}
+use Rattle.bcs_encode_spec.proofs.Prelude.{◌≡◌, ℕ, ◌^◌, Bool, true, false, ◌&&◌, ◌==◌, List, [], ◌∷◌, ◌++◌, length, refl, sym, ap, ap₂, subst, ◌∙◌, append_assoc, false≢true, and_parts, eqb-true, ltb-true, bits, uleb, holds_signed-is, uleb_prefix_free, le_prefix_free, le_signed_prefix_free, Tree, Trees, no_trees, tree, Pairs, no_pairs, pair, count, pair_count, Shape, Shapes, no_shapes, shape, Entries, Content, of, one_of, content_at, choice_at, fits, all_fit, each_fits, pairs_fit, payload_fits, plain, plain_items, plain_each, plain_pairs, truth_byte}
 use Rattle.bcs_value_model.specs.Tree as tree
-use Rattle.bcs_value_model.specs.Tree.{Tree, Trees, no_trees, tree, Pairs, no_pairs, pair, count, pair_count}
 use Rattle.bcs_registry_model.specs.Shape as shape
-use Rattle.bcs_registry_model.specs.Shape.{Shape, Shapes, no_shapes, shape}
-use Rattle.bcs_registry_model.specs.Container.{Entries, Content, of, one_of, content_at, choice_at}
-use Rattle.bcs_value_model.specs.Fits.{fits, all_fit, each_fits, pairs_fit}
-use Rattle.bcs_value_model.proofs.VariantFits.{payload_fits}
-use Rattle.bcs_encode_spec.specs.Plain.{plain, plain_items, plain_each, plain_pairs, truth_byte}
 
 -- a number before the rest, on either side
 number_free : (m n : ℕ) (b c r s : List ℕ) → (uleb m ++ b) ++ r ≡ (uleb n ++ c) ++ s → (m ≡ n) × (b ++ r ≡ c ++ s)

@@ -1,19 +1,5 @@
 -- Each tree is sound or refused, and refused for one reason alone.
-use Rattle.std.proofs.Common.{◌≡◌, Bool, true, false, leb, if◌then◌else◌, Option, Some, None, refl, sym, ◌∙◌, inl, inr, ◌⊎◌}
-use Rattle.std.proofs.lemmas.Bool.{cases_Bool, cases_lt, false≢true, false_from_ne_true, le-leb, lt-leb}
-use Rattle.bcs_registry_model.specs.Shape.{Shape}
-use Rattle.bcs_registry_model.specs.Container.{Entries, of}
-use Rattle.bcs_value_model.specs.Tree.{Tree, depth, nodes}
-use Rattle.bcs_value_model.specs.Fits.{fits}
-use Rattle.bcs_value_model.specs.Same.{distinct}
-use Rattle.bcs_value_model.specs.Limits.{Bounds}
-use Rattle.bcs_value_model.proofs.Loosening.{strictly_then_loosely}
-use Rattle.bcs_encode_spec.specs.Lengths.{length_limit, lengths_hold}
-use Rattle.bcs_encode_spec.specs.Sound.{IsSound}
-use Rattle.bcs_encode_spec.specs.Refused.{RefusesValue}
-use Rattle.bcs_encode_spec.specs.Laws.{OneRefusal, RefusedOrSound}
-use Rattle.bcs_encode_spec.specs.declared.fault.EncodeFault.{EncodeFault}
-use Rattle.bcs_encode_spec.specs.declared.fault.EncodeFault.TheVariants.{NotOfFormat, Unsupported, TooDeep, TooManyNodes, TooLong, RepeatedKey, OutOfMemory}
+use Rattle.bcs_encode_spec.proofs.Prelude.{◌≡◌, Bool, true, false, leb, if◌then◌else◌, Option, Some, None, refl, sym, ◌∙◌, inl, inr, ◌⊎◌, cases_Bool, cases_lt, false≢true, false_from_ne_true, le-leb, lt-leb, Shape, Entries, of, Tree, depth, nodes, fits, distinct, Bounds, strictly_then_loosely, length_limit, lengths_hold, IsSound, RefusesValue, OneRefusal, RefusedOrSound, EncodeFault, NotOfFormat, Unsupported, TooDeep, TooManyNodes, TooLong, RepeatedKey, OutOfMemory}
 
 -- the first reason, by what the tests tell
 abbrev first_of_tests : Bool → Bool → Bool → Bool → Bool → Bool → Option EncodeFault

@@ -1,32 +1,8 @@
 -- What an encoder owes that sorts a map's entries by their keys' bytes.
-use Rattle.std.proofs.Common.{◌≡◌, ℕ, suc, ◌+◌, ◌≤◌, Bool, true, false, not, ◌&&◌, List, [], ◌∷◌, ◌++◌, map, refl, sym, ap, ap₂, subst, ◌∙◌, append_assoc, get_or, arith, inl, inr, ◌⊎◌}
-use Rattle.std.specs.List.{sum_by, flat_map}
-use Rattle.std.specs.List.Sorted.{IsPermutation, IsSortedBy, IsSortedByKey}
-use Rattle.std.specs.Cmp.{IsStrictWeakOrder}
-use Rattle.std.specs.Fn.{Called, ComparesAs}
-use denote.Ref.{Bor}
-use denote.Param.Members.{Mut}
-use Rattle.std.proofs.lemmas.Fn.{always_returns_same}
-use Rattle.std.specs.Ordering.{nat_cmp, is_lt}
-use Rattle.std.specs.declared.cmp.Ordering.{Ordering}
-use Rattle.std.specs.declared.cmp.Ordering.TheVariants.{Less, Equal, Greater}
-use Rattle.std.specs.Cmp.Lexicographic.{slice_cmp, nat_list_cmp_total}
-use Rattle.std.proofs.lemmas.Bool.{and_parts, and_from, cases_Bool, false_from_ne_true}
-use Rattle.std.proofs.lemmas.List.Sorted.{IsPermutation-sym, ranks_by}
-use Rattle.std.proofs.lemmas.List.Sums.{sum_by-cons}
-use Rattle.bcs_num.specs.Uleb.{uleb}
-use Rattle.bcs_registry_model.specs.Shape.{Shape}
+use Rattle.bcs_encode_spec.proofs.Prelude.{◌≡◌, ℕ, suc, ◌+◌, ◌≤◌, Bool, true, false, not, ◌&&◌, List, [], ◌∷◌, ◌++◌, map, refl, sym, ap, ap₂, subst, ◌∙◌, append_assoc, get_or, arith, inl, inr, ◌⊎◌, sum_by, flat_map, IsPermutation, IsSortedBy, IsSortedByKey, IsStrictWeakOrder, Called, ComparesAs, Bor, Mut, always_returns_same, nat_cmp, is_lt, Ordering, Less, Equal, Greater, slice_cmp, nat_list_cmp_total, and_parts, and_from, cases_Bool, false_from_ne_true, IsPermutation-sym, ranks_by, sum_by-cons, uleb, Shape, Entries, Content, of, Tree, pairs, Pairs, no_pairs, pair, fits, pairs_fit, same, all_pairs, distinct, pairs_distinct, same-sym, same-trans, plain, plain_pairs, Rises, RisesFrom, EncodesWithoutLimits, Entry, entry_bytes, EntriesOf, EntriesRiseFrom, EntriesRise, HasEqualNeighbours, SortedEntries, EqualNeighboursRepeat}
 use Rattle.bcs_registry_model.specs.Shape as shape
-use Rattle.bcs_registry_model.specs.Container.{Entries, Content, of}
-use Rattle.bcs_value_model.specs.Tree.{Tree, pairs, Pairs, no_pairs, pair}
-use Rattle.bcs_value_model.specs.Fits.{fits, pairs_fit}
-use Rattle.bcs_value_model.specs.Same.{same, all_pairs, distinct, pairs_distinct}
-use Rattle.bcs_value_model.proofs.Equivalence.{same-sym, same-trans}
-use Rattle.bcs_encode_spec.specs.Plain.{plain, plain_pairs}
-use Rattle.bcs_encode_spec.specs.Canonical.{Rises, RisesFrom}
-use Rattle.bcs_encode_spec.specs.Entries.{EncodesWithoutLimits, Entry, entry_bytes, EntriesOf, EntriesRiseFrom, EntriesRise, HasTwins, SortedEntries, TwinsRepeat}
 use Rattle.bcs_encode_spec.proofs.BelowLaws.{order, not_below}
-use Rattle.bcs_encode_spec.proofs.EntryOrder.{one, one_same, Once, rising_once, twins_twice, once_moved, In, moved, rising_alike}
+use Rattle.bcs_encode_spec.proofs.EntryOrder.{one, one_same, Once, rising_once, equal_neighbours_twice, once_moved, In, moved, rising_alike}
 use Rattle.bcs_encode_spec.proofs.UniqueForms.{canonical_same}
 use Rattle.bcs_encode_spec.proofs.CanonicalForm.{form_of, pairs_form, place, insert}
 use Rattle.bcs_encode_spec.proofs.FormOf.{insert_fold, same-form_of, fits-form_of, pair_count-pairs_form, form_is_canonical, pairs_form_is_canonical}
@@ -177,9 +153,9 @@ module _ (registry : Entries) where
   sorted_distinct ps f g es h q p up = once_distinct ps f g h q (once_moved (form_entries ps f g) es p (rising_once es up))
 
   -- where two neighbours have equal keys, a key stands twice
-  sorted_twins : (ps : Pairs) (f g : Shape) (es : List Entry) → pairs_fit false registry ps f g ≡ true
-      → IsPermutation (form_entries ps f g) es → HasTwins es → pairs_distinct ps ≡ true → ⊥
-  sorted_twins ps f g es h p t d = twins_twice es t (once_moved es (form_entries ps f g) (IsPermutation-sym (form_entries ps f g) es p) (distinct_once ps f g h d))
+  sorted_equal_neighbours : (ps : Pairs) (f g : Shape) (es : List Entry) → pairs_fit false registry ps f g ≡ true
+      → IsPermutation (form_entries ps f g) es → HasEqualNeighbours es → pairs_distinct ps ≡ true → ⊥
+  sorted_equal_neighbours ps f g es h p t d = equal_neighbours_twice es t (once_moved es (form_entries ps f g) (IsPermutation-sym (form_entries ps f g) es p) (distinct_once ps f g h d))
 
 -- ---- the bytes of a canonical form
 
@@ -228,11 +204,11 @@ sorted_entries = λ registry f g ps es rs h p up.
     }
 
 -- entries of which two neighbours then have one key
-pub twins_repeat : TwinsRepeat
-twins_repeat = λ registry f g ps es rs h p t.
+pub equal_neighbours_repeat : EqualNeighboursRepeat
+equal_neighbours_repeat = λ registry f g ps es rs h p t.
     let fit = entries_fit registry f g ps es h in
     let q : IsPermutation (form_entries registry ps f g) rs = subst (λ (x : List Entry). IsPermutation x rs) (entries_of_forms registry f g ps es h) p in
-    false_from_ne_true (distinct (pairs ps)) (sorted_twins registry ps f g rs fit q t)
+    false_from_ne_true (distinct (pairs ps)) (sorted_equal_neighbours registry ps f g rs fit q t)
 
 -- ---- what a sort by the keys' bytes gives
 
@@ -251,12 +227,12 @@ module _ {X : Type 0} (entry : X → Entry) where
       subst (λ (n : ℕ). is_lt (slice_cmp nat_cmp (entry (get_or (x ∷ xs) n d)).0 (entry (get_or xs k d)).0) ≡ false) q (h (suc k) d (omega arith) (omega arith))
 
   -- the entries of what was sorted rise, or two neighbours have one key
-  pub rise_or_twins : (xs : List X) → IsSortedByKey (λ x. (entry x).0) (slice_cmp nat_cmp) xs → EntriesRise (map entry xs) ⊎ HasTwins (map entry xs)
-  rise_or_twins [] h = inl tt
-  rise_or_twins (x ∷ []) h = inl tt
-  rise_or_twins (x ∷ y ∷ xs) h =
-      elim (rise_or_twins (y ∷ xs) (sorted_rest x (y ∷ xs) h)) [
-        | inr twins ↦ inr (inr twins)
+  pub rise_or_equal_neighbours : (xs : List X) → IsSortedByKey (λ x. (entry x).0) (slice_cmp nat_cmp) xs → EntriesRise (map entry xs) ⊎ HasEqualNeighbours (map entry xs)
+  rise_or_equal_neighbours [] h = inl tt
+  rise_or_equal_neighbours (x ∷ []) h = inl tt
+  rise_or_equal_neighbours (x ∷ y ∷ xs) h =
+      elim (rise_or_equal_neighbours (y ∷ xs) (sorted_rest x (y ∷ xs) h)) [
+        | inr equal_neighbours ↦ inr (inr equal_neighbours)
         | inl up ↦ elim (order (entry x).0 (entry y).0) [
           | inl is ↦ inr (inl is)
           | inr (inl lt) ↦ inl (lt, up)

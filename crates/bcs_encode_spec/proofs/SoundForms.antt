@@ -1,17 +1,7 @@
 -- Canonical trees have distinct keys, and forms keep the lengths.
-use Rattle.std.proofs.Common.{◌≡◌, ℕ, true, false, not, ◌&&◌, ◌==◌, List, refl, sym, subst, ◌∙◌, inl, inr, ◌⊎◌}
-use Rattle.std.proofs.lemmas.Bool.{and_parts, and_from, cases_Bool}
+use Rattle.bcs_encode_spec.proofs.Prelude.{◌≡◌, ℕ, true, false, not, ◌&&◌, ◌==◌, List, refl, sym, subst, ◌∙◌, inl, inr, ◌⊎◌, and_parts, and_from, cases_Bool, Tree, Trees, no_trees, tree, Pairs, no_pairs, pair, count, pair_count, Shape, Shapes, no_shapes, shape, Entries, Content, of, one_of, content_at, choice_at, fits, all_fit, each_fits, pairs_fit, payload_fits, plain, lengths_hold, all_hold, each_holds, pairs_hold, same, all_pairs, distinct, all_distinct, pairs_distinct, Below, RisesFrom, Rises, IsCanonical, AllCanonical, EachCanonical, PairsCanonical}
 use Rattle.bcs_value_model.specs.Tree as tree
-use Rattle.bcs_value_model.specs.Tree.{Tree, Trees, no_trees, tree, Pairs, no_pairs, pair, count, pair_count}
 use Rattle.bcs_registry_model.specs.Shape as shape
-use Rattle.bcs_registry_model.specs.Shape.{Shape, Shapes, no_shapes, shape}
-use Rattle.bcs_registry_model.specs.Container.{Entries, Content, of, one_of, content_at, choice_at}
-use Rattle.bcs_value_model.specs.Fits.{fits, all_fit, each_fits, pairs_fit}
-use Rattle.bcs_value_model.proofs.VariantFits.{payload_fits}
-use Rattle.bcs_encode_spec.specs.Plain.{plain}
-use Rattle.bcs_encode_spec.specs.Lengths.{lengths_hold, all_hold, each_holds, pairs_hold}
-use Rattle.bcs_value_model.specs.Same.{same, all_pairs, distinct, all_distinct, pairs_distinct}
-use Rattle.bcs_encode_spec.specs.Canonical.{Below, RisesFrom, Rises, IsCanonical, AllCanonical, EachCanonical, PairsCanonical}
 use Rattle.bcs_encode_spec.proofs.BelowLaws.{Below-irrefl, Below-trans}
 use Rattle.bcs_encode_spec.proofs.UniqueForms.{canonical_same, rises_tail}
 use Rattle.bcs_encode_spec.proofs.CanonicalForm.{form_of, items_form, each_form, pairs_form, insert}

@@ -1,20 +1,8 @@
 -- Canonical trees that are the same are equal.
-use Rattle.std.proofs.Common.{◌≡◌, ℕ, Bool, true, false, ◌&&◌, ◌==◌, List, refl, sym, ap, ap₂, subst, ◌∙◌, inl, inr}
-use Rattle.std.proofs.lemmas.Bool.{false≢true, and_parts, or_cases}
+use Rattle.bcs_encode_spec.proofs.Prelude.{◌≡◌, ℕ, Bool, true, false, ◌&&◌, ◌==◌, List, refl, sym, ap, ap₂, subst, ◌∙◌, inl, inr, false≢true, and_parts, or_cases, Tree, Trees, no_trees, tree, Pairs, no_pairs, pair, count, pair_count, Shape, Shapes, no_shapes, shape, Entries, Content, of, one_of, content_at, choice_at, fits, all_fit, each_fits, pairs_fit, payload_fits, plain, same, all_same, is_within, has_pair, any_pair, all_pairs, Below, Rises, RisesFrom, IsCanonical, AllCanonical, EachCanonical, PairsCanonical, IsEntry, nat-same, bytes-same, int-same, both-same, any_found}
 use Rattle.bcs_value_model.specs.Tree as tree
-use Rattle.bcs_value_model.specs.Tree.{Tree, Trees, no_trees, tree, Pairs, no_pairs, pair, count, pair_count}
 use Rattle.bcs_registry_model.specs.Shape as shape
-use Rattle.bcs_registry_model.specs.Shape.{Shape, Shapes, no_shapes, shape}
-use Rattle.bcs_registry_model.specs.Container.{Entries, Content, of, one_of, content_at, choice_at}
-use Rattle.bcs_value_model.specs.Fits.{fits, all_fit, each_fits, pairs_fit}
-use Rattle.bcs_value_model.proofs.VariantFits.{payload_fits}
-use Rattle.bcs_encode_spec.specs.Plain.{plain}
-use Rattle.bcs_value_model.specs.Same.{same, all_same, is_within, has_pair, any_pair, all_pairs}
-use Rattle.bcs_encode_spec.specs.Canonical.{Below, Rises, RisesFrom, IsCanonical, AllCanonical, EachCanonical, PairsCanonical}
-use Rattle.bcs_value_model.specs.Words.{IsEntry}
 use Rattle.bcs_encode_spec.proofs.BelowLaws.{Below-irrefl, Below-trans}
-use Rattle.bcs_value_model.proofs.Equivalence.{nat-same, bytes-same, int-same, both-same}
-use Rattle.bcs_value_model.proofs.MapsInWords.{any_found}
 
 pub all_at : (test : Tree → Tree → Bool) (qs : Pairs) → all_pairs test qs ≡ true → (l w : Tree) → IsEntry l w qs → test l w ≡ true
 all_at test no_pairs h l w m = absurd m

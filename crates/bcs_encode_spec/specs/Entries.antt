@@ -54,10 +54,10 @@ EntriesRise [] = Unit {0}
 EntriesRise (e ∷ es) = EntriesRiseFrom e.0 es
 
 -- two neighbours have one key
-abbrev pub HasTwins : {V : Type 0} → List (Keyed V) → Type 0
-HasTwins [] = ⊥
-HasTwins (e ∷ []) = ⊥
-HasTwins (e ∷ d ∷ es) = (e.0 ≡ d.0) ⊎ HasTwins (d ∷ es)
+abbrev pub HasEqualNeighbours : {V : Type 0} → List (Keyed V) → Type 0
+HasEqualNeighbours [] = ⊥
+HasEqualNeighbours (e ∷ []) = ⊥
+HasEqualNeighbours (e ∷ d ∷ es) = (e.0 ≡ d.0) ⊎ HasEqualNeighbours (d ∷ es)
 
 -- ---- the laws
 
@@ -68,6 +68,6 @@ SortedEntries = (registry : Entries) (f g : Shape) (ps : Pairs) (es rs : List En
     → EncodesWithoutLimits registry (of (map f g)) (pairs ps) (map_bytes (pair_count ps) rs)
 
 -- where two neighbours then have one key, a key stands twice in the map
-abbrev pub TwinsRepeat : Type 0
-TwinsRepeat = (registry : Entries) (f g : Shape) (ps : Pairs) (es rs : List Entry)
-    → EntriesOf registry f g ps es → IsPermutation es rs → HasTwins rs → distinct (pairs ps) ≡ false
+abbrev pub EqualNeighboursRepeat : Type 0
+EqualNeighboursRepeat = (registry : Entries) (f g : Shape) (ps : Pairs) (es rs : List Entry)
+    → EntriesOf registry f g ps es → IsPermutation es rs → HasEqualNeighbours rs → distinct (pairs ps) ≡ false

@@ -1,5 +1,5 @@
 //! What holds of the bytes of values. Each law is the contract of a call that does nothing.
-ghost use Rattle.bcs_encode_spec.specs.Entries.{SortedEntries, TwinsRepeat};
+ghost use Rattle.bcs_encode_spec.specs.Entries.{SortedEntries, EqualNeighboursRepeat};
 ghost use Rattle.bcs_encode_spec.specs.Laws.{BytesDecide, GrowthKeepsBytes, GrowthKeepsEncodings, GrowthKeepsOrder, GrowthKeepsSoundness, OneCanonicalForm, OneRefusal, PrefixFree, RefusedOrSound};
 
 /// No value's bytes begin another's.
@@ -24,8 +24,8 @@ pub fn sorted_entries()
 {}
 
 /// Where two neighbours then have one key, a key stands twice in the map.
-pub fn twins_repeat()
-    ensures { TwinsRepeat }
+pub fn equal_neighbours_repeat()
+    ensures { EqualNeighboursRepeat }
 {}
 
 /// No value is refused for two reasons.

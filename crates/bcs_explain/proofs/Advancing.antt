@@ -1,16 +1,6 @@
 -- What a parser leaves are the bytes behind those that it skipped.
-use Rattle.std.proofs.Common.{◌≡◌, ℕ, zero, suc, ◌+◌, ◌-◌, ◌≤◌, nat_lt, ◌==◌, List, [], ◌∷◌, drop, length, Bool, true, false, if◌then◌else◌, take, Result, Ok, Err, sym, ap, ◌∙◌, arith}
-use Rattle.std.proofs.lemmas.List.{drop-drop}
-use Rattle.std.specs.Str.{is_utf8}
-use Rattle.std.specs.Str.Lossy.{utf8_valid_len}
-use Rattle.bcs_num.specs.declared.fault.NumFault.{NumFault}
+use Rattle.bcs_explain.proofs.Prelude.{◌≡◌, ℕ, zero, suc, ◌+◌, ◌-◌, ◌≤◌, nat_lt, ◌==◌, List, [], ◌∷◌, drop, length, Bool, true, false, if◌then◌else◌, take, Result, Ok, Err, sym, ap, ◌∙◌, arith, drop-drop, is_utf8, utf8_valid_len, NumFault, Reason, EndOfInput, LengthTooLarge, BadUtf8, Parser, chain, give, fail, fail_here, node, uleb_from, number_read, number_here, length_here, bytes_here, text_here, flag_here, items_here, skipping, done, halted, parts, follow_ok, node_here, flag_past, counted_here, whole_here, variant_past, enter_here, unsupported_here, node_and_bytes}
 use Rattle.bcs_num.specs.declared.fault.NumFault.TheVariants as num
-use Rattle.bcs_decode_spec.specs.declared.reason.Reason.{Reason}
-use Rattle.bcs_decode_spec.specs.declared.reason.Reason.TheVariants.{EndOfInput, LengthTooLarge, BadUtf8}
-use Rattle.bcs_decode_spec.specs.Reading.{Parser, chain, give, fail, fail_here, node, uleb_from, number_read, number_here, length_here, bytes_here, text_here, flag_here, items_here, skipping}
-use Rattle.bcs_decode_spec.proofs.Combine.{done, halted, parts, follow_ok}
-use Rattle.bcs_decode_slice.specs.Passing.{node_here, flag_past, counted_here, whole_here, variant_past, enter_here, unsupported_here}
-use Rattle.bcs_explain.specs.ScalarParsing.{node_and_bytes}
 
 abbrev pub Advances : {A : Type 0} → Parser A → Type 0
 Advances {A} f = (p m : ℕ) (b : List ℕ) (x : A) (q l : ℕ) (c : List ℕ) → f p m b ≡ Ok (x, q, l, c) → (p ≤ q) × (c ≡ drop (q - p) b)

@@ -1,11 +1,5 @@
 -- Steps that cover the bytes, one after another.
-use Rattle.std.proofs.Common.{◌≡◌, ℕ, ◌+◌, ◌-◌, ◌≤◌, false, List, ◌++◌, length, take, drop, Result, Ok, Err, sym, ap, subst, ◌∙◌, arith}
-use Rattle.std.proofs.lemmas.List.{drop-drop, length-drop, length-take-le}
-use Rattle.std.proofs.Math.Seq.{take-add}
-use Rattle.bcs_decode_spec.specs.declared.stop.Stop.{Stop}
-use Rattle.bcs_decode_slice.specs.declared.cursor.Cursor.{Cursor}
-use Rattle.bcs_decode_slice.specs.Passing.{Passes, node_here, enter_here, unsupported_here}
-use Rattle.bcs_explain.specs.Covering.{Heard, Covered, StaysCovered, Covers, ReportsStop, ReportsAnyStop}
+use Rattle.bcs_explain.proofs.Prelude.{◌≡◌, ℕ, ◌+◌, ◌-◌, ◌≤◌, false, List, ◌++◌, length, take, drop, Result, Ok, Err, sym, ap, subst, ◌∙◌, arith, drop-drop, length-drop, length-take-le, take-add, Stop, Cursor, Passes, node_here, enter_here, unsupported_here, Heard, Covered, StaysCovered, Covers, ReportsStop, ReportsAnyStop}
 use Rattle.bcs_explain.proofs.Advancing.{node_stays, enter_stays, never_read}
 
 module _ {K : Type 0} (heard : Heard K) where

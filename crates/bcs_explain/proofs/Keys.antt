@@ -1,7 +1,5 @@
 -- A key is read like any value, and then compared with the one before it.
-use Rattle.std.proofs.Common.{◌≡◌, ℕ, ◌-◌, List, take, Option, Ok, Err, refl}
-use Rattle.bcs_decode_spec.specs.declared.reason.Reason.{Reason}
-use Rattle.bcs_decode_spec.specs.Reading.{Parser, give, key_after, key_here}
+use Rattle.bcs_explain.proofs.Prelude.{◌≡◌, ℕ, ◌-◌, List, take, Option, Ok, Err, refl, Reason, Parser, give, key_after, key_here}
 
 pub key_err : (f : Parser (Unit {0})) (last : Option (List ℕ)) (p m : ℕ) (b : List ℕ) (e : Reason × ℕ) → f p m b ≡ Err e → key_here f last p m b ≡ Err e
 unfolding key_here

@@ -1,3 +1,4 @@
+mod Prelude
 mod Advancing
 mod Covering
 mod ScalarParsing

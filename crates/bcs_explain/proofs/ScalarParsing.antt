@@ -1,21 +1,7 @@
 -- Skipping a value without parts, and elements of `U8`.
-use Rattle.std.proofs.Common.{◌≡◌, ℕ, zero, suc, List, refl, sym}
-use Rattle.std.specs.Int.{w8, byte_len, from_le_bytes, cast_signed}
+use Rattle.bcs_explain.proofs.Prelude.{◌≡◌, ℕ, zero, suc, List, refl, sym, w8, byte_len, from_le_bytes, cast_signed, Shape, Entries, shape_of, scalar_shape, Format, Scalar, Unsigned, Signed, width_of, items_here, skipping, chain, give, node, bytes_here, unsigned_here, signed_here, shape_here, value_here, skip, whole_here, flag_past, counted_here, text_past, bytes_past, unsupported_here, dropped, unsigned_is, items_same, node_and_bytes, discarding, scalar_past}
 use Rattle.bcs_registry_model.specs.Shape as shape
-use Rattle.bcs_registry_model.specs.Shape.{Shape}
-use Rattle.bcs_registry_model.specs.Container.{Entries}
-use Rattle.bcs_registry_model.specs.View.{shape_of}
-use Rattle.bcs_registry_model.specs.Kind.{scalar_shape}
-use Rattle.bcs_registry_model.specs.declared.format.Format.{Format}
-use Rattle.bcs_registry_model.specs.declared.scalar.Scalar.{Scalar}
 use Rattle.bcs_registry_model.specs.declared.scalar.Scalar.TheVariants as scalar
-use Rattle.bcs_registry_model.specs.declared.whole_number.WholeNumber.TheVariants.{Unsigned, Signed}
-use Rattle.bcs_num.specs.Le.{width_of}
-use Rattle.bcs_decode_spec.specs.Reading.{items_here, skipping, chain, give, node, bytes_here, unsigned_here, signed_here, shape_here, value_here}
-use Rattle.bcs_decode_slice.specs.Passing.{skip, whole_here, flag_past, counted_here, text_past, bytes_past, unsupported_here}
-use Rattle.bcs_decode_slice.proofs.Passings.{dropped, unsigned_is}
-use Rattle.bcs_decode_slice.proofs.PassingParts.{items_same}
-use Rattle.bcs_explain.specs.ScalarParsing.{node_and_bytes, discarding, scalar_past}
 
 shape_past : (registry : Entries) (d : ℕ) (s : Scalar) (p m : ℕ) (b : List ℕ) → skip registry d (scalar_shape s) p m b ≡ scalar_past (scalar_shape s) p m b
 unfolding value_here shape_here discarding flag_past node_and_bytes text_past bytes_past unsupported_here counted_here node chain give unsigned_here signed_here

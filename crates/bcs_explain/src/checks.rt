@@ -5,17 +5,17 @@ ghost use Rattle.std.specs.Map.{lookup};
 ghost use Rattle.std.specs.Option.{option_copied};
 ghost use Rattle.std.specs.BTreeMap.{is_at};
 ghost use Rattle.bcs_decode_spec.specs.Reading.{key_after};
-ghost use Rattle.bcs_keys.specs.Following.{Judges, key_bytes};
+ghost use Rattle.bcs_key_order.specs.Following.{Validates, key_bytes};
 ghost use Rattle.bcs_decode_slice.specs.Passing.{Passes, Onward, node_here, enter_here, unsupported_here, variant_past};
 ghost use Rattle.bcs_explain.specs.Covering.{Covers, ReportsStop, ReportsAnyStop};
 
-use crate::listener::{Listener, Wanted};
+use crate::listener::{Expected, Listener};
 use crate::reporting::report_stop;
 use crate::trail::Trail;
 use bcs_decode_slice::cursor::{self, Cursor};
 use bcs_decode_slice::shallow;
 use bcs_decode_spec::{Reason, Stop};
-use bcs_keys::following;
+use bcs_key_order::following;
 use bcs_registry_model::{Named, VariantFormat};
 use std::collections::BTreeMap;
 
@@ -33,7 +33,7 @@ pub fn node<T: Listener>(
     ensures covers { Covers T.heard result cursor.old out.old cursor.new out.new }
 {
     let result = cursor::node(cursor);
-    report_stop(&result, trail, Wanted::Node, out);
+    report_stop(&result, trail, Expected::Node, out);
     result
 }
 
@@ -54,7 +54,7 @@ pub fn enter<T: Listener>(
     ensures covers { Covers T.heard result cursor.old out.old cursor.new out.new }
 {
     let result = shallow::enter(cursor, depth);
-    report_stop(&result, trail, Wanted::Container(name), out);
+    report_stop(&result, trail, Expected::Container(name), out);
     result
 }
 
@@ -71,7 +71,7 @@ pub fn variant_number<T: Listener>(
     ensures halts { ReportsAnyStop T.heard result out.old out.new }
 {
     let result = shallow::variant_number(cursor);
-    report_stop(&result, trail, Wanted::Number, out);
+    report_stop(&result, trail, Expected::Number, out);
     result
 }
 
@@ -84,11 +84,11 @@ pub fn follows<T: Listener>(
     trail: &Trail<'_, '_, '_>,
     out: &mut T,
 ) -> Result<(), Stop>
-    ensures judges { Judges result (key_after (key_bytes last.entry) key.now start) }
+    ensures validates { Validates result (key_after (key_bytes last.entry) key.now start) }
     ensures halts { ReportsAnyStop T.heard result out.old out.new }
 {
     let result = following::follows(last, key, start);
-    report_stop(&result, trail, Wanted::LaterKey, out);
+    report_stop(&result, trail, Expected::LaterKey, out);
     result
 }
 
@@ -109,7 +109,7 @@ pub fn unknown_variant<T: Listener>(start: u64, trail: &Trail<'_, '_, '_>, out: 
     ensures place { result.place ≡ start }
     ensures halts { ReportsStop T.heard out.old out.new }
 {
-    out.halt(trail, Wanted::Number);
+    out.halt(trail, Expected::Number);
     Stop {
         reason: Reason::UnknownVariant,
         place: start,
@@ -123,7 +123,7 @@ pub fn unknown_name<T: Listener>(cursor: &Cursor, trail: &Trail<'_, '_, '_>, out
     ensures place { result.place ≡ cursor.now.place }
     ensures halts { ReportsStop T.heard out.old out.new }
 {
-    out.halt(trail, Wanted::Nothing);
+    out.halt(trail, Expected::Nothing);
     Stop {
         reason: Reason::Unsupported,
         place: cursor.place,
@@ -142,6 +142,6 @@ pub fn unsupported<T: Listener>(
     ensures onward { Onward cursor.old cursor.new }
     ensures covers { Covers T.heard result cursor.old out.old cursor.new out.new }
 {
-    out.halt(trail, Wanted::Nothing);
+    out.halt(trail, Expected::Nothing);
     shallow::unsupported(cursor)
 }

@@ -5,7 +5,7 @@ ghost use Rattle.bcs_decode_spec.specs.Reading.{items_here, skipping};
 ghost use Rattle.bcs_decode_slice.specs.Passing.{Onward, skip};
 
 use bcs_decode_slice::cursor::Cursor;
-use bcs_decode_slice::fixed_row::{FEW, LOOKS, sized_row};
+use bcs_decode_slice::fixed_size_list::{MAX_FORMATS, MIN_COUNT, sized_row};
 use bcs_decode_slice::measuring::value_size;
 use bcs_registry::{Format, Registry};
 
@@ -27,10 +27,10 @@ pub fn skip_empty_elements(
     ensures place { cursor.new.place ≡ cursor.old.place }
     ensures rest { cursor.new.rest.now ≡ cursor.old.rest.now }
 {
-    if count < FEW {
+    if count < MIN_COUNT {
         return 0;
     }
-    let mut formats = LOOKS;
+    let mut formats = MAX_FORMATS;
     let Some(size) = value_size(registry, element, depth, &mut formats) else {
         return 0;
     };

@@ -18,5 +18,5 @@ mod walking;
 
 pub use bcs_decode_spec::{Reason, Stop};
 pub use explaining::explain;
-pub use listener::{Counted, Listener, Meaning, Wanted};
+pub use listener::{Counted, Expected, Listener, Meaning};
 pub use trail::{Step, Trail};

@@ -34,7 +34,7 @@ pub enum Meaning<'a> {
 
 /// What was expected where the bytes stop.
 #[derive(Clone, Copy)]
-pub enum Wanted<'a> {
+pub enum Expected<'a> {
     Truth,
     Unsigned(Width),
     Signed(Width),
@@ -72,6 +72,6 @@ pub trait Listener {
         ensures { (before : List ℕ) → length before ≡ place → heard self.old before false → heard self.new (before ++ bytes.now) false };
 
     /// Receives the stop: the field path to it, and what was expected there.
-    fn halt(&mut self, trail: &Trail<'_, '_, '_>, wanted: Wanted<'_>)
+    fn halt(&mut self, trail: &Trail<'_, '_, '_>, expected: Expected<'_>)
         ensures { ReportsStop heard self.old self.new };
 }

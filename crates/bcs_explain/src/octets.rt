@@ -7,11 +7,11 @@ ghost use Rattle.bcs_decode_spec.specs.Reading.{items_here, skipping};
 ghost use Rattle.bcs_decode_slice.specs.Passing.{Passes, Onward, whole_here};
 ghost use Rattle.bcs_explain.specs.Covering.{Covers};
 
-use crate::listener::{Listener, Meaning, Wanted};
+use crate::listener::{Expected, Listener, Meaning};
 use crate::reporting::report_piece;
 use crate::trail::Trail;
 use bcs_decode_slice::cursor::Cursor;
-use bcs_decode_slice::whole_row::whole_row;
+use bcs_decode_slice::integers::skip_integers;
 use bcs_decode_spec::Stop;
 use bcs_registry_model::Format;
 
@@ -37,13 +37,13 @@ pub fn report_octets<T: Listener>(
     ensures covers { Covers T.heard result cursor.old out.old cursor.new out.new }
 {
     let (start, from) = (cursor.place, cursor.rest);
-    match whole_row(cursor, 1, count) {
+    match skip_integers(cursor, 1, count) {
         Ok(()) => {
             report_piece(start, from, cursor, trail, Meaning::Octets, out);
             Ok(())
         }
         Err(stop) => {
-            out.halt(trail, Wanted::Octets(count));
+            out.halt(trail, Expected::Octets(count));
             Err(stop)
         }
     }

@@ -3,7 +3,7 @@ ghost use Rattle.std.specs.Prelude.{◌≡◌, ◌+◌, ◌<◌, ◌≤◌, ◌^
 ghost use Rattle.bcs_decode_slice.specs.Passing.{Passes, Onward, counted_here, flag_past};
 ghost use Rattle.bcs_explain.specs.Covering.{Covers};
 
-use crate::listener::{Counted, Listener, Meaning, Wanted};
+use crate::listener::{Counted, Expected, Listener, Meaning};
 use crate::reporting::report_piece;
 use crate::trail::Trail;
 use bcs_decode_slice::cursor::Cursor;
@@ -32,7 +32,7 @@ pub fn report_length<T: Listener>(
             Ok(count)
         }
         Err(stop) => {
-            out.halt(trail, Wanted::Length(what));
+            out.halt(trail, Expected::Length(what));
             Err(stop)
         }
     }
@@ -59,7 +59,7 @@ pub fn report_option_tag<T: Listener>(
             Ok(is_present)
         }
         Err(stop) => {
-            out.halt(trail, Wanted::Option);
+            out.halt(trail, Expected::Option);
             Err(stop)
         }
     }

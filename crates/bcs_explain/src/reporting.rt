@@ -2,7 +2,7 @@
 ghost use Rattle.std.specs.Prelude.{◌≡◌, ℕ, ◌+◌, ◌-◌, ◌<◌, ◌≤◌, ◌^◌, List, length, drop};
 ghost use Rattle.bcs_explain.specs.Covering.{Covered, ReportsAnyStop};
 
-use crate::listener::{Listener, Meaning, Wanted};
+use crate::listener::{Expected, Listener, Meaning};
 use crate::trail::Trail;
 use bcs_decode_slice::cursor::Cursor;
 use bcs_decode_spec::Stop;
@@ -33,13 +33,13 @@ pub fn report_piece<T: Listener>(
 pub fn report_stop<X, T: Listener>(
     found: &Result<X, Stop>,
     trail: &Trail<'_, '_, '_>,
-    wanted: Wanted<'_>,
+    expected: Expected<'_>,
     out: &mut T,
 )
     ensures { ReportsAnyStop T.heard found.now out.old out.new }
 {
     match found {
         Ok(_) => {}
-        Err(_) => out.halt(trail, wanted),
+        Err(_) => out.halt(trail, expected),
     }
 }

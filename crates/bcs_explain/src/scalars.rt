@@ -8,15 +8,15 @@ ghost use Rattle.bcs_explain.specs.ScalarParsing.{discarding, node_and_bytes, sc
 ghost use Rattle.bcs_explain.specs.Covering.{Covers};
 
 use crate::checks::{node, unsupported};
-use crate::listener::{Listener, Meaning, Wanted};
+use crate::listener::{Expected, Listener, Meaning};
 use crate::reporting::report_piece;
 use crate::strings::{report_byte_string, report_string};
 use crate::trail::Trail;
 use bcs_decode_slice::cursor::{self, Cursor, bytes};
 use bcs_decode_slice::shallow::flag_value;
 use bcs_decode_spec::{Reason, Stop};
-use bcs_num::{Width, front_unsigned};
-use bcs_registry_model::{Scalar, WholeNumber};
+use bcs_num::{Width, leading_unsigned};
+use bcs_registry_model::{IntegerKind, Scalar};
 
 /// A value of any scalar format.
 #[inline(never)]
@@ -34,8 +34,8 @@ pub fn report_scalar<T: Listener>(
     match scalar {
         Scalar::Unit => node(cursor, trail, out),
         Scalar::Bool => report_bool(cursor, trail, out),
-        Scalar::Whole(WholeNumber::Unsigned(width)) => report_unsigned(cursor, width, trail, out),
-        Scalar::Whole(WholeNumber::Signed(width)) => report_signed(cursor, width, trail, out),
+        Scalar::Whole(IntegerKind::Unsigned(width)) => report_unsigned(cursor, width, trail, out),
+        Scalar::Whole(IntegerKind::Signed(width)) => report_signed(cursor, width, trail, out),
         Scalar::Str => report_string(cursor, trail, out),
         Scalar::Bytes => report_byte_string(cursor, trail, out),
         Scalar::Unsupported(_) => unsupported(cursor, trail, out),
@@ -61,7 +61,7 @@ fn report_bool<T: Listener>(
             Ok(())
         }
         Err(stop) => {
-            out.halt(trail, Wanted::Truth);
+            out.halt(trail, Expected::Truth);
             Err(stop)
         }
     }
@@ -84,7 +84,7 @@ fn unsigned_of(width: Width, bytes: &[u8]) -> u128
     requires { length bytes.now ≡ byte_len (width_of width) }
     ensures { result ≡ from_le_bytes (width_of width) bytes.now }
 {
-    match front_unsigned(width, bytes) {
+    match leading_unsigned(width, bytes) {
         Some(number) => number,
         None => 0,
     }
@@ -111,7 +111,7 @@ fn report_unsigned<T: Listener>(
             Ok(())
         }
         Err(stop) => {
-            out.halt(trail, Wanted::Unsigned(width));
+            out.halt(trail, Expected::Unsigned(width));
             Err(stop)
         }
     }
@@ -138,7 +138,7 @@ fn report_signed<T: Listener>(
             Ok(())
         }
         Err(stop) => {
-            out.halt(trail, Wanted::Signed(width));
+            out.halt(trail, Expected::Signed(width));
             Err(stop)
         }
     }

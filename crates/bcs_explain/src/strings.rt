@@ -5,7 +5,7 @@ ghost use Rattle.bcs_decode_slice.specs.Passing.{Passes, Onward, bytes_past, tex
 ghost use Rattle.bcs_explain.specs.ScalarParsing.{discarding};
 ghost use Rattle.bcs_explain.specs.Covering.{Covers};
 
-use crate::listener::{Counted, Listener, Meaning, Wanted};
+use crate::listener::{Counted, Expected, Listener, Meaning};
 use crate::prefixes::report_length;
 use crate::reporting::report_piece;
 use crate::trail::Trail;
@@ -64,7 +64,7 @@ fn report_text<T: Listener>(
             Ok(())
         }
         Err(stop) => {
-            out.halt(trail, Wanted::Text(count));
+            out.halt(trail, Expected::Text(count));
             Err(stop)
         }
     }
@@ -90,7 +90,7 @@ fn report_bytes<T: Listener>(
             Ok(())
         }
         Err(stop) => {
-            out.halt(trail, Wanted::Bytes(count));
+            out.halt(trail, Expected::Bytes(count));
             Err(stop)
         }
     }

@@ -1,10 +1,5 @@
 -- How much is read ahead: the last block at most.
-use Rattle.std.proofs.Common.{◌≡◌, inl, inr, ℕ, zero, suc, ◌+◌, ◌-◌, ◌<◌, ◌≤◌, ◌∙◌, List, [], ◌∷◌, ◌++◌, length, take, drop, refl, sym, ap, subst, arith, length-append, length-drop, length-take-le, true≢false}
-use Rattle.std.proofs.Math.Seq.{take-append_seam}
-use Rattle.std.proofs.lemmas.Bool.{cases_lt}
-use Rattle.std.proofs.lemmas.List.{take-append-le}
-use Rattle.bcs_io.specs.Held.{IsFirstLineFeed}
-use Rattle.bcs_io.specs.Lines.{HasNoLineFeed, before_block, block_size}
+use Rattle.bcs_io.proofs.Prelude.{◌≡◌, inl, inr, ℕ, zero, suc, ◌+◌, ◌-◌, ◌<◌, ◌≤◌, ◌∙◌, List, [], ◌∷◌, ◌++◌, length, take, drop, refl, sym, ap, subst, arith, length-append, length-drop, length-take-le, true≢false, take-append_seam, cases_lt, take-append-le, IsFirstLineFeed, HasNoLineFeed, before_block, block_size}
 use Rattle.bcs_io.proofs.LineLemmas.{no_feed_first, no_feed_rest}
 use Rattle.bcs_io.proofs.Searching.{plain-take}
 

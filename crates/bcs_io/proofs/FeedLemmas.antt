@@ -1,9 +1,5 @@
 -- How many line feeds bytes have.
-use Rattle.std.proofs.Common.{◌≡◌, inl, inr, ℕ, zero, suc, ◌+◌, ◌-◌, ◌≤◌, ◌==◌, ◌∙◌, if◌then◌else◌, Bool, true, false, List, [], ◌∷◌, ◌++◌, length, take, refl, ap, arith, length-append}
-use Rattle.std.proofs.Math.Seq.{take-append-add}
-use Rattle.std.proofs.lemmas.Bool.{cases_lt}
-use Rattle.std.proofs.lemmas.List.{take-append-le}
-use Rattle.bcs_io.specs.Lines.{HasNoLineFeed, before_block, block_size, line_feeds}
+use Rattle.bcs_io.proofs.Prelude.{◌≡◌, inl, inr, ℕ, zero, suc, ◌+◌, ◌-◌, ◌≤◌, ◌==◌, ◌∙◌, if◌then◌else◌, Bool, true, false, List, [], ◌∷◌, ◌++◌, length, take, refl, ap, arith, length-append, take-append-add, cases_lt, take-append-le, HasNoLineFeed, before_block, block_size, line_feeds}
 use Rattle.bcs_io.proofs.LineLemmas.{no_feed_first, no_feed_rest}
 
 pub feeds_none : (xs : List ℕ) → HasNoLineFeed xs → line_feeds xs ≡ 0

@@ -1,8 +1,6 @@
 -- Bytes that a source gave in several calls.
-use Rattle.std.proofs.Common.{ℕ, Bool, List, [], ◌++◌, Option, refl, ◌∙◌, arith}
+use Rattle.bcs_io.proofs.Prelude.{ℕ, Bool, List, [], ◌++◌, Option, refl, ◌∙◌, arith, Consumes-nil, Consumes-trans, Gave, GaveThenFailed}
 use Rattle.std.proofs.lemmas.List.{length-append}
-use Rattle.std.proofs.KnownBytes.{Consumes-nil, Consumes-trans}
-use Rattle.bcs_io.specs.Giving.{Gave, GaveThenFailed}
 
 module _ {S : Type 0} (content : S → Option (List ℕ)) (is_failed : S → Bool) (allowance : S → ℕ) where
   -- no call takes nothing

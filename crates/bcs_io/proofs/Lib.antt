@@ -1,3 +1,4 @@
+pub mod Prelude
 pub mod TakingLemmas
 pub mod GivingLemmas
 pub mod Repeating

@@ -1,10 +1,5 @@
 -- The lines of texts that begin with a line.
-use Rattle.std.proofs.Common.{◌≡◌, ◌≢◌, ◌⊎◌, ℕ, ◌==◌, true, false, ◌||◌, cond, List, [], ◌∷◌, ◌++◌, refl, sym, ap, ◌∙◌, inl, inr, subst}
-use Rattle.std.proofs.lemmas.Bool.{cases_Bool, eqb-true}
-use Rattle.std.specs.List.{All, list_any}
-use Rattle.std.proofs.lemmas.List.Elements.{All-nil, All-cons, All-head, All-tail}
-use Rattle.bcs_io.specs.Lines.{lines_of, onto, HasNoLineFeed}
-use Rattle.bcs_io.specs.Laws.{ended, LinesGiveTextBack, LinesHaveNoLineFeed}
+use Rattle.bcs_io.proofs.Prelude.{◌≡◌, ◌≢◌, ◌⊎◌, ℕ, ◌==◌, true, false, ◌||◌, cond, List, [], ◌∷◌, ◌++◌, refl, sym, ap, ◌∙◌, inl, inr, subst, cases_Bool, eqb-true, All, list_any, All-nil, All-cons, All-head, All-tail, lines_of, onto, HasNoLineFeed, ended, LinesGiveTextBack, LinesHaveNoLineFeed}
 
 -- neither the first byte nor one behind it is a line feed
 pub no_feed_first : (c : ℕ) (cs : List ℕ) → HasNoLineFeed (c ∷ cs) → (c == 10) ≡ false

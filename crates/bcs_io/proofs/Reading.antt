@@ -1,15 +1,7 @@
 -- Blocks that were read one after the other.
-use Rattle.std.proofs.Common.{◌≡◌, ℕ, ◌+◌, ◌<◌, ◌≤◌, Bool, true, List, [], ◌∷◌, ◌++◌, length, take, Option, Result, Ok, Err, nat_lt, sym, ap, subst, ◌∙◌, inl, inr, append_assoc, arith, drop, length-take-le}
-use Rattle.std.proofs.lemmas.List.{append-nil, nil_from_length}
-use Rattle.bcs_io.specs.Giving.{Gave}
+use Rattle.bcs_io.proofs.Prelude.{◌≡◌, ℕ, ◌+◌, ◌<◌, ◌≤◌, Bool, true, List, [], ◌∷◌, ◌++◌, length, take, Option, Result, Ok, Err, nat_lt, sym, ap, subst, ◌∙◌, inl, inr, append_assoc, arith, drop, length-take-le, append-nil, nil_from_length, Gave, TakesLine, IsTooLong, RunsOut, GivesBlock, ReadsBlock, HeldLine, IsFirstLineFeed, HasNoLineFeed, before_block, block_size, NextFault, Read, TooLong, OutOfMemory}
 use Rattle.bcs_io.proofs.GivingLemmas.{Gave-then}
-use Rattle.bcs_io.specs.Advancing.{TakesLine, IsTooLong, RunsOut}
-use Rattle.bcs_io.specs.Blocks.{GivesBlock, ReadsBlock}
-use Rattle.bcs_io.specs.Held.{HeldLine, IsFirstLineFeed}
-use Rattle.bcs_io.specs.Lines.{HasNoLineFeed, before_block, block_size}
 use Rattle.bcs_io.proofs.Ahead.{block_behind, rest_behind}
-use Rattle.bcs_io.specs.declared.next_fault.NextFault.{NextFault}
-use Rattle.bcs_io.specs.declared.next_fault.NextFault.TheVariants.{Read, TooLong, OutOfMemory}
 
 some_long : (xs : List ℕ) → nat_lt 0 (length xs) ≡ true → xs ≡ [] → ⊥
 some_long [] is e = cc

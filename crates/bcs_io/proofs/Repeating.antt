@@ -1,7 +1,5 @@
 -- Copies of one byte, some of them in a buffer.
-use Rattle.std.proofs.Common.{◌≡◌, ℕ, ◌+◌, ◌-◌, ◌≤◌, List, ◌++◌, take, replicate, sym, ap, ◌∙◌, arith, subst}
-use Rattle.std.proofs.lemmas.List.{replicate-append-replicate, length-replicate}
-use Rattle.std.proofs.Math.Seq.{take-append_seam}
+use Rattle.bcs_io.proofs.Prelude.{◌≡◌, ℕ, ◌+◌, ◌-◌, ◌≤◌, List, ◌++◌, take, replicate, sym, ap, ◌∙◌, arith, subst, replicate-append-replicate, length-replicate, take-append_seam}
 
 -- of m copies, n stand at the front of a buffer, and the others are left
 pub replicate_front : (m n byte : ℕ) (tail : List ℕ) → n ≤ m → replicate m byte ≡ take n (replicate n byte ++ tail) ++ replicate (m - n) byte

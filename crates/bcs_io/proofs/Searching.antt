@@ -1,13 +1,5 @@
 -- Where the first line feed stands, from a search behind bytes that have none.
-use Rattle.std.proofs.Common.{◌≡◌, ℕ, zero, suc, ◌+◌, ◌-◌, ◌<◌, ◌≤◌, ◌==◌, Bool, ◌||◌, List, [], ◌∷◌, ◌++◌, length, take, drop, get_or, refl, sym, ap, ◌∙◌, arith, ⊎_elim, length-take-le, length-drop, get_or-take, get_or-drop, take-append-drop}
-use Rattle.std.proofs.lemmas.Bool.{cases_Bool, eqb-true}
-use Rattle.std.proofs.lemmas.List.{drop_more, drop-drop, take_rest}
-use Rattle.std.proofs.lemmas.List.Folds.{list_any-append}
-use Rattle.std.proofs.Math.Seq.{take-add}
-use Rattle.std.specs.List.{list_any}
-use Rattle.memchr.specs.Find.{Nowhere, NoneBefore, Passes, is_byte}
-use Rattle.bcs_io.specs.Lines.{HasNoLineFeed}
-use Rattle.bcs_io.specs.Held.{IsFirstLineFeed}
+use Rattle.bcs_io.proofs.Prelude.{◌≡◌, ℕ, zero, suc, ◌+◌, ◌-◌, ◌<◌, ◌≤◌, ◌==◌, Bool, ◌||◌, List, [], ◌∷◌, ◌++◌, length, take, drop, get_or, refl, sym, ap, ◌∙◌, arith, ⊎_elim, length-take-le, length-drop, get_or-take, get_or-drop, take-append-drop, cases_Bool, eqb-true, drop_more, drop-drop, take_rest, list_any-append, take-add, list_any, Nowhere, NoneBefore, Passes, is_byte, HasNoLineFeed, IsFirstLineFeed}
 use Rattle.bcs_io.proofs.LineLemmas.{no_feed_first, no_feed_rest}
 
 abbrev is_line_feed : ℕ → Bool

@@ -1,7 +1,5 @@
 -- Bytes that a sink took in several calls.
-use Rattle.std.proofs.Common.{ℕ, Bool, List, [], ◌++◌, Option, refl, ◌∙◌}
-use Rattle.std.proofs.KnownBytes.{Appends-nil, Appends-trans}
-use Rattle.bcs_io.specs.Taking.{Took, TookThenFailed}
+use Rattle.bcs_io.proofs.Prelude.{ℕ, Bool, List, [], ◌++◌, Option, refl, ◌∙◌, Appends-nil, Appends-trans, Took, TookThenFailed}
 
 module _ {K : Type 0} (taken : K → Option (List ℕ)) (is_failed : K → Bool) where
   -- no call takes nothing

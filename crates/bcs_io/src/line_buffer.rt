@@ -1,5 +1,5 @@
 //! A buffer that reads the lines of a source.
-ghost use Rattle.std.specs.Prelude.{◌≡◌, ℕ, ◌+◌, ◌<◌, ◌≤◌, true, false, nat_lt, List, [], length, take, drop, slice_range, vec_len, Ok, Err};
+ghost use Rattle.std.specs.Prelude.{◌≡◌, ℕ, ◌+◌, ◌<◌, ◌≤◌, true, false, nat_lt, [], length, take, drop, slice_range, vec_len, Ok, Err};
 ghost use Rattle.bcs_io.specs.Lines.{HasNoLineFeed};
 ghost use Rattle.bcs_io.specs.Held.{HeldLine, FindsLineFeed};
 ghost use Rattle.bcs_io.specs.Advancing.{TakesLine, HasNoLine, FailsInLine, IsTooLong, RunsOut};

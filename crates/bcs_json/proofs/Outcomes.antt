@@ -1,45 +1,9 @@
 -- What the calls answer, from what the crates below tell.
-use Rattle.std.proofs.Common.{◌≡◌, ◌≢◌, ◌≤◌, ◌↔◌, ℕ, List, Ok, Err, Result, Some, IfOk, IfErr, IfSome, Bool, Decides, refl, ap, sym, subst}
-use Rattle.std.proofs.lemmas.Option.{none-some, same_Some}
-use Rattle.std.specs.Result.{result_ok, result_err}
-use Rattle.serde_json.specs.Data.{Data, depth}
-use Rattle.bcs_registry_model.specs.Container.{Entries}
+use Rattle.bcs_json.proofs.Prelude.{◌≡◌, ◌≢◌, ◌≤◌, ◌↔◌, ℕ, List, Ok, Err, Result, Some, IfOk, IfErr, IfSome, Bool, Decides, refl, ap, sym, subst, none-some, same_Some, result_ok, result_err, Data, depth, Entries, IsOrderly, Shape, IsWellFormed, Bounds, Same, Tree, tree_of, Value, bytes_decide_same, IsForm, IsSound, EncodeFault, IsDecoded, IsNotJson, TextFault, NotJson, Json, fault_of_text, fault_of_value, JsonFault, OutOfMemory, HasBytes, Compares, Normalises, of, PointerStep, value, parts, IsPlaceOf, Reports, read_data, shown, nesting_limit, IsReadAs, SpelledBy, MisspellsAt, RefusesText, IsTextOf, shown_denotes, form_is_sound, form_nests, exact_data, read_is_spelled, stop_is_refusal, refused_value, steps, IsPlaced, Refusal, Prints}
 use Rattle.bcs_registry_model.specs.Container as container
-use Rattle.bcs_registry_model.specs.Ranges.{IsOrderly}
-use Rattle.bcs_registry_model.specs.Shape.{Shape}
-use Rattle.bcs_registry_model.specs.WellFormed.{IsWellFormed}
-use Rattle.bcs_value_model.specs.Limits.{Bounds}
-use Rattle.bcs_value_model.specs.Same.{Same}
-use Rattle.bcs_value_model.specs.Tree.{Tree}
-use Rattle.bcs_value_model.specs.View.{tree_of}
-use Rattle.bcs_value_model.specs.declared.value.Value.{Value}
-use Rattle.bcs_encode_spec.proofs.FormLaws.{bytes_decide_same}
-use Rattle.bcs_encode_spec.specs.Encodes.{IsForm}
 use Rattle.bcs_encode_spec.specs.Refused as encode
-use Rattle.bcs_encode_spec.specs.Sound.{IsSound}
-use Rattle.bcs_encode_spec.specs.declared.fault.EncodeFault.{EncodeFault}
 use Rattle.bcs_encode_spec.specs.declared.fault.EncodeFault.TheVariants as encode_fault
-use Rattle.bcs_decode_spec.specs.Accepting.{IsDecoded}
-use Rattle.bcs_registry_json.specs.Json.{IsNotJson}
-use Rattle.bcs_registry_json.specs.declared.json_reading.TextFault.{TextFault}
 use Rattle.bcs_registry_json.specs.declared.json_reading.TextFault.TheVariants as unread
-use Rattle.bcs_registry_json.specs.declared.json_reading.TextFault.TheVariants.{NotJson}
-use Rattle.serde_json.specs.declared.value.Value.{Value as Json}
-use Rattle.bcs_json_spec.specs.Causes.{fault_of_text, fault_of_value}
-use Rattle.bcs_json_spec.specs.declared.json_fault.JsonFault.{JsonFault}
-use Rattle.bcs_json_spec.specs.declared.json_fault.JsonFault.TheVariants.{OutOfMemory}
-use Rattle.bcs_json_spec.specs.Headline.{HasBytes, Compares, Normalises}
-use Rattle.bcs_json_spec.specs.JsonContent.{of}
-use Rattle.bcs_json_spec.specs.Place.{PointerStep, value, parts, IsPlaceOf}
-use Rattle.bcs_json_spec.specs.Reading.{Tells, read_data}
-use Rattle.bcs_json_spec.specs.Shown.{shown}
-use Rattle.bcs_json_spec.specs.Texts.{nesting_limit, IsReadAs, SpelledBy, MisspellsAt, RefusesText, IsTextOf}
-use Rattle.bcs_json_spec.proofs.Printed.{shown_denotes, form_is_sound, form_nests}
-use Rattle.bcs_json_spec.proofs.Verdict.{exact_data}
-use Rattle.bcs_json_spec.proofs.TextOutcomes.{read_is_spelled, stop_is_refusal, refused_value}
-use Rattle.bcs_json_reader.specs.Refused.{steps, IsPlaced}
-use Rattle.bcs_json_reader.specs.declared.refusal.Refusal.{Refusal}
-use Rattle.bcs_json.specs.Printing.{Prints}
 
 -- results that were looked at by `ok` and `err`
 pub was_ok : {A E : Type 0} (r : Result A E) (x : A) (P : A → Type 0) → Some x ≡ result_ok r → IfOk r P → P x
@@ -57,21 +21,21 @@ module _ (registry : Entries) (limits : Bounds) (s : Shape) (text : List ℕ) wh
   text_fault unread.OutOfMemory r is h other = absurd (other refl)
 
   -- what the reader gave is spelled
-  pub told_value : (d : Data) → IsReadAs text d → (r : Result Value JsonFault) → Tells tree_of r (read_data registry limits.depth (of s) d) → IfOk r (λ v. SpelledBy registry limits s text (tree_of v))
+  pub told_value : (d : Data) → IsReadAs text d → (r : Result Value JsonFault) → Reports tree_of r (read_data registry limits.depth (of s) d) → IfOk r (λ v. SpelledBy registry limits s text (tree_of v))
   told_value d is (Ok v) h = read_is_spelled registry limits s text d is (tree_of v) h
   told_value d is (Err e) h = tt
 
   -- where it stopped, the text is refused
-  pub told_fault : (d : Data) → IsReadAs text d → (r : Result Value JsonFault) → Tells tree_of r (read_data registry limits.depth (of s) d) → IfErr r (λ e. e ≢ OutOfMemory → RefusesText registry limits s text e)
+  pub told_fault : (d : Data) → IsReadAs text d → (r : Result Value JsonFault) → Reports tree_of r (read_data registry limits.depth (of s) d) → IfErr r (λ e. e ≢ OutOfMemory → RefusesText registry limits s text e)
   told_fault d is (Ok v) h = tt
   told_fault d is (Err e) h = λ other. stop_is_refusal registry limits s text d is e (h other)
 
   -- and a known way leads to where it is
-  pub told_place : (d : Data) → IsReadAs text d → (n : ℕ) → n ≡ limits.depth → (r : Refusal) → Tells {X = Value} tree_of (Err r.fault) (read_data registry n (of s) d)
-      → IsPlaced {X = Value} registry (parts registry n (value (of s)) d) (Err r) → r.fault ≢ OutOfMemory → (path : List PointerStep) → steps r.way ≡ Some path → MisspellsAt registry limits s text path r.fault
-  told_place d is n depth r tells placed other path known =
-      let read : read_data registry limits.depth (of s) d ≡ Err r.fault = subst (λ m. read_data registry m (of s) d ≡ Err r.fault) depth (tells other) in
-      let place : IsPlaceOf registry n (value (of s)) d path = subst (λ o. IfSome o (λ way. IsPlaceOf registry n (value (of s)) d way)) known (placed other) in
+  pub told_place : (d : Data) → IsReadAs text d → (n : ℕ) → n ≡ limits.depth → (r : Refusal) → Reports {X = Value} tree_of (Err r.fault) (read_data registry n (of s) d)
+      → IsPlaced {X = Value} registry (parts registry n (value (of s)) d) (Err r) → r.fault ≢ OutOfMemory → (path : List PointerStep) → steps r.location ≡ Some path → MisspellsAt registry limits s text path r.fault
+  told_place d is n depth r reports placed other path known =
+      let read : read_data registry limits.depth (of s) d ≡ Err r.fault = subst (λ m. read_data registry m (of s) d ≡ Err r.fault) depth (reports other) in
+      let place : IsPlaceOf registry n (value (of s)) d path = subst (λ o. IfSome o (λ location. IsPlaceOf registry n (value (of s)) d location)) known (placed other) in
       (d, is, ((exact_data registry limits.depth (of s) d).err r.fault read, subst (λ m. IsPlaceOf registry m (value (of s)) d path) depth place))
 
   -- a fault of encoding what is spelled is one of the text

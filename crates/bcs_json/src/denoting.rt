@@ -14,7 +14,7 @@ use bcs_registry::{Format, Registry};
 use bcs_value::{Limits, Value};
 use std::alloc::Global;
 
-/// The value that a text denotes, its pairs as they stand there, and its encoding, by which it is judged.
+/// The value that a text denotes, its pairs as they stand there, and its encoding, by which it is validated.
 pub(crate) fn denoted(
     alloc: Global,
     registry: &Registry,

@@ -31,6 +31,6 @@ pub fn fault_place(
     if refusal.fault == JsonFault::OutOfMemory {
         return None;
     }
-    let steps = refusal.way.outward(alloc)?;
+    let steps = refusal.location.outward(alloc)?;
     Some((refusal.fault, steps))
 }

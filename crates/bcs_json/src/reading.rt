@@ -17,7 +17,7 @@ use std::alloc::Global;
 /// `NotJson`: `serde_json` doesn't read the text. `TooNested`: arrays and objects nest more than 100 deep. Then the
 /// JSON and the format are gone through together, and the first test that fails is the answer: `Unsupported`,
 /// `BadShape`, `BadNumber`, `BadHex`, `UnknownField`, `MissingField`, `UnknownVariant` or `TooDeep`. Then the whole
-/// value is judged: `TooManyNodes`, `TooLong`, `RepeatedKey`. A text that denotes a value is refused for memory alone.
+/// value is validated: `TooManyNodes`, `TooLong`, `RepeatedKey`. A text that denotes a value is refused for memory alone.
 pub fn read_value(
     alloc: Global,
     registry: &Registry,

@@ -32,7 +32,7 @@ pub(crate) fn json_of(alloc: Global, text: &[u8]) -> Result<Json, JsonFault>
     }
 }
 
-/// The value that a text spells, its pairs as they stand there. It isn't judged yet: it may have too many nodes, too
+/// The value that a text spells, its pairs as they stand there. It isn't validated yet: it may have too many nodes, too
 /// long lengths, or equal keys. A plain text is read from its tokens, and any other by way of its JSON.
 pub(crate) fn spelled(
     alloc: Global,

@@ -1,3 +1,4 @@
+pub mod Prelude
 pub mod ShownViews
 pub mod ShownDepths
 pub mod PrintedRows

@@ -1,17 +1,5 @@
 -- The members of an object by the places of its fields.
-use Rattle.std.proofs.Common.{◌≡◌, ◌∙◌, ◌<◌, ◌+◌, ℕ, zero, suc, List, [], ◌∷◌, length, get_or, drop, map, String, Global, Ordering, Less, Equal, Greater, string_bytes, string_cmp, refl, ap, arith}
-use Rattle.std.specs.BTreeMap.{insert_entry}
-use Rattle.std.specs.Ordering.{match_ordering}
-use Rattle.serde_json.specs.Data.{Data, null, put}
-use Rattle.bcs_registry_model.specs.Container.{Entries}
-use Rattle.bcs_registry_model.specs.View.{shape_of, field_of}
-use Rattle.bcs_registry_model.specs.declared.format.Format.{Format}
-use Rattle.bcs_registry_model.specs.declared.named.Named.{Named}
-use Rattle.bcs_value_model.specs.View.{tree_of, items_trees}
-use Rattle.bcs_value_model.specs.declared.value.Value.{Value}
-use Rattle.bcs_json_spec.specs.JsonContent.{of}
-use Rattle.bcs_json_spec.specs.Shown.{shown, shown_fields}
-use Rattle.bcs_json_printer.specs.Places.{name_of, placed, put_from}
+use Rattle.bcs_json_printer.proofs.Prelude.{◌≡◌, ◌∙◌, ◌<◌, ◌+◌, ℕ, zero, suc, List, [], ◌∷◌, length, get_or, drop, map, String, Global, Ordering, Less, Equal, Greater, string_bytes, string_cmp, refl, ap, arith, insert_entry, match_ordering, Data, null, put, Entries, shape_of, field_of, Format, Named, tree_of, items_trees, Value, of, shown, shown_fields, name_of, placed, put_from}
 use Rattle.bcs_json_printer.proofs.PrintedRows.{left_at}
 
 abbrev Entry : Type 0

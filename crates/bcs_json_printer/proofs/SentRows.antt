@@ -1,21 +1,5 @@
 -- Rows that are sent one part after another.
-use Rattle.std.proofs.Common.{◌≡◌, ◌<◌, ◌≤◌, ℕ, zero, suc, List, [], ◌∷◌, length, get_or, map, true, false, true≢false, String, Global, refl, sym, ap, arith, subst}
-use Rattle.std.proofs.lemmas.Bool.{and_parts}
-use Rattle.std.specs.List.{All}
-use Rattle.std.specs.Map.{values_of}
-use Rattle.serde_json.specs.Data.{Data}
-use Rattle.serde_json.specs.Events.{items_len, members_len}
-use Rattle.bcs_registry_model.specs.Container.{Entries, field_shapes, of as at_format}
-use Rattle.bcs_registry_model.specs.Shape.{Shape}
-use Rattle.bcs_registry_model.specs.View.{field_of, formats_shapes, shape_of}
-use Rattle.bcs_registry_model.specs.declared.format.Format.{Format}
-use Rattle.bcs_registry_model.specs.declared.named.Named.{Named}
-use Rattle.bcs_value_model.specs.Fits.{each_fits, fits}
-use Rattle.bcs_value_model.specs.Tree.{nodes, pairs_nodes, trees_nodes}
-use Rattle.bcs_value_model.specs.View.{entries_pairs, items_trees, tree_of}
-use Rattle.bcs_value_model.specs.declared.value.Value.{Value}
-use Rattle.bcs_json_spec.specs.Shown.{shown_all, shown_each, shown_pairs}
-use Rattle.bcs_json_printer.specs.Places.{placed}
+use Rattle.bcs_json_printer.proofs.Prelude.{◌≡◌, ◌<◌, ◌≤◌, ℕ, zero, suc, List, [], ◌∷◌, length, get_or, map, true, false, true≢false, String, Global, refl, sym, ap, arith, subst, and_parts, All, values_of, Data, items_len, members_len, Entries, field_shapes, at_format, Shape, field_of, formats_shapes, shape_of, Format, Named, each_fits, fits, nodes, pairs_nodes, trees_nodes, entries_pairs, items_trees, tree_of, Value, shown_all, shown_each, shown_pairs, placed}
 
 -- a part of a row has no more nodes than the row
 pub part_nodes : (xs : List Value) (i : ℕ) (x : Value) → i < length xs → x ≡ get_or xs i x → nodes (tree_of x) ≤ trees_nodes (items_trees xs)

@@ -1,22 +1,5 @@
 -- How deep the members of a struct nest, field by field.
-use Rattle.std.proofs.Common.{◌≡◌, ◌≤◌, ◌∙◌, ◌<◌, ◌+◌, ℕ, max, nat_le, List, ◌∷◌, length, get_or, drop, map, None, true, ◌&&◌, sym, ap, arith}
-use Rattle.std.proofs.Math.Nat.{max-le}
-use Rattle.std.proofs.lemmas.Bool.{and_parts}
-use Rattle.std.proofs.lemmas.Grind.{common_steps}
-use Rattle.serde_json.specs.Data.{Data, Members, member, put, depth, members_depth}
-use Rattle.serde_json.specs.Find.{get_member}
-use Rattle.bcs_registry_model.specs.Container.{Field, Entries}
-use Rattle.bcs_registry_model.specs.View.{shape_of, field_of}
-use Rattle.bcs_registry_model.specs.WellFormed.{are_distinct}
-use Rattle.bcs_registry_model.specs.declared.format.Format.{Format}
-use Rattle.bcs_registry_model.specs.declared.named.Named.{Named}
-use Rattle.bcs_value_model.specs.Tree.{Tree, Trees, tree}
-use Rattle.bcs_value_model.specs.View.{tree_of, items_trees}
-use Rattle.bcs_value_model.specs.declared.value.Value.{Value}
-use Rattle.bcs_json_spec.specs.JsonContent.{of}
-use Rattle.bcs_json_spec.specs.Shown.{shown, shown_fields}
-use Rattle.bcs_json_spec.proofs.Lowest.{put_depth}
-use Rattle.bcs_json_spec.proofs.Members.{new_field, put_own_depth, put_others_depth}
+use Rattle.bcs_json_printer.proofs.Prelude.{◌≡◌, ◌≤◌, ◌∙◌, ◌<◌, ◌+◌, ℕ, max, nat_le, List, ◌∷◌, length, get_or, drop, map, None, true, ◌&&◌, sym, ap, arith, max-le, and_parts, common_steps, Data, Members, member, put, depth, members_depth, get_member, Field, Entries, shape_of, field_of, are_distinct, Format, Named, Tree, Trees, tree, tree_of, items_trees, Value, of, shown, shown_fields, put_depth, new_field, put_own_depth, put_others_depth}
 use Rattle.bcs_json_printer.proofs.PrintedRows.{left_at}
 
 abbrev pub names : List Field → List (List ℕ)

@@ -43,7 +43,7 @@ impl<'a> Shown<'a> {
         format: &'a Format,
         value: &'a Value,
     ) -> Option<Shown<'a>>
-        ensures judges { is_some result ≡ fits false registry.now (tree_of value.now) (at_format (shape_of format.now)) }
+        ensures validates { is_some result ≡ fits false registry.now (tree_of value.now) (at_format (shape_of format.now)) }
         ensures holds { IfSome result (λ s.
             (s.registry.now ≡ registry.now) × (s.format.now ≡ format.now) × (s.value.now ≡ value.now)) }
     {

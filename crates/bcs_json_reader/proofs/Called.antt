@@ -1,19 +1,6 @@
 -- An enum's variant by its name: first its number, and then what has this number.
-use Rattle.std.proofs.Common.{◌≡◌, ◌∙◌, ℕ, List, Option, Some, None, option_map, Bor, map, string_bytes, true, refl, sym, ap, subst}
-use Rattle.std.specs.BTreeMap.{is_at}
-use Rattle.std.specs.Map.{lookup}
-use Rattle.std.specs.Option.{option_copied, option_map_or}
+use Rattle.bcs_json_reader.proofs.Prelude.{◌≡◌, ◌∙◌, ℕ, List, Option, Some, None, option_map, Bor, map, string_bytes, true, refl, sym, ap, subst, is_at, lookup, option_copied, option_map_or, and_parts, Choice, Payload, Entries, enumeration, container_at, choice_called, choice_numbered, number_called, variant_number, IsOrderly, choice_of, payload_of, Named, VariantFormat, find-choice, nothing, json_content, numbering_at, called_numbered, numbers_differ, numbers_fit, has_numbering, orderly_numbering}
 use Rattle.std.specs.Ordering.{nat_cmp}
-use Rattle.std.proofs.lemmas.Bool.{and_parts}
-use Rattle.bcs_registry_model.specs.Container.{Choice, Payload, Entries, enumeration, container_at, choice_called, choice_numbered, number_called, variant_number}
-use Rattle.bcs_registry_model.specs.Ranges.{IsOrderly}
-use Rattle.bcs_registry_model.specs.View.{choice_of, payload_of}
-use Rattle.bcs_registry_model.specs.declared.named.Named.{Named}
-use Rattle.bcs_registry_model.specs.declared.variant_format.VariantFormat.{VariantFormat}
-use Rattle.bcs_registry_model.proofs.Lookup.{find-choice}
-use Rattle.bcs_json_spec.specs.JsonContent.{nothing, json_content}
-use Rattle.bcs_json_spec.proofs.Fitting.{numbering_at, called_numbered}
-use Rattle.bcs_json_spec.proofs.Numbering.{numbers_differ, numbers_fit, has_numbering, orderly_numbering}
 
 -- an enum's numbers differ
 pub differ : (registry : Entries) (name : List ℕ) → IsOrderly registry → (cs : List Choice) → container_at name registry ≡ Some (enumeration cs) → numbers_differ cs ≡ true

@@ -1,23 +1,7 @@
 -- Arrays of exactly so many items.
-use Rattle.std.proofs.Common.{◌≡◌, ◌∙◌, ℕ, suc, List, [], ◌∷◌, length, Vec, Global, Bool, Ok, Err, ◌==◌, refl, ap, sym, rules}
-use Rattle.std.proofs.lemmas.Bool.Decides.{Decides-eqb}
-use Rattle.serde_json.specs.Data.{Data, Items, array}
-use Rattle.serde_json.specs.View.{items_view}
-use Rattle.serde_json.specs.declared.value.Value.{Value as Json}
+use Rattle.bcs_json_reader.proofs.Prelude.{◌≡◌, ◌∙◌, ℕ, suc, List, [], ◌∷◌, length, Vec, Global, Bool, Ok, Err, ◌==◌, refl, ap, sym, rules, Decides-eqb, Data, Items, array, items_view, Json, Shape, formats_shapes, Format, Tree, Trees, items, tree_of, items_trees, Value, the_lemmas, JsonFault, BadShape, item_count, shape_count, item_parts, each_parts, array_parts, tuple_parts, Read, follow, read_all, read_array, read_tuple, read_shape, read_each, when_true, when_false}
 use Rattle.bcs_registry_model.specs.Shape as shape
-use Rattle.bcs_registry_model.specs.Shape.{Shape}
-use Rattle.bcs_registry_model.specs.View.{formats_shapes}
-use Rattle.bcs_registry_model.specs.declared.format.Format.{Format}
-use Rattle.bcs_value_model.specs.Tree.{Tree, Trees, items}
-use Rattle.bcs_value_model.specs.View.{tree_of, items_trees}
 use Rattle.bcs_value_model.specs.declared.value.Value as value
-use Rattle.bcs_value_model.specs.declared.value.Value.{Value, the_lemmas}
-use Rattle.bcs_json_spec.specs.declared.json_fault.JsonFault.{JsonFault}
-use Rattle.bcs_json_spec.specs.declared.json_fault.JsonFault.TheVariants.{BadShape}
-use Rattle.bcs_json_spec.specs.Look.{item_count, shape_count}
-use Rattle.bcs_json_spec.specs.Place.{item_parts, each_parts, array_parts, tuple_parts}
-use Rattle.bcs_json_spec.specs.Reading.{Read, follow, read_all, read_array, read_tuple, read_shape, read_each}
-use Rattle.bcs_json_spec.proofs.Exact.{when_true, when_false}
 
 -- as many items as values of JSON
 count_items : (js : List Json) → item_count (items_view js) ≡ length js

@@ -1,15 +1,5 @@
 -- The fields of a struct from one on, in the members that are left.
-use Rattle.std.proofs.Common.{◌≡◌, ◌∙◌, ◌++◌, ℕ, List, [], ◌∷◌, Ok, Some, map, string_bytes, ap, sym}
-use Rattle.serde_json.specs.Data.{Data, Members, no_members}
-use Rattle.serde_json.specs.Find.{get_member}
-use Rattle.bcs_registry_model.specs.View.{shape_of, field_of}
-use Rattle.bcs_registry_model.specs.declared.format.Format.{Format}
-use Rattle.bcs_registry_model.specs.declared.named.Named.{Named}
-use Rattle.bcs_value_model.specs.Tree.{Tree, Trees}
-use Rattle.bcs_value_model.specs.View.{tree_of, items_trees}
-use Rattle.bcs_value_model.specs.declared.value.Value.{Value}
-use Rattle.bcs_json_spec.specs.Look.{without}
-use Rattle.bcs_json_spec.specs.Reading.{Read, follow, read_shape, read_member, read_fields}
+use Rattle.bcs_json_reader.proofs.Prelude.{◌≡◌, ◌∙◌, ◌++◌, ℕ, List, [], ◌∷◌, Ok, Some, map, string_bytes, ap, sym, Data, Members, no_members, get_member, shape_of, field_of, Format, Named, Tree, Trees, tree_of, items_trees, Value, without, Read, follow, read_shape, read_member, read_fields}
 use Rattle.bcs_json_reader.proofs.Rows.{joined, joined-none, row_more}
 
 module _ (named : List ℕ → Data → Read Tree) (x : Named Format) (fs gs : List (Named Format)) (here : gs ≡ x ∷ fs) (ms : Members) (vs : List Value) where

@@ -1,16 +1,9 @@
 -- Formats with formats inside, and how many levels these have.
-use Rattle.std.proofs.Common.{◌≡◌, ℕ, zero, suc, ◌≤◌, List, [], ◌∷◌, map, drop, Result, ap, sym, subst, arith}
-use Rattle.bcs_registry_model.specs.Container.{field_shapes}
-use Rattle.bcs_registry_model.specs.View.{shape_of, formats_shapes, field_of}
-use Rattle.bcs_registry_model.specs.WellFormed.{levels, shapes_levels}
-use Rattle.bcs_registry_model.specs.declared.format.Format.{Format}
-use Rattle.bcs_registry_model.specs.declared.named.Named.{Named}
-use Rattle.bcs_json_spec.specs.declared.json_fault.JsonFault.{JsonFault}
-use Rattle.bcs_json_spec.specs.Reading.{Read, Tells}
+use Rattle.bcs_json_reader.proofs.Prelude.{◌≡◌, ℕ, zero, suc, ◌≤◌, List, [], ◌∷◌, map, drop, Result, ap, sym, subst, arith, field_shapes, shape_of, formats_shapes, field_of, levels, shapes_levels, Format, Named, JsonFault, Read, Reports}
 
 -- what tells one reading tells an equal one
-pub tells_as : {X A : Type 0} (v : X → A) (r : Result X JsonFault) (x y : Read A) → x ≡ y → Tells v r y → Tells v r x
-tells_as v r x y h t = subst (Tells v r) (sym h) t
+pub reports_as : {X A : Type 0} (v : X → A) (r : Result X JsonFault) (x y : Read A) → x ≡ y → Reports v r y → Reports v r x
+reports_as v r x y h t = subst (Reports v r) (sym h) t
 
 -- ---- levels
 

@@ -1,15 +1,7 @@
 -- A container that was looked up: what stands in it, and how many levels that has.
-use Rattle.std.proofs.Common.{◌≡◌, ◌∙◌, ℕ, suc, ◌≤◌, List, Some, ap}
-use Rattle.std.specs.Option.{option_map_or}
-use Rattle.bcs_registry_model.specs.Shape.{Shape, Shapes, tuple as tuple_shape}
+use Rattle.bcs_json_reader.proofs.Prelude.{◌≡◌, ◌∙◌, ℕ, suc, ◌≤◌, List, Some, ap, option_map_or, Shape, Shapes, tuple_shape, Field, Choice, Container, newtype_struct, tuple_struct, field_struct, enumeration, Entries, container_at, content, content_at, field_shapes, payload_shape, choice_called, IsOrderly, container_of, IsWellFormed, levels, shapes_levels, content_at-inside, choice_at-inside, called_numbered}
 use Rattle.bcs_registry_model.specs.Container as container
-use Rattle.bcs_registry_model.specs.Container.{Field, Choice, Container, newtype_struct, tuple_struct, field_struct, enumeration, Entries, container_at, content, content_at, field_shapes, payload_shape, choice_called}
-use Rattle.bcs_registry_model.specs.Ranges.{IsOrderly}
-use Rattle.bcs_registry_model.specs.View.{container_of}
-use Rattle.bcs_registry_model.specs.WellFormed.{IsWellFormed, levels, shapes_levels}
 use Rattle.bcs_registry_model.specs.declared.container.Container as declared
-use Rattle.bcs_registry_model.proofs.Admitted.{content_at-inside, choice_at-inside}
-use Rattle.bcs_json_spec.proofs.Fitting.{called_numbered}
 use Rattle.bcs_json_reader.proofs.Called.{differ}
 
 -- what was found is this container

@@ -1,3 +1,4 @@
+pub mod Prelude
 pub mod Formats
 pub mod Counts
 pub mod Rows
@@ -11,4 +12,4 @@ pub mod Whole
 pub mod Texts
 pub mod Taken
 pub mod Called
-pub mod Ways
+pub mod Locations

@@ -1,18 +1,7 @@
 -- JSON that is refused for its own kind has no parts.
-use Rattle.std.proofs.Common.{◌≡◌, ◌∙◌, ℕ, List, [], ◌∷◌, codes, Bool, true, false, cond, Some, None, Ok, Err, ◌==◌, if◌then◌else◌, bytes_eq, refl, ap}
-use Rattle.std.proofs.lemmas.Slice.Eq.{bytes_eq-Decides}
-use Rattle.serde_json.specs.Data.{Data, array, object, Items, no_items, item, Members, no_members, member}
+use Rattle.bcs_json_reader.proofs.Prelude.{◌≡◌, ◌∙◌, ℕ, List, [], ◌∷◌, codes, Bool, true, false, cond, Some, None, Ok, Err, ◌==◌, if◌then◌else◌, bytes_eq, refl, ap, bytes_eq-Decides, Data, array, object, Items, no_items, item, Members, no_members, member, Shape, Shapes, Field, newtype, Choice, choice_called, Tree, Trees, no_trees, item_count, shape_count, JsonPart, option_parts, seq_parts, map_parts, tuple_parts, array_parts, struct_parts, enum_parts, pair_parts, Read, follow, read_all, read_choice, read_enum, read_option, read_pair, read_seq, read_tuple, JsonFault, not_both, BadShape}
 use Rattle.bcs_registry_model.specs.Shape as shape
-use Rattle.bcs_registry_model.specs.Shape.{Shape, Shapes}
-use Rattle.bcs_registry_model.specs.Container.{Field, newtype, Choice, choice_called}
 use Rattle.bcs_value_model.specs.Tree as tree
-use Rattle.bcs_value_model.specs.Tree.{Tree, Trees, no_trees}
-use Rattle.bcs_json_spec.specs.Look.{item_count, shape_count}
-use Rattle.bcs_json_spec.specs.Place.{JsonPart, option_parts, seq_parts, map_parts, tuple_parts, array_parts, struct_parts, enum_parts, pair_parts}
-use Rattle.bcs_json_spec.specs.Reading.{Read, follow, read_all, read_choice, read_enum, read_option, read_pair, read_seq, read_tuple}
-use Rattle.bcs_json_spec.specs.declared.json_fault.JsonFault.{JsonFault}
-use Rattle.bcs_json_spec.proofs.Exact.{not_both}
-use Rattle.bcs_json_spec.specs.declared.json_fault.JsonFault.TheVariants.{BadShape}
 
 -- a reader that takes anything
 abbrev takes : Data → Read Tree

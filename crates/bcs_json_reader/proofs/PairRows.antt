@@ -1,12 +1,5 @@
 -- The entries of a map: those that were read so far, before those that are still to be read.
-use Rattle.std.proofs.Common.{◌≡◌, ◌∙◌, ◌++◌, List, [], ◌∷◌, Ok, Err, refl, ap, sym}
-use Rattle.serde_json.specs.Data.{Data}
-use Rattle.serde_json.specs.View.{view, items_view}
-use Rattle.serde_json.specs.declared.value.Value.{Value as Json}
-use Rattle.bcs_value_model.specs.Tree.{Tree, Pairs, no_pairs, pair}
-use Rattle.bcs_value_model.specs.View.{tree_of, entries_pairs}
-use Rattle.bcs_value_model.specs.declared.value.Value.{Value}
-use Rattle.bcs_json_spec.specs.Reading.{Read, follow, read_pair, read_pairs}
+use Rattle.bcs_json_reader.proofs.Prelude.{◌≡◌, ◌∙◌, ◌++◌, List, [], ◌∷◌, Ok, Err, refl, ap, sym, Data, view, items_view, Json, Tree, Pairs, no_pairs, pair, tree_of, entries_pairs, Value, Read, follow, read_pair, read_pairs}
 
 abbrev pub joined_pairs : List (Value × Value) → Pairs → Pairs
 joined_pairs [] ps = ps

@@ -1,24 +1,12 @@
 -- Ways to where JSON is refused, part by part.
-use Rattle.std.proofs.Common.{◌≡◌, ◌≢◌, ◌∙◌, List, [], ◌∷◌, Option, Some, None, Result, Ok, Err, IfSome, All, option_map, refl, ap, sym, subst}
-use Rattle.std.specs.Result.{result_err}
-use Rattle.std.proofs.lemmas.List.Elements.{All-nil}
-use Rattle.bcs_registry_model.specs.Container.{Entries}
-use Rattle.bcs_json_spec.specs.Place.{PointerStep, JsonPart, parts, IsGood, IsPlaceAmong}
-use Rattle.bcs_json_spec.specs.Reading.{Read, Tells}
-use Rattle.bcs_json_spec.specs.declared.json_fault.JsonFault.{JsonFault}
-use Rattle.bcs_json_spec.specs.declared.json_fault.JsonFault.TheVariants.{OutOfMemory}
-use Rattle.bcs_json_spec.proofs.FaultAt.{fault_at, good_of, none_of}
-use Rattle.bcs_json_spec.proofs.Places.{place-here, place-later}
-use Rattle.bcs_json_reader.specs.Refused.{steps, fault_alone, way_of, IsPlaced}
-use Rattle.bcs_json_reader.specs.declared.refusal.Refusal.{Refusal}
-use Rattle.bcs_json_reader.specs.declared.refusal.Way.TheVariants.{Here}
+use Rattle.bcs_json_reader.proofs.Prelude.{◌≡◌, ◌≢◌, ◌∙◌, List, [], ◌∷◌, Option, Some, None, Result, Ok, Err, IfSome, All, option_map, refl, ap, sym, subst, result_err, All-nil, Entries, PointerStep, JsonPart, parts, IsGood, IsPlaceAmong, Read, Reports, JsonFault, OutOfMemory, fault_at, good_of, none_of, place-here, place-later, steps, fault_alone, location_of, IsPlaced, Refusal, Here}
 
 -- what was told stays so, seen from outside
-pub told_ok : {X A : Type 0} (see : X → A) (inner : Result X Refusal) (read : Read A) (v : X) → Ok v ≡ fault_alone inner → Tells see (fault_alone inner) read → read ≡ Ok (see v)
-told_ok see inner read v same h = subst (λ y. Tells see y read) (sym same) h
+pub told_ok : {X A : Type 0} (see : X → A) (inner : Result X Refusal) (read : Read A) (v : X) → Ok v ≡ fault_alone inner → Reports see (fault_alone inner) read → read ≡ Ok (see v)
+told_ok see inner read v same h = subst (λ y. Reports see y read) (sym same) h
 
-pub told_err : {X A : Type 0} (see : X → A) (inner : Result X Refusal) (read : Read A) (e : JsonFault) → Err e ≡ fault_alone inner → Tells see (fault_alone inner) read → e ≢ OutOfMemory → read ≡ Err e
-told_err see inner read e same h = subst (λ y. Tells see y read) (sym same) h
+pub told_err : {X A : Type 0} (see : X → A) (inner : Result X Refusal) (read : Read A) (e : JsonFault) → Err e ≡ fault_alone inner → Reports see (fault_alone inner) read → e ≢ OutOfMemory → read ≡ Err e
+told_err see inner read e same h = subst (λ y. Reports see y read) (sym same) h
 
 some_is : {A : Type 0} (x y : A) → Some x ≡ Some y → x ≡ y
 some_is x y h = cc
@@ -32,13 +20,13 @@ err_is e g r h k = cc
 module _ (registry : Entries) where
   -- a known way leads to the place among these parts
   abbrev pub IsWay : List JsonPart → Refusal → Type 0
-  IsWay ps r = r.fault ≢ OutOfMemory → IfSome (steps r.way) (λ path. IsPlaceAmong registry path ps)
+  IsWay ps r = r.fault ≢ OutOfMemory → IfSome (steps r.location) (λ path. IsPlaceAmong registry path ps)
 
   -- JSON that is refused for its own kind, or once all of its parts are read
-  pub placed_own : (ps : List JsonPart) (r : Refusal) → r.way ≡ Here → All (IsGood registry) ps → IsWay ps r
+  pub placed_own : (ps : List JsonPart) (r : Refusal) → r.location ≡ Here → All (IsGood registry) ps → IsWay ps r
   placed_own ps r here good other = subst (λ w. IfSome (steps w) (λ path. IsPlaceAmong registry path ps)) (sym here) good
 
-  pub placed_none : (ps : List JsonPart) (r : Refusal) → r.way ≡ Here → ps ≡ [] → IsWay ps r
+  pub placed_none : (ps : List JsonPart) (r : Refusal) → r.location ≡ Here → ps ≡ [] → IsWay ps r
   placed_none ps r here none = placed_own ps r here (subst (All (IsGood registry)) (sym none) (All-nil (IsGood registry)))
 
   pub way_as : (ps qs : List JsonPart) (r : Refusal) → ps ≡ qs → IsWay qs r → IsWay ps r
@@ -50,7 +38,7 @@ module _ (registry : Entries) where
   -- from some parts to others
   pub placed_on : (ps qs : List JsonPart) (r : Refusal) → ((path : List PointerStep) → IsPlaceAmong registry path ps → IsPlaceAmong registry path qs)
       → IsWay ps r → IsWay qs r
-  placed_on ps qs r on h other = step (steps r.way) (h other)
+  placed_on ps qs r on h other = step (steps r.location) (h other)
     where
       step : (o : Option (List PointerStep)) → IfSome o (λ path. IsPlaceAmong registry path ps) → IfSome o (λ path. IsPlaceAmong registry path qs)
       step None g = tt
@@ -58,22 +46,22 @@ module _ (registry : Entries) where
 
   module _ (p : JsonPart) (ps : List JsonPart) where
     way_here : (s : PointerStep) → p.step ≡ s → ¬ IsGood registry p → (outer inner : Option (List PointerStep))
-        → IfSome outer (λ path. option_map (λ way. s ∷ way) inner ≡ Some path) → IfSome inner (λ path. IsPlaceAmong registry path (parts registry p.left p.target p.json))
+        → IfSome outer (λ path. option_map (λ location. s ∷ location) inner ≡ Some path) → IfSome inner (λ path. IsPlaceAmong registry path (parts registry p.left p.target p.json))
         → IfSome outer (λ path. IsPlaceAmong registry path (p ∷ ps))
     way_here s is bad None inner h g = tt
     way_here s is bad (Some path) None h g = absurd (not_none path None h refl)
-    way_here s is bad (Some path) (Some way) h g =
-        subst (λ w. IsPlaceAmong registry w (p ∷ ps)) (ap (λ t. t ∷ way) is ∙ some_is (s ∷ way) path h) (place-here registry way p ps bad g)
+    way_here s is bad (Some path) (Some location) h g =
+        subst (λ w. IsPlaceAmong registry w (p ∷ ps)) (ap (λ t. t ∷ location) is ∙ some_is (s ∷ location) path h) (place-here registry location p ps bad g)
 
     -- the first part is refused
     pub placed_here : {X A : Type 0} (see : X → A) (s : PointerStep) (inner : Result X Refusal) (r : Refusal) (read : Read A) → p.step ≡ s → fault_at registry p.left p.target p.json ≡ result_err read
-        → Tells see (fault_alone inner) read → IsPlaced registry (parts registry p.left p.target p.json) inner
-        → Err r.fault ≡ fault_alone inner → IfSome (steps r.way) (λ path. option_map (λ way. s ∷ way) (way_of inner) ≡ Some path)
+        → Reports see (fault_alone inner) read → IsPlaced registry (parts registry p.left p.target p.json) inner
+        → Err r.fault ≡ fault_alone inner → IfSome (steps r.location) (λ path. option_map (λ location. s ∷ location) (location_of inner) ≡ Some path)
         → IsWay (p ∷ ps) r
-    placed_here see s (Ok v) r read is fault tells placed same way other = cc
-    placed_here see s (Err g) r read is fault tells placed same way other =
+    placed_here see s (Ok v) r read is fault reports placed same location other = cc
+    placed_here see s (Err g) r read is fault reports placed same location other =
         let bad : g.fault ≢ OutOfMemory = subst (λ e. e ≢ OutOfMemory) (err_is r.fault g.fault (fault_alone (Err g)) (sym same) refl) other in
-        way_here s is (λ good. not_none g.fault (fault_at registry p.left p.target p.json) (fault ∙ ap result_err (tells bad)) (none_of registry p good)) (steps r.way) (steps g.way) way (placed bad)
+        way_here s is (λ good. not_none g.fault (fault_at registry p.left p.target p.json) (fault ∙ ap result_err (reports bad)) (none_of registry p good)) (steps r.location) (steps g.location) location (placed bad)
 
   -- the first part is read
   pub read_later : {A : Type 0} (p : JsonPart) (ps : List JsonPart) (read : Read A) (t : A) → fault_at registry p.left p.target p.json ≡ result_err read → read ≡ Ok t

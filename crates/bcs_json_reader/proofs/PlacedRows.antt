@@ -1,26 +1,8 @@
 -- Ways to where a part of a row is refused: those before it are read.
-use Rattle.std.proofs.Common.{◌≡◌, ◌∙◌, ◌++◌, ℕ, suc, List, [], ◌∷◌, codes, length, Some, None, Result, Ok, Err, IfSome, option_map, map, string_bytes, refl, ap, sym, subst, arith, length-append}
-use Rattle.std.specs.Option.{option_map_or}
-use Rattle.std.specs.Result.{result_err}
-use Rattle.serde_json.specs.Data.{Data, Members, array, object, no_items, no_members}
+use Rattle.bcs_json_reader.proofs.Prelude.{◌≡◌, ◌∙◌, ◌++◌, ℕ, suc, List, [], ◌∷◌, codes, length, Some, None, Result, Ok, Err, IfSome, option_map, map, string_bytes, refl, ap, sym, subst, arith, length-append, option_map_or, result_err, Data, Members, array, object, no_items, no_members, get_member, view, items_view, Json, Entries, Payload, Choice, choice_called, Shape, shape_of, formats_shapes, field_of, Format, Named, Tree, of, payload_content, without, PointerStep, JsonPart, part, parts, entry, item_parts, each_parts, entry_parts, field_parts, option_parts, enum_parts, pair_parts, IsPlaceAmong, fault_at, Read, Reports, read_content, read_data, read_named, read_pair, read_part, steps, fault_alone, location_of, IsPlaced, Refusal}
 use Rattle.serde_json.specs.Data as json
-use Rattle.serde_json.specs.Find.{get_member}
-use Rattle.serde_json.specs.View.{view, items_view}
-use Rattle.serde_json.specs.declared.value.Value.{Value as Json}
 use Rattle.bcs_registry_model.specs.Container as container
-use Rattle.bcs_registry_model.specs.Container.{Entries, Payload, Choice, choice_called}
-use Rattle.bcs_registry_model.specs.Shape.{Shape}
-use Rattle.bcs_registry_model.specs.View.{shape_of, formats_shapes, field_of}
-use Rattle.bcs_registry_model.specs.declared.format.Format.{Format}
-use Rattle.bcs_registry_model.specs.declared.named.Named.{Named}
-use Rattle.bcs_value_model.specs.Tree.{Tree}
-use Rattle.bcs_json_spec.specs.JsonContent.{of, payload_content}
-use Rattle.bcs_json_spec.specs.Look.{without}
-use Rattle.bcs_json_spec.specs.Place.{PointerStep, item, member, JsonPart, part, parts, entry, item_parts, each_parts, entry_parts, field_parts, option_parts, enum_parts, pair_parts, IsPlaceAmong}
-use Rattle.bcs_json_spec.proofs.FaultAt.{fault_at}
-use Rattle.bcs_json_spec.specs.Reading.{Read, Tells, read_content, read_data, read_named, read_pair, read_part}
-use Rattle.bcs_json_reader.specs.Refused.{steps, fault_alone, way_of, IsPlaced}
-use Rattle.bcs_json_reader.specs.declared.refusal.Refusal.{Refusal}
+use Rattle.bcs_json_spec.specs.Place.{item, member}
 use Rattle.bcs_json_reader.proofs.Placed.{IsWay, placed_here, placed_on, read_later}
 
 -- what was found, with one more
@@ -30,7 +12,7 @@ found_more vs ws v h = let e : length ws ≡ length (vs ++ v ∷ []) = ap length
 -- the refusal of what was read inside, seen from outside
 pub record IsOutside {X : Type 0} (s : PointerStep) (inner : Result X Refusal) (r : Refusal) : Type 0 where
   pub same : Err r.fault ≡ fault_alone inner
-  pub way : IfSome (steps r.way) (λ path. option_map (λ tail. s ∷ tail) (way_of inner) ≡ Some path)
+  pub location : IfSome (steps r.location) (λ path. option_map (λ tail. s ∷ tail) (location_of inner) ≡ Some path)
 
 pub outside_at : {X : Type 0} (n m : ℕ) (inner : Result X Refusal) (r : Refusal) → m ≡ n → IsOutside (item m) inner r → IsOutside (item n) inner r
 outside_at n m inner r same h = subst (λ k. IsOutside (item k) inner r) same h
@@ -41,12 +23,12 @@ outside_named a b inner r same h = subst (λ name. IsOutside (member name) inner
 module _ (registry : Entries) (left : ℕ) where
   -- what was read of JSON
   pub record IsReadOf {X A : Type 0} (see : X → A) (p : JsonPart) (read : Read A) (inner : Result X Refusal) : Type 0 where
-    pub tells : Tells see (fault_alone inner) read
+    pub reports : Reports see (fault_alone inner) read
     pub placed : IsPlaced registry (parts registry p.left p.target p.json) inner
 
   here : {X A : Type 0} (see : X → A) (p : JsonPart) (ps : List JsonPart) (inner : Result X Refusal) (r : Refusal) (read : Read A) → fault_at registry p.left p.target p.json ≡ result_err read
       → IsReadOf see p read inner → IsOutside p.step inner r → IsWay registry (p ∷ ps) r
-  here see p ps inner r read fault h outside = placed_here registry p ps see p.step inner r read refl fault h.tells h.placed outside.same outside.way
+  here see p ps inner r read fault h outside = placed_here registry p ps see p.step inner r read refl fault h.reports h.placed outside.same outside.location
 
   -- ---- one part
 

@@ -1,16 +1,5 @@
 -- A row of values: what was read so far, before what is still to be read.
-use Rattle.std.proofs.Common.{◌≡◌, ◌∙◌, ◌++◌, ℕ, suc, List, [], ◌∷◌, length, Ok, Err, refl, ap, sym}
-use Rattle.serde_json.specs.Data.{Data}
-use Rattle.serde_json.specs.View.{view, items_view}
-use Rattle.serde_json.specs.declared.value.Value.{Value as Json}
-use Rattle.bcs_registry_model.specs.View.{shape_of, formats_shapes}
-use Rattle.bcs_registry_model.specs.declared.format.Format.{Format}
-use Rattle.bcs_value_model.specs.Tree.{Tree, Trees, no_trees, tree, unsigned, count}
-use Rattle.bcs_value_model.specs.View.{tree_of, items_trees}
-use Rattle.bcs_value_model.specs.declared.value.Value.{Value}
-use Rattle.bcs_json_spec.specs.Bytes.{byte_trees}
-use Rattle.bcs_json_spec.specs.declared.json_fault.JsonFault.{JsonFault}
-use Rattle.bcs_json_spec.specs.Reading.{Read, follow, read_all, read_shape, read_each}
+use Rattle.bcs_json_reader.proofs.Prelude.{◌≡◌, ◌∙◌, ◌++◌, ℕ, suc, List, [], ◌∷◌, length, Ok, Err, refl, ap, sym, Data, view, items_view, Json, shape_of, formats_shapes, Format, Tree, Trees, no_trees, tree, unsigned, count, tree_of, items_trees, Value, byte_trees, JsonFault, Read, follow, read_all, read_shape, read_each}
 
 -- what was read, and then these
 abbrev pub joined : List Value → Trees → Trees

@@ -1,19 +1,6 @@
 -- An object's members, and what is left of them; and an array that is no pair.
-use Rattle.std.proofs.Common.{◌≡◌, ◌∙◌, ℕ, List, [], ◌∷◌, String, Global, Bool, true, false, cond, option_map, string_bytes, nat_cmp, is_eq, Result, Ok, Err, IfOk, IfErr, refl, ap, sym}
-use Rattle.std.proofs.lemmas.Map.Text.{is_eq-slice_cmp}
-use Rattle.std.specs.BTreeMap.{is_at}
-use Rattle.std.specs.Cmp.Lexicographic.{slice_cmp}
-use Rattle.std.specs.Map.{lookup, remove_entry}
-use Rattle.serde_json.specs.Data.{Data, Members, member, no_members, Items, no_items, item, array}
-use Rattle.serde_json.specs.Find.{get_member}
-use Rattle.serde_json.specs.View.{view, members_view}
+use Rattle.bcs_json_reader.proofs.Prelude.{◌≡◌, ◌∙◌, ℕ, List, [], ◌∷◌, String, Global, Bool, true, false, cond, option_map, string_bytes, nat_cmp, is_eq, Result, Ok, Err, IfOk, IfErr, refl, ap, sym, is_eq-slice_cmp, is_at, slice_cmp, lookup, remove_entry, Data, Members, member, no_members, Items, no_items, item, array, get_member, view, members_view, view-lookup, Tree, JsonFault, BadShape, without, Read, read_pair}
 use Rattle.serde_json.specs.declared.value.Value.{Value}
-use Rattle.serde_json.proofs.Views.{view-lookup}
-use Rattle.bcs_value_model.specs.Tree.{Tree}
-use Rattle.bcs_json_spec.specs.declared.json_fault.JsonFault.{JsonFault}
-use Rattle.bcs_json_spec.specs.declared.json_fault.JsonFault.TheVariants.{BadShape}
-use Rattle.bcs_json_spec.specs.Look.{without}
-use Rattle.bcs_json_spec.specs.Reading.{Read, read_pair}
 
 here : (b : Bool) (e : String Global × Value) (es rest : List (String Global × Value)) (ms : Members) → members_view rest ≡ ms
     → members_view (cond b es (e ∷ rest)) ≡ cond b (members_view es) (member (string_bytes e.0) (view e.1) ms)

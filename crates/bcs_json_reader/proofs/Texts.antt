@@ -1,21 +1,7 @@
 -- A string of JSON as a text, and hexadecimal text as so many bytes.
-use Rattle.std.proofs.Common.{◌≡◌, ◌∙◌, ℕ, List, length, String, Vec, Global, string_bytes, Bool, true, Result, Ok, Err, IfOk, IfErr, if◌then◌else◌, ◌==◌, ap, sym, rules}
-use Rattle.std.specs.Str.{is_utf8}
-use Rattle.std.proofs.lemmas.Bool.Decides.{Decides-eqb}
-use Rattle.std.proofs.lemmas.Str.{IsUtf8-string_bytes, is_utf8-from_IsUtf8}
-use Rattle.serde_json.specs.Data.{string}
-use Rattle.serde_json.specs.View.{view}
+use Rattle.bcs_json_reader.proofs.Prelude.{◌≡◌, ◌∙◌, ℕ, List, length, String, Vec, Global, string_bytes, Bool, true, Result, Ok, Err, IfOk, IfErr, if◌then◌else◌, ◌==◌, ap, sym, rules, is_utf8, Decides-eqb, IsUtf8-string_bytes, is_utf8-from_IsUtf8, string, view, json_lemmas, Tree, Trees, text, items, count, tree_of, items_trees, Value, the_lemmas, JsonFault, BadShape, OutOfMemory, byte_trees, Read, Reports, follow, read_text, sized, go_on, when_true, when_false}
 use Rattle.serde_json.specs.declared.value.Value as json
-use Rattle.serde_json.specs.declared.value.Value.{the_lemmas as json_lemmas}
-use Rattle.bcs_value_model.specs.Tree.{Tree, Trees, text, items, count}
-use Rattle.bcs_value_model.specs.View.{tree_of, items_trees}
 use Rattle.bcs_value_model.specs.declared.value.Value as value
-use Rattle.bcs_value_model.specs.declared.value.Value.{Value, the_lemmas}
-use Rattle.bcs_json_spec.specs.declared.json_fault.JsonFault.{JsonFault}
-use Rattle.bcs_json_spec.specs.declared.json_fault.JsonFault.TheVariants.{BadShape, OutOfMemory}
-use Rattle.bcs_json_spec.specs.Bytes.{byte_trees}
-use Rattle.bcs_json_spec.specs.Reading.{Read, Tells, follow, read_text, sized}
-use Rattle.bcs_json_spec.proofs.Exact.{go_on, when_true, when_false}
 use Rattle.bcs_json_reader.proofs.Rows.{count_bytes}
 
 pub view_string : (s : String Global) → view (json.String s) ≡ string (string_bytes s)
@@ -47,6 +33,6 @@ right_count x b n h is =
 
 -- values that are made, or refused for memory alone
 pub items_told : (made : Result (Vec Value Global) JsonFault) (y : Read Tree) (ts : Trees) → y ≡ Ok (items ts) → IfOk made (λ v. items_trees v.items ≡ ts)
-    → IfErr made (λ e. e ≡ OutOfMemory) → Tells (λ v. items (items_trees v.items)) made y
+    → IfErr made (λ e. e ≡ OutOfMemory) → Reports (λ v. items (items_trees v.items)) made y
 items_told (Ok v) y ts h is memory = h ∙ ap (λ us. Ok (items us)) (sym is)
 items_told (Err e) y ts h is memory = λ other. absurd (other memory)

@@ -1,19 +1,6 @@
 -- From what JSON spells, and from nothing that it spells, to what is read of a whole number.
-use Rattle.std.proofs.Common.{◌≡◌, ℕ, ℤ, pos, negsuc, [], ◌^◌, Ok, Err, Bool, true, false, refl, arith, rules}
-use Rattle.std.proofs.lemmas.Bool.Decides.{Decides-ltb}
-use Rattle.std.specs.Int.{Width, w128}
-use mir.Val.{bits}
-use Rattle.serde_json.specs.Data.{Data, number, string}
-use Rattle.bcs_num.specs.Le.{IsUnsigned, IsSigned}
-use Rattle.bcs_num.proofs.Ranges.{half_most, holds_signed-is, is-holds_signed}
-use Rattle.bcs_value_model.specs.Tree.{unsigned, signed}
-use Rattle.bcs_value_model.specs.View.{tree_of}
+use Rattle.bcs_json_reader.proofs.Prelude.{◌≡◌, ℕ, ℤ, pos, negsuc, [], ◌^◌, Ok, Err, Bool, true, false, refl, arith, rules, Decides-ltb, Width, w128, bits, Data, number, string, IsUnsigned, IsSigned, half_most, holds_signed-is, is-holds_signed, unsigned, signed, tree_of, the_lemmas, SpellsWhole, is_unsigned_of, is_signed_of, whole_refusal, read_unsigned, read_signed, BadNumber, exact_unsigned, exact_signed}
 use Rattle.bcs_value_model.specs.declared.value.Value as value
-use Rattle.bcs_value_model.specs.declared.value.Value.{the_lemmas}
-use Rattle.bcs_json_spec.specs.Numbers.{SpellsWhole, is_unsigned_of, is_signed_of, whole_refusal}
-use Rattle.bcs_json_spec.specs.Reading.{read_unsigned, read_signed}
-use Rattle.bcs_json_spec.specs.declared.json_fault.JsonFault.TheVariants.{BadNumber}
-use Rattle.bcs_json_spec.proofs.LeafVerdicts.{exact_unsigned, exact_signed}
 
 pub unsigned_told : (w : Width) (j : Data) (m : ℕ) → SpellsWhole j (pos m) → IsUnsigned w m → read_unsigned w j ≡ Ok (unsigned m)
 unsigned_told w j m s h = (exact_unsigned [] 0 w j).again (unsigned m) ((s, (Decides-ltb m (2 ^ bits w)).1 h), omega arith)

@@ -5,11 +5,11 @@ use Rattle.bcs_json_spec.specs.Place.{PointerStep, pointer_step_of, JsonPart, Is
 use Rattle.bcs_json_spec.specs.declared.json_fault.JsonFault.{JsonFault}
 use Rattle.bcs_json_spec.specs.declared.json_fault.JsonFault.TheVariants.{OutOfMemory}
 use Rattle.bcs_json_reader.specs.declared.refusal.Refusal.{Refusal}
-use Rattle.bcs_json_reader.specs.declared.refusal.Way.{Way}
-use Rattle.bcs_json_reader.specs.declared.refusal.Way.TheVariants.{Here, Through, Unknown}
+use Rattle.bcs_json_reader.specs.declared.refusal.JsonLocation.{JsonLocation}
+use Rattle.bcs_json_reader.specs.declared.refusal.JsonLocation.TheVariants.{Here, Through, Unknown}
 
 -- the steps from the outermost on, if they are known
-abbrev pub steps : Way → Option (List PointerStep)
+abbrev pub steps : JsonLocation → Option (List PointerStep)
 steps Here = Some []
 steps (Through inner) = Some (reverse (map pointer_step_of inner.items))
 steps Unknown = None
@@ -19,11 +19,11 @@ abbrev pub fault_alone : {X : Type 0} → Result X Refusal → Result X JsonFaul
 fault_alone (Ok x) = Ok x
 fault_alone (Err r) = Err r.fault
 
-abbrev pub way_of : {X : Type 0} → Result X Refusal → Option (List PointerStep)
-way_of (Ok x) = None
-way_of (Err r) = steps r.way
+abbrev pub location_of : {X : Type 0} → Result X Refusal → Option (List PointerStep)
+location_of (Ok x) = None
+location_of (Err r) = steps r.location
 
 -- where memory didn't run out, a known way leads to the place among these parts
 abbrev pub IsPlaced : {X : Type 0} → Entries → List JsonPart → Result X Refusal → Type 0
 IsPlaced registry ps (Ok x) = ⊤
-IsPlaced registry ps (Err r) = r.fault ≢ OutOfMemory → IfSome (steps r.way) (λ path. IsPlaceAmong registry path ps)
+IsPlaced registry ps (Err r) = r.fault ≢ OutOfMemory → IfSome (steps r.location) (λ path. IsPlaceAmong registry path ps)

@@ -35,12 +35,12 @@ pub fn array_of_exactly(json: Json, count: u64) -> Result<Vec<Json>, JsonFault>
 }
 
 /// Sees that there are so many. Another number is refused as a `BadShape`.
-pub fn exactly(found: usize, wanted: u64) -> Result<(), JsonFault>
-    ensures ok { OnOk result (found ≡ wanted) }
-    ensures other { OnErr result (found ≢ wanted) }
+pub fn exactly(found: usize, expected: u64) -> Result<(), JsonFault>
+    ensures ok { OnOk result (found ≡ expected) }
+    ensures other { OnErr result (found ≢ expected) }
     ensures fault { IfErr result (λ e. e ≡ BadShape) }
 {
-    if found as u64 == wanted {
+    if found as u64 == expected {
         Ok(())
     } else {
         Err(JsonFault::BadShape)

@@ -9,7 +9,7 @@ ghost use Rattle.bcs_value_model.specs.View.{tree_of};
 ghost use Rattle.bcs_json_spec.specs.JsonContent.{json_content_at, payload_content};
 ghost use Rattle.bcs_json_spec.specs.Place.{value, struct_parts, enum_parts, named_parts, parts};
 ghost use Rattle.bcs_json_spec.specs.Reading as spec;
-ghost use Rattle.bcs_json_spec.specs.Reading.{Tells, read_data};
+ghost use Rattle.bcs_json_spec.specs.Reading.{Reports, read_data};
 ghost use Rattle.bcs_json_reader.specs.Refused.{fault_alone, IsPlaced};
 
 use crate::leaves::read_unit;
@@ -33,7 +33,7 @@ pub(crate) fn read_named(
     left: u32,
     json: Json,
 ) -> Result<Value, Refusal>
-    ensures tells { Tells tree_of (fault_alone result) (spec.read_named registry.now left name.now (view json)) }
+    ensures reports { Reports tree_of (fault_alone result) (spec.read_named registry.now left name.now (view json)) }
     ensures placed { IsPlaced registry.now (named_parts registry.now left name.now (view json)) result }
 {
     let inside = open_container(left)?;
@@ -50,7 +50,7 @@ fn read_content(
     left: u32,
     json: Json,
 ) -> Result<Value, Refusal>
-    ensures tells { Tells tree_of (fault_alone result) (read_data registry.now left (json_content_at name.now registry.now) (view json)) }
+    ensures reports { Reports tree_of (fault_alone result) (read_data registry.now left (json_content_at name.now registry.now) (view json)) }
     ensures placed { IsPlaced registry.now (parts registry.now left (value (json_content_at name.now registry.now)) (view json)) result }
 {
     match container_called(registry, name)? {
@@ -71,7 +71,7 @@ fn read_struct(
     left: u32,
     json: Json,
 ) -> Result<Value, Refusal>
-    ensures tells { Tells tree_of (fault_alone result) (spec.read_struct (spec.read_named registry.now left) (map field_of fields.now) (view json)) }
+    ensures reports { Reports tree_of (fault_alone result) (spec.read_struct (spec.read_named registry.now left) (map field_of fields.now) (view json)) }
     ensures placed { IsPlaced registry.now (struct_parts left (map field_of fields.now) (view json)) result }
 {
     let members = object_of(json)?;
@@ -91,7 +91,7 @@ fn read_enum(
     requires stands { container_at name.now registry.now ≡ Some (enumeration (map choice_of variants.now.entries)) }
     requires well_formed { IsWellFormed registry.now }
     requires orderly { IsOrderly registry.now }
-    ensures tells { Tells tree_of (fault_alone result) (spec.read_enum (spec.read_named registry.now left) (map choice_of variants.now.entries) (view json)) }
+    ensures reports { Reports tree_of (fault_alone result) (spec.read_enum (spec.read_named registry.now left) (map choice_of variants.now.entries) (view json)) }
     ensures placed { IsPlaced registry.now (enum_parts left (map choice_of variants.now.entries) (view json)) result }
 {
     match enum_of(json)? {
@@ -114,7 +114,7 @@ fn read_payload(
     left: u32,
     json: Json,
 ) -> Result<Value, Refusal>
-    ensures tells { Tells tree_of (fault_alone result) (spec.read_part (spec.read_named registry.now left) (payload_content (payload_of payload.now)) (view json)) }
+    ensures reports { Reports tree_of (fault_alone result) (spec.read_part (spec.read_named registry.now left) (payload_content (payload_of payload.now)) (view json)) }
     ensures placed { IsPlaced registry.now (parts registry.now left (value (payload_content (payload_of payload.now))) (view json)) result }
 {
     match payload {

@@ -6,7 +6,7 @@ ghost use Rattle.bcs_value_model.specs.Tree.{items};
 ghost use Rattle.bcs_value_model.specs.View.{tree_of, items_trees};
 ghost use Rattle.bcs_json_spec.specs.Bytes.{byte_trees, is_byte};
 ghost use Rattle.bcs_json_spec.specs.Reading as spec;
-ghost use Rattle.bcs_json_spec.specs.Reading.{Tells, follow, sized};
+ghost use Rattle.bcs_json_spec.specs.Reading.{Reports, follow, sized};
 
 use crate::arrays::exactly;
 use bcs_json_spec::JsonFault;
@@ -19,7 +19,7 @@ use std::alloc::Global;
 /// A byte string.
 #[inline(never)]
 pub fn read_bytes(alloc: Global, json: Json) -> Result<Value, JsonFault>
-    ensures { Tells tree_of result (spec.read_bytes (view json)) }
+    ensures { Reports tree_of result (spec.read_bytes (view json)) }
 {
     match json {
         Json::String(text) => Ok(Value::Bytes(read_hex(alloc, text.as_str())?)),
@@ -34,7 +34,7 @@ pub fn read_byte_text(
     element: &Format,
     text: String,
 ) -> Result<Vec<Value>, JsonFault>
-    ensures { Tells (λ v. items_trees v.items) result (spec.read_byte_text (is_byte (shape_of element.now)) (string_bytes text)) }
+    ensures { Reports (λ v. items_trees v.items) result (spec.read_byte_text (is_byte (shape_of element.now)) (string_bytes text)) }
 {
     let bytes = bytes_of(alloc, element, text)?;
     numbers(alloc, bytes.as_slice())
@@ -48,7 +48,7 @@ pub fn read_byte_array(
     size: u64,
     text: String,
 ) -> Result<Vec<Value>, JsonFault>
-    ensures { Tells (λ v. items (items_trees v.items)) result (follow (spec.read_byte_text (is_byte (shape_of element.now)) (string_bytes text)) (sized size)) }
+    ensures { Reports (λ v. items (items_trees v.items)) result (follow (spec.read_byte_text (is_byte (shape_of element.now)) (string_bytes text)) (sized size)) }
 {
     let bytes = bytes_of(alloc, element, text)?;
     exactly(bytes.len(), size)?;
@@ -57,7 +57,7 @@ pub fn read_byte_array(
 
 // The bytes of the digits, where the elements are bytes.
 fn bytes_of(alloc: Global, element: &Format, text: String) -> Result<Vec<u8>, JsonFault>
-    ensures { Tells (λ v. byte_trees v.items) result (spec.read_byte_text (is_byte (shape_of element.now)) (string_bytes text)) }
+    ensures { Reports (λ v. byte_trees v.items) result (spec.read_byte_text (is_byte (shape_of element.now)) (string_bytes text)) }
 {
     if matches!(element, Format::U8) {
         read_hex(alloc, text.as_str())
@@ -69,7 +69,7 @@ fn bytes_of(alloc: Global, element: &Format, text: String) -> Result<Vec<u8>, Js
 // The bytes of hexadecimal digits.
 #[tactic(auto, unfolding(bcs_json_spec::specs::Reading::read_hex))]
 fn read_hex(alloc: Global, text: &str) -> Result<Vec<u8>, JsonFault>
-    ensures { Tells (λ v. v.items) result (spec.read_hex text.now) }
+    ensures { Reports (λ v. v.items) result (spec.read_hex text.now) }
 {
     match hex::decode(alloc, text) {
         Ok(bytes) => Ok(bytes),

@@ -2,7 +2,7 @@
 ghost use Rattle.std.specs.Prelude.{◌≢◌, IfErr};
 ghost use Rattle.serde_json.specs.View.{view};
 ghost use Rattle.bcs_value_model.specs.View.{tree_of};
-ghost use Rattle.bcs_json_spec.specs.Reading.{Tells};
+ghost use Rattle.bcs_json_spec.specs.Reading.{Reports};
 ghost use Rattle.bcs_json_spec.specs.declared.json_fault.JsonFault.TheVariants.{OutOfMemory};
 ghost use Rattle.bcs_registry_model.specs.View.{shape_of};
 ghost use Rattle.bcs_json_spec.specs.Reading as spec;
@@ -11,7 +11,7 @@ ghost use Rattle.bcs_json_reader.specs.Leaf as leaf;
 use crate::hexadecimal::read_bytes;
 use crate::numbers::{read_signed, read_unsigned};
 use bcs_json_spec::JsonFault;
-use bcs_registry_model::{Format, Kind, Scalar, WholeNumber};
+use bcs_registry_model::{Format, IntegerKind, Kind, Scalar};
 use bcs_value_model::Value;
 use serde_json::Value as Json;
 use std::alloc::Global;
@@ -19,7 +19,7 @@ use std::alloc::Global;
 /// `null`.
 #[inline(never)]
 pub fn read_unit(json: Json) -> Result<Value, JsonFault>
-    ensures reads { Tells tree_of result (spec.read_unit (view json)) }
+    ensures reads { Reports tree_of result (spec.read_unit (view json)) }
     ensures memory { IfErr result (λ e. e ≢ OutOfMemory) }
 {
     match json {
@@ -31,7 +31,7 @@ pub fn read_unit(json: Json) -> Result<Value, JsonFault>
 /// `true` or `false`.
 #[inline(never)]
 pub fn read_truth(json: Json) -> Result<Value, JsonFault>
-    ensures reads { Tells tree_of result (spec.read_truth (view json)) }
+    ensures reads { Reports tree_of result (spec.read_truth (view json)) }
     ensures memory { IfErr result (λ e. e ≢ OutOfMemory) }
 {
     match json {
@@ -43,7 +43,7 @@ pub fn read_truth(json: Json) -> Result<Value, JsonFault>
 /// A string, which becomes the value's.
 #[inline(never)]
 pub fn read_text(json: Json) -> Result<Value, JsonFault>
-    ensures reads { Tells tree_of result (spec.read_text (view json)) }
+    ensures reads { Reports tree_of result (spec.read_text (view json)) }
     ensures memory { IfErr result (λ e. e ≢ OutOfMemory) }
 {
     match json {
@@ -55,13 +55,13 @@ pub fn read_text(json: Json) -> Result<Value, JsonFault>
 /// A value of a format that has no parts. `Unsupported`: the format has no values, or has parts, and is read elsewhere.
 #[inline(never)]
 pub fn read_leaf(alloc: Global, format: &Format, json: Json) -> Result<Value, JsonFault>
-    ensures { Tells tree_of result (leaf.read_leaf (shape_of format.now) (view json)) }
+    ensures { Reports tree_of result (leaf.read_leaf (shape_of format.now) (view json)) }
 {
     match format.kind() {
         Kind::Scalar(Scalar::Unit) => read_unit(json),
         Kind::Scalar(Scalar::Bool) => read_truth(json),
-        Kind::Scalar(Scalar::Whole(WholeNumber::Unsigned(width))) => read_unsigned(width, json),
-        Kind::Scalar(Scalar::Whole(WholeNumber::Signed(width))) => read_signed(width, json),
+        Kind::Scalar(Scalar::Whole(IntegerKind::Unsigned(width))) => read_unsigned(width, json),
+        Kind::Scalar(Scalar::Whole(IntegerKind::Signed(width))) => read_signed(width, json),
         Kind::Scalar(Scalar::Str) => read_text(json),
         Kind::Scalar(Scalar::Bytes) => read_bytes(alloc, json),
         Kind::Scalar(Scalar::Unsupported(_))

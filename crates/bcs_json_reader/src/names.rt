@@ -6,7 +6,7 @@ ghost use Rattle.bcs_registry_model.specs.View.{container_of, choice_of, payload
 ghost use Rattle.bcs_registry_model.specs.WellFormed.{IsWellFormed};
 ghost use Rattle.bcs_json_spec.specs.declared.json_fault.JsonFault.TheVariants.{BadShape, UnknownVariant, TooDeep};
 ghost use Rattle.bcs_value_model.specs.View.{tree_of};
-ghost use Rattle.bcs_json_spec.specs.Reading.{Tells};
+ghost use Rattle.bcs_json_spec.specs.Reading.{Reports};
 ghost use Rattle.bcs_registry_model.specs.Container as container;
 ghost use Rattle.bcs_json_spec.specs.Reading as spec;
 
@@ -57,7 +57,7 @@ pub fn read_word(
 ) -> Result<Value, JsonFault>
     requires stands { container_at name.now registry.now ≡ Some (enumeration (map choice_of variants.now.entries)) }
     requires orderly { IsOrderly registry.now }
-    ensures { Tells tree_of result (spec.read_word (choice_called (string_bytes word) (map choice_of variants.now.entries))) }
+    ensures { Reports tree_of result (spec.read_word (choice_called (string_bytes word) (map choice_of variants.now.entries))) }
 {
     let (number, variant) = variant_called(registry, name, variants, word.as_str())?;
     without_payload(&variant.value)?;

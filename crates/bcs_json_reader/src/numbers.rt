@@ -9,7 +9,7 @@ ghost use Rattle.bcs_registry_model.specs.Whole.{whole_shape};
 ghost use Rattle.bcs_value_model.specs.View.{tree_of, items_trees};
 ghost use Rattle.bcs_json_spec.specs.JsonContent.{of};
 ghost use Rattle.bcs_json_spec.specs.Place.{value, item_parts, parts};
-ghost use Rattle.bcs_json_spec.specs.Reading.{Tells, read_data};
+ghost use Rattle.bcs_json_spec.specs.Reading.{Reports, read_data};
 ghost use Rattle.bcs_json_reader.specs.Refused.{fault_alone, IsPlaced};
 ghost use Rattle.bcs_json_spec.specs.Reading as spec;
 ghost use Rattle.bcs_json_spec.specs.declared.json_fault.JsonFault.TheVariants.{OutOfMemory};
@@ -17,7 +17,7 @@ ghost use Rattle.bcs_json_spec.specs.declared.json_fault.JsonFault.TheVariants.{
 use crate::refusal::{Refusal, at_item};
 use bcs_json_spec::JsonFault;
 use bcs_num::{Width, parse_signed, parse_unsigned};
-use bcs_registry_model::WholeNumber;
+use bcs_registry_model::IntegerKind;
 use bcs_value_model::Value;
 use serde_json::{Number, Value as Json};
 use std::alloc::Global;
@@ -26,7 +26,7 @@ use std::alloc::Global;
 #[inline(never)]
 #[tactic(auto, using(crate::proofs::Whole::unsigned_told, crate::proofs::Whole::unsigned_refused))]
 pub fn read_unsigned(width: Width, json: Json) -> Result<Value, JsonFault>
-    ensures reads { Tells tree_of result (spec.read_unsigned (width_of width) (view json)) }
+    ensures reads { Reports tree_of result (spec.read_unsigned (width_of width) (view json)) }
     ensures memory { IfErr result (λ e. e ≢ OutOfMemory) }
 {
     Ok(Value::Unsigned(unsigned_of(width, &json)?))
@@ -36,7 +36,7 @@ pub fn read_unsigned(width: Width, json: Json) -> Result<Value, JsonFault>
 #[inline(never)]
 #[tactic(auto, using(crate::proofs::Whole::signed_told, crate::proofs::Whole::signed_refused))]
 pub fn read_signed(width: Width, json: Json) -> Result<Value, JsonFault>
-    ensures reads { Tells tree_of result (spec.read_signed (width_of width) (view json)) }
+    ensures reads { Reports tree_of result (spec.read_signed (width_of width) (view json)) }
     ensures memory { IfErr result (λ e. e ≢ OutOfMemory) }
 {
     Ok(Value::Signed(signed_of(width, &json)?))
@@ -47,10 +47,10 @@ pub fn read_signed(width: Width, json: Json) -> Result<Value, JsonFault>
 #[inline(never)]
 pub(crate) fn read_numbers(
     alloc: Global,
-    format: WholeNumber,
+    format: IntegerKind,
     items: Vec<Json>,
 ) -> Result<Vec<Value>, Refusal>
-    ensures tells { (registry : Entries) (left : ℕ) → Tells (λ v. items_trees v.items) (fault_alone result)
+    ensures reports { (registry : Entries) (left : ℕ) → Reports (λ v. items_trees v.items) (fault_alone result)
         (spec.read_all (read_data registry left (of (whole_shape format))) (items_view items.items)) }
     ensures placed { (registry : Entries) (left : ℕ) → IsPlaced registry (item_parts left (whole_shape format) 0 (items_view items.items)) result }
 {
@@ -65,13 +65,13 @@ pub(crate) fn read_numbers(
 
 // A whole number of the format.
 #[inline(always)]
-fn read_number(format: WholeNumber, json: Json) -> Result<Value, Refusal>
-    ensures tells { (registry : Entries) (left : ℕ) → Tells tree_of (fault_alone result) (read_data registry left (of (whole_shape format)) (view json)) }
+fn read_number(format: IntegerKind, json: Json) -> Result<Value, Refusal>
+    ensures reports { (registry : Entries) (left : ℕ) → Reports tree_of (fault_alone result) (read_data registry left (of (whole_shape format)) (view json)) }
     ensures placed { (registry : Entries) (left : ℕ) → IsPlaced registry (parts registry left (value (of (whole_shape format))) (view json)) result }
 {
     match format {
-        WholeNumber::Unsigned(width) => Ok(read_unsigned(width, json)?),
-        WholeNumber::Signed(width) => Ok(read_signed(width, json)?),
+        IntegerKind::Unsigned(width) => Ok(read_unsigned(width, json)?),
+        IntegerKind::Signed(width) => Ok(read_signed(width, json)?),
     }
 }
 

@@ -6,7 +6,7 @@ ghost use Rattle.bcs_value_model.specs.View.{tree_of, items_trees, entries_pairs
 ghost use Rattle.bcs_json_spec.specs.JsonContent.{of};
 ghost use Rattle.bcs_json_spec.specs.Place.{item_parts, each_parts, entry_parts, pair_parts, field_parts};
 ghost use Rattle.bcs_json_spec.specs.Reading as spec;
-ghost use Rattle.bcs_json_spec.specs.Reading.{Tells, read_data};
+ghost use Rattle.bcs_json_spec.specs.Reading.{Reports, read_data};
 ghost use Rattle.bcs_json_reader.specs.Refused.{fault_alone, IsPlaced};
 
 use crate::arrays::pair_of;
@@ -16,7 +16,7 @@ use crate::reading::read;
 use crate::refusal::{Refusal, at_item, at_member};
 use bcs_json_spec::JsonFault;
 use bcs_registry::{Format, Named, Registry};
-use bcs_registry_model::WholeNumber;
+use bcs_registry_model::IntegerKind;
 use bcs_value_model::Value;
 use serde_json::{Map, Value as Json};
 use std::alloc::Global;
@@ -30,11 +30,11 @@ pub(crate) fn read_all(
     left: u32,
     items: Vec<Json>,
 ) -> Result<Vec<Value>, Refusal>
-    ensures tells { Tells (λ v. items_trees v.items) (fault_alone result)
+    ensures reports { Reports (λ v. items_trees v.items) (fault_alone result)
         (spec.read_all (read_data registry.now left (of (shape_of element.now))) (items_view items.items)) }
     ensures placed { IsPlaced registry.now (item_parts left (shape_of element.now) 0 (items_view items.items)) result }
 {
-    if let Some(number) = WholeNumber::of(element) {
+    if let Some(number) = IntegerKind::of(element) {
         return read_numbers(alloc, number, items);
     }
     let mut found = Vec::with_capacity(alloc, items.len())?;
@@ -55,7 +55,7 @@ pub(crate) fn read_each(
     left: u32,
     items: Vec<Json>,
 ) -> Result<Vec<Value>, Refusal>
-    ensures tells { Tells (λ v. items_trees v.items) (fault_alone result)
+    ensures reports { Reports (λ v. items_trees v.items) (fault_alone result)
         (spec.read_each (spec.read_named registry.now left) (formats_shapes formats.now) (items_view items.items)) }
     ensures placed { IsPlaced registry.now (each_parts left (formats_shapes formats.now) 0 (items_view items.items)) result }
 {
@@ -82,7 +82,7 @@ pub(crate) fn read_pairs(
     left: u32,
     items: Vec<Json>,
 ) -> Result<Vec<(Value, Value)>, Refusal>
-    ensures tells { Tells (λ v. entries_pairs v.items) (fault_alone result)
+    ensures reports { Reports (λ v. entries_pairs v.items) (fault_alone result)
         (spec.read_pairs (read_data registry.now left (of (shape_of key.now))) (read_data registry.now left (of (shape_of content.now))) (items_view items.items)) }
     ensures placed { IsPlaced registry.now (entry_parts left (shape_of key.now) (shape_of content.now) 0 (items_view items.items)) result }
 {
@@ -105,7 +105,7 @@ fn read_entry(
     left: u32,
     json: Json,
 ) -> Result<(Value, Value), Refusal>
-    ensures tells { Tells (λ p. (tree_of p.0, tree_of p.1)) (fault_alone result)
+    ensures reports { Reports (λ p. (tree_of p.0, tree_of p.1)) (fault_alone result)
         (spec.read_pair (read_data registry.now left (of (shape_of key.now))) (read_data registry.now left (of (shape_of content.now))) (view json)) }
     ensures placed { IsPlaced registry.now (pair_parts left (shape_of key.now) (shape_of content.now) (view json)) result }
 {
@@ -124,7 +124,7 @@ pub(crate) fn read_fields(
     left: u32,
     members: Map<String, Json>,
 ) -> Result<Vec<Value>, Refusal>
-    ensures tells { Tells (λ v. items_trees v.items) (fault_alone result)
+    ensures reports { Reports (λ v. items_trees v.items) (fault_alone result)
         (spec.read_fields (spec.read_named registry.now left) (map field_of fields.now) (members_view members.entries)) }
     ensures placed { IsPlaced registry.now (field_parts left (map field_of fields.now) (members_view members.entries)) result }
 {

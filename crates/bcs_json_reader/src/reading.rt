@@ -8,7 +8,7 @@ ghost use Rattle.bcs_json_spec.specs.Bytes.{is_byte};
 ghost use Rattle.bcs_json_spec.specs.JsonContent.{of};
 ghost use Rattle.bcs_json_spec.specs.Place.{value, option_parts, seq_parts, map_parts, tuple_parts, array_parts, parts};
 ghost use Rattle.bcs_json_spec.specs.Reading as spec;
-ghost use Rattle.bcs_json_spec.specs.Reading.{Tells, read_data};
+ghost use Rattle.bcs_json_spec.specs.Reading.{Reports, read_data};
 ghost use Rattle.bcs_json_reader.specs.Refused.{fault_alone, IsPlaced};
 
 use crate::arrays::{ListJson, array_of, array_of_exactly, exactly, list_of};
@@ -33,7 +33,7 @@ pub fn read(
     left: u32,
     json: Json,
 ) -> Result<Value, Refusal>
-    ensures tells { Tells tree_of (fault_alone result) (read_data registry.now left (of (shape_of format.now)) (view json)) }
+    ensures reports { Reports tree_of (fault_alone result) (read_data registry.now left (of (shape_of format.now)) (view json)) }
     ensures placed { IsPlaced registry.now (parts registry.now left (value (of (shape_of format.now))) (view json)) result }
 {
     match format.kind() {
@@ -58,7 +58,7 @@ fn read_option(
     left: u32,
     json: Json,
 ) -> Result<Value, Refusal>
-    ensures tells { Tells tree_of (fault_alone result) (spec.read_option (read_data registry.now left (of (shape_of content.now))) (view json)) }
+    ensures reports { Reports tree_of (fault_alone result) (spec.read_option (read_data registry.now left (of (shape_of content.now))) (view json)) }
     ensures placed { IsPlaced registry.now (option_parts left (shape_of content.now) (view json)) result }
 {
     match option_of(json)? {
@@ -80,7 +80,7 @@ fn read_list(
     left: u32,
     json: Json,
 ) -> Result<Value, Refusal>
-    ensures tells { Tells tree_of (fault_alone result)
+    ensures reports { Reports tree_of (fault_alone result)
         (spec.read_seq (is_byte (shape_of element.now)) (read_data registry.now left (of (shape_of element.now))) (view json)) }
     ensures placed { IsPlaced registry.now (seq_parts left (shape_of element.now) (view json)) result }
 {
@@ -102,7 +102,7 @@ fn read_array(
     left: u32,
     json: Json,
 ) -> Result<Value, Refusal>
-    ensures tells { Tells tree_of (fault_alone result)
+    ensures reports { Reports tree_of (fault_alone result)
         (spec.read_array (is_byte (shape_of element.now)) size (read_data registry.now left (of (shape_of element.now))) (view json)) }
     ensures placed { IsPlaced registry.now (array_parts left (shape_of element.now) size (view json)) result }
 {
@@ -124,7 +124,7 @@ pub(crate) fn read_tuple(
     left: u32,
     json: Json,
 ) -> Result<Value, Refusal>
-    ensures tells { Tells tree_of (fault_alone result) (read_data registry.now left (of (tuple_shape (formats_shapes formats.now))) (view json)) }
+    ensures reports { Reports tree_of (fault_alone result) (read_data registry.now left (of (tuple_shape (formats_shapes formats.now))) (view json)) }
     ensures placed { IsPlaced registry.now (tuple_parts left (formats_shapes formats.now) (view json)) result }
 {
     let items = array_of_exactly(json, formats.len() as u64)?;
@@ -141,7 +141,7 @@ fn read_map(
     left: u32,
     json: Json,
 ) -> Result<Value, Refusal>
-    ensures tells { Tells tree_of (fault_alone result)
+    ensures reports { Reports tree_of (fault_alone result)
         (spec.read_map (read_data registry.now left (of (shape_of key.now))) (read_data registry.now left (of (shape_of content.now))) (view json)) }
     ensures placed { IsPlaced registry.now (map_parts left (shape_of key.now) (shape_of content.now) (view json)) result }
 {

@@ -1,7 +1,7 @@
 //! Why JSON is refused, and the way down to where it is.
 ghost use Rattle.std.specs.Prelude.{◌≡◌, ◌∷◌, Some, IfSome, option_map, map};
 ghost use Rattle.bcs_json_spec.specs.Place.{item, member, pointer_step_of};
-ghost use Rattle.bcs_json_reader.specs.Refused.{steps, fault_alone, way_of};
+ghost use Rattle.bcs_json_reader.specs.Refused.{steps, fault_alone, location_of};
 
 use bcs_json_spec::{JsonFault, JsonStep};
 use std::alloc::{AllocError, AllocFailed, Global};
@@ -10,7 +10,7 @@ use std::alloc::{AllocError, AllocFailed, Global};
 #[derive(Drop)]
 pub struct Refusal {
     pub fault: JsonFault,
-    pub way: Way,
+    pub location: JsonLocation,
 }
 
 /// What was read of an item, seen from its array.
@@ -21,7 +21,7 @@ pub fn at_item<T: Drop>(
     read: Result<T, Refusal>,
 ) -> Result<T, Refusal>
     ensures same { fault_alone result ≡ fault_alone read }
-    ensures way { IfSome (way_of result) (λ path. option_map (λ inner. item number ∷ inner) (way_of read) ≡ Some path) }
+    ensures location { IfSome (location_of result) (λ path. option_map (λ inner. item number ∷ inner) (location_of read) ≡ Some path) }
 {
     match read {
         Ok(value) => Ok(value),
@@ -33,7 +33,7 @@ pub fn at_item<T: Drop>(
 #[inline(always)]
 pub fn at_member<T: Drop>(alloc: Global, name: &str, read: Result<T, Refusal>) -> Result<T, Refusal>
     ensures same { fault_alone result ≡ fault_alone read }
-    ensures way { IfSome (way_of result) (λ path. option_map (λ inner. member name.now ∷ inner) (way_of read) ≡ Some path) }
+    ensures location { IfSome (location_of result) (λ path. option_map (λ inner. member name.now ∷ inner) (location_of read) ≡ Some path) }
 {
     match read {
         Ok(value) => Ok(value),
@@ -45,27 +45,27 @@ impl Refusal {
     #[inline(never)]
     fn in_item(self, alloc: Global, number: usize) -> Refusal
         ensures fault { result.fault ≡ self.fault }
-        ensures way { IfSome (steps result.way) (λ path. option_map (λ inner. item number ∷ inner) (steps self.way) ≡ Some path) }
+        ensures location { IfSome (steps result.location) (λ path. option_map (λ inner. item number ∷ inner) (steps self.location) ≡ Some path) }
     {
         Refusal {
             fault: self.fault,
-            way: self.way.after(alloc, JsonStep::Item(number as u64)),
+            location: self.location.after(alloc, JsonStep::Item(number as u64)),
         }
     }
 
     #[inline(never)]
     fn in_member(self, alloc: Global, name: &str) -> Refusal
         ensures fault { result.fault ≡ self.fault }
-        ensures way { IfSome (steps result.way) (λ path. option_map (λ inner. member name.now ∷ inner) (steps self.way) ≡ Some path) }
+        ensures location { IfSome (steps result.location) (λ path. option_map (λ inner. member name.now ∷ inner) (steps self.location) ≡ Some path) }
     {
         match String::from_str(alloc, name) {
             Ok(name) => Refusal {
                 fault: self.fault,
-                way: self.way.after(alloc, JsonStep::Member(name)),
+                location: self.location.after(alloc, JsonStep::Member(name)),
             },
             Err(_) => Refusal {
                 fault: self.fault,
-                way: Way::Unknown,
+                location: JsonLocation::Unknown,
             },
         }
     }
@@ -73,14 +73,14 @@ impl Refusal {
 
 impl From<JsonFault> for Refusal {
     ghost use Rattle.std.specs.Prelude.{◌≡◌};
-    ghost use Rattle.bcs_json_reader.specs.declared.refusal.Way.TheVariants.{Here};
+    ghost use Rattle.bcs_json_reader.specs.declared.refusal.JsonLocation.TheVariants.{Here};
 
-    ghost from_gives = { λ fault refusal. (refusal.fault ≡ fault) × (refusal.way ≡ Here) };
+    ghost from_gives = { λ fault refusal. (refusal.fault ≡ fault) × (refusal.location ≡ Here) };
 
     fn from(fault: JsonFault) -> Self {
         Refusal {
             fault,
-            way: Way::Here,
+            location: JsonLocation::Here,
         }
     }
 }
@@ -119,7 +119,7 @@ impl From<Refusal> for JsonFault {
 
 /// The way from JSON down to where it is refused.
 #[derive(Drop)]
-pub enum Way {
+pub enum JsonLocation {
     /// It is refused itself.
     Here,
     /// By these steps, the innermost first.
@@ -128,36 +128,36 @@ pub enum Way {
     Unknown,
 }
 
-impl Way {
+impl JsonLocation {
     /// The way that begins with this step and goes on as this one. It is unknown if memory runs out.
-    #[tactic(auto, using(crate::proofs::Ways::steps_more))]
-    pub fn after(self, alloc: Global, step: JsonStep) -> Way
+    #[tactic(auto, using(crate::proofs::Locations::steps_more))]
+    pub fn after(self, alloc: Global, step: JsonStep) -> JsonLocation
         ensures { IfSome (steps result) (λ path. option_map (λ inner. pointer_step_of step ∷ inner) (steps self) ≡ Some path) }
     {
         let mut through = match self {
-            Way::Here => Vec::new(alloc),
-            Way::Through(through) => through,
-            Way::Unknown => return Way::Unknown,
+            JsonLocation::Here => Vec::new(alloc),
+            JsonLocation::Through(through) => through,
+            JsonLocation::Unknown => return JsonLocation::Unknown,
         };
         match through.push(step) {
-            Ok(()) => Way::Through(through),
-            Err(_) => Way::Unknown,
+            Ok(()) => JsonLocation::Through(through),
+            Err(_) => JsonLocation::Unknown,
         }
     }
 
     /// The steps from the outermost on, if the way is known.
-    #[tactic(auto, using(crate::proofs::Ways::steps_turned))]
+    #[tactic(auto, using(crate::proofs::Locations::steps_turned))]
     pub fn outward(self, alloc: Global) -> Option<Vec<JsonStep>>
         ensures { option_map (λ v. map pointer_step_of v.items) result ≡ steps self }
     {
         match self {
-            Way::Here => Some(Vec::new(alloc)),
-            Way::Through(inward) => {
+            JsonLocation::Here => Some(Vec::new(alloc)),
+            JsonLocation::Through(inward) => {
                 let mut outward = inward;
                 outward.reverse();
                 Some(outward)
             }
-            Way::Unknown => None,
+            JsonLocation::Unknown => None,
         }
     }
 }

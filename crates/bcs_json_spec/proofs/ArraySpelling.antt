@@ -1,20 +1,7 @@
 -- What is spelled with arrays alone is spelled.
-use Rattle.std.proofs.Common.{◌≡◌, ℕ, List, [], ◌∷◌, codes, refl}
-use Rattle.std.specs.Int.{w8}
-use Rattle.hex.proofs.OnLiterals.{hex_on_literals}
-use Rattle.serde_json.specs.Data.{Data, number, unsigned, string, array, Items, no_items, item, Members, no_members}
-use Rattle.serde_json.specs.Find.{get_member}
+use Rattle.bcs_json_spec.proofs.Prelude.{◌≡◌, ℕ, List, [], ◌∷◌, codes, refl, w8, hex_on_literals, Data, number, unsigned, string, array, Items, no_items, item, Members, no_members, get_member, Shape, Shapes, no_shapes, shape, Field, Choice, Entries, choice_called, Tree, Trees, no_trees, tree, Pairs, no_pairs, pair, ArraySpells, AllArraySpell, EachArraySpells, PairsArraySpell, FieldsArraySpell, ByteTextSpells, is_byte, JsonContent, of, fields, one_of, json_content_at, payload_content, ArraySpellingStillSpells, IfThere, without, Spells, AllSpell, EachSpells, PairsSpell, FieldsSpell, IsWordOf}
 use Rattle.bcs_registry_model.specs.Shape as shape
-use Rattle.bcs_registry_model.specs.Shape.{Shape, Shapes, no_shapes, shape}
-use Rattle.bcs_registry_model.specs.Container.{Field, Choice, Entries, choice_called}
 use Rattle.bcs_value_model.specs.Tree as tree
-use Rattle.bcs_value_model.specs.Tree.{Tree, Trees, no_trees, tree, Pairs, no_pairs, pair}
-use Rattle.bcs_json_spec.specs.ArraySpells.{ArraySpells, AllArraySpell, EachArraySpells, PairsArraySpell, FieldsArraySpell}
-use Rattle.bcs_json_spec.specs.Bytes.{ByteTextSpells, is_byte}
-use Rattle.bcs_json_spec.specs.JsonContent.{JsonContent, of, fields, one_of, json_content_at, payload_content}
-use Rattle.bcs_json_spec.specs.Laws.{ArraySpellingStillSpells}
-use Rattle.bcs_json_spec.specs.Look.{IfThere, without}
-use Rattle.bcs_json_spec.specs.Spells.{Spells, AllSpell, EachSpells, PairsSpell, FieldsSpell, IsWordOf}
 use Rattle.bcs_json_spec.proofs.Fitting.{Part}
 use Rattle.bcs_json_spec.proofs.Looking.{in_one, in_two, in_array, in_array_alone, in_object, in_word_or_one, in_there}
 

@@ -1,12 +1,6 @@
 -- In a well-formed registry the names of fields differ, and the names of variants do.
-use Rattle.std.proofs.Common.{◌≡◌, ◌∙◌, ℕ, List, [], ◌∷◌, map, Option, Some, None, Bool, true, refl}
-use Rattle.std.specs.List.{flat_map, list_all}
-use Rattle.std.specs.Option.{option_map_or}
+use Rattle.bcs_json_spec.proofs.Prelude.{◌≡◌, ◌∙◌, ℕ, List, [], ◌∷◌, map, Option, Some, None, Bool, true, refl, flat_map, list_all, option_map_or, Container, unit_struct, newtype_struct, tuple_struct, field_struct, enumeration, Payload, newtype, tuple, Choice, Entries, container_at, choice_numbered, choice_called, payload_names, container_names, are_distinct, IsWellFormed, bytes-refl, JsonContent, fields, one_of, nothing, json_content, json_content_at, payload_content}
 use Rattle.bcs_registry_model.specs.Container as container
-use Rattle.bcs_registry_model.specs.Container.{Container, unit_struct, newtype_struct, tuple_struct, field_struct, enumeration, Payload, newtype, tuple, Choice, Entries, container_at, choice_numbered, choice_called}
-use Rattle.bcs_registry_model.specs.WellFormed.{payload_names, container_names, are_distinct, IsWellFormed}
-use Rattle.bcs_value_model.proofs.Equivalence.{bytes-refl}
-use Rattle.bcs_json_spec.specs.JsonContent.{JsonContent, fields, one_of, nothing, json_content, json_content_at, payload_content}
 use Rattle.bcs_json_spec.proofs.DistinctVariants.{container_distinct, payload_distinct, numbered_called as called_by_name}
 use Rattle.bcs_json_spec.proofs.Fitting.{and_left}
 

@@ -1,14 +1,6 @@
 -- The variants of an enum of a well-formed registry differ in their names: so the one that is found by its number is the one
 -- that is called so.
-use Rattle.std.proofs.Common.{◌≡◌, ◌∙◌, ℕ, List, [], ◌∷◌, map, Some, Bool, true, false, not, ◌&&◌, ◌==◌, cond, bytes_eq, refl, ap, ap₂, sym}
-use Rattle.std.specs.List.{flat_map, list_all, list_any}
-use Rattle.std.proofs.lemmas.Bool.{false≢true, and_parts, or_right}
-use Rattle.std.proofs.lemmas.Bool.Decides.{Decides-eqb}
-use Rattle.std.proofs.lemmas.Option.{none-some, same_Some}
-use Rattle.std.proofs.lemmas.Slice.Eq.{bytes_eq-Decides}
-use Rattle.bcs_registry_model.proofs.Admitted.{list_all-found}
-use Rattle.bcs_registry_model.specs.Container.{Payload, Choice, Container, enumeration, Entries, container_at, choice_numbered, choice_called}
-use Rattle.bcs_registry_model.specs.WellFormed.{container_names, payload_names, are_distinct, levels_hold, names_differ, names_known, IsWellFormed}
+use Rattle.bcs_json_spec.proofs.Prelude.{◌≡◌, ◌∙◌, ℕ, List, [], ◌∷◌, map, Some, Bool, true, false, not, ◌&&◌, ◌==◌, cond, bytes_eq, refl, ap, ap₂, sym, flat_map, list_all, list_any, false≢true, and_parts, or_right, Decides-eqb, none-some, same_Some, bytes_eq-Decides, list_all-found, Payload, Choice, Container, enumeration, Entries, container_at, choice_numbered, choice_called, container_names, payload_names, are_distinct, levels_hold, names_differ, names_known, IsWellFormed}
 
 abbrev pub choice_names : List Choice → List (List ℕ)
 choice_names = map (λ c. c.1.0)

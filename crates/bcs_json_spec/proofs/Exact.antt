@@ -1,9 +1,5 @@
 -- A reading that gives exactly what one relation allows, and refuses exactly as another says; and one reading after another.
-use Rattle.std.proofs.Common.{true≢false, ◌≡◌, ◌∙◌, ◌⊎◌, inl, inr, ℕ, ◌≤◌, max, Ok, Err, Bool, true, false, Decides, if◌then◌else◌, refl, ap, sym, subst, arith}
-use Rattle.std.proofs.Math.Nat.{le-max_left, le-max_right}
-use Rattle.bcs_json_spec.specs.Reading.{Read, follow}
-use Rattle.bcs_json_spec.specs.declared.json_fault.JsonFault.{JsonFault}
-use Rattle.bcs_json_spec.specs.declared.json_fault.JsonFault.TheVariants.{NotJson, TooNested, BadShape, TooManyNodes, TooLong, RepeatedKey, OutOfMemory}
+use Rattle.bcs_json_spec.proofs.Prelude.{true≢false, ◌≡◌, ◌∙◌, ◌⊎◌, inl, inr, ℕ, ◌≤◌, max, Ok, Err, Bool, true, false, Decides, if◌then◌else◌, refl, ap, sym, subst, arith, le-max_left, le-max_right, Read, follow, JsonFault, NotJson, TooNested, BadShape, TooManyNodes, TooLong, RepeatedKey, OutOfMemory}
 
 -- a fault of the JSON itself: not of its text, of its nesting, or of the value
 abbrev pub is_walk_fault : JsonFault → Bool

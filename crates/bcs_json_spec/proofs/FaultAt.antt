@@ -1,17 +1,5 @@
 -- What JSON is refused with, as a function: it answers what the relation says.
-use Rattle.std.proofs.Common.{◌≡◌, ◌∙◌, ℕ, Option, None, Some, Ok, Err, refl, ap, sym}
-use Rattle.std.specs.Result.{result_err}
-use Rattle.std.proofs.lemmas.Option.{none-some}
-use Rattle.serde_json.specs.Data.{Data}
-use Rattle.bcs_registry_model.specs.Shape.{Shape}
-use Rattle.bcs_registry_model.specs.Container.{Entries}
-use Rattle.bcs_json_spec.specs.JsonContent.{of}
-use Rattle.bcs_json_spec.specs.Look.{IfTwo}
-use Rattle.bcs_json_spec.specs.Place.{Target, value, entry, JsonPart, IsGood, IsRefusedWith}
-use Rattle.bcs_json_spec.specs.Reading.{Read, read_data, read_pair}
-use Rattle.bcs_json_spec.specs.Refuses.{Refuses}
-use Rattle.bcs_json_spec.specs.Spells.{SpellsWithin}
-use Rattle.bcs_json_spec.specs.declared.json_fault.JsonFault.{JsonFault}
+use Rattle.bcs_json_spec.proofs.Prelude.{◌≡◌, ◌∙◌, ℕ, Option, None, Some, Ok, Err, refl, ap, sym, result_err, none-some, Data, Shape, Entries, of, IfTwo, Target, value, entry, JsonPart, IsGood, IsRefusedWith, Read, read_data, read_pair, Refuses, SpellsWithin, JsonFault}
 use Rattle.bcs_json_spec.proofs.Exact.{Exact}
 use Rattle.bcs_json_spec.proofs.PartVerdicts.{exact_pair}
 use Rattle.bcs_json_spec.proofs.Verdict.{exact_data}

@@ -1,30 +1,10 @@
 -- What JSON spells is a value of the format.
-use Rattle.std.proofs.Common.{◌≡◌, ◌∙◌, ◌⊎◌, inl, inr, ℕ, List, [], ◌∷◌, codes, ◌==◌, ◌&&◌, ◌<◌, ◌^◌, nat_lt, IsTrue, suc, Option, Some, None, Bool, true, false, not, cond, bytes_eq, refl, ap, sym, subst}
-use Rattle.std.specs.Int.{w8}
-use Rattle.std.specs.Str.{is_utf8}
-use Rattle.std.specs.List.{list_all, list_any}
-use Rattle.std.specs.Option.{option_map_or}
-use Rattle.std.proofs.lemmas.Bool.{and_from, or_left, or_right}
-use Rattle.std.proofs.lemmas.Bool.Decides.{Decides-eqb, Decides-ltb}
-use Rattle.std.proofs.lemmas.Option.{same_Some}
-use Rattle.hex.specs.Hex.{IsBytes}
-use Rattle.hex.proofs.HexLemmas.{decode_of-ok}
-use Rattle.serde_json.specs.Data.{Data, string, array, object, Items, no_items, item, Members, no_members, member}
-use Rattle.serde_json.specs.Find.{get_member}
+use Rattle.bcs_json_spec.proofs.Prelude.{◌≡◌, ◌∙◌, ◌⊎◌, inl, inr, ℕ, List, [], ◌∷◌, codes, ◌==◌, ◌&&◌, ◌<◌, ◌^◌, nat_lt, IsTrue, suc, Option, Some, None, Bool, true, false, not, cond, bytes_eq, refl, ap, sym, subst, w8, is_utf8, list_all, list_any, option_map_or, and_from, or_left, or_right, Decides-eqb, Decides-ltb, same_Some, IsBytes, decode_of-ok, Data, string, array, object, Items, no_items, item, Members, no_members, member, get_member, Container, unit_struct, newtype_struct, tuple_struct, field_struct, enumeration, Field, Payload, newtype, tuple, Choice, Entries, container_at, choice_called, choice_numbered, content, content_at, choice_at, payload_shape, field_shapes, Shape, Shapes, no_shapes, shape, fits, all_fit, each_fits, pairs_fit, are_bytes, Tree, Trees, no_trees, tree, Pairs, no_pairs, pair, count, IsHexOf, ByteTextSpells, is_byte, byte_trees, JsonContent, of, fields, one_of, nothing, json_content, json_content_at, payload_content, SpelledFits, IfString, IfArray, IfStringOrArray, IfObject, IfTwo, IfOne, IfWordOrOne, IfThere, without, Spells, AllSpell, EachSpells, PairsSpell, FieldsSpell, IsWordOf}
 use Rattle.bcs_registry_model.specs.Container as container
-use Rattle.bcs_registry_model.specs.Container.{Container, unit_struct, newtype_struct, tuple_struct, field_struct, enumeration, Field, Payload, newtype, tuple, Choice, Entries, container_at, choice_called, choice_numbered, content, content_at, choice_at, payload_shape, field_shapes}
 use Rattle.bcs_registry_model.specs.Shape as shape
-use Rattle.bcs_registry_model.specs.Shape.{Shape, Shapes, no_shapes, shape}
-use Rattle.bcs_value_model.specs.Fits.{fits, all_fit, each_fits, pairs_fit, are_bytes}
 use Rattle.bcs_value_model.specs.Tree as tree
-use Rattle.bcs_value_model.specs.Tree.{Tree, Trees, no_trees, tree, Pairs, no_pairs, pair, count}
-use Rattle.bcs_json_spec.specs.Bytes.{IsHexOf, ByteTextSpells, is_byte, byte_trees}
-use Rattle.bcs_json_spec.specs.JsonContent.{JsonContent, of, fields, one_of, nothing, json_content, json_content_at, payload_content}
 use Rattle.bcs_json_spec.proofs.Unnamed.{unnamed, unnamed_at, unnamed_payload}
-use Rattle.bcs_json_spec.specs.Laws.{SpelledFits}
-use Rattle.bcs_json_spec.specs.Look.{IfString, IfArray, IfStringOrArray, IfObject, IfTwo, IfOne, IfWordOrOne, IfThere, without}
 use Rattle.bcs_json_spec.proofs.Numbering.{numbers_differ, numbers_fit, has_numbering, orderly_numbering}
-use Rattle.bcs_json_spec.specs.Spells.{Spells, AllSpell, EachSpells, PairsSpell, FieldsSpell, IsWordOf}
 
 -- ---- both of two tests
 

@@ -1,13 +1,5 @@
 -- What stands under a name in a registry that an older one grew to.
-use Rattle.std.proofs.Common.{◌≡◌, ◌⊎◌, inl, inr, ℕ, List, [], ◌∷◌, All, Option, Some, None, Bool, true, false, cond, bytes_eq, refl, ap, sym, subst}
-use Rattle.std.specs.Option.{option_map_or}
-use Rattle.std.proofs.lemmas.List.Elements.{All-head, All-tail}
-use Rattle.std.proofs.lemmas.Option.{none-some, same_Some}
-use Rattle.bcs_registry_model.specs.Container.{Choice, Container, unit_struct, newtype_struct, tuple_struct, field_struct, enumeration, Entries, container_at, choice_called}
-use Rattle.bcs_registry_model.specs.Grows.{Grows, GrowsTo, HasChoice}
-use Rattle.bcs_registry_model.specs.WellFormed.{IsWellFormed, are_distinct}
-use Rattle.bcs_registry_model.proofs.GrowthLaws.{container_at-grows}
-use Rattle.bcs_json_spec.specs.JsonContent.{JsonContent, one_of, nothing, json_content, json_content_at}
+use Rattle.bcs_json_spec.proofs.Prelude.{◌≡◌, ◌⊎◌, inl, inr, ℕ, List, [], ◌∷◌, All, Option, Some, None, Bool, true, false, cond, bytes_eq, refl, ap, sym, subst, option_map_or, All-head, All-tail, none-some, same_Some, Choice, Container, unit_struct, newtype_struct, tuple_struct, field_struct, enumeration, Entries, container_at, choice_called, Grows, GrowsTo, HasChoice, IsWellFormed, are_distinct, container_at-grows, JsonContent, one_of, nothing, json_content, json_content_at}
 use Rattle.bcs_json_spec.proofs.DistinctVariants.{choice_names, variants_differ, numbered_called}
 
 -- the newer variants have each of the older ones, by its name

@@ -1,21 +1,8 @@
 -- What is spelled at a registry is spelled at one that it grew to.
-use Rattle.std.proofs.Common.{◌≡◌, inl, inr, ℕ, List, [], ◌∷◌, codes, sym, subst}
-use Rattle.serde_json.specs.Data.{Data, Items, no_items, item, Members, no_members}
-use Rattle.serde_json.specs.Find.{get_member}
+use Rattle.bcs_json_spec.proofs.Prelude.{◌≡◌, inl, inr, ℕ, List, [], ◌∷◌, codes, sym, subst, Data, Items, no_items, item, Members, no_members, get_member, Shape, Shapes, no_shapes, shape, Field, Choice, Entries, choice_called, Grows, IsWellFormed, Tree, Trees, no_trees, tree, Pairs, no_pairs, pair, keeps_soundness, ByteTextSpells, is_byte, JsonContent, of, fields, one_of, nothing, json_content_at, payload_content, GrowthKeepsSpelling, GrowthKeepsDenoting, IfThere, without, Spells, AllSpell, EachSpells, PairsSpell, FieldsSpell, IsWordOf}
 use Rattle.bcs_registry_model.specs.Shape as shape
-use Rattle.bcs_registry_model.specs.Shape.{Shape, Shapes, no_shapes, shape}
 use Rattle.bcs_registry_model.specs.Container as container
-use Rattle.bcs_registry_model.specs.Container.{Field, Choice, Entries, choice_called}
-use Rattle.bcs_registry_model.specs.Grows.{Grows}
-use Rattle.bcs_registry_model.specs.WellFormed.{IsWellFormed}
 use Rattle.bcs_value_model.specs.Tree as tree
-use Rattle.bcs_value_model.specs.Tree.{Tree, Trees, no_trees, tree, Pairs, no_pairs, pair}
-use Rattle.bcs_encode_spec.proofs.Growth.{keeps_soundness}
-use Rattle.bcs_json_spec.specs.Bytes.{ByteTextSpells, is_byte}
-use Rattle.bcs_json_spec.specs.JsonContent.{JsonContent, of, fields, one_of, nothing, json_content_at, payload_content}
-use Rattle.bcs_json_spec.specs.Laws.{GrowthKeepsSpelling, GrowthKeepsDenoting}
-use Rattle.bcs_json_spec.specs.Look.{IfThere, without}
-use Rattle.bcs_json_spec.specs.Spells.{Spells, AllSpell, EachSpells, PairsSpell, FieldsSpell, IsWordOf}
 use Rattle.bcs_json_spec.proofs.Fitting.{Part, there}
 use Rattle.bcs_json_spec.proofs.GrownContents.{HasNames, StaysIn, json_content_at-grows}
 use Rattle.bcs_json_spec.proofs.Looking.{in_one, in_two, in_array, in_string_or_array, in_object, in_word_or_one, in_there}

@@ -1,24 +1,9 @@
 -- What is shown of a value stays in a registry that the older one grows to.
-use Rattle.std.proofs.Common.{◌≡◌, ◌∙◌, ℕ, ◌^◌, nat_lt, List, ◌∷◌, codes, ◌==◌, ◌&&◌, Option, Some, None, true, false, if◌then◌else◌, refl, ap, ap₂, sym, subst}
-use Rattle.std.proofs.lemmas.Bool.{false≢true}
-use Rattle.std.specs.Option.{option_map_or}
-use Rattle.hex.specs.Hex.{encode_lower}
-use Rattle.serde_json.specs.Data.{Data, string, array, object, Items, no_items, item, Members, put}
+use Rattle.bcs_json_spec.proofs.Prelude.{◌≡◌, ◌∙◌, ℕ, ◌^◌, nat_lt, List, ◌∷◌, codes, ◌==◌, ◌&&◌, Option, Some, None, true, false, if◌then◌else◌, refl, ap, ap₂, sym, subst, false≢true, option_map_or, encode_lower, Data, string, array, object, Items, no_items, item, Members, put, Container, unit_struct, newtype_struct, tuple_struct, field_struct, enumeration, Field, Payload, newtype, tuple, Choice, Entries, container_at, choice_numbered, choice_at, payload_shape, field_shapes, GrowsTo, Grows, Shape, Shapes, shape, HasChoices, has_choices, container_at-grows, single, fits, all_fit, each_fits, pairs_fit, Tree, Trees, no_trees, tree, Pairs, no_pairs, pair, count, is_byte, trees_bytes, JsonContent, of, fields, one_of, nothing, json_content, json_content_at, payload_content, GrowthKeepsShowing, shown, shown_all, shown_each, shown_pairs, shown_fields, shown_choice}
 use Rattle.bcs_registry_model.specs.Container as container
-use Rattle.bcs_registry_model.specs.Container.{Container, unit_struct, newtype_struct, tuple_struct, field_struct, enumeration, Field, Payload, newtype, tuple, Choice, Entries, container_at, choice_numbered, choice_at, payload_shape, field_shapes}
-use Rattle.bcs_registry_model.specs.Grows.{GrowsTo, Grows}
 use Rattle.bcs_registry_model.specs.Shape as shape
-use Rattle.bcs_registry_model.specs.Shape.{Shape, Shapes, shape}
-use Rattle.bcs_registry_model.proofs.GrowthLaws.{HasChoices, has_choices, container_at-grows}
-use Rattle.bcs_registry_json.specs.Shown.{single}
-use Rattle.bcs_value_model.specs.Fits.{fits, all_fit, each_fits, pairs_fit}
 use Rattle.bcs_value_model.specs.Tree as tree
-use Rattle.bcs_value_model.specs.Tree.{Tree, Trees, no_trees, tree, Pairs, no_pairs, pair, count}
-use Rattle.bcs_json_spec.specs.Bytes.{is_byte, trees_bytes}
-use Rattle.bcs_json_spec.specs.JsonContent.{JsonContent, of, fields, one_of, nothing, json_content, json_content_at, payload_content}
 use Rattle.bcs_json_spec.proofs.Unnamed.{unnamed, unnamed_at, unnamed_payload}
-use Rattle.bcs_json_spec.specs.Laws.{GrowthKeepsShowing}
-use Rattle.bcs_json_spec.specs.Shown.{shown, shown_all, shown_each, shown_pairs, shown_fields, shown_choice}
 use Rattle.bcs_json_spec.proofs.Fitting.{and_left, and_right}
 
 -- ---- what stands in a registry that grew

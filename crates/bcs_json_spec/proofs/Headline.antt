@@ -1,20 +1,6 @@
 -- Equal values and equal bytes, a stable normal text, and bytes that come back.
-use Rattle.std.proofs.Common.{◌≡◌, ◌∙◌, ℕ, List, sym, ap, subst}
-use Rattle.serde_json.specs.Written.{compact_text}
-use Rattle.bcs_registry_model.specs.Container.{Entries}
+use Rattle.bcs_json_spec.proofs.Prelude.{◌≡◌, ◌∙◌, ℕ, List, sym, ap, subst, compact_text, Entries, Shape, same-refl, Bounds, Tree, bytes_decide_same, forms_same, Encodes, IsForm, accepted_is_encoded_is, of, HasBytes, EqualValuesEqualBytes, NormalTextIsStable, ShownBytesComeBack, shown, Denotes}
 use Rattle.bcs_registry_model.specs.Container as container
-use Rattle.bcs_registry_model.specs.Shape.{Shape}
-use Rattle.bcs_value_model.proofs.Equivalence.{same-refl}
-use Rattle.bcs_value_model.specs.Limits.{Bounds}
-use Rattle.bcs_value_model.specs.Tree.{Tree}
-use Rattle.bcs_encode_spec.proofs.FormLaws.{bytes_decide_same, forms_same}
-use Rattle.bcs_encode_spec.specs.Encodes.{Encodes, IsForm}
-use Rattle.bcs_decode_spec.proofs.Encoded.{accepted_is_encoded_is}
-use Rattle.bcs_json_spec.specs.JsonContent.{of}
-use Rattle.bcs_json_spec.specs.Headline.{HasBytes}
-use Rattle.bcs_json_spec.specs.Laws.{EqualValuesEqualBytes, NormalTextIsStable, ShownBytesComeBack}
-use Rattle.bcs_json_spec.specs.Shown.{shown}
-use Rattle.bcs_json_spec.specs.Texts.{Denotes}
 use Rattle.bcs_json_spec.proofs.TextLaws.{denotes_once}
 
 -- the bytes of a text are those of the value that it denotes

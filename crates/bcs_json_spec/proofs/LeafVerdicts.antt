@@ -1,28 +1,9 @@
 -- Values with no parts.
-use Rattle.std.proofs.Common.{◌≡◌, ◌∙◌, ℕ, ℤ, pos, negsuc, ◌≤◌, ◌^◌, List, [], ◌∷◌, Ok, Err, Result, Bool, true, false, IsTrue, if◌then◌else◌, refl, ap, sym, subst, arith}
-use Rattle.std.specs.Int.{Width}
-use Rattle.std.specs.Str.{is_utf8}
-use Rattle.std.proofs.lemmas.Bool.Decides.{Decides-ltb}
-use Rattle.std.proofs.Math.Nat.{max-le}
-use mir.Val.{bits, hbits}
-use Rattle.hex.specs.Hex.{decode_of}
-use Rattle.hex.specs.declared.error.FromHexError.{FromHexError}
-use Rattle.serde_json.specs.Data.{Data, null, boolean, string}
-use Rattle.bcs_num.proofs.Ranges.{bits_most, half_most}
-use Rattle.bcs_registry_model.specs.Container.{Entries}
+use Rattle.bcs_json_spec.proofs.Prelude.{◌≡◌, ◌∙◌, ℕ, ℤ, pos, negsuc, ◌≤◌, ◌^◌, List, [], ◌∷◌, Ok, Err, Result, Bool, true, false, IsTrue, if◌then◌else◌, refl, ap, sym, subst, arith, Width, is_utf8, Decides-ltb, max-le, bits, hbits, decode_of, FromHexError, Data, null, boolean, string, bits_most, half_most, Entries, Shape, Tree, Trees, trees_depth, IsHexOf, ByteTextSpells, byte_trees, of, IsNull, IfString, is_unsigned_of, is_signed_of, read_unit, read_truth, size_of, read_unsigned, read_signed, read_text, hex_or_fault, read_hex, read_bytes, read_byte_text, UnitRefuses, TruthRefuses, WholeRefuses, TextRefuses, IsNoHex, BytesRefuse, ByteTextRefuses, SpellsWithin, BadHex, BadShape}
 use Rattle.bcs_registry_model.specs.Shape as shape
-use Rattle.bcs_registry_model.specs.Shape.{Shape, Unsupported}
+use Rattle.bcs_registry_model.specs.Shape.{Unsupported}
 use Rattle.bcs_value_model.specs.Tree as tree
-use Rattle.bcs_value_model.specs.Tree.{Tree, Trees, trees_depth}
-use Rattle.bcs_json_spec.specs.Bytes.{IsHexOf, ByteTextSpells, byte_trees}
-use Rattle.bcs_json_spec.specs.JsonContent.{of}
-use Rattle.bcs_json_spec.specs.Look.{IsNull, IfString}
-use Rattle.bcs_json_spec.specs.Numbers.{is_unsigned_of, is_signed_of}
-use Rattle.bcs_json_spec.specs.Reading.{read_unit, read_truth, size_of, read_unsigned, read_signed, read_text, hex_or_fault, read_hex, read_bytes, read_byte_text}
-use Rattle.bcs_json_spec.specs.Refuses.{UnitRefuses, TruthRefuses, WholeRefuses, TextRefuses, IsNoHex, BytesRefuse, ByteTextRefuses}
-use Rattle.bcs_json_spec.specs.Spells.{SpellsWithin}
 use Rattle.bcs_json_spec.specs.declared.json_fault.JsonFault.TheVariants as fault
-use Rattle.bcs_json_spec.specs.declared.json_fault.JsonFault.TheVariants.{BadHex, BadShape}
 use Rattle.bcs_json_spec.proofs.Exact.{Exact, is_walk_fault, done, refused, refuses, made}
 use Rattle.bcs_json_spec.proofs.Numbers.{IsSmall, exact_whole, WholeWithin}
 

@@ -1,3 +1,4 @@
+pub mod Prelude
 pub mod Exact
 pub mod Numbers
 pub mod LeafVerdicts

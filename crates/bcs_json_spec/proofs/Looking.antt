@@ -1,7 +1,5 @@
 -- Looking at JSON for one thing finds what follows from it.
-use Rattle.std.proofs.Common.{ℕ, List, Option, Some, None}
-use Rattle.serde_json.specs.Data.{Data, string, array, object, Items, no_items, item, Members, no_members, member}
-use Rattle.bcs_json_spec.specs.Look.{IfArray, IfStringOrArray, IfObject, IfTwo, IfOne, IfWordOrOne, IfThere}
+use Rattle.bcs_json_spec.proofs.Prelude.{ℕ, List, Option, Some, None, Data, string, array, object, Items, no_items, item, Members, no_members, member, IfArray, IfStringOrArray, IfObject, IfTwo, IfOne, IfWordOrOne, IfThere}
 
 pub in_one : (P Q : List ℕ → Data → Type 0) → ((k : List ℕ) (d : Data) → P k d → Q k d) → (j : Data) → IfOne P j → IfOne Q j
 in_one P Q h (object (member k d no_members)) w = h k d w

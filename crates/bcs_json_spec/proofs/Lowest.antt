@@ -1,26 +1,11 @@
 -- What is shown of a tree nests no deeper than any spelling of it.
-use Rattle.std.proofs.Common.{◌≡◌, ◌∙◌, inl, inr, ℕ, suc, ◌≤◌, max, List, [], ◌∷◌, codes, Option, Some, Bool, true, false, cond, if◌then◌else◌, bytes_eq, Ordering, Less, Equal, Greater, refl, ap, sym, subst, arith}
-use Rattle.std.proofs.Math.Nat.{max-le, le-max_left, le-max_right}
-use Rattle.std.specs.Cmp.Lexicographic.{slice_cmp}
-use Rattle.std.specs.Fmt.{decimal, signed_decimal}
-use Rattle.std.specs.List.{list_all}
-use Rattle.std.specs.Ordering.{nat_cmp, match_ordering}
-use Rattle.hex.specs.Hex.{encode_lower}
-use Rattle.serde_json.specs.Data.{Data, number, unsigned as whole, string, array, Items, no_items, item, Members, no_members, member, put, depth, items_depth, members_depth}
-use Rattle.serde_json.specs.Find.{get_member, of_integer}
+use Rattle.bcs_json_spec.proofs.Prelude.{◌≡◌, ◌∙◌, inl, inr, ℕ, suc, ◌≤◌, max, List, [], ◌∷◌, codes, Option, Some, Bool, true, false, cond, if◌then◌else◌, bytes_eq, Ordering, Less, Equal, Greater, refl, ap, sym, subst, arith, max-le, le-max_left, le-max_right, slice_cmp, signed_decimal, list_all, match_ordering, encode_lower, Data, number, whole, string, array, Items, no_items, item, Members, no_members, member, put, depth, items_depth, members_depth, get_member, of_integer, Field, Payload, newtype, tuple, Choice, Entries, choice_called, choice_numbered, Shape, Shapes, no_shapes, shape, Tree, Trees, no_trees, tree, Pairs, no_pairs, pair, ByteTextSpells, is_byte, trees_bytes, JsonContent, of, fields, one_of, json_content, json_content_at, payload_content, ShownIsLowest, IfStringOrArray, IfThere, without, shown, shown_all, shown_each, shown_pairs, shown_fields, shown_choice, is_wide, Spells, AllSpell, EachSpells, PairsSpell, FieldsSpell, IsWordOf}
+use Rattle.std.specs.Fmt.{decimal}
+use Rattle.std.specs.Ordering.{nat_cmp}
 use Rattle.bcs_registry_model.specs.Container as container
-use Rattle.bcs_registry_model.specs.Container.{Field, Payload, newtype, tuple, Choice, Entries, choice_called, choice_numbered}
 use Rattle.bcs_registry_model.specs.Shape as shape
-use Rattle.bcs_registry_model.specs.Shape.{Shape, Shapes, no_shapes, shape}
 use Rattle.bcs_value_model.specs.Tree as tree
-use Rattle.bcs_value_model.specs.Tree.{Tree, Trees, no_trees, tree, Pairs, no_pairs, pair}
-use Rattle.bcs_json_spec.specs.Bytes.{ByteTextSpells, is_byte, trees_bytes}
-use Rattle.bcs_json_spec.specs.JsonContent.{JsonContent, of, fields, one_of, json_content, json_content_at, payload_content}
-use Rattle.bcs_json_spec.specs.Laws.{ShownIsLowest}
-use Rattle.bcs_json_spec.specs.Look.{IfStringOrArray, IfThere, without}
 use Rattle.bcs_json_spec.proofs.Numbering.{numbers_differ, has_numbering, orderly_numbering}
-use Rattle.bcs_json_spec.specs.Shown.{shown, shown_all, shown_each, shown_pairs, shown_fields, shown_choice, is_wide}
-use Rattle.bcs_json_spec.specs.Spells.{Spells, AllSpell, EachSpells, PairsSpell, FieldsSpell, IsWordOf}
 use Rattle.bcs_json_spec.proofs.Fitting.{and_left, Part, one, items_in, text_or_items, members_in, two, word_or_one, there, numbering_at, payload_numbering, called_numbered}
 
 -- ---- members

@@ -1,20 +1,6 @@
 -- Members that are put in are found again by their names, and taken away again.
-use Rattle.std.proofs.Common.{◌≡◌, ◌∙◌, ℕ, ◌≤◌, List, [], ◌∷◌, map, Some, None, true, false, true≢false, not, cond, bytes_eq, Ordering, Less, Equal, Greater, refl, ap, sym, subst}
-use Rattle.std.proofs.lemmas.Bool.{or_parts, not-true}
-use Rattle.std.proofs.lemmas.Map.Text.{is_eq-slice_cmp}
-use Rattle.std.specs.Cmp.Lexicographic.{slice_cmp}
-use Rattle.std.specs.List.{list_any}
-use Rattle.std.specs.Ordering.{nat_cmp, match_ordering, is_eq}
-use Rattle.serde_json.specs.Data.{Data, Members, no_members, member, put, depth, members_depth}
-use Rattle.serde_json.specs.Find.{get_member}
-use Rattle.serde_json.proofs.Views.{get_member-put, get_member-put_other}
-use Rattle.bcs_registry_model.specs.Container.{Field, Entries}
-use Rattle.bcs_registry_model.specs.WellFormed.{are_distinct}
-use Rattle.bcs_value_model.proofs.Equivalence.{bytes-refl}
-use Rattle.bcs_value_model.specs.Tree.{Trees, no_trees, tree}
-use Rattle.bcs_json_spec.specs.JsonContent.{of}
-use Rattle.bcs_json_spec.specs.Look.{without}
-use Rattle.bcs_json_spec.specs.Shown.{shown, shown_fields}
+use Rattle.bcs_json_spec.proofs.Prelude.{◌≡◌, ◌∙◌, ℕ, ◌≤◌, List, [], ◌∷◌, map, Some, None, true, false, true≢false, not, cond, bytes_eq, Ordering, Less, Equal, Greater, refl, ap, sym, subst, or_parts, not-true, is_eq-slice_cmp, slice_cmp, list_any, match_ordering, is_eq, Data, Members, no_members, member, put, depth, members_depth, get_member, get_member-put, get_member-put_other, Field, Entries, are_distinct, bytes-refl, Trees, no_trees, tree, of, without, shown, shown_fields}
+use Rattle.std.specs.Ordering.{nat_cmp}
 use Rattle.bcs_json_spec.proofs.Fitting.{and_left, and_right}
 use Rattle.bcs_json_spec.proofs.Lowest.{found_depth, without_depth}
 

@@ -1,15 +1,6 @@
 -- The numbers of an enum's variants differ and fit 32 bits, since a finite map keeps them.
-use Rattle.std.proofs.Common.{◌≡◌, ◌^◌, ℕ, List, [], ◌∷◌, Bool, true, false, not, ◌&&◌, ◌==◌, nat_lt, Less, Equal, refl, ap}
-use Rattle.std.proofs.lemmas.Bool.{and_from}
-use Rattle.std.proofs.lemmas.Bool.Decides.{Decides-eqb}
-use Rattle.std.specs.Cmp.{nat_cmp_is}
-use Rattle.std.specs.List.{list_all, list_any, AllByRecursion}
-use Rattle.std.specs.List.Sorted.{IsStrictlySortedBy}
-use Rattle.std.specs.Map.{keys_of}
+use Rattle.bcs_json_spec.proofs.Prelude.{◌≡◌, ◌^◌, ℕ, List, [], ◌∷◌, Bool, true, false, not, ◌&&◌, ◌==◌, nat_lt, Less, Equal, refl, ap, and_from, Decides-eqb, nat_cmp_is, list_all, list_any, AllByRecursion, IsStrictlySortedBy, keys_of, Choice, Container, unit_struct, newtype_struct, tuple_struct, field_struct, enumeration, Entries, IsInRange, IsOrderly, JsonContent, one_of, json_content}
 use Rattle.std.specs.Ordering.{nat_cmp}
-use Rattle.bcs_registry_model.specs.Container.{Choice, Container, unit_struct, newtype_struct, tuple_struct, field_struct, enumeration, Entries}
-use Rattle.bcs_registry_model.specs.Ranges.{IsInRange, IsOrderly}
-use Rattle.bcs_json_spec.specs.JsonContent.{JsonContent, one_of, json_content}
 
 abbrev pub numbers_differ : List Choice → Bool
 numbers_differ [] = true

@@ -1,18 +1,5 @@
 -- Whole numbers: what JSON spells one is read as it, and what is read is spelled.
-use Rattle.std.proofs.Common.{◌≡◌, ◌∙◌, ℕ, suc, ℤ, pos, negsuc, ◌<◌, ◌^◌, List, [], ◌∷◌, Ok, Err, Option, Some, None, Bool, true, false, if◌then◌else◌, Decides, bytes_eq, ◌==◌, decimal, refl, ap, sym, subst, arith}
-use Rattle.std.specs.Char.{digit_value}
-use Rattle.std.specs.Fmt.{signed_decimal}
-use Rattle.std.specs.Str.Parse.{AllDigits, digits_value}
-use Rattle.std.proofs.lemmas.Bool.Decides.{Decides-eqb}
-use Rattle.std.proofs.lemmas.Slice.Eq.{bytes_eq-Decides}
-use Rattle.std.proofs.lemmas.Fmt.{decimal_is_IsNumeral_wide}
-use Rattle.std.proofs.lemmas.Option.{same_Some}
-use Rattle.serde_json.specs.Data.{Data, number, string}
-use Rattle.bcs_json_spec.specs.Numbers.{SpellsWhole, negated, worth, whole_of}
-use Rattle.bcs_json_spec.specs.Reading.{whole_in, read_whole}
-use Rattle.bcs_json_spec.specs.Refuses.{WholeRefuses}
-use Rattle.bcs_json_spec.specs.declared.json_fault.JsonFault.{JsonFault}
-use Rattle.bcs_json_spec.specs.declared.json_fault.JsonFault.TheVariants.{BadNumber}
+use Rattle.bcs_json_spec.proofs.Prelude.{◌≡◌, ◌∙◌, ℕ, suc, ℤ, pos, negsuc, ◌<◌, ◌^◌, List, [], ◌∷◌, Ok, Err, Option, Some, None, Bool, true, false, if◌then◌else◌, Decides, bytes_eq, ◌==◌, decimal, refl, ap, sym, subst, arith, digit_value, signed_decimal, AllDigits, digits_value, Decides-eqb, bytes_eq-Decides, decimal_is_IsNumeral_wide, same_Some, Data, number, string, SpellsWhole, negated, worth, whole_of, whole_in, read_whole, WholeRefuses, JsonFault, BadNumber}
 use Rattle.bcs_json_spec.proofs.Exact.{Exact, is_walk_fault, same_ok, not_both, when_true}
 
 -- of at most 63 digits

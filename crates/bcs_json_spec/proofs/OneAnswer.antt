@@ -1,31 +1,9 @@
 -- Each text denotes a value or is refused, and for one reason.
-use Rattle.std.proofs.Common.{◌≡◌, ◌∙◌, ◌⊎◌, inl, inr, ℕ, ◌≤◌, ◌<◌, List, Option, Some, None, Bool, true, false, refl, sym, subst, arith}
-use Rattle.std.specs.Str.{is_utf8}
-use Rattle.std.proofs.lemmas.Bool.{cases_Bool, cases_lt, false≢true}
-use Rattle.std.proofs.lemmas.Option.{none-some}
-use Rattle.std.proofs.lemmas.Str.{IsUtf8-from_is_utf8, is_utf8-from_IsUtf8}
-use Rattle.serde_json.specs.Data.{Data, depth}
-use Rattle.serde_json.specs.Read.{read}
-use Rattle.bcs_registry_model.specs.Container.{Entries}
+use Rattle.bcs_json_spec.proofs.Prelude.{◌≡◌, ◌∙◌, ◌⊎◌, inl, inr, ℕ, ◌≤◌, ◌<◌, List, Option, Some, None, Bool, true, false, refl, sym, subst, arith, is_utf8, cases_Bool, cases_lt, false≢true, none-some, IsUtf8-from_is_utf8, is_utf8-from_IsUtf8, Data, depth, read, Entries, IsOrderly, Shape, IsJson, IsNotJson, Fits, Bounds, distinct, Tree, length_limit, lengths_hold, of, TextDenotesOrIsRefused, Refuses, SpellsWithin, nesting_limit, IsReadAs, Denotes, SpelledBy, Misspells, RefusesText, JsonFault, NotJson, TooNested, TooManyNodes, TooLong, RepeatedKey, OutOfMemory}
 use Rattle.bcs_registry_model.specs.Container as container
-use Rattle.bcs_registry_model.specs.Ranges.{IsOrderly}
-use Rattle.bcs_registry_model.specs.Shape.{Shape}
-use Rattle.bcs_registry_json.specs.Json.{IsJson, IsNotJson}
-use Rattle.bcs_value_model.specs.Fits.{Fits}
-use Rattle.bcs_value_model.specs.Limits.{Bounds}
-use Rattle.bcs_value_model.specs.Same.{distinct}
 use Rattle.bcs_value_model.specs.Tree as tree
-use Rattle.bcs_value_model.specs.Tree.{Tree}
-use Rattle.bcs_encode_spec.specs.Lengths.{length_limit, lengths_hold}
 use Rattle.bcs_encode_spec.specs.Refused as encode
 use Rattle.bcs_encode_spec.specs.declared.fault.EncodeFault.TheVariants as encode_fault
-use Rattle.bcs_json_spec.specs.JsonContent.{of}
-use Rattle.bcs_json_spec.specs.Laws.{TextDenotesOrIsRefused}
-use Rattle.bcs_json_spec.specs.Refuses.{Refuses}
-use Rattle.bcs_json_spec.specs.Spells.{SpellsWithin}
-use Rattle.bcs_json_spec.specs.Texts.{nesting_limit, IsReadAs, Denotes, SpelledBy, Misspells, RefusesText}
-use Rattle.bcs_json_spec.specs.declared.json_fault.JsonFault.{JsonFault}
-use Rattle.bcs_json_spec.specs.declared.json_fault.JsonFault.TheVariants.{NotJson, TooNested, TooManyNodes, TooLong, RepeatedKey, OutOfMemory}
 use Rattle.bcs_json_spec.proofs.Fitting.{spelled_fits}
 use Rattle.bcs_json_spec.proofs.TextLaws.{same_read}
 use Rattle.bcs_json_spec.proofs.Exact.{is_walk_fault}
@@ -85,12 +63,12 @@ module _ (registry : Entries) (limits : Bounds) (s : Shape) (text : List ℕ) wh
       ⊎ ((encode.RefusesValue registry limits s t encode_fault.TooLong × (e ≡ TooLong)) ⊎ (encode.RefusesValue registry limits s t encode_fault.RepeatedKey × (e ≡ RepeatedKey)))
 
   -- the JSON spells no value, or one that isn't sound
-  abbrev Judged : Data → JsonFault → Type 0
-  Judged d e = Refuses registry limits.depth (of s) d e ⊎ ((t : Tree) × SpellsWithin registry limits.depth (of s) d t × Unsound t e)
+  abbrev Validated : Data → JsonFault → Type 0
+  Validated d e = Refuses registry limits.depth (of s) d e ⊎ ((t : Tree) × SpellsWithin registry limits.depth (of s) d t × Unsound t e)
 
-  -- it nests too deep, or is judged
+  -- it nests too deep, or is validated
   abbrev Looked : Data → JsonFault → Type 0
-  Looked d e = ((nesting_limit < depth d) × (e ≡ TooNested)) ⊎ ((depth d ≤ nesting_limit) × Judged d e)
+  Looked d e = ((nesting_limit < depth d) × (e ≡ TooNested)) ⊎ ((depth d ≤ nesting_limit) × Validated d e)
 
   -- the text has no reading, or what is read is looked at
   abbrev Reads : JsonFault → Type 0
@@ -122,17 +100,17 @@ module _ (registry : Entries) (limits : Bounds) (s : Shape) (text : List ℕ) wh
   unsound_once t e g (inr (inr h)) (inr (inl k)) = absurd (k.0.3 h.0.0.lengths)
   unsound_once t e g (inr (inr h)) (inr (inr k)) = h.1 ∙ sym k.1
 
-  judged_once : (d : Data) (e g : JsonFault) → Judged d e → Judged d g → e ≡ g
-  judged_once d e g (inl h) (inl k) = (one_verdict registry limits.depth (of s) d).once e g h k
-  judged_once d e g (inl h) (inr k) = absurd ((one_verdict registry limits.depth (of s) d).not_both k.0 e k.1 h)
-  judged_once d e g (inr h) (inl k) = absurd ((one_verdict registry limits.depth (of s) d).not_both h.0 g h.1 k)
-  judged_once d e g (inr h) (inr k) = unsound_once h.0 e g h.2 (subst (λ t. Unsound t g) (one_tree registry (of s) d k.0 h.0 k.1.0 h.1.0) k.2)
+  validated_once : (d : Data) (e g : JsonFault) → Validated d e → Validated d g → e ≡ g
+  validated_once d e g (inl h) (inl k) = (one_verdict registry limits.depth (of s) d).once e g h k
+  validated_once d e g (inl h) (inr k) = absurd ((one_verdict registry limits.depth (of s) d).not_both k.0 e k.1 h)
+  validated_once d e g (inr h) (inl k) = absurd ((one_verdict registry limits.depth (of s) d).not_both h.0 g h.1 k)
+  validated_once d e g (inr h) (inr k) = unsound_once h.0 e g h.2 (subst (λ t. Unsound t g) (one_tree registry (of s) d k.0 h.0 k.1.0 h.1.0) k.2)
 
   looked_once : (d : Data) (e g : JsonFault) → Looked d e → Looked d g → e ≡ g
   looked_once d e g (inl h) (inl k) = h.1 ∙ sym k.1
   looked_once d e g (inl h) (inr k) = absurd (omega (arith, h.0, k.0))
   looked_once d e g (inr h) (inl k) = absurd (omega (arith, h.0, k.0))
-  looked_once d e g (inr h) (inr k) = judged_once d e g h.1 k.1
+  looked_once d e g (inr h) (inr k) = validated_once d e g h.1 k.1
 
   reads_once : (e g : JsonFault) → Reads e → Reads g → e ≡ g
   reads_once e g (inl h) (inl k) = h.1 ∙ sym k.1

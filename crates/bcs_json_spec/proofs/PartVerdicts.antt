@@ -1,22 +1,8 @@
 -- Values with parts: parts in a row, and what is made of them.
-use Rattle.std.proofs.Common.{◌≡◌, ◌≢◌, ◌∙◌, ◌⊎◌, inl, inr, ℕ, suc, ◌≤◌, max, codes, ◌==◌, bytes_eq, refl, ap, sym, subst, arith}
-use Rattle.std.proofs.Math.Nat.{max-le}
-use Rattle.std.proofs.lemmas.Bool.Decides.{Decides-eqb}
-use Rattle.std.proofs.lemmas.Slice.Eq.{bytes_eq-Decides}
-use Rattle.serde_json.specs.Data.{Data, null, string, array, object, Items, no_items, item, no_members, member}
-use Rattle.bcs_registry_model.specs.Container.{Entries}
+use Rattle.bcs_json_spec.proofs.Prelude.{◌≡◌, ◌≢◌, ◌∙◌, ◌⊎◌, inl, inr, ℕ, suc, ◌≤◌, max, codes, ◌==◌, bytes_eq, refl, ap, sym, subst, arith, max-le, Decides-eqb, bytes_eq-Decides, Data, null, string, array, object, Items, no_items, item, no_members, member, Entries, Shape, Shapes, Tree, Trees, no_trees, tree, Pairs, no_pairs, pair, count, trees_depth, pairs_depth, ByteTextSpells, is_byte, of, IsNull, IfStringOrArray, IfArray, IfTwo, IfOne, item_count, shape_count, Read, read_option, read_seq, read_array, sized, read_tuple, read_map, read_all, read_pair, read_pairs, Bad, OptionRefuses, AllRefuse, SeqRefuses, ArrayRefuses, TupleRefuses, PairRefuses, PairsRefuse, MapRefuses, Spells, AllSpell, EachSpells, PairsSpell, JsonFault, BadShape}
 use Rattle.bcs_registry_model.specs.Shape as shape
-use Rattle.bcs_registry_model.specs.Shape.{Shape, Shapes}
 use Rattle.bcs_value_model.specs.Tree as tree
-use Rattle.bcs_value_model.specs.Tree.{Tree, Trees, no_trees, tree, Pairs, no_pairs, pair, count, depth, trees_depth, pairs_depth}
-use Rattle.bcs_json_spec.specs.Bytes.{ByteTextSpells, is_byte}
-use Rattle.bcs_json_spec.specs.JsonContent.{of}
-use Rattle.bcs_json_spec.specs.Look.{IsNull, IfStringOrArray, IfArray, IfTwo, IfOne, item_count, shape_count}
-use Rattle.bcs_json_spec.specs.Reading.{Read, read_option, read_seq, read_array, sized, read_tuple, read_map, read_all, read_pair, read_pairs}
-use Rattle.bcs_json_spec.specs.Refuses.{Bad, OptionRefuses, AllRefuse, SeqRefuses, ArrayRefuses, TupleRefuses, PairRefuses, PairsRefuse, MapRefuses}
-use Rattle.bcs_json_spec.specs.Spells.{Spells, AllSpell, EachSpells, PairsSpell}
-use Rattle.bcs_json_spec.specs.declared.json_fault.JsonFault.{JsonFault}
-use Rattle.bcs_json_spec.specs.declared.json_fault.JsonFault.TheVariants.{BadShape}
+use Rattle.bcs_value_model.specs.Tree.{depth}
 use Rattle.bcs_json_spec.proofs.Exact.{Exact, done, refused, refuses, made, both, onward, tested, left, right}
 use Rattle.bcs_json_spec.proofs.LeafVerdicts.{Within, exact_byte_text, byte_text_depth}
 

@@ -1,25 +1,10 @@
 -- The first part that is refused is refused with the fault of the whole.
-use Rattle.std.proofs.Common.{◌≡◌, ◌≢◌, ◌∙◌, ℕ, zero, suc, List, [], ◌∷◌, ◌++◌, codes, Option, None, Some, Ok, Err, Bool, true, false, ◌==◌, if◌then◌else◌, bytes_eq, All, refl, ap, sym}
-use Rattle.std.specs.Option.{option_or, option_map_or}
-use Rattle.std.specs.Result.{result_err}
-use Rattle.std.proofs.lemmas.List.Elements.{All-head, All-tail}
-use Rattle.serde_json.specs.Data.{Data, array, object, Items, no_items, Members, no_members}
+use Rattle.bcs_json_spec.proofs.Prelude.{◌≡◌, ◌≢◌, ◌∙◌, ℕ, zero, suc, List, [], ◌∷◌, ◌++◌, codes, Option, None, Some, Ok, Err, Bool, true, false, ◌==◌, if◌then◌else◌, bytes_eq, All, refl, ap, sym, option_or, option_map_or, result_err, All-head, All-tail, Data, array, object, Items, no_items, Members, no_members, get_member, Shape, Shapes, no_shapes, shape, Field, Payload, Choice, Entries, choice_called, Tree, Trees, is_byte, JsonContent, of, fields, one_of, nothing, json_content_at, payload_content, PlaceIsRefusedAlone, item_count, shape_count, without, PointerStep, Target, value, entry, JsonPart, part, parts, item_parts, each_parts, entry_parts, field_parts, option_parts, seq_parts, map_parts, tuple_parts, array_parts, struct_parts, enum_parts, pair_parts, shape_parts, named_parts, IsGood, IsPlaceAmong, IsRefusedAlone, Read, follow, read_all, read_array, read_choice, read_content, read_data, read_each, read_enum, read_fields, read_map, read_member, read_named, read_option, read_pair, read_pairs, read_part, read_seq, read_struct, read_tuple, JsonFault, BadShape}
 use Rattle.serde_json.specs.Data as json
-use Rattle.serde_json.specs.Find.{get_member}
 use Rattle.bcs_registry_model.specs.Shape as shape
-use Rattle.bcs_registry_model.specs.Shape.{Shape, Shapes, no_shapes, shape}
 use Rattle.bcs_registry_model.specs.Container as container
-use Rattle.bcs_registry_model.specs.Container.{Field, Payload, Choice, Entries, choice_called}
 use Rattle.bcs_value_model.specs.Tree as tree
-use Rattle.bcs_value_model.specs.Tree.{Tree, Trees}
-use Rattle.bcs_json_spec.specs.Bytes.{is_byte}
-use Rattle.bcs_json_spec.specs.JsonContent.{JsonContent, of, fields, one_of, nothing, json_content_at, payload_content}
-use Rattle.bcs_json_spec.specs.Laws.{PlaceIsRefusedAlone}
-use Rattle.bcs_json_spec.specs.Look.{item_count, shape_count, without}
-use Rattle.bcs_json_spec.specs.Place.{PointerStep, item, member, Target, value, entry, JsonPart, part, parts, item_parts, each_parts, entry_parts, field_parts, option_parts, seq_parts, map_parts, tuple_parts, array_parts, struct_parts, enum_parts, pair_parts, shape_parts, named_parts, IsGood, IsPlaceAmong, IsRefusedAlone}
-use Rattle.bcs_json_spec.specs.Reading.{Read, follow, read_all, read_array, read_choice, read_content, read_data, read_each, read_enum, read_fields, read_map, read_member, read_named, read_option, read_pair, read_pairs, read_part, read_seq, read_struct, read_tuple}
-use Rattle.bcs_json_spec.specs.declared.json_fault.JsonFault.{JsonFault}
-use Rattle.bcs_json_spec.specs.declared.json_fault.JsonFault.TheVariants.{BadShape}
+use Rattle.bcs_json_spec.specs.Place.{item, member}
 use Rattle.bcs_json_spec.proofs.FaultAt.{fault_at, fault_of, good_of, none_of, refused_of}
 use Rattle.bcs_json_spec.proofs.Places.{among, Leads}
 
@@ -44,78 +29,78 @@ module _ (registry : Entries) (g : JsonFault) where
   first (p ∷ ps) = option_or (fault_at registry p.left p.target p.json) (first ps)
 
   -- parts whose first fault is the fault of what was read
-  abbrev Tell : {A : Type 0} → List JsonPart → Read A → Type 0
-  Tell ps x = first ps ≡ Some g → result_err x ≡ Some g
+  abbrev ReportsFirst : {A : Type 0} → List JsonPart → Read A → Type 0
+  ReportsFirst ps x = first ps ≡ Some g → result_err x ≡ Some g
 
-  one_part : {A : Type 0} (p : JsonPart) (x : Read A) → fault_at registry p.left p.target p.json ≡ result_err x → Tell (p ∷ []) x
+  one_part : {A : Type 0} (p : JsonPart) (x : Read A) → fault_at registry p.left p.target p.json ≡ result_err x → ReportsFirst (p ∷ []) x
   one_part p (Ok a) is h = no_some g (sym (ap (λ o. option_or o None) is) ∙ h)
   one_part p (Err e) is h = sym (ap (λ o. option_or o None) is) ∙ h
 
-  when : {A : Type 0} (b : Bool) (ps : List JsonPart) (x y : Read A) → Tell ps x → Tell (if b then ps else []) (if b then x else y)
+  when : {A : Type 0} (b : Bool) (ps : List JsonPart) (x y : Read A) → ReportsFirst ps x → ReportsFirst (if b then ps else []) (if b then x else y)
   when true ps x y t h = t h
   when false ps x y t h = no_some g h
 
-  onward : {A B : Type 0} (ps : List JsonPart) (x : Read A) (f : A → B) → Tell ps x → Tell ps (follow x (λ a. Ok (f a)))
+  onward : {A B : Type 0} (ps : List JsonPart) (x : Read A) (f : A → B) → ReportsFirst ps x → ReportsFirst ps (follow x (λ a. Ok (f a)))
   onward ps x f t h = done x f ∙ t h
 
   module _ (d : ℕ) where
     abbrev reads : Shape → Data → Read Tree
     reads s = read_data registry d (of s)
 
-    items_tell : (s : Shape) (i : ℕ) (ds : Items) → Tell (item_parts d s i ds) (read_all (reads s) ds)
-    items_tell s i no_items h = no_some g h
-    items_tell s i (json.item j ds) h = both (reads s j) (read_all (reads s) ds) tree.tree (first (item_parts d s (suc i) ds)) g (items_tell s (suc i) ds) h
+    items_report : (s : Shape) (i : ℕ) (ds : Items) → ReportsFirst (item_parts d s i ds) (read_all (reads s) ds)
+    items_report s i no_items h = no_some g h
+    items_report s i (json.item j ds) h = both (reads s j) (read_all (reads s) ds) tree.tree (first (item_parts d s (suc i) ds)) g (items_report s (suc i) ds) h
 
-    each_tell : (ss : Shapes) (i : ℕ) (ds : Items) → Tell (each_parts d ss i ds) (read_each (read_named registry d) ss ds)
-    each_tell (shape s ss) i (json.item j ds) h =
-        both (reads s j) (read_each (read_named registry d) ss ds) tree.tree (first (each_parts d ss (suc i) ds)) g (each_tell ss (suc i) ds) h
-    each_tell (shape s ss) i no_items h = no_some g h
-    each_tell no_shapes i ds h = no_some g h
+    each_report : (ss : Shapes) (i : ℕ) (ds : Items) → ReportsFirst (each_parts d ss i ds) (read_each (read_named registry d) ss ds)
+    each_report (shape s ss) i (json.item j ds) h =
+        both (reads s j) (read_each (read_named registry d) ss ds) tree.tree (first (each_parts d ss (suc i) ds)) g (each_report ss (suc i) ds) h
+    each_report (shape s ss) i no_items h = no_some g h
+    each_report no_shapes i ds h = no_some g h
 
-    entries_tell : (k v : Shape) (i : ℕ) (ds : Items) → Tell (entry_parts d k v i ds) (read_pairs (reads k) (reads v) ds)
-    entries_tell k v i no_items h = no_some g h
-    entries_tell k v i (json.item j ds) h =
-        both (read_pair (reads k) (reads v) j) (read_pairs (reads k) (reads v) ds) (λ p ps. tree.pair p.0 p.1 ps) (first (entry_parts d k v (suc i) ds)) g (entries_tell k v (suc i) ds) h
+    entries_report : (k v : Shape) (i : ℕ) (ds : Items) → ReportsFirst (entry_parts d k v i ds) (read_pairs (reads k) (reads v) ds)
+    entries_report k v i no_items h = no_some g h
+    entries_report k v i (json.item j ds) h =
+        both (read_pair (reads k) (reads v) j) (read_pairs (reads k) (reads v) ds) (λ p ps. tree.pair p.0 p.1 ps) (first (entry_parts d k v (suc i) ds)) g (entries_report k v (suc i) ds) h
 
-    field_tell : (f : Field) (o : Option Data) (rest : List JsonPart) (x : Read Trees) → Tell rest x
-        → Tell (option_map_or (λ j. part d (member f.0) (of f.1) j ∷ rest) o []) (follow (read_member (reads f.1) o) (λ t. follow x (λ ts. Ok (tree.tree t ts))))
-    field_tell f None rest x t h = no_some g h
-    field_tell f (Some j) rest x t h = both (reads f.1 j) x tree.tree (first rest) g t h
+    field_report : (f : Field) (o : Option Data) (rest : List JsonPart) (x : Read Trees) → ReportsFirst rest x
+        → ReportsFirst (option_map_or (λ j. part d (member f.0) (of f.1) j ∷ rest) o []) (follow (read_member (reads f.1) o) (λ t. follow x (λ ts. Ok (tree.tree t ts))))
+    field_report f None rest x t h = no_some g h
+    field_report f (Some j) rest x t h = both (reads f.1 j) x tree.tree (first rest) g t h
 
-    fields_tell : (fs : List Field) (ms : Members) → Tell (field_parts d fs ms) (read_fields (read_named registry d) fs ms)
-    fields_tell [] ms h = no_some g h
-    fields_tell (f ∷ fs) ms h =
-        field_tell f (get_member f.0 ms) (field_parts d fs (without f.0 ms)) (read_fields (read_named registry d) fs (without f.0 ms)) (fields_tell fs (without f.0 ms)) h
+    fields_report : (fs : List Field) (ms : Members) → ReportsFirst (field_parts d fs ms) (read_fields (read_named registry d) fs ms)
+    fields_report [] ms h = no_some g h
+    fields_report (f ∷ fs) ms h =
+        field_report f (get_member f.0 ms) (field_parts d fs (without f.0 ms)) (read_fields (read_named registry d) fs (without f.0 ms)) (fields_report fs (without f.0 ms)) h
 
-    option_tell : (s : Shape) (j : Data) → Tell (option_parts d s j) (read_option (reads s) j)
-    option_tell s (object (json.member k j no_members)) h =
+    option_report : (s : Shape) (j : Data) → ReportsFirst (option_parts d s j) (read_option (reads s) j)
+    option_report s (object (json.member k j no_members)) h =
         when (bytes_eq k (codes "some")) (part d (member k) (of s) j ∷ []) (follow (reads s j) (λ t. Ok (tree.present t))) (Err BadShape)
         (onward (part d (member k) (of s) j ∷ []) (reads s j) tree.present (one_part (part d (member k) (of s) j) (reads s j) refl)) h
-    option_tell s _ h = no_some g h
+    option_report s _ h = no_some g h
 
-    seq_tell : (s : Shape) (j : Data) → Tell (seq_parts d s j) (read_seq (is_byte s) (reads s) j)
-    seq_tell s (array ds) h = onward (item_parts d s 0 ds) (read_all (reads s) ds) tree.items (items_tell s 0 ds) h
-    seq_tell s _ h = no_some g h
+    seq_report : (s : Shape) (j : Data) → ReportsFirst (seq_parts d s j) (read_seq (is_byte s) (reads s) j)
+    seq_report s (array ds) h = onward (item_parts d s 0 ds) (read_all (reads s) ds) tree.items (items_report s 0 ds) h
+    seq_report s _ h = no_some g h
 
-    map_tell : (k v : Shape) (j : Data) → Tell (map_parts d k v j) (read_map (reads k) (reads v) j)
-    map_tell k v (array ds) h = onward (entry_parts d k v 0 ds) (read_pairs (reads k) (reads v) ds) tree.pairs (entries_tell k v 0 ds) h
-    map_tell k v _ h = no_some g h
+    map_report : (k v : Shape) (j : Data) → ReportsFirst (map_parts d k v j) (read_map (reads k) (reads v) j)
+    map_report k v (array ds) h = onward (entry_parts d k v 0 ds) (read_pairs (reads k) (reads v) ds) tree.pairs (entries_report k v 0 ds) h
+    map_report k v _ h = no_some g h
 
-    tuple_tell : (ss : Shapes) (j : Data) → Tell (tuple_parts d ss j) (read_tuple (shape_count ss) (read_each (read_named registry d) ss) j)
-    tuple_tell ss (array ds) h =
+    tuple_report : (ss : Shapes) (j : Data) → ReportsFirst (tuple_parts d ss j) (read_tuple (shape_count ss) (read_each (read_named registry d) ss) j)
+    tuple_report ss (array ds) h =
         when (item_count ds == shape_count ss) (each_parts d ss 0 ds) (follow (read_each (read_named registry d) ss ds) (λ ts. Ok (tree.items ts))) (Err BadShape)
-        (onward (each_parts d ss 0 ds) (read_each (read_named registry d) ss ds) tree.items (each_tell ss 0 ds)) h
-    tuple_tell ss _ h = no_some g h
+        (onward (each_parts d ss 0 ds) (read_each (read_named registry d) ss ds) tree.items (each_report ss 0 ds)) h
+    tuple_report ss _ h = no_some g h
 
-    array_tell : (s : Shape) (n : ℕ) (j : Data) → Tell (array_parts d s n j) (read_array (is_byte s) n (reads s) j)
-    array_tell s n (array ds) h =
+    array_report : (s : Shape) (n : ℕ) (j : Data) → ReportsFirst (array_parts d s n j) (read_array (is_byte s) n (reads s) j)
+    array_report s n (array ds) h =
         when (item_count ds == n) (item_parts d s 0 ds) (follow (read_all (reads s) ds) (λ ts. Ok (tree.items ts))) (Err BadShape)
-        (onward (item_parts d s 0 ds) (read_all (reads s) ds) tree.items (items_tell s 0 ds)) h
-    array_tell s n _ h = no_some g h
+        (onward (item_parts d s 0 ds) (read_all (reads s) ds) tree.items (items_report s 0 ds)) h
+    array_report s n _ h = no_some g h
 
-    struct_tell : (fs : List Field) (j : Data) → Tell (struct_parts d fs j) (read_struct (read_named registry d) fs j)
-    struct_tell fs (object ms) h = onward (field_parts d fs ms) (read_fields (read_named registry d) fs ms) tree.items (fields_tell fs ms) h
-    struct_tell fs _ h = no_some g h
+    struct_report : (fs : List Field) (j : Data) → ReportsFirst (struct_parts d fs j) (read_struct (read_named registry d) fs j)
+    struct_report fs (object ms) h = onward (field_parts d fs ms) (read_fields (read_named registry d) fs ms) tree.items (fields_report fs ms) h
+    struct_report fs _ h = no_some g h
 
     payload_same : (p : Payload) (j : Data) → read_content (read_named registry d) (payload_content p) j ≡ read_part (read_named registry d) (payload_content p) j
     payload_same container.unit j = refl
@@ -123,49 +108,49 @@ module _ (registry : Entries) (g : JsonFault) where
     payload_same (container.tuple ss) j = refl
     payload_same (container.fields fs) j = refl
 
-    choice_tell : (word : List ℕ) (o : Option Choice) (j : Data)
-        → Tell (option_map_or (λ c. part d (member word) (payload_content c.1.1) j ∷ []) o []) (read_choice (read_named registry d) o j)
-    choice_tell word None j h = no_some g h
-    choice_tell word (Some c) j h =
+    choice_report : (word : List ℕ) (o : Option Choice) (j : Data)
+        → ReportsFirst (option_map_or (λ c. part d (member word) (payload_content c.1.1) j ∷ []) o []) (read_choice (read_named registry d) o j)
+    choice_report word None j h = no_some g h
+    choice_report word (Some c) j h =
         onward (part d (member word) (payload_content c.1.1) j ∷ []) (read_part (read_named registry d) (payload_content c.1.1) j) (tree.variant c.0)
         (one_part (part d (member word) (payload_content c.1.1) j) (read_part (read_named registry d) (payload_content c.1.1) j) (ap result_err (payload_same c.1.1 j))) h
 
-    enum_tell : (cs : List Choice) (j : Data) → Tell (enum_parts d cs j) (read_enum (read_named registry d) cs j)
-    enum_tell cs (object (json.member word j no_members)) h = choice_tell word (choice_called word cs) j h
-    enum_tell cs _ h = no_some g h
+    enum_report : (cs : List Choice) (j : Data) → ReportsFirst (enum_parts d cs j) (read_enum (read_named registry d) cs j)
+    enum_report cs (object (json.member word j no_members)) h = choice_report word (choice_called word cs) j h
+    enum_report cs _ h = no_some g h
 
-    pair_tell : (k v : Shape) (j : Data) → Tell (pair_parts d k v j) (read_pair (reads k) (reads v) j)
-    pair_tell k v (array (json.item a (json.item b no_items))) h =
+    pair_report : (k v : Shape) (j : Data) → ReportsFirst (pair_parts d k v j) (read_pair (reads k) (reads v) j)
+    pair_report k v (array (json.item a (json.item b no_items))) h =
         both (reads k a) (reads v b) (λ s t. (s, t)) (first (part d (item 1) (of v) b ∷ [])) g (one_part (part d (item 1) (of v) b) (reads v b) refl) h
-    pair_tell k v _ h = no_some g h
+    pair_report k v _ h = no_some g h
 
     -- a name's, given those of what stands inside
-    module _ (named : (n : List ℕ) (j : Data) → Tell (named_parts registry d n j) (read_named registry d n j)) where
-      shape_tell : (s : Shape) (j : Data) → Tell (shape_parts d (named_parts registry d) s j) (reads s j)
-      shape_tell (shape.name n) j h = named n j h
-      shape_tell (shape.option s) j h = option_tell s j h
-      shape_tell (shape.seq s) j h = seq_tell s j h
-      shape_tell (shape.map k v) j h = map_tell k v j h
-      shape_tell (shape.tuple ss) j h = tuple_tell ss j h
-      shape_tell (shape.array s n) j h = array_tell s n j h
-      shape_tell _ j h = no_some g h
+    module _ (named : (n : List ℕ) (j : Data) → ReportsFirst (named_parts registry d n j) (read_named registry d n j)) where
+      shape_report : (s : Shape) (j : Data) → ReportsFirst (shape_parts d (named_parts registry d) s j) (reads s j)
+      shape_report (shape.name n) j h = named n j h
+      shape_report (shape.option s) j h = option_report s j h
+      shape_report (shape.seq s) j h = seq_report s j h
+      shape_report (shape.map k v) j h = map_report k v j h
+      shape_report (shape.tuple ss) j h = tuple_report ss j h
+      shape_report (shape.array s n) j h = array_report s n j h
+      shape_report _ j h = no_some g h
 
-      content_tell : (f : JsonContent) (j : Data) → Tell (parts registry d (value f) j) (read_data registry d f j)
-      content_tell (of s) j h = shape_tell s j h
-      content_tell (fields fs) j h = struct_tell fs j h
-      content_tell (one_of cs) j h = enum_tell cs j h
-      content_tell nothing j h = no_some g h
+      content_report : (f : JsonContent) (j : Data) → ReportsFirst (parts registry d (value f) j) (read_data registry d f j)
+      content_report (of s) j h = shape_report s j h
+      content_report (fields fs) j h = struct_report fs j h
+      content_report (one_of cs) j h = enum_report cs j h
+      content_report nothing j h = no_some g h
 
-  named_tell : (d : ℕ) (n : List ℕ) (j : Data) → Tell (named_parts registry d n j) (read_named registry d n j)
-  named_tell zero n j h = no_some g h
-  named_tell (suc d) n j h =
+  named_report : (d : ℕ) (n : List ℕ) (j : Data) → ReportsFirst (named_parts registry d n j) (read_named registry d n j)
+  named_report zero n j h = no_some g h
+  named_report (suc d) n j h =
       onward (parts registry d (value (json_content_at n registry)) j) (read_data registry d (json_content_at n registry) j) tree.named
-      (content_tell d (named_tell d) (json_content_at n registry) j) h
+      (content_report d (named_report d) (json_content_at n registry) j) h
 
   -- the first fault of the parts is the fault
-  pub parts_tell : (d : ℕ) (t : Target) (j : Data) → first (parts registry d t j) ≡ Some g → fault_at registry d t j ≡ Some g
-  parts_tell d (value f) j h = content_tell d (named_tell d) f j h
-  parts_tell d (entry k v) j h = pair_tell d k v j h
+  pub parts_report : (d : ℕ) (t : Target) (j : Data) → first (parts registry d t j) ≡ Some g → fault_at registry d t j ≡ Some g
+  parts_report d (value f) j h = content_report d (named_report d) f j h
+  parts_report d (entry k v) j h = pair_report d k v j h
 
   past_good : (front ps : List JsonPart) → All (IsGood registry) front → first (front ++ ps) ≡ first ps
   past_good [] ps good = refl
@@ -180,8 +165,8 @@ module _ (registry : Entries) where
       → (o : Option JsonFault) → fault_at registry p.left p.target p.json ≡ o → o ≢ None → fault_at registry d t j ≡ Some e → o ≡ Some e
   first_is e d t j front p back split good None is bad whole = absurd (bad refl)
   first_is e d t j front p back split good (Some g) is bad whole =
-      let tell : first registry g (parts registry d t j) ≡ Some g = ap (first registry g) split ∙ past_good registry g front (p ∷ back) good ∙ ap (λ o. option_or o (first registry g back)) is in
-      ap Some (same_some e g (fault_at registry d t j) whole (parts_tell registry g d t j tell))
+      let report_text : first registry g (parts registry d t j) ≡ Some g = ap (first registry g) split ∙ past_good registry g front (p ∷ back) good ∙ ap (λ o. option_or o (first registry g back)) is in
+      ap Some (same_some e g (fault_at registry d t j) whole (parts_report registry g d t j report_text))
 
   alone : (e : JsonFault) (path : List PointerStep) (d : ℕ) (t : Target) (j : Data) → fault_at registry d t j ≡ Some e → IsPlaceAmong registry path (parts registry d t j) → IsRefusedAlone registry e path d t j
   alone e [] d t j h good = (refused_of registry d t j e h, good)

@@ -1,17 +1,8 @@
 -- Where the definitions place the fault of some JSON.
-use Rattle.std.proofs.Common.{◌≡◌, ℕ, List, [], ◌∷◌, codes, Some, None, true, refl}
-use Rattle.std.specs.Int.{w8}
-use Rattle.serde_json.specs.Data.{Data, unsigned as whole, null, boolean, number, array, object, no_items, item, no_members, member}
+use Rattle.bcs_json_spec.proofs.Prelude.{◌≡◌, ℕ, List, [], ◌∷◌, codes, Some, None, true, refl, w8, Data, whole, null, boolean, number, array, object, no_items, item, no_members, member, Entries, newtype, newtype_struct, Shape, JsonContent, of, fields, one_of, PointerStep, JsonPart, part, value, entry, IsPlaceAmong, IsPlaceOf, read_unsigned, JsonFault, BadNumber, BadShape}
 use Rattle.bcs_registry_model.specs.Container as container
-use Rattle.bcs_registry_model.specs.Container.{Entries, newtype, newtype_struct}
 use Rattle.bcs_registry_model.specs.Shape as shape
-use Rattle.bcs_registry_model.specs.Shape.{Shape}
-use Rattle.bcs_json_spec.specs.JsonContent.{JsonContent, of, fields, one_of}
 use Rattle.bcs_json_spec.specs.Place as place
-use Rattle.bcs_json_spec.specs.Place.{PointerStep, JsonPart, part, value, entry, IsPlaceAmong, IsPlaceOf}
-use Rattle.bcs_json_spec.specs.Reading.{read_unsigned}
-use Rattle.bcs_json_spec.specs.declared.json_fault.JsonFault.{JsonFault}
-use Rattle.bcs_json_spec.specs.declared.json_fault.JsonFault.TheVariants.{BadNumber, BadShape}
 use Rattle.bcs_json_spec.proofs.FaultAt.{fault_at, bad_of, good_of}
 use Rattle.bcs_json_spec.proofs.Places.{Inside, place-none, place-here, place-later}
 

@@ -1,10 +1,5 @@
 -- The place among parts: there is at most one, and it is found part by part.
-use Rattle.std.proofs.Common.{◌≡◌, ◌∙◌, List, [], ◌∷◌, ◌++◌, All, Contains, refl, ap, sym, subst, arith}
-use Rattle.std.proofs.lemmas.List.Elements.{All-nil, All-cons, All-head, All-tail, All-contains, Contains-append_right}
-use Rattle.bcs_registry_model.specs.Container.{Entries}
-use Rattle.bcs_registry_model.specs.Grows.{IsFirst}
-use Rattle.bcs_json_spec.specs.Laws.{OnePlace}
-use Rattle.bcs_json_spec.specs.Place.{PointerStep, JsonPart, parts, IsGood, IsPlaceAmong}
+use Rattle.bcs_json_spec.proofs.Prelude.{◌≡◌, ◌∙◌, List, [], ◌∷◌, ◌++◌, All, Contains, refl, ap, sym, subst, arith, All-nil, All-cons, All-head, All-tail, All-contains, Contains-append_right, Entries, IsFirst, OnePlace, PointerStep, JsonPart, parts, IsGood, IsPlaceAmong}
 
 heads : {X : Type 0} (x y : X) (xs ys : List X) → x ∷ xs ≡ y ∷ ys → x ≡ y
 heads x y xs ys h = cc

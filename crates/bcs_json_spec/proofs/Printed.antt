@@ -1,20 +1,6 @@
 -- What is shown of a canonical form denotes this form, and nests no deeper than what it was read from.
-use Rattle.std.proofs.Common.{◌≤◌, ℕ, List, sym, subst, arith}
-use Rattle.serde_json.specs.Data.{depth}
-use Rattle.bcs_registry_model.specs.Container.{Entries}
+use Rattle.bcs_json_spec.proofs.Prelude.{◌≤◌, ℕ, List, sym, subst, arith, depth, Entries, IsOrderly, Shape, IsWellFormed, Bounds, Tree, has_one_form, IsForm, IsSound, IsJson, of, shown, nesting_limit, Denotes, SpelledBy}
 use Rattle.bcs_registry_model.specs.Container as container
-use Rattle.bcs_registry_model.specs.Ranges.{IsOrderly}
-use Rattle.bcs_registry_model.specs.Shape.{Shape}
-use Rattle.bcs_registry_model.specs.WellFormed.{IsWellFormed}
-use Rattle.bcs_value_model.specs.Limits.{Bounds}
-use Rattle.bcs_value_model.specs.Tree.{Tree}
-use Rattle.bcs_encode_spec.proofs.FormLaws.{has_one_form}
-use Rattle.bcs_encode_spec.specs.Encodes.{IsForm}
-use Rattle.bcs_encode_spec.specs.Sound.{IsSound}
-use Rattle.bcs_registry_json.specs.Json.{IsJson}
-use Rattle.bcs_json_spec.specs.JsonContent.{of}
-use Rattle.bcs_json_spec.specs.Shown.{shown}
-use Rattle.bcs_json_spec.specs.Texts.{nesting_limit, Denotes, SpelledBy}
 use Rattle.bcs_json_spec.proofs.SameDepth.{shown_is_read_back}
 
 module _ (registry : Entries) (limits : Bounds) (s : Shape) (well : IsWellFormed registry) (orderly : IsOrderly registry) where

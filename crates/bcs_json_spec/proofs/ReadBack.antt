@@ -1,30 +1,9 @@
 -- What is shown of a value spells it.
-use Rattle.std.proofs.Common.{◌≡◌, ◌∙◌, ℕ, suc, ℤ, pos, negsuc, List, [], ◌∷◌, ◌==◌, ◌&&◌, ◌^◌, nat_lt, Option, Some, None, Bool, true, false, if◌then◌else◌, refl, ap, sym, subst}
-use Rattle.std.specs.Fmt.{signed_decimal}
-use Rattle.std.specs.Int.{w8}
-use Rattle.std.specs.Option.{option_map_or}
-use Rattle.std.proofs.lemmas.Bool.{false≢true}
-use Rattle.std.proofs.lemmas.Bool.Decides.{Decides-eqb, Decides-ltb}
-use Rattle.hex.specs.Hex.{IsBytes, encode_lower}
-use Rattle.hex.proofs.HexLemmas.{decode_of-encode_lower}
-use Rattle.serde_json.specs.Data.{Data, number, string, array, Members}
-use Rattle.serde_json.specs.Find.{of_integer}
-use Rattle.serde_json.proofs.Views.{get_member-put}
+use Rattle.bcs_json_spec.proofs.Prelude.{◌≡◌, ◌∙◌, ℕ, suc, ℤ, pos, negsuc, List, [], ◌∷◌, ◌==◌, ◌&&◌, ◌^◌, nat_lt, Option, Some, None, Bool, true, false, if◌then◌else◌, refl, ap, sym, subst, signed_decimal, w8, option_map_or, false≢true, Decides-eqb, Decides-ltb, IsBytes, encode_lower, decode_of-encode_lower, Data, number, string, array, Members, of_integer, get_member-put, Field, Payload, newtype, tuple, Choice, Entries, choice_numbered, payload_shape, field_shapes, choice_called, Shape, Shapes, no_shapes, shape, IsWellFormed, fits, all_fit, each_fits, pairs_fit, are_bytes, Tree, Trees, no_trees, tree, Pairs, no_pairs, pair, count, ByteTextSpells, is_byte, byte_trees, trees_bytes, JsonContent, of, fields, one_of, json_content_at, payload_content, IfStringOrArray, IfThere, SpellsWhole, shown, shown_all, shown_each, shown_pairs, shown_fields, shown_choice, is_wide, Spells, AllSpell, EachSpells, PairsSpell, FieldsSpell, IsWordOf}
 use Rattle.bcs_registry_model.specs.Container as container
-use Rattle.bcs_registry_model.specs.Container.{Field, Payload, newtype, tuple, Choice, Entries, choice_numbered, payload_shape, field_shapes, choice_called}
 use Rattle.bcs_registry_model.specs.Shape as shape
-use Rattle.bcs_registry_model.specs.Shape.{Shape, Shapes, no_shapes, shape}
-use Rattle.bcs_registry_model.specs.WellFormed.{IsWellFormed}
-use Rattle.bcs_value_model.specs.Fits.{fits, all_fit, each_fits, pairs_fit, are_bytes}
 use Rattle.bcs_value_model.specs.Tree as tree
-use Rattle.bcs_value_model.specs.Tree.{Tree, Trees, no_trees, tree, Pairs, no_pairs, pair, count}
-use Rattle.bcs_json_spec.specs.Bytes.{ByteTextSpells, is_byte, byte_trees, trees_bytes}
-use Rattle.bcs_json_spec.specs.JsonContent.{JsonContent, of, fields, one_of, json_content_at, payload_content}
 use Rattle.bcs_json_spec.proofs.Unnamed.{unnamed, unnamed_at, unnamed_payload}
-use Rattle.bcs_json_spec.specs.Look.{IfStringOrArray, IfThere}
-use Rattle.bcs_json_spec.specs.Numbers.{SpellsWhole}
-use Rattle.bcs_json_spec.specs.Shown.{shown, shown_all, shown_each, shown_pairs, shown_fields, shown_choice, is_wide}
-use Rattle.bcs_json_spec.specs.Spells.{Spells, AllSpell, EachSpells, PairsSpell, FieldsSpell, IsWordOf}
 use Rattle.bcs_json_spec.proofs.DistinctNames.{has_names, well_formed_names, payload_names_differ, numbered_called}
 use Rattle.bcs_json_spec.proofs.Fitting.{and_left, and_right, Part}
 use Rattle.bcs_json_spec.proofs.Members.{without_put, new_field, later_names}

@@ -1,24 +1,9 @@
 -- What is shown of a value nests no deeper than what is shown of any tree that is the same value.
-use Rattle.std.proofs.Common.{◌≡◌, ℕ, inl, inr, ◌≤◌, max, List, [], ◌∷◌, ◌&&◌, ◌==◌, Option, Some, None, Bool, true, false, if◌then◌else◌, refl, ap, sym, subst, arith}
-use Rattle.std.proofs.Math.Nat.{max-le, le-max_left, le-max_right}
-use Rattle.std.specs.Fmt.{decimal, signed_decimal}
-use Rattle.std.proofs.lemmas.Bool.{false≢true, or_cases}
-use Rattle.hex.specs.Hex.{encode_lower}
-use Rattle.serde_json.specs.Data.{Data, number, unsigned as whole, string, array, Items, no_items, item, Members, put, depth, items_depth, members_depth}
-use Rattle.serde_json.specs.Find.{get_member, of_integer}
+use Rattle.bcs_json_spec.proofs.Prelude.{◌≡◌, ℕ, inl, inr, ◌≤◌, max, List, [], ◌∷◌, ◌&&◌, ◌==◌, Option, Some, None, Bool, true, false, if◌then◌else◌, refl, ap, sym, subst, arith, max-le, le-max_left, le-max_right, signed_decimal, false≢true, or_cases, encode_lower, Data, number, whole, string, array, Items, no_items, item, Members, put, depth, items_depth, members_depth, get_member, of_integer, Field, Payload, newtype, tuple, Entries, choice_numbered, Shape, Shapes, no_shapes, shape, IsWellFormed, nat-same, same, all_same, is_within, has_pair, all_pairs, Tree, Trees, no_trees, tree, Pairs, no_pairs, pair, is_byte, trees_bytes, JsonContent, of, fields, one_of, json_content_at, payload_content, ShownIsReadBack, shown, shown_all, shown_each, shown_pairs, shown_fields, shown_choice, is_wide}
+use Rattle.std.specs.Fmt.{decimal}
 use Rattle.bcs_registry_model.specs.Container as container
-use Rattle.bcs_registry_model.specs.Container.{Field, Payload, newtype, tuple, Entries, choice_numbered}
 use Rattle.bcs_registry_model.specs.Shape as shape
-use Rattle.bcs_registry_model.specs.Shape.{Shape, Shapes, no_shapes, shape}
-use Rattle.bcs_registry_model.specs.WellFormed.{IsWellFormed}
-use Rattle.bcs_value_model.proofs.Equivalence.{nat-same}
-use Rattle.bcs_value_model.specs.Same.{same, all_same, is_within, has_pair, all_pairs}
 use Rattle.bcs_value_model.specs.Tree as tree
-use Rattle.bcs_value_model.specs.Tree.{Tree, Trees, no_trees, tree, Pairs, no_pairs, pair}
-use Rattle.bcs_json_spec.specs.Bytes.{is_byte, trees_bytes}
-use Rattle.bcs_json_spec.specs.JsonContent.{JsonContent, of, fields, one_of, json_content_at, payload_content}
-use Rattle.bcs_json_spec.specs.Laws.{ShownIsReadBack}
-use Rattle.bcs_json_spec.specs.Shown.{shown, shown_all, shown_each, shown_pairs, shown_fields, shown_choice, is_wide}
 use Rattle.bcs_json_spec.proofs.DistinctNames.{has_names, well_formed_names, payload_names_differ}
 use Rattle.bcs_json_spec.proofs.Fitting.{and_left, and_right}
 use Rattle.bcs_json_spec.proofs.Lowest.{pair_under, put_depth, shown_is_lowest}

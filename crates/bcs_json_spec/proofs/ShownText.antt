@@ -1,41 +1,10 @@
 -- What is shown of a value can be written: its compact text is read as just that. Its names and strings are UTF-8, if P
 -- and where the registry's names are.
-use Rattle.std.proofs.Common.{◌≡◌, ◌∙◌, ℕ, suc, ℤ, pos, negsuc, ◌^◌, ◌<◌, ◌≤◌, ◌==◌, ◌&&◌, List, [], ◌∷◌, Bool, true, false, cond, if◌then◌else◌, Some, Ok, Ordering, Less, Equal, Greater, IsUtf8, arith, codes, decimal, nat_cmp, nat_lt, refl, ap, sym, subst}
-use Rattle.std.proofs.Math.Nat.{pow-le-pow_right}
-use Rattle.std.proofs.lemmas.Bool.{false≢true, ltb-false}
-use Rattle.std.proofs.lemmas.Bool.Decides.{Decides-ltb}
-use Rattle.std.proofs.lemmas.Cmp.{nat_list_cmp_total}
-use Rattle.std.proofs.lemmas.Fmt.{IsAscii-decimal_wide}
-use Rattle.std.proofs.lemmas.Str.{IsUtf8-append, IsUtf8-from_ascii, IsUtf8-from_is_utf8}
-use Rattle.std.proofs.lemmas.Str.Ascii.{IsAscii-from_all}
-use Rattle.std.specs.Cmp.Lexicographic.{slice_cmp}
-use Rattle.std.specs.Fmt.{signed_decimal}
-use Rattle.std.specs.Int.{Width, w8, byte_len}
-use Rattle.std.specs.List.Sorted.{IsStrictlySortedBy}
-use Rattle.std.specs.Option.{option_map_or}
-use Rattle.std.specs.Ordering.{match_ordering}
-use Rattle.hex.specs.Hex.{decode_of, encode_lower, is_hex_digit}
-use Rattle.hex.proofs.HexLemmas.{decode_of-encode_lower, decode_of-ok}
-use Rattle.json.proofs.Printed.Utf8.{IsUtf8-are_ascii}
-use Rattle.serde_json.specs.Data.{Data, number, unsigned as whole, string, Members, no_members, member, put}
-use Rattle.serde_json.specs.Find.{of_integer}
-use mir.Val.{bits}
-use Rattle.bcs_num.specs.Le.{IsSigned, holds_signed, holds_unsigned}
-use Rattle.bcs_num.proofs.LeLaws.{width_bytes}
-use Rattle.bcs_num.proofs.Ranges.{bits_most, half_most, holds_signed-is, two_halves}
+use Rattle.bcs_json_spec.proofs.Prelude.{◌≡◌, ◌∙◌, ℕ, suc, ℤ, pos, negsuc, ◌^◌, ◌<◌, ◌≤◌, ◌==◌, ◌&&◌, List, [], ◌∷◌, Bool, true, false, cond, if◌then◌else◌, Some, Ok, Ordering, Less, Equal, Greater, IsUtf8, arith, codes, decimal, nat_cmp, nat_lt, refl, ap, sym, subst, pow-le-pow_right, false≢true, ltb-false, Decides-ltb, nat_list_cmp_total, IsAscii-decimal_wide, IsUtf8-append, IsUtf8-from_ascii, IsUtf8-from_is_utf8, IsAscii-from_all, slice_cmp, signed_decimal, Width, w8, byte_len, IsStrictlySortedBy, option_map_or, match_ordering, decode_of, encode_lower, is_hex_digit, decode_of-encode_lower, decode_of-ok, IsUtf8-are_ascii, Data, number, whole, string, Members, no_members, member, put, of_integer, bits, IsSigned, holds_signed, holds_unsigned, width_bytes, bits_most, half_most, holds_signed-is, two_halves, Choice, Entries, Field, Payload, choice_numbered, field_shapes, newtype, payload_shape, tuple, Shape, Shapes, shape, single, NamesRise, names_put, names_of, sorted_inserted, all_fit, are_bytes, each_fits, fits, pairs_fit, Pairs, Tree, Trees, count, no_pairs, no_trees, pair, tree, is_byte, trees_bytes, JsonContent, fields, json_content_at, of, one_of, payload_content, is_wide, shown, shown_all, shown_choice, shown_each, shown_fields, shown_pairs}
 use Rattle.bcs_registry_model.specs.Container as container
-use Rattle.bcs_registry_model.specs.Container.{Choice, Entries, Field, Payload, choice_numbered, field_shapes, newtype, payload_shape, tuple}
 use Rattle.bcs_registry_model.specs.Shape as shape
-use Rattle.bcs_registry_model.specs.Shape.{Shape, Shapes, shape}
-use Rattle.bcs_registry_json.specs.Shown.{single}
-use Rattle.bcs_registry_json.proofs.RisingMembers.{NamesRise, names_put, names_of, sorted_inserted}
-use Rattle.bcs_value_model.specs.Fits.{all_fit, are_bytes, each_fits, fits, pairs_fit}
 use Rattle.bcs_value_model.specs.Tree as tree
-use Rattle.bcs_value_model.specs.Tree.{Pairs, Tree, Trees, count, no_pairs, no_trees, pair, tree}
-use Rattle.bcs_json_spec.specs.Bytes.{is_byte, trees_bytes}
-use Rattle.bcs_json_spec.specs.JsonContent.{JsonContent, fields, json_content_at, of, one_of, payload_content}
 use Rattle.bcs_json_spec.proofs.Unnamed.{unnamed, unnamed_at, unnamed_payload}
-use Rattle.bcs_json_spec.specs.Shown.{is_wide, shown, shown_all, shown_choice, shown_each, shown_fields, shown_pairs}
 use Rattle.bcs_json_spec.proofs.Fitting.{and_left, and_right}
 use Rattle.bcs_json_spec.proofs.ReadBack.{are_bytes_is, bytes_again}
 use Rattle.bcs_json_spec.proofs.Utf8Names.{ChoiceNames, EachHasNames, FieldNames, HasNames, content_names, payload_names}

@@ -1,19 +1,8 @@
 -- JSON has a place, since each part nests less deep than it does.
-use Rattle.std.proofs.Common.{◌≡◌, ◌∙◌, ℕ, zero, suc, ◌<◌, ◌≤◌, max, List, [], ◌∷◌, codes, Option, None, Some, Bool, true, false, ◌==◌, if◌then◌else◌, bytes_eq, All, refl, sym, arith}
-use Rattle.std.proofs.Math.Nat.{le-max_left, le-max_right}
-use Rattle.std.specs.Option.{option_map_or}
-use Rattle.std.proofs.lemmas.List.Elements.{All-nil, All-cons, All-head, All-tail}
-use Rattle.std.proofs.lemmas.Option.{none-some}
-use Rattle.serde_json.specs.Data.{Data, array, object, Items, no_items, Members, no_members, depth, items_depth, members_depth}
+use Rattle.bcs_json_spec.proofs.Prelude.{◌≡◌, ◌∙◌, ℕ, zero, suc, ◌<◌, ◌≤◌, max, List, [], ◌∷◌, codes, Option, None, Some, Bool, true, false, ◌==◌, if◌then◌else◌, bytes_eq, All, refl, sym, arith, le-max_left, le-max_right, option_map_or, All-nil, All-cons, All-head, All-tail, none-some, Data, array, object, Items, no_items, Members, no_members, depth, items_depth, members_depth, get_member, Shape, Shapes, no_shapes, shape, Field, Choice, Entries, choice_called, JsonContent, of, fields, one_of, nothing, json_content_at, payload_content, SomePlace, item_count, shape_count, without, PointerStep, Target, value, entry, JsonPart, part, parts, item_parts, each_parts, entry_parts, field_parts, option_parts, seq_parts, map_parts, tuple_parts, array_parts, struct_parts, enum_parts, pair_parts, named_parts, IsPlaceAmong}
 use Rattle.serde_json.specs.Data as json
-use Rattle.serde_json.specs.Find.{get_member}
 use Rattle.bcs_registry_model.specs.Shape as shape
-use Rattle.bcs_registry_model.specs.Shape.{Shape, Shapes, no_shapes, shape}
-use Rattle.bcs_registry_model.specs.Container.{Field, Choice, Entries, choice_called}
-use Rattle.bcs_json_spec.specs.JsonContent.{JsonContent, of, fields, one_of, nothing, json_content_at, payload_content}
-use Rattle.bcs_json_spec.specs.Laws.{SomePlace}
-use Rattle.bcs_json_spec.specs.Look.{item_count, shape_count, without}
-use Rattle.bcs_json_spec.specs.Place.{PointerStep, item, member, Target, value, entry, JsonPart, part, parts, item_parts, each_parts, entry_parts, field_parts, option_parts, seq_parts, map_parts, tuple_parts, array_parts, struct_parts, enum_parts, pair_parts, named_parts, IsPlaceAmong}
+use Rattle.bcs_json_spec.specs.Place.{item, member}
 use Rattle.bcs_json_spec.proofs.FaultAt.{fault_at, good_of, none_of}
 use Rattle.bcs_json_spec.proofs.Lowest.{found_depth, without_depth}
 use Rattle.bcs_json_spec.proofs.Places.{Inside, place-none, place-here, place-later}

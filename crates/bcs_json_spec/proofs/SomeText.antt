@@ -1,23 +1,7 @@
 -- Each value that a text denotes has bytes and a normal text, and each that bytes are has a text, within the nesting.
-use Rattle.std.specs.Prelude.{⊤}
-use Rattle.std.proofs.Common.{◌≤◌, ℕ, List, length, arith, refl}
-use Rattle.serde_json.specs.Data.{depth}
-use Rattle.serde_json.specs.Written.{compact_text}
+use Rattle.bcs_json_spec.proofs.Prelude.{⊤, ◌≤◌, ℕ, List, length, arith, refl, depth, compact_text, Entries, Shape, IsWellFormed, WritesRegistry, Bounds, Tree, has_one_form, IsSound, Accepts, HasBytes, Normalises, ShowsBytes, of, shown, Denotes, SpelledBy, nesting_limit}
 use Rattle.bcs_registry_model.specs.Container as container
-use Rattle.bcs_registry_model.specs.Container.{Entries}
-use Rattle.bcs_registry_model.specs.Shape.{Shape}
-use Rattle.bcs_registry_model.specs.WellFormed.{IsWellFormed}
-use Rattle.bcs_registry_json.specs.Text.{WritesRegistry}
-use Rattle.bcs_value_model.specs.Limits.{Bounds}
-use Rattle.bcs_value_model.specs.Tree.{Tree}
-use Rattle.bcs_encode_spec.proofs.FormLaws.{has_one_form}
 use Rattle.bcs_encode_spec.specs.Plain.{plain}
-use Rattle.bcs_encode_spec.specs.Sound.{IsSound}
-use Rattle.bcs_decode_spec.specs.Accepting.{Accepts}
-use Rattle.bcs_json_spec.specs.Headline.{HasBytes, Normalises, ShowsBytes}
-use Rattle.bcs_json_spec.specs.JsonContent.{of}
-use Rattle.bcs_json_spec.specs.Shown.{shown}
-use Rattle.bcs_json_spec.specs.Texts.{Denotes, SpelledBy, nesting_limit}
 use Rattle.bcs_json_spec.proofs.Printed.{form_is_sound, form_nests, shown_denotes}
 use Rattle.bcs_json_spec.proofs.ShownText.{shown_writable}
 use Rattle.bcs_json_spec.proofs.Utf8Names.{written_names}

@@ -1,22 +1,6 @@
 -- What texts denote, and that it is not refused.
-use Rattle.std.proofs.Common.{◌≡◌, ◌∙◌, ℕ, ◌≤◌, List, sym, subst, arith}
-use Rattle.std.proofs.lemmas.Option.{same_Some}
-use Rattle.serde_json.specs.Data.{Data, depth}
-use Rattle.bcs_registry_model.specs.Container.{Entries}
-use Rattle.bcs_registry_json.specs.Json.{IsJson}
-use Rattle.bcs_registry_model.specs.Shape.{Shape}
-use Rattle.bcs_value_model.specs.Limits.{Bounds}
+use Rattle.bcs_json_spec.proofs.Prelude.{◌≡◌, ◌∙◌, ℕ, ◌≤◌, List, sym, subst, arith, same_Some, Data, depth, Entries, IsJson, Shape, Bounds, Tree, LengthsHold, HasDistinctKeys, of, DenotesOnce, DenotedIsNotRefused, Refuses, Spells, nesting_limit, Denotes, SpelledBy, Misspells, JsonFault, NotJson, TooNested, TooManyNodes, TooLong, RepeatedKey, OutOfMemory}
 use Rattle.bcs_value_model.specs.Tree as tree
-use Rattle.bcs_value_model.specs.Tree.{Tree}
-use Rattle.bcs_encode_spec.specs.Refused.{LengthsHold}
-use Rattle.bcs_value_model.specs.Same.{HasDistinctKeys}
-use Rattle.bcs_json_spec.specs.JsonContent.{of}
-use Rattle.bcs_json_spec.specs.Laws.{DenotesOnce, DenotedIsNotRefused}
-use Rattle.bcs_json_spec.specs.Refuses.{Refuses}
-use Rattle.bcs_json_spec.specs.Spells.{Spells}
-use Rattle.bcs_json_spec.specs.Texts.{nesting_limit, Denotes, SpelledBy, Misspells}
-use Rattle.bcs_json_spec.specs.declared.json_fault.JsonFault.{JsonFault}
-use Rattle.bcs_json_spec.specs.declared.json_fault.JsonFault.TheVariants.{NotJson, TooNested, TooManyNodes, TooLong, RepeatedKey, OutOfMemory}
 use Rattle.bcs_json_spec.proofs.Verdict.{one_tree, one_verdict}
 
 pub same_read : (text : List ℕ) (d e : Data) → IsJson text d → IsJson text e → d ≡ e

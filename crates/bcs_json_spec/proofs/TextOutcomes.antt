@@ -1,21 +1,7 @@
 -- What a text that spells a value is answered by: the value that it denotes, or the encoder's reason.
-use Rattle.std.proofs.Common.{◌≡◌, ◌≢◌, ℕ, List, Ok, Err, refl, arith}
-use Rattle.serde_json.specs.Data.{Data}
-use Rattle.bcs_registry_model.specs.Container.{Entries}
-use Rattle.bcs_registry_model.specs.Ranges.{IsOrderly}
-use Rattle.bcs_registry_model.specs.Shape.{Shape}
-use Rattle.bcs_value_model.proofs.Loosening.{strictly_then_loosely}
-use Rattle.bcs_value_model.specs.Limits.{Bounds}
-use Rattle.bcs_value_model.specs.Tree.{Tree}
+use Rattle.bcs_json_spec.proofs.Prelude.{◌≡◌, ◌≢◌, ℕ, List, Ok, Err, refl, arith, Data, Entries, IsOrderly, Shape, strictly_then_loosely, Bounds, Tree, EncodeFault, fault_of_value, JsonFault, OutOfMemory, of, read_data, IsReadAs, Denotes, SpelledBy, RefusesText}
 use Rattle.bcs_encode_spec.specs.Refused as encode
-use Rattle.bcs_encode_spec.specs.declared.fault.EncodeFault.{EncodeFault}
 use Rattle.bcs_encode_spec.specs.declared.fault.EncodeFault.TheVariants as fault
-use Rattle.bcs_json_spec.specs.Causes.{fault_of_value}
-use Rattle.bcs_json_spec.specs.declared.json_fault.JsonFault.{JsonFault}
-use Rattle.bcs_json_spec.specs.declared.json_fault.JsonFault.TheVariants.{OutOfMemory}
-use Rattle.bcs_json_spec.specs.JsonContent.{of}
-use Rattle.bcs_json_spec.specs.Reading.{read_data}
-use Rattle.bcs_json_spec.specs.Texts.{IsReadAs, Denotes, SpelledBy, RefusesText}
 use Rattle.bcs_json_spec.proofs.Fitting.{spelled_fits}
 use Rattle.bcs_json_spec.proofs.OneAnswer.{misspelled}
 use Rattle.bcs_json_spec.proofs.TextLaws.{denoted_is_not_refused}

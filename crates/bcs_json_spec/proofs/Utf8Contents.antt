@@ -1,12 +1,6 @@
 -- What a string of a UTF-8 text stands for is UTF-8.
-use Rattle.std.proofs.Common.{◌≡◌, ◌∙◌, ℕ, ◌+◌, ◌*◌, ◌<◌, ◌==◌, ◌&&◌, nat_lt, cond, Bool, true, false, List, [], ◌∷◌, ◌++◌, length, drop, get_or, Option, Some, None, IsUtf8, append_assoc, append-nil, length-append, arith, refl, sym, ap, subst}
-use Rattle.std.proofs.lemmas.Bool.{and_parts, eqb-true}
-use Rattle.std.proofs.lemmas.List.{drop_at, take_at}
-use Rattle.std.proofs.lemmas.Str.{IsCharBoundary-after_ascii, IsCharBoundary-before_ascii, IsUtf8-append, IsUtf8-drop, IsUtf8-encode, IsUtf8-from_ascii, IsUtf8-take}
-use Rattle.std.proofs.lemmas.Str.Ascii.{IsAscii-cons, IsAscii-nil}
-use Rattle.std.specs.Char.{IsScalar, digit_value, encode_utf8, is_digit}
-use Rattle.std.specs.Prelude.{option_and_then}
-use Rattle.json.specs.Text.{after_backslash, after_high, after_u, code_unit, content, is_high_surrogate, is_low_surrogate, plain, prepend, short_escape, surrogate_pair}
+use Rattle.bcs_json_spec.proofs.Prelude.{◌≡◌, ◌∙◌, ℕ, ◌+◌, ◌*◌, ◌<◌, ◌==◌, ◌&&◌, nat_lt, cond, Bool, true, false, List, [], ◌∷◌, ◌++◌, length, drop, get_or, Option, Some, None, IsUtf8, append_assoc, append-nil, length-append, arith, refl, sym, ap, subst, and_parts, eqb-true, drop_at, take_at, IsCharBoundary-after_ascii, IsCharBoundary-before_ascii, IsUtf8-append, IsUtf8-drop, IsUtf8-encode, IsUtf8-from_ascii, IsUtf8-take, IsAscii-cons, IsAscii-nil, IsScalar, digit_value, encode_utf8, is_digit, option_and_then, after_backslash, after_high, after_u, code_unit, is_high_surrogate, is_low_surrogate, plain, prepend, short_escape, surrogate_pair}
+use Rattle.json.specs.Text.{content}
 
 -- ---- an ASCII byte in a UTF-8 text
 

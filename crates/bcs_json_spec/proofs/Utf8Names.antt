@@ -1,24 +1,6 @@
 -- The names of fields and variants are UTF-8 in a registry that a text writes down.
-use Rattle.std.proofs.Common.{◌≡◌, ◌∙◌, ◌^◌, ℕ, ◌<◌, List, [], ◌∷◌, Bool, true, false, bytes_eq, cond, Some, None, Ordering, Less, Equal, Greater, IsUtf8, decimal, nat_cmp, nat_lt, refl, subst}
-use Rattle.std.proofs.lemmas.Bool.Decides.{Decides-ltb}
-use Rattle.std.specs.Cmp.{nat_cmp_is}
-use Rattle.std.specs.Cmp.Lexicographic.{slice_cmp}
-use Rattle.std.specs.List.{AllByRecursion, list_all}
-use Rattle.std.specs.List.Sorted.{IsStrictlySortedBy}
-use Rattle.std.specs.Map.{keys_of}
-use Rattle.std.specs.Option.{option_map_or}
-use Rattle.std.specs.Ordering.{match_ordering}
-use Rattle.serde_json.specs.Data.{Data, Members, no_members, member, put}
-use Rattle.serde_json.specs.Find.{get_member}
-use Rattle.serde_json.proofs.Views.{get_member-put, get_member-put_other}
+use Rattle.bcs_json_spec.proofs.Prelude.{◌≡◌, ◌∙◌, ◌^◌, ℕ, ◌<◌, List, [], ◌∷◌, Bool, true, false, bytes_eq, cond, Some, None, Ordering, Less, Equal, Greater, IsUtf8, decimal, nat_cmp, nat_lt, refl, subst, Decides-ltb, nat_cmp_is, slice_cmp, AllByRecursion, list_all, IsStrictlySortedBy, keys_of, option_map_or, match_ordering, Data, Members, no_members, member, put, get_member, get_member-put, get_member-put_other, Choice, Container, Entries, Field, Payload, container_at, enumeration, field_struct, newtype_struct, tuple_struct, unit_struct, IsInRange, shown_choices, shown_container, shown_containers, shown_struct, shown_payload, single, WritesRegistry, texts_differ, JsonContent, fields, json_content, json_content_at, nothing, one_of, payload_content, without}
 use Rattle.bcs_registry_model.specs.Container as container
-use Rattle.bcs_registry_model.specs.Container.{Choice, Container, Entries, Field, Payload, container_at, enumeration, field_struct, newtype_struct, tuple_struct, unit_struct}
-use Rattle.bcs_registry_model.specs.Ranges.{IsInRange}
-use Rattle.bcs_registry_json.specs.Shown.{shown_choices, shown_container, shown_containers, shown_struct, shown_payload, single}
-use Rattle.bcs_registry_json.specs.Text.{WritesRegistry}
-use Rattle.bcs_registry_json.proofs.Choices.{texts_differ}
-use Rattle.bcs_json_spec.specs.JsonContent.{JsonContent, fields, json_content, json_content_at, nothing, one_of, payload_content}
-use Rattle.bcs_json_spec.specs.Look.{without}
 use Rattle.bcs_json_spec.proofs.Fitting.{and_left, and_right}
 use Rattle.bcs_json_spec.proofs.Members.{without_put}
 use Rattle.bcs_json_spec.proofs.Utf8Read.{HasUtf8, ItemsHaveUtf8, MembersHaveUtf8, read_utf8}

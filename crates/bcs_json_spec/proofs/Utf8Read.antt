@@ -1,20 +1,8 @@
 -- The names and strings of what serde_json reads in a UTF-8 text are UTF-8.
-use Rattle.std.proofs.Common.{◌≡◌, ℕ, zero, suc, ◌-◌, ◌==◌, ◌&&◌, cond, Bool, true, false, List, [], ◌∷◌, ◌++◌, drop, length, take, nat_eq, Option, Some, None, Ordering, Less, Equal, Greater, IsUtf8, append_assoc, nat_cmp, arith, option_map, refl, sym, subst}
-use Rattle.std.proofs.lemmas.Bool.{eqb-true}
-use Rattle.std.specs.Cmp.Lexicographic.{slice_cmp}
-use Rattle.std.specs.Ordering.{match_ordering}
-use Rattle.std.specs.Prelude.{option_and_then}
-use Rattle.std.specs.List.{starts_with}
+use Rattle.bcs_json_spec.proofs.Prelude.{◌≡◌, ℕ, zero, suc, ◌-◌, ◌==◌, ◌&&◌, cond, Bool, true, false, List, [], ◌∷◌, ◌++◌, drop, length, take, nat_eq, Option, Some, None, Ordering, Less, Equal, Greater, IsUtf8, append_assoc, nat_cmp, arith, option_map, refl, sym, subst, eqb-true, slice_cmp, match_ordering, option_and_then, starts_with, Json, Parse, parse_map, after_end_array, read_key, items_step, members_step, value_with, Class, Lexeme, Mode, Place, after_comma, after_key, after_value, backslash, begins_colon, between, class, colon, comma, fresh, if_allowed, in_escape, in_string, in_word, lex, lex_byte, may_begin, may_close, operator, operator_lexeme, other, place_token, punctuate, quote, space, string_token, token, tokens, plain, Token, after_number, ends_word, head, is_operator, is_space, literal, number_before, word, Data, number, string, array, object, Items, no_items, item, Members, no_members, member, put, max_depth, number_of, of_items, of_json, of_members, IsJson}
 use Rattle.json.specs.Ascii as ascii
 use Rattle.json.specs.Json as json
-use Rattle.json.specs.Json.{Json, Parse, parse_map, after_end_array, read_key, items_step, members_step, value_with}
-use Rattle.json.specs.Lex.{Class, Lexeme, Mode, Place, after_comma, after_key, after_value, backslash, begins_colon, between, class, colon, comma, fresh, if_allowed, in_escape, in_string, in_word, lex, lex_byte, may_begin, may_close, operator, operator_lexeme, other, place_token, punctuate, quote, space, string_token, token, tokens}
-use Rattle.json.specs.Text.{content, plain}
-use Rattle.json.specs.Token.{Token}
-use Rattle.json.specs.Word.{after_number, ends_word, head, is_operator, is_space, literal, number_before, word}
-use Rattle.serde_json.specs.Data.{Data, number, string, array, object, Items, no_items, item, Members, no_members, member, put}
-use Rattle.serde_json.specs.Read.{max_depth, number_of, of_items, of_json, of_members}
-use Rattle.bcs_registry_json.specs.Json.{IsJson}
+use Rattle.json.specs.Text.{content}
 use Rattle.bcs_json_spec.proofs.Utf8Contents.{content_utf8, utf8_after}
 
 -- ---- tokens

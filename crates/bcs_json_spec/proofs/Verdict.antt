@@ -1,22 +1,9 @@
 -- What is read is what is spelled, and what is refused is refused: at each format, and within so many containers.
-use Rattle.std.proofs.Common.{◌≡◌, ◌∙◌, ◌⊎◌, inl, inr, ℕ, zero, suc, ◌≤◌, max, List, [], ◌∷◌, true, Ok, Err, Option, Some, None, refl, ap, subst, arith}
-use Rattle.std.proofs.Math.Nat.{max-le, le-max_left, le-max_right}
-use Rattle.serde_json.specs.Data.{Data, string, object, Items, no_items, item, Members, no_members, member}
-use Rattle.serde_json.specs.Find.{get_member}
+use Rattle.bcs_json_spec.proofs.Prelude.{◌≡◌, ◌∙◌, ◌⊎◌, inl, inr, ℕ, zero, suc, ◌≤◌, max, List, [], ◌∷◌, true, Ok, Err, Option, Some, None, refl, ap, subst, arith, max-le, le-max_left, le-max_right, Data, string, object, Items, no_items, item, Members, no_members, member, get_member, Field, Choice, Payload, newtype, tuple, Entries, choice_called, Shape, Shapes, no_shapes, shape, Tree, Trees, no_trees, tree, trees_depth, JsonContent, of, fields, one_of, nothing, json_content_at, payload_content, OneTree, OneVerdict, IfObject, IfWordOrOne, IfThere, item_count, shape_count, without, Read, read_shape, read_each, read_member, read_fields, read_struct, read_part, read_word, read_choice, read_enum, read_content, read_named, read_data, Bad, ShapeRefuses, EachRefuses, MemberRefuses, FieldsRefuse, StructRefuses, PartRefuses, WordRefuses, ChoiceRefuses, EnumRefuses, ContentRefuses, NameRefuses, Refuses, Spells, FieldsSpell, SpellsWithin, IsWordOf, JsonFault, BadShape, UnknownField, MissingField, UnknownVariant, TooDeep}
 use Rattle.bcs_registry_model.specs.Container as container
-use Rattle.bcs_registry_model.specs.Container.{Field, Choice, Payload, newtype, tuple, Entries, choice_called}
 use Rattle.bcs_registry_model.specs.Shape as shape
-use Rattle.bcs_registry_model.specs.Shape.{Shape, Shapes, no_shapes, shape}
 use Rattle.bcs_value_model.specs.Tree as tree
-use Rattle.bcs_value_model.specs.Tree.{Tree, Trees, no_trees, tree, depth, trees_depth}
-use Rattle.bcs_json_spec.specs.JsonContent.{JsonContent, of, fields, one_of, nothing, json_content_at, payload_content}
-use Rattle.bcs_json_spec.specs.Laws.{OneTree, OneVerdict}
-use Rattle.bcs_json_spec.specs.Look.{IfObject, IfWordOrOne, IfThere, item_count, shape_count, without}
-use Rattle.bcs_json_spec.specs.Reading.{Read, read_shape, read_each, read_member, read_fields, read_struct, read_part, read_word, read_choice, read_enum, read_content, read_named, read_data}
-use Rattle.bcs_json_spec.specs.Refuses.{Bad, ShapeRefuses, EachRefuses, MemberRefuses, FieldsRefuse, StructRefuses, PartRefuses, WordRefuses, ChoiceRefuses, EnumRefuses, ContentRefuses, NameRefuses, Refuses}
-use Rattle.bcs_json_spec.specs.Spells.{Spells, FieldsSpell, SpellsWithin, IsWordOf}
-use Rattle.bcs_json_spec.specs.declared.json_fault.JsonFault.{JsonFault}
-use Rattle.bcs_json_spec.specs.declared.json_fault.JsonFault.TheVariants.{BadShape, UnknownField, MissingField, UnknownVariant, TooDeep}
+use Rattle.bcs_value_model.specs.Tree.{depth}
 use Rattle.bcs_json_spec.proofs.Exact.{Exact, is_walk_fault, same_ok, same_err, not_both, done, refused, allows, refuses, made, both, left, right}
 use Rattle.bcs_json_spec.proofs.LeafVerdicts.{Within, exact_unit, exact_truth, exact_unsigned, exact_signed, exact_unsupported, exact_text, exact_bytes}
 use Rattle.bcs_json_spec.proofs.PartVerdicts.{EachWithin, exact_option, exact_seq, exact_array, exact_map, exact_tuple}

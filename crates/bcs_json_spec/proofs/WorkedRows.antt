@@ -1,19 +1,8 @@
 -- What the definitions say of some texts, by computation.
-use Rattle.std.proofs.Common.{◌≡◌, ℕ, negsuc, [], ◌∷◌, codes, Ok, Err, true, Float, refl, rules}
-use Rattle.std.specs.Int.{w8, w16, w128}
-use Rattle.std.proofs.lemmas.Str.{IsUtf8-from_ascii, is_utf8-from_IsUtf8}
-use Rattle.std.specs.Str.{is_utf8}
-use Rattle.hex.proofs.OnLiterals.{hex_on_literals}
-use Rattle.serde_json.specs.Data.{Data, unsigned as whole, negative, float, null, boolean, number, string, array, object, no_items, item, Members, no_members, member}
+use Rattle.bcs_json_spec.proofs.Prelude.{◌≡◌, ℕ, negsuc, [], ◌∷◌, codes, Ok, Err, true, Float, refl, rules, w8, w16, w128, IsUtf8-from_ascii, is_utf8-from_IsUtf8, is_utf8, hex_on_literals, Data, whole, negative, float, null, boolean, number, string, array, object, no_items, item, Members, no_members, member, newtype, newtype_struct, Shape, no_shapes, shape, float64, Tree, unit, truth, signed, text, bytes, absent, present, items, variant, pairs, no_trees, tree, no_pairs, pair, JsonContent, of, fields, one_of, Read, read_data, read_unsigned, read_signed, read_hex, shown, Unsupported, BadShape, BadNumber, BadHex, UnknownField, MissingField, UnknownVariant, TooDeep}
 use Rattle.bcs_registry_model.specs.Container as container
-use Rattle.bcs_registry_model.specs.Container.{newtype, newtype_struct}
 use Rattle.bcs_registry_model.specs.Shape as shape
-use Rattle.bcs_registry_model.specs.Shape.{Shape, no_shapes, shape, float64}
-use Rattle.bcs_value_model.specs.Tree.{Tree, unit, truth, unsigned, signed, text, bytes, absent, present, items, variant, pairs, no_trees, tree, no_pairs, pair}
-use Rattle.bcs_json_spec.specs.JsonContent.{JsonContent, of, fields, one_of}
-use Rattle.bcs_json_spec.specs.Reading.{Read, read_data, read_unsigned, read_signed, read_hex}
-use Rattle.bcs_json_spec.specs.Shown.{shown}
-use Rattle.bcs_json_spec.specs.declared.json_fault.JsonFault.TheVariants.{Unsupported, BadShape, BadNumber, BadHex, UnknownField, MissingField, UnknownVariant, TooDeep}
+use Rattle.bcs_value_model.specs.Tree.{unsigned}
 
 abbrev at : JsonContent → Data → Read Tree
 at f j = read_data [] 500 f j

@@ -1,31 +1,7 @@
 -- serde_json reads its compact text of a value back as that value. Where names and strings needn't be UTF-8, P is ⊥.
-use Rattle.std.specs.Prelude.{⊤}
-use Rattle.std.proofs.Common.{◌≡◌, ◌∙◌, ℕ, pos, negsuc, ◌^◌, ◌<◌, ◌≤◌, List, [], ◌∷◌, ◌++◌, Bool, true, false, Some, Ordering, Less, Greater, IsUtf8, append-nil, nat_cmp, arith, option_map, refl, sym, ap}
-use Rattle.std.proofs.lemmas.Bool.{or_from}
-use Rattle.std.proofs.lemmas.Cmp.{nat_list_cmp_total}
-use Rattle.std.proofs.lemmas.Fmt.{IsAscii-decimal, IsAscii-signed}
-use Rattle.std.proofs.lemmas.Str.{IsUtf8-append, IsUtf8-from_ascii}
-use Rattle.std.specs.Cmp.Lexicographic.{slice_cmp}
-use Rattle.std.specs.List.{AllByRecursion}
-use Rattle.std.specs.List.Sorted.{IsStrictlySortedBy}
-use Rattle.std.specs.Ordering.{match_ordering, ordering_reverse}
-use Rattle.std.specs.Prelude.{option_and_then}
+use Rattle.bcs_json_spec.proofs.Prelude.{⊤, ◌≡◌, ◌∙◌, ℕ, pos, negsuc, ◌^◌, ◌<◌, ◌≤◌, List, [], ◌∷◌, ◌++◌, Bool, true, false, Some, Ordering, Less, Greater, IsUtf8, append-nil, nat_cmp, arith, option_map, refl, sym, ap, or_from, nat_list_cmp_total, IsAscii-decimal, IsAscii-signed, IsUtf8-append, IsUtf8-from_ascii, slice_cmp, AllByRecursion, IsStrictlySortedBy, match_ordering, ordering_reverse, option_and_then, tokens, IsNumber, quoted, HasNumbers, ItemsHaveNumbers, MembersHaveNumbers, json_tokens, IsNumber-decimal, IsNumber-signed_decimal, tokens-print, ArePrintable-json_tokens, value-json_tokens, IsUtf8-are_ascii, IsUtf8-boolean, IsUtf8-quoted, Num, unsigned, negative, float, Data, null, boolean, number, string, array, object, Items, no_items, item, Members, no_members, member, put, depth, items_depth, members_depth, max_depth, number_of, of_items, of_json, of_members, read, comma_if, compact_text, has_float, items_have_float, items_outline, items_text, members_have_float, members_outline, members_text, number_text, outline, number_of-decimal, number_of-negative, print-outline, IsJson, NamesRise, names_of}
 use Rattle.json.specs.Json as json
-use Rattle.json.specs.Lex.{tokens}
-use Rattle.json.specs.Print.{IsNumber, quoted}
 use Rattle.json.specs.Tree as tree
-use Rattle.json.specs.Tree.{HasNumbers, ItemsHaveNumbers, MembersHaveNumbers, json_tokens}
-use Rattle.json.proofs.Printed.Decimals.{IsNumber-decimal, IsNumber-signed_decimal}
-use Rattle.json.proofs.Printed.Tokens.{tokens-print}
-use Rattle.json.proofs.Printed.Trees.{ArePrintable-json_tokens, value-json_tokens}
-use Rattle.json.proofs.Printed.Utf8.{IsUtf8-are_ascii, IsUtf8-boolean, IsUtf8-quoted}
-use Rattle.serde_json.specs.Data.{Num, unsigned, negative, float, Data, null, boolean, number, string, array, object, Items, no_items, item, Members, no_members, member, put, depth, items_depth, members_depth}
-use Rattle.serde_json.specs.Read.{max_depth, number_of, of_items, of_json, of_members, read}
-use Rattle.serde_json.specs.Written.{comma_if, compact_text, has_float, items_have_float, items_outline, items_text, members_have_float, members_outline, members_text, number_text, outline}
-use Rattle.serde_json.proofs.Numbers.{number_of-decimal, number_of-negative}
-use Rattle.serde_json.proofs.Texts.{print-outline}
-use Rattle.bcs_registry_json.specs.Json.{IsJson}
-use Rattle.bcs_registry_json.proofs.RisingMembers.{NamesRise, names_of}
 
 -- ---- what can be written
 

@@ -28,9 +28,9 @@ follow (Ok x) k = k x
 follow (Err e) k = Err e
 
 -- what was returned, seen by view, is what was to be read, unless memory ran out
-abbrev pub Tells : {X A : Type 0} → (X → A) → Result X JsonFault → Read A → Type 0
-Tells view (Ok x) r = r ≡ Ok (view x)
-Tells view (Err e) r = e ≢ OutOfMemory → r ≡ Err e
+abbrev pub Reports : {X A : Type 0} → (X → A) → Result X JsonFault → Read A → Type 0
+Reports view (Ok x) r = r ≡ Ok (view x)
+Reports view (Err e) r = e ≢ OutOfMemory → r ≡ Err e
 
 -- ---- values with no parts
 

@@ -13,7 +13,7 @@ ghost use Rattle.bcs_json_tokens.specs.Tokens.{AreItems, IsToken, alone};
 
 use crate::given_up::GivenUp;
 use bcs_num::{Width, parse_signed, parse_unsigned};
-use bcs_registry_model::WholeNumber;
+use bcs_registry_model::IntegerKind;
 use bcs_value_model::Value;
 use json::{Reader, Token};
 use std::alloc::Global;
@@ -22,7 +22,7 @@ use std::alloc::Global;
 #[inline(never)]
 pub fn next_numbers(
     alloc: Global,
-    format: WholeNumber,
+    format: IntegerKind,
     depth: usize,
     reader: &mut Reader<'_>,
 ) -> Result<Vec<Value>, GivenUp>
@@ -39,12 +39,12 @@ pub fn next_numbers(
 
 /// The whole number of the format that a token spells.
 #[inline(always)]
-pub fn number_of_token(format: WholeNumber, token: Token<'_>) -> Result<Value, GivenUp>
+pub fn number_of_token(format: IntegerKind, token: Token<'_>) -> Result<Value, GivenUp>
     ensures { IfOk result (λ v. IsToken (leaf.read_leaf (whole_shape format)) (token_of token.entry) (tree_of v)) }
 {
     match format {
-        WholeNumber::Unsigned(width) => unsigned_of_token(width, token),
-        WholeNumber::Signed(width) => signed_of_token(width, token),
+        IntegerKind::Unsigned(width) => unsigned_of_token(width, token),
+        IntegerKind::Signed(width) => signed_of_token(width, token),
     }
 }
 

@@ -1,10 +1,8 @@
 //! The walk: the parts of a value, up to the end of their array or object.
 ghost use Rattle.std.specs.Prelude.{◌≡◌, IfOk, map, true};
 ghost use Rattle.bcs_registry_model.specs.View.{field_of, formats_shapes, shape_of};
-ghost use Rattle.bcs_registry_model.specs.Shape.{tuple as tuple_shape};
 ghost use Rattle.bcs_registry_model.specs.WellFormed.{are_distinct};
 ghost use Rattle.bcs_value_model.specs.View.{tree_of, items_trees, entries_pairs};
-ghost use Rattle.bcs_value_model.specs.Tree.{items as items_tree};
 ghost use Rattle.bcs_json_spec.specs.JsonContent.{of};
 ghost use Rattle.bcs_json_spec.specs.Reading.{read_data};
 ghost use Rattle.bcs_json_spec.specs.Reading as spec;
@@ -17,7 +15,7 @@ use crate::reading::next_value;
 use crate::slots::{empty_slots, fill, filled};
 use crate::steps::{inside, next_member, pass_end_array};
 use bcs_registry::{Format, Named, Registry};
-use bcs_registry_model::WholeNumber;
+use bcs_registry_model::IntegerKind;
 use bcs_value_model::Value;
 use json::{Reader, Token};
 use std::alloc::Global;
@@ -34,7 +32,7 @@ pub(crate) fn next_items(
 ) -> Result<Vec<Value>, GivenUp>
     ensures { IfOk result (λ v. AreItems (spec.read_all (read_data registry.now left (of (shape_of element.now)))) depth reader.old reader.new (items_trees v.items)) }
 {
-    if let Some(number) = WholeNumber::of(element) {
+    if let Some(number) = IntegerKind::of(element) {
         return next_numbers(alloc, number, depth, reader);
     }
     let mut found = Vec::new(alloc);

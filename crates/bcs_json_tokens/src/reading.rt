@@ -1,7 +1,5 @@
 //! The walk: the value that the next tokens spell at a format.
-ghost use Rattle.std.specs.Prelude.{◌≡◌, IfOk, suc};
-ghost use Rattle.json.specs.Reads.{token_of};
-ghost use Rattle.json.specs.Token.{Token as SpecToken};
+ghost use Rattle.std.specs.Prelude.{◌≡◌, IfOk};
 ghost use Rattle.bcs_registry_model.specs.Shape.{tuple as tuple_shape};
 ghost use Rattle.bcs_registry_model.specs.View.{formats_shapes, shape_of};
 ghost use Rattle.bcs_value_model.specs.View.{tree_of};

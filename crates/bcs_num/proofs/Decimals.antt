@@ -1,20 +1,6 @@
 -- Laws of plain decimal texts of numbers of up to 128 bits, and of the digits that they are read by.
-use Rattle.std.proofs.Common.{◌≡◌, ℕ, zero, suc, ◌+◌, ◌-◌, ◌*◌, ◌/◌, ◌%◌, ◌^◌, ◌<◌, ◌≤◌, List, [], ◌∷◌, ◌++◌, length, take, drop, get_or, refl, sym, ap, subst, ◌∙◌, arith, length-take, length-drop, get_or-drop, length-append, append_assoc, decimal, inl, inr, Option, Some, None, ℤ, pos, negsuc}
-use Rattle.std.specs.Prelude.{IfSome, SomeIff}
-use Rattle.std.specs.Char.{digit_value}
-use Rattle.std.specs.Fmt.{signed_decimal}
+use Rattle.bcs_num.proofs.Prelude.{◌≡◌, ℕ, zero, suc, ◌+◌, ◌-◌, ◌*◌, ◌/◌, ◌%◌, ◌^◌, ◌<◌, ◌≤◌, List, [], ◌∷◌, ◌++◌, length, take, drop, get_or, refl, sym, ap, subst, ◌∙◌, arith, length-take, length-drop, get_or-drop, length-append, append_assoc, decimal, inl, inr, Option, Some, None, ℤ, pos, negsuc, IfSome, SomeIff, digit_value, signed_decimal, AllDigits, digits_value, digits_value_after, pow-le-pow_right, get_or-append, cases_lt, decimal_digit, decimal_step_wide, decimal_by_steps_wide, decimal_is_IsNumeral_wide, digits_value-lt, digits_more, digits_value_more, append-nil, take_all, digit_value_digit, digit_at, digit_from_value, digits_value-take-le, hbits, IsSigned}
 use Rattle.std.specs.Int as int
-use Rattle.std.specs.Str.Parse.{AllDigits, digits_value, digits_value_after}
-use Rattle.std.proofs.Math.Nat.{pow-le-pow_right}
-use Rattle.std.proofs.Math.ListN.{get_or-append}
-use Rattle.std.proofs.lemmas.Bool.{cases_lt}
-use Rattle.std.proofs.lemmas.Fmt.{decimal_digit, decimal_step_wide, decimal_by_steps_wide, decimal_is_IsNumeral_wide}
-use Rattle.std.proofs.lemmas.Int.Digits.{digits_value-lt, digits_more, digits_value_more}
-use Rattle.std.proofs.lemmas.List.{append-nil, take_all}
-use Rattle.std.proofs.lemmas.Str.{digit_value_digit}
-use Rattle.std.proofs.lemmas.Str.Parse.{digit_at, digit_from_value, digits_value-take-le}
-use mir.Val.{hbits}
-use Rattle.bcs_num.specs.Le.{IsSigned}
 use Rattle.bcs_num.proofs.Ranges.{half_most}
 
 -- ---- digits

@@ -1,14 +1,6 @@
 -- Laws of little-endian numbers. Nothing outside of this file looks into `le`.
-use Rattle.std.proofs.Common.{◌≡◌, ℕ, zero, suc, ◌*◌, ◌/◌, ◌%◌, ◌^◌, ◌<◌, ℤ, List, [], ◌∷◌, ◌++◌, length, refl, sym, ap, subst, ◌∙◌, arith}
+use Rattle.bcs_num.proofs.Prelude.{◌≡◌, ℕ, zero, suc, ◌*◌, ◌/◌, ◌%◌, ◌^◌, ◌<◌, ℤ, List, [], ◌∷◌, ◌++◌, length, refl, sym, ap, subst, ◌∙◌, arith, w8, w16, w32, w64, w128, byte_len, byte_at, bytes_low_first, to_le_bytes, cast_unsigned, cast_signed, All, Fits-of_z, pow-suc, div-div-eq-div-mul, div-one, to_z-of_z, All-nil, All-cons, bits, IsUnsigned, IsSigned, low_bytes, le, le_signed}
 use Rattle.std.specs.Int as int
-use Rattle.std.specs.Int.{w8, w16, w32, w64, w128, byte_len, byte_at, bytes_low_first, to_le_bytes, cast_unsigned, cast_signed}
-use Rattle.std.specs.List.{All}
-use Rattle.std.proofs.Math.Facts.{Fits-of_z}
-use Rattle.std.proofs.Math.Nat.{pow-suc, div-div-eq-div-mul, div-one}
-use Rattle.std.proofs.lemmas.Int.{to_z-of_z}
-use Rattle.std.proofs.lemmas.List.Elements.{All-nil, All-cons}
-use mir.Val.{bits}
-use Rattle.bcs_num.specs.Le.{IsUnsigned, IsSigned, low_bytes, le, le_signed}
 
 -- ---- how many bytes, and which
 

@@ -1,19 +1,6 @@
 -- What the calls on little-endian numbers read and write, by std's words.
-use Rattle.std.proofs.Common.{◌≡◌, ℕ, zero, suc, ◌+◌, ◌-◌, ◌*◌, ◌/◌, ◌%◌, ◌^◌, ◌<◌, ◌≤◌, ℤ, pos, negsuc, List, [], ◌∷◌, ◌++◌, length, take, drop, get_or, refl, sym, ap, subst, ◌∙◌, arith, length-take, length-take-le, Option, Some, None, Ok}
-use Rattle.std.specs.Prelude.{IfOk, IfSome, ok_or}
-use Rattle.bcs_num.specs.declared.fault.NumFault.TheVariants.{EndOfInput}
+use Rattle.bcs_num.proofs.Prelude.{◌≡◌, ℕ, zero, suc, ◌+◌, ◌-◌, ◌*◌, ◌/◌, ◌%◌, ◌^◌, ◌<◌, ◌≤◌, ℤ, pos, negsuc, List, [], ◌∷◌, ◌++◌, length, take, drop, get_or, refl, sym, ap, subst, ◌∙◌, arith, length-take, length-take-le, Option, Some, None, Ok, IfOk, IfSome, ok_or, EndOfInput, w8, w16, w32, w64, w128, byte_len, byte_worth, sum_through, to_le_bytes, from_le_bytes, cast_unsigned, cast_signed, bit_and, All, Fits-of_lt, sfits_to_z, pow-suc, mod-eq_of_lt, to_z-of_z, of_z-to_z, and_mask, take_at, drop_at, All-head, All-tail, All-take, bits, IsUnsigned, IsSigned, low_bytes, le, le_signed}
 use Rattle.std.specs.Int as int
-use Rattle.std.specs.Int.{w8, w16, w32, w64, w128, byte_len, byte_worth, sum_through, to_le_bytes, from_le_bytes, cast_unsigned, cast_signed}
-use Rattle.std.specs.Int.Bits.{bit_and}
-use Rattle.std.specs.List.{All}
-use Rattle.std.proofs.Math.Facts.{Fits-of_lt, sfits_to_z}
-use Rattle.std.proofs.Math.Nat.{pow-suc, mod-eq_of_lt}
-use Rattle.std.proofs.lemmas.Int.{to_z-of_z, of_z-to_z}
-use Rattle.std.proofs.lemmas.Nat.{and_mask}
-use Rattle.std.proofs.lemmas.List.{take_at, drop_at}
-use Rattle.std.proofs.lemmas.List.Elements.{All-head, All-tail, All-take}
-use mir.Val.{bits}
-use Rattle.bcs_num.specs.Le.{IsUnsigned, IsSigned, low_bytes, le, le_signed}
 use Rattle.bcs_num.proofs.LeLaws.{width_bytes, cast_in_range, All-le, length-le, le_prefix_free, to_le_bytes-le}
 
 -- the number that bytes write, the lowest first

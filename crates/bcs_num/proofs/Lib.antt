@@ -1,3 +1,4 @@
+pub mod Prelude
 pub mod Decimals
 pub mod LeLaws
 pub mod LeReading

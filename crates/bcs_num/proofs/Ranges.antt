@@ -1,9 +1,5 @@
 -- The ranges of a width as tests and as statements, and how large they are.
-use Rattle.std.proofs.Common.{◌≡◌, ℤ, pos, negsuc, ◌+◌, ◌^◌, ◌≤◌, true, refl, arith}
-use Rattle.std.proofs.lemmas.Bool.{ltb-true, lt-ltb}
-use Rattle.std.specs.Int.{Width, w8, w16, w32, w64, w128}
-use mir.Val.{bits, hbits}
-use Rattle.bcs_num.specs.Le.{IsSigned, holds_signed}
+use Rattle.bcs_num.proofs.Prelude.{◌≡◌, ℤ, pos, negsuc, ◌+◌, ◌^◌, ◌≤◌, true, refl, arith, ltb-true, lt-ltb, Width, w8, w16, w32, w64, w128, bits, hbits, IsSigned, holds_signed}
 
 pub holds_signed-is : (w : Width) (z : ℤ) → holds_signed w z ≡ true → IsSigned w z
 holds_signed-is w (pos n) h = record { sfits = ltb-true n (2 ^ hbits w) h }

@@ -1,7 +1,5 @@
 -- Laws of ULEB128. Nothing but the first two looks into `uleb`.
-use Rattle.std.proofs.Common.{◌≡◌, ℕ, zero, suc, ◌+◌, ◌/◌, ◌%◌, ◌<◌, ◌≤◌, List, [], ◌∷◌, ◌++◌, refl, sym, ap, ◌∙◌, arith, inl, inr}
-use Rattle.std.proofs.lemmas.Bool.{cases_lt, le-ltb, lt-ltb}
-use Rattle.bcs_num.specs.Uleb.{groups, uleb}
+use Rattle.bcs_num.proofs.Prelude.{◌≡◌, ℕ, zero, suc, ◌+◌, ◌/◌, ◌%◌, ◌<◌, ◌≤◌, List, [], ◌∷◌, ◌++◌, refl, sym, ap, ◌∙◌, arith, inl, inr, cases_lt, le-ltb, lt-ltb, groups, uleb}
 
 groups_low : (k n : ℕ) → n < 128 → groups k n ≡ n ∷ []
 groups_low zero n h = refl

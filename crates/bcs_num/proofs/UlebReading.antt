@@ -1,15 +1,6 @@
 -- What stands at the front of bytes, as one function: a number and its length, or the fault. It holds of the bytes
--- (`tells_number_at`), and nothing else does (`number_at_only`), so that each case excludes the others.
-use Rattle.std.proofs.Common.{◌≡◌, ℕ, suc, ◌+◌, ◌-◌, ◌*◌, ◌/◌, ◌%◌, ◌^◌, ◌<◌, ◌≤◌, false, ◌&&◌, ◌==◌, nat_lt, if◌then◌else◌, List, [], ◌∷◌, ◌++◌, length, take, drop, Result, Ok, Err, refl, sym, ap, subst, ◌∙◌, arith, inl, inr, length-append, length-take, get_or}
-use Rattle.std.specs.Prelude.{IfOk, IsErrOf, ◌↔◌}
-use Rattle.std.proofs.lemmas.List.{take_at, take-append-drop, drop_more}
-use Rattle.std.specs.List.{All}
-use Rattle.std.proofs.lemmas.Bool.{cases_lt, cases_eq, le-ltb, lt-ltb}
-use Rattle.std.proofs.lemmas.Bool.Decides.{nat_tests}
-use Rattle.std.proofs.lemmas.List.Elements.{All-nil, All-cons, All-head, All-tail}
-use Rattle.bcs_num.specs.declared.fault.NumFault.{NumFault}
-use Rattle.bcs_num.specs.declared.fault.NumFault.TheVariants.{EndOfInput, LongForm, NumberTooLarge}
-use Rattle.bcs_num.specs.Uleb.{uleb, HasHighBit, IsUnended, IsLongForm, IsTooLarge}
+-- (`reports_number_at`), and nothing else does (`number_at_only`), so that each case excludes the others.
+use Rattle.bcs_num.proofs.Prelude.{◌≡◌, ℕ, suc, ◌+◌, ◌-◌, ◌*◌, ◌/◌, ◌%◌, ◌^◌, ◌<◌, ◌≤◌, false, ◌&&◌, ◌==◌, nat_lt, if◌then◌else◌, List, [], ◌∷◌, ◌++◌, length, take, drop, Result, Ok, Err, refl, sym, ap, subst, ◌∙◌, arith, inl, inr, length-append, length-take, get_or, IfOk, IsErrOf, ◌↔◌, take_at, take-append-drop, drop_more, All, cases_lt, cases_eq, le-ltb, lt-ltb, nat_tests, All-nil, All-cons, All-head, All-tail, NumFault, EndOfInput, LongForm, NumberTooLarge, uleb, HasHighBit, IsUnended, IsLongForm, IsTooLarge}
 use Rattle.bcs_num.proofs.Room.{room, room_next, room_step, room_last, room_small}
 use Rattle.bcs_num.proofs.UlebLaws.{uleb-low, uleb-more, uleb_by_groups}
 
@@ -105,9 +96,9 @@ FaultFrom i bytes EndOfInput = UnendedFrom i bytes
 FaultFrom i bytes LongForm = LongFrom i bytes
 FaultFrom i bytes NumberTooLarge = LargeFrom i bytes
 
-abbrev pub TellsFrom : ℕ → List ℕ → Result (ℕ × ℕ) NumFault → Type 0
-TellsFrom i bytes (Ok x) = NumberFrom i bytes x.0 x.1
-TellsFrom i bytes (Err e) = FaultFrom i bytes e
+abbrev pub ReportsFrom : ℕ → List ℕ → Result (ℕ × ℕ) NumFault → Type 0
+ReportsFrom i bytes (Ok x) = NumberFrom i bytes x.0 x.1
+ReportsFrom i bytes (Err e) = FaultFrom i bytes e
 
 -- ---- it is so
 
@@ -146,19 +137,19 @@ fault_more i b bytes NumberTooLarge before high t = record {
   is = ap (λ (x : List ℕ). b ∷ x) t.is;
 }
 
-tells_more : (i b : ℕ) (bytes : List ℕ) (r : Result (ℕ × ℕ) NumFault) → i < 4 → 128 ≤ b → b < 256 → TellsFrom (suc i) bytes r → TellsFrom i (b ∷ bytes) (shifted (b - 128) 128 1 r)
-tells_more i b bytes (Ok x) before high byte t = number_more i b bytes x.0 x.1 before high byte t
-tells_more i b bytes (Err e) before high byte t = fault_more i b bytes e before high t
+reports_more : (i b : ℕ) (bytes : List ℕ) (r : Result (ℕ × ℕ) NumFault) → i < 4 → 128 ≤ b → b < 256 → ReportsFrom (suc i) bytes r → ReportsFrom i (b ∷ bytes) (shifted (b - 128) 128 1 r)
+reports_more i b bytes (Ok x) before high byte t = number_more i b bytes x.0 x.1 before high byte t
+reports_more i b bytes (Err e) before high byte t = fault_more i b bytes e before high t
 
-tells_number_from : (i : ℕ) (bytes : List ℕ) → i ≤ 4 → All (λ b. b < 256) bytes → TellsFrom i bytes (number_from i bytes)
-tells_number_from i [] few byte = record { short = omega arith; high = All-nil HasHighBit }
-tells_number_from i (b ∷ bytes) few byte = elim (byte_kind i b few) [
+reports_number_from : (i : ℕ) (bytes : List ℕ) → i ≤ 4 → All (λ b. b < 256) bytes → ReportsFrom i bytes (number_from i bytes)
+reports_number_from i [] few byte = record { short = omega arith; high = All-nil HasHighBit }
+reports_number_from i (b ∷ bytes) few byte = elim (byte_kind i b few) [
   | large fifth above ↦ rw (at_large i b bytes fifth above) (record { front = []; last = b; rest = bytes; high = All-nil HasHighBit; four = omega arith; above = above; is = refl })
   | zero_last none later ↦ rw (at_zero_last i b bytes none later) (record { front = []; rest = bytes; high = All-nil HasHighBit; some = omega arith; short = omega arith; is = ap (λ (x : ℕ). x ∷ bytes) none })
   | last low small shortest ↦
       (let one : uleb b ≡ b ∷ [] = uleb-low b low in
       rw (at_last i b bytes low small shortest) (record { rest = bytes; shortest = λ later. grind (arith, nat_tests); fits = room_last i b few low small; long = ap length (sym one); is = rw one refl }))
-  | more high before ↦ rw (at_more i b bytes high before) (tells_more i b bytes (number_from (suc i) bytes) before high (All-head (λ x. x < 256) b bytes byte) (tells_number_from (suc i) bytes (omega arith) (All-tail (λ x. x < 256) b bytes byte)))
+  | more high before ↦ rw (at_more i b bytes high before) (reports_more i b bytes (number_from (suc i) bytes) before high (All-head (λ x. x < 256) b bytes byte) (reports_number_from (suc i) bytes (omega arith) (All-tail (λ x. x < 256) b bytes byte)))
 ]
 
 -- ---- and nothing else is
@@ -208,7 +199,7 @@ fault_only i bytes NumberTooLarge t =
     ap (number_from i) t.is
     ∙ after_high t.front i 4 (t.last ∷ t.rest) NumberTooLarge t.high t.four (omega arith) (at_large 4 t.last t.rest refl t.above)
 
-number_from_only : (i : ℕ) (bytes : List ℕ) (r : Result (ℕ × ℕ) NumFault) → i ≤ 4 → TellsFrom i bytes r → number_from i bytes ≡ r
+number_from_only : (i : ℕ) (bytes : List ℕ) (r : Result (ℕ × ℕ) NumFault) → i ≤ 4 → ReportsFrom i bytes r → number_from i bytes ≡ r
 number_from_only i bytes (Ok x) few t = ap (number_from i) t.is ∙ number_again x.0 i t.rest few t.shortest t.fits ∙ ap (λ (len : ℕ). Ok (x.0, len)) (sym t.long)
 number_from_only i bytes (Err e) few t = fault_only i bytes e t
 
@@ -254,7 +245,7 @@ number_at_fault bytes e t = fault_only 0 bytes e (fault_of bytes e t)
 
 pub number_at_is_number : (bytes : List ℕ) (n len : ℕ) → All (λ b. b < 256) bytes → number_at bytes ≡ Ok (n, len) → IsNumber bytes n len
 number_at_is_number bytes n len byte e =
-    let t : NumberFrom 0 bytes n len = subst (TellsFrom 0 bytes) e (tells_number_from 0 bytes (omega arith) byte) in
+    let t : NumberFrom 0 bytes n len = subst (ReportsFrom 0 bytes) e (reports_number_from 0 bytes (omega arith) byte) in
     let long : length bytes ≡ length (uleb n) + length t.rest = ap length t.is ∙ length-append (uleb n) t.rest in
     record {
       fits = t.fits;
@@ -263,7 +254,7 @@ number_at_is_number bytes n len byte e =
     }
 
 pub number_at_is_fault : (bytes : List ℕ) (e : NumFault) → All (λ b. b < 256) bytes → number_at bytes ≡ Err e → IsFault bytes e
-number_at_is_fault bytes e byte is = fault_to bytes e (subst (TellsFrom 0 bytes) is (tells_number_from 0 bytes (omega arith) byte))
+number_at_is_fault bytes e byte is = fault_to bytes e (subst (ReportsFrom 0 bytes) is (reports_number_from 0 bytes (omega arith) byte))
 
 -- the clauses of `take_uleb`
 abbrev pub Verdict : List ℕ → Result (ℕ × ℕ) NumFault → Type 0

@@ -1,7 +1,5 @@
 -- What the loop of `put_uleb` has written.
-use Rattle.std.proofs.Common.{◌≡◌, ℕ, ◌+◌, ◌/◌, ◌%◌, ◌<◌, ◌≤◌, List, ◌++◌, length, take, set, sym, ap, ◌∙◌, append_assoc, arith}
-use Rattle.std.proofs.lemmas.List.{take_more_set}
-use Rattle.bcs_num.specs.Uleb.{uleb}
+use Rattle.bcs_num.proofs.Prelude.{◌≡◌, ℕ, ◌+◌, ◌/◌, ◌%◌, ◌<◌, ◌≤◌, List, ◌++◌, length, take, set, sym, ap, ◌∙◌, append_assoc, arith, take_more_set, uleb}
 use Rattle.bcs_num.proofs.UlebLaws.{uleb-low, uleb-more}
 
 pub put_more : (out : List ℕ) (i left : ℕ) (all : List ℕ) → i < length out → 128 ≤ left → take i out ++ uleb left ≡ all → take (i + 1) (set out i (left % 128 + 128)) ++ uleb (left / 128) ≡ all

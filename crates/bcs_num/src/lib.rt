@@ -12,7 +12,7 @@ mod width;
 pub use decimal::{parse_signed, parse_unsigned};
 pub use fault::NumFault;
 pub use little_endian::{
-    front_signed, front_unsigned, put_le, put_le_signed, take_le, take_le_signed,
+    leading_signed, leading_unsigned, put_le, put_le_signed, take_le, take_le_signed,
 };
 pub use uleb::{LENGTH_LIMIT, put_uleb, take_uleb};
 pub use width::{GREATEST_LEN, Width};

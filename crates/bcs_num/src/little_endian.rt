@@ -56,7 +56,7 @@ pub fn take_le(width: Width, bytes: &[u8]) -> Result<u128, NumFault>
     ensures ended { IsErrOf result NumFault.EndOfInput
         ↔ (length bytes.now < byte_len (width_of width)) }
 {
-    front_unsigned(width, bytes).ok_or(NumFault::EndOfInput)
+    leading_unsigned(width, bytes).ok_or(NumFault::EndOfInput)
 }
 
 /// Takes the signed number of the width at the front. `EndOfInput`: there are fewer bytes than the
@@ -69,12 +69,12 @@ pub fn take_le_signed(width: Width, bytes: &[u8]) -> Result<i128, NumFault>
     ensures ended { IsErrOf result NumFault.EndOfInput
         ↔ (length bytes.now < byte_len (width_of width)) }
 {
-    front_signed(width, bytes).ok_or(NumFault::EndOfInput)
+    leading_signed(width, bytes).ok_or(NumFault::EndOfInput)
 }
 
 /// The unsigned number of the width that the first bytes are. `None`: there are fewer.
 #[inline(always)]
-pub fn front_unsigned(width: Width, bytes: &[u8]) -> Option<u128>
+pub fn leading_unsigned(width: Width, bytes: &[u8]) -> Option<u128>
     ensures found { IfSome result (λ n. (byte_len (width_of width) ≤ length bytes.now) × (n ≡ from_le_bytes (width_of width) (take (byte_len (width_of width)) bytes.now))) }
     ensures none { result ≡ None → length bytes.now < byte_len (width_of width) }
 {
@@ -89,7 +89,7 @@ pub fn front_unsigned(width: Width, bytes: &[u8]) -> Option<u128>
 
 /// The signed number of the width that the first bytes are. `None`: there are fewer.
 #[inline(always)]
-pub fn front_signed(width: Width, bytes: &[u8]) -> Option<i128>
+pub fn leading_signed(width: Width, bytes: &[u8]) -> Option<i128>
     ensures found { IfSome result (λ z. (byte_len (width_of width) ≤ length bytes.now) × (z ≡ cast_signed (width_of width) (from_le_bytes (width_of width) (take (byte_len (width_of width)) bytes.now)))) }
     ensures none { result ≡ None → length bytes.now < byte_len (width_of width) }
 {

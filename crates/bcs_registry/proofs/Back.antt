@@ -1,13 +1,6 @@
 -- From the JSON back to the format or the container that it writes down.
-use Rattle.std.proofs.Common.{◌≡◌, ◌∙◌, ℕ, List, [], ◌∷◌, ap, bytes_eq, codes, if◌then◌else◌, refl, unwrap_or}
-use Rattle.serde_json.specs.Data.{Data, unsigned as whole, number, string, array as list, object, Items, no_items, item, no_members, member}
+use Rattle.bcs_registry.proofs.Prelude.{◌≡◌, ◌∙◌, ℕ, List, [], ◌∷◌, ap, bytes_eq, codes, if◌then◌else◌, refl, unwrap_or, Data, whole, number, string, list, object, Items, no_items, item, no_members, member, Container, Field, Payload, Shape, unit, name, option, seq, map, tuple, array, Shapes, no_shapes, shape, format_named, word_named, shown_choices, shown_container, shown_struct, shown_format, shown_formats, shown_payload, variant_shown}
 use Rattle.bcs_registry_model.specs.Container as container
-use Rattle.bcs_registry_model.specs.Container.{Container, Field, Payload}
-use Rattle.bcs_registry_model.specs.Shape.{Shape, unit, name, option, seq, map, tuple, array, Shapes, no_shapes, shape}
-use Rattle.bcs_registry_model.specs.Words.{format_named}
-use Rattle.bcs_registry_model.proofs.WordsBack.{word_named}
-use Rattle.bcs_registry_json.specs.Shown.{shown_choices, shown_container, shown_struct, shown_format, shown_formats, shown_payload}
-use Rattle.bcs_registry_json.proofs.Choices.{variant_shown}
 
 abbrev pub text_in : Data → List ℕ
 text_in (string s) = s

@@ -1,3 +1,4 @@
+pub mod Prelude
 pub mod ShownFloats
 pub mod ShownDepth
 pub mod Back

@@ -1,21 +1,7 @@
 -- A text has at most one least fault, and none where it writes down what is well-formed.
-use Rattle.std.proofs.Common.{◌≡◌, ◌∙◌, ◌&&◌, ℕ, List, Bool, true, false, ap, if◌then◌else◌, refl, subst, sym}
-use Rattle.std.proofs.lemmas.Bool.{true≢false}
-use Rattle.serde_json.specs.Data.{Data}
-use Rattle.bcs_registry_model.specs.Breaks.{Breaks, FormatBreaks}
-use Rattle.bcs_registry_model.specs.Container.{Entries}
-use Rattle.bcs_registry.specs.Faults.{IsLeastFault, IsLeastFormatFault}
-use Rattle.bcs_registry_json.specs.Json.{IsJson}
-use Rattle.bcs_registry_model.specs.Shape.{Shape}
-use Rattle.bcs_registry_json.specs.Shaped.{is_format, is_registry}
-use Rattle.bcs_registry_json.specs.Text.{IsFormatText, IsRegistryText, WritesFormat, WritesRegistry}
-use Rattle.bcs_registry.specs.TextLaws.{OneFault, OneFormatFault}
-use Rattle.bcs_registry_model.specs.WellFormed.{IsWellFormed, has_few_levels, is_known, levels_hold, names_differ, names_known}
-use Rattle.bcs_registry_model.specs.declared.fault.RegistryFault.{RegistryFault}
-use Rattle.bcs_registry_model.specs.declared.fault.RegistryFault.TheVariants.{BadNumber, BadShape, NotJson, OutOfMemory, RepeatedName, TooNested, UnknownName}
+use Rattle.bcs_registry.proofs.Prelude.{◌≡◌, ◌∙◌, ◌&&◌, ℕ, List, Bool, true, false, ap, if◌then◌else◌, refl, subst, sym, true≢false, Data, Breaks, FormatBreaks, Entries, IsLeastFault, IsLeastFormatFault, IsJson, Shape, is_format, is_registry, IsFormatText, IsRegistryText, WritesFormat, WritesRegistry, OneFault, OneFormatFault, IsWellFormed, has_few_levels, is_known, levels_hold, names_differ, names_known, RegistryFault, BadNumber, BadShape, NotJson, OutOfMemory, RepeatedName, TooNested, UnknownName, and-true_parts}
 use Rattle.bcs_registry.proofs.OneText.{same_format, same_json, same_registry}
 use Rattle.bcs_registry.proofs.ShownShape.{format_shaped, registry_shaped}
-use Rattle.bcs_registry_json.proofs.TwoTests.{and-true_parts}
 
 contradicts : (b : Bool) → b ≡ true → b ≡ false → ⊥
 contradicts b h i = true≢false (sym h ∙ i)
@@ -71,14 +57,14 @@ shaped_registry loose d r is = ap (is_registry loose) is.is ∙ registry_shaped 
 abbrev RegistryIs : List ℕ → Verdict → Type 0
 RegistryIs = Is Entries IsRegistryText (λ loose. is_registry loose) shaped_registry
 
-judged : (text : List ℕ) (e : RegistryFault) → IsLeastFault text e → RegistryIs text (verdict_of e)
-judged text NotJson h = h
-judged text BadShape h = h
-judged text BadNumber h = h
-judged text TooNested h = (h.0, h.1)
-judged text RepeatedName h = (h.0, h.1)
-judged text UnknownName h = (h.0, h.1)
-judged text OutOfMemory h = absurd h
+validated : (text : List ℕ) (e : RegistryFault) → IsLeastFault text e → RegistryIs text (verdict_of e)
+validated text NotJson h = h
+validated text BadShape h = h
+validated text BadNumber h = h
+validated text TooNested h = (h.0, h.1)
+validated text RepeatedName h = (h.0, h.1)
+validated text UnknownName h = (h.0, h.1)
+validated text OutOfMemory h = absurd h
 
 -- the first rule that is broken, if any is
 first_break : Entries → RegistryFault
@@ -141,10 +127,10 @@ keeps_rules r e well h = at e (and-true_parts (levels_hold r) (names_differ r) p
 pub one_fault : OneFault
 one_fault = (
   λ text e f h i.
-      let same = apart Entries IsRegistryText (λ loose. is_registry loose) shaped_registry text (verdict_of e) (verdict_of f) (judged text e h) (judged text f i) in
+      let same = apart Entries IsRegistryText (λ loose. is_registry loose) shaped_registry text (verdict_of e) (verdict_of f) (validated text e h) (validated text f i) in
       told e f same (λ is. one_break text e f is (sym same ∙ is) h i),
   λ text r e writes well h.
-      let is = apart Entries IsRegistryText (λ loose. is_registry loose) shaped_registry text (verdict_of e) written (judged text e h) (r, writes) in
+      let is = apart Entries IsRegistryText (λ loose. is_registry loose) shaped_registry text (verdict_of e) written (validated text e h) (r, writes) in
       let a = broken text e is h in
       keeps_rules r e well (subst (λ (q : Entries). Breaks q e) (same_registry text a.0 r a.1 writes) a.2),
 )
@@ -155,14 +141,14 @@ shaped_format : (loose : Bool) (d : Data) (s : Shape) → IsFormatText d s → i
 shaped_format loose d s is = ap (is_format loose) is.is ∙ format_shaped loose s is.sizes
 
 module _ (registry : Entries) (text : List ℕ) where
-  format_judged : (e : RegistryFault) → IsLeastFormatFault registry text e → Is Shape IsFormatText (λ loose. is_format loose) shaped_format text (verdict_of e)
-  format_judged NotJson h = h
-  format_judged BadShape h = h
-  format_judged BadNumber h = h
-  format_judged TooNested h = (h.0, h.1)
-  format_judged RepeatedName h = absurd h
-  format_judged UnknownName h = (h.0, h.1)
-  format_judged OutOfMemory h = absurd h
+  format_validated : (e : RegistryFault) → IsLeastFormatFault registry text e → Is Shape IsFormatText (λ loose. is_format loose) shaped_format text (verdict_of e)
+  format_validated NotJson h = h
+  format_validated BadShape h = h
+  format_validated BadNumber h = h
+  format_validated TooNested h = (h.0, h.1)
+  format_validated RepeatedName h = absurd h
+  format_validated UnknownName h = (h.0, h.1)
+  format_validated OutOfMemory h = absurd h
 
   format_broken : (e : RegistryFault) → verdict_of e ≡ written → IsLeastFormatFault registry text e → (s : Shape) × WritesFormat text s × FormatBreaks registry s e
   format_broken TooNested is h = h
@@ -204,10 +190,10 @@ module _ (registry : Entries) (text : List ℕ) where
 pub one_format_fault : OneFormatFault
 one_format_fault = (
   λ registry text e f h i.
-      let same = apart Shape IsFormatText (λ loose. is_format loose) shaped_format text (verdict_of e) (verdict_of f) (format_judged registry text e h) (format_judged registry text f i) in
+      let same = apart Shape IsFormatText (λ loose. is_format loose) shaped_format text (verdict_of e) (verdict_of f) (format_validated registry text e h) (format_validated registry text f i) in
       told e f same (λ is. one_format_break registry text e f is (sym same ∙ is) h i),
   λ registry text s e writes admitted h.
-      let is = apart Shape IsFormatText (λ loose. is_format loose) shaped_format text (verdict_of e) written (format_judged registry text e h) (s, writes) in
+      let is = apart Shape IsFormatText (λ loose. is_format loose) shaped_format text (verdict_of e) written (format_validated registry text e h) (s, writes) in
       let a = format_broken registry text e is h in
       keeps_format_rules registry text s e (and-true_parts (has_few_levels s) (is_known registry s) admitted)
       (subst (λ (t : Shape). FormatBreaks registry t e) (same_format text a.0 s a.1 writes) a.2),

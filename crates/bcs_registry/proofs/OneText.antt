@@ -1,29 +1,8 @@
 -- JSON writes down at most one format, and at most one registry.
-use Rattle.std.proofs.Common.{◌≡◌, ◌<◌, ◌^◌, ◌∙◌, ℕ, List, [], ◌∷◌, Bool, true, false, Option, Some, None, Ordering, Less, Equal, Greater, ap, arith, cond, decimal, nat_cmp, nat_lt, option_map, refl, subst, sym}
-use Rattle.std.proofs.lemmas.Bool.{true≢false}
-use Rattle.std.proofs.lemmas.Bool.Decides.{Decides-ltb}
-use Rattle.std.proofs.lemmas.Cmp.{nat_cmp_total, ranked}
-use Rattle.std.proofs.lemmas.Map.Lookups.{exact_unsigned}
-use Rattle.std.specs.FinMap.Entries.{below_all, find, is_sorted, same_entries}
-use Rattle.std.specs.List.{list_all, AllByRecursion}
-use Rattle.std.specs.List.Sorted.{IsStrictlySortedBy}
-use Rattle.std.specs.Map.{keys_of}
-use Rattle.std.specs.Ordering.{is_eq}
-use Rattle.std.specs.Prelude.{T}
-use Rattle.serde_json.proofs.Views.{get_member-put, get_member-put_other}
-use Rattle.serde_json.specs.Data.{Data, object}
-use Rattle.serde_json.specs.Find.{get_member}
+use Rattle.bcs_registry.proofs.Prelude.{◌≡◌, ◌<◌, ◌^◌, ◌∙◌, ℕ, List, [], ◌∷◌, Bool, true, false, Option, Some, None, Ordering, Less, Equal, Greater, ap, arith, cond, decimal, nat_lt, option_map, refl, subst, sym, true≢false, Decides-ltb, nat_cmp_total, ranked, exact_unsigned, below_all, find, is_sorted, same_entries, list_all, AllByRecursion, IsStrictlySortedBy, keys_of, is_eq, T, get_member-put, get_member-put_other, Data, object, get_member, Choice, Container, Entries, Payload, shown_choices, shown_container, shown_containers, IsInRange, IsJson, Shape, IsFormatText, IsRegistryText, WritesFormat, WritesRegistry, OneFormat, OneRegistry, and-true_parts, has_number, numbered_below, texts_differ, variant_shown}
+use Rattle.std.proofs.Common.{nat_cmp}
 use Rattle.bcs_registry_model.specs.Container as container
-use Rattle.bcs_registry_model.specs.Container.{Choice, Container, Entries, Payload}
-use Rattle.bcs_registry_json.specs.Shown.{shown_choices, shown_container, shown_containers}
-use Rattle.bcs_registry_model.specs.Ranges.{IsInRange}
-use Rattle.bcs_registry_json.specs.Json.{IsJson}
-use Rattle.bcs_registry_model.specs.Shape.{Shape}
-use Rattle.bcs_registry_json.specs.Text.{IsFormatText, IsRegistryText, WritesFormat, WritesRegistry}
-use Rattle.bcs_registry.specs.TextLaws.{OneFormat, OneRegistry}
 use Rattle.bcs_registry.proofs.Back.{container_back, container_in, format_back, format_in, found_as, variant_back, variant_in}
-use Rattle.bcs_registry_json.proofs.TwoTests.{and-true_parts}
-use Rattle.bcs_registry_json.proofs.Choices.{has_number, numbered_below, texts_differ, variant_shown}
 
 pub one_format : OneFormat
 one_format d s t is other = sym (format_back s) ∙ ap format_in (sym is.is ∙ other.is) ∙ format_back t

@@ -1,20 +1,5 @@
 -- Each text writes something down that keeps the rules, or has a least fault.
-use Rattle.std.proofs.Common.{◌≡◌, ◌⊎◌, ◌∙◌, ℕ, List, Bool, true, false, Option, Some, None, inl, inr, refl, sym}
-use Rattle.std.proofs.lemmas.Bool.{true≢false}
-use Rattle.std.proofs.lemmas.Str.{IsUtf8-from_is_utf8, is_utf8-from_IsUtf8}
-use Rattle.std.specs.Str.{is_utf8}
-use Rattle.serde_json.specs.Data.{Data}
-use Rattle.serde_json.specs.Read.{read}
-use Rattle.bcs_registry_model.specs.Container.{Entries}
-use Rattle.bcs_registry.specs.Faults.{IsLeastFault, IsLeastFormatFault}
-use Rattle.bcs_registry_json.specs.Json.{IsJson, IsNotJson}
-use Rattle.bcs_registry_model.specs.Shape.{Shape}
-use Rattle.bcs_registry_json.specs.Shaped.{is_format, is_registry}
-use Rattle.bcs_registry_json.specs.Text.{WritesFormat, WritesRegistry}
-use Rattle.bcs_registry.specs.TextLaws.{FormatOrFault, RegistryOrFault}
-use Rattle.bcs_registry_model.specs.WellFormed.{Admits, IsWellFormed, has_few_levels, is_known, levels_hold, names_differ, names_known}
-use Rattle.bcs_registry_model.specs.declared.fault.RegistryFault.{RegistryFault}
-use Rattle.bcs_registry_model.specs.declared.fault.RegistryFault.TheVariants.{BadNumber, BadShape, NotJson, RepeatedName, TooNested, UnknownName}
+use Rattle.bcs_registry.proofs.Prelude.{◌≡◌, ◌⊎◌, ◌∙◌, ℕ, List, Bool, true, false, Option, Some, None, inl, inr, refl, sym, true≢false, IsUtf8-from_is_utf8, is_utf8-from_IsUtf8, is_utf8, Data, read, Entries, IsLeastFault, IsLeastFormatFault, IsJson, IsNotJson, Shape, is_format, is_registry, WritesFormat, WritesRegistry, FormatOrFault, RegistryOrFault, Admits, IsWellFormed, has_few_levels, is_known, levels_hold, names_differ, names_known, RegistryFault, BadNumber, BadShape, NotJson, RepeatedName, TooNested, UnknownName}
 use Rattle.bcs_registry.proofs.SomeText.{format_written, registry_written}
 
 json_or_none : (text : List ℕ) → IsNotJson text ⊎ ((d : Data) × IsJson text d)

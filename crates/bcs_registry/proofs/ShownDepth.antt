@@ -1,18 +1,8 @@
 -- The JSON of a well-formed registry nests less deep than serde_json reads.
-use Rattle.std.proofs.Common.{◌≤◌, ◌+◌, ◌*◌, ℕ, List, [], ◌∷◌, ◌++◌, true, ◌&&◌, Ordering, Less, Equal, Greater, map, IsTrue, sym, ◌∙◌, arith}
-use Rattle.std.proofs.lemmas.Bool.{leb-true, and_parts}
-use Rattle.std.proofs.lemmas.List.Folds.{list_all-append}
-use Rattle.std.specs.Cmp.Lexicographic.{slice_cmp}
+use Rattle.bcs_registry.proofs.Prelude.{◌≤◌, ◌+◌, ◌*◌, ℕ, List, [], ◌∷◌, ◌++◌, true, ◌&&◌, Ordering, Less, Equal, Greater, IsTrue, sym, ◌∙◌, arith, leb-true, and_parts, list_all-append, slice_cmp, list_all, flat_map, nat_cmp, match_ordering, Data, Members, no_members, member, put, depth, items_depth, members_depth, max_depth, Field, Payload, Choice, Container, Entries, unit_struct, newtype_struct, tuple_struct, field_struct, enumeration, Shape, name, option, seq, map_of, tuple, array, Shapes, no_shapes, shape, single, shown_format, shown_formats, shown_struct, shown_payload, shown_choices, shown_container, shown_containers, shown_registry, IsWellFormed, has_few_levels, levels, shapes_levels, level_limit, formats, container_formats, payload_formats, shape_list, levels_hold, names_differ, names_known}
+use Rattle.std.proofs.Common.{map}
 use Rattle.std.specs.Fmt.{decimal}
-use Rattle.std.specs.List.{list_all, flat_map}
-use Rattle.std.specs.Ordering.{nat_cmp, match_ordering}
-use Rattle.serde_json.specs.Data.{Data, Members, no_members, member, put, depth, items_depth, members_depth}
-use Rattle.serde_json.specs.Read.{max_depth}
-use Rattle.bcs_registry_model.specs.Container.{Field, Payload, Choice, Container, Entries, unit_struct, newtype_struct, tuple_struct, field_struct, enumeration}
 use Rattle.bcs_registry_model.specs.Container as container
-use Rattle.bcs_registry_model.specs.Shape.{Shape, name, option, seq, map as map_of, tuple, array, Shapes, no_shapes, shape}
-use Rattle.bcs_registry_json.specs.Shown.{single, shown_format, shown_formats, shown_struct, shown_payload, shown_choices, shown_container, shown_containers, shown_registry}
-use Rattle.bcs_registry_model.specs.WellFormed.{IsWellFormed, has_few_levels, levels, shapes_levels, level_limit, formats, container_formats, payload_formats, shape_list, levels_hold, names_differ, names_known}
 
 mutual
   depth-format : (s : Shape) → depth (shown_format s) ≤ 2 * levels s + 1

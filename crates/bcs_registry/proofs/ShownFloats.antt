@@ -1,15 +1,7 @@
 -- The JSON of a registry has no float.
-use Rattle.std.proofs.Common.{◌≡◌, ℕ, List, [], ◌∷◌, false, Ordering, Less, Equal, Greater, refl}
-use Rattle.std.proofs.lemmas.Bool.{or_parts, or_from}
-use Rattle.std.specs.Cmp.Lexicographic.{slice_cmp}
+use Rattle.bcs_registry.proofs.Prelude.{◌≡◌, ℕ, List, [], ◌∷◌, false, Ordering, Less, Equal, Greater, refl, or_parts, or_from, slice_cmp, nat_cmp, match_ordering, Data, Members, no_members, member, put, has_float, items_have_float, members_have_float, Field, Payload, Choice, Container, Entries, unit_struct, newtype_struct, tuple_struct, field_struct, enumeration, Shape, option, seq, map_of, tuple, array, Shapes, no_shapes, shape, single, shown_format, shown_formats, shown_struct, shown_payload, shown_choices, shown_container, shown_containers, shown_registry}
 use Rattle.std.specs.Fmt.{decimal}
-use Rattle.std.specs.Ordering.{nat_cmp, match_ordering}
-use Rattle.serde_json.specs.Data.{Data, Members, no_members, member, put}
-use Rattle.serde_json.specs.Written.{has_float, items_have_float, members_have_float}
-use Rattle.bcs_registry_model.specs.Container.{Field, Payload, Choice, Container, Entries, unit_struct, newtype_struct, tuple_struct, field_struct, enumeration}
 use Rattle.bcs_registry_model.specs.Container as container
-use Rattle.bcs_registry_model.specs.Shape.{Shape, option, seq, map as map_of, tuple, array, Shapes, no_shapes, shape}
-use Rattle.bcs_registry_json.specs.Shown.{single, shown_format, shown_formats, shown_struct, shown_payload, shown_choices, shown_container, shown_containers, shown_registry}
 
 no_float-put_at : (o : Ordering) (k l : List ℕ) (d e : Data) (ms : Members) → has_float d ≡ false → members_have_float (member l e ms) ≡ false → members_have_float (put k d ms) ≡ false
     → members_have_float (match_ordering o (member k d (member l e ms)) (member l d ms) (member l e (put k d ms))) ≡ false

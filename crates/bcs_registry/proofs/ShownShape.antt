@@ -1,19 +1,6 @@
 -- What is written has the shape, with its numbers in range.
-use Rattle.std.proofs.Common.{◌≡◌, ◌^◌, ◌&&◌, ◌||◌, ℕ, List, [], ◌∷◌, Bool, true, Ordering, Less, Equal, Greater, ap, decimal, is_some, nat_lt, refl}
-use Rattle.std.specs.List.{list_all, AllByRecursion}
-use Rattle.std.specs.Ordering.{match_ordering, nat_cmp}
-use Rattle.std.specs.Cmp.Lexicographic.{slice_cmp}
-use Rattle.serde_json.specs.Data.{Data, Members, no_members, member, put}
+use Rattle.bcs_registry.proofs.Prelude.{◌≡◌, ◌^◌, ◌&&◌, ◌||◌, ℕ, List, [], ◌∷◌, Bool, true, Ordering, Less, Equal, Greater, ap, decimal, is_some, nat_lt, refl, list_all, AllByRecursion, match_ordering, nat_cmp, slice_cmp, Data, Members, no_members, member, put, Choice, Container, Entries, Field, Payload, Shape, name, option, seq, map, tuple, array, Shapes, no_shapes, shape, all_fields, all_variants, are_formats, is_container, is_format, is_payload, is_registry, is_variant, is_variant_number, shown_registry, shown_choices, shown_container, shown_struct, shown_format, shown_formats, shown_payload, single, word_named, IsInRange, all_sizes_fit, payload_sizes_fit, sizes_fit, and-true_parts, or-true_right, a_number, has_number, has_sizes, numbered_below}
 use Rattle.bcs_registry_model.specs.Container as container
-use Rattle.bcs_registry_model.specs.Container.{Choice, Container, Entries, Field, Payload}
-use Rattle.bcs_registry_model.specs.Shape.{Shape, name, option, seq, map, tuple, array, Shapes, no_shapes, shape}
-use Rattle.bcs_registry_json.specs.Shaped.{all_fields, all_variants, are_formats, is_container, is_format, is_payload, is_registry, is_variant, is_variant_number}
-use Rattle.bcs_registry_json.specs.Shown.{shown_registry, shown_choices, shown_container, shown_struct, shown_format, shown_formats, shown_payload, single}
-use Rattle.bcs_registry_model.proofs.WordsBack.{word_named}
-use Rattle.bcs_registry_model.specs.Ranges.{IsInRange, all_sizes_fit, payload_sizes_fit, sizes_fit}
-use Rattle.bcs_registry_json.proofs.TwoTests.{and-true_parts, or-true_right}
-use Rattle.bcs_registry_json.proofs.VariantNumbers.{a_number}
-use Rattle.bcs_registry_json.proofs.Choices.{has_number, has_sizes, numbered_below}
 
 module _ (loose : Bool) where
   mutual

@@ -1,29 +1,8 @@
 -- JSON of the shape, with its numbers in range, writes down a format or a registry.
-use Rattle.std.proofs.Common.{◌≡◌, ◌^◌, ◌∙◌, ◌&&◌, ℕ, List, [], ◌∷◌, Bool, true, false, Option, Some, None, Less, ap, bytes_eq, codes, decimal, if◌then◌else◌, is_some, nat_cmp, nat_lt, refl, subst, sym, unwrap_or}
-use Rattle.std.proofs.lemmas.Bool.{false≢true}
-use Rattle.std.proofs.lemmas.Slice.Eq.{bytes_eq-Decides}
-use Rattle.std.specs.BTreeMap.{insert_entry}
-use Rattle.std.specs.Cmp.Lexicographic.{slice_cmp}
-use Rattle.std.specs.List.{list_all, AllByRecursion}
-use Rattle.std.specs.List.Sorted.{IsStrictlySortedBy}
-use Rattle.std.specs.Map.{keys_of}
-use Rattle.std.specs.Str.Parse.{digits_value}
-use Rattle.serde_json.specs.Data.{Data, unsigned as whole, number, string, array as list, object, Items, no_items, item, Members, no_members, member, put}
+use Rattle.bcs_registry.proofs.Prelude.{◌≡◌, ◌^◌, ◌∙◌, ◌&&◌, ℕ, List, [], ◌∷◌, Bool, true, false, Option, Some, None, Less, ap, bytes_eq, codes, decimal, if◌then◌else◌, is_some, nat_lt, refl, subst, sym, unwrap_or, false≢true, bytes_eq-Decides, insert_entry, slice_cmp, list_all, AllByRecursion, IsStrictlySortedBy, keys_of, digits_value, Data, whole, number, string, list, object, Items, no_items, item, Members, no_members, member, put, Choice, Container, Entries, Field, Payload, IsContainerText, IsFieldText, IsFieldsText, IsPayloadText, IsTupleText, IsVariantText, IsVariantsText, Shape, unit, name, option, seq, map, tuple, array, all_containers, all_fields, all_variants, are_fields, are_formats, are_variants, is_container, is_field, is_format, is_map, is_payload, is_registry, is_size, is_text, is_tuple, is_tuple_array, is_variant, is_variant_number, format_named, shown_choices, shown_container, shown_containers, shown_struct, shown_format, shown_formats, single, IsInRange, NumbersRise, all_sizes_fit, container_sizes_fit, numbers_fit, sizes_fit, IsFormatText, IsRegistryText, SomeFormat, SomeRegistry, has_number, has_sizes, insert_all, insert_rises, insert_shown, numbered_below, word_written, IsRising, MembersRising, NamesRise, names_of, read_rising, and-true_parts}
+use Rattle.std.proofs.Common.{nat_cmp}
 use Rattle.bcs_registry_model.specs.Container as container
-use Rattle.bcs_registry_model.specs.Container.{Choice, Container, Entries, Field, Payload}
-use Rattle.bcs_registry_json.specs.Parts.{IsContainerText, IsFieldText, IsFieldsText, IsPayloadText, IsTupleText, IsVariantText, IsVariantsText}
-use Rattle.bcs_registry_model.specs.Shape.{Shape, unit, name, option, seq, map, tuple, array}
-use Rattle.bcs_registry_json.specs.Shaped.{all_containers, all_fields, all_variants, are_fields, are_formats, are_variants, is_container, is_field, is_format, is_map, is_payload, is_registry, is_size, is_text, is_tuple, is_tuple_array, is_variant, is_variant_number}
-use Rattle.bcs_registry_model.specs.Words.{format_named}
-use Rattle.bcs_registry_json.specs.Shown.{shown_choices, shown_container, shown_containers, shown_struct, shown_format, shown_formats, single}
-use Rattle.bcs_registry_model.specs.Ranges.{IsInRange, NumbersRise, all_sizes_fit, container_sizes_fit, numbers_fit, sizes_fit}
-use Rattle.bcs_registry_json.specs.Text.{IsFormatText, IsRegistryText}
-use Rattle.bcs_registry.specs.TextLaws.{SomeFormat, SomeRegistry}
 use Rattle.bcs_registry.proofs.Back.{array_in, each_field, each_format, field_in, fields_in, format_in, formats_in, map_in, payload_in, size_in, text_in, variant_in}
-use Rattle.bcs_registry_json.proofs.Choices.{has_number, has_sizes, insert_all, insert_rises, insert_shown, numbered_below}
-use Rattle.bcs_registry_json.proofs.FormatText.{word_written}
-use Rattle.bcs_registry_json.proofs.RisingMembers.{IsRising, MembersRising, NamesRise, names_of, read_rising}
-use Rattle.bcs_registry_json.proofs.TwoTests.{and-true_parts}
 
 -- a test of a name that is passed
 name_is : (key k : List ℕ) → bytes_eq key k ≡ true → key ≡ k

@@ -23,7 +23,7 @@ impl Registry {
 
     /// Refuses a format that isn't admitted, by the first rule that it breaks: `TooNested`, then
     /// `UnknownName`.
-    pub(crate) fn judge_format(&self, format: &Format) -> Result<(), RegistryFault>
+    pub(crate) fn validate_format(&self, format: &Format) -> Result<(), RegistryFault>
         ensures ok { OnOk result (Admits self.now (shape_of format.now)) }
         ensures fault { IfErr result (λ e. FormatBreaks self.now (shape_of format.now) e) }
     {

@@ -15,7 +15,7 @@ use std::collections::BTreeMap;
 
 /// The registry of these containers, where it is well-formed. Else the first rule that is broken
 /// somewhere decides: `TooNested`, then `RepeatedName`, then `UnknownName`. No memory is asked for before the levels
-/// are judged, so `TooNested` comes exactly where they don't hold.
+/// are validated, so `TooNested` comes exactly where they don't hold.
 pub(crate) fn checked(
     alloc: Global,
     containers: BTreeMap<String, Container>,

@@ -49,7 +49,7 @@ impl Registry {
     {
         let value = registry_json(alloc, text)?;
         let format = written_format(alloc, &value)?;
-        self.judge_format(&format)?;
+        self.validate_format(&format)?;
         Ok(format)
     }
 }

@@ -1,18 +1,5 @@
 -- The variants of an enum by number, and one more of them.
-use Rattle.std.proofs.Common.{◌≡◌, ◌<◌, ◌^◌, ◌∙◌, ℕ, List, [], ◌∷◌, Bool, true, Ordering, Less, Equal, Greater, ap, arith, decimal, nat_cmp, nat_lt, refl, sym, subst}
-use Rattle.std.proofs.lemmas.Bool.Decides.{Decides-ltb}
-use Rattle.std.proofs.lemmas.Cmp.{nat_cmp_total, ranked}
-use Rattle.std.proofs.lemmas.Fmt.{decimal_injective}
-use Rattle.std.specs.BTreeMap.{insert_entry}
-use Rattle.std.specs.BTreeSet.{insert_key}
-use Rattle.std.specs.List.{list_all}
-use Rattle.std.specs.List.Sorted.{IsStrictlySortedBy}
-use Rattle.std.specs.Map.{keys_of}
-use Rattle.std.specs.Ordering.{match_ordering}
-use Rattle.serde_json.specs.Data.{Data, put}
-use Rattle.bcs_registry_model.specs.Container.{Choice, Payload}
-use Rattle.bcs_registry_json.specs.Shown.{shown_choices, shown_payload, single}
-use Rattle.bcs_registry_model.specs.Ranges.{payload_sizes_fit}
+use Rattle.bcs_registry_json.proofs.Prelude.{◌≡◌, ◌<◌, ◌^◌, ◌∙◌, ℕ, List, [], ◌∷◌, Bool, true, Ordering, Less, Equal, Greater, ap, arith, decimal, nat_cmp, nat_lt, refl, sym, subst, Decides-ltb, nat_cmp_total, ranked, decimal_injective, insert_entry, insert_key, list_all, IsStrictlySortedBy, keys_of, match_ordering, Data, put, Choice, Payload, shown_choices, shown_payload, single, payload_sizes_fit}
 use Rattle.bcs_registry_json.proofs.Puts.{put_again, put_either}
 use Rattle.bcs_registry_json.proofs.RisingMembers.{sorted_inserted}
 use Rattle.bcs_registry_json.proofs.TwoTests.{and-true_parts}

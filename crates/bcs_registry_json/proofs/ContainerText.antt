@@ -1,16 +1,6 @@
 -- Containers beside the JSON that writes them down.
-use Rattle.std.proofs.Common.{◌≡◌, ◌∙◌, ◌&&◌, List, [], ◌∷◌, Bool, true, Global, Vec, ap, map, refl, sym}
-use Rattle.std.specs.List.{list_all}
-use Rattle.serde_json.proofs.Views.{view-Array}
-use Rattle.serde_json.specs.Data.{array}
-use Rattle.serde_json.specs.View.{items_of, items_view, view}
+use Rattle.bcs_registry_json.proofs.Prelude.{◌≡◌, ◌∙◌, ◌&&◌, List, [], ◌∷◌, Bool, true, Global, Vec, ap, map, refl, sym, list_all, view-Array, array, items_of, items_view, view, Field, IsFieldsText, sizes_fit, field_of, shape_of, Format, Named}
 use Rattle.serde_json.specs.declared.value.Value as json
-use Rattle.bcs_registry_model.specs.Container.{Field}
-use Rattle.bcs_registry_json.specs.Parts.{IsFieldsText}
-use Rattle.bcs_registry_model.specs.Ranges.{sizes_fit}
-use Rattle.bcs_registry_model.specs.View.{field_of, shape_of}
-use Rattle.bcs_registry_model.specs.declared.format.Format.{Format}
-use Rattle.bcs_registry_model.specs.declared.named.Named.{Named}
 use Rattle.bcs_registry_json.proofs.ShownParts.{field_data, items_fields}
 
 -- ---- fields

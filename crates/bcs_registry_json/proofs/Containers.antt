@@ -1,25 +1,8 @@
 -- The containers of a registry by name, and one more of them.
-use Rattle.std.proofs.Common.{◌≡◌, ◌∙◌, ℕ, List, [], ◌∷◌, Ordering, Less, Equal, Greater, String, Global, ap, refl, string_bytes, string_cmp, subst, sym}
-use Rattle.std.specs.BTreeMap.{insert_entry}
-use Rattle.std.specs.List.{AllByRecursion}
-use Rattle.std.specs.List.Sorted.{IsStrictlySortedBy}
-use Rattle.std.specs.Map.{keys_of}
-use Rattle.std.specs.Ordering.{match_ordering}
-use Rattle.serde_json.proofs.Views.{Entry}
-use Rattle.serde_json.specs.Data.{Data, put}
-use Rattle.serde_json.specs.View.{view}
+use Rattle.bcs_registry_json.proofs.Prelude.{◌≡◌, ◌∙◌, ℕ, List, [], ◌∷◌, Ordering, Less, Equal, Greater, String, Global, ap, refl, string_bytes, string_cmp, subst, sym, insert_entry, AllByRecursion, IsStrictlySortedBy, keys_of, match_ordering, Entry, Data, put, view, IsContainerText, IsFaultBy, all_containers, is_container, is_registry, shown_container, shown_containers, IsInRange, IsRegistryText, container_of, entries_of, Container, RegistryFault, Stored, names_rise}
 use Rattle.bcs_registry_model.specs.Container as container
-use Rattle.bcs_registry_json.specs.Parts.{IsContainerText, IsFaultBy}
-use Rattle.bcs_registry_json.specs.Shaped.{all_containers, is_container, is_registry}
-use Rattle.bcs_registry_json.specs.Shown.{shown_container, shown_containers}
-use Rattle.bcs_registry_model.specs.Ranges.{IsInRange}
-use Rattle.bcs_registry_json.specs.Text.{IsRegistryText}
-use Rattle.bcs_registry_model.specs.View.{container_of, entries_of}
-use Rattle.bcs_registry_model.specs.declared.container.Container.{Container}
-use Rattle.bcs_registry_model.specs.declared.fault.RegistryFault.{RegistryFault}
 use Rattle.bcs_registry_json.proofs.Entries.{IsRead, all_read, member_false, one_read}
 use Rattle.bcs_registry_json.proofs.Rows.{passes_on}
-use Rattle.bcs_registry_model.proofs.Rising.{Stored, names_rise}
 
 abbrev pub AllInRange : List Stored → Type 0
 AllInRange es = AllByRecursion (λ (e : List ℕ × container.Container). IsInRange e.1) (entries_of es)

@@ -1,10 +1,5 @@
 -- JSON objects whose members were read one after another.
-use Rattle.std.proofs.Common.{◌≡◌, ◌∙◌, ◌&&◌, ◌++◌, List, ℕ, [], ◌∷◌, Bool, false, ap, append_assoc, append-nil, string_bytes, string_cmp, subst, sym}
-use Rattle.std.specs.List.Sorted.{IsStrictlySortedBy}
-use Rattle.std.specs.Map.{keys_of}
-use Rattle.serde_json.proofs.Views.{Entry, put_last}
-use Rattle.serde_json.specs.Data.{Data, Members, member, object, put}
-use Rattle.serde_json.specs.View.{members_view, view}
+use Rattle.bcs_registry_json.proofs.Prelude.{◌≡◌, ◌∙◌, ◌&&◌, ◌++◌, List, ℕ, [], ◌∷◌, Bool, false, ap, append_assoc, append-nil, string_bytes, string_cmp, subst, sym, IsStrictlySortedBy, keys_of, Entry, put_last, Data, Members, member, object, put, members_view, view}
 use Rattle.bcs_registry_json.proofs.TwoTests.{and-false_left, and-false_right}
 
 -- the object's members, of which the first ones were read as these

@@ -1,21 +1,6 @@
 -- Formats beside the JSON that writes them down.
-use Rattle.std.proofs.Common.{◌≡◌, ◌∙◌, ℕ, List, [], ◌∷◌, Bool, true, false, ◌&&◌, Option, Some, None, Result, IfOk, Global, Vec, bytes_eq, if◌then◌else◌, map, ap, refl, string_bytes, String, sym, option_map, rules}
-use Rattle.std.proofs.lemmas.Slice.Eq.{bytes_eq-Decides}
-use Rattle.std.specs.List.{list_all}
-use Rattle.std.specs.Option.{ok_or}
-use Rattle.serde_json.proofs.Views.{view-Array}
-use Rattle.serde_json.specs.Data.{array, string}
-use Rattle.serde_json.specs.View.{items_of, items_view, view}
+use Rattle.bcs_registry_json.proofs.Prelude.{◌≡◌, ◌∙◌, ℕ, List, [], ◌∷◌, Bool, true, false, ◌&&◌, Option, Some, None, Result, IfOk, Global, Vec, bytes_eq, if◌then◌else◌, map, ap, refl, string_bytes, String, sym, option_map, rules, bytes_eq-Decides, list_all, ok_or, view-Array, array, string, items_of, items_view, view, IsTupleText, Shape, format_named, format_words, word_among, word_of, shown_format, all_sizes_fit, sizes_fit, IsFormatText, formats_shapes, shape_of, RegistryFault, Format}
 use Rattle.serde_json.specs.declared.value.Value as json
-use Rattle.bcs_registry_json.specs.Parts.{IsTupleText}
-use Rattle.bcs_registry_model.specs.Shape.{Shape}
-use Rattle.bcs_registry_model.specs.Words.{format_named, format_words, word_among, word_of}
-use Rattle.bcs_registry_json.specs.Shown.{shown_format}
-use Rattle.bcs_registry_model.specs.Ranges.{all_sizes_fit, sizes_fit}
-use Rattle.bcs_registry_json.specs.Text.{IsFormatText}
-use Rattle.bcs_registry_model.specs.View.{formats_shapes, shape_of}
-use Rattle.bcs_registry_model.specs.declared.fault.RegistryFault.{RegistryFault}
-use Rattle.bcs_registry_model.specs.declared.format.Format.{Format}
 use Rattle.bcs_registry_json.proofs.ShownParts.{format_data, items_formats}
 
 -- ---- words

@@ -1,3 +1,4 @@
+pub mod Prelude
 pub mod TwoTests
 pub mod Turns
 pub mod Puts

@@ -1,21 +1,6 @@
 -- The containers of a registry's text, read one after another.
-use Rattle.std.proofs.Common.{◌≡◌, ◌∙◌, ◌-◌, ◌<◌, ◌≤◌, ℕ, List, [], ◌∷◌, String, Global, Some, None, ap, arith, length, string_bytes, string_cmp, subst, sym}
-use Rattle.std.specs.BTreeMap.{insert_entry}
-use Rattle.std.specs.List.Sorted.{IsStrictlySortedBy}
-use Rattle.std.specs.Map.{keys_of}
+use Rattle.bcs_registry_json.proofs.Prelude.{◌≡◌, ◌∙◌, ◌-◌, ◌<◌, ◌≤◌, ℕ, List, [], ◌∷◌, String, Global, Some, None, ap, arith, length, string_bytes, string_cmp, subst, sym, insert_entry, IsStrictlySortedBy, keys_of, members, parse_map, read_key, value, tokens, Token, read_key-shorter, value-begin_object, no_members, object, put, converted, of_json, of_members, read, Entries, IsInRange, IsOrderly, container_of, entries_of, Container, Stored, names_rise, shown_registry, shown_container, shown_containers}
 use Rattle.json.specs.Json as json
-use Rattle.json.specs.Json.{members, parse_map, read_key, value}
-use Rattle.json.specs.Lex.{tokens}
-use Rattle.json.specs.Token.{Token}
-use Rattle.json.proofs.Grammar.{read_key-shorter, value-begin_object}
-use Rattle.serde_json.specs.Data.{no_members, object, put}
-use Rattle.serde_json.specs.Read.{converted, of_json, of_members, read}
-use Rattle.bcs_registry_model.specs.Container.{Entries}
-use Rattle.bcs_registry_model.specs.Ranges.{IsInRange, IsOrderly}
-use Rattle.bcs_registry_model.specs.View.{container_of, entries_of}
-use Rattle.bcs_registry_model.specs.declared.container.Container.{Container}
-use Rattle.bcs_registry_model.proofs.Rising.{Stored, names_rise}
-use Rattle.bcs_registry_json.specs.Shown.{shown_registry, shown_container, shown_containers}
 use Rattle.bcs_registry_json.proofs.Containers.{AllInRange, insert_in_range, insert_shown}
 use Rattle.bcs_registry_json.proofs.Turns.{converted-object, member_read, members_over, whole_read}
 

@@ -1,11 +1,5 @@
 -- Members that are put into an object in any order.
-use Rattle.std.proofs.Common.{◌≡◌, ◌∙◌, List, ℕ, Ordering, Less, Equal, Greater, ap, refl, sym, nat_cmp}
-use Rattle.std.proofs.lemmas.Cmp.{nat_list_cmp_total, tied_itself}
-use Rattle.std.proofs.lemmas.Map.Text.{is_eq-slice_cmp}
-use Rattle.std.proofs.lemmas.Slice.Eq.{bytes_eq-Decides}
-use Rattle.std.specs.Cmp.Lexicographic.{slice_cmp}
-use Rattle.std.specs.Ordering.{is_eq, ordering_reverse}
-use Rattle.serde_json.specs.Data.{Data, Members, no_members, member, put}
+use Rattle.bcs_registry_json.proofs.Prelude.{◌≡◌, ◌∙◌, List, ℕ, Ordering, Less, Equal, Greater, ap, refl, sym, nat_cmp, nat_list_cmp_total, tied_itself, is_eq-slice_cmp, bytes_eq-Decides, slice_cmp, is_eq, ordering_reverse, Data, Members, no_members, member, put}
 
 abbrev cmp : List ℕ → List ℕ → Ordering
 cmp = slice_cmp nat_cmp

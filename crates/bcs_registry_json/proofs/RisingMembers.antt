@@ -1,18 +1,7 @@
 -- Keys in order, and one more of them; the members of what serde_json reads.
-use Rattle.std.proofs.Common.{◌≡◌, ◌∙◌, ℕ, List, [], ◌∷◌, Option, Some, None, Ordering, Less, Equal, Greater, ap, nat_cmp, option_map, refl, subst, sym}
-use Rattle.std.proofs.lemmas.Cmp.{nat_list_cmp_total}
-use Rattle.std.specs.BTreeSet.{insert_key}
-use Rattle.std.specs.Cmp.{IsTotalOrder}
-use Rattle.std.specs.Cmp.Lexicographic.{slice_cmp}
-use Rattle.std.specs.List.{AllByRecursion}
-use Rattle.std.specs.List.Sorted.{IsStrictlySortedBy}
-use Rattle.std.specs.Ordering.{match_ordering, ordering_reverse}
+use Rattle.bcs_registry_json.proofs.Prelude.{◌≡◌, ◌∙◌, ℕ, List, [], ◌∷◌, Option, Some, None, Ordering, Less, Equal, Greater, ap, nat_cmp, option_map, refl, subst, sym, nat_list_cmp_total, insert_key, IsTotalOrder, slice_cmp, AllByRecursion, IsStrictlySortedBy, match_ordering, ordering_reverse, Json, tokens, Data, null, boolean, number, string, array, object, Items, no_items, item, Members, no_members, member, put, max_depth, number_of, of_items, of_json, of_members, read}
 use Rattle.std.specs.Prelude.{option_and_then}
 use Rattle.json.specs.Json as json
-use Rattle.json.specs.Json.{Json}
-use Rattle.json.specs.Lex.{tokens}
-use Rattle.serde_json.specs.Data.{Data, null, boolean, number, string, array, object, Items, no_items, item, Members, no_members, member, put}
-use Rattle.serde_json.specs.Read.{max_depth, number_of, of_items, of_json, of_members, read}
 
 -- ---- one more key
 

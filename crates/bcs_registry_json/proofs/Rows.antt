@@ -1,15 +1,5 @@
 -- JSON arrays whose elements were read one after another.
-use Rattle.std.proofs.Common.{◌≡◌, ◌∙◌, ◌+◌, ◌<◌, ◌≤◌, ◌&&◌, ℕ, zero, suc, List, [], ◌∷◌, ◌++◌, Bool, true, false, Global, Vec, length, map, take, get_or, ap, arith, refl, sym}
-use Rattle.std.proofs.lemmas.List.{map-append, take_all, take_more}
-use Rattle.std.proofs.lemmas.List.Folds.{list_all-append}
-use Rattle.std.specs.List.{list_all}
-use Rattle.serde_json.proofs.Views.{view-Array}
-use Rattle.serde_json.specs.Data.{Data, Items, array, depth, item, items_depth}
-use Rattle.serde_json.specs.View.{items_of, items_view, view}
-use Rattle.serde_json.specs.declared.value.Value.{Array, Value}
-use Rattle.bcs_registry_json.specs.Parts.{IsFaultBy}
-use Rattle.bcs_registry_model.specs.declared.fault.RegistryFault.{RegistryFault}
-use Rattle.bcs_registry_model.specs.declared.fault.RegistryFault.TheVariants.{BadNumber, BadShape, NotJson, OutOfMemory, RepeatedName, TooNested, UnknownName}
+use Rattle.bcs_registry_json.proofs.Prelude.{◌≡◌, ◌∙◌, ◌+◌, ◌<◌, ◌≤◌, ◌&&◌, ℕ, zero, suc, List, [], ◌∷◌, ◌++◌, Bool, true, false, Global, Vec, length, map, take, get_or, ap, arith, refl, sym, map-append, take_all, take_more, list_all-append, list_all, view-Array, Data, Items, array, depth, item, items_depth, items_of, items_view, view, Array, Value, IsFaultBy, RegistryFault, BadNumber, BadShape, NotJson, OutOfMemory, RepeatedName, TooNested, UnknownName}
 use Rattle.bcs_registry_json.proofs.TwoTests.{and-false_left, and-false_right}
 
 -- a fault of a part is one of the whole

@@ -1,22 +1,10 @@
 -- The JSON of a registry, part by part, as a loop over the registry makes it.
-use Rattle.std.proofs.Common.{arith, sym, ◌≡◌, ◌<◌, ◌^◌, List, [], ◌∷◌, ◌++◌, Less, Greater, string_bytes, map, refl, ap, ◌∙◌}
-use Rattle.std.proofs.lemmas.Cmp.{nat_list_cmp_total, ranked}
-use Rattle.std.specs.Cmp.Lexicographic.{slice_cmp}
+use Rattle.bcs_registry_json.proofs.Prelude.{arith, sym, ◌≡◌, ◌<◌, ◌^◌, List, [], ◌∷◌, ◌++◌, Less, Greater, string_bytes, map, refl, ap, ◌∙◌, nat_list_cmp_total, ranked, slice_cmp, AllByRecursion, IsStrictlySortedBy, keys_of, ordering_reverse, Data, member, put, items_of, single, shown_format, shown_formats, shown_struct, shown_payload, shown_choices, shown_container, shown_containers, shape_of, formats_shapes, field_of, payload_of, choice_of, container_of, entries_of, Format, Named, Stored, Variant, below_later}
 use Rattle.std.specs.Fmt.{decimal}
-use Rattle.std.specs.List.{AllByRecursion}
-use Rattle.std.specs.List.Sorted.{IsStrictlySortedBy}
-use Rattle.std.specs.Map.{keys_of}
-use Rattle.std.specs.Ordering.{nat_cmp, ordering_reverse}
+use Rattle.std.specs.Ordering.{nat_cmp}
 use Rattle.std.specs.String.{string_cmp}
-use Rattle.serde_json.specs.Data.{Data, member, put}
-use Rattle.serde_json.specs.View.{items_of}
-use Rattle.bcs_registry_json.specs.Shown.{single, shown_format, shown_formats, shown_struct, shown_payload, shown_choices, shown_container, shown_containers}
-use Rattle.bcs_registry_model.specs.View.{shape_of, formats_shapes, field_of, payload_of, choice_of, container_of, entries_of}
-use Rattle.bcs_registry_model.specs.declared.format.Format.{Format}
-use Rattle.bcs_registry_model.specs.declared.named.Named.{Named}
 use Rattle.bcs_registry_json.proofs.Choices.{texts_differ}
 use Rattle.bcs_registry_json.proofs.Puts.{put_either}
-use Rattle.bcs_registry_model.proofs.Rising.{Stored, Variant, below_later}
 
 abbrev pub format_data : Format → Data
 format_data f = shown_format (shape_of f)

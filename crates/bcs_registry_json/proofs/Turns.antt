@@ -1,13 +1,6 @@
 -- The loops of the grammar of JSON, a turn at a time, in what `serde_json` reads.
-use Rattle.std.proofs.Common.{◌≡◌, ℕ, ◌-◌, ◌<◌, ◌≤◌, List, [], ◌∷◌, ◌++◌, length, Option, Some, None, option_map, option_and_then, refl, ap, ◌∙◌}
-use Rattle.json.specs.Token.{Token}
+use Rattle.bcs_registry_json.proofs.Prelude.{◌≡◌, ℕ, ◌-◌, ◌<◌, ◌≤◌, List, [], ◌∷◌, ◌++◌, length, Option, Some, None, option_map, option_and_then, refl, ap, ◌∙◌, Token, Parse, parse_map, after_end_array, read_key, items, members, if_last, items_end, items_more, members_end, members_more, Data, array, object, Items, no_items, item, Members, no_members, put, of_json, of_items, of_members, converted, view, items_view, Value}
 use Rattle.json.specs.Json as json
-use Rattle.json.specs.Json.{Parse, parse_map, after_end_array, read_key, items, members, if_last}
-use Rattle.json.proofs.Grammar.{items_end, items_more, members_end, members_more}
-use Rattle.serde_json.specs.Data.{Data, array, object, Items, no_items, item, Members, no_members, put}
-use Rattle.serde_json.specs.Read.{of_json, of_items, of_members, converted}
-use Rattle.serde_json.specs.View.{view, items_view}
-use Rattle.serde_json.specs.declared.value.Value.{Value}
 
 abbrev pick : {A : Type 0} → A → Option A → A
 pick d None = d

@@ -1,5 +1,5 @@
 -- Tests that are made of two.
-use Rattle.std.proofs.Common.{◌≡◌, ◌&&◌, ◌||◌, Bool, true, false, refl}
+use Rattle.bcs_registry_json.proofs.Prelude.{◌≡◌, ◌&&◌, ◌||◌, Bool, true, false, refl}
 
 pub and-false_left : (a b : Bool) → a ≡ false → (a && b) ≡ false
 and-false_left a b h = rw h

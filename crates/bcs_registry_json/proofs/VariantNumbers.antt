@@ -1,10 +1,5 @@
 -- Plain decimal texts of numbers that fit 32 bits.
-use Rattle.std.proofs.Common.{◌≡◌, ◌<◌, ◌^◌, ◌∙◌, ℕ, true, bytes_eq, nat_lt, decimal, ap, arith, refl, sym}
-use Rattle.std.proofs.lemmas.Bool.Decides.{Decides-ltb}
-use Rattle.std.proofs.lemmas.Fmt.{decimal_is_IsNumeral}
-use Rattle.std.proofs.lemmas.Slice.Eq.{bytes_eq-Decides}
-use Rattle.std.specs.Str.Parse.{digits_value}
-use Rattle.bcs_registry_json.specs.Shaped.{is_variant_number}
+use Rattle.bcs_registry_json.proofs.Prelude.{◌≡◌, ◌<◌, ◌^◌, ◌∙◌, ℕ, true, bytes_eq, nat_lt, decimal, ap, arith, refl, sym, Decides-ltb, decimal_is_IsNumeral, bytes_eq-Decides, digits_value, is_variant_number}
 
 pub a_number : (n : ℕ) → n < 2 ^ 32 → is_variant_number (decimal n) ≡ true
 a_number n small =

@@ -1,27 +1,9 @@
 -- The variants that are read of an enum's object, by number.
-use Rattle.std.proofs.Common.{◌≡◌, ◌<◌, ◌^◌, ◌∙◌, ◌&&◌, ◌||◌, ℕ, List, [], ◌∷◌, Bool, true, false, Ordering, Less, Equal, Greater, ap, decimal, map, nat_cmp, refl, string_bytes}
-use Rattle.std.proofs.lemmas.Bool.Decides.{Decides-ltb}
-use Rattle.std.specs.BTreeMap.{insert_entry}
-use Rattle.std.specs.List.{list_all}
-use Rattle.std.specs.List.Sorted.{IsStrictlySortedBy}
-use Rattle.std.specs.Map.{keys_of}
-use Rattle.std.specs.Ordering.{match_ordering}
-use Rattle.serde_json.proofs.Views.{Entry}
-use Rattle.serde_json.specs.Data.{Data, put}
-use Rattle.serde_json.specs.View.{view}
-use Rattle.bcs_registry_model.specs.Container.{Payload}
-use Rattle.bcs_registry_json.specs.Parts.{IsFaultBy, IsVariantText, IsVariantsText}
-use Rattle.bcs_registry_json.specs.Shaped.{all_variants, are_variants, is_variant, is_variant_number}
-use Rattle.bcs_registry_json.specs.Shown.{shown_choices}
-use Rattle.bcs_registry_model.specs.View.{choice_of, payload_of}
-use Rattle.bcs_registry_model.specs.declared.fault.RegistryFault.{RegistryFault}
-use Rattle.bcs_registry_model.specs.declared.named.Named.{Named}
-use Rattle.bcs_registry_model.specs.declared.variant_format.VariantFormat.{VariantFormat}
+use Rattle.bcs_registry_json.proofs.Prelude.{◌≡◌, ◌<◌, ◌^◌, ◌∙◌, ◌&&◌, ◌||◌, ℕ, List, [], ◌∷◌, Bool, true, false, Ordering, Less, Equal, Greater, ap, decimal, map, nat_cmp, refl, string_bytes, Decides-ltb, insert_entry, list_all, IsStrictlySortedBy, keys_of, match_ordering, Entry, Data, put, view, Payload, IsFaultBy, IsVariantText, IsVariantsText, all_variants, are_variants, is_variant, is_variant_number, shown_choices, choice_of, payload_of, RegistryFault, Named, VariantFormat, Variant, numbers_rise}
 use Rattle.bcs_registry_json.proofs.Choices.{has_number, has_sizes, insert_all, insert_shown}
 use Rattle.bcs_registry_json.proofs.Entries.{IsRead, all_read, member_false, one_read}
 use Rattle.bcs_registry_json.proofs.Rows.{passes_on}
 use Rattle.bcs_registry_json.proofs.TwoTests.{and-false_left, and-false_right}
-use Rattle.bcs_registry_model.proofs.Rising.{Variant, numbers_rise}
 
 -- the variant of a number in a map, as a choice
 abbrev pub variant_of : Named VariantFormat → List ℕ × Payload

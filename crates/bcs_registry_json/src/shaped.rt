@@ -1,8 +1,7 @@
 //! Whether JSON has the shape of a registry or of a format, whatever numbers stand in it. No call takes memory.
 ghost use Rattle.std.specs.Prelude.{◌≡◌, true};
-ghost use Rattle.serde_json.specs.Data.{depth};
 ghost use Rattle.serde_json.specs.View.{view};
-ghost use Rattle.bcs_registry_json.specs.Shaped.{are_fields, are_variants, is_container, is_field, is_format, is_map, is_payload, is_registry, is_size, is_tuple, is_tuple_array, is_variant};
+ghost use Rattle.bcs_registry_json.specs.Shaped.{are_fields, are_variants, is_container, is_field, is_format, is_map, is_payload, is_registry, is_tuple, is_tuple_array, is_variant};
 
 use crate::members::{only_member, two_members};
 use bcs_registry_model::words::word_format;

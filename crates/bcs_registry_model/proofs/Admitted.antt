@@ -1,16 +1,7 @@
 -- The formats inside a well-formed registry.
-use Rattle.std.proofs.Common.{◌≡◌, ℕ, ◌≤◌, List, [], ◌∷◌, map, Option, Some, None, Bool, true, false, cond, ◌&&◌, ◌⊎◌, inl, inr, IsTrue, refl, sym, ap, subst, ◌∙◌, arith}
-use Rattle.std.specs.List.{list_all, flat_map}
-use Rattle.std.specs.Map.{lookup}
-use Rattle.std.specs.Option.{option_map_or}
-use Rattle.std.proofs.lemmas.Bool.{leb-true, and_parts, and_from}
-use Rattle.std.proofs.lemmas.List.Folds.{list_all-append}
-use Rattle.std.proofs.lemmas.Option.{none-some, same_Some}
+use Rattle.bcs_registry_model.proofs.Prelude.{◌≡◌, ℕ, ◌≤◌, List, [], ◌∷◌, map, Option, Some, None, Bool, true, false, cond, ◌&&◌, ◌⊎◌, inl, inr, IsTrue, refl, sym, ap, subst, ◌∙◌, arith, list_all, flat_map, lookup, option_map_or, leb-true, and_parts, and_from, list_all-append, none-some, same_Some, Shape, Shapes, no_shapes, shape, Field, Payload, Choice, Container, unit_struct, newtype_struct, tuple_struct, field_struct, enumeration, Entries, Content, of, one_of, nothing, container_at, choice_numbered, content, content_at, choice_at, payload_shape, field_shapes, shape_list, payload_formats, container_formats, levels, shapes_levels, has_few_levels, is_known, are_known, levels_hold, names_differ, names_known, IsWellFormed, admits, Admits}
 use Rattle.bcs_registry_model.specs.Shape as shape
-use Rattle.bcs_registry_model.specs.Shape.{Shape, Shapes, no_shapes, shape}
 use Rattle.bcs_registry_model.specs.Container as container
-use Rattle.bcs_registry_model.specs.Container.{Field, Payload, Choice, Container, unit_struct, newtype_struct, tuple_struct, field_struct, enumeration, Entries, Content, of, one_of, nothing, container_at, choice_numbered, content, content_at, choice_at, payload_shape, field_shapes}
-use Rattle.bcs_registry_model.specs.WellFormed.{shape_list, payload_formats, container_formats, levels, shapes_levels, has_few_levels, is_known, are_known, levels_hold, names_differ, names_known, IsWellFormed, admits, Admits}
 
 -- what passes everywhere in the rows of a map passes in the row that is found
 pub list_all-found : {K X Y : Type 0} (p : Y → Bool) (row : X → List Y) (test : K → Bool) (es : List (K × X)) (x : X) → list_all p (flat_map (λ e. row e.1) es) ≡ true → lookup test es ≡ Some x → list_all p (row x) ≡ true

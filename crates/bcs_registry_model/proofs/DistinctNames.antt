@@ -1,14 +1,6 @@
 -- Names that are told apart one after another, by the set of those before.
-use Rattle.std.proofs.Common.{◌≡◌, ℕ, ◌+◌, ◌<◌, List, [], ◌∷◌, length, get_or, drop, map, Bor, Bool, true, false, not, ◌&&◌, ◌||◌, cond, refl, sym, ap, ◌∙◌}
-use Rattle.std.specs.List.{list_all, list_any}
-use Rattle.std.specs.Str.{bytes_eq}
-use Rattle.std.specs.Ordering.{is_eq, nat_cmp}
-use Rattle.std.specs.Cmp.Lexicographic.{slice_cmp}
-use Rattle.std.specs.BTreeMap.{is_at}
-use Rattle.std.specs.BTreeSet.{BTreeSet, contains_by, Updates}
-use Rattle.std.proofs.lemmas.List.{drop_more}
-use Rattle.std.proofs.lemmas.Map.Text.{is_eq-slice_cmp}
-use Rattle.bcs_registry_model.specs.WellFormed.{are_distinct}
+use Rattle.bcs_registry_model.proofs.Prelude.{◌≡◌, ℕ, ◌+◌, ◌<◌, List, [], ◌∷◌, length, get_or, drop, map, Bor, Bool, true, false, not, ◌&&◌, ◌||◌, cond, refl, sym, ap, ◌∙◌, list_all, list_any, bytes_eq, is_eq, nat_cmp, slice_cmp, is_at, BTreeSet, contains_by, drop_more, is_eq-slice_cmp, are_distinct}
+use Rattle.std.specs.BTreeSet.{Updates}
 
 -- none of the names is among those before, nor equal to one before it
 abbrev pub all_new : (List ℕ → Bool) → List (List ℕ) → Bool

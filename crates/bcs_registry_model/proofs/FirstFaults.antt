@@ -1,15 +1,5 @@
 -- The first fault that the program finds is the first fault, and no fault means that the registry grows.
-use Rattle.std.proofs.Common.{◌≡◌, ◌≢◌, ◌↔◌, ℕ, List, [], ◌∷◌, ◌++◌, Option, Some, None, is_some, Result, Ok, Err, Bool, true, false, All, refl, sym, ap, subst, ◌∙◌}
-use Rattle.std.specs.Option.{option_or, option_map_or}
-use Rattle.std.specs.Result.{result_err, IsOk, IsErrOf}
-use Rattle.std.proofs.lemmas.Bool.{false≢true, true≢false}
-use Rattle.std.proofs.lemmas.List.Elements.{All-nil, All-cons, All-head, All-tail}
-use Rattle.bcs_registry_model.specs.Container.{Payload, Choice, Container, unit_struct, newtype_struct, tuple_struct, field_struct, enumeration, Entries, container_at, choice_numbered}
-use Rattle.bcs_registry_model.specs.Equality.{same_variant, same_struct}
-use Rattle.bcs_registry_model.specs.Growing.{first_fault, fault_unless, choice_fault, container_fault, entry_fault, growth_fault}
-use Rattle.bcs_registry_model.specs.Grows.{IsFirst, HasChoice, LacksChoice, GrowsTo, BreaksTo, HasContainer, LacksContainer, Grows, IsFirstGrowthFault}
-use Rattle.bcs_registry_model.specs.declared.growth_fault.GrowthFault.{GrowthFault}
-use Rattle.bcs_registry_model.specs.declared.growth_fault.GrowthFault.TheVariants.{Missing, Changed, VariantMissing, VariantChanged}
+use Rattle.bcs_registry_model.proofs.Prelude.{◌≡◌, ◌≢◌, ◌↔◌, ℕ, List, [], ◌∷◌, ◌++◌, Option, Some, None, is_some, Result, Ok, Err, Bool, true, false, All, refl, sym, ap, subst, ◌∙◌, option_or, option_map_or, result_err, IsOk, IsErrOf, false≢true, true≢false, All-nil, All-cons, All-head, All-tail, Payload, Choice, Container, unit_struct, newtype_struct, tuple_struct, field_struct, enumeration, Entries, container_at, choice_numbered, same_variant, same_struct, first_fault, fault_unless, choice_fault, container_fault, entry_fault, growth_fault, IsFirst, HasChoice, LacksChoice, GrowsTo, BreaksTo, HasContainer, LacksContainer, Grows, IsFirstGrowthFault, GrowthFault, Missing, Changed, VariantMissing, VariantChanged}
 use Rattle.bcs_registry_model.proofs.Sameness.{same_variant-true, same_struct-true, same_shape-refl, same_shapes-refl, same_fields-refl, same_variant-refl}
 
 some≢none : {A : Type 0} (x : A) → Some x ≡ None → ⊥

@@ -1,7 +1,6 @@
 -- Which shape each `Format` stands for.
-use Rattle.std.proofs.Common.{◌≡◌, ℕ, Box, Vec, Global, ap, ◌∙◌, rules}
+use Rattle.bcs_registry_model.proofs.Prelude.{◌≡◌, ℕ, Box, Vec, Global, ap, ◌∙◌, rules, shape_of, formats_shapes}
 use Rattle.bcs_registry_model.specs.Shape as shape
-use Rattle.bcs_registry_model.specs.View.{shape_of, formats_shapes}
 use Rattle.bcs_registry_model.specs.declared.format.Format as format
 
 module _ (f : format.Format) where

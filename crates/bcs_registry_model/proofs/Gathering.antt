@@ -1,23 +1,6 @@
 -- Numbers by name, as they are gathered from an enum's variants and from a registry's enums.
-use Rattle.std.proofs.Common.{◌≡◌, ℕ, List, [], ◌∷◌, map, String, Global, Option, Some, None, is_some, Bool, true, false, cond, string_bytes, Less, refl, sym, ap, subst, ◌∙◌}
-use Rattle.std.specs.BTreeMap.{BTreeMap, Updates, get_by_text}
-use Rattle.std.specs.List.{AllByRecursion}
-use Rattle.std.specs.List.Sorted.{IsStrictlySortedBy}
-use Rattle.std.specs.Map.{keys_of}
-use Rattle.std.specs.Option.{option_or, option_map_or}
-use Rattle.std.specs.Ordering.{is_eq}
-use Rattle.std.specs.Str.{bytes_eq}
-use Rattle.std.specs.String.{string_cmp}
-use Rattle.std.proofs.lemmas.Bool.{true≢false, false≢true}
-use Rattle.std.proofs.lemmas.Cmp.{nat_list_eq_equiv}
-use Rattle.std.proofs.lemmas.Map.Text.{btree_map_updates_text, is_eq-slice_cmp}
-use Rattle.std.proofs.lemmas.Slice.Eq.{bytes_eq-Decides}
-use Rattle.bcs_registry_model.specs.Container.{enumeration, container_at, number_called, variant_number}
-use Rattle.bcs_registry_model.specs.View.{choice_of, container_of, entries_of}
+use Rattle.bcs_registry_model.proofs.Prelude.{◌≡◌, ℕ, List, [], ◌∷◌, map, String, Global, Option, Some, None, is_some, Bool, true, false, cond, string_bytes, Less, refl, sym, ap, subst, ◌∙◌, BTreeMap, Updates, get_by_text, AllByRecursion, IsStrictlySortedBy, keys_of, option_or, option_map_or, is_eq, bytes_eq, string_cmp, true≢false, false≢true, nat_list_eq_equiv, btree_map_updates_text, is_eq-slice_cmp, bytes_eq-Decides, enumeration, container_at, number_called, variant_number, choice_of, container_of, entries_of, UnitStruct, NewTypeStruct, TupleStruct, Struct, Enum, Named, VariantFormat}
 use Rattle.bcs_registry_model.specs.declared.container.Container as declared
-use Rattle.bcs_registry_model.specs.declared.container.Container.TheVariants.{UnitStruct, NewTypeStruct, TupleStruct, Struct, Enum}
-use Rattle.bcs_registry_model.specs.declared.named.Named.{Named}
-use Rattle.bcs_registry_model.specs.declared.variant_format.VariantFormat.{VariantFormat}
 use Rattle.bcs_registry_model.proofs.Lookup.{map-cond}
 use Rattle.bcs_registry_model.proofs.Rising.{Stored, Variant}
 

@@ -1,19 +1,6 @@
 -- What stands in a registry that an older one grew to.
-use Rattle.std.proofs.Common.{◌≡◌, ℕ, List, [], ◌∷◌, Option, Some, None, is_some, Bool, true, false, cond, ◌==◌, All, refl, sym, ap, subst, ◌∙◌}
-use Rattle.std.specs.Map.{lookup}
-use Rattle.std.specs.Option.{option_map_or}
-use Rattle.std.specs.Str.{bytes_eq}
-use Rattle.std.proofs.lemmas.Bool.{false≢true, and_parts, and_from}
-use Rattle.std.proofs.lemmas.Bool.Decides.{Decides-eqb}
-use Rattle.std.proofs.lemmas.List.Elements.{All-head, All-tail}
-use Rattle.std.proofs.lemmas.Option.{none-some, same_Some}
-use Rattle.std.proofs.lemmas.Slice.Eq.{bytes_eq-Decides}
+use Rattle.bcs_registry_model.proofs.Prelude.{◌≡◌, ℕ, List, [], ◌∷◌, Option, Some, None, is_some, Bool, true, false, cond, ◌==◌, All, refl, sym, ap, subst, ◌∙◌, lookup, option_map_or, bytes_eq, false≢true, and_parts, and_from, Decides-eqb, All-head, All-tail, none-some, same_Some, bytes_eq-Decides, Shape, Shapes, no_shapes, shape, Payload, Choice, Container, unit_struct, newtype_struct, tuple_struct, field_struct, enumeration, Entries, Content, of, one_of, nothing, container_at, choice_numbered, content, content_at, choice_at, payload_shape, HasChoice, GrowsTo, HasContainer, Grows, GrowthKeepsAdmitting, has_few_levels, is_known, are_known}
 use Rattle.bcs_registry_model.specs.Shape as shape
-use Rattle.bcs_registry_model.specs.Shape.{Shape, Shapes, no_shapes, shape}
-use Rattle.bcs_registry_model.specs.Container.{Payload, Choice, Container, unit_struct, newtype_struct, tuple_struct, field_struct, enumeration, Entries, Content, of, one_of, nothing, container_at, choice_numbered, content, content_at, choice_at, payload_shape}
-use Rattle.bcs_registry_model.specs.Grows.{HasChoice, GrowsTo, HasContainer, Grows}
-use Rattle.bcs_registry_model.specs.Laws.{GrowthKeepsAdmitting}
-use Rattle.bcs_registry_model.specs.WellFormed.{has_few_levels, is_known, are_known}
 
 -- what is found under a key that passes the test stands in the list, under a key that passes
 found_in : {K X : Type 0} (test : K → Bool) (P : K × X → Type 0) (xs : List (K × X)) (x : X) → All P xs → lookup test xs ≡ Some x → (k : K) × (test k ≡ true) × P (k, x)

@@ -1,18 +1,6 @@
 -- What a look-up in the newer map gives, as the search for the first fault of growth sees it in the mirror.
-use Rattle.std.proofs.Common.{◌≡◌, ℕ, List, map, String, Global, Option, Some, option_map, Bor, string_bytes, sym, ap, ◌∙◌}
-use Rattle.std.specs.Ordering.{nat_cmp}
-use Rattle.std.specs.Cmp.Lexicographic.{slice_cmp}
-use Rattle.std.specs.Map.{lookup}
-use Rattle.std.specs.Option.{option_copied, option_map_or}
-use Rattle.std.specs.BTreeMap.{is_at}
-use Rattle.bcs_registry_model.specs.Container.{Payload}
-use Rattle.bcs_registry_model.specs.Equality.{same_variant}
-use Rattle.bcs_registry_model.specs.Growing.{fault_unless, choice_fault, container_fault, entry_fault}
-use Rattle.bcs_registry_model.specs.View.{payload_of, choice_of, container_of, entries_of}
-use Rattle.bcs_registry_model.specs.declared.named.Named.{Named}
-use Rattle.bcs_registry_model.specs.declared.variant_format.VariantFormat.{VariantFormat}
+use Rattle.bcs_registry_model.proofs.Prelude.{◌≡◌, ℕ, List, map, String, Global, Option, Some, option_map, Bor, string_bytes, sym, ap, ◌∙◌, nat_cmp, slice_cmp, lookup, option_copied, option_map_or, is_at, Payload, same_variant, fault_unless, choice_fault, container_fault, entry_fault, payload_of, choice_of, container_of, entries_of, Named, VariantFormat, Missing, VariantMissing, VariantChanged}
 use Rattle.bcs_registry_model.specs.declared.container.Container as declared
-use Rattle.bcs_registry_model.specs.declared.growth_fault.GrowthFault.TheVariants.{Missing, VariantMissing, VariantChanged}
 use Rattle.bcs_registry_model.proofs.Lookup.{find-choice, find-container}
 
 abbrev variant_of : Named VariantFormat → List ℕ × Payload

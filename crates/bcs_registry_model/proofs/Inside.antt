@@ -1,15 +1,5 @@
 -- The formats and the names inside a map's values, and inside its mirror.
-use Rattle.std.proofs.Common.{◌≡◌, ℕ, List, [], ◌∷◌, ◌++◌, map, String, Global, string_bytes, refl, ap}
-use Rattle.std.specs.List.{flat_map}
-use Rattle.std.specs.Map.{values_of}
-use Rattle.std.proofs.Math.Bool.{and-true}
-use Rattle.std.proofs.lemmas.List.Folds.{list_all-append}
-use Rattle.bcs_registry_model.specs.Shape.{Shape}
-use Rattle.bcs_registry_model.specs.View.{field_of, payload_of, choice_of, container_of, entries_of}
-use Rattle.bcs_registry_model.specs.WellFormed.{payload_formats, container_formats, formats, payload_names, container_names, name_lists}
-use Rattle.bcs_registry_model.specs.declared.format.Format.{Format}
-use Rattle.bcs_registry_model.specs.declared.named.Named.{Named}
-use Rattle.bcs_registry_model.specs.declared.variant_format.VariantFormat.{VariantFormat}
+use Rattle.bcs_registry_model.proofs.Prelude.{◌≡◌, ℕ, List, [], ◌∷◌, ◌++◌, map, String, Global, string_bytes, refl, ap, flat_map, values_of, and-true, list_all-append, Shape, field_of, payload_of, choice_of, container_of, entries_of, payload_formats, container_formats, formats, payload_names, container_names, name_lists, Format, Named, VariantFormat}
 use Rattle.bcs_registry_model.specs.declared.container.Container as declared
 
 -- the formats inside a row of containers

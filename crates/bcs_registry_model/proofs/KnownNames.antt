@@ -1,14 +1,5 @@
 -- Whether a name is one of the map, and of its mirror.
-use Rattle.std.proofs.Common.{◌≡◌, ℕ, List, String, Global, Option, Some, None, option_map, is_some, Bool, true, ◌&&◌, string_bytes, refl, sym, ap, ◌∙◌, rules}
-use Rattle.std.specs.Ordering.{nat_cmp}
-use Rattle.std.specs.Cmp.Lexicographic.{slice_cmp}
-use Rattle.std.specs.Map.{lookup}
-use Rattle.std.specs.BTreeMap.{is_at}
-use Rattle.bcs_registry_model.specs.Shape.{Shape, name}
-use Rattle.bcs_registry_model.specs.Container.{Entries, container_at}
-use Rattle.bcs_registry_model.specs.View.{shape_of, container_of, entries_of}
-use Rattle.bcs_registry_model.specs.WellFormed.{has_few_levels, is_known, admits}
-use Rattle.bcs_registry_model.specs.declared.format.Format.{Format, TypeName, the_lemmas}
+use Rattle.bcs_registry_model.proofs.Prelude.{◌≡◌, ℕ, List, String, Global, Option, Some, None, option_map, is_some, Bool, true, ◌&&◌, string_bytes, refl, sym, ap, ◌∙◌, rules, nat_cmp, slice_cmp, lookup, is_at, Shape, name, Entries, container_at, shape_of, container_of, entries_of, has_few_levels, is_known, admits, Format, TypeName, the_lemmas}
 use Rattle.bcs_registry_model.specs.declared.container.Container as declared
 use Rattle.bcs_registry_model.proofs.Lookup.{find-container}
 

@@ -1,3 +1,4 @@
+pub mod Prelude
 pub mod FormatViews
 pub mod WordsBack
 pub mod KindShapes

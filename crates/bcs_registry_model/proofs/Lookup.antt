@@ -1,16 +1,5 @@
 -- Looking up a container and a variant, in the map and in its mirror.
-use Rattle.std.proofs.Common.{◌≡◌, ℕ, List, [], ◌∷◌, String, Global, Option, Some, None, option_map, Bor, Bool, true, false, ◌==◌, cond, string_bytes, map, refl, sym, rules}
-use Rattle.std.specs.Ordering.{is_eq, nat_cmp}
-use Rattle.std.specs.Cmp.Lexicographic.{slice_cmp}
-use Rattle.std.specs.Cmp.Rules.{comparing}
-use Rattle.std.specs.Map.{lookup}
-use Rattle.std.specs.Option.{option_copied}
-use Rattle.std.specs.BTreeMap.{is_at}
-use Rattle.std.proofs.lemmas.Map.Text.{is_eq-slice_cmp}
-use Rattle.bcs_registry_model.specs.Container.{container_at, choice_numbered}
-use Rattle.bcs_registry_model.specs.View.{choice_of, payload_of, container_of, entries_of}
-use Rattle.bcs_registry_model.specs.declared.named.Named.{Named}
-use Rattle.bcs_registry_model.specs.declared.variant_format.VariantFormat.{VariantFormat}
+use Rattle.bcs_registry_model.proofs.Prelude.{◌≡◌, ℕ, List, [], ◌∷◌, String, Global, Option, Some, None, option_map, Bor, Bool, true, false, ◌==◌, cond, string_bytes, map, refl, sym, rules, is_eq, nat_cmp, slice_cmp, comparing, lookup, option_copied, is_at, is_eq-slice_cmp, container_at, choice_numbered, choice_of, payload_of, container_of, entries_of, Named, VariantFormat}
 use Rattle.bcs_registry_model.specs.declared.container.Container as declared
 
 is_eq-nat_cmp : (m n : ℕ) → is_eq (nat_cmp m n) ≡ (n == m)

@@ -1,9 +1,5 @@
 -- What an orderly registry says of each of its containers.
-use Rattle.std.proofs.Common.{ℕ, List, [], ◌∷◌, All}
-use Rattle.std.proofs.lemmas.List.Elements.{All-nil, All-cons}
-use Rattle.std.specs.List.{AllByRecursion}
-use Rattle.bcs_registry_model.specs.Container.{Container, Entries}
-use Rattle.bcs_registry_model.specs.Ranges.{IsInRange, NumbersRise}
+use Rattle.bcs_registry_model.proofs.Prelude.{ℕ, List, [], ◌∷◌, All, All-nil, All-cons, AllByRecursion, Container, Entries, IsInRange, NumbersRise}
 
 -- the variants of each enum stand by rising number
 pub enums_rise : (es : Entries) → AllByRecursion (λ e. IsInRange e.1) es → All (λ e. NumbersRise e.1) es

@@ -1,16 +1,7 @@
 -- What a registry's maps keep of their keys, in the mirror: names rise by their bytes, and variants' numbers rise and fit
 -- 32 bits.
-use Rattle.std.proofs.Common.{subst, ◌≡◌, ℕ, List, [], ◌∷◌, ◌++◌, String, Global, Less, Ordering, string_bytes, map, refl, sym, ap}
-use Rattle.std.specs.Cmp.Lexicographic.{slice_cmp}
-use Rattle.std.specs.List.{AllByRecursion}
-use Rattle.std.specs.List.Sorted.{IsStrictlySortedBy}
-use Rattle.std.specs.Map.{keys_of}
-use Rattle.std.specs.Ordering.{nat_cmp}
-use Rattle.std.specs.String.{string_cmp}
-use Rattle.bcs_registry_model.specs.View.{choice_of, entries_of}
+use Rattle.bcs_registry_model.proofs.Prelude.{subst, ◌≡◌, ℕ, List, [], ◌∷◌, ◌++◌, String, Global, Less, Ordering, string_bytes, map, refl, sym, ap, slice_cmp, AllByRecursion, IsStrictlySortedBy, keys_of, nat_cmp, string_cmp, choice_of, entries_of, Named, VariantFormat}
 use Rattle.bcs_registry_model.specs.declared.container.Container as declared
-use Rattle.bcs_registry_model.specs.declared.named.Named.{Named}
-use Rattle.bcs_registry_model.specs.declared.variant_format.VariantFormat.{VariantFormat}
 
 abbrev pub Stored : Type 0
 Stored = String Global × declared.Container

@@ -1,19 +1,7 @@
 -- The tests of equality answer equality.
-use Rattle.std.proofs.Common.{◌≡◌, ℕ, List, [], ◌∷◌, length, map, true, false, ◌&&◌, ◌==◌, refl, ap, ◌∙◌, arith}
-use Rattle.std.specs.Int.{Width, w8, w16, w32, w64, w128}
-use Rattle.std.specs.Str.{bytes_eq}
-use Rattle.std.proofs.Math.Bool.{and-false}
-use Rattle.std.proofs.lemmas.Bool.{false≢true, and_parts, and_from}
-use Rattle.std.proofs.lemmas.Bool.Decides.{Decides-eqb}
-use Rattle.std.proofs.lemmas.Slice.Eq.{bytes_eq-Decides}
+use Rattle.bcs_registry_model.proofs.Prelude.{◌≡◌, ℕ, List, [], ◌∷◌, length, map, true, false, ◌&&◌, ◌==◌, refl, ap, ◌∙◌, arith, Width, w8, w16, w32, w64, w128, bytes_eq, and-false, false≢true, and_parts, and_from, Decides-eqb, bytes_eq-Decides, Unsupported, float32, float64, character, Shape, Shapes, no_shapes, shape, Field, Payload, Container, same_width, same_unsupported, same_shape, same_shapes, same_fields, same_payload, same_variant, same_struct, shape_of, formats_shapes, field_of, Format, Named}
 use Rattle.bcs_registry_model.specs.Shape as shape
-use Rattle.bcs_registry_model.specs.Shape.{Unsupported, float32, float64, character, Shape, Shapes, no_shapes, shape}
 use Rattle.bcs_registry_model.specs.Container as container
-use Rattle.bcs_registry_model.specs.Container.{Field, Payload, Container}
-use Rattle.bcs_registry_model.specs.Equality.{same_width, same_unsupported, same_shape, same_shapes, same_fields, same_payload, same_variant, same_struct}
-use Rattle.bcs_registry_model.specs.View.{shape_of, formats_shapes, field_of}
-use Rattle.bcs_registry_model.specs.declared.format.Format.{Format}
-use Rattle.bcs_registry_model.specs.declared.named.Named.{Named}
 
 -- ---- rows of unlike length
 

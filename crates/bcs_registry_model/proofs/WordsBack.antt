@@ -1,9 +1,6 @@
 -- The word of a format names it.
-use Rattle.std.proofs.Common.{◌≡◌, Bool, true, false, Some, refl}
-use Rattle.std.proofs.lemmas.Bool.{false≢true}
-use Rattle.std.specs.Int.{w8, w16, w32, w64, w128}
-use Rattle.bcs_registry_model.specs.Shape.{Shape, unit, truth, unsigned, signed, unsupported, float32, float64, character, text, bytes, name, option, seq, map, tuple, array}
-use Rattle.bcs_registry_model.specs.Words.{format_named, word_of}
+use Rattle.bcs_registry_model.proofs.Prelude.{◌≡◌, Bool, true, false, Some, refl, false≢true, w8, w16, w32, w64, w128, Shape, unit, truth, unsigned, signed, unsupported, float32, float64, character, text, bytes, name, option, seq, tuple, array, format_named, word_of}
+use Rattle.bcs_registry_model.specs.Shape.{map}
 
 -- the format has no parts, and so a word
 abbrev pub has_word : Shape → Bool

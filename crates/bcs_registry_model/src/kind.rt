@@ -4,8 +4,8 @@ ghost use Rattle.bcs_registry_model.specs.Kind.{kind_shape};
 ghost use Rattle.bcs_registry_model.specs.View.{shape_of};
 
 use crate::format::Format;
+use crate::integer_kind::IntegerKind;
 use crate::scalar::{Scalar, Unsupported};
-use crate::whole_number::WholeNumber;
 use bcs_num::Width;
 
 /// What a format is, as walks look at it: its words without parts by what their values are, and the parts of all others.
@@ -29,16 +29,16 @@ impl Format {
         match self {
             Format::Unit => Kind::Scalar(Scalar::Unit),
             Format::Bool => Kind::Scalar(Scalar::Bool),
-            Format::I8 => Kind::Scalar(Scalar::Whole(WholeNumber::Signed(Width::W1))),
-            Format::I16 => Kind::Scalar(Scalar::Whole(WholeNumber::Signed(Width::W2))),
-            Format::I32 => Kind::Scalar(Scalar::Whole(WholeNumber::Signed(Width::W4))),
-            Format::I64 => Kind::Scalar(Scalar::Whole(WholeNumber::Signed(Width::W8))),
-            Format::I128 => Kind::Scalar(Scalar::Whole(WholeNumber::Signed(Width::W16))),
-            Format::U8 => Kind::Scalar(Scalar::Whole(WholeNumber::Unsigned(Width::W1))),
-            Format::U16 => Kind::Scalar(Scalar::Whole(WholeNumber::Unsigned(Width::W2))),
-            Format::U32 => Kind::Scalar(Scalar::Whole(WholeNumber::Unsigned(Width::W4))),
-            Format::U64 => Kind::Scalar(Scalar::Whole(WholeNumber::Unsigned(Width::W8))),
-            Format::U128 => Kind::Scalar(Scalar::Whole(WholeNumber::Unsigned(Width::W16))),
+            Format::I8 => Kind::Scalar(Scalar::Whole(IntegerKind::Signed(Width::W1))),
+            Format::I16 => Kind::Scalar(Scalar::Whole(IntegerKind::Signed(Width::W2))),
+            Format::I32 => Kind::Scalar(Scalar::Whole(IntegerKind::Signed(Width::W4))),
+            Format::I64 => Kind::Scalar(Scalar::Whole(IntegerKind::Signed(Width::W8))),
+            Format::I128 => Kind::Scalar(Scalar::Whole(IntegerKind::Signed(Width::W16))),
+            Format::U8 => Kind::Scalar(Scalar::Whole(IntegerKind::Unsigned(Width::W1))),
+            Format::U16 => Kind::Scalar(Scalar::Whole(IntegerKind::Unsigned(Width::W2))),
+            Format::U32 => Kind::Scalar(Scalar::Whole(IntegerKind::Unsigned(Width::W4))),
+            Format::U64 => Kind::Scalar(Scalar::Whole(IntegerKind::Unsigned(Width::W8))),
+            Format::U128 => Kind::Scalar(Scalar::Whole(IntegerKind::Unsigned(Width::W16))),
             Format::F32 => Kind::Scalar(Scalar::Unsupported(Unsupported::F32)),
             Format::F64 => Kind::Scalar(Scalar::Unsupported(Unsupported::F64)),
             Format::Char => Kind::Scalar(Scalar::Unsupported(Unsupported::Char)),

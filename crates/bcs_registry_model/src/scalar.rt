@@ -1,12 +1,12 @@
 //! Formats without parts, by what their values are.
-use crate::whole_number::WholeNumber;
+use crate::integer_kind::IntegerKind;
 
 /// A format without parts.
 #[derive(Clone, Copy, PartialEq, Eq)]
 pub enum Scalar {
     Unit,
     Bool,
-    Whole(WholeNumber),
+    Whole(IntegerKind),
     Unsupported(Unsupported),
     Str,
     Bytes,

@@ -5,8 +5,8 @@ ghost use Rattle.bcs_registry_model.specs.View.{shape_of};
 ghost use Rattle.bcs_registry_model.specs.Words.{format_named, word_of};
 
 use crate::format::Format;
+use crate::integer_kind::IntegerKind;
 use crate::scalar::{Scalar, Unsupported};
-use crate::whole_number::WholeNumber;
 use bcs_num::Width;
 
 impl Scalar {
@@ -18,16 +18,16 @@ impl Scalar {
         match self {
             Scalar::Unit => "UNIT",
             Scalar::Bool => "BOOL",
-            Scalar::Whole(WholeNumber::Signed(Width::W1)) => "I8",
-            Scalar::Whole(WholeNumber::Signed(Width::W2)) => "I16",
-            Scalar::Whole(WholeNumber::Signed(Width::W4)) => "I32",
-            Scalar::Whole(WholeNumber::Signed(Width::W8)) => "I64",
-            Scalar::Whole(WholeNumber::Signed(Width::W16)) => "I128",
-            Scalar::Whole(WholeNumber::Unsigned(Width::W1)) => "U8",
-            Scalar::Whole(WholeNumber::Unsigned(Width::W2)) => "U16",
-            Scalar::Whole(WholeNumber::Unsigned(Width::W4)) => "U32",
-            Scalar::Whole(WholeNumber::Unsigned(Width::W8)) => "U64",
-            Scalar::Whole(WholeNumber::Unsigned(Width::W16)) => "U128",
+            Scalar::Whole(IntegerKind::Signed(Width::W1)) => "I8",
+            Scalar::Whole(IntegerKind::Signed(Width::W2)) => "I16",
+            Scalar::Whole(IntegerKind::Signed(Width::W4)) => "I32",
+            Scalar::Whole(IntegerKind::Signed(Width::W8)) => "I64",
+            Scalar::Whole(IntegerKind::Signed(Width::W16)) => "I128",
+            Scalar::Whole(IntegerKind::Unsigned(Width::W1)) => "U8",
+            Scalar::Whole(IntegerKind::Unsigned(Width::W2)) => "U16",
+            Scalar::Whole(IntegerKind::Unsigned(Width::W4)) => "U32",
+            Scalar::Whole(IntegerKind::Unsigned(Width::W8)) => "U64",
+            Scalar::Whole(IntegerKind::Unsigned(Width::W16)) => "U128",
             Scalar::Unsupported(Unsupported::F32) => "F32",
             Scalar::Unsupported(Unsupported::F64) => "F64",
             Scalar::Unsupported(Unsupported::Char) => "CHAR",

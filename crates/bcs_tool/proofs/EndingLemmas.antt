@@ -1,20 +1,7 @@
 -- What a stream was told: a text in one piece or in two, or a front of it.
-use Rattle.std.proofs.Common.{◌≡◌, ◌<◌, ◌+◌, ◌++◌, ◌⊎◌, Ok, Err, Result, arith, inl, inr, ℕ, List, Bool, Option, length, length-append, sym, subst, take}
-use Rattle.std.specs.Prelude.{IfErr, OnOk, String, string_bytes}
-use Rattle.std.specs.declared.alloc.Global.{Global}
-use Rattle.std.proofs.Math.Seq.{take-append-add}
-use Rattle.std.proofs.lemmas.List.{take-append-le}
-use Rattle.bcs_io.specs.Taking.{Took, TookThenFailed}
-use Rattle.bcs_io.proofs.TakingLemmas.{TookThenFailed-then, Took-then}
-use Rattle.bcs_tool_command_line.specs.declared.job.Job.{Job}
-use Rattle.bcs_tool_command_line.specs.declared.line_fault.LineFault.{LineFault}
-use Rattle.bcs_tool_command_line.specs.declared.line_fault.LineFault.TheVariants.{Usage, Help, OutOfMemory}
-use Rattle.bcs_tool_command_line.specs.declared.work.Outcome.{Outcome}
-use Rattle.bcs_tool_command_line.specs.declared.work.Work.{Work}
-use Rattle.bcs_tool.specs.Pairs.{EndsPairs, PairRuns}
-use Rattle.bcs_tool.specs.Running.{Ends, IsOutcomeOf, PutFront, Runs}
-use Rattle.bcs_tool.specs.declared.interruption.Interruption.{Interruption}
-use Rattle.bcs_tool.specs.Endings.{Performs, PerformsOne, PerformsPairs, TellsFault, Put, first_unopened, lacks_file, no_room, over_file, over_input, over_one, over_pairs, pairs_over_file, pairs_over_input, second_unopened, unopened}
+use Rattle.bcs_tool.proofs.Prelude.{◌≡◌, ◌<◌, ◌+◌, ◌++◌, ◌⊎◌, Ok, Err, Result, arith, inl, inr, ℕ, List, Bool, Option, length, length-append, sym, subst, take, IfErr, OnOk, String, Global, take-append-add, take-append-le, Took, TookThenFailed, TookThenFailed-then, Took-then, Job, LineFault, Usage, Help, Outcome, Work, EndsPairs, PairRuns, Ends, IsOutcomeOf, PutFront, Runs, Interruption, Performs, PerformsOne, PerformsPairs, ReportsFault, Put, first_unopened, lacks_file, no_room, over_file, over_input, over_one, over_pairs, pairs_over_file, pairs_over_input, second_unopened, unopened}
+use Rattle.std.specs.Prelude.{string_bytes}
+use Rattle.bcs_tool_command_line.specs.declared.line_fault.LineFault.TheVariants.{OutOfMemory}
 
 module _ {K : Type 0} (taken : K → Option (List ℕ)) (is_failed : K → Bool) where
   -- a text that is put, or else in part
@@ -38,7 +25,7 @@ module _ {K : Type 0} (taken : K → Option (List ℕ)) (is_failed : K → Bool)
 
 module _ {O E : Type 0} (taken : O → Option (List ℕ)) (is_failed : O → Bool) (told : E → Option (List ℕ)) (has_failed : E → Bool) where
   pub fault_status : (keeps_lines : Bool) (fault : LineFault) (out out' : O) (errors errors' : E) (status : ℕ)
-      → TellsFault taken is_failed told has_failed keeps_lines fault out out' errors errors' status → status < 5
+      → ReportsFault taken is_failed told has_failed keeps_lines fault out out' errors errors' status → status < 5
   fault_status keeps_lines (Usage text) out out' errors errors' status h = omega (arith, h.0)
   fault_status keeps_lines (Help text) out out' errors errors' status (inl h) = omega (arith, h.0)
   fault_status keeps_lines (Help text) out out' errors errors' status (inr h) = omega (arith, h.0)

@@ -1,3 +1,4 @@
+pub mod Prelude
 pub mod LineLemmas
 pub mod ReadLemmas
 pub mod SoFarLemmas

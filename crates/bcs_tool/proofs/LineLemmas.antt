@@ -1,17 +1,5 @@
 -- Lines of a content, of which the first ones were read.
-use Rattle.std.proofs.Common.{◌≡◌, ◌≢◌, ◌⊎◌, ◌≤◌, ◌<◌, ◌+◌, ◌++◌, ◌∙◌, ◌==◌, inl, inr, Bool, true, false, ℕ, zero, suc, cond, List, [], ◌∷◌, Option, Some, None, ap, append_assoc, append-nil, arith, length, length-append, refl, subst, sym, take}
-use Rattle.std.specs.Prelude.{IfSome}
-use Rattle.std.specs.List.{All}
-use Rattle.std.specs.Io.KnownBytes.{Consumes, IsAtEnd}
-use Rattle.std.proofs.lemmas.List.Elements.{All-head, All-tail}
-use Rattle.std.proofs.lemmas.List.{take-append-le}
-use Rattle.bcs_io.specs.Laws.{ended}
-use Rattle.bcs_io.specs.Lines.{HasNoLineFeed, lines_of, onto}
-use Rattle.bcs_io.proofs.LineLemmas.{lines_of-last, lines_of-line, no_feed_first, no_feed_rest}
-use Rattle.bcs_tool_command_line.specs.Files.{IsContent, size_limit}
-use Rattle.bcs_tool.specs.Lines.{StandBefore}
-use Rattle.bcs_tool.specs.Pairs.{AreAll, IsPast}
-use Rattle.bcs_tool.specs.Running.{AreFirst, IsLongBehind}
+use Rattle.bcs_tool.proofs.Prelude.{◌≡◌, ◌≢◌, ◌⊎◌, ◌≤◌, ◌<◌, ◌+◌, ◌++◌, ◌∙◌, ◌==◌, inl, inr, Bool, true, false, ℕ, zero, suc, cond, List, [], ◌∷◌, Option, Some, None, ap, append_assoc, append-nil, arith, length, length-append, refl, subst, sym, take, IfSome, All, Consumes, IsAtEnd, All-head, All-tail, take-append-le, ended, HasNoLineFeed, lines_of, onto, lines_of-last, lines_of-line, no_feed_first, no_feed_rest, IsContent, size_limit, StandBefore, AreAll, IsPast, AreFirst, IsLongBehind}
 
 -- lines without line feeds, each with one behind it, are the lines of that text
 ended_lines : (lines : List (List ℕ)) → All HasNoLineFeed lines → lines_of (ended lines) ≡ lines

@@ -1,31 +1,10 @@
 -- A comparison of two files, from one pair of lines to the next.
-use Rattle.std.proofs.Common.{◌≡◌, ◌≢◌, ◌<◌, ◌+◌, ◌^◌, ◌++◌, ◌∙◌, inl, inr, ℕ, Bool, false, true, List, [], ◌∷◌, Err, Ok, Option, None, Some, Result, arith, codes, length, refl, subst, sym, take}
+use Rattle.bcs_tool.proofs.Prelude.{◌≡◌, ◌≢◌, ◌<◌, ◌+◌, ◌^◌, ◌++◌, ◌∙◌, inl, inr, ℕ, Bool, false, true, List, [], ◌∷◌, Err, Ok, Option, None, Some, Result, arith, codes, length, refl, subst, sym, take, HeldLine, lines_of, NextFault, line_of, ReadsInput, AnswersPair, AnswersPairs, Ending, Together, FirstEnds, SecondEnds, as_many_pairs, one_alone, pairs_then, TakeFault, Work, FailsNext, IsTally, ReadsOn, broken_at, AllPaired, ArePairsSoFar, EndsBy, EndsPaired, HasEnded, PutsPair, ReadsBoth, ending_of, last_output, last_statuses, AnswersBehind, AreAll, BothGaveFew, FailsPairsAt, GaveFew, GaveLine, PutPairPart, PutPairs, StopsAt, AreFirst, PutFront, take_of, Interruption, First, Second, Compared, RunFault, Take, Write, Tally}
 use Rattle.bcs_io.specs.Taking as sink
 use Rattle.bcs_io.proofs.TakingLemmas as taking
-use Rattle.bcs_io.specs.Held.{HeldLine}
-use Rattle.bcs_io.specs.Lines.{lines_of}
-use Rattle.bcs_io.specs.declared.next_fault.NextFault.{NextFault}
 use Rattle.bcs_io.specs.declared.next_fault.NextFault.TheVariants as next_fault
-use Rattle.bcs_tool_answers.specs.Answers.{line_of}
-use Rattle.bcs_tool_answers.specs.Judging.{ReadsInput}
-use Rattle.bcs_tool_answers.specs.PairAnswers.{AnswersPair, AnswersPairs}
 use Rattle.bcs_tool_answers.specs.PairAnswers as pairs
-use Rattle.bcs_tool_answers.specs.declared.ending.Ending.{Ending}
-use Rattle.bcs_tool_answers.specs.declared.ending.Ending.TheVariants.{Together, FirstEnds, SecondEnds}
-use Rattle.bcs_tool_answers.proofs.PairAnswerLemmas.{as_many_pairs, one_alone, pairs_then}
-use Rattle.bcs_io.specs.declared.taking.TakeFault.{TakeFault}
-use Rattle.bcs_tool_command_line.specs.declared.work.Work.{Work}
-use Rattle.bcs_tool.specs.Lines.{FailsNext, IsTally, ReadsOn, broken_at}
-use Rattle.bcs_tool.specs.PairLines.{AllPaired, ArePairsSoFar, EndsBy, EndsPaired, HasEnded, PutsPair, ReadsBoth, ending_of, last_output, last_statuses}
-use Rattle.bcs_tool.specs.Pairs.{AnswersBehind, AreAll, BothGaveFew, FailsPairsAt, GaveFew, GaveLine, PutPairPart, PutPairs, StopsAt}
 use Rattle.bcs_tool.specs.Pairs as behind
-use Rattle.bcs_tool.specs.Running.{AreFirst, PutFront, take_of}
-use Rattle.bcs_tool.specs.declared.interruption.Interruption.{Interruption}
-use Rattle.bcs_tool.specs.declared.interruption.Side.TheVariants.{First, Second}
-use Rattle.bcs_tool.specs.declared.pair_lines.Compared.{Compared}
-use Rattle.bcs_tool.specs.declared.run_fault.RunFault.{RunFault}
-use Rattle.bcs_tool.specs.declared.run_fault.RunFault.TheVariants.{Take, Write}
-use Rattle.bcs_tool.specs.declared.tally.Tally.{Tally}
 use Rattle.bcs_tool.proofs.ReadLemmas.{MayHave, all_lines, few_behind, few_read, first_behind, first_read, gave_line, line_read, none_behind, none_read, room_for_one, some_behind, stops_at}
 
 module _ {F S : Type 0} (former : F → Option (List ℕ)) (former_stopped : F → Bool) (former_allowance : F → ℕ)

@@ -1,26 +1,7 @@
 -- What comes of a comparison of two files, by what its steps answered.
-use Rattle.std.proofs.Common.{◌≡◌, ◌++◌, ◌∙◌, ℕ, Bool, List, [], Option, Err, Ok, Result, ap, arith, refl, subst, sym}
+use Rattle.bcs_tool.proofs.Prelude.{◌≡◌, ◌++◌, ◌∙◌, ℕ, Bool, List, [], Option, Err, Ok, Result, ap, arith, refl, subst, sym, lines_of, ReadsInput, summary, tally_text, lacking_text, pairs_summary, IsAnswer, Places, Answer, status_below, greatest_pair_below, ReportsPlace, OutOfMemory, Outcome, Work, AllPaired, AreCompared, BothGaveFew, EndsPairs, PutPairs, RespondsPairs, compared, refused, refused_alone, PutsAnswer, Interruption, Second, Compared, Take}
 use Rattle.bcs_io.proofs.TakingLemmas as taking
-use Rattle.bcs_io.specs.Lines.{lines_of}
-use Rattle.bcs_tool_answers.specs.Judging.{ReadsInput}
-use Rattle.bcs_tool_answers.specs.LineAnswers.{summary, tally_text}
-use Rattle.bcs_tool_answers.specs.PairAnswers.{lacking_text, pairs_summary}
 use Rattle.bcs_tool_answers.specs.PairAnswers as pairs
-use Rattle.bcs_tool_answers.specs.Places.{IsAnswer, Places}
-use Rattle.bcs_tool_answers.specs.declared.answer.Answer.{Answer}
-use Rattle.bcs_tool_answers.proofs.AnswerLemmas.{status_below}
-use Rattle.bcs_tool_answers.proofs.PairAnswerLemmas.{greatest_pair_below}
-use Rattle.bcs_tool_command_line.specs.FaultPlaces.{TellsPlace}
-use Rattle.bcs_io.specs.declared.taking.TakeFault.TheVariants.{OutOfMemory}
-use Rattle.bcs_tool_command_line.specs.declared.work.Outcome.{Outcome}
-use Rattle.bcs_tool_command_line.specs.declared.work.Work.{Work}
-use Rattle.bcs_tool.specs.PairLines.{AllPaired}
-use Rattle.bcs_tool.specs.Pairs.{AreCompared, BothGaveFew, EndsPairs, PutPairs, RespondsPairs, compared, refused, refused_alone}
-use Rattle.bcs_tool.specs.Running.{PutsAnswer}
-use Rattle.bcs_tool.specs.declared.interruption.Interruption.{Interruption}
-use Rattle.bcs_tool.specs.declared.interruption.Side.TheVariants.{Second}
-use Rattle.bcs_tool.specs.declared.pair_lines.Compared.{Compared}
-use Rattle.bcs_tool.specs.declared.run_fault.RunFault.TheVariants.{Take}
 use Rattle.bcs_tool.proofs.ReadLemmas.{few_read, none_read}
 use Rattle.bcs_tool.proofs.RunLemmas.{none_first, some_content, told_counts}
 
@@ -94,9 +75,9 @@ module _ {F S K : Type 0} (former : F → Option (List ℕ)) (former_stopped : F
   pub told_pairs : (first : F) (second : S) (out out' : K) (all : Compared) (outcome : Outcome) → ReadsInput work
       → AllPaired former former_stopped former_allowance content has_stopped allowance taken is_failed work first second out out' all
       → outcome.status ≡ all.tally.status → outcome.note.now ≡ []
-      → TellsPlace work.options.quiet (tally_text all.tally.done all.tally.negative all.tally.refused ++ lacking_text all.ending all.tally.answered) outcome.place.items
+      → ReportsPlace work.options.quiet (tally_text all.tally.done all.tally.negative all.tally.refused ++ lacking_text all.ending all.tally.answered) outcome.place.items
       → AreCompared former former_stopped former_allowance content has_stopped allowance taken is_failed work first second out out' outcome
-  told_pairs first second out out' all outcome reads paired status note tells =
+  told_pairs first second out out' all outcome reads paired status note reports =
       let counted = paired.counted in
       let text : (tally_text all.tally.done all.tally.negative all.tally.refused ++ lacking_text all.ending all.tally.answered) ≡ pairs_summary all.ending paired.statuses =
       ap (λ (t : List ℕ). t ++ lacking_text all.ending all.tally.answered) (told_counts all.tally paired.statuses counted)
@@ -112,5 +93,5 @@ module _ {F S K : Type 0} (former : F → Option (List ℕ)) (former_stopped : F
         output = paired.output;
         put = paired.put;
         responds = subst P (sym (status ∙ counted.status)) (compared all.ending paired.statuses paired.output outcome.place.items reads paired.answers
-            (subst (λ (t : List ℕ). TellsPlace work.options.quiet t outcome.place.items) text tells));
+            (subst (λ (t : List ℕ). ReportsPlace work.options.quiet t outcome.place.items) text reports));
       }

@@ -1,20 +1,8 @@
 -- The lines of one input, from one to the next.
-use Rattle.std.proofs.Common.{◌≡◌, ◌⊎◌, ◌≤◌, ◌<◌, ◌+◌, ◌^◌, ◌++◌, ◌∙◌, inl, inr, ℕ, Bool, true, false, List, [], ◌∷◌, Option, ap, append_assoc, append-nil, arith, length, length-append, refl, subst, sym}
-use Rattle.std.specs.Prelude.{IfSome}
-use Rattle.std.proofs.lemmas.List.Elements.{All-nil, All-push}
+use Rattle.bcs_tool.proofs.Prelude.{◌≡◌, ◌⊎◌, ◌≤◌, ◌<◌, ◌+◌, ◌^◌, ◌++◌, ◌∙◌, inl, inr, ℕ, Bool, true, false, List, [], ◌∷◌, Option, ap, append_assoc, append-nil, arith, length, length-append, refl, subst, sym, IfSome, All-nil, All-push, FailsInLine, HasNoLine, IsLastLine, IsTooLong, TakesLine, HeldLine, HasNoLineFeed, before_block, line_feeds, lines_of, block_behind, short_ahead, feeds_append, feeds_before_block, feeds_none, NextFault, IsContent, size_limit, AreRead, FailsNext, ReadsOn, StandBefore, AreAll, BrokeInLine, GaveFew, GaveLine, StopsAt, AreFirst, IsLongBehind, take_of}
 use Rattle.bcs_io.specs.Giving as source
 use Rattle.bcs_io.proofs.GivingLemmas as giving
-use Rattle.bcs_io.specs.Advancing.{FailsInLine, HasNoLine, IsLastLine, IsTooLong, TakesLine}
-use Rattle.bcs_io.specs.Held.{HeldLine}
-use Rattle.bcs_io.specs.Lines.{HasNoLineFeed, before_block, line_feeds, lines_of}
-use Rattle.bcs_io.proofs.Ahead.{block_behind, short_ahead}
-use Rattle.bcs_io.proofs.FeedLemmas.{feeds_append, feeds_before_block, feeds_none}
-use Rattle.bcs_io.specs.declared.next_fault.NextFault.{NextFault}
 use Rattle.bcs_io.specs.declared.next_fault.NextFault.TheVariants as next_fault
-use Rattle.bcs_tool_command_line.specs.Files.{IsContent, size_limit}
-use Rattle.bcs_tool.specs.Lines.{AreRead, FailsNext, ReadsOn, StandBefore}
-use Rattle.bcs_tool.specs.Pairs.{AreAll, BrokeInLine, GaveFew, GaveLine, StopsAt}
-use Rattle.bcs_tool.specs.Running.{AreFirst, IsLongBehind, take_of}
 use Rattle.bcs_tool.proofs.LineLemmas.{all_within, end_past, stand_all, stand_end, stand_first, stand_last, stand_line, stand_long, stand_nothing, stand_past, stand_some, stand_within}
 
 -- what a line and its line feed take of the room

@@ -1,31 +1,9 @@
 -- What comes of a run, by what its steps answered.
-use Rattle.std.proofs.Common.{◌≡◌, ◌≤◌, ◌+◌, ◌++◌, ◌∙◌, ℕ, Bool, false, List, [], Option, Some, None, Result, Ok, Err, ap, append-nil, arith, inl, inr, length, refl, subst, sym, true≢false}
-use Rattle.std.specs.Result.{IsErrAnd}
-use Rattle.std.specs.Io.KnownBytes.{Consumes, IsAtEnd}
+use Rattle.bcs_tool.proofs.Prelude.{◌≡◌, ◌≤◌, ◌+◌, ◌++◌, ◌∙◌, ℕ, Bool, false, List, [], Option, Some, None, Result, Ok, Err, ap, append-nil, arith, inl, inr, length, refl, subst, sym, true≢false, IsErrAnd, Consumes, IsAtEnd, lines_of, ReadsInput, none, summary, tally_text, IsAnswer, Places, IsAskedBy, Answer, Asked, status_below, greatest_below, ReportsPlace, IsContent, size_limit, TakeFault, Outcome, Work, Second, AllAnswered, IsTally, AreFirst, Ends, FailsAt, HasLines, IsAnswered, IsUnhurt, PutBefore, PutsAnswer, ReadsNoFurther, Responds, by_line, once, Interruption, Take, Tally}
 use Rattle.bcs_io.specs.Giving as source
 use Rattle.bcs_io.proofs.GivingLemmas as giving
 use Rattle.bcs_io.proofs.TakingLemmas as taking
-use Rattle.bcs_io.specs.Lines.{lines_of}
-use Rattle.bcs_tool_answers.specs.Judging.{ReadsInput}
-use Rattle.bcs_tool_answers.specs.LineAnswers.{none, summary, tally_text}
-use Rattle.bcs_tool_answers.specs.Places.{IsAnswer, Places}
-use Rattle.bcs_tool_answers.specs.Preparing.{IsAskedBy}
-use Rattle.bcs_tool_answers.specs.declared.answer.Answer.{Answer}
-use Rattle.bcs_tool_answers.specs.declared.judging.Asked.{Asked}
-use Rattle.bcs_tool_answers.proofs.AnswerLemmas.{status_below}
-use Rattle.bcs_tool_answers.proofs.LineAnswerLemmas.{greatest_below}
-use Rattle.bcs_tool_command_line.specs.FaultPlaces.{TellsPlace}
-use Rattle.bcs_tool_command_line.specs.Files.{IsContent, size_limit}
-use Rattle.bcs_io.specs.declared.taking.TakeFault.{TakeFault}
 use Rattle.bcs_io.specs.declared.taking.TakeFault.TheVariants as take_fault
-use Rattle.bcs_tool_command_line.specs.declared.work.Outcome.{Outcome}
-use Rattle.bcs_tool_command_line.specs.declared.work.Work.{Work}
-use Rattle.bcs_tool.specs.declared.interruption.Side.TheVariants.{Second}
-use Rattle.bcs_tool.specs.Lines.{AllAnswered, IsTally}
-use Rattle.bcs_tool.specs.Running.{AreFirst, Ends, FailsAt, HasLines, IsAnswered, IsUnhurt, PutBefore, PutsAnswer, ReadsNoFurther, Responds, by_line, once}
-use Rattle.bcs_tool.specs.declared.interruption.Interruption.{Interruption}
-use Rattle.bcs_tool.specs.declared.run_fault.RunFault.TheVariants.{Take}
-use Rattle.bcs_tool.specs.declared.tally.Tally.{Tally}
 
 -- there are bytes that may be the content
 pub some_content : (content : Option (List ℕ)) → (bytes : List ℕ) × IsContent content bytes
@@ -143,9 +121,9 @@ module _ {S K : Type 0} (content : S → Option (List ℕ)) (has_stopped : S →
 
   -- all lines were answered, and how many with which status is told
   pub tallied : (input : S) (out out' : K) (tally : Tally) (outcome : Outcome) → HasLines work → AllAnswered content has_stopped allowance taken is_failed work input out out' tally
-      → outcome.status ≡ tally.status → outcome.note.now ≡ [] → TellsPlace work.options.quiet (tally_text tally.done tally.negative tally.refused) outcome.place.items
+      → outcome.status ≡ tally.status → outcome.note.now ≡ [] → ReportsPlace work.options.quiet (tally_text tally.done tally.negative tally.refused) outcome.place.items
       → IsAnswered content has_stopped allowance taken is_failed work input out out' outcome
-  tallied input out out' tally outcome lines all status note tells =
+  tallied input out out' tally outcome lines all status note reports =
       let counted = all.counted in
       let text : tally_text tally.done tally.negative tally.refused ≡ summary all.statuses = told_counts tally all.statuses counted in
       let P : ℕ → Type 0 = λ status. Responds work all.bytes status all.output outcome.place.items in
@@ -158,6 +136,6 @@ module _ {S K : Type 0} (content : S → Option (List ℕ)) (has_stopped : S →
           all.bytes,
           all.known,
           subst P (sym (status ∙ counted.status)) (by_line all.statuses all.output outcome.place.items lines all.answers
-              (subst (λ (t : List ℕ). TellsPlace work.options.quiet t outcome.place.items) text tells)),
+              (subst (λ (t : List ℕ). ReportsPlace work.options.quiet t outcome.place.items) text reports)),
         );
       }

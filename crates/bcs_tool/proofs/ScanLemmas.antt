@@ -1,37 +1,9 @@
--- Bytes that are judged as they come: the answer to them, and what comes of it.
-use Rattle.std.proofs.Common.{◌≡◌, ◌⊎◌, ◌≤◌, ◌∙◌, ◌&&◌, ℕ, suc, Bool, true, false, List, [], Option, Some, None, Result, Ok, Err, arith, inl, inr, refl, subst, sym, true≢false}
-use Rattle.bcs_decode.specs.Whole.{FrontGone, GoneTo, Trails}
-use Rattle.bcs_decode_spec.specs.Stopping.{Stops}
-use Rattle.bcs_decode_spec.specs.Accepting.{Accepts}
-use Rattle.bcs_decode_spec.specs.declared.decode_fault.DecodeFault.{DecodeFault}
+-- Bytes that are validated as they come: the answer to them, and what comes of it.
+use Rattle.bcs_tool.proofs.Prelude.{◌≡◌, ◌⊎◌, ◌≤◌, ◌∙◌, ◌&&◌, ℕ, suc, Bool, true, false, List, [], Option, Some, None, Result, Ok, Err, arith, inl, inr, refl, subst, sym, true≢false, FrontGone, GoneTo, Trails, Stops, Accepts, DecodeFault, Stop, Entries, Shape, shape_of, Answers, IsAsked, count_line, scan_stopped, scanned, stop_line, GivesBytes, Asks, is_scan, is_unlimited, none, PrintsWithoutPlace, IsAskedBy, Answer, Asked, Outcome, Work, coding_of, is_raw, Coding, Hexadecimal, Base64, Raw, Command, Scan, Ends, FailsAt, HasLines, IfTold, PutsAnswer, Responds, Streams, once, AnswersScan, FaultOfScan, IsScanned, RefusesScan, Scans, Interruption, RunFault, Take, Write}
 use Rattle.bcs_decode_spec.specs.declared.decode_fault.DecodeFault.TheVariants as decode_fault
-use Rattle.bcs_decode_spec.specs.declared.stop.Stop.{Stop}
-use Rattle.bcs_registry_model.specs.Container.{Entries}
-use Rattle.bcs_registry_model.specs.Shape.{Shape}
-use Rattle.bcs_registry_model.specs.View.{shape_of}
-use Rattle.bcs_tool_answers.specs.Answers.{Answers, IsAsked, count_line, scan_stopped, scanned, stop_line}
-use Rattle.bcs_tool_answers.specs.Input.{GivesBytes}
-use Rattle.bcs_tool_answers.specs.Judging.{Asks, is_scan, is_unlimited}
-use Rattle.bcs_tool_answers.specs.LineAnswers.{none}
 use Rattle.bcs_tool_answers.specs.Places as places
-use Rattle.bcs_tool_answers.specs.Places.{PrintsWithoutPlace}
-use Rattle.bcs_tool_answers.specs.Preparing.{IsAskedBy}
-use Rattle.bcs_tool_answers.specs.declared.answer.Answer.{Answer}
-use Rattle.bcs_tool_answers.specs.declared.judging.Asked.{Asked}
 use Rattle.bcs_io.specs.declared.taking.TakeFault.TheVariants as take_fault
-use Rattle.bcs_tool_command_line.specs.declared.work.Outcome.{Outcome}
-use Rattle.bcs_tool_command_line.specs.declared.work.Work.{Work}
-use Rattle.bcs_tool_command_line.specs.Jobs.{coding_of, is_raw}
-use Rattle.bcs_tool_command_line.specs.declared.coding.Coding.{Coding}
-use Rattle.bcs_tool_command_line.specs.declared.coding.Coding.TheVariants.{Hexadecimal, Base64, Raw}
-use Rattle.bcs_tool_command_line.specs.declared.command.Command.{Command}
 use Rattle.bcs_tool_command_line.specs.declared.command.Command.TheVariants as command
-use Rattle.bcs_tool_command_line.specs.declared.command.Command.TheVariants.{Scan}
-use Rattle.bcs_tool.specs.Running.{Ends, FailsAt, HasLines, IfTold, PutsAnswer, Responds, Streams, once}
-use Rattle.bcs_tool.specs.Scanning.{AnswersScan, FaultOfScan, IsScanned, RefusesScan, Scans}
-use Rattle.bcs_tool.specs.declared.interruption.Interruption.{Interruption}
-use Rattle.bcs_tool.specs.declared.run_fault.RunFault.{RunFault}
-use Rattle.bcs_tool.specs.declared.run_fault.RunFault.TheVariants.{Take, Write}
 use Rattle.bcs_tool.proofs.RunLemmas.{nothing_before}
 
 -- ---- the answer
@@ -74,11 +46,11 @@ gone_at_stop false work registry s (Some all) left stop told = λ are. go (told 
     go (inl h) = (h.1.0, h.1.2, h.1.3)
     go (inr h) = (suc stop.place, omega (arith, h.after), h.gone)
 
-pub gone_at_want : (front : Bool) (work : Work) (registry : Entries) (s : Shape) (content left : Option (List ℕ))
+pub gone_at_expectation : (front : Bool) (work : Work) (registry : Entries) (s : Shape) (content left : Option (List ℕ))
     → Scans front registry work.limits s content left (Err decode_fault.OutOfMemory) → IfTold content (λ all. FrontGone all left)
-gone_at_want front work registry s None left told = tt
-gone_at_want true work registry s (Some all) left told = λ _. told
-gone_at_want false work registry s (Some all) left told = λ _. told
+gone_at_expectation front work registry s None left told = tt
+gone_at_expectation true work registry s (Some all) left told = λ _. told
+gone_at_expectation false work registry s (Some all) left told = λ _. told
 
 pub is_scanned : (work : Work) (content : Option (List ℕ)) (a : Answer) (status : ℕ) (output : List ℕ) → status ≤ 2 → PrintsWithoutPlace a status output
     → IfTold content (λ all. Answers work all status output) → IsScanned work content a
@@ -132,7 +104,7 @@ module _ (work : Work) (asked : Asked) (asks : IsAskedBy work asked) (streams : 
   scanned_refusal content has_stopped input input' decode_fault.OutOfMemory (Ok a) told read refuses = absurd refuses
   scanned_refusal content has_stopped input input' decode_fault.OutOfMemory (Err e) told read refuses =
       let P : Interruption → Type 0 = λ i. AnswersScan content has_stopped work input input' (Err i) in
-      subst P (sym refuses) (gone_at_want work.options.front work asked.registry (shape_of asked.format) (content input) (content input') told, refl)
+      subst P (sym refuses) (gone_at_expectation work.options.front work asked.registry (shape_of asked.format) (content input) (content input') told, refl)
 
 -- ---- the run
 

@@ -1,13 +1,6 @@
 -- Text with its hidden characters escaped, character by character.
-use Rattle.std.proofs.Common.{◌≡◌, ◌<◌, ◌≤◌, ◌+◌, ◌-◌, ◌/◌, ◌%◌, ◌++◌, ◌∙◌, ℕ, Bool, true, false, List, [], ◌∷◌, Option, Result, Ok, Err, IsUtf8, ap, refl, sym, subst, length, length-append, take, arith, flat_map, append_assoc, append-nil, encode_utf8, chars}
-use Rattle.std.specs.Prelude.{IfErr, OnOk, OnErr, codes}
-use Rattle.std.proofs.Math.Seq.{take-append-add}
-use Rattle.std.proofs.lemmas.Str.{chars_past_char, chars-nil}
-use Rattle.bcs_io.specs.Taking.{Took, TookThenFailed}
-use Rattle.bcs_io.proofs.TakingLemmas.{TookThenFailed-then, Took-then}
-use Rattle.bcs_look_text.specs.Escaped.{numbered}
-use Rattle.bcs_tool.specs.Running.{PutFront}
-use Rattle.bcs_tool.specs.Visible.{escape, is_hidden, visible_char, usage_text, visible}
+use Rattle.bcs_tool.proofs.Prelude.{◌≡◌, ◌<◌, ◌≤◌, ◌+◌, ◌-◌, ◌/◌, ◌%◌, ◌++◌, ◌∙◌, ℕ, Bool, true, false, List, [], ◌∷◌, Option, Result, Ok, Err, IsUtf8, ap, refl, sym, subst, length, length-append, take, arith, flat_map, append_assoc, append-nil, encode_utf8, chars, IfErr, OnOk, OnErr, take-append-add, chars_past_char, chars-nil, Took, TookThenFailed, TookThenFailed-then, Took-then, numbered, PutFront, escape, is_hidden, visible_char, usage_text, visible}
+use Rattle.std.specs.Prelude.{codes}
 
 -- ---- one character
 

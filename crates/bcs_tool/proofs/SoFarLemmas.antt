@@ -1,25 +1,9 @@
 -- A run over lines, from one line to the next.
-use Rattle.std.proofs.Common.{◌≡◌, ◌<◌, ◌+◌, ◌^◌, ◌++◌, ◌∙◌, inl, inr, ℕ, Bool, true, List, [], ◌∷◌, Err, Option, arith, length, refl, subst, sym, take}
-use Rattle.std.specs.Prelude.{IfSome}
+use Rattle.bcs_tool.proofs.Prelude.{◌≡◌, ◌<◌, ◌+◌, ◌^◌, ◌++◌, ◌∙◌, inl, inr, ℕ, Bool, true, List, [], ◌∷◌, Err, Option, arith, length, refl, subst, sym, take, IfSome, FailsInLine, HasNoLine, IsTooLong, TakesLine, HeldLine, NextFault, Answers, AnswersAll, none, answers_snoc, as_many, size_limit, TakeFault, Work, AllAnswered, FailsNext, IsSoFar, IsTally, BrokeInLine, GaveFew, FailsAt, HasLines, IsLongBehind, IsTooLarge, IsUnhurt, PutBefore, PutFront, PutPart, PutsLine, ReadsNoFurther, StopsInLine, of_next, RunFault, Take, Write, Tally}
 use Rattle.bcs_io.specs.Giving as source
 use Rattle.bcs_io.specs.Taking as sink
 use Rattle.bcs_io.proofs.TakingLemmas as taking
-use Rattle.bcs_io.specs.Advancing.{FailsInLine, HasNoLine, IsTooLong, TakesLine}
-use Rattle.bcs_io.specs.Held.{HeldLine}
-use Rattle.bcs_io.specs.declared.next_fault.NextFault.{NextFault}
 use Rattle.bcs_io.specs.declared.next_fault.NextFault.TheVariants as next_fault
-use Rattle.bcs_tool_answers.specs.Answers.{Answers}
-use Rattle.bcs_tool_answers.specs.LineAnswers.{AnswersAll, none}
-use Rattle.bcs_tool_answers.proofs.LineAnswerLemmas.{answers_snoc, as_many}
-use Rattle.bcs_tool_command_line.specs.Files.{size_limit}
-use Rattle.bcs_io.specs.declared.taking.TakeFault.{TakeFault}
-use Rattle.bcs_tool_command_line.specs.declared.work.Work.{Work}
-use Rattle.bcs_tool.specs.Lines.{AllAnswered, FailsNext, IsSoFar, IsTally}
-use Rattle.bcs_tool.specs.Pairs.{BrokeInLine, GaveFew}
-use Rattle.bcs_tool.specs.Running.{FailsAt, HasLines, IsLongBehind, IsTooLarge, IsUnhurt, PutBefore, PutFront, PutPart, PutsLine, ReadsNoFurther, StopsInLine, of_next}
-use Rattle.bcs_tool.specs.declared.run_fault.RunFault.{RunFault}
-use Rattle.bcs_tool.specs.declared.run_fault.RunFault.TheVariants.{Take, Write}
-use Rattle.bcs_tool.specs.declared.tally.Tally.{Tally}
 use Rattle.bcs_tool.proofs.ReadLemmas.{all_read, broke_in_line, few_behind, few_given, few_long, first_read, gave, line_read, long_behind, none_read, room_for_one}
 
 module _ {S K : Type 0} (content : S → Option (List ℕ)) (has_stopped : S → Bool) (allowance : S → ℕ)

@@ -1,10 +1,5 @@
 -- Counts of statuses, with one more of them.
-use Rattle.std.proofs.Common.{◌≡◌, ◌≤◌, ◌+◌, ◌++◌, ◌∙◌, ◌==◌, ℕ, suc, Bool, true, false, List, [], ◌∷◌, arith, if◌then◌else◌, length-append, max}
-use mir.Val.{bool_byte}
-use Rattle.bcs_tool_answers.specs.LineAnswers.{count_of}
-use Rattle.bcs_tool_answers.proofs.LineAnswerLemmas.{count_of-snoc, count_of_within, greatest-snoc}
-use Rattle.bcs_tool.specs.Lines.{IsTally}
-use Rattle.bcs_tool.specs.declared.tally.Tally.{Tally}
+use Rattle.bcs_tool.proofs.Prelude.{◌≡◌, ◌≤◌, ◌+◌, ◌++◌, ◌∙◌, ◌==◌, ℕ, suc, Bool, true, false, List, [], ◌∷◌, arith, if◌then◌else◌, length-append, max, bool_byte, count_of, count_of-snoc, count_of_within, greatest-snoc, IsTally, Tally}
 
 by_bit : (b : Bool) (m : ℕ) → (if b then suc m else m) ≡ m + bool_byte b
 by_bit true m = omega arith

@@ -7,13 +7,13 @@ use Rattle.bcs_io.specs.ReadSource.{allowance_of, failed, reader_of}
 use Rattle.bcs_io.specs.Taking as sink
 use Rattle.bcs_io.specs.declared.read_source.ReadSource.{ReadSource}
 use Rattle.bcs_tool_answers.specs.Answers.{line_of}
-use Rattle.bcs_tool_command_line.specs.FaultPlaces.{TellsPlace, file_place, file_text, origin_text}
+use Rattle.bcs_tool_command_line.specs.FaultPlaces.{ReportsPlace, file_place, file_text, origin_text}
 use Rattle.bcs_tool_command_line.specs.Files.{ComparesLines, IsFaultOfFiles, IsWorkOf, NamesForWork, NamesNoFile, file_fault_of, file_note}
 use Rattle.bcs_tool_command_line.specs.declared.open_cause.OpenCause.{OpenCause}
 use Rattle.bcs_tool_command_line.specs.declared.origin.Origin.TheVariants.{StandardInput}
 use Rattle.bcs_io.specs.declared.taking.TakeFault.TheVariants as taking
 use Rattle.bcs_tool_command_line.specs.declared.unread_file.UnreadFile.{UnreadFile}
-use Rattle.bcs_tool_command_line.specs.declared.unread_file.UnreadFile.TheVariants.{Unopened, Untaken}
+use Rattle.bcs_tool_command_line.specs.declared.unread_file.UnreadFile.TheVariants.{OpenFailed, ReadFailed}
 use Rattle.bcs_tool_command_line.specs.declared.work.Outcome.{Outcome}
 use Rattle.bcs_tool_command_line.specs.declared.work.Work.{Work}
 use Rattle.bcs_tool_command_line.specs.declared.job.Job.{Job}
@@ -32,8 +32,8 @@ module _ {K : Type 0} (taken : K → Option (List ℕ)) (is_failed : K → Bool)
 
   -- the program ends with the outcome's status; its note stands on a line of the standard error, and then its place on one,
   -- each where it has one
-  abbrev pub TellsReport : Outcome → K → K → ℕ → Type 0
-  TellsReport outcome old new status = (status ≡ outcome.status)
+  abbrev pub PrintsReport : Outcome → K → K → ℕ → Type 0
+  PrintsReport outcome old new status = (status ≡ outcome.status)
       × (outcome.note.now ≡ [] → outcome.place.items ≡ [] → new ≡ old)
       × (outcome.note.now ≢ [] → outcome.place.items ≡ [] → Put old new (line_of outcome.note.now))
       × (outcome.note.now ≡ [] → outcome.place.items ≢ [] → Put old new (line_of outcome.place.items))
@@ -44,13 +44,13 @@ module _ {K : Type 0} (taken : K → Option (List ℕ)) (is_failed : K → Bool)
 module _ {O E : Type 0} (taken : O → Option (List ℕ)) (is_failed : O → Bool) (told : E → Option (List ℕ)) (has_failed : E → Bool) where
   -- the text of usage is written to the standard error with its hidden characters escaped, and the status is 3; that of
   -- help or of the version is written to the standard output, and the status is 0
-  abbrev pub TellsFault : Bool → LineFault → O → O → E → E → ℕ → Type 0
-  TellsFault keeps_lines (Usage text) out out' errors errors' status =
+  abbrev pub ReportsFault : Bool → LineFault → O → O → E → E → ℕ → Type 0
+  ReportsFault keeps_lines (Usage text) out out' errors errors' status =
       (status ≡ 3) × (out' ≡ out) × Put told has_failed errors errors' (usage_text keeps_lines (string_bytes text))
-  TellsFault keeps_lines (Help text) out out' errors errors' status =
+  ReportsFault keeps_lines (Help text) out out' errors errors' status =
       ((status ≡ 0) × sink.Took taken is_failed out out' (string_bytes text) × (errors' ≡ errors))
       ⊎ ((status ≡ 4) × PutFront taken is_failed out out' (string_bytes text) × Put told has_failed errors errors' (line_of (codes "fault: write")))
-  TellsFault keeps_lines OutOfMemory out out' errors errors' status =
+  ReportsFault keeps_lines OutOfMemory out out' errors errors' status =
       (status ≡ 4) × (out' ≡ out) × Put told has_failed errors errors' (line_of (codes "fault: memory"))
 
 -- why the system gives no words: one is no UTF-8, or memory ran out
@@ -68,20 +68,20 @@ module _ {F : Type 0} (remaining : F → Option (List ℕ)) where
     pub name : List ℕ
     pub status : outcome.status ≡ 4
     pub note : outcome.note.now ≡ file_note (file_fault_of unread)
-    pub place : TellsPlace job.options.quiet (file_place unread name) outcome.place.items
-    pub named : unread ≢ Untaken taking.OutOfMemory → NamesForWork remaining job name
+    pub place : ReportsPlace job.options.quiet (file_place unread name) outcome.place.items
+    pub named : unread ≢ ReadFailed taking.OutOfMemory → NamesForWork remaining job name
     pub known : IsFaultOfFiles remaining (file_fault_of unread)
-    pub needed : NamesNoFile job → unread ≡ Untaken taking.OutOfMemory
+    pub needed : NamesNoFile job → unread ≡ ReadFailed taking.OutOfMemory
 
 -- the file of this name, of an input, was not read, for this reason
 pub record IsUnread (quiet : Bool) (name : List ℕ) (unread : UnreadFile) (outcome : Outcome) : Type 0 where
   pub status : outcome.status ≡ 4
   pub note : outcome.note.now ≡ file_note (file_fault_of unread)
-  pub place : TellsPlace quiet (file_place unread name) outcome.place.items
+  pub place : ReportsPlace quiet (file_place unread name) outcome.place.items
 
 -- it was not opened
 abbrev pub IsUnopened : Bool → List ℕ → Outcome → Type 0
-IsUnopened quiet name outcome = (cause : OpenCause) × IsUnread quiet name (Unopened cause) outcome
+IsUnopened quiet name outcome = (cause : OpenCause) × IsUnread quiet name (OpenFailed cause) outcome
 
 module _ {S O F : Type 0} (content : S → Option (List ℕ)) (has_stopped : S → Bool) (allowance : S → ℕ)
     (taken : O → Option (List ℕ)) (is_failed : O → Bool) (remaining : F → Option (List ℕ)) where
@@ -90,7 +90,7 @@ module _ {S O F : Type 0} (content : S → Option (List ℕ)) (has_stopped : S �
   pub data PerformsOne (work : Work) (file : Option (String Global)) (input input' : S) (out out' : O) (outcome : Outcome) : Type 0 where
     unopened : (name : String Global) → file ≡ Some name → IsUnopened work.options.quiet (string_bytes name) outcome → input' ≡ input → out' ≡ out
         → PerformsOne work file input input' out out' outcome
-    no_room : (name : String Global) → file ≡ Some name → IsUnread work.options.quiet (string_bytes name) (Untaken taking.OutOfMemory) outcome → input' ≡ input
+    no_room : (name : String Global) → file ≡ Some name → IsUnread work.options.quiet (string_bytes name) (ReadFailed taking.OutOfMemory) outcome → input' ≡ input
         → out' ≡ out → PerformsOne work file input input' out out' outcome
     over_input : file ≡ None → Runs content has_stopped allowance taken is_failed work (origin_text StandardInput) input input' out out' outcome
         → PerformsOne work file input input' out out' outcome

@@ -5,7 +5,7 @@ pub mod PairLines
 pub mod Scanning
 pub mod Endings
 pub mod Visible
-pub use Rattle.bcs_tool_answers.specs.Judging
+pub use Rattle.bcs_tool_answers.specs.Validating
 pub use Rattle.bcs_tool_answers.specs.Input
 pub use Rattle.bcs_tool_answers.specs.Answers
 pub use Rattle.bcs_tool_answers.specs.AnswerLaws

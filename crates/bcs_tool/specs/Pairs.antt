@@ -4,13 +4,13 @@ use Rattle.bcs_io.specs.Giving as source
 use Rattle.bcs_io.specs.Taking as sink
 use Rattle.bcs_io.specs.Lines.{before_block, line_feeds, lines_of}
 use Rattle.bcs_tool_answers.specs.Answers.{Answers, line_of}
-use Rattle.bcs_tool_answers.specs.Judging.{ReadsInput}
+use Rattle.bcs_tool_answers.specs.Validating.{ReadsInput}
 use Rattle.bcs_tool_answers.specs.LineAnswers.{greatest}
 use Rattle.bcs_tool_answers.specs.PairAnswers.{AnswersPair, AnswersPairs, pairs_summary}
 use Rattle.bcs_tool_answers.specs.Places.{Places}
 use Rattle.bcs_tool_answers.specs.declared.ending.Ending.{Ending}
 use Rattle.bcs_tool_answers.specs.declared.ending.Ending.TheVariants.{Together}
-use Rattle.bcs_tool_command_line.specs.FaultPlaces.{TellsPlace}
+use Rattle.bcs_tool_command_line.specs.FaultPlaces.{ReportsPlace}
 use Rattle.bcs_tool_command_line.specs.Files.{IsContent}
 use Rattle.bcs_io.specs.declared.taking.TakeFault.{TakeFault}
 use Rattle.bcs_io.specs.declared.taking.TakeFault.TheVariants.{Read, TooLarge, OutOfMemory}
@@ -30,7 +30,7 @@ pub data RespondsPairs (work : Work) (first second : List ℕ) : ℕ → List �
   -- the job's own words are refused, whatever the contents
   refused : (status : ℕ) (output place : List ℕ) → ¬ ReadsInput work → Answers work [] status output → Places work [] place → RespondsPairs work first second status output place
   -- one answer to each pair of lines; beside stands how many have which status, and which file ends before the other
-  compared : (ending : Ending) (statuses output place : List ℕ) → ReadsInput work → AnswersPairs work (lines_of first) (lines_of second) ending statuses output → TellsPlace work.options.quiet (pairs_summary ending statuses) place
+  compared : (ending : Ending) (statuses output place : List ℕ) → ReadsInput work → AnswersPairs work (lines_of first) (lines_of second) ending statuses output → ReportsPlace work.options.quiet (pairs_summary ending statuses) place
       → RespondsPairs work first second (greatest statuses) output place
 
 -- these are all lines of the content, where that is known

@@ -10,11 +10,11 @@ use Rattle.bcs_io.specs.Notes.{take_note}
 use Rattle.bcs_io.specs.declared.next_fault.NextFault.{NextFault}
 use Rattle.bcs_io.specs.declared.next_fault.NextFault.TheVariants as next
 use Rattle.bcs_tool_answers.specs.Answers.{Answers}
-use Rattle.bcs_tool_answers.specs.Judging.{ReadsInput, is_unlimited}
+use Rattle.bcs_tool_answers.specs.Validating.{ReadsInput, is_unlimited}
 use Rattle.bcs_tool_answers.specs.LineAnswers.{AnswersAll, greatest, summary}
 use Rattle.bcs_tool_answers.specs.Places.{Places}
 use Rattle.bcs_tool_answers.specs.declared.answer.Answer.{Answer}
-use Rattle.bcs_tool_command_line.specs.FaultPlaces.{TellsPlace, output_text, take_place}
+use Rattle.bcs_tool_command_line.specs.FaultPlaces.{ReportsPlace, output_text, take_place}
 use Rattle.bcs_tool_command_line.specs.Files.{IsContent, size_limit}
 use Rattle.bcs_io.specs.declared.taking.TakeFault.{TakeFault}
 use Rattle.bcs_io.specs.declared.taking.TakeFault.TheVariants.{Read, TooLarge, OutOfMemory}
@@ -32,7 +32,7 @@ use Rattle.bcs_tool.specs.declared.run_fault.RunFault.TheVariants.{Take, Write}
 abbrev pub HasLines : Work → Type 0
 HasLines work = (work.options.lines ≡ true) × ReadsInput work
 
--- the job scans bytes as they are, which are judged as they come and not held
+-- the job scans bytes as they are, which are validated as they come and not held
 abbrev pub Streams : Work → Type 0
 Streams work = (is_unlimited work ≡ true) × (work.options.lines ≡ false) × ReadsInput work
 
@@ -40,7 +40,7 @@ Streams work = (is_unlimited work ≡ true) × (work.options.lines ≡ false) ×
 pub data Responds (work : Work) (bytes : List ℕ) : ℕ → List ℕ → List ℕ → Type 0 where
   once : (status : ℕ) (output place : List ℕ) → ¬ HasLines work → Answers work bytes status output → Places work bytes place → Responds work bytes status output place
   -- the status is the greatest one; beside stands how many lines have which
-  by_line : (statuses output place : List ℕ) → HasLines work → AnswersAll work (lines_of bytes) statuses output → TellsPlace work.options.quiet (summary statuses) place
+  by_line : (statuses output place : List ℕ) → HasLines work → AnswersAll work (lines_of bytes) statuses output → ReportsPlace work.options.quiet (summary statuses) place
       → Responds work bytes (greatest statuses) output place
 
 -- ---- faults
@@ -74,7 +74,7 @@ side_text Second name other = other
 pub record IsBrokenOff (work : Work) (name other : List ℕ) (e : Interruption) (outcome : Outcome) : Type 0 where
   pub status : outcome.status ≡ 4
   pub note : outcome.note.now ≡ fault_note e.fault
-  pub tells : TellsPlace work.options.quiet (run_place work.options.lines e.fault (side_text e.side name other) e.answered) outcome.place.items
+  pub reports : ReportsPlace work.options.quiet (run_place work.options.lines e.fault (side_text e.side name other) e.answered) outcome.place.items
 
 -- it is the one of a run that went through, or tells where the run was broken off
 abbrev pub IsOutcomeOf : Work → List ℕ → List ℕ → Result Outcome Interruption → Outcome → Type 0
@@ -177,7 +177,7 @@ module _ {S K : Type 0} (content : S → Option (List ℕ)) (has_stopped : S →
       ⊎ (HasLines work × ((bytes : List ℕ) × source.Gave content has_stopped allowance input input' bytes) × IfSome (content input) (IsLongBehind count))
 
   -- what is left of the input where memory ran out: it is as it was, or no call of it failed, and where it is one input, it
-  -- gave no more than is allowed; or, of bytes that are judged as they come, a front is gone
+  -- gave no more than is allowed; or, of bytes that are validated as they come, a front is gone
   abbrev pub IsUnhurt : Work → S → S → Type 0
   IsUnhurt work input input' = (input' ≡ input)
       ⊎ ((bytes : List ℕ) × source.Gave content has_stopped allowance input input' bytes
@@ -202,7 +202,7 @@ module _ {S K : Type 0} (content : S → Option (List ℕ)) (has_stopped : S →
   FailsAt work input input' out out' (Take OutOfMemory) count = IsUnhurt work input input' × ReadsNoFurther work input input' count × PutBefore work input out out' count
   FailsAt work input input' out out' Write count = ReadsNoFurther work input input' count × PutPart work input out out' count
 
-  -- the answers to the whole input were put; of bytes that are judged as they come something is said where they are known
+  -- the answers to the whole input were put; of bytes that are validated as they come something is said where they are known
   pub record IsAnswered (work : Work) (input : S) (out out' : K) (outcome : Outcome) : Type 0 where
     pub note : outcome.note.now ≡ []
     pub below : outcome.status < 3

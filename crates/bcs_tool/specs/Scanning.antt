@@ -1,4 +1,4 @@
--- What is answered of bytes that are judged as they come.
+-- What is answered of bytes that are validated as they come.
 use Rattle.std.specs.Prelude.{◌≡◌, ◌<◌, ℕ, List, [], Bool, true, false, Option, Result, Ok, Err}
 use Rattle.bcs_registry_model.specs.Container.{Entries}
 use Rattle.bcs_registry_model.specs.Shape.{Shape}

@@ -2,7 +2,7 @@
 use Rattle.std.specs.Prelude.{ℕ, ◌+◌, ◌-◌, ◌/◌, ◌%◌, ◌==◌, ◌||◌, ◌&&◌, Bool, true, false, codes, not, nat_le, nat_lt, if◌then◌else◌, List, ◌++◌, chars, flat_map, encode_utf8}
 use Rattle.std.specs.List.{list_any}
 use Rattle.std.specs.Char.{is_control}
-use Rattle.bcs_look_text.specs.Escaped.{numbered}
+use Rattle.bcs_display_text.specs.Escaped.{numbered}
 
 -- whether a character is from one to another
 abbrev pub is_between : ℕ → ℕ → ℕ → Bool

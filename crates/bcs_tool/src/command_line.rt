@@ -2,8 +2,8 @@
 ghost use Rattle.std.specs.Prelude.{◌≡◌, ◌⊎◌, ◌&&◌, IfOk, IfErr, IsOkUnless};
 ghost use Rattle.bcs_tool_command_line.specs.CommandLine.{texts_of};
 ghost use Rattle.bcs_tool_command_line.specs.Jobs.{IsJobOf, coding, is_raw};
-ghost use Rattle.bcs_tool_command_line.specs.LineFaults.{IsFaultOf, TellsJoined};
-ghost use Rattle.bcs_tool_command_line.specs.TakenWords.{TakesWords};
+ghost use Rattle.bcs_tool_command_line.specs.LineFaults.{IsFaultOf, ReportsJoined};
+ghost use Rattle.bcs_tool_command_line.specs.AcceptedArguments.{AcceptsArguments};
 
 use bcs_tool_command_line::{Job, LineFault, parsed_job};
 use std::alloc::{AllocError, Global};
@@ -23,9 +23,9 @@ const JOINED: &str =
 /// before it. Words that a command takes are refused only where memory runs out.
 pub fn line(alloc: Global, words: &[String]) -> Result<Job, LineFault>
     ensures job { IfOk result (IsJobOf (texts_of words.now)) }
-    ensures taken { IfOk result (λ _. TakesWords (texts_of words.now)) }
+    ensures taken { IfOk result (λ _. AcceptsArguments (texts_of words.now)) }
     ensures fault { IfErr result (IsFaultOf (texts_of words.now)) }
-    ensures good { TakesWords (texts_of words.now) → IsOkUnless result LineFault.OutOfMemory }
+    ensures good { AcceptsArguments (texts_of words.now) → IsOkUnless result LineFault.OutOfMemory }
 {
     let job = parsed_job(alloc, words)?;
     if has_joined(&job) {
@@ -43,7 +43,7 @@ fn has_joined(job: &Job) -> bool
 
 // The fault of words that join `--raw` and `--lines`.
 fn joined_fault(alloc: Global) -> LineFault
-    ensures { (result ≡ LineFault.OutOfMemory) ⊎ TellsJoined result }
+    ensures { (result ≡ LineFault.OutOfMemory) ⊎ ReportsJoined result }
 {
     match String::from_str(alloc, JOINED) {
         Ok(text) => LineFault::Usage(text),

@@ -4,12 +4,12 @@ ghost use Rattle.std.specs.Process.{exit_status};
 ghost use Rattle.bcs_tool_command_line.specs.CommandLine.{texts_of};
 ghost use Rattle.bcs_tool_command_line.specs.Jobs.{IsJobOf};
 ghost use Rattle.bcs_tool_command_line.specs.LineFaults.{IsFaultOf};
-ghost use Rattle.bcs_tool_command_line.specs.TakenWords.{TakesWords};
-ghost use Rattle.bcs_tool.specs.Endings.{IsWordsFault, Performs, TellsFault, TellsReport};
+ghost use Rattle.bcs_tool_command_line.specs.AcceptedArguments.{AcceptsArguments};
+ghost use Rattle.bcs_tool.specs.Endings.{IsWordsFault, Performs, ReportsFault, PrintsReport};
 ghost use Rattle.bcs_tool.specs.Visible.{breaks_lines};
 
+use crate::reporting::report_fault;
 use crate::responding::respond;
-use crate::telling::tell_fault;
 use bcs_io::{ByteSink, ByteSource, ReadSource, WriteSink};
 use bcs_tool_command_line::{Job, LineFault, Outcome};
 use std::env;
@@ -22,7 +22,7 @@ use std::rt::Files;
 pub fn program(rt: &HostRuntime) -> ExitCode
     ensures { exit_status result < 5 }
 {
-    let words = words_of(rt);
+    let words = args_of(rt);
     let mut out = WriteSink::new(rt.stdout());
     let mut errors = WriteSink::new(rt.stderr());
     let status = match BufReader::with_capacity(rt.alloc(), read_ahead(&words), rt.reader()) {
@@ -33,7 +33,7 @@ pub fn program(rt: &HostRuntime) -> ExitCode
             &mut out,
             &mut errors,
         ),
-        Err(_) => tell_fault(&LineFault::OutOfMemory, &mut out, &mut errors),
+        Err(_) => report_fault(&LineFault::OutOfMemory, &mut out, &mut errors),
     };
     ExitCode::from(status)
 }
@@ -61,29 +61,29 @@ pub fn start<R: Files + Env + AllocGlobal, S: ByteSource, O: ByteSink, E: ByteSi
 
     // Nothing is read or put, and the fault is told.
     ensures no_words { IfErr words (λ fault. (input.new ≡ input.old)
-        × TellsFault O.taken O.is_failed E.taken E.is_failed true fault out.old out.new errors.old errors.new result) }
+        × ReportsFault O.taken O.is_failed E.taken E.is_failed true fault out.old out.new errors.old errors.new result) }
 
     // The rest is as `respond` has it.
-    ensures no_job { IfOk words (λ given. ¬ TakesWords (texts_of given.items) → (fault : LineFault)
+    ensures no_job { IfOk words (λ given. ¬ AcceptsArguments (texts_of given.items) → (fault : LineFault)
         × IsFaultOf (texts_of given.items) fault × (input.new ≡ input.old)
-        × TellsFault O.taken O.is_failed E.taken E.is_failed (not (breaks_lines (texts_of given.items))) fault out.old out.new errors.old errors.new result) }
-    ensures job { IfOk words (λ given. TakesWords (texts_of given.items) →
-        ((input.new ≡ input.old) × TellsFault O.taken O.is_failed E.taken E.is_failed
+        × ReportsFault O.taken O.is_failed E.taken E.is_failed (not (breaks_lines (texts_of given.items))) fault out.old out.new errors.old errors.new result) }
+    ensures job { IfOk words (λ given. AcceptsArguments (texts_of given.items) →
+        ((input.new ≡ input.old) × ReportsFault O.taken O.is_failed E.taken E.is_failed
         (not (breaks_lines (texts_of given.items))) LineFault.OutOfMemory out.old out.new errors.old errors.new result)
         ⊎ ((job : Job) × (outcome : Outcome) × IsJobOf (texts_of given.items) job
         × Performs S.content S.is_failed S.allowance O.taken O.is_failed R.File.remaining
         job input.old input.new out.old out.new outcome
-        × TellsReport E.taken E.is_failed outcome errors.old errors.new result)) }
+        × PrintsReport E.taken E.is_failed outcome errors.old errors.new result)) }
 {
     match words {
         Ok(words) => respond(rt, words.as_slice(), input, out, errors),
-        Err(fault) => tell_fault(&fault, out, errors),
+        Err(fault) => report_fault(&fault, out, errors),
     }
 }
 
 /// The words of the command line, of which the first is the program's own name. A word that is no
 /// UTF-8 is `Usage`.
-pub fn words_of<R: Env + AllocGlobal>(rt: &R) -> Result<Vec<String>, LineFault>
+pub fn args_of<R: Env + AllocGlobal>(rt: &R) -> Result<Vec<String>, LineFault>
     ensures { IfErr result IsWordsFault }
 {
     match env::args(rt) {

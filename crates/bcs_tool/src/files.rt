@@ -45,10 +45,10 @@ fn unread_file<R: Files + AllocGlobal>(rt: &R, name: &str, fault: FileFault) -> 
     ensures { file_fault_of result ≡ fault }
 {
     match fault {
-        FileFault::Open => UnreadFile::Unopened(open_cause(rt, name)),
-        FileFault::Read => UnreadFile::Untaken(TakeFault::Read),
-        FileFault::TooLarge => UnreadFile::Untaken(TakeFault::TooLarge),
-        FileFault::OutOfMemory => UnreadFile::Untaken(TakeFault::OutOfMemory),
+        FileFault::Open => UnreadFile::OpenFailed(open_cause(rt, name)),
+        FileFault::Read => UnreadFile::ReadFailed(TakeFault::Read),
+        FileFault::TooLarge => UnreadFile::ReadFailed(TakeFault::TooLarge),
+        FileFault::OutOfMemory => UnreadFile::ReadFailed(TakeFault::OutOfMemory),
     }
 }
 
@@ -84,7 +84,7 @@ pub fn read_work<R: Files + Env + AllocGlobal>(
     ensures work { IfOk result (λ r. IsWorkOf R.File.remaining job r.0) }
     ensures inputs { IfOk result (λ r. IsInputsOf job r.1) }
     ensures fault { IfErr result (IsRefusalOf R.File.remaining job) }
-    ensures good { NamesNoFile job → IfErr result (λ e. e.reason ≡ UnreadFile.Untaken TakeFault.OutOfMemory) }
+    ensures good { NamesNoFile job → IfErr result (λ e. e.reason ≡ UnreadFile.ReadFailed TakeFault.OutOfMemory) }
 {
     let registry = match read_registry(rt, job.registry.as_str()) {
         Ok(text) => text,
@@ -148,8 +148,8 @@ fn read_second<R: Files + AllocGlobal>(
     ensures text { IfOk result (λ v. IsSecondOf R.File.remaining command lines word.now v.items) }
     ensures fault { IfErr result (λ e. IsFaultOfFiles R.File.remaining (file_fault_of e)) }
     ensures good { (command ≡ Command.Same → lines ≡ true) → (command ≡ Command.Grows → is_registry_text word.now ≡ true)
-        → IsOkUnless result (UnreadFile.Untaken TakeFault.OutOfMemory) }
-    ensures named { IfErr result (λ e. e ≢ UnreadFile.Untaken TakeFault.OutOfMemory
+        → IsOkUnless result (UnreadFile.ReadFailed TakeFault.OutOfMemory) }
+    ensures named { IfErr result (λ e. e ≢ UnreadFile.ReadFailed TakeFault.OutOfMemory
         → ((command ≡ Command.Same) × (lines ≡ false)) ⊎ ((command ≡ Command.Grows) × (is_registry_text word.now ≡ false))) }
 {
     match command {
@@ -176,7 +176,7 @@ fn read_first<R: Files + AllocGlobal>(
 ) -> Result<Vec<u8>, UnreadFile>
     ensures text { IfOk result (λ v. IsFirstText R.File.remaining lines v.items) }
     ensures fault { IfErr result (λ e. IsFaultOfFiles R.File.remaining (file_fault_of e)) }
-    ensures good { lines ≡ true → IsOkUnless result (UnreadFile.Untaken TakeFault.OutOfMemory) }
+    ensures good { lines ≡ true → IsOkUnless result (UnreadFile.ReadFailed TakeFault.OutOfMemory) }
     ensures named { IfErr result (λ _. lines ≡ false) }
 {
     if lines {
@@ -189,8 +189,8 @@ fn read_first<R: Files + AllocGlobal>(
 fn read_registry<R: Files + AllocGlobal>(rt: &R, word: &str) -> Result<Vec<u8>, UnreadFile>
     ensures text { IfOk result (λ v. IsTextOfWord R.File.remaining word.now v.items) }
     ensures fault { IfErr result (λ e. IsFaultOfFiles R.File.remaining (file_fault_of e)) }
-    ensures good { is_registry_text word.now ≡ true → IsOkUnless result (UnreadFile.Untaken TakeFault.OutOfMemory) }
-    ensures named { IfErr result (λ e. e ≢ UnreadFile.Untaken TakeFault.OutOfMemory → is_registry_text word.now ≡ false) }
+    ensures good { is_registry_text word.now ≡ true → IsOkUnless result (UnreadFile.ReadFailed TakeFault.OutOfMemory) }
+    ensures named { IfErr result (λ e. e ≢ UnreadFile.ReadFailed TakeFault.OutOfMemory → is_registry_text word.now ≡ false) }
 {
     if is_registry_text(word) {
         copy(rt.alloc(), word)
@@ -207,10 +207,10 @@ fn is_registry_text(word: &str) -> bool
 
 fn copy(alloc: Global, text: &str) -> Result<Vec<u8>, UnreadFile>
     ensures text { IfOk result (λ v. v.items ≡ text.now) }
-    ensures good { IsOkUnless result (UnreadFile.Untaken TakeFault.OutOfMemory) }
+    ensures good { IsOkUnless result (UnreadFile.ReadFailed TakeFault.OutOfMemory) }
 {
     match Vec::from_slice(alloc, text.as_bytes()) {
         Ok(bytes) => Ok(bytes),
-        Err(AllocError) => Err(UnreadFile::Untaken(TakeFault::OutOfMemory)),
+        Err(AllocError) => Err(UnreadFile::ReadFailed(TakeFault::OutOfMemory)),
     }
 }

@@ -11,28 +11,28 @@ mod pair_lines;
 mod pair_places;
 mod pair_running;
 mod put_answer;
+mod reporting;
 mod responding;
 mod run_fault;
 mod run_places;
 mod running;
 mod scan_running;
 mod tally;
-mod telling;
 mod visible;
 
+pub use bcs_display_text::style::{Form, Paint, Style};
 pub use bcs_io::{ByteSink, ByteSource, ReadSource, TakeFault, WriteSink, put_all, take_all};
-pub use bcs_look_text::style::{Form, Paint, Style};
 pub use bcs_tool_answers::laws;
 pub use bcs_tool_command_line::{
     Coding, Color, Command, Display, FileFault, FileRefusal, Inputs, Job, JobOptions, LineFault,
     OpenCause, Origin, Outcome, UnreadFile, Work,
 };
 pub use command_line::line;
-pub use entry::{program, start, words_of};
+pub use entry::{args_of, program, start};
 pub use files::{read_named, read_opened, read_work};
 pub use interruption::{Interruption, Side};
 pub use pair_running::run_pairs;
+pub use reporting::{print_report, report_fault};
 pub use responding::respond;
 pub use run_fault::RunFault;
 pub use running::{run, run_from};
-pub use telling::{tell_fault, tell_report};

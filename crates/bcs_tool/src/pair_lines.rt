@@ -1,5 +1,5 @@
 //! Two files that are compared line by line.
-ghost use Rattle.std.specs.Prelude.{◌≡◌, ◌≢◌, ◌≤◌, ◌<◌, ◌+◌, ◌^◌, ℕ, List, length};
+ghost use Rattle.std.specs.Prelude.{◌≡◌, ◌≢◌, ◌≤◌, ◌<◌, ◌+◌, ◌^◌, ℕ, List};
 ghost use Rattle.bcs_tool.specs.Lines.{IsTally};
 ghost use Rattle.bcs_tool.specs.PairLines.{EndsBy, EndsPaired, PutsPair, ending_of};
 ghost use Rattle.bcs_tool_answers.specs.Preparing.{IsAskedBy};

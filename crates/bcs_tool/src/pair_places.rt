@@ -2,7 +2,7 @@
 ghost use Rattle.std.specs.Prelude.{◌≡◌, ◌++◌, IfOk};
 ghost use Rattle.bcs_tool_answers.specs.LineAnswers.{tally_text};
 ghost use Rattle.bcs_tool_answers.specs.PairAnswers.{lacking_text};
-ghost use Rattle.bcs_tool_command_line.specs.FaultPlaces.{TellsPlace};
+ghost use Rattle.bcs_tool_command_line.specs.FaultPlaces.{ReportsPlace};
 
 use crate::pair_lines::Compared;
 use crate::run_places::{put_count, tally_line};
@@ -12,7 +12,7 @@ use std::alloc::{AllocError, Global};
 /// How many lines were answered with which status, and which file has fewer of them. It is empty at a quiet job, and where
 /// no memory is left for it.
 pub fn place_of_pairs(alloc: Global, quiet: bool, compared: Compared) -> Vec<u8>
-    ensures { TellsPlace quiet (tally_text compared.tally.done compared.tally.negative compared.tally.refused
+    ensures { ReportsPlace quiet (tally_text compared.tally.done compared.tally.negative compared.tally.refused
         ++ lacking_text compared.ending compared.tally.answered) result.items }
 {
     if quiet {

@@ -1,7 +1,7 @@
 //! A job that compares two files line by line.
 ghost use Rattle.std.specs.Prelude.{◌≡◌};
 ghost use Rattle.bcs_tool.specs.Pairs.{EndsPairs};
-ghost use Rattle.bcs_tool_answers.specs.Judging.{ReadsInput};
+ghost use Rattle.bcs_tool_answers.specs.Validating.{ReadsInput};
 
 use crate::interruption::Interruption;
 use crate::pair_lines::compare_lines;

@@ -3,16 +3,16 @@ ghost use Rattle.std.specs.Prelude.{◌≡◌, ◌⊎◌, ◌<◌, not};
 ghost use Rattle.bcs_tool_command_line.specs.CommandLine.{texts_of};
 ghost use Rattle.bcs_tool_command_line.specs.Jobs.{IsJobOf};
 ghost use Rattle.bcs_tool_command_line.specs.LineFaults.{IsFaultOf};
-ghost use Rattle.bcs_tool_command_line.specs.TakenWords.{TakesWords};
-ghost use Rattle.bcs_tool.specs.Endings.{IsUnopened, IsUnread, Performs, PerformsOne, PerformsPairs, TellsFault, TellsReport};
+ghost use Rattle.bcs_tool_command_line.specs.AcceptedArguments.{AcceptsArguments};
+ghost use Rattle.bcs_tool.specs.Endings.{IsUnopened, IsUnread, Performs, PerformsOne, PerformsPairs, ReportsFault, PrintsReport};
 ghost use Rattle.bcs_tool.specs.Visible.{breaks_lines};
 
 use crate::command_line::line;
 use crate::entry::BLOCK;
 use crate::files::read_work;
 use crate::pair_running::run_pairs;
+use crate::reporting::{print_report, report_fault_of_words};
 use crate::running::{failed, outcome_of, run_from};
-use crate::telling::{tell_fault_of_words, tell_report};
 use bcs_io::{ByteSink, ByteSource, ReadSource, TakeFault};
 use bcs_tool_command_line::{
     FileFault, Inputs, Job, LineFault, OpenCause, Origin, Outcome, UnreadFile, Work, place_of_file,
@@ -35,22 +35,22 @@ pub fn respond<R: Files + Env + AllocGlobal, S: ByteSource, O: ByteSink, E: Byte
     ensures status { result < 5 }
 
     // There is a fault in the words, or they ask for help or the version.
-    ensures no_job { ¬ TakesWords (texts_of words.now) → (fault : LineFault)
+    ensures no_job { ¬ AcceptsArguments (texts_of words.now) → (fault : LineFault)
         × IsFaultOf (texts_of words.now) fault × (input.new ≡ input.old)
-        × TellsFault O.taken O.is_failed E.taken E.is_failed (not (breaks_lines (texts_of words.now))) fault out.old out.new errors.old errors.new result }
+        × ReportsFault O.taken O.is_failed E.taken E.is_failed (not (breaks_lines (texts_of words.now))) fault out.old out.new errors.old errors.new result }
 
     // They ask for a job, which is done, unless there is no memory for its words.
-    ensures job { TakesWords (texts_of words.now) →
-        ((input.new ≡ input.old) × TellsFault O.taken O.is_failed E.taken E.is_failed
+    ensures job { AcceptsArguments (texts_of words.now) →
+        ((input.new ≡ input.old) × ReportsFault O.taken O.is_failed E.taken E.is_failed
         (not (breaks_lines (texts_of words.now))) LineFault.OutOfMemory out.old out.new errors.old errors.new result)
         ⊎ ((job : Job) × (outcome : Outcome) × IsJobOf (texts_of words.now) job
         × Performs S.content S.is_failed S.allowance O.taken O.is_failed R.File.remaining
         job input.old input.new out.old out.new outcome
-        × TellsReport E.taken E.is_failed outcome errors.old errors.new result) }
+        × PrintsReport E.taken E.is_failed outcome errors.old errors.new result) }
 {
     match line(rt.alloc(), words) {
-        Ok(job) => tell_report(perform(rt, job, input, out), errors),
-        Err(fault) => tell_fault_of_words(words, &fault, out, errors),
+        Ok(job) => print_report(perform(rt, job, input, out), errors),
+        Err(fault) => report_fault_of_words(words, &fault, out, errors),
     }
 }
 
@@ -106,7 +106,7 @@ fn perform_one<R: Files + Env + AllocGlobal, S: ByteSource, O: ByteSink>(
             ),
             Err(_) => {
                 let fault = TakeFault::OutOfMemory;
-                unread(alloc, quiet, UnreadFile::Untaken(fault), name)
+                unread(alloc, quiet, UnreadFile::ReadFailed(fault), name)
             }
         },
         Err(error) => unopened(alloc, quiet, name, error.kind()),
@@ -150,7 +150,7 @@ fn unopened(alloc: Global, quiet: bool, name: &str, kind: ErrorKind) -> Outcome
     ensures { IsUnopened quiet name.now result }
 {
     let cause = OpenCause::of(kind);
-    unread(alloc, quiet, UnreadFile::Unopened(cause), name)
+    unread(alloc, quiet, UnreadFile::OpenFailed(cause), name)
 }
 
 // The outcome of a job of which a file of an input was not read.

@@ -3,7 +3,7 @@ ghost use Rattle.std.specs.Prelude.{◌≡◌, ◌++◌, IfOk, OnOk};
 ghost use Rattle.std.specs.Fmt.{decimal};
 ghost use Rattle.bcs_tool.specs.Running.{run_place, side_text, stream_text};
 ghost use Rattle.bcs_tool_answers.specs.LineAnswers.{tally_text};
-ghost use Rattle.bcs_tool_command_line.specs.FaultPlaces.{TellsPlace, origin_text};
+ghost use Rattle.bcs_tool_command_line.specs.FaultPlaces.{ReportsPlace, origin_text};
 
 use crate::interruption::{Interruption, Side};
 use crate::run_fault::RunFault;
@@ -20,7 +20,7 @@ pub fn place_of_interruption(
     first: Origin<'_>,
     second: Origin<'_>,
 ) -> Vec<u8>
-    ensures { TellsPlace work.now.options.quiet (run_place work.now.options.lines interruption.fault
+    ensures { ReportsPlace work.now.options.quiet (run_place work.now.options.lines interruption.fault
         (side_text interruption.side (origin_text first.entry) (origin_text second.entry)) interruption.answered) result.items }
 {
     let origin = match interruption.side {
@@ -31,7 +31,7 @@ pub fn place_of_interruption(
 }
 
 fn place_in(alloc: Global, work: &Work, interruption: Interruption, origin: Origin<'_>) -> Vec<u8>
-    ensures { TellsPlace work.now.options.quiet (run_place work.now.options.lines interruption.fault (origin_text origin.entry) interruption.answered) result.items }
+    ensures { ReportsPlace work.now.options.quiet (run_place work.now.options.lines interruption.fault (origin_text origin.entry) interruption.answered) result.items }
 {
     if work.options.quiet {
         return Vec::new(alloc);
@@ -86,7 +86,7 @@ pub fn put_count(
 
 /// How many lines were answered with which status. It is empty at a quiet job, and where no memory is left for it.
 pub fn place_of_tally(alloc: Global, quiet: bool, tally: Tally) -> Vec<u8>
-    ensures { TellsPlace quiet (tally_text tally.done tally.negative tally.refused) result.items }
+    ensures { ReportsPlace quiet (tally_text tally.done tally.negative tally.refused) result.items }
 {
     if quiet {
         return Vec::new(alloc);

@@ -1,7 +1,7 @@
 //! A job, its input and its output.
 ghost use Rattle.std.specs.Prelude.{◌≡◌, false};
 ghost use Rattle.bcs_tool.specs.Running.{Ends, IsOutcomeOf, Runs};
-ghost use Rattle.bcs_tool_answers.specs.Judging.{ReadsInput};
+ghost use Rattle.bcs_tool_answers.specs.Validating.{ReadsInput};
 ghost use Rattle.bcs_tool_answers.specs.Preparing.{IsAskedBy};
 ghost use Rattle.bcs_tool_command_line.specs.FaultPlaces.{origin_text};
 
@@ -79,7 +79,7 @@ pub fn failed(note: &'static str, place: Vec<u8>) -> Outcome
     }
 }
 
-// Judges the words of the job, and then answers its input, or each line of it.
+// Validates the words of the job, and then answers its input, or each line of it.
 fn put_answers<S: ByteSource, K: ByteSink>(
     alloc: Global,
     work: &Work,

@@ -1,4 +1,4 @@
-//! Bytes that are judged as they come, of which none is held but those of open keys.
+//! Bytes that are validated as they come, of which none is held but those of open keys.
 ghost use Rattle.std.specs.Prelude.{◌≡◌, ◌↔◌, true, IsErrOf};
 ghost use Rattle.bcs_registry_model.specs.View.{shape_of};
 ghost use Rattle.bcs_registry_model.specs.WellFormed.{Admits};

@@ -1,7 +1,7 @@
 //! Text that may hold what people typed, on the standard error.
 ghost use Rattle.std.specs.Prelude.{◌≡◌, ◌<◌, false, map, string_bytes, OnOk, OnErr};
 ghost use Rattle.bcs_io.specs.Taking.{Took};
-ghost use Rattle.bcs_look_text.specs.Escaped.{last_digit, numbered};
+ghost use Rattle.bcs_display_text.specs.Escaped.{last_digit, numbered};
 ghost use Rattle.bcs_tool.specs.Running.{PutFront};
 ghost use Rattle.bcs_tool.specs.Visible as visible;
 

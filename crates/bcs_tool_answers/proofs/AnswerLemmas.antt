@@ -1,38 +1,8 @@
 -- An answer of an equal status and equal output, and what is asked of an input.
-use Rattle.std.proofs.Common.{◌≡◌, ◌≢◌, ◌≤◌, ◌<◌, ◌⊎◌, ◌++◌, [], Err, IfSome, List, Ok, Option, Some, arith, inl, inr, length, subst, sym, true, ℕ}
-use Rattle.bcs_registry_model.specs.Container.{Entries}
-use Rattle.bcs_registry_model.specs.Shape.{Shape}
-use Rattle.bcs_registry_model.specs.View.{shape_of}
-use Rattle.bcs_value_model.specs.Tree.{Tree}
-use Rattle.bcs_value_model.specs.Limits.{Bounds}
-use Rattle.bcs_decode_spec.specs.Accepting.{Accepts}
-use Rattle.bcs_decode_spec.specs.Stopping.{StopsAll}
-use Rattle.bcs_decode_spec.specs.declared.stop.Stop.{Stop}
-use Rattle.bcs_json.specs.Showing.{Shows}
-use Rattle.bcs_json.specs.declared.from_fault.FromFault.{FromFault}
+use Rattle.bcs_tool_answers.proofs.Prelude.{◌≡◌, ◌≢◌, ◌≤◌, ◌<◌, ◌⊎◌, ◌++◌, [], Err, IfSome, List, Ok, Option, Some, arith, inl, inr, length, subst, sym, true, ℕ, Entries, Shape, shape_of, Tree, Bounds, Accepts, StopsAll, Stop, Shows, FromFault, json_fault_name, of, shown, Denotes, RefusesText, nesting_limit, JsonFault, decode_of, FromHexError, OutOfMemory, depth, Answers, AnswersTexts, IsAsked, checked, compared, damaged, decoded, described, different, encoded, equal, exampled, explained, first_refused, found, front_stopped, grown, no_bytes, normalised, nowhere, refusal_line, refused, refused_early, scan_stopped, scanned, second_refused, stopped, too_nested, IsAnswer, Places, PrintsWithoutPlace, MayReport, nothing, told, RefusesJobOf, RefusesFormatted, RefusesPart, works_on_values, IsAskedBy, Answer, JobFault, BadPath, Growth, Registry, Asked, size_limit, Work, Command, Check, Show, Example, Schema, Encode, Decode, Explain, Normalise, Same, Scan}
 use Rattle.bcs_json.specs.declared.from_fault.FromFault.TheVariants as from
-use Rattle.bcs_json_spec.specs.FaultNames.{json_fault_name}
-use Rattle.bcs_json_spec.specs.JsonContent.{of}
-use Rattle.bcs_json_spec.specs.Shown.{shown}
-use Rattle.bcs_json_spec.specs.Texts.{Denotes, RefusesText, nesting_limit}
-use Rattle.bcs_json_spec.specs.declared.json_fault.JsonFault.{JsonFault}
-use Rattle.hex.specs.Hex.{decode_of}
-use Rattle.hex.specs.declared.error.FromHexError.{FromHexError}
-use Rattle.hex.specs.declared.error.FromHexError.TheVariants.{OutOfMemory}
-use Rattle.serde_json.specs.Data.{depth}
-use Rattle.bcs_tool_answers.specs.Answers.{Answers, AnswersTexts, IsAsked, checked, compared, damaged, decoded, described, different, encoded, equal, exampled, explained, first_refused, found, front_stopped, grown, no_bytes, normalised, nowhere, refusal_line, refused, refused_early, scan_stopped, scanned, second_refused, stopped, too_nested}
 use Rattle.bcs_tool_answers.specs.Answers as answers
-use Rattle.bcs_tool_answers.specs.Places.{IsAnswer, Places, PrintsWithoutPlace, MayReport, nothing, told}
-use Rattle.bcs_tool_answers.specs.Judging.{RefusesJobOf, RefusesFormatted, RefusesPart, works_on_values}
-use Rattle.bcs_tool_answers.specs.Preparing.{IsAskedBy}
-use Rattle.bcs_tool_answers.specs.declared.answer.Answer.{Answer}
-use Rattle.bcs_tool_answers.specs.declared.job_fault.JobFault.{JobFault}
-use Rattle.bcs_tool_answers.specs.declared.job_fault.JobFault.TheVariants.{BadPath, Growth, Registry}
-use Rattle.bcs_tool_answers.specs.declared.judging.Asked.{Asked}
-use Rattle.bcs_tool_command_line.specs.Files.{size_limit}
-use Rattle.bcs_tool_command_line.specs.declared.work.Work.{Work}
-use Rattle.bcs_tool_command_line.specs.declared.command.Command.{Command}
-use Rattle.bcs_tool_command_line.specs.declared.command.Command.TheVariants.{Check, Grows, Show, Example, Schema, Encode, Decode, Explain, Normalise, Same, Part, Scan}
+use Rattle.bcs_tool_command_line.specs.declared.command.Command.TheVariants.{Grows, Part}
 
 places_of : {work : Work} {input place : List ℕ} → MayReport work place → Places work input place
 places_of (inl none) = nothing none
@@ -41,16 +11,16 @@ places_of (inr line) = told line.0 line.1
 -- an answer of this status and this output, with a place that may be told beside it, behind a list
 pub behind_list : (work : Work) (list input : List ℕ) (s : ℕ) (p : List ℕ) (a : Answer) → a.status ≡ s → a.output.items ≡ p → MayReport work a.place.items
     → Answers work input s (list ++ p) → Answers work input a.status (list ++ a.output.items) × Places work input a.place.items
-behind_list work list input s p a same_status same_output tells is = (
+behind_list work list input s p a same_status same_output reports is = (
   subst (λ (n : ℕ). Answers work input n (list ++ a.output.items)) (sym same_status)
       (subst (λ (bytes : List ℕ). Answers work input s (list ++ bytes)) (sym same_output) is),
-  places_of tells,
+  places_of reports,
 )
 
 -- behind none
 pub placed_answer : (work : Work) (input : List ℕ) (s : ℕ) (p : List ℕ) (a : Answer) → a.status ≡ s → a.output.items ≡ p → MayReport work a.place.items
     → Answers work input s p → IsAnswer work input a
-placed_answer work input s p a same_status same_output tells is = behind_list work [] input s p a same_status same_output tells is
+placed_answer work input s p a same_status same_output reports is = behind_list work [] input s p a same_status same_output reports is
 
 -- with the list
 pub listed_answer : (work : Work) (list input : List ℕ) (verdict a : Answer) → a.status ≡ verdict.status → a.place.items ≡ verdict.place.items
@@ -67,7 +37,7 @@ same_answer work input a s p h is = placed_answer work input s p a h.same_status
 
 -- an answer with a place that was set
 pub with_place : (work : Work) (place set : List ℕ) → place ≡ set → MayReport work set → MayReport work place
-with_place work place set same tells = subst (λ (text : List ℕ). MayReport work text) (sym same) tells
+with_place work place set same reports = subst (λ (text : List ℕ). MayReport work text) (sym same) reports
 
 pub if_some_holds : {T : Type 0} (P : T → Type 0) (x : Option T) (t : T) → x ≡ Some t → IfSome x P → P t
 if_some_holds P x t is h = subst (λ y. IfSome y P) is h

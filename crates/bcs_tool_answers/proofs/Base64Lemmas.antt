@@ -1,17 +1,7 @@
 -- A text is the base64 of bytes, and of no others, or of none.
-use Rattle.std.proofs.Common.{◌≡◌, ◌≢◌, ◌∙◌, ◌⊎◌, ◌∷◌, ◌<◌, [], inl, inr, ℕ, zero, suc, List, Result, Ok, Err, IfOk, ap, arith, refl, subst, sym, bytes_eq}
-use Rattle.std.proofs.lemmas.Bool.{cases_Bool, cases_lt}
-use Rattle.std.proofs.lemmas.List.Elements.{All-nil, All-cons, All-head, All-tail, All-from_get_or}
-use Rattle.std.proofs.lemmas.Slice.Eq.{bytes_eq-Decides}
-use Rattle.base64.proofs.EngineFacts.{decode_of-encode_of}
-use Rattle.base64.specs.Engines.{standard}
-use Rattle.base64.specs.GeneralPurpose.{IsBytes, IsConsistent, IsDecodeFailure, IsStrict, decode_of, encode_of}
-use Rattle.base64.specs.declared.decode.DecodeAllocError.{DecodeAllocError}
-use Rattle.base64.specs.declared.decode.DecodeAllocError.TheVariants.{DecodeError as Failed, OutOfMemory}
-use Rattle.base64.specs.declared.decode.DecodeError.{DecodeError}
-use Rattle.base64.specs.declared.engine.general_purpose.GeneralPurpose.{GeneralPurpose}
-use Rattle.bcs_decode_spec.specs.Exact.{AreBytes}
-use Rattle.bcs_tool_answers.specs.Input.{IsBase64Of, base64_text}
+use Rattle.bcs_tool_answers.proofs.Prelude.{◌≡◌, ◌≢◌, ◌∙◌, ◌⊎◌, ◌∷◌, ◌<◌, [], inl, inr, ℕ, zero, suc, List, Result, Ok, Err, IfOk, ap, arith, refl, subst, sym, bytes_eq, cases_Bool, cases_lt, All-nil, All-cons, All-head, All-tail, All-from_get_or, bytes_eq-Decides, decode_of-encode_of, standard, IsBytes, IsConsistent, IsDecodeFailure, IsStrict, encode_of, DecodeAllocError, Failed, DecodeError, GeneralPurpose, AreBytes, IsBase64Of, base64_text}
+use Rattle.base64.specs.GeneralPurpose.{decode_of}
+use Rattle.base64.specs.declared.decode.DecodeAllocError.TheVariants.{OutOfMemory}
 
 -- the decoder takes what the encoder writes, and nothing else
 pub is_strict : IsStrict standard

@@ -1,7 +1,8 @@
+pub mod Prelude
 pub mod AnswerLemmas
 pub mod PartAnswers
 pub mod ScanAnswers
-pub mod JudgingLemmas
+pub mod ValidatingLemmas
 pub mod OneRefusal
 pub mod OnePair
 pub mod OneKind

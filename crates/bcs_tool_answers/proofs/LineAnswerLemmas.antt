@@ -1,10 +1,7 @@
 -- The answers to lines, one after another: one more behind them, and their statuses.
-use Rattle.std.proofs.Common.{◌≡◌, ◌<◌, ◌≤◌, ◌++◌, ◌∷◌, ◌∙◌, ◌==◌, [], ℕ, suc, List, Bool, true, false, max, append_assoc, append-nil, ap, arith, if◌then◌else◌, length, refl, subst, sym}
-use Rattle.bcs_tool_answers.specs.Answers.{Answers}
-use Rattle.bcs_tool_answers.specs.LineAnswers.{AnswersAll, count_of, greatest}
+use Rattle.bcs_tool_answers.proofs.Prelude.{◌≡◌, ◌<◌, ◌≤◌, ◌++◌, ◌∷◌, ◌∙◌, ◌==◌, [], ℕ, suc, List, Bool, true, false, max, append_assoc, append-nil, ap, arith, if◌then◌else◌, length, refl, subst, sym, Answers, AnswersAll, count_of, greatest, Work}
 use Rattle.bcs_tool_answers.specs.LineAnswers as all
 use Rattle.bcs_tool_answers.proofs.AnswerLemmas.{status_below}
-use Rattle.bcs_tool_command_line.specs.declared.work.Work.{Work}
 
 -- the line's answer stands behind those of the lines before it
 pub answers_snoc : (work : Work) (lines : List (List ℕ)) (statuses outputs line : List ℕ) (status : ℕ) (output : List ℕ)

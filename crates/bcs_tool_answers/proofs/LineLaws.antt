@@ -1,18 +1,8 @@
 -- The lines of an input have exactly one answer each.
-use Rattle.std.proofs.Common.{◌≡◌, ◌<◌, ◌≤◌, ◌++◌, ◌∷◌, ◌∙◌, ◌==◌, [], ℕ, List, ap, ap₂, cond, inl, inr, length, refl, subst, sym}
-use Rattle.std.specs.List.{All}
-use Rattle.std.proofs.lemmas.Bool.{cases_Bool}
-use Rattle.std.proofs.lemmas.List.Elements.{All-nil, All-cons, All-head, All-tail}
-use Rattle.bcs_decode_spec.specs.Exact.{AreBytes}
-use Rattle.bcs_io.specs.Lines.{lines_of, onto}
-use Rattle.bcs_tool_answers.specs.AnswerLaws.{IsExact, OneAnswerALine, SomeAnswerALine}
-use Rattle.bcs_tool_answers.specs.Answers.{Answers}
-use Rattle.bcs_tool_answers.specs.LineAnswers.{AnswersAll, greatest}
+use Rattle.bcs_tool_answers.proofs.Prelude.{◌≡◌, ◌<◌, ◌≤◌, ◌++◌, ◌∷◌, ◌∙◌, ◌==◌, [], ℕ, List, ap, ap₂, cond, inl, inr, length, refl, subst, sym, All, cases_Bool, All-nil, All-cons, All-head, All-tail, AreBytes, lines_of, onto, IsExact, OneAnswerALine, SomeAnswerALine, Answers, AnswersAll, greatest, size_limit, Work}
 use Rattle.bcs_tool_answers.specs.LineAnswers as all
 use Rattle.bcs_tool_answers.proofs.OneAnswer.{one_answer}
 use Rattle.bcs_tool_answers.proofs.SomeAnswer.{some_answer}
-use Rattle.bcs_tool_command_line.specs.Files.{size_limit}
-use Rattle.bcs_tool_command_line.specs.declared.work.Work.{Work}
 
 module _ (work : Work) where
   -- ---- at most one

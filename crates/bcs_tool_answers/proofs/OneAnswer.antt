@@ -1,26 +1,8 @@
 -- A job has at most one answer to an input.
-use Rattle.std.proofs.Common.{◌≡◌, ◌∙◌, ◌⊎◌, ◌++◌, inl, inr, ℕ, List, codes, length, string_bytes, ap, refl, sym, subst}
-use Rattle.bcs_registry_model.specs.Container.{Entries}
-use Rattle.bcs_registry_model.specs.Grows.{Grows}
-use Rattle.bcs_registry_model.specs.Ranges.{IsOrderly}
-use Rattle.bcs_registry_model.specs.Shape.{Shape}
-use Rattle.bcs_encode_spec.specs.Plain.{plain}
-use Rattle.bcs_decode_parts.specs.Parts.{Step}
-use Rattle.bcs_registry.proofs.OneText.{same_registry}
-use Rattle.bcs_decode_parts.specs.Path.{SpellsPath}
-use Rattle.bcs_decode_parts.proofs.Parts.{one_path}
-use Rattle.bcs_tool_command_line.specs.Jobs.{coding_of}
-use Rattle.bcs_tool_command_line.specs.declared.work.Work.{Work}
-use Rattle.bcs_tool_command_line.specs.declared.command.Command.{Command}
-use Rattle.bcs_tool_command_line.specs.declared.command.Command.TheVariants.{Check, Encode, Decode, Normalise}
+use Rattle.bcs_tool_answers.proofs.Prelude.{◌≡◌, ◌∙◌, ◌⊎◌, ◌++◌, inl, inr, ℕ, List, codes, length, string_bytes, ap, refl, sym, subst, Entries, Grows, IsOrderly, Shape, plain, Step, same_registry, SpellsPath, one_path, coding_of, Work, Command, Check, Encode, Decode, Normalise, IsExact, OneAnswer, json_fault_name, Answers, AnswersTexts, IsAsked, Lists, count_line, line_of, lists, printed, printed_none, refusal_line, stop_line, IsFormatWord, IsPathOf, IsRegistry, RefusesJobOf, RefusesFormatted, job_fault_name, JobFault}
 use Rattle.bcs_tool_command_line.specs.declared.command.Command.TheVariants as command
-use Rattle.bcs_tool_answers.specs.AnswerLaws.{IsExact, OneAnswer}
-use Rattle.bcs_json_spec.specs.FaultNames.{json_fault_name}
-use Rattle.bcs_tool_answers.specs.Answers.{Answers, AnswersTexts, IsAsked, Lists, count_line, line_of, lists, printed, printed_none, refusal_line, stop_line}
 use Rattle.bcs_tool_answers.specs.Answers as answer
 use Rattle.bcs_tool_answers.specs.Input as given
-use Rattle.bcs_tool_answers.specs.Judging.{IsFormatWord, IsPathOf, IsRegistry, RefusesJobOf, RefusesFormatted, job_fault_name}
-use Rattle.bcs_tool_answers.specs.declared.job_fault.JobFault.{JobFault}
 use Rattle.bcs_tool_answers.proofs.OneKind.{Decoded, Encoded, Normalised, Parted, Scanned, one_decoded, one_encoded, one_normalised, one_parted, one_scanned}
 use Rattle.bcs_tool_answers.proofs.OnePair.{Agrees, one_pair}
 use Rattle.bcs_tool_answers.proofs.OneRefusal.{not_checked, not_formatted, not_grown, not_parted, one_format_word, one_refusal, unlisted}

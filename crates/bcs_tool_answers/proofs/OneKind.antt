@@ -1,35 +1,9 @@
 -- At a registry and a format there is at most one answer of each kind.
-use Rattle.std.proofs.Common.{◌≡◌, ◌<◌, ◌∙◌, ◌⊎◌, inl, inr, ℕ, List, Some, None, Ok, codes, length, ap, ap₂, arith, sym, subst}
-use Rattle.serde_json.specs.Data.{depth}
-use Rattle.serde_json.specs.Written.{compact_text}
-use Rattle.bcs_registry_model.specs.Container.{Entries}
+use Rattle.bcs_tool_answers.proofs.Prelude.{◌≡◌, ◌<◌, ◌∙◌, ◌⊎◌, inl, inr, ℕ, List, Some, None, Ok, codes, length, ap, ap₂, arith, sym, subst, depth, compact_text, Entries, IsOrderly, Shape, same-refl, Tree, bytes_decide_same, forms_same, Encodes, IsForm, plain, Accepts, Stops, StopsAll, accepts_once_is, no_two_verdicts_are, no_two_verdicts_of_all_are, stops_all_once_is, stops_once_is, Step, Part, part_at, Reason, HasBytes, Normalises, ShowsBytes, of, shown, nesting_limit, shown_is_lowest, denotes_once, coding_of, Coding, Hexadecimal, Base64, Raw, Work, ScanStops, count_line, line_of, printed, printed_none, refusal_line, stop_line}
 use Rattle.bcs_registry_model.specs.Container as container
-use Rattle.bcs_registry_model.specs.Ranges.{IsOrderly}
-use Rattle.bcs_registry_model.specs.Shape.{Shape}
-use Rattle.bcs_value_model.proofs.Equivalence.{same-refl}
-use Rattle.bcs_value_model.specs.Tree.{Tree}
-use Rattle.bcs_encode_spec.proofs.FormLaws.{bytes_decide_same, forms_same}
-use Rattle.bcs_encode_spec.specs.Encodes.{Encodes, IsForm}
-use Rattle.bcs_encode_spec.specs.Plain.{plain}
-use Rattle.bcs_decode_spec.specs.Accepting.{Accepts}
-use Rattle.bcs_decode_spec.specs.Stopping.{Stops, StopsAll}
-use Rattle.bcs_decode_spec.proofs.Verdicts.{accepts_once_is, no_two_verdicts_are, no_two_verdicts_of_all_are, stops_all_once_is, stops_once_is}
-use Rattle.bcs_decode_parts.specs.Parts.{Step, Part, part_at}
-use Rattle.bcs_decode_spec.specs.declared.reason.Reason.{Reason}
-use Rattle.bcs_json_spec.specs.Headline.{HasBytes, Normalises, ShowsBytes}
-use Rattle.bcs_json_spec.specs.JsonContent.{of}
-use Rattle.bcs_json_spec.specs.Shown.{shown}
-use Rattle.bcs_json_spec.specs.Texts.{nesting_limit}
-use Rattle.bcs_json_spec.proofs.Lowest.{shown_is_lowest}
-use Rattle.bcs_json_spec.proofs.TextLaws.{denotes_once}
-use Rattle.bcs_tool_command_line.specs.Jobs.{coding_of}
-use Rattle.bcs_tool_command_line.specs.declared.coding.Coding.{Coding}
-use Rattle.bcs_tool_command_line.specs.declared.coding.Coding.TheVariants.{Hexadecimal, Base64, Raw}
-use Rattle.bcs_tool_command_line.specs.declared.work.Work.{Work}
 use Rattle.bcs_tool_answers.proofs.Base64Lemmas.{one_base64}
 use Rattle.bcs_tool_answers.proofs.OnePair.{Agrees, Refused, not_both, one_refused}
 use Rattle.bcs_tool_answers.proofs.ScanAnswers.{Scans, not_scanned, one_count, one_scan_stop}
-use Rattle.bcs_tool_answers.specs.Answers.{ScanStops, count_line, line_of, printed, printed_none, refusal_line, stop_line}
 use Rattle.bcs_tool_answers.specs.Input as given
 
 -- the bytes that an input gives are its own

@@ -1,19 +1,6 @@
 -- A text is refused for one reason, and two texts have one answer.
-use Rattle.std.proofs.Common.{◌≡◌, ◌∙◌, ◌⊎◌, inl, inr, ℕ, List, Bool, true, false, codes, ap, refl, sym, subst}
-use Rattle.std.proofs.lemmas.Bool.{true≢false}
-use Rattle.bcs_registry_model.specs.Container.{Entries}
-use Rattle.bcs_registry_model.specs.Ranges.{IsOrderly}
-use Rattle.bcs_registry_model.specs.Shape.{Shape}
-use Rattle.bcs_value_model.specs.Tree.{Tree}
-use Rattle.bcs_value_model.specs.Limits.{Bounds}
+use Rattle.bcs_tool_answers.proofs.Prelude.{◌≡◌, ◌∙◌, ◌⊎◌, inl, inr, ℕ, List, Bool, true, false, codes, ap, refl, sym, subst, true≢false, Entries, IsOrderly, Shape, Tree, Bounds, json_fault_name, Compares, Denotes, RefusesText, JsonFault, text_denotes_or_is_refused, denoted_is_not_refused, denotes_once, AnswersTexts, different, equal, first_refused, line_of, refusal_line, second_refused}
 use Rattle.bcs_value_model.specs.Same.{Same}
-use Rattle.bcs_json_spec.specs.FaultNames.{json_fault_name}
-use Rattle.bcs_json_spec.specs.Headline.{Compares}
-use Rattle.bcs_json_spec.specs.Texts.{Denotes, RefusesText}
-use Rattle.bcs_json_spec.specs.declared.json_fault.JsonFault.{JsonFault}
-use Rattle.bcs_json_spec.proofs.OneAnswer.{text_denotes_or_is_refused}
-use Rattle.bcs_json_spec.proofs.TextLaws.{denoted_is_not_refused, denotes_once}
-use Rattle.bcs_tool_answers.specs.Answers.{AnswersTexts, different, equal, first_refused, line_of, refusal_line, second_refused}
 
 -- the same status and the same output
 abbrev pub Agrees : ℕ → List ℕ → ℕ → List ℕ → Type 0

@@ -1,28 +1,6 @@
 -- The words of a job are refused for one reason, and then nothing else is answered.
-use Rattle.std.proofs.Common.{◌≡◌, ◌∙◌, inl, inr, ℕ, List, Option, Some, None, Result, Ok, Err, true, false, ap, refl, string_bytes, sym, subst}
-use Rattle.std.specs.Prelude.{is_some}
-use Rattle.std.specs.Result.{result_err}
-use Rattle.std.proofs.lemmas.Bool.{true≢false}
-use Rattle.bcs_registry_model.specs.Container.{Entries, container_at}
-use Rattle.bcs_registry_model.specs.Growing.{growth_fault}
-use Rattle.bcs_registry_model.specs.Grows.{Grows, IsFirstGrowthFault}
-use Rattle.bcs_registry_model.specs.Shape.{Shape}
-use Rattle.bcs_registry_model.specs.declared.fault.RegistryFault.{RegistryFault}
-use Rattle.bcs_registry_model.specs.declared.growth_fault.GrowthFault.{GrowthFault}
-use Rattle.bcs_registry_model.proofs.FirstFaults.{fault_exactly, ok_exactly}
-use Rattle.bcs_registry.specs.Faults.{IsLeastFault}
-use Rattle.bcs_registry.proofs.OneFault.{one_fault, one_format_fault}
-use Rattle.bcs_registry.proofs.OneText.{same_format, same_registry}
-use Rattle.bcs_decode_parts.specs.Parts.{Step}
-use Rattle.bcs_decode_parts.specs.Path.{SpellsPath}
-use Rattle.bcs_tool_command_line.specs.declared.work.Work.{Work}
-use Rattle.bcs_tool_command_line.specs.declared.command.Command.{Command}
+use Rattle.bcs_tool_answers.proofs.Prelude.{◌≡◌, ◌∙◌, inl, inr, ℕ, List, Option, Some, None, Result, Ok, Err, true, false, ap, refl, string_bytes, sym, subst, is_some, result_err, true≢false, Entries, container_at, growth_fault, Grows, IsFirstGrowthFault, Shape, RegistryFault, GrowthFault, fault_exactly, ok_exactly, IsLeastFault, one_fault, one_format_fault, same_format, same_registry, Step, SpellsPath, Work, Command, IsExact, lists, IsFormatWord, IsPathOf, IsRegistry, ReadsInput, RefusesJobOf, RefusesCheck, RefusesEarly, RefusesFormatWord, RefusesFormatted, RefusesGrowth, RefusesPart, is_json_word, works_on_values, JobFault, BadPath, Registry, Growth}
 use Rattle.bcs_tool_command_line.specs.declared.command.Command.TheVariants as command
-use Rattle.bcs_tool_answers.specs.AnswerLaws.{IsExact}
-use Rattle.bcs_tool_answers.specs.Answers.{lists}
-use Rattle.bcs_tool_answers.specs.Judging.{IsFormatWord, IsPathOf, IsRegistry, ReadsInput, RefusesJobOf, RefusesCheck, RefusesEarly, RefusesFormatWord, RefusesFormatted, RefusesGrowth, RefusesPart, is_json_word, works_on_values}
-use Rattle.bcs_tool_answers.specs.declared.job_fault.JobFault.{JobFault}
-use Rattle.bcs_tool_answers.specs.declared.job_fault.JobFault.TheVariants.{BadPath, Registry, Growth}
 
 -- ---- FORMAT
 

@@ -1,12 +1,7 @@
 -- The answers to pairs of lines, one after another: one more behind them.
-use Rattle.std.proofs.Common.{◌≡◌, ◌<◌, ◌++◌, ◌∷◌, [], ℕ, suc, List, append_assoc, append-nil, ap, arith, length, refl, subst, sym}
-use Rattle.bcs_tool_answers.specs.LineAnswers.{greatest}
-use Rattle.bcs_tool_answers.specs.PairAnswers.{AnswersPair, AnswersPairs}
+use Rattle.bcs_tool_answers.proofs.Prelude.{◌≡◌, ◌<◌, ◌++◌, ◌∷◌, [], ℕ, suc, List, append_assoc, append-nil, ap, arith, length, refl, subst, sym, greatest, AnswersPair, AnswersPairs, Ending, Together, Work}
 use Rattle.bcs_tool_answers.specs.PairAnswers as pairs
-use Rattle.bcs_tool_answers.specs.declared.ending.Ending.{Ending}
-use Rattle.bcs_tool_answers.specs.declared.ending.Ending.TheVariants.{Together}
 use Rattle.bcs_tool_answers.proofs.AnswerLemmas.{pair_below}
-use Rattle.bcs_tool_command_line.specs.declared.work.Work.{Work}
 
 module _ (work : Work) where
   -- what is answered behind pairs stands behind their answers

@@ -1,21 +1,9 @@
 -- The lines of two files have exactly one answer.
-use Rattle.std.proofs.Common.{◌≡◌, ◌++◌, ◌∷◌, ◌∙◌, [], ℕ, List, ap, ap₂, codes, refl, string_bytes, subst, sym}
-use Rattle.bcs_registry_model.specs.Container.{Entries}
-use Rattle.bcs_registry_model.specs.Shape.{Shape}
-use Rattle.bcs_registry.proofs.OneText.{same_registry}
-use Rattle.bcs_io.specs.Lines.{lines_of}
-use Rattle.bcs_tool_answers.specs.AnswerLaws.{OneComparison, SomeComparison}
-use Rattle.bcs_tool_answers.specs.Answers.{AnswersTexts, line_of}
-use Rattle.bcs_tool_answers.specs.Judging.{IsFormatWord, ReadsInput}
-use Rattle.bcs_tool_answers.specs.LineAnswers.{greatest}
-use Rattle.bcs_tool_answers.specs.PairAnswers.{AnswersPair, AnswersPairs}
+use Rattle.bcs_tool_answers.proofs.Prelude.{◌≡◌, ◌++◌, ◌∷◌, ◌∙◌, [], ℕ, List, ap, ap₂, codes, refl, string_bytes, subst, sym, Entries, Shape, same_registry, lines_of, OneComparison, SomeComparison, AnswersTexts, line_of, IsFormatWord, ReadsInput, greatest, AnswersPair, AnswersPairs, Ending, Together, FirstEnds, SecondEnds, Work}
 use Rattle.bcs_tool_answers.specs.PairAnswers as pairs
-use Rattle.bcs_tool_answers.specs.declared.ending.Ending.{Ending}
-use Rattle.bcs_tool_answers.specs.declared.ending.Ending.TheVariants.{Together, FirstEnds, SecondEnds}
 use Rattle.bcs_tool_answers.proofs.OnePair.{Agrees, one_pair}
 use Rattle.bcs_tool_answers.proofs.OneRefusal.{one_format_word}
 use Rattle.bcs_tool_answers.proofs.SomePair.{some_pair}
-use Rattle.bcs_tool_command_line.specs.declared.work.Work.{Work}
 
 module _ (work : Work) where
   -- ---- at most one

@@ -1,19 +1,7 @@
 -- The answers to a part, by what `part` hands out.
-use Rattle.std.proofs.Common.{◌≡◌, ℕ, List, Option, Some, None, refl, string_bytes, sym, subst}
-use Rattle.bcs_registry_model.specs.Container.{Entries, of}
-use Rattle.bcs_registry_model.specs.Shape.{Shape}
-use Rattle.bcs_value_model.specs.Tree.{Tree}
-use Rattle.bcs_decode_spec.specs.Accepting.{Accepts}
-use Rattle.bcs_decode_parts.specs.Parts.{Step, Part, part_at}
-use Rattle.bcs_decode_parts.specs.Steps.{GivesPart}
+use Rattle.bcs_tool_answers.proofs.Prelude.{◌≡◌, ℕ, List, Option, Some, None, refl, string_bytes, sym, subst, Entries, Shape, Tree, Accepts, Step, Part, part_at, GivesPart, SpellsPath, Answers, IsAsked, found, nowhere, printed, printed_none, GivesBytes, IsPathOf, coding_of, Work, Command}
+use Rattle.bcs_registry_model.specs.Container.{of}
 use Rattle.bcs_decode_parts.specs.declared.part.Part as handed
-use Rattle.bcs_decode_parts.specs.Path.{SpellsPath}
-use Rattle.bcs_tool_answers.specs.Answers.{Answers, IsAsked, found, nowhere, printed, printed_none}
-use Rattle.bcs_tool_answers.specs.Input.{GivesBytes}
-use Rattle.bcs_tool_answers.specs.Judging.{IsPathOf}
-use Rattle.bcs_tool_command_line.specs.Jobs.{coding_of}
-use Rattle.bcs_tool_command_line.specs.declared.work.Work.{Work}
-use Rattle.bcs_tool_command_line.specs.declared.command.Command.{Command}
 use Rattle.bcs_tool_command_line.specs.declared.command.Command.TheVariants as command
 
 -- the steps of the job's PATH, which are these too

@@ -1,15 +1,5 @@
 -- Bytes are scanned with one count, or stop for one reason at one place.
-use Rattle.std.proofs.Common.{◌≡◌, ◌⊎◌, inl, inr, ℕ, List, Bool, false, length, refl, subst, true}
-use Rattle.std.proofs.lemmas.Bool.{true≢false}
-use Rattle.bcs_registry_model.specs.Container.{Entries}
-use Rattle.bcs_registry_model.specs.Shape.{Shape}
-use Rattle.bcs_value_model.specs.Limits.{Bounds}
-use Rattle.bcs_value_model.specs.Tree.{Tree}
-use Rattle.bcs_decode_spec.specs.Accepting.{Accepts}
-use Rattle.bcs_decode_spec.specs.Exact.{AreBytes}
-use Rattle.bcs_decode_spec.specs.declared.reason.Reason.{Reason}
-use Rattle.bcs_decode_spec.proofs.Verdicts.{accepts_once_is, no_two_verdicts_are, no_two_verdicts_of_all_are, some_verdict_is, some_verdict_of_all_is, stops_all_once_is, stops_once_is}
-use Rattle.bcs_tool_answers.specs.Answers.{ScanStops}
+use Rattle.bcs_tool_answers.proofs.Prelude.{◌≡◌, ◌⊎◌, inl, inr, ℕ, List, Bool, false, length, refl, subst, true, true≢false, Entries, Shape, Bounds, Tree, Accepts, AreBytes, Reason, accepts_once_is, no_two_verdicts_are, no_two_verdicts_of_all_are, some_verdict_is, some_verdict_of_all_is, stops_all_once_is, stops_once_is, ScanStops}
 
 module _ (registry : Entries) (limits : Bounds) (s : Shape) (bytes : List ℕ) where
   -- the value at the front is all that is asked for

@@ -1,36 +1,13 @@
 -- Each job has an answer to each input within the size, a lemma for each command.
-use Rattle.std.proofs.Common.{◌≡◌, inl, inr, ℕ, List, true, refl, string_bytes, subst, sym, [], Option, Some, None}
-use Rattle.std.proofs.lemmas.Bool.{cases_lt}
-use Rattle.serde_json.specs.Data.{depth}
+use Rattle.bcs_tool_answers.proofs.Prelude.{◌≡◌, inl, inr, ℕ, List, true, refl, string_bytes, subst, sym, [], Option, Some, None, cases_lt, depth, Entries, Shape, UnknownName, Tree, some_verdict_is, some_verdict_of_all_is, Accepts, AreBytes, Part, Step, part_at, of, nesting_limit, some_bytes, some_normal_text, some_shown_text, SomeAnswer, Answers, IsAsked, IsWithin, checked, compared, damaged, decoded, described, encoded, exampled, explained, found, front_stopped, grown, no_bytes, normalised, nowhere, refused, refused_early, scan_stopped, scanned, stopped, too_nested, GivesBytes, IsFormatWord, IsPathOf, IsRegistry, RefusesJobOf, name_of, works_on_values, JobFault, BadPath, Growth, Registry, coding_of, Work, some_path, SpellsPath, Command}
 use Rattle.bcs_registry_model.specs.Container as container
-use Rattle.bcs_registry_model.specs.Container.{Entries}
-use Rattle.bcs_registry_model.specs.Shape.{Shape}
-use Rattle.bcs_registry_model.specs.declared.fault.RegistryFault.TheVariants.{UnknownName}
-use Rattle.bcs_value_model.specs.Tree.{Tree}
-use Rattle.bcs_decode_spec.proofs.Verdicts.{some_verdict_is, some_verdict_of_all_is}
-use Rattle.bcs_decode_spec.specs.Accepting.{Accepts}
-use Rattle.bcs_decode_spec.specs.Exact.{AreBytes}
-use Rattle.bcs_decode_parts.specs.Parts.{Part, Step, part_at}
-use Rattle.bcs_json_spec.specs.JsonContent.{of}
 use Rattle.bcs_json_spec.specs.Shown as value
-use Rattle.bcs_json_spec.specs.Texts.{nesting_limit}
-use Rattle.bcs_json_spec.proofs.SomeText.{some_bytes, some_normal_text, some_shown_text}
-use Rattle.bcs_tool_answers.specs.AnswerLaws.{SomeAnswer}
-use Rattle.bcs_tool_answers.specs.Answers.{Answers, IsAsked, IsWithin, checked, compared, damaged, decoded, described, encoded, exampled, explained, found, front_stopped, grown, no_bytes, normalised, nowhere, refused, refused_early, scan_stopped, scanned, shown, stopped, too_nested}
-use Rattle.bcs_tool_answers.specs.Input.{GivesBytes}
-use Rattle.bcs_tool_answers.specs.Judging.{IsFormatWord, IsPathOf, IsRegistry, RefusesJobOf, name_of, works_on_values}
-use Rattle.bcs_tool_answers.specs.declared.job_fault.JobFault.{JobFault}
-use Rattle.bcs_tool_answers.specs.declared.job_fault.JobFault.TheVariants.{BadPath, Growth, Registry}
+use Rattle.bcs_tool_answers.specs.Answers.{shown}
 use Rattle.bcs_tool_answers.proofs.AnswerLemmas.{refuses_formatted}
 use Rattle.bcs_tool_answers.proofs.ScanAnswers.{some_scan}
 use Rattle.bcs_tool_answers.proofs.SomeInput.{some_given}
-use Rattle.bcs_tool_answers.proofs.SomePair.{judged, some_pair}
+use Rattle.bcs_tool_answers.proofs.SomePair.{validated, some_pair}
 use Rattle.bcs_tool_answers.proofs.SomeRefusal.{named_or_none, some_formatted, some_growth, some_registry}
-use Rattle.bcs_tool_command_line.specs.Jobs.{coding_of}
-use Rattle.bcs_tool_command_line.specs.declared.work.Work.{Work}
-use Rattle.bcs_decode_parts.proofs.SomePath.{some_path}
-use Rattle.bcs_decode_parts.specs.Path.{SpellsPath}
-use Rattle.bcs_tool_command_line.specs.declared.command.Command.{Command}
 use Rattle.bcs_tool_command_line.specs.declared.command.Command.TheVariants as command
 
 module _ (work : Work) (input : List ℕ) where
@@ -85,13 +62,13 @@ module _ (work : Work) (input : List ℕ) where
 
   module _ (r : Entries) (s : Shape) (registry : IsRegistry work.registry.items r) where
     some_encode : IsAsked work input command.Encode r s → Answered
-    some_encode asked = elim (judged r work.limits s registry.0.2.orderly input) [
+    some_encode asked = elim (validated r work.limits s registry.0.2.orderly input) [
       | inl h ↦ let bytes = some_bytes r work.limits s input h.0 h.1 in (_, _, encoded r s bytes.0 asked bytes.1)
       | inr h ↦ (_, _, refused command.Encode r s h.0 (inl refl) asked h.1)
     ]
 
     some_normalise : IsAsked work input command.Normalise r s → Answered
-    some_normalise asked = elim (judged r work.limits s registry.0.2.orderly input) [
+    some_normalise asked = elim (validated r work.limits s registry.0.2.orderly input) [
       | inl h ↦
           let normal = some_normal_text work.registry.items r work.limits s registry.0 registry.1 input h.0 h.1 in
           (_, _, normalised r s normal.0 asked normal.1)

@@ -1,15 +1,6 @@
 -- An input gives bytes, or gives none.
-use Rattle.std.proofs.Common.{◌≡◌, ◌∙◌, ◌<◌, ◌⊎◌, inl, inr, ℕ, List, Result, Ok, Err, refl, sym}
-use Rattle.std.proofs.lemmas.List.Elements.{All-from_get_or}
-use Rattle.hex.proofs.HexLemmas.{decode_of-ok}
-use Rattle.hex.specs.Hex.{decode_of}
-use Rattle.hex.specs.declared.error.FromHexError.{FromHexError}
-use Rattle.bcs_decode_spec.specs.Exact.{AreBytes}
-use Rattle.bcs_json_spec.specs.Bytes.{IsHexOf}
-use Rattle.bcs_tool_answers.specs.Input.{GivesBytes, without_blanks}
+use Rattle.bcs_tool_answers.proofs.Prelude.{◌≡◌, ◌∙◌, ◌<◌, ◌⊎◌, inl, inr, ℕ, List, Result, Ok, Err, refl, sym, All-from_get_or, decode_of-ok, decode_of, FromHexError, AreBytes, IsHexOf, GivesBytes, without_blanks, Coding, Hexadecimal, Base64, Raw}
 use Rattle.bcs_tool_answers.proofs.Base64Lemmas.{some_base64}
-use Rattle.bcs_tool_command_line.specs.declared.coding.Coding.{Coding}
-use Rattle.bcs_tool_command_line.specs.declared.coding.Coding.TheVariants.{Hexadecimal, Base64, Raw}
 
 -- digits are those of some bytes, or of none
 digits : (text : List ℕ) → ((b : List ℕ) × AreBytes b × IsHexOf text b) ⊎ ((b : List ℕ) → IsHexOf text b → ⊥)

@@ -1,21 +1,5 @@
 -- The words of a job are good, or are refused for a reason.
-use Rattle.std.proofs.Common.{◌≡◌, ◌∙◌, ◌⊎◌, inl, inr, ℕ, List, Option, Some, None, Ok, Err, Bool, true, false, refl, ap, string_bytes, sym}
-use Rattle.std.specs.Prelude.{is_some}
-use Rattle.std.proofs.lemmas.Option.{none-some}
-use Rattle.bcs_registry_model.specs.Container.{Container, Entries, container_at}
-use Rattle.bcs_registry_model.specs.Growing.{growth_fault}
-use Rattle.bcs_registry_model.specs.Grows.{Grows, IsFirstGrowthFault}
-use Rattle.bcs_registry_model.specs.Shape.{Shape, name}
-use Rattle.bcs_registry_model.specs.declared.fault.RegistryFault.{RegistryFault}
-use Rattle.bcs_registry_model.specs.declared.fault.RegistryFault.TheVariants.{UnknownName}
-use Rattle.bcs_registry_model.specs.declared.growth_fault.GrowthFault.{GrowthFault}
-use Rattle.bcs_registry_model.proofs.FirstFaults.{fault_exactly, ok_exactly}
-use Rattle.bcs_registry.specs.Faults.{IsLeastFault}
-use Rattle.bcs_registry.proofs.OrFault.{format_or_fault, registry_or_fault}
-use Rattle.bcs_tool_answers.specs.Judging.{IsFormatWord, IsRegistry, NamesNone, RefusesFormatWord, RefusesFormatted, is_json_word}
-use Rattle.bcs_tool_answers.specs.declared.job_fault.JobFault.{JobFault}
-use Rattle.bcs_tool_answers.specs.declared.job_fault.JobFault.TheVariants.{Registry}
-use Rattle.bcs_tool_command_line.specs.declared.work.Work.{Work}
+use Rattle.bcs_tool_answers.proofs.Prelude.{◌≡◌, ◌∙◌, ◌⊎◌, inl, inr, ℕ, List, Option, Some, None, Ok, Err, Bool, true, false, refl, ap, string_bytes, sym, is_some, none-some, Container, Entries, container_at, growth_fault, Grows, IsFirstGrowthFault, Shape, name, RegistryFault, UnknownName, GrowthFault, fault_exactly, ok_exactly, IsLeastFault, format_or_fault, registry_or_fault, IsFormatWord, IsRegistry, NamesNone, RefusesFormatWord, RefusesFormatted, is_json_word, JobFault, Registry, Work}
 
 -- a text is a registry, or has a fault
 pub some_registry : (text : List ℕ) → ((r : Entries) × IsRegistry text r) ⊎ ((e : RegistryFault) × IsLeastFault text e)

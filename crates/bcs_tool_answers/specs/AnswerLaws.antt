@@ -4,7 +4,7 @@ use Rattle.std.specs.List.{All}
 use Rattle.bcs_decode_spec.specs.Exact.{AreBytes}
 use Rattle.bcs_io.specs.Lines.{lines_of}
 use Rattle.bcs_tool_answers.specs.Answers.{Answers, IsWithin}
-use Rattle.bcs_tool_answers.specs.Judging.{ReadsInput}
+use Rattle.bcs_tool_answers.specs.Validating.{ReadsInput}
 use Rattle.bcs_tool_answers.specs.LineAnswers.{AnswersLines}
 use Rattle.bcs_tool_answers.specs.PairAnswers.{AnswersFiles}
 use Rattle.bcs_tool_command_line.specs.Files.{size_limit}

@@ -1,4 +1,4 @@
-pub mod Judging
+pub mod Validating
 pub mod Input
 pub mod Answers
 pub mod LineAnswers

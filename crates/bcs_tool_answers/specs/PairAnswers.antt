@@ -5,7 +5,7 @@ use Rattle.bcs_registry_model.specs.Container.{Entries}
 use Rattle.bcs_registry_model.specs.Shape.{Shape}
 use Rattle.bcs_io.specs.Lines.{lines_of}
 use Rattle.bcs_tool_answers.specs.Answers.{AnswersTexts, line_of}
-use Rattle.bcs_tool_answers.specs.Judging.{Asks}
+use Rattle.bcs_tool_answers.specs.Validating.{Asks}
 use Rattle.bcs_tool_answers.specs.LineAnswers.{greatest, summary}
 use Rattle.bcs_tool_answers.specs.declared.ending.Ending.{Ending}
 use Rattle.bcs_tool_answers.specs.declared.ending.Ending.TheVariants.{Together, FirstEnds, SecondEnds}

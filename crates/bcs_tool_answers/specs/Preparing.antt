@@ -4,11 +4,11 @@ use Rattle.bcs_registry_model.specs.View.{shape_of}
 use Rattle.bcs_registry_model.specs.WellFormed.{Admits}
 use Rattle.bcs_decode_parts.specs.PathSteps.{all_spelled}
 use Rattle.bcs_tool_command_line.specs.declared.work.Work.{Work}
-use Rattle.bcs_tool_answers.specs.Judging.{Asks, IsPathOf, ReadsInput, works_on_values}
+use Rattle.bcs_tool_answers.specs.Validating.{Asks, IsPathOf, ReadsInput, works_on_values}
 use Rattle.bcs_tool_answers.specs.Answers.{Answers, Lists}
 use Rattle.bcs_tool_answers.specs.Places.{IsAnswer, Places}
 use Rattle.bcs_tool_answers.specs.declared.answer.Answer.{Answer}
-use Rattle.bcs_tool_answers.specs.declared.judging.Asked.{Asked}
+use Rattle.bcs_tool_answers.specs.declared.validating.Asked.{Asked}
 
 -- the job works on values of this format of this registry, and its PATH spells these steps
 pub record IsAskedBy (work : Work) (asked : Asked) : Type 0 where

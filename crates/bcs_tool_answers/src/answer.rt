@@ -8,8 +8,8 @@ ghost use Rattle.bcs_tool_answers.specs.Places.{PrintsWithoutPlace};
 
 use base64::engine::general_purpose::STANDARD;
 use bcs_decode::Stop;
+use bcs_display_text::style::Form;
 use bcs_json::JsonFault;
-use bcs_look_text::style::Form;
 use bcs_tool_command_line::Coding;
 use std::alloc::{AllocError, Global};
 

@@ -10,14 +10,14 @@ use crate::answer::{Answer, damaged, found, nowhere, placed, refused, shown, unp
 use crate::base64_input::bytes_of_base64;
 use crate::blanks::without_blanks;
 use crate::input_places::{place_of_base64, place_of_digits};
-use crate::judging::Asked;
 use crate::scan_answers::answer_scan;
 use crate::stop_answers::answer_stop;
+use crate::validating::Asked;
 use base64::DecodeAllocError;
 use bcs_decode::part;
 use bcs_decode_parts::steps_of;
+use bcs_display_pieces::{Explanation, explain_text};
 use bcs_json::{FromFault, from_bcs};
-use bcs_look_pieces::{Explanation, explain_text};
 use bcs_tool_command_line::{Coding, Command, Work};
 use hex::FromHexError;
 use std::alloc::{AllocError, Global};

@@ -5,9 +5,11 @@ ghost use Rattle.bcs_tool_answers.specs.Answers.{AsksOfFormat};
 ghost use Rattle.bcs_tool_answers.specs.Places.{IsAnswer, PrintsWithoutPlace};
 
 use crate::answer::{Answer, refused, shown};
-use crate::judging::judge_formatted;
 use crate::refusing::refused_words;
-use bcs_look_example::{ExampleForm, ExampleTextFault, WantedFault, Wish, example_text};
+use crate::validating::validate_formatted;
+use bcs_display_example::{
+    ExampleForm, ExampleOptions, ExampleOptionsFault, ExampleTextFault, example_text,
+};
 use bcs_registry::{Format, Registry};
 use bcs_tool_command_line::{Command, Work};
 use std::alloc::{AllocError, Global};
@@ -17,7 +19,7 @@ pub fn answer_example(alloc: Global, work: &Work) -> Result<Answer, AllocError>
     requires { work.now.command ≡ Command.Example }
     ensures { IfOk result (λ a. (bytes : List ℕ) → IsAnswer work.now bytes a) }
 {
-    match judge_formatted(alloc, work) {
+    match validate_formatted(alloc, work) {
         Ok((registry, format)) => answer_wish(alloc, work, &registry, &format),
         Err(fault) => refused_words(alloc, work, fault),
     }
@@ -33,7 +35,7 @@ fn answer_wish(
     requires asks { AsksOfFormat work.now Command.Example registry.now (shape_of format.now) }
     ensures { IfOk result (λ a. (bytes : List ℕ) → IsAnswer work.now bytes a) }
 {
-    let wish = Wish {
+    let wish = ExampleOptions {
         variant: work.options.name.as_deref(),
         form: form_of(work),
     };
@@ -57,7 +59,7 @@ fn refused_wish(alloc: Global, fault: ExampleTextFault) -> Result<Answer, AllocE
     ensures { IfOk result (λ a. PrintsWithoutPlace a 2 a.output.items) }
 {
     match fault {
-        ExampleTextFault::Wanted(WantedFault::OutOfMemory) => Err(AllocError),
+        ExampleTextFault::Options(ExampleOptionsFault::OutOfMemory) => Err(AllocError),
         _ => refused(alloc, fault.name()),
     }
 }

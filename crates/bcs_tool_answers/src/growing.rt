@@ -1,15 +1,15 @@
 //! Whether a registry has grown into another, behind the list of all differences where that is asked for.
 ghost use Rattle.std.specs.Prelude.{◌≡◌, ◌++◌, ℕ, List, IfOk};
 ghost use Rattle.bcs_tool_answers.specs.Answers.{Lists};
-ghost use Rattle.bcs_tool_answers.specs.Judging.{IsRegistry};
+ghost use Rattle.bcs_tool_answers.specs.Validating.{IsRegistry};
 ghost use Rattle.bcs_tool_answers.specs.Places.{IsAnswer};
 ghost use Rattle.bcs_tool_answers.specs.Preparing.{IsVerdict};
 
 use crate::answer::{Answer, placed, refused, told};
-use crate::judging::judge_pair;
 use crate::refusing::refused_words;
+use crate::validating::validate_pair;
 use crate::word_places::place_of_difference;
-use bcs_look_registry::{difference_lines, differences};
+use bcs_display_registry::{difference_lines, differences};
 use bcs_registry::Registry;
 use bcs_tool_command_line::{Command, Work};
 use std::alloc::{AllocError, Global};
@@ -19,7 +19,7 @@ pub fn answer_growth(alloc: Global, work: &Work) -> Result<Answer, AllocError>
     requires { work.now.command ≡ Command.Grows }
     ensures { IfOk result (λ a. (bytes : List ℕ) → IsAnswer work.now bytes a) }
 {
-    match judge_pair(alloc, work) {
+    match validate_pair(alloc, work) {
         Ok((older, newer)) => {
             let answer = verdict(alloc, work, &older, &newer)?;
             listed(alloc, work, &older, &newer, answer)

@@ -2,7 +2,7 @@
 ghost use Rattle.std.specs.Prelude.{◌≡◌, ◌≢◌, IfOk};
 ghost use Rattle.bcs_registry_model.specs.declared.fault.RegistryFault.TheVariants.{OutOfMemory};
 ghost use Rattle.bcs_tool_answers.specs.Answers.{refusal_line};
-ghost use Rattle.bcs_tool_answers.specs.Judging.{job_fault_name};
+ghost use Rattle.bcs_tool_answers.specs.Validating.{job_fault_name};
 ghost use Rattle.bcs_tool_answers.specs.Places.{PrintsWithoutPlace};
 
 use crate::answer::{Answer, refused};
@@ -60,7 +60,7 @@ impl From<RegistryFault> for JobFault {
 }
 
 impl From<PathFault> for JobFault {
-    ghost use Rattle.bcs_tool_answers.specs.Judging.{path_job_fault};
+    ghost use Rattle.bcs_tool_answers.specs.Validating.{path_job_fault};
 
     ghost from_gives = { λ fault result. result ≡ path_job_fault fault };
 

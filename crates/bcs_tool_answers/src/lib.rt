@@ -1,4 +1,4 @@
-//! The answer to a job and its input: what is judged of the job's words, the answer, and where a refusal stands.
+//! The answer to a job and its input: what is validated of the job's words, the answer, and where a refusal stands.
 #![tactic(auto)]
 
 mod answer;
@@ -10,7 +10,6 @@ mod examples;
 mod growing;
 mod input_places;
 mod job_fault;
-mod judging;
 pub mod laws;
 mod pair_answers;
 mod places;
@@ -21,14 +20,15 @@ mod schemas;
 mod showing;
 mod stop_answers;
 mod text_places;
+mod validating;
 mod value_answers;
 mod word_places;
 
 pub use answer::{Answer, counted, stopped};
 pub use ending::Ending;
 pub use job_fault::JobFault;
-pub use judging::Asked;
 pub use pair_answers::answer_pair;
 pub use preparing::prepare;
 pub use scan_answers::is_unlimited;
+pub use validating::Asked;
 pub use value_answers::answer_values;

@@ -4,7 +4,7 @@ ghost use Rattle.bcs_registry_model.specs.View.{shape_of};
 ghost use Rattle.bcs_tool_answers.specs.Answers.{AnswersTexts};
 
 use crate::answer::{Answer, refused_text, told};
-use crate::judging::Asked;
+use crate::validating::Asked;
 use bcs_json::compare;
 use bcs_tool_command_line::Work;
 use std::alloc::{AllocError, Global};

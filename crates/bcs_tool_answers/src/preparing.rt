@@ -1,20 +1,20 @@
 //! What the words of a job come to, before its input is read.
 ghost use Rattle.std.specs.Prelude.{◌≡◌, ℕ, List, IfOk, true};
-ghost use Rattle.bcs_tool_answers.specs.Judging.{works_on_values};
+ghost use Rattle.bcs_tool_answers.specs.Validating.{works_on_values};
 ghost use Rattle.bcs_tool_answers.specs.Places.{IsAnswer};
 ghost use Rattle.bcs_tool_answers.specs.Preparing.{IsPrepared};
 
 use crate::answer::{Answer, counted};
 use crate::examples::answer_example;
 use crate::growing::answer_growth;
-use crate::judging::{Asked, judge_asked, judge_check};
 use crate::refusing::refused_words;
 use crate::schemas::answer_schema;
 use crate::showing::answer_show;
+use crate::validating::{Asked, validate_asked, validate_check};
 use bcs_tool_command_line::{Command, Work};
 use std::alloc::{AllocError, Global};
 
-/// Judges the words of the job. No input is read before. `Ok`: what the job asks of its input. `Err`: the answer, whatever the
+/// Validates the words of the job. No input is read before. `Ok`: what the job asks of its input. `Err`: the answer, whatever the
 /// input is, since the job has none or its words are refused.
 pub fn prepare(alloc: Global, work: &Work) -> Result<Result<Asked, Answer>, AllocError>
     ensures { IfOk result (λ prepared. IsPrepared work.now prepared) }
@@ -40,7 +40,7 @@ fn answer_check(alloc: Global, work: &Work) -> Result<Answer, AllocError>
     requires { work.now.command ≡ Command.Check }
     ensures { IfOk result (λ a. (bytes : List ℕ) → IsAnswer work.now bytes a) }
 {
-    match judge_check(alloc, work) {
+    match validate_check(alloc, work) {
         Ok(count) => counted(alloc, count),
         Err(fault) => refused_words(alloc, work, fault),
     }
@@ -51,7 +51,7 @@ fn prepare_asked(alloc: Global, work: &Work) -> Result<Result<Asked, Answer>, Al
     requires { works_on_values work.now.command ≡ true }
     ensures { IfOk result (λ prepared. IsPrepared work.now prepared) }
 {
-    match judge_asked(alloc, work) {
+    match validate_asked(alloc, work) {
         Ok(asked) => Ok(Ok(asked)),
         Err(fault) => Ok(Err(refused_words(alloc, work, fault)?)),
     }

@@ -1,7 +1,7 @@
 //! A job whose own words are refused.
 ghost use Rattle.std.specs.Prelude.{◌≢◌, ℕ, List, IfOk};
 ghost use Rattle.bcs_registry_model.specs.declared.fault.RegistryFault.TheVariants.{OutOfMemory};
-ghost use Rattle.bcs_tool_answers.specs.Judging.{RefusesEarly};
+ghost use Rattle.bcs_tool_answers.specs.Validating.{RefusesEarly};
 ghost use Rattle.bcs_tool_answers.specs.Places.{IsAnswer};
 
 use crate::answer::{Answer, placed};

@@ -5,18 +5,18 @@ ghost use Rattle.bcs_value_model.specs.Tree.{Tree};
 ghost use Rattle.bcs_decode_spec.specs.Accepting.{Accepts};
 ghost use Rattle.bcs_tool_command_line.specs.declared.command.Command.TheVariants as command;
 ghost use Rattle.bcs_tool_answers.specs.Answers.{ScanStops};
-ghost use Rattle.bcs_tool_answers.specs.Judging.{is_unlimited};
+ghost use Rattle.bcs_tool_answers.specs.Validating.{is_unlimited};
 ghost use Rattle.bcs_tool_answers.specs.Places.{AnswersBytes};
 ghost use Rattle.bcs_tool_answers.specs.Preparing.{IsAskedBy};
 
 use crate::answer::{Answer, counted};
-use crate::judging::Asked;
 use crate::stop_answers::answer_stop;
+use crate::validating::Asked;
 use bcs_decode::{Reason, Stop, scan};
 use bcs_tool_command_line::{Command, Work};
 use std::alloc::{AllocError, Global};
 
-/// Whether the job's input may have any size, since its bytes are judged as they come.
+/// Whether the job's input may have any size, since its bytes are validated as they come.
 pub fn is_unlimited(work: &Work) -> bool
     ensures { result ≡ is_unlimited work.now }
 {

@@ -5,9 +5,9 @@ ghost use Rattle.bcs_tool_answers.specs.Answers.{AsksOfFormat};
 ghost use Rattle.bcs_tool_answers.specs.Places.{IsAnswer};
 
 use crate::answer::{Answer, shown};
-use crate::judging::judge_formatted;
 use crate::refusing::refused_words;
-use bcs_look_schema::schema_text;
+use crate::validating::validate_formatted;
+use bcs_display_schema::schema_text;
 use bcs_registry::{Format, Registry};
 use bcs_tool_command_line::{Command, Work};
 use std::alloc::{AllocError, Global};
@@ -17,7 +17,7 @@ pub fn answer_schema(alloc: Global, work: &Work) -> Result<Answer, AllocError>
     requires { work.now.command ≡ Command.Schema }
     ensures { IfOk result (λ a. (bytes : List ℕ) → IsAnswer work.now bytes a) }
 {
-    match judge_formatted(alloc, work) {
+    match validate_formatted(alloc, work) {
         Ok((registry, format)) => schema_answer(alloc, work, &registry, &format),
         Err(fault) => refused_words(alloc, work, fault),
     }

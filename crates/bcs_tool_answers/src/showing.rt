@@ -1,14 +1,14 @@
 //! A registry for reading.
 ghost use Rattle.std.specs.Prelude.{◌≡◌, ◌≢◌, ◌↔◌, ℕ, List, IfErr, IfOk, true};
 ghost use Rattle.bcs_registry_model.specs.declared.fault.RegistryFault.TheVariants.{OutOfMemory};
-ghost use Rattle.bcs_tool_answers.specs.Judging.{IsRegistry, NamesNone, RefusesShow, name_of};
+ghost use Rattle.bcs_tool_answers.specs.Validating.{IsRegistry, NamesNone, RefusesShow, name_of};
 ghost use Rattle.bcs_tool_answers.specs.Places.{IsAnswer};
 
 use crate::answer::{Answer, unplaced};
 use crate::job_fault::JobFault;
 use crate::refusing::refused_words;
-use bcs_look_registry::{RegistryForm, show_registry};
-use bcs_look_text::style::Form;
+use bcs_display_registry::{RegistryForm, show_registry};
+use bcs_display_text::style::Form;
 use bcs_registry::{Registry, RegistryFault};
 use bcs_tool_command_line::{Command, Work};
 use std::alloc::{AllocError, Global};
@@ -18,14 +18,14 @@ pub fn answer_show(alloc: Global, work: &Work) -> Result<Answer, AllocError>
     requires { work.now.command ≡ Command.Show }
     ensures { IfOk result (λ a. (bytes : List ℕ) → IsAnswer work.now bytes a) }
 {
-    match judge_show(alloc, work) {
+    match validate_show(alloc, work) {
         Ok(registry) => Ok(unplaced(alloc, 0, registry_text(alloc, work, &registry)?)),
         Err(fault) => refused_words(alloc, work, fault),
     }
 }
 
 // The registry. Its own fault comes before a name that no container has.
-fn judge_show(alloc: Global, work: &Work) -> Result<Registry, JobFault>
+fn validate_show(alloc: Global, work: &Work) -> Result<Registry, JobFault>
     ensures ok { IfOk result (λ registry. IsRegistry work.now.registry.items registry
         × (NamesNone (name_of work.now) registry → ⊥)) }
     ensures fault { IfErr result (λ e. e ≢ JobFault.Registry OutOfMemory → RefusesShow work.now e) }

@@ -5,11 +5,11 @@ ghost use Rattle.bcs_tool_answers.specs.Places.{MayReport};
 ghost use Rattle.bcs_tool_answers.specs.Preparing.{IsAskedBy};
 
 use crate::answer::{Answer, placed, stopped};
-use crate::judging::Asked;
 use crate::places::place_of_line;
+use crate::validating::Asked;
 use bcs_decode::Stop;
-use bcs_look_pieces::stop_place;
-use bcs_look_places::put_limit;
+use bcs_display_errors::put_limit;
+use bcs_display_pieces::stop_place;
 use bcs_tool_command_line::Work;
 use std::alloc::{AllocError, Global};
 

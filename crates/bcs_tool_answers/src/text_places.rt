@@ -1,10 +1,10 @@
 //! Where JSON texts of values are refused.
 ghost use Rattle.bcs_tool_answers.specs.Places.{MayReport};
 
-use crate::judging::Asked;
 use crate::places::place_of_line;
+use crate::validating::Asked;
+use bcs_display_errors::{line_in, put_text_limit, text_line};
 use bcs_json::{JsonFault, read_value};
-use bcs_look_places::{line_in, put_text_limit, text_line};
 use bcs_tool_command_line::Work;
 use std::alloc::Global;
 

@@ -6,9 +6,9 @@ ghost use Rattle.bcs_tool_answers.specs.Preparing.{IsAskedBy};
 
 use crate::answer::{Answer, encoded, placed, refused_text, shown};
 use crate::bytes_answers::answer_given;
-use crate::judging::Asked;
 use crate::pair_answers::answer_pair;
 use crate::text_places::{place_of_pair, place_of_refusal};
+use crate::validating::Asked;
 use bcs_json::{normalise, to_bcs};
 use bcs_tool_command_line::{Command, Work};
 use std::alloc::{AllocError, Global};

@@ -3,7 +3,7 @@ ghost use Rattle.bcs_tool_answers.specs.Places.{MayReport};
 
 use crate::job_fault::JobFault;
 use crate::places::place_of_line;
-use bcs_look_places::{
+use bcs_display_errors::{
     format_line, line_in, place_of_container, place_of_growth, place_of_path, registry_line,
 };
 use bcs_registry::{Registry, RegistryFault};
@@ -54,7 +54,7 @@ fn words_line(
     }
 }
 
-// The line of this fault, which is that of the registry, or else of the word that is judged behind it. No word behind the
+// The line of this fault, which is that of the registry, or else of the word that is validated behind it. No word behind the
 // one that has the fault is looked at.
 fn registries_line(
     alloc: Global,

@@ -1,23 +1,6 @@
 -- Words in which clap finds no fault name one of the commands of `bcs`.
-use Rattle.std.proofs.Common.{◌≡◌, ap, subst, sym, refl, inl, inr, codes, true, false, not, ◌&&◌, Bool, List, [], Option, Some, None, is_some, option_map, ◌∙◌}
-use Rattle.std.specs.Prelude.{IsSomeAnd, option_and_then, Box}
-use Rattle.std.specs.Box.{box_value}
-use Rattle.std.specs.Str.{bytes_eq}
-use Rattle.std.specs.List.{list_any}
-use Rattle.clap.specs.Facts.{explicit_source}
-use Rattle.clap.specs.Takes.{is_given}
-use Rattle.clap.specs.Kinds.{check_kinds, or_else}
-use Rattle.clap.specs.Faults.{built_fault, check_fault, defaults_fault, entered_fault, fault_of, level_fault, settle_fault, walk_fault}
-use Rattle.clap.specs.Simple.{App, HasMatchesOf, Shape, argument_words, built, entered, is_simple, names_of, subcommand_of, subcommand_rows, subcommand_rows_of}
-use Rattle.clap.specs.Matches.{subcommand_name_of}
-use Rattle.clap.specs.declared.parser.matches.ArgMatches.{ArgMatches}
-use Rattle.clap.specs.declared.parser.matches.ArgMatches.TheViews.{out-ArgMatches, out-SubCommand}
-use Rattle.clap.specs.declared.parser.matches.SubCommand.{SubCommand}
-use Rattle.clap.specs.Walk.{Row, Text, finished, nothing_held, settled, stop_after, walk, walk_from}
-use Rattle.bcs_tool_command_line.specs.CommandLine.{bcs_app}
-use Rattle.bcs_tool_command_line.specs.Jobs.{IsJob, IsJobOf, command_named}
-use Rattle.bcs_tool_command_line.specs.declared.command.Command.{Command}
-use Rattle.bcs_tool_command_line.specs.declared.job.Job.{Job}
+use Rattle.bcs_tool_command_line.proofs.Prelude.{◌≡◌, ap, subst, sym, refl, inl, inr, codes, true, false, not, ◌&&◌, Bool, List, [], Option, Some, None, is_some, option_map, ◌∙◌, IsSomeAnd, option_and_then, Box, box_value, bytes_eq, list_any, explicit_source, is_given, check_kinds, or_else, built_fault, check_fault, defaults_fault, entered_fault, fault_of, level_fault, settle_fault, walk_fault, HasMatchesOf, Shape, argument_words, built, entered, is_simple, names_of, subcommand_of, subcommand_rows, subcommand_rows_of, subcommand_name_of, ArgMatches, out-ArgMatches, out-SubCommand, SubCommand, Row, Text, finished, nothing_held, settled, stop_after, walk, walk_from, bcs_app, IsJob, IsJobOf, command_named, Command, Job}
+use Rattle.clap.specs.Simple.{App}
 use Rattle.bcs_tool_command_line.proofs.Subcommands.{IsAmong, IsEntered, enters, none_left}
 
 wants_one : (s : Shape) (rows : List Row) → s.subcommand_required ≡ true → check_fault s rows false ≡ [] → ⊥

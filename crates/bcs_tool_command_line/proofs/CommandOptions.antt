@@ -1,20 +1,8 @@
 -- Where clap finds no fault in the words, the options of the command that they name write limits.
-use Rattle.std.proofs.Common.{◌≡◌, ◌∙◌, ap, subst, sym, refl, true, false, true≢false, cond, not, Bool, ℕ, List, [], ◌∷◌, Option, Some, None, IfSome, codes, drop, pos, slice_get, find, option_map}
-use Rattle.std.specs.List.{list_all}
-use Rattle.std.specs.Option.{option_map_or}
-use Rattle.std.specs.Str.{bytes_eq}
-use Rattle.clap.specs.Faults.{entered_fault, fault_of, level_fault, walk_fault}
-use Rattle.clap.specs.Simple.{App, HasMatchesOf, Shape, argument_words, built, entered, is_simple, label_of, names_of, rows_at, subcommand_of, subcommand_rows_of}
-use Rattle.clap.specs.Walk.{Row, Rule, Text, answers_to, nothing_held, stop_after, walk_from}
-use Rattle.clap.specs.declared.builder.value_parser.ValueParser.{ValueParser}
-use Rattle.clap.specs.declared.builder.value_parser.ValueParser.TheVariants.{Signed}
-use Rattle.clap.specs.declared.parser.matches.ArgMatches.{ArgMatches}
-use Rattle.clap.proofs.WalkLemmas.{both}
-use Rattle.bcs_value_model.specs.Limits.{Bounds}
-use Rattle.bcs_tool_command_line.specs.CommandLine.{bcs_app}
+use Rattle.bcs_tool_command_line.proofs.Prelude.{◌≡◌, ◌∙◌, ap, subst, sym, refl, true, false, true≢false, cond, not, Bool, ℕ, List, [], ◌∷◌, Option, Some, None, IfSome, codes, drop, pos, slice_get, find, option_map, list_all, option_map_or, bytes_eq, entered_fault, fault_of, level_fault, walk_fault, HasMatchesOf, Shape, argument_words, built, entered, is_simple, label_of, names_of, rows_at, subcommand_of, subcommand_rows_of, Row, Rule, Text, answers_to, nothing_held, stop_after, walk_from, ValueParser, Signed, ArgMatches, both, Bounds, bcs_app, WritesLimits}
+use Rattle.clap.specs.Simple.{App}
 use Rattle.bcs_tool_command_line.proofs.Subcommands.{none_left}
 use Rattle.bcs_tool_command_line.proofs.Values.{AreRows, AreRules, IsRule, level_keeps}
-use Rattle.bcs_tool_command_line.specs.Jobs.{WritesLimits}
 use Rattle.bcs_tool_command_line.proofs.LimitLemmas.{row_limit}
 
 module _ (id : Text) (most : ℕ) where

@@ -1,6 +1,5 @@
 -- The text of one argument or of another.
-use Rattle.std.proofs.Common.{◌≡◌, ◌∙◌, ap, ap₂, refl, Option, Some, None, option_map, Bor, List, ℕ}
-use Rattle.std.specs.Option.{option_or}
+use Rattle.bcs_tool_command_line.proofs.Prelude.{◌≡◌, ◌∙◌, ap, ap₂, refl, Option, Some, None, option_map, Bor, List, ℕ, option_or}
 
 option_map-option_or : {X Y : Type 0} (f : X → Y) (o p : Option X)
     → option_map f (option_or o p) ≡ option_or (option_map f o) (option_map f p)

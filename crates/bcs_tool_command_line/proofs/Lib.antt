@@ -1,3 +1,4 @@
+pub mod Prelude
 pub mod CommandNames
 pub mod CommandOptions
 pub mod FoundTexts

@@ -1,21 +1,8 @@
 -- The limits that the options of a command line write.
-use Rattle.std.proofs.Common.{◌≡◌, ◌≤◌, ◌<◌, ◌^◌, ◌∙◌, ◌==◌, ap, subst, sym, refl, arith, true, false, cond, Bool, ℕ, List, [], ◌∷◌, drop, Option, Some, None, Result, Ok, Err, pos, find}
-use Rattle.std.specs.Prelude.{option_and_then, unwrap_or}
-use Rattle.std.specs.Str.{bytes_eq}
-use Rattle.std.specs.Str.Parse.{IsNumeral, ParsesUnsigned, digits_value, starts_with_minus, without_leading_plus}
-use Rattle.std.proofs.lemmas.Bool.{ne_eqb}
-use Rattle.std.proofs.lemmas.Str.Parse.{digit_from_value}
-use Rattle.std.proofs.lemmas.Int.{ints}
-use Rattle.clap.specs.Lexer.{without_minus}
-use Rattle.clap.specs.Matches.{ReadsOne, one_text}
-use Rattle.clap.specs.Values.{IsSignedIn}
-use Rattle.clap.specs.Walk.{Row, Text, one_of, row_text, rows_of}
-use Rattle.clap.specs.declared.builder.value_parser.ValueParser.TheVariants.{Signed}
-use Rattle.clap.specs.declared.parser.matches.Found.{Found}
-use Rattle.clap.proofs.ValueTestLemmas.{accepts-Accepts}
-use Rattle.clap.proofs.WalkLemmas.{both, one_text-rows}
+use Rattle.bcs_tool_command_line.proofs.Prelude.{◌≡◌, ◌≤◌, ◌<◌, ◌^◌, ◌∙◌, ◌==◌, ap, subst, sym, refl, arith, true, false, cond, Bool, ℕ, List, [], ◌∷◌, drop, Option, Some, None, Result, Ok, Err, pos, find, option_and_then, bytes_eq, IsNumeral, ParsesUnsigned, digits_value, starts_with_minus, without_leading_plus, ne_eqb, digit_from_value, ints, without_minus, ReadsOne, one_text, IsSignedIn, Row, Text, one_of, row_text, Signed, Found, accepts-Accepts, both, one_text-rows, WritesLimit}
+use Rattle.std.specs.Prelude.{unwrap_or}
+use Rattle.clap.specs.Walk.{rows_of}
 use Rattle.bcs_tool_command_line.proofs.Values.{AreRows, Passed}
-use Rattle.bcs_tool_command_line.specs.Jobs.{WritesLimit}
 
 -- ---- what clap's getter reads
 

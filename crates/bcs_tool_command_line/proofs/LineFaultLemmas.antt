@@ -1,20 +1,7 @@
 -- What a parse by the definition of `bcs` says of the words.
-use Rattle.std.proofs.Common.{◌≡◌, ◌∙◌, ◌⊎◌, ◌&&◌, [], ◌∷◌, List, Option, Some, None, inl, inr, refl, true, false, true≢false, codes, ap, ap₂, subst, sym}
-use Rattle.std.specs.Prelude.{IsSomeAnd}
-use Rattle.std.specs.Option.{option_map_or}
-use Rattle.clap.specs.Words.{App, HasKind, IsAmong, Kinds, Row, Text, fault_of, is_simple_and_free, kind_of, subcommand_of}
-use Rattle.clap.specs.declared.error.Error.{Error}
-use Rattle.clap.specs.declared.error.kind.ErrorKind.{ErrorKind}
+use Rattle.bcs_tool_command_line.proofs.Prelude.{◌≡◌, ◌∙◌, ◌⊎◌, ◌&&◌, [], ◌∷◌, List, Option, Some, None, inl, inr, refl, true, false, true≢false, codes, ap, ap₂, subst, sym, IsSomeAnd, option_map_or, App, HasKind, IsAmong, is_simple_and_free, kind_of, Error, ErrorKind, clap_on_literals, bcs_app, IsJob, IsJobOf, coding, coding_found, command_named, is_raw, is_set, IsFaultAmong, IsFaultOf, IsFaultOfKind, ReportsJoined, AcceptsArguments, joins_raw_and_lines, Command, Job, LineFault, Usage, Help, OutOfMemory}
+use Rattle.clap.specs.Words.{Kinds, Row, Text, fault_of, subcommand_of}
 use Rattle.clap.specs.declared.error.kind.ErrorKind.TheVariants as kind
-use Rattle.clap.proofs.OnLiterals.{clap_on_literals}
-use Rattle.bcs_tool_command_line.specs.CommandLine.{bcs_app}
-use Rattle.bcs_tool_command_line.specs.Jobs.{IsJob, IsJobOf, coding, coding_found, command_named, is_raw, is_set}
-use Rattle.bcs_tool_command_line.specs.LineFaults.{IsFaultAmong, IsFaultOf, IsFaultOfKind, TellsJoined}
-use Rattle.bcs_tool_command_line.specs.TakenWords.{TakesWords, joins_raw_and_lines}
-use Rattle.bcs_tool_command_line.specs.declared.command.Command.{Command}
-use Rattle.bcs_tool_command_line.specs.declared.job.Job.{Job}
-use Rattle.bcs_tool_command_line.specs.declared.line_fault.LineFault.{LineFault}
-use Rattle.bcs_tool_command_line.specs.declared.line_fault.LineFault.TheVariants.{Usage, Help, OutOfMemory}
 
 -- clap's contracts are exact for the definition
 pub is_exact : is_simple_and_free bcs_app ≡ true
@@ -54,7 +41,7 @@ none_is_memory [] (Usage text) h e = absurd h.1
 none_is_memory [] (Help text) h e = absurd h.1
 none_is_memory [] OutOfMemory h e = refl
 
-pub memory_alone : (words : List Text) (f : LineFault) → IsFaultOf words f → TakesWords words → f ≡ OutOfMemory
+pub memory_alone : (words : List Text) (f : LineFault) → IsFaultOf words f → AcceptsArguments words → f ≡ OutOfMemory
 memory_alone words f (inl h) takes = none_is_memory (fault_of bcs_app words) f h takes.0
 memory_alone words f (inr h) takes = absurd (true≢false (sym h.1 ∙ takes.1))
 
@@ -74,11 +61,11 @@ job_joins : (words : List Text) (job : Job) → IsJobOf words job → (is_raw (c
 job_joins words job h = found_job_joins (subcommand_of bcs_app words) job h
 
 pub takes_words : (words : List Text) (job : Job) → IsJobOf words job → fault_of bcs_app words ≡ []
-    → (is_raw (coding job.raw job.options.base64) && job.options.lines) ≡ false → TakesWords words
+    → (is_raw (coding job.raw job.options.base64) && job.options.lines) ≡ false → AcceptsArguments words
 takes_words words job h none apart = (none, sym (job_joins words job h) ∙ apart)
 
 -- the fault for a job that joins the two
 pub fault_of_joined : (words : List Text) (job : Job) (f : LineFault) → IsJobOf words job → fault_of bcs_app words ≡ []
-    → (is_raw (coding job.raw job.options.base64) && job.options.lines) ≡ true → (f ≡ OutOfMemory) ⊎ TellsJoined f → IsFaultOf words f
+    → (is_raw (coding job.raw job.options.base64) && job.options.lines) ≡ true → (f ≡ OutOfMemory) ⊎ ReportsJoined f → IsFaultOf words f
 fault_of_joined words job f h none both (inl e) = subst (IsFaultOf words) (sym e) (inl tt)
-fault_of_joined words job f h none both (inr tells) = inr (none, sym (job_joins words job h) ∙ both, tells)
+fault_of_joined words job f h none both (inr reports) = inr (none, sym (job_joins words job h) ∙ both, reports)

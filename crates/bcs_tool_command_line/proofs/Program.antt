@@ -1,9 +1,6 @@
 -- A program with one command more.
-use Rattle.std.proofs.Common.{◌≡◌, ◌∙◌, ap₂, Result, Ok, Err, IfOk, IsOkAnd}
-use Rattle.std.specs.declared.alloc.AllocError.{AllocError}
-use Rattle.clap.specs.Words.{App, app_of}
+use Rattle.bcs_tool_command_line.proofs.Prelude.{◌≡◌, ◌∙◌, ap₂, Result, Ok, Err, IfOk, IsOkAnd, AllocError, App, app_of, with_command}
 use Rattle.clap.specs.declared.builder.command.Command.{Command}
-use Rattle.bcs_tool_command_line.specs.Words.{with_command}
 
 pub added : {a : App} (b : App) (old new : Command) (made : Result Command AllocError)
     → IsOkAnd made (λ sub. app_of new ≡ with_command (app_of old) (app_of sub))

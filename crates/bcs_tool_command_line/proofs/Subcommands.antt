@@ -1,13 +1,6 @@
 -- Where clap finds no fault in the words, they name one of the commands.
-use Rattle.std.proofs.Common.{◌≡◌, ◌∙◌, ◌⊎◌, ap, subst, sym, refl, inl, inr, codes, true, false, cond, ◌&&◌, Bool, ℕ, List, [], ◌∷◌, ◌++◌, fold, Option, Some, None, is_some, option_map}
+use Rattle.bcs_tool_command_line.proofs.Prelude.{◌≡◌, ◌∙◌, ◌⊎◌, ap, subst, sym, refl, inl, inr, codes, true, false, cond, ◌&&◌, Bool, ℕ, List, [], ◌∷◌, ◌++◌, fold, Option, Some, None, is_some, option_map, bytes_eq, DisplayHelp, InvalidSubcommand, long_of, short_of, Kinds, or_else, other_fault, step_fault, turn_fault, walk_fault, word_fault, Shape, Held, Names, Outcome, Rule, Step, Text, Waiting, Walk, after_flag, after_step, answers_to, arg_by_index, arg_by_long, bundle, done, idle, long_met, long_or_other, next, option, plain, plain_word, positional, refused, short_or_plain, subcommand, subcommand_met, subcommand_or_other, to_positional, trailing, value, waits, walked, walked_from, word_met}
 use Rattle.std.specs.Prelude.{find}
-use Rattle.std.specs.Str.{bytes_eq}
-use Rattle.clap.specs.declared.error.kind.ErrorKind.TheVariants.{DisplayHelp, InvalidSubcommand}
-use Rattle.clap.specs.Lexer.{long_of, short_of}
-use Rattle.clap.specs.Kinds.{Kinds, or_else}
-use Rattle.clap.specs.Faults.{other_fault, step_fault, turn_fault, walk_fault, word_fault}
-use Rattle.clap.specs.Simple.{Shape}
-use Rattle.clap.specs.Walk.{Held, Names, Outcome, Rule, Step, Text, Waiting, Walk, after_flag, after_step, answers_to, arg_by_index, arg_by_long, bundle, done, idle, long_met, long_or_other, next, option, plain, plain_word, positional, refused, short_or_plain, subcommand, subcommand_met, subcommand_or_other, to_positional, trailing, value, waits, walked, walked_from, word_met}
 
 module _ (c : List Rule) (word name : Text) where
   -- a flag, or a value, isn't taken for a subcommand

@@ -1,26 +1,6 @@
 -- Where clap finds no fault in the words, each value that they give an option passed the option's parser.
-use Rattle.std.proofs.Common.{◌≡◌, ◌∙◌, ◌+◌, ap, ap₂, subst, min, unwrap_or, sym, refl, true, false, true≢false, cond, ◌&&◌, Bool, ℕ, zero, suc, List, [], ◌∷◌, ◌++◌, drop, fold, length, encode_utf8, slice_get, Option, Some, None, is_some, IfSome, find}
-use Rattle.std.specs.List.{list_all}
-use Rattle.std.specs.Option.{option_map_or}
-use Rattle.std.specs.Str.{bytes_eq, chars}
-use Rattle.std.proofs.lemmas.List.Folds.{list_all-append}
-use Rattle.std.proofs.lemmas.Slice.Eq.{bytes_eq-Decides}
-use Rattle.clap.specs.declared.builder.action.ArgAction.{ArgAction}
-use Rattle.clap.specs.declared.builder.action.ArgAction.TheVariants.{Set, SetTrue, SetFalse, Append, Count, Help, HelpShort, HelpLong, Version}
-use Rattle.clap.specs.declared.builder.value_parser.Reading.{Reading}
-use Rattle.clap.specs.declared.builder.value_parser.ValueParser.{ValueParser}
-use Rattle.clap.specs.declared.error.kind.ErrorKind.{ErrorKind}
-use Rattle.clap.specs.declared.error.kind.ErrorKind.TheVariants.{TooManyValues}
-use Rattle.clap.specs.declared.parser.matches.ValueSource.{ValueSource}
-use Rattle.clap.specs.declared.parser.matches.ValueSource.TheVariants.{CommandLine, DefaultValue}
-use Rattle.clap.specs.Lexer.{long_of, short_of}
-use Rattle.clap.specs.Values.{reading_of}
-use Rattle.clap.specs.ValueTests.{accepts}
-use Rattle.clap.specs.Facts.{parser_of_value, unwrap_or_range}
-use Rattle.clap.specs.Kinds.{Kinds, or_else, range_kinds, values_kinds}
-use Rattle.clap.specs.Faults.{action_fault, bundle_fault, bundle_step_fault, flag_word_fault, flags_fault, level_fault, long_fault, option_fault, other_fault, react_fault, repeat_fault, set_fault, settle_fault, short_fault, step_fault, stray_fault, turn_fault, use_fault, values_fault, walk_fault, word_fault}
-use Rattle.clap.specs.Simple.{Shape}
-use Rattle.clap.specs.Walk.{Held, Names, Outcome, Row, Rule, Step, Text, Waiting, Walk, action_of, after_flag, after_step, arg_by_id, arg_by_index, arg_by_long, arg_by_short, at_row, attached_value, bundle, bundle_met, bundle_step, count_of, counted, default_rows, done, flag_met, has_row, idle, is_pending, long_met, long_or_other, more_values, most_values, new_count, next, nothing_held, option, option_met, option_word, plain, plain_word, positional, reacted, reading_by, refused, rows_after, settled, short_met, short_or_plain, subcommand, subcommand_met, subcommand_or_other, takes_several, takes_values, to_positional, trailing, used, used_as, used_by_id, value, values_or_missing, waits, walk, walk_from, walked, walked_from, with_count, with_default, with_values, without, word_met}
+use Rattle.bcs_tool_command_line.proofs.Prelude.{◌≡◌, ◌∙◌, ◌+◌, ap, ap₂, subst, min, unwrap_or, sym, refl, true, false, true≢false, cond, ◌&&◌, Bool, ℕ, zero, suc, List, [], ◌∷◌, ◌++◌, drop, fold, length, encode_utf8, slice_get, Option, Some, None, is_some, IfSome, find, list_all, option_map_or, bytes_eq, chars, list_all-append, bytes_eq-Decides, ArgAction, Set, SetTrue, SetFalse, Append, Count, HelpShort, HelpLong, Version, Reading, ValueParser, ErrorKind, TooManyValues, ValueSource, CommandLine, DefaultValue, long_of, short_of, reading_of, accepts, parser_of_value, unwrap_or_range, Kinds, or_else, range_kinds, values_kinds, action_fault, bundle_fault, bundle_step_fault, flag_word_fault, flags_fault, level_fault, long_fault, option_fault, other_fault, react_fault, repeat_fault, set_fault, settle_fault, short_fault, step_fault, stray_fault, turn_fault, use_fault, values_fault, walk_fault, word_fault, Shape, Held, Names, Outcome, Row, Rule, Step, Text, Waiting, Walk, action_of, after_flag, after_step, arg_by_id, arg_by_index, arg_by_long, arg_by_short, at_row, attached_value, bundle, bundle_met, bundle_step, count_of, counted, default_rows, done, flag_met, has_row, idle, is_pending, long_met, long_or_other, more_values, most_values, new_count, next, nothing_held, option, option_met, option_word, plain, plain_word, positional, reacted, reading_by, refused, rows_after, settled, short_met, short_or_plain, subcommand, subcommand_met, subcommand_or_other, takes_several, takes_values, to_positional, trailing, used, used_as, used_by_id, value, values_or_missing, waits, walk, walk_from, walked, walked_from, with_count, with_default, with_values, without, word_met}
+use Rattle.clap.specs.declared.builder.action.ArgAction.TheVariants.{Help}
 use Rattle.bcs_tool_command_line.proofs.Subcommands.{none_left}
 
 module _ (id : Text) (q : ValueParser) where

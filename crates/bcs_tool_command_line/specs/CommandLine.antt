@@ -117,11 +117,11 @@ abbrev pub wants_command : App → App
 wants_command = on_top (λ s. record s { subcommand_required = true })
 
 -- it answers `--version` and `-V`
-abbrev pub tells_version : App → App
-tells_version = on_top (λ s. record s { has_version = true })
+abbrev pub reports_version : App → App
+reports_version = on_top (λ s. record s { has_version = true })
 
 abbrev pub bcs_app : App
-bcs_app = fold (λ program command. with_subcommand program command.top) (wants_command (tells_version (new_app (codes "bcs"))))
+bcs_app = fold (λ program command. with_subcommand program command.top) (wants_command (reports_version (new_app (codes "bcs"))))
     (check_app ∷ grows_app ∷ show_app ∷ example_app ∷ schema_app ∷ encode_app ∷ decode_app ∷ explain_app ∷ normalise_app ∷ same_app ∷ part_app ∷ scan_app ∷ [])
 
 -- the words as texts

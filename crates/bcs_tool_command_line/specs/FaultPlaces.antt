@@ -2,7 +2,7 @@
 use Rattle.std.specs.Prelude.{◌≡◌, ◌⊎◌, ◌++◌, ℕ, List, [], Bool, false, codes}
 use Rattle.std.specs.declared.io.ErrorKind.{ErrorKind}
 use Rattle.std.specs.declared.io.ErrorKind.TheVariants as kind
-use Rattle.bcs_look_text.specs.Escaped.{escaped}
+use Rattle.bcs_display_text.specs.Escaped.{escaped}
 use Rattle.bcs_tool_command_line.specs.declared.open_cause.OpenCause.{OpenCause}
 use Rattle.bcs_tool_command_line.specs.declared.open_cause.OpenCause.TheVariants.{Missing, Forbidden, NoFolder, Loop, LongName, BadName, Other}
 use Rattle.bcs_tool_command_line.specs.declared.origin.Origin.{Origin}
@@ -10,7 +10,7 @@ use Rattle.bcs_tool_command_line.specs.declared.origin.Origin.TheVariants.{File,
 use Rattle.bcs_io.specs.declared.taking.TakeFault.{TakeFault}
 use Rattle.bcs_io.specs.declared.taking.TakeFault.TheVariants.{Read, TooLarge, OutOfMemory}
 use Rattle.bcs_tool_command_line.specs.declared.unread_file.UnreadFile.{UnreadFile}
-use Rattle.bcs_tool_command_line.specs.declared.unread_file.UnreadFile.TheVariants.{Unopened, Untaken}
+use Rattle.bcs_tool_command_line.specs.declared.unread_file.UnreadFile.TheVariants.{OpenFailed, ReadFailed}
 
 -- ---- why a file was not opened
 
@@ -53,9 +53,9 @@ take_place OutOfMemory text = []
 
 -- of the file of this name, which was not read
 abbrev pub file_place : UnreadFile → List ℕ → List ℕ
-file_place (Unopened cause) name = file_text name ++ cause_text cause
-file_place (Untaken fault) name = take_place fault (file_text name)
+file_place (OpenFailed cause) name = file_text name ++ cause_text cause
+file_place (ReadFailed fault) name = take_place fault (file_text name)
 
 -- what is told of a place: it, if the job isn't quiet; or nothing
-abbrev pub TellsPlace : Bool → List ℕ → List ℕ → Type 0
-TellsPlace quiet text place = (place ≡ []) ⊎ ((quiet ≡ false) × (place ≡ text))
+abbrev pub ReportsPlace : Bool → List ℕ → List ℕ → Type 0
+ReportsPlace quiet text place = (place ≡ []) ⊎ ((quiet ≡ false) × (place ≡ text))

@@ -9,7 +9,7 @@ use Rattle.bcs_tool_command_line.specs.declared.file_refusal.FileRefusal.{FileRe
 use Rattle.bcs_tool_command_line.specs.declared.job.Job.{Job}
 use Rattle.bcs_io.specs.declared.taking.TakeFault.TheVariants.{Read, TooLarge, OutOfMemory}
 use Rattle.bcs_tool_command_line.specs.declared.unread_file.UnreadFile.{UnreadFile}
-use Rattle.bcs_tool_command_line.specs.declared.unread_file.UnreadFile.TheVariants.{Unopened, Untaken}
+use Rattle.bcs_tool_command_line.specs.declared.unread_file.UnreadFile.TheVariants.{OpenFailed, ReadFailed}
 use Rattle.bcs_tool_command_line.specs.declared.work.Inputs.{Inputs}
 use Rattle.bcs_tool_command_line.specs.declared.work.Work.{Work}
 
@@ -26,10 +26,10 @@ file_note fault.OutOfMemory = take_note OutOfMemory
 
 -- the fault of a file that was not read
 abbrev pub file_fault_of : UnreadFile → FileFault
-file_fault_of (Unopened cause) = fault.Open
-file_fault_of (Untaken Read) = fault.Read
-file_fault_of (Untaken TooLarge) = fault.TooLarge
-file_fault_of (Untaken OutOfMemory) = fault.OutOfMemory
+file_fault_of (OpenFailed cause) = fault.Open
+file_fault_of (ReadFailed Read) = fault.Read
+file_fault_of (ReadFailed TooLarge) = fault.TooLarge
+file_fault_of (ReadFailed OutOfMemory) = fault.OutOfMemory
 
 -- a word for a registry that begins with a brace is its text, and any other names a file
 abbrev pub is_registry_text : List ℕ → Bool
@@ -90,7 +90,7 @@ module _ {F : Type 0} (remaining : F → Option (List ℕ)) where
 
   -- a fault of the job's files, and whose it is, unless memory ran out
   abbrev pub IsRefusalOf : Job → FileRefusal → Type 0
-  IsRefusalOf job refusal = IsFaultOfFiles (file_fault_of refusal.reason) × (refusal.reason ≢ Untaken OutOfMemory → NamesForWork job (string_bytes refusal.name))
+  IsRefusalOf job refusal = IsFaultOfFiles (file_fault_of refusal.reason) × (refusal.reason ≢ ReadFailed OutOfMemory → NamesForWork job (string_bytes refusal.name))
 
   -- bytes that were read for A: none where its lines are compared one by one
   abbrev pub IsFirstText : Bool → List ℕ → Type 0

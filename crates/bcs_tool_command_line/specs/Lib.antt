@@ -1,6 +1,6 @@
 pub mod Jobs
 pub mod LineFaults
-pub mod TakenWords
+pub mod AcceptedArguments
 pub mod CommandLine
 pub mod Words
 pub mod Files

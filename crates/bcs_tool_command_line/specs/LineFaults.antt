@@ -6,7 +6,7 @@ use Rattle.clap.specs.declared.error.kind.ErrorKind.TheVariants as kind
 use Rattle.bcs_tool_command_line.specs.CommandLine.{bcs_app}
 use Rattle.bcs_tool_command_line.specs.declared.line_fault.LineFault.{LineFault}
 use Rattle.bcs_tool_command_line.specs.declared.line_fault.LineFault.TheVariants.{Usage, Help, OutOfMemory}
-use Rattle.bcs_tool_command_line.specs.TakenWords.{joins_raw_and_lines}
+use Rattle.bcs_tool_command_line.specs.AcceptedArguments.{joins_raw_and_lines}
 
 -- clap's error of this kind has a text that the words ask for: help, or the version
 abbrev pub IsAskedFor : ErrorKind → Type 0
@@ -29,14 +29,14 @@ abbrev pub joined_text : List ℕ
 joined_text = codes "error: the argument '--raw' cannot be used with '--lines'\n\nFor more information, try '--help'.\n"
 
 -- the fault tells that
-abbrev pub TellsJoined : LineFault → Type 0
-TellsJoined (Usage text) = string_bytes text ≡ joined_text
-TellsJoined (Help text) = ⊥
-TellsJoined OutOfMemory = ⊥
+abbrev pub ReportsJoined : LineFault → Type 0
+ReportsJoined (Usage text) = string_bytes text ≡ joined_text
+ReportsJoined (Help text) = ⊥
+ReportsJoined OutOfMemory = ⊥
 
 -- the fault is for words that are otherwise good, and join the two
 abbrev pub IsJoinedFault : List Text → LineFault → Type 0
-IsJoinedFault words fault = (fault_of bcs_app words ≡ []) × (joins_raw_and_lines words ≡ true) × TellsJoined fault
+IsJoinedFault words fault = (fault_of bcs_app words ≡ []) × (joins_raw_and_lines words ≡ true) × ReportsJoined fault
 
 -- the fault is one that clap finds in the words, the program's own name first, or it is for words that join the two
 abbrev pub IsFaultOf : List Text → LineFault → Type 0

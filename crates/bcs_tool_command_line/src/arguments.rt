@@ -68,7 +68,7 @@ fn given_name(alloc: Global, word: Option<&str>) -> Result<Option<String>, Alloc
     }
 }
 
-// The limits of the options, and the standard ones where there are none. clap has judged their numbers.
+// The limits of the options, and the standard ones where there are none. clap has validated their numbers.
 fn limits_of(given: &ArgMatches<'_>) -> Limits
     requires { (limits : Bounds) × WritesLimits (rows_of (found_of given.now)) limits }
     ensures { WritesLimits (rows_of (found_of given.now)) result }

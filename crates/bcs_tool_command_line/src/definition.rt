@@ -27,7 +27,7 @@ pub fn bcs_command<'a>(alloc: Global) -> Result<Command<'a>, AllocError>
 {
     let program = Command::new(alloc, "bcs")
         .about("Binary Canonical Serialization, by a registry of formats")
-        .after_help(texts::PROGRAM_END)
+        .after_help(texts::PROGRAM_EXAMPLES)
         .version(VERSION)
         .subcommand_required(true);
     with_input_commands(alloc, with_registry_commands(alloc, program)?)
@@ -79,7 +79,7 @@ fn check_command<'a>(alloc: Global) -> Result<Command<'a>, AllocError>
         alloc,
         "check",
         "Checks a registry and prints how many containers it has",
-        texts::CHECK_END,
+        texts::CHECK_EXAMPLES,
         &[REGISTRY, QUIET],
     )
 }
@@ -92,7 +92,7 @@ fn grows_command<'a>(alloc: Global) -> Result<Command<'a>, AllocError>
         alloc,
         "grows",
         "Tells whether a registry only adds to an older one",
-        texts::GROWS_END,
+        texts::GROWS_EXAMPLES,
         &[
             Word::Required("OLD", texts::OLD_REGISTRY),
             Word::Required("NEW", texts::NEW_REGISTRY),
@@ -110,7 +110,7 @@ fn show_command<'a>(alloc: Global) -> Result<Command<'a>, AllocError>
         alloc,
         "show",
         "Prints a registry for reading, or one container with all that it stands on",
-        texts::SHOW_END,
+        texts::SHOW_EXAMPLES,
         &[
             REGISTRY,
             Word::Optional("NAME", texts::CONTAINER),
@@ -128,7 +128,7 @@ fn example_command<'a>(alloc: Global) -> Result<Command<'a>, AllocError>
         alloc,
         "example",
         "Prints the JSON text of a value of a format, ready to be filled in",
-        texts::EXAMPLE_END,
+        texts::EXAMPLE_EXAMPLES,
         &[Word::Variant, Word::Flag("full", texts::FULL)],
     )
 }
@@ -141,7 +141,7 @@ fn schema_command<'a>(alloc: Global) -> Result<Command<'a>, AllocError>
         alloc,
         "schema",
         "Prints a JSON Schema of the JSON texts of a format's values",
-        texts::SCHEMA_END,
+        texts::SCHEMA_EXAMPLES,
         &[REGISTRY, FORMAT, QUIET],
     )
 }
@@ -154,7 +154,7 @@ fn encode_command<'a>(alloc: Global) -> Result<Command<'a>, AllocError>
         alloc,
         "encode",
         "Prints the bytes of a value's JSON text",
-        texts::ENCODE_END,
+        texts::ENCODE_EXAMPLES,
         &[
             FILE,
             Word::Flag("raw", texts::RAW_OUTPUT),
@@ -172,7 +172,7 @@ fn decode_command<'a>(alloc: Global) -> Result<Command<'a>, AllocError>
         alloc,
         "decode",
         "Prints the JSON text of a value's bytes",
-        texts::DECODE_END,
+        texts::DECODE_EXAMPLES,
         &[
             FILE,
             Word::Flag("raw", texts::RAW_INPUT),
@@ -190,7 +190,7 @@ fn explain_command<'a>(alloc: Global) -> Result<Command<'a>, AllocError>
         alloc,
         "explain",
         "Prints a value's bytes, piece by piece: place, bytes, what they are, and the way to them",
-        texts::EXPLAIN_END,
+        texts::EXPLAIN_EXAMPLES,
         &[
             FILE,
             Word::Flag("raw", texts::RAW_INPUT),
@@ -212,7 +212,7 @@ fn normalise_command<'a>(alloc: Global) -> Result<Command<'a>, AllocError>
         alloc,
         "normalise",
         "Prints the one normal JSON text of a value's JSON text",
-        texts::NORMALISE_END,
+        texts::NORMALISE_EXAMPLES,
         &[FILE, LINES],
     )
 }
@@ -225,7 +225,7 @@ fn same_command<'a>(alloc: Global) -> Result<Command<'a>, AllocError>
         alloc,
         "same",
         "Tells whether two JSON texts have the same value",
-        texts::SAME_END,
+        texts::SAME_EXAMPLES,
         &[
             Word::Required("A", texts::FIRST_FILE),
             Word::Optional("B", texts::SECOND_FILE),
@@ -242,7 +242,7 @@ fn part_command<'a>(alloc: Global) -> Result<Command<'a>, AllocError>
         alloc,
         "part",
         "Prints the bytes of a part of a value, out of the value's bytes",
-        texts::PART_END,
+        texts::PART_EXAMPLES,
         &[
             Word::Required("PATH", texts::PATH),
             FILE,
@@ -261,7 +261,7 @@ fn scan_command<'a>(alloc: Global) -> Result<Command<'a>, AllocError>
         alloc,
         "scan",
         "Checks the bytes of a value and prints how many there are",
-        texts::SCAN_END,
+        texts::SCAN_EXAMPLES,
         &[
             FILE,
             Word::Flag("raw", texts::RAW_INPUT),

@@ -2,7 +2,7 @@
 
 use crate::arguments::is_set;
 use crate::color::Color;
-use bcs_look_text::style::{Form, Paint, Style};
+use bcs_display_text::style::{Form, Paint, Style};
 use clap::ArgMatches;
 
 /// The options that only `explain`, `show` and `example` read. Everything between the command line and these commands passes

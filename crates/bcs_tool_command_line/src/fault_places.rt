@@ -1,18 +1,18 @@
 //! Where faults stand: the line behind the note.
 ghost use Rattle.std.specs.Prelude.{◌≡◌, ◌++◌, IfOk};
-ghost use Rattle.bcs_tool_command_line.specs.FaultPlaces.{TellsPlace, cause_text, file_place, file_text, origin_text, output_text, take_place};
+ghost use Rattle.bcs_tool_command_line.specs.FaultPlaces.{ReportsPlace, cause_text, file_place, file_text, origin_text, output_text, take_place};
 
 use crate::open_cause::OpenCause;
 use crate::origin::Origin;
 use crate::unread_file::UnreadFile;
+use bcs_display_text::escaping::put_escaped;
 use bcs_io::TakeFault;
-use bcs_look_text::escaping::put_escaped;
 use std::alloc::{AllocError, Global};
 
 /// The file of this name, which was not read, and why it wasn't opened. It is empty at a quiet job, at want of memory, and
 /// where no memory is left for it.
 pub fn place_of_file(alloc: Global, quiet: bool, unread: UnreadFile, name: &str) -> Vec<u8>
-    ensures { TellsPlace quiet (file_place unread name.now) result.items }
+    ensures { ReportsPlace quiet (file_place unread name.now) result.items }
 {
     if quiet {
         return Vec::new(alloc);
@@ -48,9 +48,9 @@ fn unread_line(alloc: Global, unread: UnreadFile, name: &str) -> Result<Vec<u8>,
     ensures { IfOk result (λ line. line.items ≡ file_place unread name.now) }
 {
     match unread {
-        UnreadFile::Unopened(cause) => unopened_line(alloc, name, cause),
-        UnreadFile::Untaken(TakeFault::Read | TakeFault::TooLarge) => file_line(alloc, name),
-        UnreadFile::Untaken(TakeFault::OutOfMemory) => Ok(Vec::new(alloc)),
+        UnreadFile::OpenFailed(cause) => unopened_line(alloc, name, cause),
+        UnreadFile::ReadFailed(TakeFault::Read | TakeFault::TooLarge) => file_line(alloc, name),
+        UnreadFile::ReadFailed(TakeFault::OutOfMemory) => Ok(Vec::new(alloc)),
     }
 }
 

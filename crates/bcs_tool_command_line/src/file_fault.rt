@@ -44,17 +44,17 @@ impl From<UnreadFile> for FileFault {
 
     fn from(unread: UnreadFile) -> FileFault {
         match unread {
-            UnreadFile::Unopened(_) => FileFault::Open,
-            UnreadFile::Untaken(fault) => FileFault::from(fault),
+            UnreadFile::OpenFailed(_) => FileFault::Open,
+            UnreadFile::ReadFailed(fault) => FileFault::from(fault),
         }
     }
 }
 
 impl From<TakeFault> for FileFault {
-    ghost use Rattle.bcs_tool_command_line.specs.declared.unread_file.UnreadFile.TheVariants.{Untaken};
+    ghost use Rattle.bcs_tool_command_line.specs.declared.unread_file.UnreadFile.TheVariants.{ReadFailed};
     ghost use Rattle.bcs_tool_command_line.specs.Files.{file_fault_of};
 
-    ghost from_gives = { λ taking result. result ≡ file_fault_of (Untaken taking) };
+    ghost from_gives = { λ taking result. result ≡ file_fault_of (ReadFailed taking) };
 
     fn from(taking: TakeFault) -> FileFault {
         match taking {

@@ -1,6 +1,6 @@
 //! Why a job has no work.
 ghost use Rattle.std.specs.Prelude.{string_bytes};
-ghost use Rattle.bcs_tool_command_line.specs.FaultPlaces.{TellsPlace, file_place};
+ghost use Rattle.bcs_tool_command_line.specs.FaultPlaces.{ReportsPlace, file_place};
 
 use crate::fault_places::place_of_file;
 use crate::unread_file::UnreadFile;
@@ -19,7 +19,7 @@ pub struct FileRefusal {
 impl FileRefusal {
     /// Where the fault stands. It is empty at a quiet job, at want of memory, and where no memory is left for it.
     pub fn place(&self, alloc: Global, quiet: bool) -> Vec<u8>
-        ensures { TellsPlace quiet (file_place self.now.reason (string_bytes self.now.name)) result.items }
+        ensures { ReportsPlace quiet (file_place self.now.reason (string_bytes self.now.name)) result.items }
     {
         place_of_file(alloc, quiet, self.reason, self.name.as_str())
     }

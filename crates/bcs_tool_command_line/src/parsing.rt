@@ -1,6 +1,6 @@
 //! What clap finds in the words of the command line.
 ghost use Rattle.std.specs.Prelude.{◌≡◌, [], IfOk, IfErr, IsOkUnless};
-ghost use Rattle.clap.specs.Words.{fault_of, found_of, kind_of, rows_of};
+ghost use Rattle.clap.specs.Words.{fault_of, kind_of};
 ghost use Rattle.bcs_tool_command_line.specs.CommandLine.{bcs_app, texts_of};
 ghost use Rattle.bcs_tool_command_line.specs.Jobs.{IsJobOf};
 ghost use Rattle.bcs_tool_command_line.specs.LineFaults.{IsFaultAmong, IsFaultOfKind};

@@ -93,7 +93,7 @@ pub const NO_COLOR: &str = "Prints without color. It goes before --color";
 
 // ---- the ends of the helps
 
-pub const PROGRAM_END: &str = "Example:
+pub const PROGRAM_EXAMPLES: &str = "Example:
   echo -4660 | bcs encode '{}' '\"I16\"'  # cced
 
 Status:
@@ -103,65 +103,65 @@ Status:
   3  the command line is wrong: the standard error says how
   4  a file, the output or memory failed: the standard error says which";
 
-pub const CHECK_END: &str = "Example:
+pub const CHECK_EXAMPLES: &str = "Example:
   bcs check '{\"Id\":{\"NEWTYPESTRUCT\":\"U64\"}}'  # ok 1
 
 Status: 0 done, 2 refused, 3 usage, 4 file or memory";
 
-pub const GROWS_END: &str = "Example:
+pub const GROWS_EXAMPLES: &str = "Example:
   bcs grows '{}' '{\"Id\":{\"NEWTYPESTRUCT\":\"U64\"}}'  # grows
   bcs grows --list '{}' '{\"Id\":\"UNITSTRUCT\"}' | xargs  # Id: container added grows
 
 Status: 0 grows, 2 refused, 3 usage, 4 file or memory";
 
-pub const SHOW_END: &str = "Example:
+pub const SHOW_EXAMPLES: &str = "Example:
   bcs show '{\"Id\":{\"NEWTYPESTRUCT\":\"U64\"}}' | xargs  # Id: NEWTYPESTRUCT, 8 bytes, used by no other U64
 
 Status: 0 done, 2 refused, 3 usage, 4 file or memory";
 
-pub const EXAMPLE_END: &str = "Example:
+pub const EXAMPLE_EXAMPLES: &str = "Example:
   bcs example '{\"E\":{\"ENUM\":{\"0\":{\"A\":\"UNIT\"},\"1\":{\"B\":{\"NEWTYPE\":\"U8\"}}}}}' E --variant B  # {\"B\":0}
   bcs example '{\"S\":{\"STRUCT\":[{\"a\":{\"OPTION\":\"U8\"}},{\"b\":{\"SEQ\":\"BOOL\"}}]}}' S --full  # {\"a\":{\"some\":0},\"b\":[false]}
 
 Status: 0 done, 2 refused, 3 usage, 4 file or memory";
 
-pub const SCHEMA_END: &str = "Example:
+pub const SCHEMA_EXAMPLES: &str = "Example:
   bcs schema '{}' '\"BOOL\"' | grep boolean | xargs  # type: boolean
 
 Status: 0 done, 2 refused, 3 usage, 4 file or memory";
 
-pub const ENCODE_END: &str = "Example:
+pub const ENCODE_EXAMPLES: &str = "Example:
   echo -4660 | bcs encode '{}' '\"I16\"'  # cced
 
 Status: 0 done, 2 refused, 3 usage, 4 file or memory";
 
-pub const DECODE_END: &str = "Example:
+pub const DECODE_EXAMPLES: &str = "Example:
   echo cced | bcs decode '{}' '\"I16\"'  # -4660
   echo zO0= | bcs decode '{}' '\"I16\"' --base64  # -4660
 
 Status: 0 done, 2 refused, 3 usage, 4 file or memory";
 
-pub const EXPLAIN_END: &str = "Example:
+pub const EXPLAIN_EXAMPLES: &str = "Example:
   echo cced | bcs explain '{}' '\"I16\"' | xargs  # 0 cced I16 -4660 .
 
 Status: 0 done, 2 refused, 3 usage, 4 file or memory";
 
-pub const NORMALISE_END: &str = "Example:
+pub const NORMALISE_EXAMPLES: &str = "Example:
   echo '\"-4660\"' | bcs normalise '{}' '\"I16\"'  # -4660
 
 Status: 0 done, 2 refused, 3 usage, 4 file or memory";
 
-pub const SAME_END: &str = "Example:
+pub const SAME_EXAMPLES: &str = "Example:
   echo 7 > a.json; echo '\"7\"' | bcs same '{}' '\"U8\"' a.json  # equal
 
 Status: 0 equal, 1 different, 2 refused, 3 usage, 4 file or memory";
 
-pub const PART_END: &str = "Example:
+pub const PART_EXAMPLES: &str = "Example:
   echo 02000100010001 | bcs part '{}' '{\"MAP\":{\"KEY\":\"U16\",\"VALUE\":\"BOOL\"}}' key:0100  # 01
 
 Status: 0 done, 1 none, 2 refused, 3 usage, 4 file or memory";
 
-pub const SCAN_END: &str = "Example:
+pub const SCAN_EXAMPLES: &str = "Example:
   echo cced | bcs scan '{}' '\"I16\"'  # ok 2
 
 Status: 0 done, 2 refused, 3 usage, 4 file or memory";

@@ -10,18 +10,18 @@ use thiserror::Error;
 pub enum UnreadFile {
     /// The file could not be opened.
     #[error("Open")]
-    Unopened(OpenCause),
+    OpenFailed(OpenCause),
     /// Its content was not taken.
     #[error(transparent)]
-    Untaken(TakeFault),
+    ReadFailed(TakeFault),
 }
 
 impl From<TakeFault> for UnreadFile {
-    ghost use Rattle.bcs_tool_command_line.specs.declared.unread_file.UnreadFile.TheVariants.{Untaken};
+    ghost use Rattle.bcs_tool_command_line.specs.declared.unread_file.UnreadFile.TheVariants.{ReadFailed};
 
-    ghost from_gives = { λ fault result. result ≡ Untaken fault };
+    ghost from_gives = { λ fault result. result ≡ ReadFailed fault };
 
     fn from(fault: TakeFault) -> UnreadFile {
-        UnreadFile::Untaken(fault)
+        UnreadFile::ReadFailed(fault)
     }
 }

@@ -1,11 +1,6 @@
 -- What `same` needs of the views: lists of unlike length, and pairs one after another.
-use Rattle.std.proofs.Common.{◌≡◌, ℕ, ◌+◌, ◌<◌, List, [], ◌∷◌, length, drop, get_or, Vec, Global, true, false, ◌&&◌, refl, ap, ◌∙◌, subst, arith}
-use Rattle.std.proofs.lemmas.Bool.{and_right}
-use Rattle.std.proofs.lemmas.List.{drop_more}
-use Rattle.bcs_value_model.specs.Same.{same, all_same, any_pair, all_pairs, is_within, has_pair}
-use Rattle.bcs_value_model.specs.View.{tree_of, items_trees, entries_pairs}
-use Rattle.bcs_value_model.specs.declared.value.Value.{Value, Pairs}
-use Rattle.bcs_value_model.proofs.Views.{tree_of_pairs}
+use Rattle.bcs_value.proofs.Prelude.{◌≡◌, ℕ, ◌+◌, ◌<◌, List, [], ◌∷◌, length, drop, get_or, Vec, Global, true, false, ◌&&◌, refl, ap, ◌∙◌, subst, arith, and_right, drop_more, same, all_same, any_pair, all_pairs, is_within, has_pair, tree_of, items_trees, entries_pairs, Value, tree_of_pairs}
+use Rattle.bcs_value_model.specs.declared.value.Value.{Pairs}
 
 pub all_same-unlike : (xs ys : List Value) → (length xs ≡ length ys → ⊥) → all_same (items_trees xs) (items_trees ys) ≡ false
 all_same-unlike [] [] h = absurd (h refl)

@@ -5,4 +5,4 @@ pub use Rattle.bcs_value_model.specs.Same
 pub use Rattle.bcs_value_model.specs.Limits
 pub use Rattle.bcs_value_model.specs.Words
 pub use Rattle.bcs_value_model.specs.Laws
-pub mod Twins
+pub mod RepeatedEntries

@@ -8,7 +8,7 @@ ghost use Rattle.bcs_value_model.specs.Tree.{items as items_tree, signed, unsign
 ghost use Rattle.bcs_value_model.specs.View.{entries_pairs, items_trees, tree_of};
 
 use bcs_registry::{Container, Format, Named, Registry, VariantFormat};
-use bcs_registry_model::{Kind, Scalar, WholeNumber};
+use bcs_registry_model::{IntegerKind, Kind, Scalar};
 use bcs_value_model::Value;
 
 /// Whether the value is one of the format: each part in its place, each number in its range, and as many parts as the
@@ -63,12 +63,12 @@ fn unsigned_fits(number: &u128, format: &Format, loose: bool) -> bool
     ensures { (r : Entries) → result ≡ spec.fits loose r (unsigned number.now) (of (shape_of format.now)) }
 {
     match format.kind() {
-        Kind::Scalar(Scalar::Whole(WholeNumber::Unsigned(width))) => width.holds_unsigned(*number),
+        Kind::Scalar(Scalar::Whole(IntegerKind::Unsigned(width))) => width.holds_unsigned(*number),
         Kind::Scalar(Scalar::Unsupported(_)) => loose,
         Kind::Scalar(
             Scalar::Unit
             | Scalar::Bool
-            | Scalar::Whole(WholeNumber::Signed(_))
+            | Scalar::Whole(IntegerKind::Signed(_))
             | Scalar::Str
             | Scalar::Bytes,
         )
@@ -87,12 +87,12 @@ fn signed_fits(number: &i128, format: &Format, loose: bool) -> bool
     ensures { (r : Entries) → result ≡ spec.fits loose r (signed number.now) (of (shape_of format.now)) }
 {
     match format.kind() {
-        Kind::Scalar(Scalar::Whole(WholeNumber::Signed(width))) => width.holds_signed(*number),
+        Kind::Scalar(Scalar::Whole(IntegerKind::Signed(width))) => width.holds_signed(*number),
         Kind::Scalar(Scalar::Unsupported(_)) => loose,
         Kind::Scalar(
             Scalar::Unit
             | Scalar::Bool
-            | Scalar::Whole(WholeNumber::Unsigned(_))
+            | Scalar::Whole(IntegerKind::Unsigned(_))
             | Scalar::Str
             | Scalar::Bytes,
         )

@@ -1,7 +1,7 @@
 //! Whether two values are the same, a map being a finite map.
 ghost use Rattle.std.specs.Prelude.{◌≡◌, ◌&&◌, drop};
 ghost use Rattle.bcs_value_model.specs.Same as spec;
-ghost use Rattle.bcs_value.specs.Twins.{has_twins as spec_twins};
+ghost use Rattle.bcs_value.specs.RepeatedEntries.{has_repeated_entries as spec_repeated};
 ghost use Rattle.bcs_value_model.specs.View.{entries_pairs, items_trees, tree_of};
 
 use bcs_value_model::Value;
@@ -56,7 +56,7 @@ fn same_pairs(xs: &[(Value, Value)], ys: &[(Value, Value)]) -> bool
     }
     // Then each entry of the other has one here too. To compare them again would double the work at each level of maps
     // in maps.
-    if xs.len() == ys.len() && !has_twins(xs) {
+    if xs.len() == ys.len() && !has_repeated_entries(xs) {
         return true;
     }
     for (key, value) in ys {
@@ -69,8 +69,8 @@ fn same_pairs(xs: &[(Value, Value)], ys: &[(Value, Value)]) -> bool
 
 // Whether an entry stands twice.
 #[cycle(same)]
-fn has_twins(pairs: &[(Value, Value)]) -> bool
-    ensures { result ≡ spec_twins (entries_pairs pairs.now) }
+fn has_repeated_entries(pairs: &[(Value, Value)]) -> bool
+    ensures { result ≡ spec_repeated (entries_pairs pairs.now) }
 {
     for (i, (key, value)) in pairs.iter().enumerate() {
         if has_pair(pairs, i + 1, key, value) {

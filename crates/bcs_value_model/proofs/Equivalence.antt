@@ -1,11 +1,5 @@
 -- `same` is an equivalence.
-use Rattle.std.proofs.Common.{◌≡◌, ℕ, List, Bool, true, false, ◌&&◌, ◌||◌, ◌==◌, ℤ, refl, sym, ap, ◌∙◌, rules, inl, inr}
-use Rattle.std.specs.Str.{bytes_eq}
-use Rattle.std.specs.Ordering.{int_eq}
-use Rattle.std.specs.Cmp.Rules.{comparing}
-use Rattle.std.proofs.lemmas.Bool.{false≢true, and_parts, and_from, or_cases, or_left, or_right, eqb-true, eq-eqb}
-use Rattle.bcs_value_model.specs.Tree.{Tree, unit, truth, unsigned, signed, text, bytes, absent, present, items, variant, pairs, named, Trees, no_trees, tree, Pairs, no_pairs, pair}
-use Rattle.bcs_value_model.specs.Same.{same, all_same, is_within, has_pair, any_pair, all_pairs, both}
+use Rattle.bcs_value_model.proofs.Prelude.{◌≡◌, ℕ, List, Bool, true, false, ◌&&◌, ◌||◌, ◌==◌, ℤ, refl, sym, ap, ◌∙◌, rules, inl, inr, bytes_eq, int_eq, comparing, false≢true, and_parts, and_from, or_cases, or_left, or_right, eqb-true, eq-eqb, Tree, unit, truth, unsigned, signed, text, bytes, absent, present, items, variant, pairs, named, Trees, no_trees, tree, Pairs, no_pairs, pair, same, all_same, is_within, has_pair, any_pair, all_pairs, both}
 
 nat-refl : (m : ℕ) → (m == m) ≡ true
 nat-refl m = eq-eqb m m refl

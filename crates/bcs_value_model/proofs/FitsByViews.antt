@@ -1,26 +1,9 @@
 -- What `fits` needs of the views.
-use Rattle.std.proofs.Common.{◌≡◌, ℕ, suc, ◌^◌, ◌<◌, nat_lt, List, [], ◌∷◌, length, map, Vec, BTreeMap, get_or, Global, Option, Some, None, Box, Bor, Bool, true, false, ◌&&◌, String, refl, sym, ap, ◌∙◌, arith}
-use Rattle.std.proofs.lemmas.Bool.{and_from, and_right, lt-ltb}
-use Rattle.std.proofs.lemmas.Str.{IsUtf8-string_bytes, is_utf8-from_IsUtf8}
-use Rattle.std.specs.Ordering.{nat_cmp}
-use Rattle.std.specs.Map.{lookup}
-use Rattle.std.specs.Option.{option_copied}
-use Rattle.std.specs.BTreeMap.{is_at}
-use Rattle.bcs_registry_model.specs.Container.{Entries, of, nothing, content, payload_shape, field_shapes}
-use Rattle.bcs_registry_model.specs.Shape.{Unsupported, unsupported}
-use Rattle.bcs_registry_model.specs.View.{shape_of, formats_shapes, field_of, payload_of, container_of}
-use Rattle.bcs_registry_model.specs.declared.named.Named.{Named}
-use Rattle.bcs_registry_model.specs.declared.format.Format.{Format, Str, Bytes, Map}
-use Rattle.bcs_registry_model.specs.declared.variant_format.VariantFormat.{VariantFormat}
+use Rattle.bcs_value_model.proofs.Prelude.{◌≡◌, ℕ, suc, ◌^◌, ◌<◌, nat_lt, List, [], ◌∷◌, length, map, Vec, BTreeMap, get_or, Global, Option, Some, None, Box, Bor, Bool, true, false, ◌&&◌, String, refl, sym, ap, ◌∙◌, arith, and_from, and_right, lt-ltb, IsUtf8-string_bytes, is_utf8-from_IsUtf8, nat_cmp, lookup, option_copied, is_at, Entries, of, nothing, content, payload_shape, field_shapes, Unsupported, unsupported, shape_of, formats_shapes, field_of, payload_of, container_of, Named, Format, Str, Bytes, Map, VariantFormat, Enum, shape-Bytes, shape-Str, Tree, fits, each_fits, pairs_fit, are_bytes, tree_of, items_trees, entries_pairs, Value, Text, Variant}
 use Rattle.bcs_registry_model.specs.declared.container.Container as declared
-use Rattle.bcs_registry_model.specs.declared.container.Container.TheVariants.{Enum}
-use Rattle.bcs_registry_model.proofs.FormatViews.{shape-Bytes, shape-Str}
 use Rattle.bcs_value_model.specs.Tree as tree
-use Rattle.bcs_value_model.specs.Tree.{Tree}
-use Rattle.bcs_value_model.specs.Fits.{fits, each_fits, pairs_fit, are_bytes}
-use Rattle.bcs_value_model.specs.View.{tree_of, items_trees, entries_pairs}
 use Rattle.bcs_value_model.specs.declared.value.Value as value
-use Rattle.bcs_value_model.specs.declared.value.Value.{Value, Text, Pairs, Variant}
+use Rattle.bcs_value_model.specs.declared.value.Value.{Pairs}
 use Rattle.bcs_value_model.proofs.Views.{tree_of_text, tree_of_bytes}
 use Rattle.bcs_value_model.proofs.WalkViews.{at_enum, at_map, choice-found, choice-missing}
 

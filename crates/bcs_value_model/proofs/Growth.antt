@@ -1,15 +1,7 @@
 -- What fits at a registry fits at one that it grew to.
-use Rattle.std.proofs.Common.{◌≡◌, ℕ, Bool, true, ◌&&◌, ◌==◌, ◌^◌, nat_lt, List, refl, sym, subst, ◌∙◌}
-use Rattle.std.proofs.lemmas.Bool.{false≢true, and_parts, and_from}
+use Rattle.bcs_value_model.proofs.Prelude.{◌≡◌, ℕ, Bool, true, ◌&&◌, ◌==◌, ◌^◌, nat_lt, List, refl, sym, subst, ◌∙◌, false≢true, and_parts, and_from, Shape, Shapes, no_shapes, shape, Entries, Choice, Content, of, one_of, nothing, content_at, choice_at, Grows, StaysIn, HasChoices, content_at-grows, choice_at-grows, Tree, Trees, no_trees, tree, Pairs, no_pairs, pair, count, fits, all_fit, each_fits, pairs_fit, GrowthKeepsFitting}
 use Rattle.bcs_registry_model.specs.Shape as shape
-use Rattle.bcs_registry_model.specs.Shape.{Shape, Shapes, no_shapes, shape}
-use Rattle.bcs_registry_model.specs.Container.{Entries, Choice, Content, of, one_of, nothing, content_at, choice_at}
-use Rattle.bcs_registry_model.specs.Grows.{Grows}
-use Rattle.bcs_registry_model.proofs.GrowthLaws.{StaysIn, HasChoices, content_at-grows, choice_at-grows}
 use Rattle.bcs_value_model.specs.Tree as tree
-use Rattle.bcs_value_model.specs.Tree.{Tree, Trees, no_trees, tree, Pairs, no_pairs, pair, count}
-use Rattle.bcs_value_model.specs.Fits.{fits, all_fit, each_fits, pairs_fit}
-use Rattle.bcs_value_model.specs.Laws.{GrowthKeepsFitting}
 use Rattle.bcs_value_model.proofs.FitsByViews.{fits-nothing, fits-unsupported}
 
 module _ (loose : Bool) (r : Entries) where

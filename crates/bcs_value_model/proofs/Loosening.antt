@@ -1,13 +1,7 @@
 -- What fits strictly fits loosely.
-use Rattle.std.proofs.Common.{◌≡◌, true, false, ◌&&◌, ◌==◌, ◌^◌, nat_lt}
-use Rattle.std.proofs.lemmas.Bool.{false≢true, and_parts, and_from}
+use Rattle.bcs_value_model.proofs.Prelude.{◌≡◌, true, false, ◌&&◌, ◌==◌, ◌^◌, nat_lt, false≢true, and_parts, and_from, Shape, Shapes, no_shapes, shape, Entries, Content, of, one_of, content_at, choice_at, Tree, Trees, no_trees, tree, Pairs, no_pairs, pair, count, fits, all_fit, each_fits, pairs_fit, FitsStrictlyThenLoosely}
 use Rattle.bcs_registry_model.specs.Shape as shape
-use Rattle.bcs_registry_model.specs.Shape.{Shape, Shapes, no_shapes, shape}
-use Rattle.bcs_registry_model.specs.Container.{Entries, Content, of, one_of, content_at, choice_at}
 use Rattle.bcs_value_model.specs.Tree as tree
-use Rattle.bcs_value_model.specs.Tree.{Tree, Trees, no_trees, tree, Pairs, no_pairs, pair, count}
-use Rattle.bcs_value_model.specs.Fits.{fits, all_fit, each_fits, pairs_fit}
-use Rattle.bcs_value_model.specs.Laws.{FitsStrictlyThenLoosely}
 
 module _ (r : Entries) where
   mutual

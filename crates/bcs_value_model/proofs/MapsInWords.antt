@@ -1,10 +1,5 @@
 -- Sameness of maps, and distinct keys, in words.
-use Rattle.std.proofs.Common.{◌≡◌, ℕ, zero, suc, Some, Bool, true, false, true≢false, not, ◌&&◌, refl, sym, ap, subst, ◌∙◌, inl, inr}
-use Rattle.std.proofs.lemmas.Bool.{and_parts, and_from, or_cases, or_left, or_right}
-use Rattle.bcs_value_model.specs.Tree.{Tree, Pairs, no_pairs, pair}
-use Rattle.bcs_value_model.specs.Same.{same, distinct, pairs_distinct, is_within, any_pair, all_pairs, Same}
-use Rattle.bcs_value_model.specs.Words.{IsEntry, EachHasMatch, key_at, KeysDiffer, PartsHaveDistinctKeys}
-use Rattle.bcs_value_model.specs.Laws.{SameMaps, MapsWithDistinctKeys}
+use Rattle.bcs_value_model.proofs.Prelude.{◌≡◌, ℕ, zero, suc, Some, Bool, true, false, true≢false, not, ◌&&◌, refl, sym, ap, subst, ◌∙◌, inl, inr, and_parts, and_from, or_cases, or_left, or_right, Tree, Pairs, no_pairs, pair, same, distinct, pairs_distinct, is_within, any_pair, all_pairs, Same, IsEntry, EachHasMatch, key_at, KeysDiffer, PartsHaveDistinctKeys, SameMaps, MapsWithDistinctKeys}
 use Rattle.bcs_value_model.proofs.Equivalence.{same-sym, within-both}
 
 -- ---- sameness

@@ -1,14 +1,7 @@
 -- Trees that are the same have the same formats.
-use Rattle.std.proofs.Common.{◌≡◌, suc, Bool, true, ◌&&◌, ◌==◌, ◌^◌, nat_lt, refl, sym, ap, ◌∙◌, inl, inr}
-use Rattle.std.proofs.lemmas.Bool.{false≢true, and_parts, and_from, or_cases}
+use Rattle.bcs_value_model.proofs.Prelude.{◌≡◌, suc, Bool, true, ◌&&◌, ◌==◌, ◌^◌, nat_lt, refl, sym, ap, ◌∙◌, inl, inr, false≢true, and_parts, and_from, or_cases, Shape, Shapes, no_shapes, shape, Entries, Content, of, one_of, content_at, choice_at, Tree, Trees, no_trees, tree, Pairs, no_pairs, pair, count, same, all_same, is_within, has_pair, any_pair, all_pairs, fits, all_fit, each_fits, pairs_fit, SameHaveSameFormats}
 use Rattle.bcs_registry_model.specs.Shape as shape
-use Rattle.bcs_registry_model.specs.Shape.{Shape, Shapes, no_shapes, shape}
-use Rattle.bcs_registry_model.specs.Container.{Entries, Content, of, one_of, content_at, choice_at}
 use Rattle.bcs_value_model.specs.Tree as tree
-use Rattle.bcs_value_model.specs.Tree.{Tree, Trees, no_trees, tree, Pairs, no_pairs, pair, count}
-use Rattle.bcs_value_model.specs.Same.{same, all_same, is_within, has_pair, any_pair, all_pairs}
-use Rattle.bcs_value_model.specs.Fits.{fits, all_fit, each_fits, pairs_fit}
-use Rattle.bcs_value_model.specs.Laws.{SameHaveSameFormats}
 use Rattle.bcs_value_model.proofs.Equivalence.{nat-same, int-same, bytes-same, and₂, both_ways}
 
 same_count : (ts us : Trees) → all_same ts us ≡ true → count ts ≡ count us

@@ -1,8 +1,6 @@
 -- What a value is seen as, shape by shape.
-use Rattle.std.proofs.Common.{◌≡◌, ℕ, ℤ, String, string_bytes, Vec, Box, Global, rules}
-use Rattle.bcs_value_model.specs.Tree.{unsigned, signed, text, bytes, present, items, variant, pairs}
-use Rattle.bcs_value_model.specs.View.{tree_of, items_trees, entries_pairs}
-use Rattle.bcs_value_model.specs.declared.value.Value.{Value, Unsigned, Signed, Text, Bytes, Present, Items, Pairs, Variant, the_lemmas}
+use Rattle.bcs_value_model.proofs.Prelude.{◌≡◌, ℕ, ℤ, String, string_bytes, Vec, Box, Global, rules, unsigned, signed, text, bytes, present, items, variant, pairs, tree_of, items_trees, entries_pairs, Value, Unsigned, Signed, Text, Present, Items, Variant, the_lemmas}
+use Rattle.bcs_value_model.specs.declared.value.Value.{Bytes, Pairs}
 
 pub tree_of_unsigned : (n : ℕ) → tree_of (Unsigned n) ≡ unsigned n
 tree_of_unsigned n = search (rules, the_lemmas)

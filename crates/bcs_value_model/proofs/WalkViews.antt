@@ -1,23 +1,8 @@
 -- What the walks over values need of the views.
-use Rattle.std.proofs.Common.{◌≡◌, ℕ, List, [], ◌∷◌, length, map, Vec, BTreeMap, Global, Option, Some, None, option_map, Box, Bor, refl, sym, ap, ◌∙◌, arith, string_bytes}
-use Rattle.std.specs.Ordering.{nat_cmp}
-use Rattle.std.specs.Map.{lookup}
-use Rattle.std.specs.Option.{option_copied, option_map_or}
-use Rattle.std.specs.BTreeMap.{is_at}
-use Rattle.bcs_registry_model.specs.Container.{Payload, Content, of, one_of, nothing, content, payload_shape, choice_at}
-use Rattle.bcs_registry_model.specs.Shape.{seq, array, map as map_shape}
-use Rattle.bcs_registry_model.specs.View.{shape_of, payload_of, choice_of, container_of}
-use Rattle.bcs_registry_model.specs.declared.named.Named.{Named}
-use Rattle.bcs_registry_model.specs.declared.format.Format.{Format, Map, Seq, TupleArray}
-use Rattle.bcs_registry_model.specs.declared.variant_format.VariantFormat.{VariantFormat}
+use Rattle.bcs_value_model.proofs.Prelude.{◌≡◌, ℕ, List, [], ◌∷◌, length, map, Vec, BTreeMap, Global, Option, Some, None, option_map, Box, Bor, refl, sym, ap, ◌∙◌, arith, string_bytes, nat_cmp, lookup, option_copied, option_map_or, is_at, Payload, Content, of, one_of, nothing, content, payload_shape, choice_at, seq, array, map_shape, shape_of, payload_of, choice_of, container_of, Named, Format, Map, Seq, TupleArray, VariantFormat, Enum, shape-Map, shape-Seq, shape-TupleArray, find-choice, Tree, count, pair_count, tree_of, items_trees, entries_pairs, Value, Items, Variant}
 use Rattle.bcs_registry_model.specs.declared.container.Container as declared
-use Rattle.bcs_registry_model.specs.declared.container.Container.TheVariants.{Enum}
-use Rattle.bcs_registry_model.proofs.FormatViews.{shape-Map, shape-Seq, shape-TupleArray}
-use Rattle.bcs_registry_model.proofs.Lookup.{find-choice}
 use Rattle.bcs_value_model.specs.Tree as tree
-use Rattle.bcs_value_model.specs.Tree.{Tree, count, pair_count}
-use Rattle.bcs_value_model.specs.View.{tree_of, items_trees, entries_pairs}
-use Rattle.bcs_value_model.specs.declared.value.Value.{Value, Items, Pairs, Variant}
+use Rattle.bcs_value_model.specs.declared.value.Value.{Pairs}
 use Rattle.bcs_value_model.proofs.Views.{tree_of_items, tree_of_pairs, tree_of_variant}
 
 pub count_items : (vs : List Value) → count (items_trees vs) ≡ length vs

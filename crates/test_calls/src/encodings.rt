@@ -46,7 +46,7 @@ fn answered(
         ("form", _) => formed(alloc, asked, value),
         ("length", _) => counted(alloc, of_encode(alloc, asked, value)?),
         ("entries", _) => counted(alloc, of_entries(alloc, asked, value)?),
-        ("deep", [wanted]) => deep(alloc, asked, value, wanted),
+        ("deep", [expected]) => deep(alloc, asked, value, expected),
         ("write", [piece, fails]) => written(alloc, asked, value, [piece, fails]),
         ("quiet_value", _) => {
             let _ = encoded(alloc, asked, value)?;
@@ -70,12 +70,12 @@ fn deep(
     alloc: Global,
     question: &Question,
     value: &Value,
-    wanted: &str,
+    expected: &str,
 ) -> Result<String, RowFault> {
     let Ok(encoded) = encoded(alloc, question, value)? else {
         return Err(RowFault::Disagreement("encode"));
     };
-    agree(encoded == bytes(alloc, wanted)?, "encode")?;
+    agree(encoded == bytes(alloc, expected)?, "encode")?;
     Ok(format!(in alloc; "{} bytes", encoded.len())?)
 }
 

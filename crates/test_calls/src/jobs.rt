@@ -21,8 +21,8 @@ pub(crate) fn answer(rt: &HostRuntime, question: &str, words: &[&str]) -> Result
         ("failing_run", [input, reads, puts, words @ ..]) => {
             ran(rt.alloc(), [input, reads, puts], words)
         }
-        ("ends", [input, piece, reads, puts, tells, words @ ..]) => {
-            ended(rt, [input, piece, reads], [puts, tells], words)
+        ("ends", [input, piece, reads, puts, reports, words @ ..]) => {
+            ended(rt, [input, piece, reads], [puts, reports], words)
         }
         ("named", [name]) => named(rt, name),
         ("endless_job", words) => ended_endless(rt, words),
@@ -47,7 +47,7 @@ fn named(rt: &HostRuntime, name: &str) -> Result<String, RowFault> {
 }
 
 // The words of a command line behind the program's name.
-fn words_of(alloc: Global, arguments: &[&str]) -> Result<Vec<String>, AllocError> {
+fn args_of(alloc: Global, arguments: &[&str]) -> Result<Vec<String>, AllocError> {
     let mut words = Vec::new(alloc);
     words.push(String::from_str(alloc, "bcs")?)?;
     for argument in arguments {
@@ -108,7 +108,7 @@ fn command_of(name: &str) -> Result<Command, RowFault> {
 
 // The job, by the names that it has in code.
 fn job(alloc: Global, words: &[&str]) -> Result<String, RowFault> {
-    match line(alloc, &words_of(alloc, words)?) {
+    match line(alloc, &args_of(alloc, words)?) {
         Ok(job) => Ok(format!(in alloc; "{job:?}")?),
         Err(fault) => Ok(format!(in alloc; "{fault}")?),
     }
@@ -147,13 +147,13 @@ fn put_text(alloc: Global, put: &[u8]) -> Result<String, RowFault> {
 fn responded<S: ByteSource>(
     rt: &HostRuntime,
     input: &mut S,
-    [puts, tells]: [&str; 2],
+    [puts, reports]: [&str; 2],
     words: &[&str],
 ) -> Result<String, RowFault> {
     let alloc = rt.alloc();
     let mut out = PieceSink::<100>::new(100, call(puts)?);
-    let mut errors = PieceSink::<4000>::new(4000, call(tells)?);
-    let status = respond(rt, &words_of(alloc, words)?, input, &mut out, &mut errors);
+    let mut errors = PieceSink::<4000>::new(4000, call(reports)?);
+    let status = respond(rt, &args_of(alloc, words)?, input, &mut out, &mut errors);
     let told = if status == 3 {
         errors.taken().get(..7).unwrap_or_default()
     } else {
@@ -289,8 +289,8 @@ fn push_message<F: Display>(
 }
 
 fn line_messages(alloc: Global) -> Result<String, AllocError> {
-    let unopened = UnreadFile::Unopened(OpenCause::Missing);
-    let untaken = UnreadFile::Untaken(TakeFault::Read);
+    let unopened = UnreadFile::OpenFailed(OpenCause::Missing);
+    let untaken = UnreadFile::ReadFailed(TakeFault::Read);
     let usage = LineFault::Usage(String::new(alloc));
     let help = LineFault::Help(String::new(alloc));
     format!(in alloc;

@@ -8,7 +8,7 @@ use bcs_num::{
 };
 use bcs_registry_json::format_text::format_from;
 use bcs_registry_json::json_text::registry_json;
-use bcs_registry_model::WholeNumber;
+use bcs_registry_model::IntegerKind;
 use std::alloc::Global;
 
 pub(crate) fn answer(alloc: Global, question: &str, words: &[&str]) -> Result<String, RowFault> {
@@ -38,21 +38,21 @@ fn uleb_taken(alloc: Global, word: &str) -> Result<String, RowFault> {
 }
 
 // The whole numbers of a format, as of `U8` and `I128`.
-fn numbers_of(alloc: Global, format: &str) -> Result<WholeNumber, RowFault> {
+fn numbers_of(alloc: Global, format: &str) -> Result<IntegerKind, RowFault> {
     let text = format!(in alloc; "\"{format}\"")?;
     let format = format_from(alloc, &registry_json(alloc, text.as_bytes())?)?;
-    WholeNumber::of(&format).ok_or(RowFault::NotUnderstood)
+    IntegerKind::of(&format).ok_or(RowFault::NotUnderstood)
 }
 
 // The bytes of a number of the format.
 fn put(alloc: Global, format: &str, text: &str) -> Result<String, RowFault> {
     let mut out = [0xee; GREATEST_LEN];
     let len = match numbers_of(alloc, format)? {
-        WholeNumber::Unsigned(width) => match parse_unsigned(width, text) {
+        IntegerKind::Unsigned(width) => match parse_unsigned(width, text) {
             Some(number) => put_le(width, number, &mut out),
             None => return Err(RowFault::NotUnderstood),
         },
-        WholeNumber::Signed(width) => match parse_signed(width, text) {
+        IntegerKind::Signed(width) => match parse_signed(width, text) {
             Some(number) => put_le_signed(width, number, &mut out),
             None => return Err(RowFault::NotUnderstood),
         },
@@ -64,11 +64,11 @@ fn put(alloc: Global, format: &str, text: &str) -> Result<String, RowFault> {
 fn taken(alloc: Global, format: &str, word: &str) -> Result<String, RowFault> {
     let bytes = bytes(alloc, word)?;
     let taken = match numbers_of(alloc, format)? {
-        WholeNumber::Unsigned(width) => match take_le(width, &bytes) {
+        IntegerKind::Unsigned(width) => match take_le(width, &bytes) {
             Ok(number) => format!(in alloc; "{number}"),
             Err(fault) => format!(in alloc; "{fault}"),
         },
-        WholeNumber::Signed(width) => match take_le_signed(width, &bytes) {
+        IntegerKind::Signed(width) => match take_le_signed(width, &bytes) {
             Ok(number) => format!(in alloc; "{number}"),
             Err(fault) => format!(in alloc; "{fault}"),
         },
@@ -79,11 +79,11 @@ fn taken(alloc: Global, format: &str, word: &str) -> Result<String, RowFault> {
 // The number of the format whose plain decimal text this is.
 fn parsed(alloc: Global, format: &str, text: &str) -> Result<String, RowFault> {
     let parsed = match numbers_of(alloc, format)? {
-        WholeNumber::Unsigned(width) => match parse_unsigned(width, text) {
+        IntegerKind::Unsigned(width) => match parse_unsigned(width, text) {
             Some(number) => format!(in alloc; "{number}"),
             None => String::from_str(alloc, "none"),
         },
-        WholeNumber::Signed(width) => match parse_signed(width, text) {
+        IntegerKind::Signed(width) => match parse_signed(width, text) {
             Some(number) => format!(in alloc; "{number}"),
             None => String::from_str(alloc, "none"),
         },

@@ -11,7 +11,7 @@ use bcs_codec::{
 use std::alloc::{AllocError, Global};
 
 /// A value with its length, or why there is none.
-pub(crate) type Judged = Result<(Value, u64), DecodeFault>;
+pub(crate) type Validated = Result<(Value, u64), DecodeFault>;
 
 pub(crate) fn answer(
     alloc: Global,
@@ -52,12 +52,12 @@ fn of_failing(
 ) -> Result<String, RowFault> {
     let mut source = PieceSource::new(input, 1, fails);
     let mut other = PieceSource::new(input, 1, fails);
-    let judged = if question == "failing" {
+    let validated = if question == "failing" {
         of_whole(alloc, asked, &mut source, &mut other)
     } else {
         of_front(alloc, asked, &mut source, &mut other)
     };
-    let length = length_of(judged?);
+    let length = length_of(validated?);
     agree(source.failed() == other.failed(), "failed")?;
     agree(source.given() == other.given(), "given")?;
     let answer = told(alloc, &length)?;
@@ -81,7 +81,7 @@ pub(crate) fn of_front<S: ByteSource>(
     asked: &Question,
     source: &mut S,
     other: &mut S,
-) -> Result<Judged, RowFault> {
+) -> Result<Validated, RowFault> {
     let Question {
         registry,
         format,
@@ -89,7 +89,7 @@ pub(crate) fn of_front<S: ByteSource>(
     } = asked;
     let scanned = scan_from(alloc, registry, format, limits, source);
     let decoded = decode_from(alloc, registry, format, limits, other);
-    judged(scanned, decoded)
+    validated(scanned, decoded)
 }
 
 /// The whole of a source, by `scan_all`, and by `decode_all` of another like it.
@@ -98,7 +98,7 @@ pub(crate) fn of_whole<S: ByteSource>(
     asked: &Question,
     source: &mut S,
     other: &mut S,
-) -> Result<Judged, RowFault> {
+) -> Result<Validated, RowFault> {
     let Question {
         registry,
         format,
@@ -106,13 +106,13 @@ pub(crate) fn of_whole<S: ByteSource>(
     } = asked;
     let scanned = scan_all(alloc, registry, format, limits, source);
     let decoded = decode_all(alloc, registry, format, limits, other);
-    judged(scanned, decoded)
+    validated(scanned, decoded)
 }
 
-fn judged(
+fn validated(
     scanned: Result<u64, DecodeFault>,
     decoded: Result<Value, DecodeFault>,
-) -> Result<Judged, RowFault> {
+) -> Result<Validated, RowFault> {
     let scanned = granted(scanned, DecodeFault::OutOfMemory)?;
     match granted(decoded, DecodeFault::OutOfMemory)? {
         Ok(value) => match scanned {
@@ -126,15 +126,15 @@ fn judged(
     }
 }
 
-pub(crate) fn fault_of(judged: &Judged) -> Option<DecodeFault> {
-    match judged {
+pub(crate) fn fault_of(validated: &Validated) -> Option<DecodeFault> {
+    match validated {
         Ok(_) => None,
         Err(fault) => Some(*fault),
     }
 }
 
-fn length_of(judged: Judged) -> Result<u64, DecodeFault> {
-    match judged {
+fn length_of(validated: Validated) -> Result<u64, DecodeFault> {
+    match validated {
         Ok((_, length)) => Ok(length),
         Err(fault) => Err(fault),
     }

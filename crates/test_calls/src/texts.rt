@@ -114,9 +114,9 @@ fn agree_on(
     agree_on_text(text, normal, "from_bcs")
 }
 
-fn agree_on_text(text: Option<String>, wanted: &str, call: &'static str) -> Result<(), RowFault> {
+fn agree_on_text(text: Option<String>, expected: &str, call: &'static str) -> Result<(), RowFault> {
     match text {
-        Some(text) => agree(text.as_str() == wanted, call),
+        Some(text) => agree(text.as_str() == expected, call),
         None => Err(RowFault::Disagreement(call)),
     }
 }

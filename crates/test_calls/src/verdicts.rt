@@ -5,7 +5,7 @@ use crate::changes::agreeing_changes;
 use crate::question::Question;
 use crate::row_fault::{RowFault, agree, granted};
 use crate::setting::Setting;
-use crate::sources::{Judged, fault_of, of_front, of_whole, told};
+use crate::sources::{Validated, fault_of, of_front, of_whole, told};
 use crate::words;
 use bcs_codec::pieces::PieceSource;
 use bcs_codec::{
@@ -79,7 +79,7 @@ pub(crate) fn encoded_again(
 
 // The value that the bytes begin with, and its length, or where and why they stop being one: by the calls on a slice, and all
 // calls on sources have to give the same, in pieces of 1, 2 and 3 bytes, and of the whole.
-fn verdict(alloc: Global, question: &Question, bytes: &[u8]) -> Result<Judged, RowFault> {
+fn verdict(alloc: Global, question: &Question, bytes: &[u8]) -> Result<Validated, RowFault> {
     let verdict = of_slice(alloc, question, bytes)?;
     agree_on_sources(alloc, question, bytes, &verdict)?;
     Ok(verdict)
@@ -89,7 +89,7 @@ fn agree_on_sources(
     alloc: Global,
     question: &Question,
     bytes: &[u8],
-    verdict: &Judged,
+    verdict: &Validated,
 ) -> Result<(), RowFault> {
     agree_in_pieces(alloc, question, bytes, 1, verdict)?;
     agree_in_pieces(alloc, question, bytes, 2, verdict)?;
@@ -110,7 +110,7 @@ fn scanned(question: &Question, bytes: &[u8]) -> Result<u64, DecodeFault> {
 }
 
 // The whole is the part to which no steps lead.
-fn of_slice(alloc: Global, question: &Question, bytes: &[u8]) -> Result<Judged, RowFault> {
+fn of_slice(alloc: Global, question: &Question, bytes: &[u8]) -> Result<Validated, RowFault> {
     let Question {
         registry,
         format,
@@ -128,7 +128,7 @@ fn of_slice(alloc: Global, question: &Question, bytes: &[u8]) -> Result<Judged, 
 fn agree_without_memory(
     question: &Question,
     bytes: &[u8],
-    verdict: &Judged,
+    verdict: &Validated,
 ) -> Result<(), RowFault> {
     let Question {
         registry,
@@ -140,7 +140,7 @@ fn agree_without_memory(
     agree(is_length(scanned(question, bytes), verdict), "scan")
 }
 
-fn is_whole(part: Result<Option<Part<'_>>, Stop>, bytes: &[u8], verdict: &Judged) -> bool {
+fn is_whole(part: Result<Option<Part<'_>>, Stop>, bytes: &[u8], verdict: &Validated) -> bool {
     match (part, verdict) {
         (Ok(Some(whole)), Ok((_, length))) => {
             whole.place == 0
@@ -152,7 +152,7 @@ fn is_whole(part: Result<Option<Part<'_>>, Stop>, bytes: &[u8], verdict: &Judged
     }
 }
 
-fn is_length(scanned: Result<u64, DecodeFault>, verdict: &Judged) -> bool {
+fn is_length(scanned: Result<u64, DecodeFault>, verdict: &Validated) -> bool {
     match (scanned, verdict) {
         (Ok(found), Ok((_, length))) => found == *length,
         (Err(one), Err(other)) => one == *other,
@@ -167,7 +167,7 @@ fn agree_in_pieces(
     question: &Question,
     bytes: &[u8],
     piece: usize,
-    verdict: &Judged,
+    verdict: &Validated,
 ) -> Result<(), RowFault>
     requires { 1 ≤ piece }
 {
@@ -191,7 +191,7 @@ fn agree_on_front<'a>(
     question: &Question,
     source: &mut PieceSource<'a>,
     other: &mut PieceSource<'a>,
-    verdict: &Judged,
+    verdict: &Validated,
 ) -> Result<(), RowFault> {
     let is_front = is_same(&of_front(alloc, question, source, other)?, verdict);
     agree(is_front, "decode_from")?;
@@ -204,7 +204,7 @@ fn agree_on_whole<'a>(
     source: &mut PieceSource<'a>,
     other: &mut PieceSource<'a>,
     len: usize,
-    verdict: &Judged,
+    verdict: &Validated,
 ) -> Result<(), RowFault> {
     let whole = of_whole(alloc, question, source, other)?;
     let is_whole = is_same_whole(&whole, verdict, len);
@@ -216,7 +216,7 @@ fn agree_on_whole<'a>(
     )
 }
 
-fn is_same(one: &Judged, other: &Judged) -> bool {
+fn is_same(one: &Validated, other: &Validated) -> bool {
     match (one, other) {
         (Ok((value, length)), Ok((same_value, same_length))) => {
             length == same_length && same(value, same_value)
@@ -227,7 +227,7 @@ fn is_same(one: &Judged, other: &Judged) -> bool {
 }
 
 // What the whole of so many bytes is, by the verdict on their front: a value exactly if no byte follows.
-fn is_same_whole(whole: &Judged, verdict: &Judged, len: usize) -> bool {
+fn is_same_whole(whole: &Validated, verdict: &Validated, len: usize) -> bool {
     match verdict {
         Ok((_, length)) if *length != len as u64 => {
             fault_of(whole)
@@ -241,7 +241,7 @@ fn is_same_whole(whole: &Judged, verdict: &Judged, len: usize) -> bool {
 }
 
 // Whether a source gave the bytes of a value, and so many behind it.
-fn gave(source: &PieceSource<'_>, verdict: &Judged, behind: u64) -> bool {
+fn gave(source: &PieceSource<'_>, verdict: &Validated, behind: u64) -> bool {
     match verdict {
         Ok((_, length)) => source.given() == length.saturating_add(behind),
         Err(_) => true,

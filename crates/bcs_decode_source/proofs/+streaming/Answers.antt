@@ -1,28 +1,10 @@
-use Rattle.std.proofs.lemmas.Grind.{common_steps}
-use Rattle.std.proofs.Common.{◌≡◌, ◌∙◌, ◌+◌, ◌≤◌, suc, List, [], length, refl, ap, sym, map, take, drop, Some, true, arith, rules}
-use Rattle.std.proofs.lemmas.List.{drop_all}
-use Rattle.std.proofs.lemmas.Result.{err_from_is_err_and}
-use Rattle.bcs_registry_model.specs.Shape.{Shape, Shapes, tuple as tuple_shape}
-use Rattle.bcs_registry_model.specs.Container.{of, one_of, content, field_shapes, payload_shape, content_at, choice_at}
-use Rattle.bcs_registry_model.specs.WellFormed.{levels, shapes_levels}
-use Rattle.bcs_registry_model.specs.View.{shape_of, formats_shapes, field_of, payload_of, choice_of, container_of}
-use Rattle.bcs_registry_model.specs.declared.named.Named.{Named}
-use Rattle.bcs_registry_model.specs.declared.format.Format.{Format}
+use Rattle.bcs_decode_source.proofs.Prelude.{common_steps, ◌≡◌, ◌∙◌, ◌+◌, ◌≤◌, suc, List, [], length, refl, ap, sym, map, take, drop, Some, true, arith, rules, drop_all, err_from_is_err_and, Shape, Shapes, tuple_shape, of, one_of, content, field_shapes, payload_shape, content_at, choice_at, levels, shapes_levels, shape_of, formats_shapes, field_of, payload_of, choice_of, container_of, Named, Format, tree_of, last_bytes, key_of, enter_here, rest_of, number_node, read, option_node, items_node, pairs_node, tuple_value, container_value, content_value, key_here, chain, give, building, items_same, content_found, content_missing, choice_found, choice_missing, levels_in, field_levels_in, formats_next, fields_next, shape_seen, content_at-inside, choice_at-inside}
 use Rattle.bcs_value_model.specs.Tree as tree
-use Rattle.bcs_value_model.specs.View.{tree_of}
-use Rattle.bcs_decode_source.specs.Kept.{last_bytes, key_of}
-use Rattle.bcs_decode_slice.specs.Passing.{enter_here}
-use Rattle.bcs_decode_source.specs.Sees.{rest_of, number_node, read, option_node, items_node, pairs_node, tuple_value, container_value, content_value}
-use Rattle.bcs_decode_spec.specs.Reading.{key_here, chain, give, building}
-use Rattle.bcs_decode_slice.proofs.PassingParts.{items_same}
-use Rattle.bcs_decode_source.proofs.Going.{Along-none, Along-then, Along-map, AlongMap-then, AlongMap-value, AlongMap-key, front_length, Halts-then, Halts-after, FindsFault-whole, FindsFault-judged}
+use Rattle.bcs_decode_source.proofs.SourceSteps.{Along-none, Along-then, Along-map, AlongMap-then, AlongMap-value, AlongMap-key, front_length, Halts-then, Halts-after, FindsFault-whole, FindsFault-validated}
 use Rattle.bcs_decode_source.proofs.KeptKeys.{Stands-begun, Stands-more, last_kept, same_key}
 use Rattle.bcs_decode_source.proofs.StreamedKeys.{key_stop, kept_wrong, kept_right}
-use Rattle.bcs_decode_spec.proofs.LookedUp.{content_found, content_missing, choice_found, choice_missing, levels_in, field_levels_in, formats_next, fields_next}
 use Rattle.bcs_decode_source.proofs.Streamed.{read_leaf, read_whole, read_container, container_missing, container_stop, read_Opt, read_Seq, read_TupleArray, read_Map, read_Tuple, read_TypeName, unit_is, read_tuple, content_shape, enum_stop, enum_unknown, enum_refused, enum_built}
 use Rattle.bcs_decode_source.proofs.StreamedRows.{items_none, items_more, items_done, items_refused, each_none, each_more, each_done, each_refused, pairs_none, pairs_more, pairs_done, key_refused, value_refused}
-use Rattle.bcs_registry_model.proofs.KindShapes.{shape_seen}
-use Rattle.bcs_registry_model.proofs.Admitted.{content_at-inside, choice_at-inside}
 use Rattle.bcs_decode_source.proofs.Readers.{again, IsSame-then, Reads-as, Reads-then, Reads-put, Onward-none, Onward-then, Onward-done, Onward-ends, Onward-stops, Onward-lacks, Reads-exit}
 use Rattle.bcs_decode_source.proofs.+streaming.Goals as goal
 
@@ -255,12 +237,12 @@ maps::each_entry-returns g t c =
     record {
       reads = record {
         sees = (let done = pairs_done (read c.args.reader.now.registry.now c.args.depth (shape_of c.args.key.now)) (read c.args.reader.now.registry.now c.args.depth (shape_of c.args.part.now)) c.args.entries.now.count c.loop.counter (last_bytes c.loop.keys.last c.loop.reader.at.now.kept.items) c.loop.entries.found.items (g.S.ByteSource.content c.args.reader.now.source.now) (g.S.ByteSource.content c.loop.reader.source.now) c.args.reader.now.at.now c.loop.reader.at.now c.loop-test.false c.loop.invariant.sees in
-            let same = c.let_go.ensures.same in
+            let same = c.forget_last_key.ensures.same in
             λ told. (let found = done told in (found.0 ∙ rw (same.place, same.nodes) refl, found.1)));
         failed = search rules;
         room = search rules;
-        goes = (let done = c.let_go.ensures in
-            Along-map (g.S.ByteSource.content c.args.reader.now.source.now) (g.S.ByteSource.content c.loop.reader.source.now) c.args.reader.now.at.now c.loop.reader.at.now c.let_go.new.at c.loop.invariant.goes done.same.place done.same.key done.recorded
+        goes = (let done = c.forget_last_key.ensures in
+            Along-map (g.S.ByteSource.content c.args.reader.now.source.now) (g.S.ByteSource.content c.loop.reader.source.now) c.args.reader.now.at.now c.loop.reader.at.now c.forget_last_key.new.at c.loop.invariant.goes done.same.place done.same.key done.recorded
             (λ no. done.unrecorded no ∙ ap (λ i. take i c.loop.reader.at.now.kept.items) c.loop.invariant.begun));
         same = search rules;
       };
@@ -283,8 +265,8 @@ maps::next_key-returns-in_err-follow-clause-reads g t c =
     record {
       sees = (let size : c.len-from.result ≡ length c.args.reader.now.at.now.kept.items = omega (arith, c.len-from.ensures, c.args.reader.now.at.now.kept.ok.0) in
           let p = err_from_is_err_and c.from_residual-in_err-follow.result c.from_residual-in_err-follow.ensures.1 in
-          rw (p.1, p.2) (FindsFault-judged c.in_err-follow.field-0.0 (g.S.ByteSource.content c.args.reader.now.source.now) c.args.reader.now.at.now (key_here (read c.args.reader.now.registry.now c.args.depth (shape_of c.args.key.now)) (last_bytes c.args.keys.now.last c.args.reader.now.at.now.kept.items)) _ _
-          (λ e o told wrong. kept_wrong (read c.args.reader.now.registry.now c.args.depth (shape_of c.args.key.now)) c.args.keys.now.last c.args.keys.now.begun c.len-from.result (g.S.ByteSource.content c.args.reader.now.source.now) (g.S.ByteSource.content c.value.new.reader.source.now) c.args.reader.now.at.now c.value.new.reader.at.now (tree_of c.value.new.slot) told size c.requires.stands c.in_ok-value.ensures.reads.goes (c.in_ok-value.ensures.reads.sees told).0 e o wrong) c.in_err-follow.ensures.judges));
+          rw (p.1, p.2) (FindsFault-validated c.in_err-follow.field-0.0 (g.S.ByteSource.content c.args.reader.now.source.now) c.args.reader.now.at.now (key_here (read c.args.reader.now.registry.now c.args.depth (shape_of c.args.key.now)) (last_bytes c.args.keys.now.last c.args.reader.now.at.now.kept.items)) _ _
+          (λ e o told wrong. kept_wrong (read c.args.reader.now.registry.now c.args.depth (shape_of c.args.key.now)) c.args.keys.now.last c.args.keys.now.begun c.len-from.result (g.S.ByteSource.content c.args.reader.now.source.now) (g.S.ByteSource.content c.value.new.reader.source.now) c.args.reader.now.at.now c.value.new.reader.at.now (tree_of c.value.new.slot) told size c.requires.stands c.in_ok-value.ensures.reads.goes (c.in_ok-value.ensures.reads.sees told).0 e o wrong) c.in_err-follow.ensures.validates));
       failed = search rules;
       room = search rules;
       goes = search rules;
@@ -297,7 +279,7 @@ maps::next_key-returns-clause-reads g t c =
       sees = (let size : c.len-from.result ≡ length c.args.reader.now.at.now.kept.items = omega (arith, c.len-from.ensures, c.args.reader.now.at.now.kept.ok.0) in
           let same = c.follow.ensures.same in
           let key = same_key c.follow.new.keys.last c.follow.new.at.kept.items (drop c.len-from.result c.value.new.reader.at.now.kept.items) c.in_ok-follow.ensures.last in
-          λ told. (let read_key = c.in_ok-value.ensures.reads.sees told in (kept_right (read c.args.reader.now.registry.now c.args.depth (shape_of c.args.key.now)) c.args.keys.now.last c.args.keys.now.begun c.len-from.result (g.S.ByteSource.content c.args.reader.now.source.now) (g.S.ByteSource.content c.value.new.reader.source.now) c.args.reader.now.at.now c.value.new.reader.at.now (tree_of c.value.new.slot) told size c.requires.stands c.in_ok-value.ensures.reads.goes read_key.0 c.in_ok-follow.ensures.judges ∙ rw (key, same.place, same.nodes) refl, read_key.1)));
+          λ told. (let read_key = c.in_ok-value.ensures.reads.sees told in (kept_right (read c.args.reader.now.registry.now c.args.depth (shape_of c.args.key.now)) c.args.keys.now.last c.args.keys.now.begun c.len-from.result (g.S.ByteSource.content c.args.reader.now.source.now) (g.S.ByteSource.content c.value.new.reader.source.now) c.args.reader.now.at.now c.value.new.reader.at.now (tree_of c.value.new.slot) told size c.requires.stands c.in_ok-value.ensures.reads.goes read_key.0 c.in_ok-follow.ensures.validates ∙ rw (key, same.place, same.nodes) refl, read_key.1)));
       failed = search rules;
       room = search rules;
       goes = (let done = c.follow.ensures in

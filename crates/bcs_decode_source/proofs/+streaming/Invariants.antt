@@ -1,12 +1,6 @@
-use Rattle.std.proofs.Common.{◌≡◌, ℕ, ◌+◌, ◌*◌, max, length, map, drop}
-use Rattle.bcs_registry_model.specs.Container.{content, field_shapes, payload_shape}
-use Rattle.bcs_registry_model.specs.View.{shape_of, formats_shapes, field_of, payload_of, container_of}
-use Rattle.bcs_registry_model.specs.WellFormed.{levels, shapes_levels}
-use Rattle.bcs_decode_source.specs.Kept.{Stands, last_bytes}
-use Rattle.bcs_decode_source.specs.Sees.{AlongMap, container_value, read}
+use Rattle.bcs_decode_source.proofs.Prelude.{◌≡◌, ℕ, ◌+◌, ◌*◌, max, length, map, drop, content, field_shapes, payload_shape, shape_of, formats_shapes, field_of, payload_of, container_of, levels, shapes_levels, Stands, last_bytes, AlongMap, container_value, read, Ready, IsSame}
 use Rattle.bcs_decode_source.proofs.Readers.{Onward}
 use Rattle.bcs_decode_source.proofs.StreamedRows.{ItemsSoFar, EachSoFar, PairsSoFar}
-use Rattle.bcs_decode_source.specs.Reads.{Ready, IsSame}
 use Rattle.bcs_decode_source.proofs.+streaming.Given as goal
 
 -- a format in a registry has at most 33 levels with those of its container

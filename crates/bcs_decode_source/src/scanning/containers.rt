@@ -7,7 +7,7 @@ ghost use Rattle.bcs_registry_model.specs.View.{container_of, field_of, payload_
 ghost use Rattle.bcs_decode_spec.specs.Reading.{content_here, named_here, skipping};
 ghost use Rattle.bcs_decode_slice.specs.Passing.{skip};
 ghost use Rattle.bcs_decode_source.specs.Reads.{Ready, Reads};
-ghost use Rattle.bcs_decode_source.specs.Sees.{SparesMemory};
+ghost use Rattle.bcs_decode_source.specs.Sees.{OutOfMemoryOnlyInKey};
 ghost use Rattle.bcs_decode_source.specs.Known.{IsKnown};
 ghost use Rattle.bcs_decode_source.specs.Reaching.{content_has_no_map, named_reaches_no_map, reaches_no_map};
 
@@ -30,7 +30,7 @@ pub fn named<S: ByteSource>(
 ) -> Result<(), DecodeFault>
     requires ready { Ready S.is_failed S.allowance reader.old }
     ensures reads { Reads S.content S.is_failed S.allowance (λ x. x) result reader.old (skip reader.old.registry.now depth (name_shape name.now)) reader.new }
-    ensures spares { reaches_no_map reader.old.registry.now depth (name_shape name.now) ≡ true → SparesMemory result reader.old.at.now }
+    ensures memory { reaches_no_map reader.old.registry.now depth (name_shape name.now) ≡ true → OutOfMemoryOnlyInKey result reader.old.at.now }
 {
     enter(reader, depth)?;
     let registry = reader.registry;
@@ -54,7 +54,7 @@ fn content<S: ByteSource>(
     requires ready { Ready S.is_failed S.allowance reader.old }
     requires known { IsKnown reader.old.registry.now (spec.content (container_of found.now)) }
     ensures reads { Reads S.content S.is_failed S.allowance (λ x. x) result reader.old (content_here skipping (named_here skipping reader.old.registry.now depth) (spec.content (container_of found.now))) reader.new }
-    ensures spares { content_has_no_map (named_reaches_no_map reader.old.registry.now depth) (spec.content (container_of found.now)) ≡ true → SparesMemory result reader.old.at.now }
+    ensures memory { content_has_no_map (named_reaches_no_map reader.old.registry.now depth) (spec.content (container_of found.now)) ≡ true → OutOfMemoryOnlyInKey result reader.old.at.now }
 {
     match found {
         Container::UnitStruct => begin(reader),
@@ -85,7 +85,7 @@ fn payload<S: ByteSource>(
 ) -> Result<(), DecodeFault>
     requires ready { Ready S.is_failed S.allowance reader.old }
     ensures reads { Reads S.content S.is_failed S.allowance (λ x. x) result reader.old (skip reader.old.registry.now depth (payload_shape (payload_of payload.now))) reader.new }
-    ensures spares { reaches_no_map reader.old.registry.now depth (payload_shape (payload_of payload.now)) ≡ true → SparesMemory result reader.old.at.now }
+    ensures memory { reaches_no_map reader.old.registry.now depth (payload_shape (payload_of payload.now)) ≡ true → OutOfMemoryOnlyInKey result reader.old.at.now }
 {
     match payload {
         VariantFormat::Unit => begin(reader),
@@ -105,7 +105,7 @@ fn structure<S: ByteSource>(
 ) -> Result<(), DecodeFault>
     requires ready { Ready S.is_failed S.allowance reader.old }
     ensures reads { Reads S.content S.is_failed S.allowance (λ x. x) result reader.old (skip reader.old.registry.now depth (tuple_shape (field_shapes (map field_of fields.now)))) reader.new }
-    ensures spares { reaches_no_map reader.old.registry.now depth (tuple_shape (field_shapes (map field_of fields.now))) ≡ true → SparesMemory result reader.old.at.now }
+    ensures memory { reaches_no_map reader.old.registry.now depth (tuple_shape (field_shapes (map field_of fields.now))) ≡ true → OutOfMemoryOnlyInKey result reader.old.at.now }
 {
     begin(reader)?;
     for field in fields {

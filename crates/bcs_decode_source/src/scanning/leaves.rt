@@ -2,7 +2,7 @@
 ghost use Rattle.std.specs.Prelude.{◌≤◌};
 ghost use Rattle.bcs_decode_slice.specs.Passing.{truth_here, whole_here, text_past, bytes_past};
 ghost use Rattle.bcs_decode_source.specs.Reads.{Ready, Reads};
-ghost use Rattle.bcs_decode_source.specs.Sees.{SparesMemory};
+ghost use Rattle.bcs_decode_source.specs.Sees.{OutOfMemoryOnlyInKey};
 
 use crate::bytes::{begin, read_exact};
 use crate::leaves::flag;
@@ -18,7 +18,7 @@ use bcs_num::GREATEST_LEN;
 pub fn truth<S: ByteSource>(reader: &mut Reader<'_, S>) -> Result<(), DecodeFault>
     requires ready { Ready S.is_failed S.allowance reader.old }
     ensures reads { Reads S.content S.is_failed S.allowance (λ x. x) result reader.old truth_here reader.new }
-    ensures spares { SparesMemory result reader.old.at.now }
+    ensures memory { OutOfMemoryOnlyInKey result reader.old.at.now }
 {
     begin(reader)?;
     flag(reader, Reason::BadBool)?;
@@ -31,7 +31,7 @@ pub fn whole<S: ByteSource>(reader: &mut Reader<'_, S>, width: usize) -> Result<
     requires ready { Ready S.is_failed S.allowance reader.old }
     requires small { width ≤ GREATEST_LEN }
     ensures reads { Reads S.content S.is_failed S.allowance (λ x. x) result reader.old (whole_here width) reader.new }
-    ensures spares { SparesMemory result reader.old.at.now }
+    ensures memory { OutOfMemoryOnlyInKey result reader.old.at.now }
 {
     begin(reader)?;
     let mut block = [0u8; GREATEST_LEN];
@@ -43,7 +43,7 @@ pub fn whole<S: ByteSource>(reader: &mut Reader<'_, S>, width: usize) -> Result<
 pub fn text<S: ByteSource>(reader: &mut Reader<'_, S>) -> Result<(), DecodeFault>
     requires ready { Ready S.is_failed S.allowance reader.old }
     ensures reads { Reads S.content S.is_failed S.allowance (λ x. x) result reader.old text_past reader.new }
-    ensures spares { SparesMemory result reader.old.at.now }
+    ensures memory { OutOfMemoryOnlyInKey result reader.old.at.now }
 {
     begin(reader)?;
     let count = length(reader)?;
@@ -54,7 +54,7 @@ pub fn text<S: ByteSource>(reader: &mut Reader<'_, S>) -> Result<(), DecodeFault
 pub fn bytes<S: ByteSource>(reader: &mut Reader<'_, S>) -> Result<(), DecodeFault>
     requires ready { Ready S.is_failed S.allowance reader.old }
     ensures reads { Reads S.content S.is_failed S.allowance (λ x. x) result reader.old bytes_past reader.new }
-    ensures spares { SparesMemory result reader.old.at.now }
+    ensures memory { OutOfMemoryOnlyInKey result reader.old.at.now }
 {
     begin(reader)?;
     let count = length(reader)?;

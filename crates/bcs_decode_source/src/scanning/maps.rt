@@ -7,7 +7,7 @@ ghost use Rattle.bcs_decode_source.specs.Kept.{Stands, last_bytes, key_of};
 ghost use Rattle.bcs_decode_source.specs.Reads.{Ready, Reads, ReadsInMap};
 ghost use Rattle.bcs_decode_source.specs.Sees.{pairs_node};
 
-use crate::keys::{MapKeys, follow, let_go};
+use crate::keys::{MapKeys, follow, forget_last_key};
 use crate::number::row_count;
 use crate::reader::Reader;
 use crate::scanning::values::value;
@@ -51,7 +51,7 @@ fn each_entry<S: ByteSource>(
         next_key(reader, key, &mut keys, depth)?;
         value(reader, part, depth)?;
     }
-    let_go(reader.at, &keys);
+    forget_last_key(reader.at, &keys);
     Ok(())
 }
 

@@ -5,15 +5,15 @@ ghost use Rattle.bcs_registry_model.specs.View.{shape_of, formats_shapes};
 ghost use Rattle.bcs_decode_spec.specs.Reading.{items_here, skipping};
 ghost use Rattle.bcs_decode_slice.specs.Passing.{skip};
 ghost use Rattle.bcs_decode_source.specs.Reads.{Ready, Reads};
-ghost use Rattle.bcs_decode_source.specs.Sees.{SparesMemory, items_node};
+ghost use Rattle.bcs_decode_source.specs.Sees.{OutOfMemoryOnlyInKey, items_node};
 ghost use Rattle.bcs_decode_source.specs.Reaching.{reaches_no_map};
 
 use crate::bytes::begin;
 use crate::number::row_count;
 use crate::reader::Reader;
+use crate::scanning::integers::skip_integers;
 use crate::scanning::values::value;
-use crate::scanning::whole_row::whole_row;
-use bcs_decode_slice::whole_row::whole_width;
+use bcs_decode_slice::integers::integer_width;
 use bcs_decode_spec::DecodeFault;
 use bcs_io::ByteSource;
 use bcs_registry::Format;
@@ -29,7 +29,7 @@ pub fn items<S: ByteSource>(
 ) -> Result<(), DecodeFault>
     requires ready { Ready S.is_failed S.allowance reader.old }
     ensures reads { Reads S.content S.is_failed S.allowance (λ x. x) result reader.old (items_node skipping (skip reader.old.registry.now depth (shape_of element.now)) size) reader.new }
-    ensures spares { reaches_no_map reader.old.registry.now depth (shape_of element.now) ≡ true → SparesMemory result reader.old.at.now }
+    ensures memory { reaches_no_map reader.old.registry.now depth (shape_of element.now) ≡ true → OutOfMemoryOnlyInKey result reader.old.at.now }
 {
     let count = row_count(reader, size)?;
     elements(reader, element, count, depth)
@@ -45,10 +45,10 @@ fn elements<S: ByteSource>(
 ) -> Result<(), DecodeFault>
     requires ready { Ready S.is_failed S.allowance reader.old }
     ensures reads { Reads S.content S.is_failed S.allowance (λ x. x) result reader.old (items_here skipping (skip reader.old.registry.now depth (shape_of element.now)) count) reader.new }
-    ensures spares { reaches_no_map reader.old.registry.now depth (shape_of element.now) ≡ true → SparesMemory result reader.old.at.now }
+    ensures memory { reaches_no_map reader.old.registry.now depth (shape_of element.now) ≡ true → OutOfMemoryOnlyInKey result reader.old.at.now }
 {
-    if let Some(width) = whole_width(element) {
-        return whole_row(reader, width, count);
+    if let Some(width) = integer_width(element) {
+        return skip_integers(reader, width, count);
     }
     for _ in 0..count {
         value(reader, element, depth)?;
@@ -66,7 +66,7 @@ pub fn tuple<S: ByteSource>(
 ) -> Result<(), DecodeFault>
     requires ready { Ready S.is_failed S.allowance reader.old }
     ensures reads { Reads S.content S.is_failed S.allowance (λ x. x) result reader.old (skip reader.old.registry.now depth (tuple_shape (formats_shapes formats.now))) reader.new }
-    ensures spares { reaches_no_map reader.old.registry.now depth (tuple_shape (formats_shapes formats.now)) ≡ true → SparesMemory result reader.old.at.now }
+    ensures memory { reaches_no_map reader.old.registry.now depth (tuple_shape (formats_shapes formats.now)) ≡ true → OutOfMemoryOnlyInKey result reader.old.at.now }
 {
     begin(reader)?;
     for format in formats {

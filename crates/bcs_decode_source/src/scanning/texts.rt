@@ -1,11 +1,11 @@
-//! Texts that are judged by blocks.
+//! Texts that are validated by blocks.
 ghost use Rattle.std.specs.Prelude.{◌≡◌, ◌+◌, ◌-◌, ◌≤◌, length, take, slice_range, OnOk};
 ghost use Rattle.std.specs.Str.{IsUtf8};
 ghost use Rattle.bcs_decode_spec.specs.Reading.{bytes_here};
 ghost use Rattle.bcs_decode_source.specs.Past.{text_run};
 ghost use Rattle.bcs_decode_source.specs.Texts.{BeginsNoText};
 ghost use Rattle.bcs_decode_source.specs.Reads.{Ready, Reads};
-ghost use Rattle.bcs_decode_source.specs.Sees.{SparesMemory};
+ghost use Rattle.bcs_decode_source.specs.Sees.{OutOfMemoryOnlyInKey};
 
 use crate::bytes::read_exact;
 use crate::reader::Reader;
@@ -20,17 +20,17 @@ const BLOCK: u32 = 512;
 /// How many bytes of a character may be without its last.
 const HELD: u32 = 3;
 
-/// How many bytes are judged at a time.
+/// How many bytes are validated at a time.
 const ROOM: usize = 515;
 
-/// A text of so many bytes. Its bytes up to `good` are a text, and those from there up to `done` are held, to be judged
+/// A text of so many bytes. Its bytes up to `good` are a text, and those from there up to `done` are held, to be validated
 /// with the next block. Where more are held than a character may be without its last byte, they begin no character,
 /// whatever comes; so the others are gone past only to see that they come.
 #[inline(never)]
 pub fn pass_text<S: ByteSource>(reader: &mut Reader<'_, S>, count: u32) -> Result<(), DecodeFault>
     requires ready { Ready S.is_failed S.allowance reader.old }
     ensures reads { Reads S.content S.is_failed S.allowance (λ x. x) result reader.old (text_run count) reader.new }
-    ensures spares { SparesMemory result reader.old.at.now }
+    ensures memory { OutOfMemoryOnlyInKey result reader.old.at.now }
 {
     let start = reader.at.place;
     let mut block = [0u8; ROOM];
@@ -64,7 +64,7 @@ fn read_behind<S: ByteSource>(
     requires ready { Ready S.is_failed S.allowance reader.old }
     requires room { held + size ≤ length block.old }
     ensures reads { Reads S.content S.is_failed S.allowance (λ _. slice_range block.new held (held + size)) result reader.old (bytes_here size) reader.new }
-    ensures spares { SparesMemory result reader.old.at.now }
+    ensures memory { OutOfMemoryOnlyInKey result reader.old.at.now }
     ensures held { take held block.new ≡ take held block.old }
     ensures len { length block.new ≡ length block.old }
     ensures far { OnOk result (reader.new.at.now.place ≡ reader.old.at.now.place + size) }
@@ -72,7 +72,7 @@ fn read_behind<S: ByteSource>(
     read_exact(reader, &mut block[held..held + size])
 }
 
-/// Judges the first bytes of the block, so many, and moves those behind the text that they begin with to the front.
+/// Validates the first bytes of the block, so many, and moves those behind the text that they begin with to the front.
 /// Answers how long that text is.
 #[inline(always)]
 fn settle(block: &mut [u8], size: usize) -> usize

@@ -4,7 +4,7 @@ ghost use Rattle.bcs_registry_model.specs.View.{shape_of};
 ghost use Rattle.bcs_decode_spec.specs.Reading.{skipping};
 ghost use Rattle.bcs_decode_slice.specs.Passing.{skip};
 ghost use Rattle.bcs_decode_source.specs.Reads.{Ready, Reads};
-ghost use Rattle.bcs_decode_source.specs.Sees.{SparesMemory, option_node};
+ghost use Rattle.bcs_decode_source.specs.Sees.{OutOfMemoryOnlyInKey, option_node};
 ghost use Rattle.bcs_decode_source.specs.Reaching.{reaches_no_map};
 
 use crate::bytes::begin;
@@ -29,7 +29,7 @@ pub fn value<S: ByteSource>(
 ) -> Result<(), DecodeFault>
     requires ready { Ready S.is_failed S.allowance reader.old }
     ensures reads { Reads S.content S.is_failed S.allowance (λ x. x) result reader.old (skip reader.old.registry.now depth (shape_of format.now)) reader.new }
-    ensures spares { reaches_no_map reader.old.registry.now depth (shape_of format.now) ≡ true → SparesMemory result reader.old.at.now }
+    ensures memory { reaches_no_map reader.old.registry.now depth (shape_of format.now) ≡ true → OutOfMemoryOnlyInKey result reader.old.at.now }
 {
     match format.kind() {
         Kind::Scalar(Scalar::Unit) => begin(reader),
@@ -57,7 +57,7 @@ fn option<S: ByteSource>(
 ) -> Result<(), DecodeFault>
     requires ready { Ready S.is_failed S.allowance reader.old }
     ensures reads { Reads S.content S.is_failed S.allowance (λ x. x) result reader.old (option_node skipping (skip reader.old.registry.now depth (shape_of part.now))) reader.new }
-    ensures spares { reaches_no_map reader.old.registry.now depth (shape_of part.now) ≡ true → SparesMemory result reader.old.at.now }
+    ensures memory { reaches_no_map reader.old.registry.now depth (shape_of part.now) ≡ true → OutOfMemoryOnlyInKey result reader.old.at.now }
 {
     if flag_node(reader)? {
         value(reader, part, depth)

@@ -1,23 +1,4 @@
-use Rattle.std.proofs.Common.{◌≡◌, ℕ, List, ◌∙◌, take, ◌-◌, ◌≤◌, suc, [], Err, None, drop, map, ap, ap₂, sym, refl, arith, rules}
-use Rattle.std.proofs.lemmas.List.{drop_all}
-use Rattle.std.proofs.lemmas.Result.{err_from_is_err_and}
-use Rattle.bcs_registry_model.specs.Kind.{scalar_shape}
-use Rattle.bcs_registry_model.specs.Shape.{Shape, tuple as tuple_shape}
-use Rattle.bcs_registry_model.proofs.KindShapes.{shape_seen}
-use Rattle.bcs_registry_model.specs.Container.{Entries, Content, of, one_of, nothing as no_content, content, field_shapes, payload_shape, content_at, choice_at}
-use Rattle.bcs_registry_model.specs.WellFormed.{levels, shapes_levels}
-use Rattle.bcs_registry_model.specs.declared.container.Container.{Container}
-use Rattle.bcs_registry_model.specs.declared.variant_format.VariantFormat.{VariantFormat}
-use Rattle.bcs_registry_model.specs.View.{shape_of, formats_shapes, field_of, payload_of, choice_of, container_of}
-use Rattle.bcs_decode_spec.specs.Reading.{items_here, pairs_here, skipping}
-use Rattle.bcs_keys.specs.Following.{key_bytes}
-use Rattle.bcs_decode_slice.specs.Passing.{skip, whole_here, node_here}
-use Rattle.bcs_decode_slice.proofs.Passings.{unit_is, passes_from, passes_here}
-use Rattle.bcs_decode_slice.proofs.PassingParts.{option_stop, option_some, option_none, list_stop, list_on, map_stop, map_on, array_stop, array_on, items_stop, items_on, items_end, pairs_stop_key, pairs_stop_value, pairs_on, pairs_end, each, tuple_stop, tuple_on, each_end, each_stop, each_on, named_stop, named_on, content_past, content_shape, content_nothing, variant_stop, variant_unknown, variant_on, named_past}
-use Rattle.bcs_decode_spec.proofs.LookedUp.{content_found, content_missing, choice_found, choice_missing, levels_in, field_levels_in, formats_next, fields_next}
-use Rattle.bcs_registry_model.proofs.Admitted.{content_at-inside, choice_at-inside}
-use Rattle.bcs_decode_spec.specs.declared.reason.Reason.{Reason}
-use Rattle.bcs_explain.specs.ScalarParsing.{scalar_past}
+use Rattle.bcs_explain.proofs.Prelude.{◌≡◌, ℕ, List, ◌∙◌, take, ◌-◌, ◌≤◌, suc, [], Err, None, drop, map, ap, ap₂, sym, refl, arith, rules, drop_all, err_from_is_err_and, scalar_shape, Shape, tuple_shape, shape_seen, Entries, Content, of, one_of, no_content, content, field_shapes, payload_shape, content_at, choice_at, levels, shapes_levels, Container, VariantFormat, shape_of, formats_shapes, field_of, payload_of, choice_of, container_of, items_here, pairs_here, skipping, key_bytes, skip, whole_here, node_here, unit_is, passes_from, passes_here, option_stop, option_some, option_none, list_stop, list_on, map_stop, map_on, array_stop, array_on, items_stop, items_on, items_end, pairs_stop_key, pairs_stop_value, pairs_on, pairs_end, each, tuple_stop, tuple_on, each_end, each_stop, each_on, named_stop, named_on, content_past, content_shape, content_nothing, variant_stop, variant_unknown, variant_on, named_past, content_found, content_missing, choice_found, choice_missing, levels_in, field_levels_in, formats_next, fields_next, content_at-inside, choice_at-inside, Reason, scalar_past}
 use Rattle.bcs_explain.proofs.ScalarParsing.{scalar_past_is, octets_are_items}
 use Rattle.bcs_explain.proofs.Advancing.{advances_variant}
 use Rattle.bcs_explain.proofs.Keys.{key_err, key_wrong, key_right}
@@ -190,7 +171,7 @@ maps::entries-returns-in_err-value-clause-onward g t c =
 pub maps::entries-returns-in_err-follows-clause-passes : goal.maps::entries-returns-in_err-follows-clause-passes
 maps::entries-returns-in_err-follows-clause-passes g t c =
     let p = err_from_is_err_and c.from_residual-in_err-follows.result c.from_residual-in_err-follows.ensures.1 in
-    rw (p.1, p.2) (c.loop-i.invariant.whole ∙ pairs_stop_key (skip c.args.registry.now c.args.depth (shape_of c.args.run.key.now)) (skip c.args.registry.now c.args.depth (shape_of c.args.run.content.now)) (key_bytes c.loop-i.last) c.args.run.count c.loop-i.i _ _ _ _ c.loop-i-test.true (key_wrong (skip c.args.registry.now c.args.depth (shape_of c.args.run.key.now)) (key_bytes c.loop-i.last) _ _ _ tt _ _ _ c.split_at.result.0.now _ c.in_ok-value.ensures.passes c.split_at.ensures.front c.in_err-follows.ensures.judges))
+    rw (p.1, p.2) (c.loop-i.invariant.whole ∙ pairs_stop_key (skip c.args.registry.now c.args.depth (shape_of c.args.run.key.now)) (skip c.args.registry.now c.args.depth (shape_of c.args.run.content.now)) (key_bytes c.loop-i.last) c.args.run.count c.loop-i.i _ _ _ _ c.loop-i-test.true (key_wrong (skip c.args.registry.now c.args.depth (shape_of c.args.run.key.now)) (key_bytes c.loop-i.last) _ _ _ tt _ _ _ c.split_at.result.0.now _ c.in_ok-value.ensures.passes c.split_at.ensures.front c.in_err-follows.ensures.validates))
 
 pub maps::entries-returns-in_err-follows-clause-onward : goal.maps::entries-returns-in_err-follows-clause-onward
 maps::entries-returns-in_err-follows-clause-onward g t c =
@@ -203,7 +184,7 @@ maps::entries-value-requires-in-loop-i g t c κs within =
 pub maps::entries-returns-in_err-value-2-clause-passes : goal.maps::entries-returns-in_err-value-2-clause-passes
 maps::entries-returns-in_err-value-2-clause-passes g t c =
     let p = err_from_is_err_and c.from_residual-in_err-value-2.result c.from_residual-in_err-value-2.ensures.1 in
-    rw (p.1, p.2) (c.loop-i.invariant.whole ∙ pairs_stop_value (skip c.args.registry.now c.args.depth (shape_of c.args.run.key.now)) (skip c.args.registry.now c.args.depth (shape_of c.args.run.content.now)) (key_bytes c.loop-i.last) c.args.run.count c.loop-i.i _ _ _ c.split_at.result.0.now _ _ _ _ c.loop-i-test.true (key_right (skip c.args.registry.now c.args.depth (shape_of c.args.run.key.now)) (key_bytes c.loop-i.last) _ _ _ tt _ _ _ c.split_at.result.0.now c.in_ok-value.ensures.passes c.split_at.ensures.front c.in_ok-follows.ensures.judges) c.in_err-value-2.ensures.passes)
+    rw (p.1, p.2) (c.loop-i.invariant.whole ∙ pairs_stop_value (skip c.args.registry.now c.args.depth (shape_of c.args.run.key.now)) (skip c.args.registry.now c.args.depth (shape_of c.args.run.content.now)) (key_bytes c.loop-i.last) c.args.run.count c.loop-i.i _ _ _ c.split_at.result.0.now _ _ _ _ c.loop-i-test.true (key_right (skip c.args.registry.now c.args.depth (shape_of c.args.run.key.now)) (key_bytes c.loop-i.last) _ _ _ tt _ _ _ c.split_at.result.0.now c.in_ok-value.ensures.passes c.split_at.ensures.front c.in_ok-follows.ensures.validates) c.in_err-value-2.ensures.passes)
 
 pub maps::entries-returns-in_err-value-2-clause-onward : goal.maps::entries-returns-in_err-value-2-clause-onward
 maps::entries-returns-in_err-value-2-clause-onward g t c =
@@ -214,7 +195,7 @@ maps::entries-loop-i-preserved g t c =
     record {
       room = omega (arith, c.loop-i.invariant.room, c.in_ok-value.ensures.onward.0, c.in_ok-value-2.ensures.onward.0);
       onward = (omega (arith, c.loop-i.invariant.onward.0, c.in_ok-value.ensures.onward.0, c.in_ok-value-2.ensures.onward.0), omega (arith, c.loop-i.invariant.onward.1, c.in_ok-value.ensures.onward.1, c.in_ok-value-2.ensures.onward.1));
-      whole = c.loop-i.invariant.whole ∙ pairs_on (skip c.args.registry.now c.args.depth (shape_of c.args.run.key.now)) (skip c.args.registry.now c.args.depth (shape_of c.args.run.content.now)) (key_bytes c.loop-i.last) c.args.run.count c.loop-i.i _ _ _ c.split_at.result.0.now _ _ _ _ _ _ c.loop-i-test.true (key_right (skip c.args.registry.now c.args.depth (shape_of c.args.run.key.now)) (key_bytes c.loop-i.last) _ _ _ tt _ _ _ c.split_at.result.0.now c.in_ok-value.ensures.passes c.split_at.ensures.front c.in_ok-follows.ensures.judges) c.in_ok-value-2.ensures.passes;
+      whole = c.loop-i.invariant.whole ∙ pairs_on (skip c.args.registry.now c.args.depth (shape_of c.args.run.key.now)) (skip c.args.registry.now c.args.depth (shape_of c.args.run.content.now)) (key_bytes c.loop-i.last) c.args.run.count c.loop-i.i _ _ _ c.split_at.result.0.now _ _ _ _ _ _ c.loop-i-test.true (key_right (skip c.args.registry.now c.args.depth (shape_of c.args.run.key.now)) (key_bytes c.loop-i.last) _ _ _ tt _ _ _ c.split_at.result.0.now c.in_ok-value.ensures.passes c.split_at.ensures.front c.in_ok-follows.ensures.validates) c.in_ok-value-2.ensures.passes;
       covers = λ input h.
           (let key = c.in_ok-value.ensures.covers input (c.loop-i.invariant.covers input h) in
           c.in_ok-value-2.ensures.covers input (key.0, key.1, c.in_ok-follows.ensures.halts (take c.value.new.cursor.place input) key.2));

@@ -1,12 +1,4 @@
-use Rattle.std.proofs.Common.{◌≡◌, ℕ, ◌+◌, ◌-◌, ◌*◌, ◌<◌, ◌^◌, None, length, max, map, drop}
-use Rattle.bcs_registry_model.specs.Container.{field_shapes, payload_shape}
-use Rattle.bcs_registry_model.specs.View.{shape_of, formats_shapes, field_of, payload_of}
-use Rattle.bcs_registry_model.specs.WellFormed.{levels, shapes_levels}
-use Rattle.bcs_decode_spec.specs.Reading.{items_here, pairs_here, skipping}
-use Rattle.bcs_keys.specs.Following.{key_bytes}
-use Rattle.bcs_decode_slice.specs.Passing.{Onward, skip}
-use Rattle.bcs_decode_slice.proofs.PassingParts.{each}
-use Rattle.bcs_explain.specs.Covering.{StaysCovered}
+use Rattle.bcs_explain.proofs.Prelude.{◌≡◌, ℕ, ◌+◌, ◌-◌, ◌*◌, ◌<◌, ◌^◌, None, length, max, map, drop, field_shapes, payload_shape, shape_of, formats_shapes, field_of, payload_of, levels, shapes_levels, items_here, pairs_here, skipping, key_bytes, Onward, skip, each, StaysCovered}
 use Rattle.bcs_explain.proofs.+walking.Given as goal
 
 -- A measure of the work left. A format in a registry has at most 33 levels, including those of its container.

@@ -1,13 +1,5 @@
-use Rattle.std.proofs.Common.{◌≡◌, ℕ, ◌+◌, ◌*◌, max, List, length, map, drop, Ok}
-use Rattle.std.specs.Vec.Iter.{into_iter_items}
-use Rattle.serde_json.specs.View.{items_view, members_view}
-use Rattle.bcs_registry_model.specs.Container.{field_shapes, payload_shape}
-use Rattle.bcs_registry_model.specs.View.{shape_of, formats_shapes, field_of, payload_of}
-use Rattle.bcs_registry_model.specs.WellFormed.{levels, shapes_levels}
-use Rattle.bcs_json_spec.specs.JsonContent.{of}
-use Rattle.bcs_json_spec.specs.Place.{PointerStep, item_parts, each_parts, entry_parts, field_parts, IsPlaceAmong}
+use Rattle.bcs_json_reader.proofs.Prelude.{◌≡◌, ℕ, ◌+◌, ◌*◌, max, List, length, map, drop, Ok, into_iter_items, items_view, members_view, field_shapes, payload_shape, shape_of, formats_shapes, field_of, payload_of, levels, shapes_levels, of, PointerStep, item_parts, each_parts, entry_parts, field_parts, IsPlaceAmong, follow, read_data}
 use Rattle.bcs_json_spec.specs.Reading as spec
-use Rattle.bcs_json_spec.specs.Reading.{follow, read_data}
 use Rattle.bcs_json_reader.proofs.Rows.{joined}
 use Rattle.bcs_json_reader.proofs.PairRows.{joined_pairs}
 use Rattle.bcs_json_reader.proofs.+reading.Given as goal

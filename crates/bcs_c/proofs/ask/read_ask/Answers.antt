@@ -1,7 +1,4 @@
-use Rattle.std.proofs.Common.{refl}
-use Rattle.std.proofs.lemmas.Result.{err_from_is_err_and}
-use Rattle.bcs_registry_model.specs.View.{shape_of}
-use Rattle.bcs_c.specs.Asking.{no_format, no_limits}
+use Rattle.bcs_c.proofs.Prelude.{refl, err_from_is_err_and, shape_of, no_format, no_limits}
 use Rattle.bcs_c.proofs.ask.read_ask.Goals as goal
 
 pub returns-in_err-format-clause-err : goal.returns-in_err-format-clause-err

@@ -1,5 +1,4 @@
-use Rattle.bcs_c.specs.Asking.{no_registry, refused}
-use Rattle.bcs_c.specs.declared.status.Status.TheVariants.{Registry}
+use Rattle.bcs_c.proofs.Prelude.{no_registry, refused, Registry}
 use Rattle.bcs_c.proofs.Once.{answers_text, registry_stands, whatever_text}
 use Rattle.bcs_c.proofs.checking.bcs_c_check.Goals as goal
 

@@ -1,6 +1,4 @@
-use Rattle.std.proofs.Common.{Some}
-use Rattle.bcs_registry_model.specs.View.{shape_of}
-use Rattle.bcs_c.specs.Asking.{given, on_handle, refused}
+use Rattle.bcs_c.proofs.Prelude.{Some, shape_of, given, on_handle, refused}
 use Rattle.bcs_c.proofs.Once.{ask_stands}
 use Rattle.bcs_c.proofs.checking.soundness.Goals as goal
 

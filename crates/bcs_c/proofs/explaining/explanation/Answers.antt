@@ -1,8 +1,5 @@
-use Rattle.std.proofs.Common.{List, subst, ℕ}
-use Rattle.bcs_registry_model.specs.View.{shape_of}
-use Rattle.bcs_c.specs.Asking.{given, refused}
+use Rattle.bcs_c.proofs.Prelude.{List, subst, ℕ, shape_of, given, refused, Puts}
 use Rattle.bcs_c.specs.Explained.{no_memory, put}
-use Rattle.bcs_c.specs.Output.{Puts}
 use Rattle.bcs_c.proofs.explaining.explanation.Goals as goal
 
 pub returns-in-Err-clause-answers : goal.returns-in-Err-clause-answers

@@ -1,4 +1,4 @@
-use Rattle.std.proofs.Common.{rules}
+use Rattle.bcs_c.proofs.Prelude.{rules}
 use Rattle.bcs_c.proofs.handles.bcs_c_close.Goals as goal
 
 pub returns : goal.returns

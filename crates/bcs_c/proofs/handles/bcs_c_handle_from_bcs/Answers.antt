@@ -1,4 +1,4 @@
-use Rattle.std.proofs.Common.{◌≡◌, Some}
+use Rattle.bcs_c.proofs.Prelude.{◌≡◌, Some}
 use Rattle.bcs_c.proofs.Once.{answers_handle}
 use Rattle.bcs_c.proofs.handles.bcs_c_handle_from_bcs.Goals as goal
 

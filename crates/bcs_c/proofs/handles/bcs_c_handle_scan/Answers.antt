@@ -1,4 +1,4 @@
-use Rattle.std.proofs.Common.{◌≡◌, Some, rules}
+use Rattle.bcs_c.proofs.Prelude.{◌≡◌, Some, rules}
 use Rattle.bcs_c.proofs.Once.{answers_handle, whatever_handle}
 use Rattle.bcs_c.proofs.handles.bcs_c_handle_scan.Goals as goal
 

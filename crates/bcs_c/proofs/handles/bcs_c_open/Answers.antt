@@ -1,8 +1,5 @@
-use Rattle.std.proofs.Common.{ap}
-use Rattle.bcs_c.specs.declared.handle.Handle.{Handle}
-use Rattle.bcs_registry.specs.Faults.{IsLeastFault}
-use Rattle.bcs_c.specs.Opened.{opened, refused}
-use Rattle.bcs_c.specs.declared.status.Status.TheVariants.{Registry}
+use Rattle.bcs_c.proofs.Prelude.{ap, Handle, IsLeastFault, opened, Registry}
+use Rattle.bcs_c.specs.Opened.{refused}
 use Rattle.bcs_c.proofs.Once.{registry_stands}
 use Rattle.bcs_c.proofs.Refusals.{registry_refused}
 use Rattle.bcs_c.proofs.handles.bcs_c_open.Goals as goal

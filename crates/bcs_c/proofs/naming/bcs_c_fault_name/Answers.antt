@@ -1,6 +1,4 @@
-use Rattle.std.proofs.Common.{List, ℕ, subst, ◌∙◌}
-use Rattle.bcs_c.specs.Named.{named}
-use Rattle.bcs_c.specs.Output.{Puts}
+use Rattle.bcs_c.proofs.Prelude.{List, ℕ, subst, ◌∙◌, named, Puts}
 use Rattle.bcs_c.proofs.naming.bcs_c_fault_name.Goals as goal
 
 pub returns-in-Some-clause-answers : goal.returns-in-Some-clause-answers

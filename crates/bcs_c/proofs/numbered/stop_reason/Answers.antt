@@ -1,4 +1,4 @@
-use Rattle.std.proofs.Common.{rules}
+use Rattle.bcs_c.proofs.Prelude.{rules}
 use Rattle.bcs_c.proofs.numbered.stop_reason.Goals as goal
 
 pub returns-in-402-clause-some : goal.returns-in-402-clause-some

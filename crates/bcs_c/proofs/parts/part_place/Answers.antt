@@ -1,17 +1,4 @@
-use Rattle.std.proofs.Common.{ℕ, Some, ◌≢◌}
-use Rattle.bcs_registry_model.specs.View.{shape_of}
-use Rattle.bcs_registry_model.specs.Container.{Entries, of}
-use Rattle.bcs_registry_model.specs.Shape.{Shape}
-use Rattle.bcs_value_model.specs.Limits.{Bounds}
-use Rattle.bcs_value_model.specs.Tree.{Tree}
-use Rattle.bcs_decode_spec.specs.Accepting.{Accepts}
-use Rattle.bcs_decode_spec.specs.Stopping.{Stops}
-use Rattle.bcs_decode_spec.specs.declared.reason.Reason.{Reason}
-use Rattle.bcs_decode_parts.specs.Parts.{part_at}
-use Rattle.bcs_c.specs.Answers.{plain, stop_at}
-use Rattle.bcs_c.specs.Asking.{IsUnlessMemory, given, on_handle, refused}
-use Rattle.bcs_c.specs.Parts.{Finds, IsPath, Steps}
-use Rattle.bcs_c.specs.declared.status.Status.TheVariants.{Memory}
+use Rattle.bcs_c.proofs.Prelude.{ℕ, Some, ◌≢◌, shape_of, Entries, of, Shape, Bounds, Tree, Accepts, Stops, Reason, part_at, plain, stop_at, IsUnlessMemory, given, on_handle, refused, Finds, IsPath, Steps, Memory}
 use Rattle.bcs_c.proofs.Once.{ask_stands, whatever}
 use Rattle.bcs_c.proofs.parts.part_place.Goals as goal
 

@@ -1,7 +1,4 @@
-use Rattle.std.proofs.Common.{ap, map, ◌∙◌}
-use Rattle.bcs_registry_model.specs.View.{shape_of}
-use Rattle.bcs_decode_parts.specs.Steps.{step_of}
-use Rattle.bcs_decode_parts.specs.PathSteps.{all_spelled}
+use Rattle.bcs_c.proofs.Prelude.{ap, map, ◌∙◌, shape_of, step_of, all_spelled}
 use Rattle.bcs_c.proofs.PartAnswers.{by_steps, part_only, part_stopped}
 use Rattle.bcs_c.proofs.parts.path_place.Goals as goal
 

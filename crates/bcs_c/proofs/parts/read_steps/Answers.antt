@@ -1,4 +1,4 @@
-use Rattle.std.proofs.Common.{rules}
+use Rattle.bcs_c.proofs.Prelude.{rules}
 use Rattle.bcs_c.proofs.parts.read_steps.Goals as goal
 
 pub returns-in-Ok-read_path-clause-ok : goal.returns-in-Ok-read_path-clause-ok

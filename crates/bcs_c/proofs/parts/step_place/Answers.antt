@@ -1,10 +1,5 @@
-use Rattle.std.proofs.Common.{Option, map, subst}
-use Rattle.bcs_registry_model.specs.Container.{of}
-use Rattle.bcs_registry_model.specs.View.{shape_of}
-use Rattle.bcs_decode_parts.specs.Parts.{part_at}
-use Rattle.bcs_decode_parts.specs.Steps.{GivesPart, step_of}
+use Rattle.bcs_c.proofs.Prelude.{Option, map, subst, of, shape_of, part_at, GivesPart, step_of, found, stopped}
 use Rattle.bcs_decode_parts.specs.declared.part.Part.{Part}
-use Rattle.bcs_c.specs.Parts.{found, stopped}
 use Rattle.bcs_c.proofs.PartAnswers.{finds, finds_none}
 use Rattle.bcs_c.proofs.parts.step_place.Goals as goal
 

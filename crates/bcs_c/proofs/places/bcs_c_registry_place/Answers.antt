@@ -1,7 +1,5 @@
-use Rattle.std.proofs.Common.{◌≢◌, List, rules, subst, ℕ}
+use Rattle.bcs_c.proofs.Prelude.{◌≢◌, List, rules, subst, ℕ, Puts, stands, told}
 use Rattle.bcs_registry_model.specs.declared.fault.RegistryFault.TheVariants.{OutOfMemory}
-use Rattle.bcs_c.specs.Output.{Puts}
-use Rattle.bcs_c.specs.Places.{stands, told}
 use Rattle.bcs_c.proofs.places.bcs_c_registry_place.Goals as goal
 
 pub returns-in-Ok-clause-answers : goal.returns-in-Ok-clause-answers

@@ -1,4 +1,4 @@
-use Rattle.bcs_c.specs.Asking.{no_registry, refused}
+use Rattle.bcs_c.proofs.Prelude.{no_registry, refused}
 use Rattle.bcs_c.proofs.Once.{answers_text}
 use Rattle.bcs_c.proofs.places.bcs_c_text_place.Goals as goal
 

@@ -1,6 +1,4 @@
-use Rattle.bcs_registry_model.specs.View.{shape_of}
-use Rattle.bcs_c.specs.Asking.{given, refused}
-use Rattle.bcs_c.specs.Places.{no_memory, stands, told}
+use Rattle.bcs_c.proofs.Prelude.{shape_of, given, refused, no_memory, stands, told}
 use Rattle.bcs_c.proofs.places.place_of_stop.Goals as goal
 
 pub returns-in-Err-clause-answers : goal.returns-in-Err-clause-answers

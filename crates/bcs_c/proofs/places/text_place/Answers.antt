@@ -1,10 +1,4 @@
-use Rattle.std.proofs.Common.{◌≢◌, List, rules, subst, ℕ}
-use Rattle.bcs_registry_model.specs.View.{shape_of}
-use Rattle.bcs_value_model.specs.View.{tree_of}
-use Rattle.bcs_json_spec.specs.declared.json_fault.JsonFault.TheVariants.{OutOfMemory}
-use Rattle.bcs_c.specs.Asking.{given, refused}
-use Rattle.bcs_c.specs.Output.{Puts}
-use Rattle.bcs_c.specs.Places.{no_memory, stands, told}
+use Rattle.bcs_c.proofs.Prelude.{◌≢◌, List, rules, subst, ℕ, shape_of, tree_of, OutOfMemory, given, refused, Puts, no_memory, stands, told}
 use Rattle.bcs_c.proofs.places.text_place.Goals as goal
 
 pub returns-in-Err-clause-answers : goal.returns-in-Err-clause-answers

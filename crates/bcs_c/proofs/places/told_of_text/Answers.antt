@@ -1,10 +1,5 @@
-use Rattle.std.proofs.Common.{◌∙◌, Err, List, Ok, Result, ap, map, sym, ℕ}
-use Rattle.std.specs.Prelude.{IfOk, IfSome}
-use Rattle.std.specs.Result.{result_ok}
-use Rattle.bcs_json_spec.specs.Place.{pointer_step_of}
-use Rattle.bcs_json_spec.specs.declared.json_step.JsonStep.{JsonStep}
-use Rattle.bcs_c.specs.Places.{placed, whole}
-use Rattle.bcs_c.specs.Pointers.{pointer}
+use Rattle.bcs_c.proofs.Prelude.{◌∙◌, Err, List, Ok, Result, ap, map, sym, ℕ, IfOk, IfSome, result_ok, pointer_step_of, JsonStep, whole, pointer}
+use Rattle.bcs_c.specs.Places.{placed}
 use Rattle.bcs_c.proofs.places.told_of_text.Goals as goal
 
 some_of_ok : {X E : Type 0} (r : Result X E) {P Q : X → Type 0} → IfOk r P → ((x : X) → P x → Q x) → IfSome (result_ok r) Q

@@ -1,4 +1,4 @@
-use Rattle.std.proofs.Common.{sym, ◌∙◌, arith}
+use Rattle.bcs_c.proofs.Prelude.{sym, ◌∙◌, arith}
 use Rattle.bcs_c.proofs.PointerParts.{step_more, steps_all}
 use Rattle.bcs_c.proofs.pointers.pointer_of.Goals as goal
 

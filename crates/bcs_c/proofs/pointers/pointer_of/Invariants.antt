@@ -1,6 +1,4 @@
-use Rattle.std.proofs.Common.{◌≡◌, ◌++◌, drop, map}
-use Rattle.bcs_json_spec.specs.Place.{pointer_step_of}
-use Rattle.bcs_c.specs.Pointers.{pointer}
+use Rattle.bcs_c.proofs.Prelude.{◌≡◌, ◌++◌, drop, map, pointer_step_of, pointer}
 use Rattle.bcs_c.proofs.pointers.pointer_of.Given as goal
 
 -- what was put so far, before the steps that are left

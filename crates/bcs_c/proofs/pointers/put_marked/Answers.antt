@@ -1,4 +1,4 @@
-use Rattle.std.proofs.Common.{sym, ◌∙◌, arith}
+use Rattle.bcs_c.proofs.Prelude.{sym, ◌∙◌, arith}
 use Rattle.bcs_c.proofs.PointerParts.{sign_more, signs_all}
 use Rattle.bcs_c.proofs.pointers.put_marked.Goals as goal
 

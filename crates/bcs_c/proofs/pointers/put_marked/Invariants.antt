@@ -1,5 +1,4 @@
-use Rattle.std.proofs.Common.{◌≡◌, ◌++◌, drop, flat_map}
-use Rattle.bcs_c.specs.Pointers.{marked, marked_sign}
+use Rattle.bcs_c.proofs.Prelude.{◌≡◌, ◌++◌, drop, flat_map, marked, marked_sign}
 use Rattle.bcs_c.proofs.pointers.put_marked.Given as goal
 
 -- what was put so far, before the bytes that are left

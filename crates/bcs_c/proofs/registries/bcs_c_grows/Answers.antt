@@ -1,9 +1,6 @@
-use Rattle.std.proofs.Common.{subst}
-use Rattle.bcs_registry_model.specs.Container.{Entries}
-use Rattle.bcs_registry_model.specs.Grows.{Grows, IsFirstGrowthFault}
-use Rattle.bcs_c.specs.Registries.{given, no_newer, no_older}
+use Rattle.bcs_c.proofs.Prelude.{subst, Entries, Grows, IsFirstGrowthFault, no_newer, no_older, Newer, Registry}
+use Rattle.bcs_c.specs.Registries.{given}
 use Rattle.bcs_c.proofs.Once.{one_registry, registry_stands}
-use Rattle.bcs_c.specs.declared.status.Status.TheVariants.{Newer, Registry}
 use Rattle.bcs_c.proofs.registries.bcs_c_grows.Goals as goal
 
 pub returns-in-Err-clause-answers : goal.returns-in-Err-clause-answers

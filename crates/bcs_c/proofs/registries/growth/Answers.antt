@@ -1,5 +1,4 @@
-use Rattle.std.proofs.Common.{◌≡◌, Err, Ok, refl}
-use Rattle.bcs_c.specs.Registries.{breaks}
+use Rattle.bcs_c.proofs.Prelude.{◌≡◌, Err, Ok, refl, breaks}
 use Rattle.bcs_c.proofs.registries.growth.Goals as goal
 
 pub returns-in-Ok-clause-broken : goal.returns-in-Ok-clause-broken

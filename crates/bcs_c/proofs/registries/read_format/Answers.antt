@@ -1,5 +1,4 @@
-use Rattle.bcs_registry.specs.Faults.{IsLeastFormatFault}
-use Rattle.bcs_c.specs.declared.status.Status.TheVariants.{Format}
+use Rattle.bcs_c.proofs.Prelude.{IsLeastFormatFault, Format}
 use Rattle.bcs_c.proofs.Refusals.{registry_refused}
 use Rattle.bcs_c.proofs.registries.read_format.Goals as goal
 

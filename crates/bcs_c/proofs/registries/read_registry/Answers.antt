@@ -1,4 +1,4 @@
-use Rattle.bcs_registry.specs.Faults.{IsLeastFault}
+use Rattle.bcs_c.proofs.Prelude.{IsLeastFault}
 use Rattle.bcs_c.proofs.Refusals.{registry_refused}
 use Rattle.bcs_c.proofs.registries.read_registry.Goals as goal
 

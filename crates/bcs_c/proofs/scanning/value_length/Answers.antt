@@ -1,18 +1,5 @@
-use Rattle.std.proofs.Common.{Some, ap, ℕ}
-use Rattle.std.proofs.lemmas.Bool.{true≢false}
-use Rattle.std.specs.Prelude.{is_ok}
-use Rattle.bcs_registry_model.specs.View.{shape_of}
-use Rattle.bcs_registry_model.specs.Container.{Entries}
-use Rattle.bcs_registry_model.specs.Shape.{Shape}
-use Rattle.bcs_value_model.specs.Limits.{Bounds}
-use Rattle.bcs_value_model.specs.Tree.{Tree}
-use Rattle.bcs_decode_spec.specs.Accepting.{Accepts}
-use Rattle.bcs_decode_spec.specs.Stopping.{Stops}
-use Rattle.bcs_decode_spec.specs.declared.reason.Reason.{Reason}
-use Rattle.bcs_c.specs.Answers.{sized, stop_at}
-use Rattle.bcs_c.specs.Asking.{IsUnlessMemory, given, on_handle, refused}
+use Rattle.bcs_c.proofs.Prelude.{Some, ap, ℕ, true≢false, is_ok, shape_of, Entries, Shape, Bounds, Tree, Accepts, Stops, Reason, sized, stop_at, IsUnlessMemory, given, on_handle, refused, Done}
 use Rattle.bcs_c.specs.Scanned.{found, stopped}
-use Rattle.bcs_c.specs.declared.status.Status.TheVariants.{Done}
 use Rattle.bcs_c.proofs.Refusals.{same_stop}
 use Rattle.bcs_c.proofs.Once.{ask_stands, whatever}
 use Rattle.bcs_c.proofs.scanning.value_length.Goals as goal

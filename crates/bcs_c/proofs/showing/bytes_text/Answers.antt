@@ -1,10 +1,5 @@
-use Rattle.std.proofs.Common.{Err, List, string_bytes, subst, ℕ}
-use Rattle.bcs_registry_model.specs.View.{shape_of}
-use Rattle.bcs_json.specs.Showing.{Shows}
-use Rattle.bcs_json.specs.declared.from_fault.FromFault.{FromFault}
-use Rattle.bcs_c.specs.Asking.{given, refused}
-use Rattle.bcs_c.specs.Output.{Puts}
-use Rattle.bcs_c.specs.Shown.{no_memory, put, stopped, too_nested}
+use Rattle.bcs_c.proofs.Prelude.{Err, List, string_bytes, subst, ℕ, shape_of, Shows, FromFault, given, refused, Puts, too_nested}
+use Rattle.bcs_c.specs.Shown.{no_memory, put, stopped}
 use Rattle.bcs_c.proofs.showing.bytes_text.Goals as goal
 
 pub returns-in-Err-clause-answers : goal.returns-in-Err-clause-answers

@@ -1,8 +1,4 @@
-use Rattle.std.proofs.Common.{Bool, subst}
-use Rattle.bcs_registry_model.specs.View.{shape_of}
-use Rattle.bcs_json_spec.specs.Headline.{Compares}
-use Rattle.bcs_c.specs.Asking.{given, refused}
-use Rattle.bcs_c.specs.Compared.{different, equal}
+use Rattle.bcs_c.proofs.Prelude.{Bool, subst, shape_of, Compares, given, refused, different, equal}
 use Rattle.bcs_c.proofs.Refusals.{texts_refused}
 use Rattle.bcs_c.proofs.texts.comparison.Goals as goal
 

@@ -1,9 +1,4 @@
-use Rattle.std.proofs.Common.{List, ℕ, subst, string_bytes}
-use Rattle.bcs_registry_model.specs.View.{shape_of}
-use Rattle.bcs_json_spec.specs.Headline.{Normalises}
-use Rattle.bcs_c.specs.Asking.{given, refused}
-use Rattle.bcs_c.specs.Denoted.{put}
-use Rattle.bcs_c.specs.Output.{Puts}
+use Rattle.bcs_c.proofs.Prelude.{List, ℕ, subst, string_bytes, shape_of, Normalises, given, refused, put, Puts}
 use Rattle.bcs_c.proofs.Refusals.{text_refused}
 use Rattle.bcs_c.proofs.texts.normal_text.Goals as goal
 

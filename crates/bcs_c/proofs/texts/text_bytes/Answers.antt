@@ -1,9 +1,4 @@
-use Rattle.std.proofs.Common.{List, ℕ, subst}
-use Rattle.bcs_registry_model.specs.View.{shape_of}
-use Rattle.bcs_json_spec.specs.Headline.{HasBytes}
-use Rattle.bcs_c.specs.Asking.{given, refused}
-use Rattle.bcs_c.specs.Denoted.{put}
-use Rattle.bcs_c.specs.Output.{Puts}
+use Rattle.bcs_c.proofs.Prelude.{List, ℕ, subst, shape_of, HasBytes, given, refused, put, Puts}
 use Rattle.bcs_c.proofs.Refusals.{text_refused}
 use Rattle.bcs_c.proofs.texts.text_bytes.Goals as goal
 

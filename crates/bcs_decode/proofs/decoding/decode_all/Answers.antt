@@ -1,6 +1,4 @@
-use Rattle.std.proofs.Common.{take, arith, rules}
-use Rattle.std.proofs.lemmas.List.{length-take}
-use Rattle.bcs_registry_model.specs.View.{shape_of}
+use Rattle.bcs_decode.proofs.Prelude.{take, arith, rules, length-take, shape_of}
 use Rattle.bcs_decode.proofs.Wholes.{all_by, all_stop, all_lost, trails_by}
 use Rattle.bcs_decode.proofs.decoding.decode_all.Goals as goal
 

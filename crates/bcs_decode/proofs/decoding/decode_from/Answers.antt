@@ -1,4 +1,4 @@
-use Rattle.std.proofs.Common.{rules}
+use Rattle.bcs_decode.proofs.Prelude.{rules}
 use Rattle.bcs_decode.proofs.decoding.decode_from.Goals as goal
 
 pub returns-in_err-value-clause-told : goal.returns-in_err-value-clause-told

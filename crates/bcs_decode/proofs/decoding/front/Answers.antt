@@ -1,6 +1,4 @@
-use Rattle.std.proofs.Common.{refl, false, rules}
-use Rattle.std.proofs.lemmas.Result.{err_from_is_err_and}
-use Rattle.bcs_registry_model.specs.View.{shape_of}
+use Rattle.bcs_decode.proofs.Prelude.{refl, false, rules, err_from_is_err_and, shape_of}
 use Rattle.bcs_decode.proofs.Wholes.{decoded, stopped, lost_at_once}
 use Rattle.bcs_decode.proofs.decoding.front.Goals as goal
 

@@ -1,12 +1,4 @@
-use Rattle.std.proofs.Common.{◌∙◌, ap, ap₂, sym, arith, ℕ, Ok, Err, rules}
-use Rattle.std.proofs.lemmas.List.{get_or_default}
-use Rattle.std.proofs.lemmas.Result.{err_from_is_err_and}
-use Rattle.bcs_registry_model.specs.View.{shape_of}
-use Rattle.bcs_decode_spec.specs.declared.reason.Reason.{Reason}
-use Rattle.bcs_decode_spec.specs.Exact.{AreBytes}
-use Rattle.bcs_decode_spec.specs.Reading.{value_here, skipping}
-use Rattle.bcs_decode_spec.proofs.Scanned.{found_only, found_never, stopped_never, stopped_only}
-use Rattle.bcs_decode_spec.proofs.Verdicts.{skips_accepts, skips_stops}
+use Rattle.bcs_decode.proofs.Prelude.{◌∙◌, ap, ap₂, sym, arith, ℕ, Ok, Err, rules, get_or_default, err_from_is_err_and, shape_of, Reason, AreBytes, value_here, skipping, found_only, found_never, stopped_never, stopped_only, skips_accepts, skips_stops}
 use Rattle.bcs_decode.proofs.scanning.scan.Goals as goal
 
 pub returns-clause-found : goal.returns-clause-found

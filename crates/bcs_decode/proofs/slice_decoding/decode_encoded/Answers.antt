@@ -1,10 +1,4 @@
-use Rattle.std.proofs.Common.{ℕ, List, Some, Ok, Err, subst, arith}
-use Rattle.std.proofs.lemmas.List.{get_or_default}
-use Rattle.bcs_registry_model.specs.View.{shape_of}
-use Rattle.bcs_value_model.specs.declared.value.Value.{Value}
-use Rattle.bcs_decode_spec.specs.Exact.{AreBytes}
-use Rattle.bcs_decode_spec.specs.declared.decode_fault.DecodeFault.{DecodeFault}
-use Rattle.bcs_decode.specs.Whole.{DecodesFrom, DecodesFront}
+use Rattle.bcs_decode.proofs.Prelude.{ℕ, List, Some, Ok, Err, subst, arith, get_or_default, shape_of, Value, AreBytes, DecodeFault, DecodesFrom, DecodesFront}
 use Rattle.bcs_decode.proofs.Wholes.{front_value}
 use Rattle.bcs_decode.proofs.Slices.{encoded_value, encoded_never_stops}
 use Rattle.bcs_decode.proofs.slice_decoding.decode_encoded.Goals as goal

@@ -1,8 +1,4 @@
-use Rattle.std.proofs.Common.{ℕ, List, Some, Err, ap, subst, arith, rules}
-use Rattle.std.proofs.lemmas.List.{get_or_default}
-use Rattle.bcs_registry_model.specs.View.{shape_of}
-use Rattle.bcs_decode_spec.specs.Exact.{AreBytes}
-use Rattle.bcs_decode.specs.Whole.{DecodesFrom}
+use Rattle.bcs_decode.proofs.Prelude.{ℕ, List, Some, Err, ap, subst, arith, rules, get_or_default, shape_of, AreBytes, DecodesFrom}
 use Rattle.bcs_decode.proofs.Slices.{refused_slice}
 use Rattle.bcs_decode.proofs.slice_decoding.decode_slice.Goals as goal
 

@@ -1,7 +1,4 @@
-use Rattle.std.proofs.Common.{drop, refl, rules}
-use Rattle.bcs_registry_model.specs.View.{shape_of}
-use Rattle.bcs_decode_parts.specs.declared.ahead.Ahead.{Ahead}
-use Rattle.bcs_decode_parts.proofs.Skips.{accepted_stands}
+use Rattle.bcs_decode.proofs.Prelude.{drop, refl, rules, shape_of, Ahead, accepted_stands}
 use Rattle.bcs_decode.proofs.slice_parts.part.Goals as goal
 
 pub returns-clause-found : goal.returns-clause-found

@@ -1,9 +1,5 @@
-use Rattle.std.proofs.Common.{refl, ap, ◌∙◌, false, rules}
-use Rattle.std.proofs.lemmas.Result.{err_from_is_err_and}
-use Rattle.bcs_registry_model.specs.View.{shape_of}
-use Rattle.bcs_decode_source.specs.Reaching.{reaches_no_map}
+use Rattle.bcs_decode.proofs.Prelude.{refl, ap, ◌∙◌, false, rules, err_from_is_err_and, shape_of, reaches_no_map, never_lacks}
 use Rattle.bcs_decode.proofs.Scans.{scanned, stopped, lost_at_once}
-use Rattle.bcs_decode_source.proofs.Sparing.{never_lacks}
 use Rattle.bcs_decode.proofs.source_scanning.scan_from.Goals as goal
 
 pub returns-in_err-value-clause-told : goal.returns-in_err-value-clause-told
@@ -39,7 +35,7 @@ returns-in_err-value-clause-read g c = search rules
 pub returns-in_err-value-clause-memory : goal.returns-in_err-value-clause-memory
 returns-in_err-value-clause-memory g c = λ h.
     never_lacks c.from_residual.result c.in_err-value.field-0.0 (record { place = 0; known = 0; nodes = c.nodes.result; is_in_key = false; kept = c.new.result }) c.from_residual.ensures.1 refl
-    (c.in_err-value.ensures.spares (ap (λ d. reaches_no_map c.args.registry.now d (shape_of c.args.format.now)) c.depth.ensures.is ∙ h))
+    (c.in_err-value.ensures.memory (ap (λ d. reaches_no_map c.args.registry.now d (shape_of c.args.format.now)) c.depth.ensures.is ∙ h))
 
 pub returns-clause-read : goal.returns-clause-read
 returns-clause-read g c = search rules

@@ -1,8 +1,4 @@
-use Rattle.std.proofs.Common.{map}
-use Rattle.bcs_registry_model.specs.Shape.{tuple as tuple_shape}
-use Rattle.bcs_registry_model.specs.Container.{field_shapes}
-use Rattle.bcs_registry_model.specs.View.{field_of}
-use Rattle.bcs_decode_slice.specs.Passing.{skip}
+use Rattle.bcs_decode_parts.proofs.Prelude.{map, tuple_shape, field_shapes, field_of, skip}
 use Rattle.bcs_decode_parts.proofs.Skips.{skipped, passed, stuck}
 use Rattle.bcs_decode_parts.proofs.passing.after_fields.Goals as goal
 

@@ -1,6 +1,4 @@
-use Rattle.bcs_registry_model.specs.Shape.{tuple as tuple_shape}
-use Rattle.bcs_registry_model.specs.View.{formats_shapes}
-use Rattle.bcs_decode_slice.specs.Passing.{skip}
+use Rattle.bcs_decode_parts.proofs.Prelude.{tuple_shape, formats_shapes, skip}
 use Rattle.bcs_decode_parts.proofs.Skips.{skipped, passed, stuck}
 use Rattle.bcs_decode_parts.proofs.passing.after_formats.Goals as goal
 

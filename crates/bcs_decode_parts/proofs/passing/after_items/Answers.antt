@@ -1,6 +1,4 @@
-use Rattle.bcs_registry_model.specs.View.{shape_of}
-use Rattle.bcs_decode_slice.specs.Passing.{skip}
-use Rattle.bcs_decode_spec.specs.Reading.{items_here, skipping}
+use Rattle.bcs_decode_parts.proofs.Prelude.{shape_of, skip, items_here, skipping}
 use Rattle.bcs_decode_parts.proofs.Skips.{row_skipped, passed, stuck}
 use Rattle.bcs_decode_parts.proofs.passing.after_items.Goals as goal
 

@@ -1,6 +1,4 @@
-use Rattle.bcs_registry_model.specs.Container.{payload_shape}
-use Rattle.bcs_registry_model.specs.View.{payload_of}
-use Rattle.bcs_decode_slice.specs.Passing.{skip}
+use Rattle.bcs_decode_parts.proofs.Prelude.{payload_shape, payload_of, skip}
 use Rattle.bcs_decode_parts.proofs.Skips.{skipped, passed, stuck}
 use Rattle.bcs_decode_parts.proofs.passing.after_payload.Goals as goal
 

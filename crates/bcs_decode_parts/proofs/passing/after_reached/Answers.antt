@@ -1,8 +1,4 @@
-use Rattle.std.proofs.Common.{ap, subst, map}
-use Rattle.bcs_registry_model.specs.Container.{Content, payload_shape}
-use Rattle.bcs_registry_model.specs.View.{choice_of, payload_of}
-use Rattle.bcs_decode_parts.specs.Fronts.{Fronts}
-use Rattle.bcs_decode_parts.specs.Here.{content_of}
+use Rattle.bcs_decode_parts.proofs.Prelude.{ap, subst, map, Content, payload_shape, choice_of, payload_of, Fronts, content_of}
 use Rattle.bcs_decode_parts.proofs.HolderSteps.{variant_stands}
 use Rattle.bcs_decode_parts.proofs.passing.after_reached.Goals as goal
 

@@ -1,5 +1,4 @@
-use Rattle.bcs_registry_model.specs.View.{shape_of}
-use Rattle.bcs_decode_slice.specs.Passing.{skip}
+use Rattle.bcs_decode_parts.proofs.Prelude.{shape_of, skip}
 use Rattle.bcs_decode_parts.proofs.Skips.{skipped, passed, stuck}
 use Rattle.bcs_decode_parts.proofs.passing.after_value.Goals as goal
 

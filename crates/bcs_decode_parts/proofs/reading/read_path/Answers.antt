@@ -1,11 +1,4 @@
-use Rattle.std.proofs.Common.{◌≡◌, ◌∙◌, ◌∷◌, [], Err, ap, lit<, sym}
-use Rattle.std.specs.Str.Iter.{split_steps}
-use Rattle.std.specs.Str.Pattern.{FindsChar}
-use Rattle.std.proofs.lemmas.Iterator.Splits.{YieldsList-from_str_split}
-use Rattle.std.proofs.lemmas.List.{map-append}
-use Rattle.std.proofs.lemmas.Result.{err_from_is_err_and}
-use Rattle.bcs_decode_parts.specs.declared.path_fault.PathFault.TheVariants.{BadPath}
-use Rattle.bcs_decode_parts.specs.PathSteps.{all_spelled, spelled}
+use Rattle.bcs_decode_parts.proofs.Prelude.{◌≡◌, ◌∙◌, ◌∷◌, [], Err, ap, lit<, sym, split_steps, FindsChar, YieldsList-from_str_split, map-append, err_from_is_err_and, BadPath, all_spelled, spelled}
 use Rattle.bcs_decode_parts.proofs.PathReading.{begins, ends, goes_on, stops}
 use Rattle.bcs_decode_parts.proofs.reading.read_path.Goals as goal
 

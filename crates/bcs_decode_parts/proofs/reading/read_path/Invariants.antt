@@ -1,7 +1,4 @@
-use Rattle.std.proofs.Common.{◌≡◌}
-use Rattle.std.specs.Str.Iter.{split_steps}
-use Rattle.std.specs.Str.Pattern.{FindsChar}
-use Rattle.bcs_decode_parts.specs.PathSteps.{all_spelled}
+use Rattle.bcs_decode_parts.proofs.Prelude.{◌≡◌, split_steps, FindsChar, all_spelled}
 use Rattle.bcs_decode_parts.proofs.PathReading.{IsRead}
 use Rattle.bcs_decode_parts.proofs.reading.read_path.Given as goal
 

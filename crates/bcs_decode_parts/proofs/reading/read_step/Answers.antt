@@ -1,4 +1,4 @@
-use Rattle.std.proofs.Common.{◌∙◌, ◌++◌, List, ap, codes, sym, ℕ}
+use Rattle.bcs_decode_parts.proofs.Prelude.{◌∙◌, ◌++◌, List, ap, codes, sym, ℕ}
 use Rattle.bcs_decode_parts.proofs.Steps.{no_step}
 use Rattle.bcs_decode_parts.proofs.reading.read_step.Goals as goal
 

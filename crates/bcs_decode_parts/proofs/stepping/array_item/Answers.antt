@@ -1,5 +1,4 @@
-use Rattle.std.proofs.Common.{refl, arith}
-use Rattle.bcs_registry_model.specs.View.{shape_of}
+use Rattle.bcs_decode_parts.proofs.Prelude.{refl, arith, shape_of}
 use Rattle.bcs_decode_parts.proofs.RowSteps.{array_past, array_stuck, array_leads}
 use Rattle.bcs_decode_parts.proofs.stepping.array_item.Goals as goal
 

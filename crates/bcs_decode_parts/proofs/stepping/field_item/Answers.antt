@@ -1,7 +1,4 @@
-use Rattle.std.proofs.Common.{◌+◌, length, drop, map, refl, sym, arith}
-use Rattle.std.proofs.lemmas.Bool.{ltb-true}
-use Rattle.bcs_registry_model.specs.View.{shape_of, field_of}
-use Rattle.bcs_registry_model.specs.Container.{field_shapes}
+use Rattle.bcs_decode_parts.proofs.Prelude.{◌+◌, length, drop, map, refl, sym, arith, ltb-true, shape_of, field_of, field_shapes}
 use Rattle.bcs_decode_parts.proofs.FormatRows.{fields_count, fields_split, fields_before}
 use Rattle.bcs_decode_parts.proofs.RowSteps.{tuple_past, tuple_stuck, tuple_leads}
 use Rattle.bcs_decode_parts.proofs.stepping.field_item.Goals as goal

@@ -1,5 +1,4 @@
-use Rattle.std.proofs.Common.{refl, ◌∙◌, sym, rules}
-use Rattle.bcs_decode_spec.proofs.LookedUp.{content_found}
+use Rattle.bcs_decode_parts.proofs.Prelude.{refl, ◌∙◌, sym, rules, content_found}
 use Rattle.bcs_decode_parts.proofs.HolderSteps.{container_leads}
 use Rattle.bcs_decode_parts.proofs.stepping.in_container.Goals as goal
 

@@ -1,5 +1,4 @@
-use Rattle.std.proofs.Common.{refl, arith}
-use Rattle.bcs_registry_model.specs.View.{shape_of}
+use Rattle.bcs_decode_parts.proofs.Prelude.{refl, arith, shape_of}
 use Rattle.bcs_decode_parts.proofs.RowSteps.{list_past, list_stuck, list_leads}
 use Rattle.bcs_decode_parts.proofs.stepping.list_item.Goals as goal
 

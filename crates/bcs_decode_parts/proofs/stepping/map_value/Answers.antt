@@ -1,7 +1,4 @@
-use Rattle.std.proofs.Common.{ℕ, ◌+◌, ◌-◌, ◌<◌, ◌≡◌, Some, None, refl, sym, subst, ◌∙◌, arith}
-use Rattle.std.proofs.lemmas.Bool.{false≢true}
-use Rattle.std.proofs.lemmas.Slice.Eq.{bytes_eq-Decides}
-use Rattle.bcs_registry_model.specs.View.{shape_of}
+use Rattle.bcs_decode_parts.proofs.Prelude.{ℕ, ◌+◌, ◌-◌, ◌<◌, ◌≡◌, Some, None, refl, sym, subst, ◌∙◌, arith, false≢true, bytes_eq-Decides, shape_of}
 use Rattle.bcs_decode_parts.proofs.MapSteps.{Finds, found_in_map, none_left, key_stuck, key_leads, value_stuck, next_finds}
 use Rattle.bcs_decode_parts.proofs.stepping.map_value.Goals as goal
 

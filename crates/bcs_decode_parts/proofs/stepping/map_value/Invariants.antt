@@ -1,6 +1,4 @@
-use Rattle.std.proofs.Common.{◌-◌, Option}
-use Rattle.bcs_registry_model.specs.View.{shape_of}
-use Rattle.bcs_decode_parts.specs.declared.here.Reached.{Reached}
+use Rattle.bcs_decode_parts.proofs.Prelude.{◌-◌, Option, shape_of, Reached}
 use Rattle.bcs_decode_parts.proofs.MapSteps.{Finds}
 use Rattle.bcs_decode_parts.proofs.stepping.map_value.Given as goal
 

@@ -1,8 +1,4 @@
-use Rattle.std.proofs.Common.{ap, sym, subst}
-use Rattle.bcs_decode_parts.specs.Parts.{Step}
-use Rattle.bcs_decode_parts.specs.Here.{content_of}
-use Rattle.bcs_decode_parts.specs.Fronts.{StepsTo}
-use Rattle.bcs_decode_parts.specs.Steps.{step_of}
+use Rattle.bcs_decode_parts.proofs.Prelude.{ap, sym, subst, Step, content_of, StepsTo, step_of}
 use Rattle.bcs_decode_parts.proofs.stepping.take_step.Goals as goal
 
 pub returns-in-Item : goal.returns-in-Item

@@ -1,11 +1,6 @@
-use Rattle.std.proofs.Common.{inl, inr, map, None}
-use Rattle.bcs_registry_model.specs.Shape.{array as array_shape, map as map_shape, seq as seq_shape, tuple as tuple_shape}
-use Rattle.bcs_registry_model.specs.Container.{of, field_shapes}
-use Rattle.bcs_registry_model.specs.View.{shape_of, formats_shapes, field_of}
+use Rattle.bcs_decode_parts.proofs.Prelude.{inl, inr, map, None, array_shape, map_shape, seq_shape, tuple_shape, of, field_shapes, shape_of, formats_shapes, field_of, content_of, inner}
 use Rattle.bcs_decode_parts.specs.declared.inside.Inside.TheVariants as inside
-use Rattle.bcs_decode_parts.specs.Here.{content_of}
 use Rattle.bcs_decode_parts.proofs.Nowhere.{opens_as}
-use Rattle.bcs_decode_parts.specs.Parts.{inner}
 use Rattle.bcs_decode_parts.proofs.Arrivals.{moved, nowhere}
 use Rattle.bcs_decode_parts.proofs.stepping.to_inner.Goals as goal
 

@@ -1,11 +1,6 @@
-use Rattle.std.proofs.Common.{inl, inr, map, None}
-use Rattle.bcs_registry_model.specs.Shape.{map as map_shape, name as name_shape, option as option_shape}
-use Rattle.bcs_registry_model.specs.Container.{of, one_of}
-use Rattle.bcs_registry_model.specs.View.{shape_of, choice_of}
+use Rattle.bcs_decode_parts.proofs.Prelude.{inl, inr, map, None, map_shape, name_shape, option_shape, of, one_of, shape_of, choice_of, content_of, item}
 use Rattle.bcs_decode_parts.specs.declared.inside.Inside.TheVariants as inside
-use Rattle.bcs_decode_parts.specs.Here.{content_of}
 use Rattle.bcs_decode_parts.proofs.Nowhere.{opens_as}
-use Rattle.bcs_decode_parts.specs.Parts.{item}
 use Rattle.bcs_decode_parts.proofs.Arrivals.{moved, nowhere}
 use Rattle.bcs_decode_parts.proofs.stepping.to_item.Goals as goal
 

@@ -1,11 +1,6 @@
-use Rattle.std.proofs.Common.{inl, inr, map, None}
-use Rattle.bcs_registry_model.specs.Shape.{array as array_shape, name as name_shape, option as option_shape, seq as seq_shape, tuple as tuple_shape}
-use Rattle.bcs_registry_model.specs.Container.{of, one_of, field_shapes}
-use Rattle.bcs_registry_model.specs.View.{shape_of, formats_shapes, field_of, choice_of}
+use Rattle.bcs_decode_parts.proofs.Prelude.{inl, inr, map, None, array_shape, name_shape, option_shape, seq_shape, tuple_shape, of, one_of, field_shapes, shape_of, formats_shapes, field_of, choice_of, content_of, key}
 use Rattle.bcs_decode_parts.specs.declared.inside.Inside.TheVariants as inside
-use Rattle.bcs_decode_parts.specs.Here.{content_of}
 use Rattle.bcs_decode_parts.proofs.Nowhere.{opens_as}
-use Rattle.bcs_decode_parts.specs.Parts.{key}
 use Rattle.bcs_decode_parts.proofs.Arrivals.{moved, nowhere}
 use Rattle.bcs_decode_parts.proofs.stepping.to_value.Goals as goal
 

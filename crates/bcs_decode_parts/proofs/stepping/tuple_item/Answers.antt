@@ -1,6 +1,4 @@
-use Rattle.std.proofs.Common.{◌+◌, length, drop, refl, sym, arith}
-use Rattle.std.proofs.lemmas.Bool.{ltb-true}
-use Rattle.bcs_registry_model.specs.View.{shape_of, formats_shapes}
+use Rattle.bcs_decode_parts.proofs.Prelude.{◌+◌, length, drop, refl, sym, arith, ltb-true, shape_of, formats_shapes}
 use Rattle.bcs_decode_parts.proofs.FormatRows.{formats_count, formats_split, formats_before}
 use Rattle.bcs_decode_parts.proofs.RowSteps.{tuple_past, tuple_stuck, tuple_leads}
 use Rattle.bcs_decode_parts.proofs.stepping.tuple_item.Goals as goal

@@ -1,7 +1,4 @@
-use Rattle.std.proofs.Common.{◌≡◌, ℕ, map, subst, rules}
-use Rattle.bcs_registry_model.specs.Container.{of, nothing, choice_at, payload_shape}
-use Rattle.bcs_registry_model.specs.View.{choice_of, payload_of}
-use Rattle.bcs_decode_spec.proofs.LookedUp.{choice_found, choice_missing}
+use Rattle.bcs_decode_parts.proofs.Prelude.{◌≡◌, ℕ, map, subst, rules, of, nothing, choice_at, payload_shape, choice_of, payload_of, choice_found, choice_missing}
 use Rattle.bcs_decode_parts.proofs.variants.chosen.Goals as goal
 
 pub returns-in_err-variant : goal.returns-in_err-variant

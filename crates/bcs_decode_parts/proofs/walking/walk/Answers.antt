@@ -1,10 +1,5 @@
-use Rattle.std.proofs.Common.{◌+◌, List, [], Some, None, get_or, drop, map, length, refl, sym, ap, subst, arith}
-use Rattle.std.proofs.lemmas.List.{drop_all}
+use Rattle.bcs_decode_parts.proofs.Prelude.{◌+◌, List, [], Some, None, get_or, drop, map, length, refl, sym, ap, subst, arith, drop_all, Item, Step, content_of, step_of}
 use Rattle.bcs_decode_parts.specs.declared.part.Part.{Part}
-use Rattle.bcs_decode_parts.specs.declared.step.Step.TheVariants.{Item}
-use Rattle.bcs_decode_parts.specs.Parts.{Step}
-use Rattle.bcs_decode_parts.specs.Here.{content_of}
-use Rattle.bcs_decode_parts.specs.Steps.{step_of}
 use Rattle.bcs_decode_parts.proofs.Paths.{WalksIn, steps_next, walk_ends, walk_on, walk_arrives, walk_stuck, gives_from_front}
 use Rattle.bcs_decode_parts.proofs.walking.walk.Goals as goal
 

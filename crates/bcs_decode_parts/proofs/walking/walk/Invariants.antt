@@ -1,6 +1,4 @@
-use Rattle.std.proofs.Common.{Option, map, drop}
-use Rattle.bcs_decode_parts.specs.Here.{content_of}
-use Rattle.bcs_decode_parts.specs.Steps.{step_of}
+use Rattle.bcs_decode_parts.proofs.Prelude.{Option, map, drop, content_of, step_of}
 use Rattle.bcs_decode_parts.specs.declared.part.Part.{Part}
 use Rattle.bcs_decode_parts.proofs.Paths.{WalksIn}
 use Rattle.bcs_decode_parts.proofs.walking.walk.Given as goal

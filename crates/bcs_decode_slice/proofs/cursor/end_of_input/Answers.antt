@@ -1,4 +1,4 @@
-use Rattle.std.proofs.Common.{rules}
+use Rattle.bcs_decode_slice.proofs.Prelude.{rules}
 use Rattle.bcs_decode_slice.proofs.cursor.end_of_input.Goals as goal
 
 pub returns-clause-reason : goal.returns-clause-reason

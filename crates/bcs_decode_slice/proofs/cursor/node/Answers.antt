@@ -1,4 +1,4 @@
-use Rattle.std.proofs.Common.{rules}
+use Rattle.bcs_decode_slice.proofs.Prelude.{rules}
 use Rattle.bcs_decode_slice.proofs.cursor.node.Goals as goal
 
 pub returns-then-cursor-eq0-clause-onward : goal.returns-then-cursor-eq0-clause-onward

@@ -1,5 +1,4 @@
-use Rattle.std.proofs.lemmas.Grind.{common_steps}
-use Rattle.std.proofs.Common.{arith}
+use Rattle.bcs_decode_slice.proofs.Prelude.{common_steps, arith}
 use Rattle.bcs_decode_slice.proofs.Steps.{number_found, number_ended, number_long, number_large}
 use Rattle.bcs_decode_slice.proofs.cursor.number.Goals as goal
 

@@ -1,4 +1,4 @@
-use Rattle.std.proofs.Common.{◌∙◌}
+use Rattle.bcs_decode_slice.proofs.Prelude.{◌∙◌}
 use Rattle.bcs_decode_slice.proofs.Steps.{text_found, text_wrong}
 use Rattle.bcs_decode_slice.proofs.cursor.text.Goals as goal
 

@@ -1,5 +1,4 @@
-use Rattle.std.proofs.Common.{arith}
-use Rattle.bcs_registry_model.specs.View.{shape_of}
+use Rattle.bcs_decode_slice.proofs.Prelude.{arith, shape_of}
 use Rattle.bcs_decode_slice.proofs.FixedParts.{fixed_whole}
 use Rattle.bcs_decode_slice.proofs.fixed_size.whole_size.Goals as goal
 

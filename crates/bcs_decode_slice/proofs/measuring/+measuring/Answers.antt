@@ -1,13 +1,4 @@
-use Rattle.std.proofs.Common.{◌≡◌, ◌∙◌, ◌+◌, ◌*◌, [], drop, map, ap, sym, arith}
-use Rattle.std.proofs.lemmas.List.{drop_all}
-use Rattle.std.proofs.lemmas.Option.{IfSome_then}
-use Rattle.bcs_registry_model.specs.Shape.{Shape, unit as unit_shape, name as name_shape, tuple as tuple_shape, array as array_shape}
-use Rattle.bcs_registry_model.specs.Container.{of, content}
-use Rattle.bcs_registry_model.specs.Layout.{content_seen, layout_shape, row_formats}
-use Rattle.bcs_registry_model.specs.View.{shape_of, formats_shapes, container_of}
-use Rattle.bcs_decode_spec.proofs.LookedUp.{content_found, formats_next}
-use Rattle.bcs_registry_model.proofs.FieldRows.{fields_row}
-use Rattle.bcs_decode_slice.specs.Passing.{skip}
+use Rattle.bcs_decode_slice.proofs.Prelude.{◌≡◌, ◌∙◌, ◌+◌, ◌*◌, [], drop, map, ap, sym, arith, drop_all, IfSome_then, Shape, unit_shape, name_shape, tuple_shape, array_shape, of, content, content_seen, layout_shape, row_formats, shape_of, formats_shapes, container_of, content_found, formats_next, fields_row, skip}
 use Rattle.bcs_decode_slice.proofs.PassingParts.{each}
 use Rattle.bcs_decode_slice.proofs.Reaching.{reaches_on, reaches_as, goes_as}
 use Rattle.bcs_decode_slice.proofs.FixedParts.{tuple_reaches, each_reaches, each_ends, array_goes, empty_array_goes, named_goes, unit_goes, inside_goes}

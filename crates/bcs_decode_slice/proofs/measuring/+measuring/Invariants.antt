@@ -1,8 +1,4 @@
-use Rattle.std.proofs.Common.{◌+◌, ◌*◌, ◌<◌, ◌≤◌, drop}
-use Rattle.bcs_registry_model.specs.Shape.{tuple as tuple_shape}
-use Rattle.bcs_registry_model.specs.Layout.{row_formats}
-use Rattle.bcs_registry_model.specs.View.{formats_shapes}
-use Rattle.bcs_decode_slice.specs.Passing.{skip}
+use Rattle.bcs_decode_slice.proofs.Prelude.{◌+◌, ◌*◌, ◌<◌, ◌≤◌, drop, tuple_shape, row_formats, formats_shapes, skip}
 use Rattle.bcs_decode_slice.proofs.PassingParts.{each}
 use Rattle.bcs_decode_slice.proofs.Reaching.{Reaches}
 use Rattle.bcs_decode_slice.proofs.measuring.+measuring.Given as goal

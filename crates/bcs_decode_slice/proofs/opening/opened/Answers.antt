@@ -1,12 +1,4 @@
-use Rattle.std.proofs.Common.{◌≡◌, ◌∙◌, ◌≤◌, map, ap, sym}
-use Rattle.std.proofs.lemmas.Result.{err_from_is_err_and}
-use Rattle.bcs_registry_model.specs.Shape.{Shape}
-use Rattle.bcs_registry_model.specs.Container.{Content, of, one_of, nothing, content, payload_shape, choice_at}
-use Rattle.bcs_registry_model.specs.Layout.{content_seen, layout_shape}
-use Rattle.bcs_registry_model.specs.View.{payload_of, choice_of, container_of}
-use Rattle.bcs_registry_model.specs.WellFormed.{levels}
-use Rattle.bcs_registry_model.proofs.Admitted.{content_at-inside, choice_at-inside}
-use Rattle.bcs_decode_spec.proofs.LookedUp.{choice_found, choice_missing}
+use Rattle.bcs_decode_slice.proofs.Prelude.{◌≡◌, ◌∙◌, ◌≤◌, map, ap, sym, err_from_is_err_and, Shape, Content, of, one_of, nothing, content, payload_shape, choice_at, content_seen, layout_shape, payload_of, choice_of, container_of, levels, content_at-inside, choice_at-inside, choice_found, choice_missing}
 use Rattle.bcs_decode_slice.proofs.Openings.{opened_struct, opened_stop, opened_unknown, opened_variant}
 use Rattle.bcs_decode_slice.proofs.opening.opened.Goals as goal
 

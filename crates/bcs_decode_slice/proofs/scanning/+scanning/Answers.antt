@@ -1,18 +1,7 @@
-use Rattle.std.proofs.Common.{◌≡◌, ℕ, List, ◌∙◌, ◌-◌, [], None, drop, map, ap, sym, arith}
-use Rattle.std.proofs.lemmas.List.{drop_all}
-use Rattle.std.proofs.lemmas.Result.{err_from_is_err_and}
-use Rattle.bcs_registry_model.specs.Shape.{Shape, name as name_shape}
-use Rattle.bcs_registry_model.specs.Container.{Content, nothing, content, field_shapes, content_at}
-use Rattle.bcs_registry_model.specs.Layout.{layout_shape}
-use Rattle.bcs_registry_model.specs.WellFormed.{levels}
-use Rattle.bcs_registry_model.specs.View.{shape_of, formats_shapes, field_of, container_of}
-use Rattle.bcs_decode_spec.specs.Reading.{items_here, pairs_here, skipping}
-use Rattle.bcs_registry_model.proofs.KindShapes.{shape_seen}
-use Rattle.bcs_decode_slice.specs.Passing.{skip, node_here, truth_here, whole_here, text_past, bytes_past, unsupported_here}
+use Rattle.bcs_decode_slice.proofs.Prelude.{◌≡◌, ℕ, List, ◌∙◌, ◌-◌, [], None, drop, map, ap, sym, arith, drop_all, err_from_is_err_and, Shape, name_shape, Content, nothing, content, field_shapes, content_at, layout_shape, levels, shape_of, formats_shapes, field_of, container_of, items_here, pairs_here, skipping, shape_seen, skip, node_here, truth_here, whole_here, text_past, bytes_past, unsupported_here, content_found, content_missing, levels_in, field_levels_in, formats_next, fields_next}
 use Rattle.bcs_decode_slice.proofs.Passings.{past_scalar, unit_is, passes_from, passes_here}
 use Rattle.bcs_decode_slice.proofs.PassingParts.{option_stop, option_some, option_none, list_stop, list_on, map_stop, map_on, array_stop, array_on, items_stop, items_on, items_end, pairs_stop_key, pairs_stop_value, pairs_on, pairs_end, each, tuple_stop, tuple_on, each_end, each_stop, each_on, named_stop, named_on, content_past, content_nothing, named_past}
 use Rattle.bcs_decode_slice.proofs.Openings.{content_stop, content_on}
-use Rattle.bcs_decode_spec.proofs.LookedUp.{content_found, content_missing, levels_in, field_levels_in, formats_next, fields_next}
 use Rattle.bcs_decode_slice.proofs.scanning.+scanning.Goals as goal
 
 -- ---- values in a row
@@ -35,16 +24,16 @@ elements-returns-clause-passes t c =
 
 pub elements-returns-then-gone-count-clause-passes : goal.elements-returns-then-gone-count-clause-passes
 elements-returns-then-gone-count-clause-passes t c =
-    c.fixed_row-gone.ensures.whole ∙ items_end (skip c.args.registry.now c.args.depth (shape_of c.args.element.now)) c.args.count c.fixed_row-gone.result _ _ _ (omega (arith, c.if-gone-count.true))
+    c.skip_fixed_size_list-gone.ensures.whole ∙ items_end (skip c.args.registry.now c.args.depth (shape_of c.args.element.now)) c.args.count c.skip_fixed_size_list-gone.result _ _ _ (omega (arith, c.if-gone-count.true))
 
 pub elements-returns-in-Some-named_container-clause-passes : goal.elements-returns-in-Some-named_container-clause-passes
 elements-returns-in-Some-named_container-clause-passes t c =
     let r = c.args.registry.now in
-    let at = c.fixed_row-gone.new.cursor in
-    let n = c.args.count - c.fixed_row-gone.result in
+    let at = c.skip_fixed_size_list-gone.new.cursor in
+    let n = c.args.count - c.skip_fixed_size_list-gone.result in
     let found = c.in-Some-named_container.ensures.found in
     passes_from (λ x. x) c.containers.result _ (items_here skipping (skip r c.args.depth (name_shape found.0)) n) c.args.cursor.now at c.containers.new.cursor
-    (c.fixed_row-gone.ensures.whole ∙ ap (λ s. items_here skipping (skip r c.args.depth s) n at.place at.nodes at.rest.now) found.1)
+    (c.skip_fixed_size_list-gone.ensures.whole ∙ ap (λ s. items_here skipping (skip r c.args.depth s) n at.place at.nodes at.rest.now) found.1)
     (c.containers.ensures.passes found.0 found.2)
 
 -- ---- entries

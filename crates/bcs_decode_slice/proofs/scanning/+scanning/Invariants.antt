@@ -1,12 +1,4 @@
-use Rattle.std.proofs.Common.{◌≡◌, ℕ, List, ◌+◌, ◌-◌, ◌*◌, ◌<◌, ◌^◌, None, length, max, map, drop}
-use Rattle.bcs_registry_model.specs.Container.{content, content_at, field_shapes}
-use Rattle.bcs_registry_model.specs.Layout.{layout_shape}
-use Rattle.bcs_registry_model.specs.Shape.{name as name_shape}
-use Rattle.bcs_registry_model.specs.View.{shape_of, formats_shapes, field_of, container_of}
-use Rattle.bcs_registry_model.specs.WellFormed.{levels, shapes_levels}
-use Rattle.bcs_decode_spec.specs.Reading.{items_here, pairs_here, skipping}
-use Rattle.bcs_keys.specs.Following.{key_bytes}
-use Rattle.bcs_decode_slice.specs.Passing.{Onward, skip}
+use Rattle.bcs_decode_slice.proofs.Prelude.{◌≡◌, ℕ, List, ◌+◌, ◌-◌, ◌*◌, ◌<◌, ◌^◌, None, length, max, map, drop, content, content_at, field_shapes, layout_shape, name_shape, shape_of, formats_shapes, field_of, container_of, levels, shapes_levels, items_here, pairs_here, skipping, key_bytes, Onward, skip}
 use Rattle.bcs_decode_slice.proofs.PassingParts.{each}
 use Rattle.bcs_decode_slice.proofs.scanning.+scanning.Given as goal
 

@@ -1,4 +1,4 @@
-use Rattle.std.proofs.Common.{rules}
+use Rattle.bcs_decode_slice.proofs.Prelude.{rules}
 use Rattle.bcs_decode_slice.proofs.shallow.enter.Goals as goal
 
 pub returns-then-depth-eq0-clause-onward : goal.returns-then-depth-eq0-clause-onward

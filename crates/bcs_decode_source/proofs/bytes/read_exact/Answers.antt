@@ -1,8 +1,5 @@
-use Rattle.std.proofs.lemmas.Grind.{common_steps}
-use Rattle.std.proofs.Common.{take, sym, ap, ◌∙◌, ◌≡◌, ◌++◌, arith, rules, length-take-le, take_all}
-use Rattle.std.proofs.lemmas.Result.{err_from_is_err_and}
-use Rattle.bcs_decode_spec.specs.Reading.{bytes_here}
-use Rattle.bcs_decode_source.proofs.Going.{Along-taken, gave_taken}
+use Rattle.bcs_decode_source.proofs.Prelude.{common_steps, take, sym, ap, ◌∙◌, ◌≡◌, ◌++◌, arith, rules, length-take-le, take_all, err_from_is_err_and, bytes_here}
+use Rattle.bcs_decode_source.proofs.SourceSteps.{Along-taken, gave_taken}
 use Rattle.bcs_decode_source.proofs.bytes.read_exact.Goals as goal
 
 pub returns-in_default-clause-reads : goal.returns-in_default-clause-reads

@@ -1,5 +1,4 @@
-use Rattle.std.proofs.lemmas.Grind.{common_steps}
-use Rattle.std.proofs.Common.{arith, rules}
+use Rattle.bcs_decode_source.proofs.Prelude.{common_steps, arith, rules}
 use Rattle.bcs_decode_source.proofs.keys.settle.Goals as goal
 
 pub returns-clause-last : goal.returns-clause-last

@@ -1,5 +1,4 @@
-use Rattle.std.proofs.Common.{arith, rules}
-use Rattle.bcs_decode_spec.specs.Reading.{chain, give, fail}
+use Rattle.bcs_decode_source.proofs.Prelude.{arith, rules, chain, give, fail}
 use Rattle.bcs_decode_source.proofs.Chains.{flag_is}
 use Rattle.bcs_decode_source.proofs.leaves.flag.Goals as goal
 

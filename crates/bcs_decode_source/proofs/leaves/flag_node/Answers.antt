@@ -1,4 +1,4 @@
-use Rattle.bcs_decode_source.specs.Sees.{flag_node}
+use Rattle.bcs_decode_source.proofs.Prelude.{flag_node}
 use Rattle.bcs_decode_source.proofs.Readers.{Reads-then, Reads-ends, Reads-exit}
 use Rattle.bcs_decode_source.proofs.leaves.flag_node.Goals as goal
 

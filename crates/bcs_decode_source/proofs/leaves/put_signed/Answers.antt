@@ -1,4 +1,4 @@
-use Rattle.std.proofs.Common.{arith}
+use Rattle.bcs_decode_source.proofs.Prelude.{arith}
 use Rattle.bcs_value_model.specs.Tree as tree
 use Rattle.bcs_decode_source.proofs.Readers.{Reads-node, Reads-made, Reads-ends, Reads-node-ends, Reads-exit}
 use Rattle.bcs_decode_source.proofs.ValueViews.{tree_signed}

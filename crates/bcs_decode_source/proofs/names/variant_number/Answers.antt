@@ -1,4 +1,4 @@
-use Rattle.bcs_decode_source.specs.Sees.{number_node}
+use Rattle.bcs_decode_source.proofs.Prelude.{number_node}
 use Rattle.bcs_decode_source.proofs.Readers.{Reads-then, Reads-ends, Reads-exit}
 use Rattle.bcs_decode_source.proofs.names.variant_number.Goals as goal
 

@@ -1,8 +1,6 @@
-use Rattle.std.proofs.Common.{◌∙◌, ◌+◌, ◌-◌, ◌*◌, ap, sym, Ok, arith}
-use Rattle.bcs_decode_spec.specs.Reading.{chain, follow, give}
-use Rattle.bcs_decode_source.specs.Sees.{tail_here, rest_of}
+use Rattle.bcs_decode_source.proofs.Prelude.{◌∙◌, ◌+◌, ◌-◌, ◌*◌, ap, sym, Ok, arith, chain, follow, give, tail_here, rest_of}
 use Rattle.bcs_decode_source.proofs.Chains.{tail_last, tail_long, tail_next, tail_rest, tail_step}
-use Rattle.bcs_decode_source.proofs.Going.{FindsFault-whole}
+use Rattle.bcs_decode_source.proofs.SourceSteps.{FindsFault-whole}
 use Rattle.bcs_decode_source.proofs.Readers.{Reads-as, Reads-ends, Onward-none, Onward-then, Onward-done, Onward-ends, Onward-stops, Reads-exit}
 use Rattle.bcs_decode_source.proofs.number.+tail.Goals as goal
 

@@ -1,4 +1,4 @@
-use Rattle.std.proofs.Common.{◌-◌}
+use Rattle.bcs_decode_source.proofs.Prelude.{◌-◌}
 use Rattle.bcs_decode_source.proofs.number.+tail.Given as goal
 
 abbrev pub decreases-tail : goal.decreases-tail

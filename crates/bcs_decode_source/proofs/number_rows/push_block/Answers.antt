@@ -1,7 +1,4 @@
-use Rattle.std.proofs.Common.{◌≡◌, ◌∙◌, ◌++◌, drop, map, ap}
-use Rattle.bcs_registry_model.specs.Whole.{whole_len}
-use Rattle.bcs_value_model.specs.View.{tree_of}
-use Rattle.bcs_decode_source.specs.Numbers.{numbers}
+use Rattle.bcs_decode_source.proofs.Prelude.{◌≡◌, ◌∙◌, ◌++◌, drop, map, ap, whole_len, tree_of, numbers}
 use Rattle.bcs_decode_source.proofs.NumberRows.{pushed_more, pushed_all}
 use Rattle.bcs_decode_source.proofs.number_rows.push_block.Goals as goal
 

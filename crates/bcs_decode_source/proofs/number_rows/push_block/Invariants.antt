@@ -1,7 +1,4 @@
-use Rattle.std.proofs.Common.{◌≡◌, ℕ, ◌*◌, ◌++◌, length, map}
-use Rattle.bcs_registry_model.specs.Whole.{whole_len}
-use Rattle.bcs_value_model.specs.View.{tree_of}
-use Rattle.bcs_decode_source.specs.Numbers.{numbers}
+use Rattle.bcs_decode_source.proofs.Prelude.{◌≡◌, ℕ, ◌*◌, ◌++◌, length, map, whole_len, tree_of, numbers}
 use Rattle.bcs_decode_source.proofs.NumberRows.{PushedSoFar}
 use Rattle.bcs_decode_source.proofs.number_rows.push_block.Given as goal
 

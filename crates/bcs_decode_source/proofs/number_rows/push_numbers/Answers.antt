@@ -1,10 +1,4 @@
-use Rattle.std.proofs.Common.{◌≡◌, ◌∙◌, ◌*◌, ◌-◌, ◌≤◌, ◌++◌, refl, length, take, drop, map, ap, sym, subst, arith, length-take-le, length-append, length-drop, inl, inr}
-use Rattle.std.proofs.lemmas.List.{take_at}
-use Rattle.bcs_registry_model.specs.Whole.{whole_len, whole_shape}
-use Rattle.bcs_decode_spec.specs.Reading.{bytes_here}
-use Rattle.bcs_value_model.specs.View.{tree_of}
-use Rattle.bcs_decode_source.specs.Numbers.{numbers}
-use Rattle.bcs_decode_source.specs.Sees.{FindsFault, rest_of, leaf_here}
+use Rattle.bcs_decode_source.proofs.Prelude.{◌≡◌, ◌∙◌, ◌*◌, ◌-◌, ◌≤◌, ◌++◌, refl, length, take, drop, map, ap, sym, subst, arith, length-take-le, length-append, length-drop, inl, inr, take_at, whole_len, whole_shape, bytes_here, tree_of, numbers, FindsFault, rest_of, leaf_here}
 use Rattle.bcs_decode_source.proofs.NumberRows.{numbers_more, numbers_refused, numbers_none}
 use Rattle.bcs_decode_source.proofs.StreamedRows.{items_none, items_done}
 use Rattle.bcs_decode_source.proofs.Readers.{Onward-none, Onward-then, Onward-nodes, Onward-done, Onward-ends, Onward-stops, Reads-exit}

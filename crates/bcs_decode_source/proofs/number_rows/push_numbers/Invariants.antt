@@ -1,6 +1,4 @@
-use Rattle.std.proofs.Common.{◌-◌, ◌≡◌, ◌≤◌, length}
-use Rattle.bcs_registry_model.specs.Whole.{whole_shape}
-use Rattle.bcs_decode_source.specs.Sees.{leaf_here}
+use Rattle.bcs_decode_source.proofs.Prelude.{◌-◌, ◌≡◌, ◌≤◌, length, whole_shape, leaf_here}
 use Rattle.bcs_decode_source.proofs.Readers.{Onward}
 use Rattle.bcs_decode_source.proofs.StreamedRows.{ItemsSoFar}
 use Rattle.bcs_decode_source.proofs.number_rows.push_numbers.Given as goal

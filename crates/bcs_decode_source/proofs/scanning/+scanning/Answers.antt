@@ -1,34 +1,14 @@
-use Rattle.std.proofs.Common.{◌≡◌, ◌∙◌, ◌-◌, ◌≤◌, ℕ, suc, List, [], length, refl, ap, sym, map, take, drop, None, true, arith, rules}
-use Rattle.std.proofs.lemmas.List.{drop_all}
-use Rattle.std.proofs.lemmas.Result.{err_from_is_err_and}
-use Rattle.bcs_registry_model.specs.Shape.{Shape, Shapes, name as name_shape, tuple as tuple_shape}
-use Rattle.bcs_registry_model.specs.Container.{Entries, Content, of, one_of, nothing, content, field_shapes, payload_shape, content_at, choice_at}
-use Rattle.bcs_registry_model.specs.WellFormed.{levels, shapes_levels}
-use Rattle.bcs_registry_model.specs.View.{shape_of, formats_shapes, field_of, payload_of, choice_of, container_of}
-use Rattle.bcs_registry_model.specs.declared.named.Named.{Named}
-use Rattle.bcs_registry_model.specs.declared.format.Format.{Format}
-use Rattle.bcs_registry_model.specs.declared.container.Container.{Container}
-use Rattle.bcs_registry_model.proofs.KindShapes.{shape_seen}
-use Rattle.bcs_registry_model.proofs.Admitted.{content_at-inside, choice_at-inside}
-use Rattle.bcs_decode_spec.specs.declared.reason.Reason.TheVariants.{UnknownVariant}
-use Rattle.bcs_decode_spec.specs.Reading.{fail, key_here, pairs_here, skipping}
-use Rattle.bcs_decode_spec.proofs.LookedUp.{content_found, content_missing, choice_found, choice_missing, levels_in, field_levels_in, formats_next, fields_next}
-use Rattle.bcs_decode_slice.specs.Passing.{skip, whole_here}
-use Rattle.bcs_decode_slice.proofs.Passings.{past_scalar, unit_is}
-use Rattle.bcs_decode_slice.proofs.PassingParts.{items_same, items_stop, items_on, items_end, pairs_stop_key, pairs_end, each, tuple_stop, tuple_on, each_end, each_stop, each_on, named_stop, named_on, content_past, content_shape, content_nothing}
-use Rattle.bcs_decode_source.specs.Kept.{last_bytes, key_of}
-use Rattle.bcs_decode_source.specs.Sees.{rest_of, option_node, items_node, pairs_node}
-use Rattle.bcs_decode_source.proofs.Going.{Along-map, AlongMap-then, AlongMap-value, AlongMap-key, front_length, Halts-after, FindsFault-whole, FindsFault-judged}
+use Rattle.bcs_decode_source.proofs.Prelude.{◌≡◌, ◌∙◌, ◌-◌, ◌≤◌, ℕ, suc, List, [], length, refl, ap, sym, map, take, drop, None, true, arith, rules, drop_all, err_from_is_err_and, Shape, Shapes, name_shape, tuple_shape, Entries, Content, of, one_of, nothing, content, field_shapes, payload_shape, content_at, choice_at, levels, shapes_levels, shape_of, formats_shapes, field_of, payload_of, choice_of, container_of, Named, Format, Container, shape_seen, content_at-inside, choice_at-inside, UnknownVariant, fail, key_here, pairs_here, skipping, content_found, content_missing, choice_found, choice_missing, levels_in, field_levels_in, formats_next, fields_next, skip, whole_here, past_scalar, unit_is, items_same, items_stop, items_on, items_end, pairs_stop_key, pairs_end, each, tuple_stop, tuple_on, each_end, each_stop, each_on, named_stop, named_on, content_past, content_shape, content_nothing, last_bytes, key_of, rest_of, option_node, items_node, pairs_node, content_has_no_map, named_reaches_no_map, reaches_no_map}
+use Rattle.bcs_decode_source.proofs.SourceSteps.{Along-map, AlongMap-then, AlongMap-value, AlongMap-key, front_length, Halts-after, FindsFault-whole, FindsFault-validated}
 use Rattle.bcs_decode_source.proofs.KeptKeys.{Stands-begun, Stands-more, last_kept, same_key}
 use Rattle.bcs_decode_source.proofs.Readers.{IsSame-then, Reads-as, Reads-then, Reads-ends, Reads-exit, Reads-never}
 use Rattle.bcs_decode_source.proofs.StreamedRows.{Found}
-use Rattle.bcs_decode_source.specs.Reaching.{content_has_no_map, named_reaches_no_map, reaches_no_map}
 use Rattle.bcs_decode_source.proofs.Leading.{leads_ends, leads_done, Reads-bare, Reads-in, Leads-none, Leads-on, Leads-ends, Leads-done, Leads-rest, Leads-stops}
 use Rattle.bcs_decode_source.proofs.PastEntries.{value_ends, entry_on}
 use Rattle.bcs_decode_source.proofs.StreamedKeys.{key_stop, kept_wrong, kept_right}
 use Rattle.bcs_decode_source.proofs.PastParts.{past_shape, some_is, held_past, absent_is, option_on, unsupported_is}
 use Rattle.bcs_decode_source.proofs.Streamed.{read_Opt, read_Seq, read_TupleArray, read_Map, enum_stop, enum_unknown, enum_skipped}
-use Rattle.bcs_decode_source.proofs.Sparing.{SparesMemory-exit, SparesMemory-on, format_has_no_map, field_has_no_map, choice_has_no_map, named_content}
+use Rattle.bcs_decode_source.proofs.MemoryFaults.{OutOfMemoryOnlyInKey-exit, OutOfMemoryOnlyInKey-on, format_has_no_map, field_has_no_map, choice_has_no_map, named_content}
 use Rattle.bcs_decode_source.proofs.scanning.+scanning.Goals as goal
 
 abbrev fields_shapes : List (Named Format) → Shapes
@@ -116,7 +96,7 @@ rows::items-returns-clause-reads g t c =
 pub rows::elements-returns-in-Some-clause-reads : goal.rows::elements-returns-in-Some-clause-reads
 rows::elements-returns-in-Some-clause-reads g t c =
     let found = c.in-Some.ensures in
-    Reads-as (λ p m b. items_same skipping _ _ (λ o l s. found.1 c.args.reader.now.registry.now c.args.depth o l s) c.args.count p m b) c.whole_row.ensures.reads
+    Reads-as (λ p m b. items_same skipping _ _ (λ o l s. found.1 c.args.reader.now.registry.now c.args.depth o l s) c.args.count p m b) c.skip_integers.ensures.reads
 
 pub rows::elements-returns-in_err-value-clause-reads : goal.rows::elements-returns-in_err-value-clause-reads
 rows::elements-returns-in_err-value-clause-reads g t c =
@@ -384,15 +364,15 @@ maps::each_entry-loop-preserved g t c =
 
 pub maps::each_entry-returns : goal.maps::each_entry-returns
 maps::each_entry-returns g t c =
-    let same = c.let_go.ensures.same in
+    let same = c.forget_last_key.ensures.same in
     let done = leads_done (pairs_here skipping (skip c.args.reader.now.registry.now c.args.depth (shape_of c.args.key.now)) (skip c.args.reader.now.registry.now c.args.depth (shape_of c.args.part.now)) None c.args.count) (pairs_here skipping (skip c.args.reader.now.registry.now c.args.depth (shape_of c.args.key.now)) (skip c.args.reader.now.registry.now c.args.depth (shape_of c.args.part.now)) (last_bytes c.loop.keys.last c.loop.reader.at.now.kept.items) (c.args.count - c.loop.counter)) (g.S.ByteSource.content c.args.reader.now.source.now) (g.S.ByteSource.content c.loop.reader.source.now) c.args.reader.now.at.now c.loop.reader.at.now c.loop.invariant.sees (λ b. pairs_end (skip c.args.reader.now.registry.now c.args.depth (shape_of c.args.key.now)) (skip c.args.reader.now.registry.now c.args.depth (shape_of c.args.part.now)) (last_bytes c.loop.keys.last c.loop.reader.at.now.kept.items) c.args.count c.loop.counter _ _ b c.loop-test.false) in
     record {
       reads = record {
         sees = λ told. (let found = done told in (found.0 ∙ rw (same.place, same.nodes) refl, found.1));
         failed = search rules;
         room = search rules;
-        goes = Along-map (g.S.ByteSource.content c.args.reader.now.source.now) (g.S.ByteSource.content c.loop.reader.source.now) c.args.reader.now.at.now c.loop.reader.at.now c.let_go.new.at c.loop.invariant.goes same.place same.key c.let_go.ensures.recorded
-            (λ no. c.let_go.ensures.unrecorded no ∙ ap (λ i. take i c.loop.reader.at.now.kept.items) c.loop.invariant.begun);
+        goes = Along-map (g.S.ByteSource.content c.args.reader.now.source.now) (g.S.ByteSource.content c.loop.reader.source.now) c.args.reader.now.at.now c.loop.reader.at.now c.forget_last_key.new.at c.loop.invariant.goes same.place same.key c.forget_last_key.ensures.recorded
+            (λ no. c.forget_last_key.ensures.unrecorded no ∙ ap (λ i. take i c.loop.reader.at.now.kept.items) c.loop.invariant.begun);
         same = search rules;
       };
     }
@@ -414,8 +394,8 @@ maps::next_key-returns-in_err-follow-clause-reads g t c =
     let size : c.len-from.result ≡ length c.args.reader.now.at.now.kept.items = omega (arith, c.len-from.ensures, c.args.reader.now.at.now.kept.ok.0) in
     let p = err_from_is_err_and c.from_residual-in_err-follow.result c.from_residual-in_err-follow.ensures.1 in
     record {
-      sees = rw (p.1, p.2) (FindsFault-judged c.in_err-follow.field-0.0 (g.S.ByteSource.content c.args.reader.now.source.now) c.args.reader.now.at.now (key_here (skip c.args.reader.now.registry.now c.args.depth (shape_of c.args.key.now)) (last_bytes c.args.keys.now.last c.args.reader.now.at.now.kept.items)) _ _
-          (λ e o told wrong. kept_wrong (skip c.args.reader.now.registry.now c.args.depth (shape_of c.args.key.now)) c.args.keys.now.last c.args.keys.now.begun c.len-from.result (g.S.ByteSource.content c.args.reader.now.source.now) (g.S.ByteSource.content c.value.new.reader.source.now) c.args.reader.now.at.now c.value.new.reader.at.now tt told size c.requires.stands c.in_ok-value.ensures.reads.goes (c.in_ok-value.ensures.reads.sees told).0 e o wrong) c.in_err-follow.ensures.judges);
+      sees = rw (p.1, p.2) (FindsFault-validated c.in_err-follow.field-0.0 (g.S.ByteSource.content c.args.reader.now.source.now) c.args.reader.now.at.now (key_here (skip c.args.reader.now.registry.now c.args.depth (shape_of c.args.key.now)) (last_bytes c.args.keys.now.last c.args.reader.now.at.now.kept.items)) _ _
+          (λ e o told wrong. kept_wrong (skip c.args.reader.now.registry.now c.args.depth (shape_of c.args.key.now)) c.args.keys.now.last c.args.keys.now.begun c.len-from.result (g.S.ByteSource.content c.args.reader.now.source.now) (g.S.ByteSource.content c.value.new.reader.source.now) c.args.reader.now.at.now c.value.new.reader.at.now tt told size c.requires.stands c.in_ok-value.ensures.reads.goes (c.in_ok-value.ensures.reads.sees told).0 e o wrong) c.in_err-follow.ensures.validates);
       failed = search rules;
       room = search rules;
       goes = search rules;
@@ -429,7 +409,7 @@ maps::next_key-returns-clause-reads g t c =
     let key = same_key c.follow.new.keys.last c.follow.new.at.kept.items (drop c.len-from.result c.value.new.reader.at.now.kept.items) c.in_ok-follow.ensures.last in
     record {
       sees = λ told. (let read_key = c.in_ok-value.ensures.reads.sees told in
-          (kept_right (skip c.args.reader.now.registry.now c.args.depth (shape_of c.args.key.now)) c.args.keys.now.last c.args.keys.now.begun c.len-from.result (g.S.ByteSource.content c.args.reader.now.source.now) (g.S.ByteSource.content c.value.new.reader.source.now) c.args.reader.now.at.now c.value.new.reader.at.now tt told size c.requires.stands c.in_ok-value.ensures.reads.goes read_key.0 c.in_ok-follow.ensures.judges ∙ rw (key, same.place, same.nodes) refl, read_key.1));
+          (kept_right (skip c.args.reader.now.registry.now c.args.depth (shape_of c.args.key.now)) c.args.keys.now.last c.args.keys.now.begun c.len-from.result (g.S.ByteSource.content c.args.reader.now.source.now) (g.S.ByteSource.content c.value.new.reader.source.now) c.args.reader.now.at.now c.value.new.reader.at.now tt told size c.requires.stands c.in_ok-value.ensures.reads.goes read_key.0 c.in_ok-follow.ensures.validates ∙ rw (key, same.place, same.nodes) refl, read_key.1));
       failed = search rules;
       room = search rules;
       goes = AlongMap-key c.args.keys.now.begun (g.S.ByteSource.content c.args.reader.now.source.now) (g.S.ByteSource.content c.value.new.reader.source.now) c.args.reader.now.at.now c.value.new.reader.at.now c.follow.new.at (Stands-begun c.args.keys.now.last c.args.keys.now.begun (length c.args.reader.now.at.now.kept.items) c.requires.stands)
@@ -439,90 +419,90 @@ maps::next_key-returns-clause-reads g t c =
 
 -- ---- want of memory
 
-pub values::value-returns-in-Opt-clause-spares : goal.values::value-returns-in-Opt-clause-spares
-values::value-returns-in-Opt-clause-spares g t c =
-    λ h. c.option.ensures.spares (ap (reaches_no_map c.args.reader.now.registry.now c.args.depth) (sym (shape_seen c.args.format.now c.kind.result _ c.kind.ensures c.in-Opt.is)) ∙ h)
+pub values::value-returns-in-Opt-clause-memory : goal.values::value-returns-in-Opt-clause-memory
+values::value-returns-in-Opt-clause-memory g t c =
+    λ h. c.option.ensures.memory (ap (reaches_no_map c.args.reader.now.registry.now c.args.depth) (sym (shape_seen c.args.format.now c.kind.result _ c.kind.ensures c.in-Opt.is)) ∙ h)
 
-pub values::value-returns-in-Seq-clause-spares : goal.values::value-returns-in-Seq-clause-spares
-values::value-returns-in-Seq-clause-spares g t c =
-    λ h. c.items.ensures.spares (ap (reaches_no_map c.args.reader.now.registry.now c.args.depth) (sym (shape_seen c.args.format.now c.kind.result _ c.kind.ensures c.in-Seq.is)) ∙ h)
+pub values::value-returns-in-Seq-clause-memory : goal.values::value-returns-in-Seq-clause-memory
+values::value-returns-in-Seq-clause-memory g t c =
+    λ h. c.items.ensures.memory (ap (reaches_no_map c.args.reader.now.registry.now c.args.depth) (sym (shape_seen c.args.format.now c.kind.result _ c.kind.ensures c.in-Seq.is)) ∙ h)
 
-pub values::value-returns-in-TupleArray-clause-spares : goal.values::value-returns-in-TupleArray-clause-spares
-values::value-returns-in-TupleArray-clause-spares g t c =
-    λ h. c.items-in-TupleArray.ensures.spares (ap (reaches_no_map c.args.reader.now.registry.now c.args.depth) (sym (shape_seen c.args.format.now c.kind.result _ c.kind.ensures c.in-TupleArray.is)) ∙ h)
+pub values::value-returns-in-TupleArray-clause-memory : goal.values::value-returns-in-TupleArray-clause-memory
+values::value-returns-in-TupleArray-clause-memory g t c =
+    λ h. c.items-in-TupleArray.ensures.memory (ap (reaches_no_map c.args.reader.now.registry.now c.args.depth) (sym (shape_seen c.args.format.now c.kind.result _ c.kind.ensures c.in-TupleArray.is)) ∙ h)
 
-pub values::value-returns-in-Map-clause-spares : goal.values::value-returns-in-Map-clause-spares
-values::value-returns-in-Map-clause-spares g t c =
+pub values::value-returns-in-Map-clause-memory : goal.values::value-returns-in-Map-clause-memory
+values::value-returns-in-Map-clause-memory g t c =
     λ h. absurd (let no = ap (reaches_no_map c.args.reader.now.registry.now c.args.depth) (sym (shape_seen c.args.format.now c.kind.result _ c.kind.ensures c.in-Map.is)) ∙ h in cc)
 
-pub values::value-returns-in-Tuple-clause-spares : goal.values::value-returns-in-Tuple-clause-spares
-values::value-returns-in-Tuple-clause-spares g t c =
-    λ h. c.tuple.ensures.spares (ap (reaches_no_map c.args.reader.now.registry.now c.args.depth) (sym (shape_seen c.args.format.now c.kind.result _ c.kind.ensures c.in-Tuple.is)) ∙ h)
+pub values::value-returns-in-Tuple-clause-memory : goal.values::value-returns-in-Tuple-clause-memory
+values::value-returns-in-Tuple-clause-memory g t c =
+    λ h. c.tuple.ensures.memory (ap (reaches_no_map c.args.reader.now.registry.now c.args.depth) (sym (shape_seen c.args.format.now c.kind.result _ c.kind.ensures c.in-Tuple.is)) ∙ h)
 
-pub values::value-returns-in-TypeName-clause-spares : goal.values::value-returns-in-TypeName-clause-spares
-values::value-returns-in-TypeName-clause-spares g t c =
-    λ h. c.named.ensures.spares (ap (reaches_no_map c.args.reader.now.registry.now c.args.depth) (sym (shape_seen c.args.format.now c.kind.result _ c.kind.ensures c.in-TypeName.is)) ∙ h)
+pub values::value-returns-in-TypeName-clause-memory : goal.values::value-returns-in-TypeName-clause-memory
+values::value-returns-in-TypeName-clause-memory g t c =
+    λ h. c.named.ensures.memory (ap (reaches_no_map c.args.reader.now.registry.now c.args.depth) (sym (shape_seen c.args.format.now c.kind.result _ c.kind.ensures c.in-TypeName.is)) ∙ h)
 
-pub values::option-returns-then-branch-clause-spares : goal.values::option-returns-then-branch-clause-spares
-values::option-returns-then-branch-clause-spares g t c =
-    λ h. SparesMemory-on c.value.result c.args.reader.now.at.now c.flag_node.new.reader.at.now c.in_ok-flag_node.ensures.reads.goes.same (c.value.ensures.spares (ap (λ r. reaches_no_map r c.args.depth (shape_of c.args.part.now)) c.in_ok-flag_node.ensures.reads.same.registry ∙ h))
+pub values::option-returns-then-branch-clause-memory : goal.values::option-returns-then-branch-clause-memory
+values::option-returns-then-branch-clause-memory g t c =
+    λ h. OutOfMemoryOnlyInKey-on c.value.result c.args.reader.now.at.now c.flag_node.new.reader.at.now c.in_ok-flag_node.ensures.reads.goes.same (c.value.ensures.memory (ap (λ r. reaches_no_map r c.args.depth (shape_of c.args.part.now)) c.in_ok-flag_node.ensures.reads.same.registry ∙ h))
 
-pub rows::items-returns-clause-spares : goal.rows::items-returns-clause-spares
-rows::items-returns-clause-spares g t c =
-    λ h. SparesMemory-on c.elements.result c.args.reader.now.at.now c.row_count.new.reader.at.now c.in_ok-count.ensures.reads.goes.same (c.elements.ensures.spares (ap (λ r. reaches_no_map r c.args.depth (shape_of c.args.element.now)) c.in_ok-count.ensures.reads.same.registry ∙ h))
+pub rows::items-returns-clause-memory : goal.rows::items-returns-clause-memory
+rows::items-returns-clause-memory g t c =
+    λ h. OutOfMemoryOnlyInKey-on c.elements.result c.args.reader.now.at.now c.row_count.new.reader.at.now c.in_ok-count.ensures.reads.goes.same (c.elements.ensures.memory (ap (λ r. reaches_no_map r c.args.depth (shape_of c.args.element.now)) c.in_ok-count.ensures.reads.same.registry ∙ h))
 
-pub rows::elements-returns-in_err-value-clause-spares : goal.rows::elements-returns-in_err-value-clause-spares
-rows::elements-returns-in_err-value-clause-spares g t c =
-    λ h. SparesMemory-exit c.from_residual.result c.in_err-value.field-0.0 c.args.reader.now.at.now c.loop.reader.at.now c.from_residual.ensures.1 c.loop.invariant.leads.on.goes.same
-    (c.in_err-value.ensures.spares (ap (λ r. reaches_no_map r c.args.depth (shape_of c.args.element.now)) c.loop.invariant.leads.on.same.registry ∙ h))
+pub rows::elements-returns-in_err-value-clause-memory : goal.rows::elements-returns-in_err-value-clause-memory
+rows::elements-returns-in_err-value-clause-memory g t c =
+    λ h. OutOfMemoryOnlyInKey-exit c.from_residual.result c.in_err-value.field-0.0 c.args.reader.now.at.now c.loop.reader.at.now c.from_residual.ensures.1 c.loop.invariant.leads.on.goes.same
+    (c.in_err-value.ensures.memory (ap (λ r. reaches_no_map r c.args.depth (shape_of c.args.element.now)) c.loop.invariant.leads.on.same.registry ∙ h))
 
-pub rows::tuple-returns-in_err-value-clause-spares : goal.rows::tuple-returns-in_err-value-clause-spares
-rows::tuple-returns-in_err-value-clause-spares g t c =
-    λ h. SparesMemory-exit c.from_residual-in_err-value.result c.in_err-value.field-0.0 c.args.reader.now.at.now c.loop-format.reader.at.now c.from_residual-in_err-value.ensures.1 c.loop-format.invariant.leads.on.goes.same
-    (c.in_err-value.ensures.spares (ap (λ r. reaches_no_map r c.args.depth (shape_of c.format-item.result)) c.loop-format.invariant.leads.on.same.registry ∙ format_has_no_map (named_reaches_no_map c.args.reader.now.registry.now c.args.depth) c.args.formats.now c.loop-format.format-index c.format-item.result (omega arith) c.format-item.is h))
+pub rows::tuple-returns-in_err-value-clause-memory : goal.rows::tuple-returns-in_err-value-clause-memory
+rows::tuple-returns-in_err-value-clause-memory g t c =
+    λ h. OutOfMemoryOnlyInKey-exit c.from_residual-in_err-value.result c.in_err-value.field-0.0 c.args.reader.now.at.now c.loop-format.reader.at.now c.from_residual-in_err-value.ensures.1 c.loop-format.invariant.leads.on.goes.same
+    (c.in_err-value.ensures.memory (ap (λ r. reaches_no_map r c.args.depth (shape_of c.format-item.result)) c.loop-format.invariant.leads.on.same.registry ∙ format_has_no_map (named_reaches_no_map c.args.reader.now.registry.now c.args.depth) c.args.formats.now c.loop-format.format-index c.format-item.result (omega arith) c.format-item.is h))
 
-pub containers::structure-returns-in_err-value-clause-spares : goal.containers::structure-returns-in_err-value-clause-spares
-containers::structure-returns-in_err-value-clause-spares g t c =
-    λ h. SparesMemory-exit c.from_residual-in_err-value.result c.in_err-value.field-0.0 c.args.reader.now.at.now c.loop-field.reader.at.now c.from_residual-in_err-value.ensures.1 c.loop-field.invariant.leads.on.goes.same
-    (c.in_err-value.ensures.spares (ap (λ r. reaches_no_map r c.args.depth (shape_of c.field-item.result.value)) c.loop-field.invariant.leads.on.same.registry ∙ field_has_no_map (named_reaches_no_map c.args.reader.now.registry.now c.args.depth) c.args.fields.now c.loop-field.field-index c.field-item.result (omega arith) c.field-item.is h))
+pub containers::structure-returns-in_err-value-clause-memory : goal.containers::structure-returns-in_err-value-clause-memory
+containers::structure-returns-in_err-value-clause-memory g t c =
+    λ h. OutOfMemoryOnlyInKey-exit c.from_residual-in_err-value.result c.in_err-value.field-0.0 c.args.reader.now.at.now c.loop-field.reader.at.now c.from_residual-in_err-value.ensures.1 c.loop-field.invariant.leads.on.goes.same
+    (c.in_err-value.ensures.memory (ap (λ r. reaches_no_map r c.args.depth (shape_of c.field-item.result.value)) c.loop-field.invariant.leads.on.same.registry ∙ field_has_no_map (named_reaches_no_map c.args.reader.now.registry.now c.args.depth) c.args.fields.now c.loop-field.field-index c.field-item.result (omega arith) c.field-item.is h))
 
-pub containers::content-returns-in-NewTypeStruct-clause-spares : goal.containers::content-returns-in-NewTypeStruct-clause-spares
-containers::content-returns-in-NewTypeStruct-clause-spares g t c =
-    λ h. c.value.ensures.spares (ap (λ (x : Container). content_has_no_map (named_reaches_no_map c.args.reader.now.registry.now c.args.depth) (content (container_of x))) (sym c.in-NewTypeStruct.is) ∙ h)
+pub containers::content-returns-in-NewTypeStruct-clause-memory : goal.containers::content-returns-in-NewTypeStruct-clause-memory
+containers::content-returns-in-NewTypeStruct-clause-memory g t c =
+    λ h. c.value.ensures.memory (ap (λ (x : Container). content_has_no_map (named_reaches_no_map c.args.reader.now.registry.now c.args.depth) (content (container_of x))) (sym c.in-NewTypeStruct.is) ∙ h)
 
-pub containers::content-returns-in-TupleStruct-clause-spares : goal.containers::content-returns-in-TupleStruct-clause-spares
-containers::content-returns-in-TupleStruct-clause-spares g t c =
-    λ h. c.tuple.ensures.spares (rw c.deref.ensures.value (ap (λ (x : Container). content_has_no_map (named_reaches_no_map c.args.reader.now.registry.now c.args.depth) (content (container_of x))) (sym c.in-TupleStruct.is) ∙ h))
+pub containers::content-returns-in-TupleStruct-clause-memory : goal.containers::content-returns-in-TupleStruct-clause-memory
+containers::content-returns-in-TupleStruct-clause-memory g t c =
+    λ h. c.tuple.ensures.memory (rw c.deref.ensures.value (ap (λ (x : Container). content_has_no_map (named_reaches_no_map c.args.reader.now.registry.now c.args.depth) (content (container_of x))) (sym c.in-TupleStruct.is) ∙ h))
 
-pub containers::content-returns-in-Struct-clause-spares : goal.containers::content-returns-in-Struct-clause-spares
-containers::content-returns-in-Struct-clause-spares g t c =
-    λ h. c.structure.ensures.spares (rw c.deref-in-Struct.ensures.value (ap (λ (x : Container). content_has_no_map (named_reaches_no_map c.args.reader.now.registry.now c.args.depth) (content (container_of x))) (sym c.in-Struct.is) ∙ h))
+pub containers::content-returns-in-Struct-clause-memory : goal.containers::content-returns-in-Struct-clause-memory
+containers::content-returns-in-Struct-clause-memory g t c =
+    λ h. c.structure.ensures.memory (rw c.deref-in-Struct.ensures.value (ap (λ (x : Container). content_has_no_map (named_reaches_no_map c.args.reader.now.registry.now c.args.depth) (content (container_of x))) (sym c.in-Struct.is) ∙ h))
 
-pub containers::content-returns-in-Some-clause-spares : goal.containers::content-returns-in-Some-clause-spares
-containers::content-returns-in-Some-clause-spares g t c =
+pub containers::content-returns-in-Some-clause-memory : goal.containers::content-returns-in-Some-clause-memory
+containers::content-returns-in-Some-clause-memory g t c =
     let cs = map choice_of c.in-Enum.variants.entries in
     let s : Shape = payload_shape (payload_of c.in-Some.variant.now.value) in
     let chosen : choice_at c.in_ok-number-in-Enum.number cs ≡ of s = choice_found c.in_ok-number-in-Enum.number c.in-Enum.variants.entries c.in-Some.variant c.get.result c.get.ensures.value c.in-Some.is in
-    λ h. SparesMemory-on c.payload.result c.args.reader.now.at.now c.variant_number.new.reader.at.now c.in_ok-number-in-Enum.ensures.reads.goes.same
-    (c.payload.ensures.spares (ap (λ r. reaches_no_map r c.args.depth s) c.in_ok-number-in-Enum.ensures.reads.same.registry ∙ choice_has_no_map (named_reaches_no_map c.args.reader.now.registry.now c.args.depth) c.in_ok-number-in-Enum.number cs s (ap (λ (x : Container). content_has_no_map (named_reaches_no_map c.args.reader.now.registry.now c.args.depth) (content (container_of x))) (sym c.in-Enum.is) ∙ h) chosen))
+    λ h. OutOfMemoryOnlyInKey-on c.payload.result c.args.reader.now.at.now c.variant_number.new.reader.at.now c.in_ok-number-in-Enum.ensures.reads.goes.same
+    (c.payload.ensures.memory (ap (λ r. reaches_no_map r c.args.depth s) c.in_ok-number-in-Enum.ensures.reads.same.registry ∙ choice_has_no_map (named_reaches_no_map c.args.reader.now.registry.now c.args.depth) c.in_ok-number-in-Enum.number cs s (ap (λ (x : Container). content_has_no_map (named_reaches_no_map c.args.reader.now.registry.now c.args.depth) (content (container_of x))) (sym c.in-Enum.is) ∙ h) chosen))
 
-pub containers::named-returns-clause-spares : goal.containers::named-returns-clause-spares
-containers::named-returns-clause-spares g t c =
+pub containers::named-returns-clause-memory : goal.containers::named-returns-clause-memory
+containers::named-returns-clause-memory g t c =
     let found : content_at c.args.name.now c.args.reader.now.registry.now ≡ content (container_of c.in-Some.found.now) = ap (λ r. content_at c.args.name.now r) (sym c.in_ok-enter.ensures.reads.same.registry) ∙ content_found c.enter.new.reader.registry.now c.args.name.now c.container.result c.in-Some.found c.container.ensures.found c.in-Some.is in
-    λ h. SparesMemory-on c.content.result c.args.reader.now.at.now c.enter.new.reader.at.now c.in_ok-enter.ensures.reads.goes.same
-    (c.content.ensures.spares (ap (λ r. content_has_no_map (named_reaches_no_map r (c.args.depth - 1)) (content (container_of c.in-Some.found.now))) c.in_ok-enter.ensures.reads.same.registry
+    λ h. OutOfMemoryOnlyInKey-on c.content.result c.args.reader.now.at.now c.enter.new.reader.at.now c.in_ok-enter.ensures.reads.goes.same
+    (c.content.ensures.memory (ap (λ r. content_has_no_map (named_reaches_no_map r (c.args.depth - 1)) (content (container_of c.in-Some.found.now))) c.in_ok-enter.ensures.reads.same.registry
     ∙ ap (content_has_no_map (named_reaches_no_map c.args.reader.now.registry.now (c.args.depth - 1))) (sym found)
     ∙ sym (named_content c.args.reader.now.registry.now c.args.depth c.args.name.now c.in_ok-enter.ensures.positive)
     ∙ h))
 
-pub containers::payload-returns-in-NewType-clause-spares : goal.containers::payload-returns-in-NewType-clause-spares
-containers::payload-returns-in-NewType-clause-spares g t c =
-    λ h. c.value.ensures.spares (ap (λ k. reaches_no_map c.args.reader.now.registry.now c.args.depth (payload_shape (payload_of k))) (sym c.in-NewType.is) ∙ h)
+pub containers::payload-returns-in-NewType-clause-memory : goal.containers::payload-returns-in-NewType-clause-memory
+containers::payload-returns-in-NewType-clause-memory g t c =
+    λ h. c.value.ensures.memory (ap (λ k. reaches_no_map c.args.reader.now.registry.now c.args.depth (payload_shape (payload_of k))) (sym c.in-NewType.is) ∙ h)
 
-pub containers::payload-returns-in-Tuple-clause-spares : goal.containers::payload-returns-in-Tuple-clause-spares
-containers::payload-returns-in-Tuple-clause-spares g t c =
-    λ h. c.tuple.ensures.spares (rw c.deref.ensures.value (ap (λ k. reaches_no_map c.args.reader.now.registry.now c.args.depth (payload_shape (payload_of k))) (sym c.in-Tuple.is) ∙ h))
+pub containers::payload-returns-in-Tuple-clause-memory : goal.containers::payload-returns-in-Tuple-clause-memory
+containers::payload-returns-in-Tuple-clause-memory g t c =
+    λ h. c.tuple.ensures.memory (rw c.deref.ensures.value (ap (λ k. reaches_no_map c.args.reader.now.registry.now c.args.depth (payload_shape (payload_of k))) (sym c.in-Tuple.is) ∙ h))
 
-pub containers::payload-returns-in-Struct-clause-spares : goal.containers::payload-returns-in-Struct-clause-spares
-containers::payload-returns-in-Struct-clause-spares g t c =
-    λ h. c.structure.ensures.spares (rw c.deref-in-Struct.ensures.value (ap (λ k. reaches_no_map c.args.reader.now.registry.now c.args.depth (payload_shape (payload_of k))) (sym c.in-Struct.is) ∙ h))
+pub containers::payload-returns-in-Struct-clause-memory : goal.containers::payload-returns-in-Struct-clause-memory
+containers::payload-returns-in-Struct-clause-memory g t c =
+    λ h. c.structure.ensures.memory (rw c.deref-in-Struct.ensures.value (ap (λ k. reaches_no_map c.args.reader.now.registry.now c.args.depth (payload_shape (payload_of k))) (sym c.in-Struct.is) ∙ h))

@@ -1,14 +1,4 @@
-use Rattle.std.proofs.Common.{◌≡◌, ℕ, ◌+◌, ◌-◌, ◌*◌, max, length, map, drop, None}
-use Rattle.bcs_registry_model.specs.Container.{field_shapes, payload_shape}
-use Rattle.bcs_registry_model.specs.Shape.{tuple as tuple_shape}
-use Rattle.bcs_registry_model.specs.View.{shape_of, formats_shapes, field_of, payload_of}
-use Rattle.bcs_registry_model.specs.WellFormed.{levels, shapes_levels}
-use Rattle.bcs_decode_spec.specs.Reading.{items_here, pairs_here, skipping}
-use Rattle.bcs_decode_slice.specs.Passing.{skip}
-use Rattle.bcs_decode_slice.proofs.PassingParts.{each}
-use Rattle.bcs_decode_source.specs.Kept.{Stands, last_bytes}
-use Rattle.bcs_decode_source.specs.Sees.{AlongMap}
-use Rattle.bcs_decode_source.specs.Reads.{Ready, IsSame}
+use Rattle.bcs_decode_source.proofs.Prelude.{◌≡◌, ℕ, ◌+◌, ◌-◌, ◌*◌, max, length, map, drop, None, field_shapes, payload_shape, tuple_shape, shape_of, formats_shapes, field_of, payload_of, levels, shapes_levels, items_here, pairs_here, skipping, skip, each, Stands, last_bytes, AlongMap, Ready, IsSame}
 use Rattle.bcs_decode_source.proofs.Leading.{Leads, LeadsTo}
 use Rattle.bcs_decode_source.proofs.scanning.+scanning.Given as goal
 

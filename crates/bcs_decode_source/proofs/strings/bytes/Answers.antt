@@ -1,7 +1,4 @@
-use Rattle.std.proofs.Common.{◌≡◌, ℕ, List, vec_len, ◌∙◌, ◌+◌, ◌-◌, ◌++◌, length, replicate, ap, sym, subst, arith, length-append, take_all}
-use Rattle.std.proofs.lemmas.List.{length-replicate}
-use Rattle.bcs_decode_spec.specs.Reading.{bytes_here}
-use Rattle.bcs_decode_source.specs.Sees.{FindsFault, rest_of}
+use Rattle.bcs_decode_source.proofs.Prelude.{◌≡◌, ℕ, List, vec_len, ◌∙◌, ◌+◌, ◌-◌, ◌++◌, length, replicate, ap, sym, subst, arith, length-append, take_all, length-replicate, bytes_here, FindsFault, rest_of}
 use Rattle.bcs_decode_source.proofs.Blocks.{bytes_none, bytes_more, bytes_done, bytes_refused, tail_filled}
 use Rattle.bcs_decode_source.proofs.Readers.{Onward-none, Onward-then, Onward-done, Onward-ends, Reads-exit}
 use Rattle.bcs_decode_source.proofs.strings.bytes.Goals as goal

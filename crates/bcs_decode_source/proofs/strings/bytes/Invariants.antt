@@ -1,4 +1,4 @@
-use Rattle.std.proofs.Common.{◌≡◌, ◌+◌, ◌-◌, ◌≤◌, length}
+use Rattle.bcs_decode_source.proofs.Prelude.{◌≡◌, ◌+◌, ◌-◌, ◌≤◌, length}
 use Rattle.bcs_decode_source.proofs.Blocks.{BytesSoFar}
 use Rattle.bcs_decode_source.proofs.Readers.{Onward}
 use Rattle.bcs_decode_source.proofs.strings.bytes.Given as goal

@@ -1,9 +1,5 @@
-use Rattle.std.proofs.Common.{◌≡◌, ◌∙◌, ◌+◌, subst, ap, sym, Ok, Err, arith}
-use Rattle.std.proofs.lemmas.Str.{utf8_valid_len_le}
+use Rattle.bcs_decode_source.proofs.Prelude.{◌≡◌, ◌∙◌, ◌+◌, subst, ap, sym, Ok, Err, arith, utf8_valid_len_le, utf8_valid_len, BadUtf8, rest_of}
 use Rattle.std.specs.Str.{IsUtf8}
-use Rattle.std.specs.Str.Lossy.{utf8_valid_len}
-use Rattle.bcs_decode_spec.specs.declared.reason.Reason.TheVariants.{BadUtf8}
-use Rattle.bcs_decode_source.specs.Sees.{rest_of}
 use Rattle.bcs_decode_source.proofs.Chains.{text_right, text_wrong}
 use Rattle.bcs_decode_source.proofs.Readers.{Onward-none, Onward-then, Onward-done, Onward-stops}
 use Rattle.bcs_decode_source.proofs.strings.text.Goals as goal

@@ -1,6 +1,4 @@
-use Rattle.bcs_registry_model.specs.View.{shape_of}
-use Rattle.bcs_decode_slice.specs.Passing.{skip}
-use Rattle.bcs_decode_slice.proofs.Reaching.{items_reach}
+use Rattle.bcs_explain.proofs.Prelude.{shape_of, skip, items_reach}
 use Rattle.bcs_explain.proofs.empty_elements.skip_empty_elements.Goals as goal
 
 pub returns-clause-whole : goal.returns-clause-whole

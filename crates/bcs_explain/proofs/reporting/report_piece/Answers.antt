@@ -1,4 +1,4 @@
-use Rattle.std.proofs.Common.{rules}
+use Rattle.bcs_explain.proofs.Prelude.{rules}
 use Rattle.bcs_explain.proofs.Covering.{one_more}
 use Rattle.bcs_explain.proofs.reporting.report_piece.Goals as goal
 

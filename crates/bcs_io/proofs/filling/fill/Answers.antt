@@ -1,6 +1,4 @@
-use Rattle.std.proofs.Common.{length, sym, subst, ◌∙◌, ◌-◌, ◌≤◌, ◌≡◌, arith, length-drop, rules}
-use borrow.Rule.Slice.PartMut.{put_mid, same_len_mid}
-use Rattle.bcs_io.specs.Giving.{Gave}
+use Rattle.bcs_io.proofs.Prelude.{length, sym, subst, ◌∙◌, ◌-◌, ◌≤◌, ◌≡◌, arith, length-drop, rules, put_mid, same_len_mid, Gave}
 use Rattle.bcs_io.proofs.Filled.{filled_more}
 use Rattle.bcs_io.proofs.GivingLemmas.{Gave-then}
 use Rattle.bcs_io.proofs.filling.fill.Goals as goal

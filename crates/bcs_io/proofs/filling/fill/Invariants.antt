@@ -1,5 +1,4 @@
-use Rattle.std.proofs.Common.{◌≡◌, ◌-◌, ◌≤◌, false, length, take}
-use Rattle.bcs_io.specs.Giving.{Gave}
+use Rattle.bcs_io.proofs.Prelude.{◌≡◌, ◌-◌, ◌≤◌, false, length, take, Gave}
 use Rattle.bcs_io.proofs.filling.fill.Given as goal
 
 abbrev pub invariant-loop-filled : goal.invariant-loop-filled

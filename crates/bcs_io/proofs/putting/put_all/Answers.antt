@@ -1,8 +1,4 @@
-use Rattle.std.proofs.lemmas.Grind.{common_steps}
-use Rattle.std.proofs.Common.{◌≡◌, ◌∙◌, ◌+◌, ◌-◌, ◌++◌, arith, take, drop, length, length-drop, ℕ, List, ap, sym, subst, rules}
-use Rattle.std.proofs.Math.Seq.{take-add}
-use Rattle.std.proofs.lemmas.List.{take_all}
-use Rattle.bcs_io.specs.Taking.{Took}
+use Rattle.bcs_io.proofs.Prelude.{common_steps, ◌≡◌, ◌∙◌, ◌+◌, ◌-◌, ◌++◌, arith, take, drop, length, length-drop, ℕ, List, ap, sym, subst, rules, take-add, take_all, Took}
 use Rattle.bcs_io.proofs.TakingLemmas.{Took-then}
 use Rattle.bcs_io.proofs.putting.put_all.Goals as goal
 

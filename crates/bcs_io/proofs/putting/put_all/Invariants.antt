@@ -1,5 +1,4 @@
-use Rattle.std.proofs.Common.{length, ◌-◌, ◌≤◌, take}
-use Rattle.bcs_io.specs.Taking.{Took}
+use Rattle.bcs_io.proofs.Prelude.{length, ◌-◌, ◌≤◌, take, Took}
 use Rattle.bcs_io.proofs.putting.put_all.Given as goal
 
 abbrev pub invariant-loop-at : goal.invariant-loop-at

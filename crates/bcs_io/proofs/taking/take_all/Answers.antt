@@ -1,5 +1,5 @@
-use Rattle.std.proofs.Common.{◌+◌, ◌++◌, ◌∙◌, arith, take}
-use Rattle.std.proofs.lemmas.List.{length-append, length-take}
+use Rattle.bcs_io.proofs.Prelude.{◌+◌, ◌++◌, ◌∙◌, arith, take, length-take}
+use Rattle.std.proofs.lemmas.List.{length-append}
 use Rattle.bcs_io.proofs.GivingLemmas.{Gave-then}
 use Rattle.bcs_io.proofs.taking.take_all.Goals as goal
 

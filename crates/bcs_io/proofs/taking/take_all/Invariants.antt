@@ -1,5 +1,4 @@
-use Rattle.std.proofs.Common.{length, ◌≤◌}
-use Rattle.bcs_io.specs.Giving.{Gave}
+use Rattle.bcs_io.proofs.Prelude.{length, ◌≤◌, Gave}
 use Rattle.bcs_io.proofs.taking.take_all.Given as goal
 
 abbrev pub invariant-loop-count : goal.invariant-loop-count

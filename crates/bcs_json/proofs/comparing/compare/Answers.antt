@@ -1,7 +1,4 @@
-use Rattle.std.proofs.Common.{subst, sym, Decides, ◌≡◌}
-use Rattle.std.proofs.lemmas.Result.{err_from_is_err_and}
-use Rattle.std.proofs.lemmas.Slice.Eq.{bytes_eq-Decides}
-use Rattle.bcs_registry_model.specs.View.{shape_of}
+use Rattle.bcs_json.proofs.Prelude.{subst, sym, Decides, ◌≡◌, err_from_is_err_and, bytes_eq-Decides, shape_of}
 use Rattle.bcs_json.proofs.Outcomes.{compares}
 use Rattle.bcs_json.proofs.comparing.compare.Goals as goal
 

@@ -1,7 +1,4 @@
-use Rattle.std.proofs.Common.{string_bytes}
-use Rattle.bcs_registry_model.specs.View.{shape_of}
-use Rattle.bcs_value_model.specs.View.{tree_of}
-use Rattle.bcs_json_spec.proofs.Printed.{shown_denotes}
+use Rattle.bcs_json.proofs.Prelude.{string_bytes, shape_of, tree_of, shown_denotes}
 use Rattle.bcs_json.proofs.decoding.from_bcs.Goals as goal
 
 pub returns : goal.returns

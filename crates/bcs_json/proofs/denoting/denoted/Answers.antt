@@ -1,8 +1,4 @@
-use Rattle.std.proofs.lemmas.Result.{err_from_is_err_and}
-use Rattle.bcs_registry_model.specs.View.{shape_of}
-use Rattle.bcs_value_model.specs.View.{tree_of}
-use Rattle.bcs_json_spec.specs.Causes.{fault_of_value}
-use Rattle.bcs_json_spec.proofs.TextOutcomes.{memory_alone}
+use Rattle.bcs_json.proofs.Prelude.{err_from_is_err_and, shape_of, tree_of, fault_of_value, memory_alone}
 use Rattle.bcs_json.proofs.Outcomes.{value_fault}
 use Rattle.bcs_json.proofs.denoting.denoted.Goals as goal
 

@@ -1,7 +1,4 @@
-use Rattle.std.proofs.Common.{List, ℕ, string_bytes, subst}
-use Rattle.bcs_registry_model.specs.View.{shape_of}
-use Rattle.bcs_value_model.specs.View.{tree_of}
-use Rattle.bcs_decode_spec.specs.Accepting.{IsDecoded}
+use Rattle.bcs_json.proofs.Prelude.{List, ℕ, string_bytes, subst, shape_of, tree_of, IsDecoded}
 use Rattle.bcs_json.proofs.Outcomes.{decoded_nests, normalises}
 use Rattle.bcs_json.proofs.normalising.normalise.Goals as goal
 

@@ -1,6 +1,4 @@
-use Rattle.std.proofs.Common.{string_bytes, rules}
-use Rattle.bcs_registry_model.specs.View.{shape_of}
-use Rattle.bcs_value_model.specs.View.{tree_of}
+use Rattle.bcs_json.proofs.Prelude.{string_bytes, rules, shape_of, tree_of}
 use Rattle.bcs_json.proofs.Outcomes.{prints}
 use Rattle.bcs_json.proofs.printing.print_value.Goals as goal
 

@@ -1,4 +1,4 @@
-use Rattle.std.proofs.Common.{rules}
+use Rattle.bcs_json.proofs.Prelude.{rules}
 use Rattle.bcs_json.proofs.reading.read_value.Goals as goal
 
 pub returns-clause-denotes : goal.returns-clause-denotes

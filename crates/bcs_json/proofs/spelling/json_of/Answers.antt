@@ -1,4 +1,4 @@
-use Rattle.std.proofs.lemmas.Result.{err_from_is_err_and}
+use Rattle.bcs_json.proofs.Prelude.{err_from_is_err_and}
 use Rattle.bcs_json.proofs.Outcomes.{text_fault}
 use Rattle.bcs_json.proofs.spelling.json_of.Goals as goal
 

@@ -1,7 +1,4 @@
-use Rattle.std.proofs.Common.{◌≡◌, ◌∙◌, ◌+◌, ◌-◌, ◌<◌, length, map, drop, arith, ap, sym, string_cmp, string_bytes}
-use Rattle.std.proofs.lemmas.Map.Views.{All-values-insert_entry}
-use Rattle.serde_json.specs.Data.{put}
-use Rattle.bcs_json_printer.specs.Places.{name_of, placed, put_from}
+use Rattle.bcs_json_printer.proofs.Prelude.{◌≡◌, ◌∙◌, ◌+◌, ◌-◌, ◌<◌, length, map, drop, arith, ap, sym, string_cmp, string_bytes, All-values-insert_entry, put, name_of, placed, put_from}
 use Rattle.bcs_json_printer.proofs.Places.{placed-insert_entry, put_from_more}
 use Rattle.bcs_json_printer.proofs.field_order.places_of.Goals as goal
 

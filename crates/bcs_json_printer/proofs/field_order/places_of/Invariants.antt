@@ -1,8 +1,4 @@
-use Rattle.std.proofs.Common.{◌≡◌, ◌<◌, ◌≤◌, ℕ, length, map, drop}
-use Rattle.std.specs.List.{All}
-use Rattle.std.specs.Map.{values_of}
-use Rattle.serde_json.specs.Data.{Data}
-use Rattle.bcs_json_printer.specs.Places.{name_of, placed, put_from}
+use Rattle.bcs_json_printer.proofs.Prelude.{◌≡◌, ◌<◌, ◌≤◌, ℕ, length, map, drop, All, values_of, Data, name_of, placed, put_from}
 use Rattle.bcs_json_printer.proofs.field_order.places_of.Given as goal
 
 -- the fields from `left` on have their places

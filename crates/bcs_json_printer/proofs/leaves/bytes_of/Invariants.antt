@@ -1,7 +1,4 @@
-use Rattle.std.proofs.Common.{◌≡◌, ◌++◌, true, drop}
-use Rattle.bcs_value_model.specs.View.{items_trees}
-use Rattle.bcs_value_model.specs.Fits.{are_bytes}
-use Rattle.bcs_json_spec.specs.Bytes.{trees_bytes}
+use Rattle.bcs_json_printer.proofs.Prelude.{◌≡◌, ◌++◌, true, drop, items_trees, are_bytes, trees_bytes}
 use Rattle.bcs_json_printer.proofs.leaves.bytes_of.Given as goal
 
 -- the whole is what was taken so far, before what is left

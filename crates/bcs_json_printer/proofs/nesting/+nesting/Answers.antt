@@ -1,15 +1,5 @@
-use Rattle.std.proofs.Common.{◌∙◌, nat_le, map, Some, sym, ap, arith, rules, option_map}
-use Rattle.std.proofs.lemmas.Grind.{common_steps}
-use Rattle.std.specs.List.{list_all}
-use Rattle.serde_json.specs.Data.{depth}
-use Rattle.bcs_registry_model.specs.View.{container_of, choice_of}
-use Rattle.bcs_registry_model.specs.WellFormed.{are_distinct, container_names}
-use Rattle.bcs_value_model.specs.View.{tree_of}
-use Rattle.bcs_value_model.specs.declared.value.Value.{the_lemmas}
-use Rattle.bcs_json_spec.specs.JsonContent.{json_content, of}
-use Rattle.bcs_json_spec.specs.Shown.{shown, shown_choice}
+use Rattle.bcs_json_printer.proofs.Prelude.{◌∙◌, nat_le, map, Some, sym, ap, arith, rules, option_map, common_steps, list_all, depth, container_of, choice_of, are_distinct, container_names, tree_of, the_lemmas, json_content, of, shown, shown_choice, container_distinct, payload_distinct}
 use Rattle.bcs_json_printer.proofs.ShownViews.{at_map, at_enum, at_struct, choice_named, choice-found, choice-missing}
-use Rattle.bcs_json_spec.proofs.DistinctVariants.{container_distinct, payload_distinct}
 use Rattle.bcs_json_printer.proofs.ShownDepths.{le_zero, field_more, distinct_more}
 use Rattle.bcs_json_printer.proofs.SentRows.{entry_nodes, part_nodes}
 use Rattle.bcs_json_printer.proofs.nesting.+nesting.Goals as goal

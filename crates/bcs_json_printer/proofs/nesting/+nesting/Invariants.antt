@@ -1,10 +1,4 @@
-use Rattle.std.proofs.Common.{◌≡◌, ◌+◌, ◌*◌, true, map, drop, nat_le}
-use Rattle.serde_json.specs.Data.{items_depth, members_depth}
-use Rattle.bcs_registry_model.specs.View.{field_of, formats_shapes, shape_of}
-use Rattle.bcs_registry_model.specs.WellFormed.{are_distinct}
-use Rattle.bcs_value_model.specs.Tree.{nodes, pairs_nodes, trees_nodes}
-use Rattle.bcs_value_model.specs.View.{entries_pairs, items_trees, tree_of}
-use Rattle.bcs_json_spec.specs.Shown.{shown_all, shown_each, shown_fields, shown_pairs}
+use Rattle.bcs_json_printer.proofs.Prelude.{◌≡◌, ◌+◌, ◌*◌, true, map, drop, nat_le, items_depth, members_depth, field_of, formats_shapes, shape_of, are_distinct, nodes, pairs_nodes, trees_nodes, entries_pairs, items_trees, tree_of, shown_all, shown_each, shown_fields, shown_pairs}
 use Rattle.bcs_json_printer.proofs.nesting.+nesting.Given as goal
 
 -- a value's nodes, and below it those of its parts

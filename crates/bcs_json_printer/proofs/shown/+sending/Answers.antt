@@ -1,24 +1,5 @@
-use Rattle.std.proofs.Common.{◌≡◌, ◌∙◌, ◌+◌, ◌∷◌, [], ℕ, List, String, Global, Some, false, drop, length, sym, ap, subst, arith, rules}
-use Rattle.std.proofs.lemmas.Grind.{common_steps}
-use Rattle.std.proofs.lemmas.List.{drop_all}
-use Rattle.std.proofs.lemmas.Result.{on_ok_weaker}
-use Rattle.serde.specs.Event.{Logs, field_key, map_begins, seq_begins}
-use Rattle.serde.specs.declared.name.Case.TheVariants.{AsIs}
-use Rattle.serde_json.specs.Data.{array, null, object}
-use Rattle.serde_json.specs.Events.{SendsItems, SendsMembers, SendsValue}
-use Rattle.bcs_registry_model.specs.Container.{content, payload_shape, of as at_format}
-use Rattle.bcs_registry_model.specs.View.{container_of, formats_shapes, payload_of, shape_of}
-use Rattle.bcs_registry_model.specs.declared.format.Format.{Format}
-use Rattle.bcs_registry_model.specs.declared.named.Named.{Named}
-use Rattle.bcs_value_model.specs.Fits.{all_fit, fits}
-use Rattle.bcs_value_model.specs.Tree.{nodes}
-use Rattle.bcs_value_model.specs.View.{entries_pairs, items_trees, tree_of}
-use Rattle.bcs_value_model.specs.declared.value.Value.{Value}
-use Rattle.bcs_json_spec.specs.JsonContent.{json_content, of}
-use Rattle.bcs_json_spec.specs.Shown.{shown, shown_all, shown_choice, shown_each, shown_pairs}
-use Rattle.bcs_json_printer.specs.Places.{placed}
+use Rattle.bcs_json_printer.proofs.Prelude.{◌≡◌, ◌∙◌, ◌+◌, ◌∷◌, [], ℕ, List, String, Global, Some, false, drop, length, sym, ap, subst, arith, rules, common_steps, drop_all, on_ok_weaker, Logs, field_key, map_begins, seq_begins, AsIs, array, null, object, SendsItems, SendsMembers, SendsValue, content, payload_shape, at_format, container_of, formats_shapes, payload_of, shape_of, Format, Named, all_fit, fits, nodes, entries_pairs, items_trees, tree_of, Value, json_content, of, shown, shown_all, shown_choice, shown_each, shown_pairs, placed, bytes_again}
 use Rattle.bcs_json_printer.proofs.ShownViews.{at_enum, at_map, at_option, choice_named, choice-found, choice-missing, payload_fits}
-use Rattle.bcs_json_spec.proofs.ReadBack.{bytes_again}
 use Rattle.bcs_json_printer.proofs.PrintedRows.{all_here, each_here, each_long, fields_long, left_at, pairs_here, shape_of_byte}
 use Rattle.bcs_json_printer.proofs.Places.{shown_at, shown_at-is, shown_fields-places}
 use Rattle.bcs_json_printer.proofs.SentRows.{all_len, each_len, entry_nodes, field_fits, next_within, pairs_len, part_nodes, placed_len}

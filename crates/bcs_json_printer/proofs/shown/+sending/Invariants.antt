@@ -1,14 +1,4 @@
-use Rattle.std.proofs.Common.{◌≡◌, ◌+◌, ◌*◌, ◌<◌, false, true, drop, length}
-use Rattle.std.specs.List.{All}
-use Rattle.std.specs.Map.{values_of}
-use Rattle.serde.specs.Event.{Log}
-use Rattle.serde_json.specs.Events.{SendsItems, SendsMembers}
-use Rattle.bcs_registry_model.specs.View.{formats_shapes, shape_of}
-use Rattle.bcs_value_model.specs.Fits.{all_fit, each_fits, pairs_fit}
-use Rattle.bcs_value_model.specs.Tree.{nodes, pairs_nodes, trees_nodes}
-use Rattle.bcs_value_model.specs.View.{entries_pairs, items_trees, tree_of}
-use Rattle.bcs_json_spec.specs.Shown.{shown_all, shown_each, shown_pairs}
-use Rattle.bcs_json_printer.specs.Places.{placed}
+use Rattle.bcs_json_printer.proofs.Prelude.{◌≡◌, ◌+◌, ◌*◌, ◌<◌, false, true, drop, length, All, values_of, Log, SendsItems, SendsMembers, formats_shapes, shape_of, all_fit, each_fits, pairs_fit, nodes, pairs_nodes, trees_nodes, entries_pairs, items_trees, tree_of, shown_all, shown_each, shown_pairs, placed}
 use Rattle.bcs_json_printer.proofs.Places.{shown_at}
 use Rattle.bcs_json_printer.proofs.shown.+sending.Given as goal
 

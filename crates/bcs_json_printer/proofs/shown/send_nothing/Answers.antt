@@ -1,6 +1,4 @@
-use Rattle.std.proofs.Common.{sym, subst}
-use Rattle.std.proofs.lemmas.Result.{on_ok_weaker}
-use Rattle.serde_json.specs.Events.{SendsValue}
+use Rattle.bcs_json_printer.proofs.Prelude.{sym, subst, on_ok_weaker, SendsValue}
 use Rattle.bcs_json_printer.proofs.shown.send_nothing.Goals as goal
 
 pub returns : goal.returns

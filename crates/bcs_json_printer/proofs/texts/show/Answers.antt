@@ -1,14 +1,4 @@
-use Rattle.std.proofs.Common.{◌≡◌, ◌∙◌, ◌≤◌, IfOk, ap, arith, string_bytes, rules}
-use Rattle.std.proofs.lemmas.Result.{IfOk-weaker}
-use Rattle.std.proofs.lemmas.Str.{IsUtf8-string_bytes}
-use Rattle.serde_json.specs.Data.{depth}
-use Rattle.serde_json.specs.Read.{max_depth, read}
-use Rattle.serde_json.specs.Written.{compact_text}
-use Rattle.bcs_registry_model.specs.View.{shape_of}
-use Rattle.bcs_value_model.specs.View.{tree_of}
-use Rattle.bcs_json_spec.specs.JsonContent.{of}
-use Rattle.bcs_json_spec.specs.Shown.{shown}
-use Rattle.bcs_json_spec.specs.Texts.{IsReadAs}
+use Rattle.bcs_json_printer.proofs.Prelude.{◌≡◌, ◌∙◌, ◌≤◌, IfOk, ap, arith, string_bytes, rules, IfOk-weaker, IsUtf8-string_bytes, depth, max_depth, read, compact_text, shape_of, tree_of, of, shown, IsReadAs}
 use Rattle.bcs_json_printer.proofs.ShownBack.{read_back, text_back}
 use Rattle.bcs_json_printer.proofs.texts.show.Goals as goal
 

@@ -1,6 +1,4 @@
-use Rattle.std.proofs.Common.{Err, ap, sym, ◌∙◌, arith}
-use Rattle.std.proofs.lemmas.Result.{err_from_is_err_and}
-use Rattle.serde_json.specs.View.{view}
+use Rattle.bcs_json_reader.proofs.Prelude.{Err, ap, sym, ◌∙◌, arith, err_from_is_err_and, view}
 use Rattle.bcs_json_reader.proofs.Counts.{other_items}
 use Rattle.bcs_json_reader.proofs.arrays.array_of_exactly.Goals as goal
 

@@ -1,4 +1,4 @@
-use Rattle.serde_json.specs.View.{view, items_view}
+use Rattle.bcs_json_reader.proofs.Prelude.{view, items_view}
 use Rattle.bcs_json_reader.proofs.Taken.{entry_of, no_entry}
 use Rattle.bcs_json_reader.proofs.arrays.pair_of.Goals as goal
 

@@ -1,5 +1,4 @@
-use Rattle.std.proofs.Common.{arith}
-use Rattle.std.proofs.lemmas.Grind.{common_steps}
+use Rattle.bcs_json_reader.proofs.Prelude.{arith, common_steps}
 use Rattle.bcs_json_reader.proofs.arrays.two_items.Goals as goal
 
 pub returns-then-is_none-clause-ok : goal.returns-then-is_none-clause-ok

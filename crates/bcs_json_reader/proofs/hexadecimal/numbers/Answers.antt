@@ -1,8 +1,4 @@
-use Rattle.std.proofs.Common.{◌≡◌, ◌+◌, ◌∷◌, List, ap, sym, ◌∙◌, drop, arith, get_or}
-use Rattle.std.proofs.lemmas.List.{drop_more, drop_all}
-use Rattle.bcs_value_model.specs.Tree.{unsigned}
-use Rattle.bcs_value_model.specs.declared.value.Value.{Value, Unsigned}
-use Rattle.bcs_json_spec.specs.Bytes.{byte_trees}
+use Rattle.bcs_json_reader.proofs.Prelude.{◌≡◌, ◌+◌, ◌∷◌, List, ap, sym, ◌∙◌, drop, arith, get_or, drop_more, drop_all, unsigned, Value, Unsigned, byte_trees}
 use Rattle.bcs_json_reader.proofs.Rows.{joined, joined-none, byte_more}
 use Rattle.bcs_json_reader.proofs.Whole.{tree_unsigned}
 use Rattle.bcs_json_reader.proofs.hexadecimal.numbers.Goals as goal

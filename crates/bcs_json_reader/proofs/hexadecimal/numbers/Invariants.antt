@@ -1,5 +1,4 @@
-use Rattle.std.proofs.Common.{◌≡◌, drop}
-use Rattle.bcs_json_spec.specs.Bytes.{byte_trees}
+use Rattle.bcs_json_reader.proofs.Prelude.{◌≡◌, drop, byte_trees}
 use Rattle.bcs_json_reader.proofs.Rows.{joined}
 use Rattle.bcs_json_reader.proofs.hexadecimal.numbers.Given as goal
 

@@ -1,9 +1,4 @@
-use Rattle.std.proofs.Common.{Ok, Err, arith, ap, sym, ◌∙◌, string_bytes}
-use Rattle.std.proofs.lemmas.Result.{err_from_is_err_and}
-use Rattle.bcs_registry_model.specs.View.{shape_of}
-use Rattle.bcs_value_model.specs.Tree.{items}
-use Rattle.bcs_json_spec.specs.Bytes.{byte_trees, is_byte}
-use Rattle.bcs_json_spec.specs.Reading.{read_byte_text}
+use Rattle.bcs_json_reader.proofs.Prelude.{Ok, Err, arith, ap, sym, ◌∙◌, string_bytes, err_from_is_err_and, shape_of, items, byte_trees, is_byte, read_byte_text}
 use Rattle.bcs_json_reader.proofs.Texts.{other_count, right_count, items_told}
 use Rattle.bcs_json_reader.proofs.hexadecimal.read_byte_array.Goals as goal
 

@@ -1,5 +1,4 @@
-use Rattle.std.proofs.Common.{rules}
-use Rattle.bcs_json_spec.specs.Reading.{read_hex}
+use Rattle.bcs_json_reader.proofs.Prelude.{rules, read_hex}
 use Rattle.bcs_json_reader.proofs.hexadecimal.read_hex.Goals as goal
 
 pub returns-in-Err : goal.returns-in-Err

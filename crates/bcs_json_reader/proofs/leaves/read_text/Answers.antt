@@ -1,5 +1,4 @@
-use Rattle.std.proofs.Common.{ap, ◌∙◌}
-use Rattle.serde_json.specs.View.{view}
+use Rattle.bcs_json_reader.proofs.Prelude.{ap, ◌∙◌, view}
 use Rattle.bcs_json_spec.specs.Reading as spec
 use Rattle.bcs_json_reader.proofs.Texts.{text_read}
 use Rattle.bcs_json_reader.proofs.leaves.read_text.Goals as goal

@@ -1,4 +1,4 @@
-use Rattle.std.proofs.Common.{rules}
+use Rattle.bcs_json_reader.proofs.Prelude.{rules}
 use Rattle.bcs_json_reader.proofs.Called.{lacks_called, stands_called}
 use Rattle.bcs_json_reader.proofs.names.find_variant.Goals as goal
 

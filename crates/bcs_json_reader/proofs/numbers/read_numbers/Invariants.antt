@@ -1,11 +1,4 @@
-use Rattle.std.proofs.Common.{◌≡◌, ℕ, List, length, Ok}
-use Rattle.std.specs.Vec.Iter.{into_iter_items}
-use Rattle.serde_json.specs.View.{items_view}
-use Rattle.bcs_registry_model.specs.Container.{Entries}
-use Rattle.bcs_registry_model.specs.Whole.{whole_shape}
-use Rattle.bcs_json_spec.specs.JsonContent.{of}
-use Rattle.bcs_json_spec.specs.Place.{PointerStep, item_parts, IsPlaceAmong}
-use Rattle.bcs_json_spec.specs.Reading.{follow, read_all, read_data}
+use Rattle.bcs_json_reader.proofs.Prelude.{◌≡◌, ℕ, List, length, Ok, into_iter_items, items_view, Entries, whole_shape, of, PointerStep, item_parts, IsPlaceAmong, follow, read_all, read_data}
 use Rattle.bcs_json_reader.proofs.Rows.{joined}
 use Rattle.bcs_json_reader.proofs.numbers.read_numbers.Given as goal
 

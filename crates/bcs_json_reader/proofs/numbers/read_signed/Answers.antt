@@ -1,10 +1,4 @@
-use Rattle.std.proofs.Common.{ℤ, Ok, ap, sym, ◌∙◌}
-use Rattle.std.specs.Int.{w128}
-use Rattle.std.proofs.lemmas.Int.{to_z-of_z}
-use Rattle.serde_json.specs.View.{view}
-use Rattle.bcs_num.specs.Le.{width_of}
-use Rattle.bcs_value_model.specs.View.{tree_of}
-use Rattle.bcs_value_model.specs.declared.value.Value.{Signed}
+use Rattle.bcs_json_reader.proofs.Prelude.{ℤ, Ok, ap, sym, ◌∙◌, w128, to_z-of_z, view, width_of, tree_of, Signed}
 use Rattle.bcs_json_reader.proofs.Whole.{signed_told, tree_signed, widen}
 use Rattle.bcs_json_reader.proofs.numbers.read_signed.Goals as goal
 

@@ -1,6 +1,4 @@
-use Rattle.std.proofs.Common.{Ok, ap, sym, ◌∙◌}
-use Rattle.serde_json.specs.View.{view}
-use Rattle.bcs_num.specs.Le.{width_of}
+use Rattle.bcs_json_reader.proofs.Prelude.{Ok, ap, sym, ◌∙◌, view, width_of}
 use Rattle.bcs_json_reader.proofs.Whole.{unsigned_told, tree_unsigned}
 use Rattle.bcs_json_reader.proofs.numbers.read_unsigned.Goals as goal
 

@@ -1,4 +1,4 @@
-use Rattle.std.proofs.Common.{length, true≢false, ap, sym, ◌∙◌}
+use Rattle.bcs_json_reader.proofs.Prelude.{length, true≢false, ap, sym, ◌∙◌}
 use Rattle.bcs_json_reader.proofs.Taken.{some_left}
 use Rattle.bcs_json_reader.proofs.objects.no_member_left.Goals as goal
 

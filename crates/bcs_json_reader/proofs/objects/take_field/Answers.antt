@@ -1,5 +1,4 @@
-use Rattle.std.proofs.Common.{◌∙◌, ap, sym, option_map, None, rules}
-use Rattle.serde_json.specs.View.{view, members_view}
+use Rattle.bcs_json_reader.proofs.Prelude.{◌∙◌, ap, sym, option_map, None, rules, view, members_view}
 use Rattle.bcs_json_reader.proofs.Taken.{left_without, found_member}
 use Rattle.bcs_json_reader.proofs.objects.take_field.Goals as goal
 

@@ -1,10 +1,4 @@
-use Rattle.std.proofs.Common.{◌≡◌, ◌∙◌, ℕ, ◌<◌, List, length, get_or, Bool, true, false, Some, option_map, slice_get, string_bytes, ap, sym, arith}
-use Rattle.std.proofs.lemmas.Option.{slice_get-get_or}
-use Rattle.std.proofs.lemmas.Slice.Eq.{bytes_eq-Decides}
-use Rattle.std.specs.Str.{bytes_eq}
-use Rattle.std.specs.Bool.{OnTrue}
-use Rattle.bcs_registry_model.specs.declared.format.Format.{Format}
-use Rattle.bcs_registry_model.specs.declared.named.Named.{Named}
+use Rattle.bcs_json_tokens.proofs.Prelude.{◌≡◌, ◌∙◌, ℕ, ◌<◌, List, length, get_or, Bool, true, false, Some, option_map, slice_get, string_bytes, ap, sym, arith, slice_get-get_or, bytes_eq-Decides, bytes_eq, OnTrue, Format, Named}
 use Rattle.bcs_json_tokens.proofs.field_places.is_named.Goals as goal
 
 named_here : (fs : List (Named Format)) (i : ℕ) (f : Named Format) (text name : List ℕ) → i < length fs → f ≡ get_or fs i f → text ≡ string_bytes f.name → bytes_eq text name ≡ true

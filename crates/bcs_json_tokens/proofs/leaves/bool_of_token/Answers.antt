@@ -1,7 +1,4 @@
-use Rattle.std.proofs.Common.{Ok, ap, sym}
-use Rattle.json.specs.Reads.{token_of}
-use Rattle.serde_json.specs.Data.{boolean}
-use Rattle.bcs_json_tokens.specs.Tokens.{alone}
+use Rattle.bcs_json_tokens.proofs.Prelude.{Ok, ap, sym, token_of, boolean, alone}
 use Rattle.bcs_json_tokens.proofs.Values.{tree_truth}
 use Rattle.bcs_json_tokens.proofs.leaves.bool_of_token.Goals as goal
 

@@ -1,6 +1,4 @@
-use Rattle.std.proofs.Common.{◌≡◌, drop}
-use Rattle.bcs_json_spec.specs.Bytes.{byte_trees}
-use Rattle.bcs_json_reader.proofs.Rows.{joined}
+use Rattle.bcs_json_tokens.proofs.Prelude.{◌≡◌, drop, byte_trees, joined}
 use Rattle.bcs_json_tokens.proofs.leaves.byte_values.Given as goal
 
 -- the whole is what was made so far, before what is still to be made

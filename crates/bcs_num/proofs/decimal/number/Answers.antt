@@ -1,6 +1,4 @@
-use Rattle.std.proofs.Common.{◌≡◌, ◌+◌, ◌*◌, ◌∙◌, arith, rules, None, take, drop, get_or, length, min, sym, refl}
-use Rattle.std.specs.Char.{digit_value}
-use Rattle.std.proofs.lemmas.List.{take_all}
+use Rattle.bcs_num.proofs.Prelude.{◌≡◌, ◌+◌, ◌*◌, ◌∙◌, arith, rules, None, take, drop, get_or, length, min, sym, refl, digit_value, take_all}
 use Rattle.bcs_num.proofs.Decimals.{next_value, next_digits, no_digit, too_large}
 use Rattle.bcs_num.proofs.decimal.number.Goals as goal
 

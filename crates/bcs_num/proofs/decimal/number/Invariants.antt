@@ -1,5 +1,4 @@
-use Rattle.std.proofs.Common.{◌≡◌, ◌<◌, ◌^◌, ◌+◌, take, length, min}
-use Rattle.std.specs.Str.Parse.{AllDigits, digits_value}
+use Rattle.bcs_num.proofs.Prelude.{◌≡◌, ◌<◌, ◌^◌, ◌+◌, take, length, min, AllDigits, digits_value}
 use Rattle.bcs_num.proofs.decimal.number.Given as goal
 
 abbrev pub invariant-loop-byte : goal.invariant-loop-byte

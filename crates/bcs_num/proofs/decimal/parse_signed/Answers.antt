@@ -1,7 +1,4 @@
-use Rattle.std.proofs.lemmas.Grind.{common_steps}
-use Rattle.std.proofs.Common.{◌≡◌, ap, arith, rules, suc, Some, None, ℤ}
-use Rattle.std.proofs.lemmas.Int.{ints}
-use Rattle.bcs_num.specs.Le.{width_of}
+use Rattle.bcs_num.proofs.Prelude.{common_steps, ◌≡◌, ap, arith, rules, suc, Some, None, ℤ, ints, width_of}
 use Rattle.bcs_num.proofs.Decimals.{minus_text}
 use Rattle.bcs_num.proofs.decimal.parse_signed.Goals as goal
 

@@ -1,4 +1,4 @@
-use Rattle.std.proofs.Common.{rules}
+use Rattle.bcs_num.proofs.Prelude.{rules}
 use Rattle.bcs_num.proofs.decimal.parse_unsigned.Goals as goal
 
 pub returns-in_err-n-clause-found : goal.returns-in_err-n-clause-found

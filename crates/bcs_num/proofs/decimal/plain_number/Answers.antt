@@ -1,5 +1,4 @@
-use Rattle.std.proofs.Common.{arith, subst, sym, rules}
-use Rattle.std.proofs.lemmas.Bool.Decides.{nat_tests}
+use Rattle.bcs_num.proofs.Prelude.{arith, subst, sym, rules, nat_tests}
 use Rattle.bcs_num.proofs.Decimals.{IsPlain, decimal_is_plain, plain_found, plain_only}
 use Rattle.bcs_num.proofs.decimal.plain_number.Goals as goal
 use Rattle.bcs_num.proofs.decimal.plain_number.Goals.{else-digits-eq48-via-then-digits-eq48+else-digits-gt1, else-digits-eq48-via-else-digits-eq48}

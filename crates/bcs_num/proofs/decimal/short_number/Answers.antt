@@ -1,5 +1,4 @@
-use Rattle.std.proofs.Common.{◌≡◌, arith, rules, None}
-use Rattle.std.proofs.lemmas.Int.Digits.{digits_more, digits_value_more}
+use Rattle.bcs_num.proofs.Prelude.{◌≡◌, arith, rules, None, digits_more, digits_value_more}
 use Rattle.bcs_num.proofs.Decimals.{all_digits_at, short_fits}
 use Rattle.bcs_num.proofs.decimal.short_number.Goals as goal
 

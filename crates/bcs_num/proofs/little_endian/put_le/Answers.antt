@@ -1,5 +1,4 @@
-use Rattle.std.proofs.Common.{◌∙◌}
-use Rattle.std.specs.Int.{w8, w16, w32, w64, w128}
+use Rattle.bcs_num.proofs.Prelude.{◌∙◌, w8, w16, w32, w64, w128}
 use Rattle.bcs_num.proofs.LeReading.{put_is, byte_low_first}
 use Rattle.bcs_num.proofs.little_endian.put_le.Goals as goal
 

@@ -1,7 +1,4 @@
-use Rattle.std.proofs.Common.{◌∙◌, ap}
-use Rattle.std.specs.Int.{w128, cast_unsigned}
-use Rattle.std.proofs.lemmas.Int.{to_z-of_z}
-use Rattle.bcs_num.specs.Le.{width_of, le}
+use Rattle.bcs_num.proofs.Prelude.{◌∙◌, ap, w128, cast_unsigned, to_z-of_z, width_of, le}
 use Rattle.bcs_num.proofs.LeReading.{masked}
 use Rattle.bcs_num.proofs.little_endian.put_le_signed.Goals as goal
 

@@ -1,7 +1,4 @@
-use Rattle.std.proofs.Common.{◌≡◌, ap, length, take, length-take, length-append, add-one, arith, rules}
-use Rattle.std.proofs.lemmas.List.{drop-set-lt}
-use Rattle.std.proofs.lemmas.Grind.{common_steps}
-use Rattle.bcs_num.specs.Uleb.{uleb}
+use Rattle.bcs_num.proofs.Prelude.{◌≡◌, ap, length, take, length-take, length-append, add-one, arith, rules, drop-set-lt, common_steps, uleb}
 use Rattle.bcs_num.proofs.UlebLaws.{uleb-low}
 use Rattle.bcs_num.proofs.Room.{room_few, room_next}
 use Rattle.bcs_num.proofs.UlebWriting.{put_more, put_last}

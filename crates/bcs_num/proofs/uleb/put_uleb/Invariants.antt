@@ -1,5 +1,4 @@
-use Rattle.std.proofs.Common.{◌≡◌, ◌<◌, ◌++◌, take, drop}
-use Rattle.bcs_num.specs.Uleb.{uleb}
+use Rattle.bcs_num.proofs.Prelude.{◌≡◌, ◌<◌, ◌++◌, take, drop, uleb}
 use Rattle.bcs_num.proofs.Room.{room}
 use Rattle.bcs_num.proofs.uleb.put_uleb.Given as goal
 

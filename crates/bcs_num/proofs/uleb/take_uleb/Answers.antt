@@ -1,8 +1,4 @@
-use Rattle.std.proofs.Common.{◌≡◌, ◌<◌, ◌+◌, ◌*◌, ◌&&◌, ◌==◌, nat_lt, false, Ok, Err, get_or, arith, ◌∙◌, sym, ap, ℕ, refl}
-use Rattle.std.proofs.lemmas.Bool.Decides.{nat_tests}
-use Rattle.std.proofs.lemmas.List.{drop_all}
-use Rattle.std.proofs.lemmas.List.Elements.{All-from_get_or}
-use Rattle.bcs_num.specs.declared.fault.NumFault.TheVariants.{LongForm, NumberTooLarge}
+use Rattle.bcs_num.proofs.Prelude.{◌≡◌, ◌<◌, ◌+◌, ◌*◌, ◌&&◌, ◌==◌, nat_lt, false, Ok, Err, get_or, arith, ◌∙◌, sym, ap, ℕ, refl, nat_tests, drop_all, All-from_get_or, LongForm, NumberTooLarge}
 use Rattle.bcs_num.proofs.UlebReading.{verdict, decided, at_large, at_zero_last, at_last}
 use Rattle.bcs_num.proofs.uleb.take_uleb.Goals as goal
 use Rattle.bcs_num.proofs.uleb.take_uleb.Goals.{else-i-eq4-via-then-i-eq4+else-byte-gt15, else-i-eq4-via-else-i-eq4, else-byte-eq0-via-then-byte-eq0+else-i-gt0, else-byte-eq0-via-else-byte-eq0}

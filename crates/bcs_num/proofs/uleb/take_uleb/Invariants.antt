@@ -1,4 +1,4 @@
-use Rattle.std.proofs.Common.{◌≡◌, ◌≤◌, ◌<◌, ◌^◌, drop}
+use Rattle.bcs_num.proofs.Prelude.{◌≡◌, ◌≤◌, ◌<◌, ◌^◌, drop}
 use Rattle.bcs_num.proofs.UlebReading.{shifted, number_from}
 use Rattle.bcs_num.proofs.uleb.take_uleb.Given as goal
 

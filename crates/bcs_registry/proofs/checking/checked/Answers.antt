@@ -1,4 +1,4 @@
-use Rattle.std.proofs.Common.{rules}
+use Rattle.bcs_registry.proofs.Prelude.{rules}
 use Rattle.bcs_registry.proofs.checking.checked.Goals as goal
 
 pub returns-then-not-all_keep-clause-ok : goal.returns-then-not-all_keep-clause-ok

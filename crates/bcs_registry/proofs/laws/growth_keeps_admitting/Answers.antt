@@ -1,4 +1,4 @@
-use Rattle.bcs_registry_model.proofs.GrowthLaws.{growth_keeps_admitting_holds}
+use Rattle.bcs_registry.proofs.Prelude.{growth_keeps_admitting_holds}
 use Rattle.bcs_registry.proofs.laws.growth_keeps_admitting.Goals as goal
 
 pub returns : goal.returns

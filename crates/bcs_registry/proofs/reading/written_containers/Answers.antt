@@ -1,4 +1,4 @@
-use Rattle.std.proofs.Common.{rules}
+use Rattle.bcs_registry.proofs.Prelude.{rules}
 use Rattle.bcs_registry.proofs.reading.written_containers.Goals as goal
 
 pub returns-then-is_registry_shaped-clause-ok : goal.returns-then-is_registry_shaped-clause-ok

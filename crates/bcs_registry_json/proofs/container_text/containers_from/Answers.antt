@@ -1,7 +1,4 @@
-use Rattle.std.proofs.Common.{◌≡◌, string_bytes}
-use Rattle.std.proofs.lemmas.Result.{err_from_is_err_and}
-use Rattle.serde_json.proofs.Views.{Entry}
-use Rattle.serde_json.specs.View.{view}
+use Rattle.bcs_registry_json.proofs.Prelude.{◌≡◌, string_bytes, err_from_is_err_and, Entry, view}
 use Rattle.bcs_registry_json.proofs.Containers.{container_fault, one_container, registry_written}
 use Rattle.bcs_registry_json.proofs.container_text.containers_from.Goals as goal
 

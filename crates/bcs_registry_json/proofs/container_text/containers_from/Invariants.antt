@@ -1,4 +1,4 @@
-use Rattle.serde_json.specs.View.{view}
+use Rattle.bcs_registry_json.proofs.Prelude.{view}
 use Rattle.bcs_registry_json.proofs.Containers.{ContainersRead}
 use Rattle.bcs_registry_json.proofs.container_text.containers_from.Given as goal
 

@@ -1,6 +1,4 @@
-use Rattle.std.proofs.Common.{refl, rules}
-use Rattle.std.proofs.lemmas.Result.{err_from_is_err_and}
-use Rattle.bcs_registry_json.specs.Shaped.{all_fields, are_fields, is_field}
+use Rattle.bcs_registry_json.proofs.Prelude.{refl, rules, err_from_is_err_and, all_fields, are_fields, is_field}
 use Rattle.bcs_registry_json.proofs.ContainerText.{fields_written, fits_field}
 use Rattle.bcs_registry_json.proofs.ShownParts.{field_data}
 use Rattle.bcs_registry_json.proofs.Rows.{element_fault, row_all, row_more}

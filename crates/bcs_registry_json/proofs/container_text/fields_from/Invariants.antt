@@ -1,4 +1,4 @@
-use Rattle.std.proofs.Common.{take}
+use Rattle.bcs_registry_json.proofs.Prelude.{take}
 use Rattle.bcs_registry_json.proofs.ContainerText.{fits_field}
 use Rattle.bcs_registry_json.proofs.ShownParts.{field_data}
 use Rattle.bcs_registry_json.proofs.Rows.{IsRow}

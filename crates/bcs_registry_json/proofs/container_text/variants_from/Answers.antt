@@ -1,8 +1,4 @@
-use Rattle.std.proofs.Common.{◌≡◌, ◌∙◌, None, ap, decimal, rules, string_bytes, sym}
-use Rattle.std.proofs.lemmas.Result.{err_from_is_err_and}
-use Rattle.serde_json.proofs.Views.{Entry}
-use Rattle.serde_json.specs.View.{view}
-use Rattle.bcs_registry_json.specs.Shaped.{is_variant_number}
+use Rattle.bcs_registry_json.proofs.Prelude.{◌≡◌, ◌∙◌, None, ap, decimal, rules, string_bytes, sym, err_from_is_err_and, Entry, view, is_variant_number}
 use Rattle.bcs_registry_json.proofs.Variants.{number_fault, one_variant, variant_fault, variants_written}
 use Rattle.bcs_registry_json.proofs.container_text.variants_from.Goals as goal
 

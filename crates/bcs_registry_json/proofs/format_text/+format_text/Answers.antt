@@ -1,9 +1,4 @@
-use Rattle.std.proofs.Common.{◌≡◌, ◌∙◌, ap, arith, codes, refl, rules}
-use Rattle.std.proofs.lemmas.Result.{err_from_is_err_and}
-use Rattle.serde_json.proofs.Views.{view-Object}
-use Rattle.serde_json.specs.Data.{member, no_members, object}
-use Rattle.serde_json.specs.View.{view}
-use Rattle.bcs_registry_json.specs.Shaped.{are_formats, is_format, is_map, is_size, is_tuple, is_tuple_array}
+use Rattle.bcs_registry_json.proofs.Prelude.{◌≡◌, ◌∙◌, ap, arith, codes, refl, rules, err_from_is_err_and, view-Object, member, no_members, object, view, are_formats, is_format, is_map, is_size, is_tuple, is_tuple_array}
 use Rattle.bcs_registry_json.proofs.FormatText.{fits_format, tuple_written, value_word}
 use Rattle.bcs_registry_json.proofs.ShownParts.{format_data}
 use Rattle.bcs_registry_json.proofs.Rows.{element_fault, element_shallow, row_all, row_more, second_fault}

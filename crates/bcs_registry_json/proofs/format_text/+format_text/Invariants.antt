@@ -1,6 +1,4 @@
-use Rattle.std.proofs.Common.{◌+◌, ◌*◌, take}
-use Rattle.serde_json.specs.Data.{depth}
-use Rattle.serde_json.specs.View.{view}
+use Rattle.bcs_registry_json.proofs.Prelude.{◌+◌, ◌*◌, take, depth, view}
 use Rattle.bcs_registry_json.proofs.FormatText.{fits_format}
 use Rattle.bcs_registry_json.proofs.ShownParts.{format_data}
 use Rattle.bcs_registry_json.proofs.Rows.{IsRow}

@@ -1,13 +1,5 @@
-use Rattle.std.proofs.Common.{◌≡◌, ◌-◌, ◌<◌, ◌∷◌, length, Some, None, string_bytes, sym, ap, ◌∙◌, arith, rules}
-use Rattle.json.specs.Token.{Token}
-use Rattle.json.specs.Json.{parse_map, after_end_array, read_key, items, members, value}
-use Rattle.json.specs.Reads.{token_of}
-use Rattle.json.proofs.Grammar.{value_is, value-begin_array, value-begin_object, read_key-shorter}
-use Rattle.serde_json.specs.Data.{null, boolean, number, string, array, object, put}
-use Rattle.serde_json.specs.Read.{of_json, of_items, of_members, converted}
-use Rattle.serde_json.specs.View.{view, number_view, members_view}
-use Rattle.serde_json.specs.declared.value.Value.{String, Number, Bool, Null, the_lemmas}
-use Rattle.serde_json.proofs.Views.{view-Array, view-Object, members_view-insert_entry}
+use Rattle.bcs_registry_json.proofs.Prelude.{◌≡◌, ◌-◌, ◌<◌, ◌∷◌, length, Some, None, string_bytes, sym, ap, ◌∙◌, arith, rules, Token, parse_map, after_end_array, read_key, items, members, value, token_of, value_is, value-begin_array, value-begin_object, read_key-shorter, null, boolean, number, string, array, object, put, of_json, of_items, of_members, converted, view, number_view, members_view, Number, Null, the_lemmas, view-Array, view-Object, members_view-insert_entry}
+use Rattle.serde_json.specs.declared.value.Value.{String, Bool}
 use Rattle.bcs_registry_json.proofs.Turns.{converted-array, converted-object, item_read, items_over, member_read, members_over, items_before, items_before-no_items, one_more_item, none_before}
 use Rattle.bcs_registry_json.proofs.json_part.+part.Goals as goal
 

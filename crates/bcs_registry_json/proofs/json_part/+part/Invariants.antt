@@ -1,8 +1,4 @@
-use Rattle.std.proofs.Common.{◌≡◌, ℕ, ◌+◌, ◌*◌, ◌≤◌, length}
-use Rattle.json.specs.Json.{items, members, value, parse_map}
-use Rattle.serde_json.specs.Data.{no_members}
-use Rattle.serde_json.specs.Read.{of_items, of_members, converted}
-use Rattle.serde_json.specs.View.{members_view}
+use Rattle.bcs_registry_json.proofs.Prelude.{◌≡◌, ℕ, ◌+◌, ◌*◌, ◌≤◌, length, items, members, value, parse_map, no_members, of_items, of_members, converted, members_view}
 use Rattle.bcs_registry_json.proofs.Turns.{items_before}
 use Rattle.bcs_registry_json.proofs.json_part.+part.Given as goal
 

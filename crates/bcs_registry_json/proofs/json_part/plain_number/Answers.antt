@@ -1,7 +1,4 @@
-use Rattle.std.proofs.Common.{◌≡◌, ◌∙◌, Some, ap, rules, sym}
-use Rattle.serde_json.proofs.Numbers.{number_of-decimal}
-use Rattle.serde_json.specs.Data.{unsigned}
-use Rattle.serde_json.specs.Read.{number_of}
+use Rattle.bcs_registry_json.proofs.Prelude.{◌≡◌, ◌∙◌, Some, ap, rules, sym, number_of-decimal, unsigned, number_of}
 use Rattle.bcs_registry_json.proofs.json_part.plain_number.Goals as goal
 
 pub returns : goal.returns

@@ -1,6 +1,4 @@
-use Rattle.std.proofs.Common.{◌≡◌, nat_le, drop}
-use Rattle.serde_json.specs.Data.{items_depth, members_depth}
-use Rattle.serde_json.specs.View.{items_view, members_view}
+use Rattle.bcs_registry_json.proofs.Prelude.{◌≡◌, nat_le, drop, items_depth, members_depth, items_view, members_view}
 use Rattle.bcs_registry_json.proofs.nesting.+nesting.Given as goal
 
 -- what is left decides

@@ -1,8 +1,4 @@
-use Rattle.std.proofs.Common.{◌≡◌, ◌∙◌, [], ◌∷◌, ap, arith, refl, rules, sym}
-use Rattle.json.specs.Lex.{tokens}
-use Rattle.json.specs.Token.{Token}
-use Rattle.bcs_registry_model.specs.View.{entries_of}
-use Rattle.bcs_registry_json.specs.Shown.{shown_registry}
+use Rattle.bcs_registry_json.proofs.Prelude.{◌≡◌, ◌∙◌, [], ◌∷◌, ap, arith, refl, rules, sym, tokens, Token, entries_of, shown_registry}
 use Rattle.bcs_registry_json.proofs.OneByOne.{text_spelled}
 use Rattle.bcs_registry_json.proofs.one_by_one.containers_one_by_one.Goals as goal
 

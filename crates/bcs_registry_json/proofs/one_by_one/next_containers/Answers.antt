@@ -1,5 +1,4 @@
-use Rattle.std.proofs.Common.{◌≡◌, Some, arith, rules, string_bytes}
-use Rattle.json.specs.Json.{read_key}
+use Rattle.bcs_registry_json.proofs.Prelude.{◌≡◌, Some, arith, rules, string_bytes, read_key}
 use Rattle.bcs_registry_json.proofs.OneByOne.{all_spelled, none_spelled, one_spelled, spelled_orderly}
 use Rattle.bcs_registry_json.proofs.one_by_one.next_containers.Goals as goal
 

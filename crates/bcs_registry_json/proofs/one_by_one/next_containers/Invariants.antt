@@ -1,4 +1,4 @@
-use Rattle.std.proofs.Common.{length}
+use Rattle.bcs_registry_json.proofs.Prelude.{length}
 use Rattle.bcs_registry_json.proofs.OneByOne.{AreSpelled}
 use Rattle.bcs_registry_json.proofs.one_by_one.next_containers.Given as goal
 

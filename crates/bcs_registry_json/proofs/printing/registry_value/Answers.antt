@@ -1,13 +1,5 @@
-use Rattle.std.proofs.Common.{◌≡◌, ◌∙◌, List, [], ◌∷◌, ◌++◌, string_bytes, sym, ap, ap₂, subst, append_assoc, append-nil}
-use Rattle.std.specs.List.Sorted.{IsStrictlySortedBy}
-use Rattle.std.specs.Map.{keys_of}
+use Rattle.bcs_registry_json.proofs.Prelude.{◌≡◌, ◌∙◌, List, [], ◌∷◌, ◌++◌, string_bytes, sym, ap, ap₂, subst, append_assoc, append-nil, IsStrictlySortedBy, keys_of, object, put, members_view, view-Object, shown_registry, shown_container, container_of, entries_of, Stored}
 use Rattle.std.specs.String.{string_cmp}
-use Rattle.serde_json.specs.Data.{object, put}
-use Rattle.serde_json.specs.View.{members_view}
-use Rattle.serde_json.proofs.Views.{view-Object}
-use Rattle.bcs_registry_json.specs.Shown.{shown_registry, shown_container}
-use Rattle.bcs_registry_model.specs.View.{container_of, entries_of}
-use Rattle.bcs_registry_model.proofs.Rising.{Stored}
 use Rattle.bcs_registry_json.proofs.ShownParts.{shown_containers-push}
 use Rattle.bcs_registry_json.proofs.printing.registry_value.Goals as goal
 

@@ -1,8 +1,4 @@
-use Rattle.std.proofs.Common.{◌≡◌, List, ◌++◌}
-use Rattle.serde_json.specs.View.{members_view}
-use Rattle.bcs_registry_json.specs.Shown.{shown_containers}
-use Rattle.bcs_registry_model.specs.View.{entries_of}
-use Rattle.bcs_registry_model.proofs.Rising.{Stored}
+use Rattle.bcs_registry_json.proofs.Prelude.{◌≡◌, List, ◌++◌, members_view, shown_containers, entries_of, Stored}
 use Rattle.bcs_registry_json.proofs.printing.registry_value.Given as goal
 
 abbrev pub invariant-loop-name : goal.invariant-loop-name

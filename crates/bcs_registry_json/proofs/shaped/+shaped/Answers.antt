@@ -1,8 +1,4 @@
-use Rattle.std.proofs.Common.{◌≡◌, ◌∙◌, List, [], true, ap, arith, drop, refl, sym}
-use Rattle.std.proofs.lemmas.List.{drop_all}
-use Rattle.serde_json.specs.View.{items_view, view}
-use Rattle.serde_json.specs.declared.value.Value.{Value}
-use Rattle.bcs_registry_json.specs.Shaped.{are_formats, is_format, is_tuple}
+use Rattle.bcs_registry_json.proofs.Prelude.{◌≡◌, ◌∙◌, List, [], true, ap, arith, drop, refl, sym, drop_all, items_view, view, Value, are_formats, is_format, is_tuple}
 use Rattle.bcs_registry_json.proofs.Rows.{array_tested, element_false, element_shallow}
 use Rattle.bcs_registry_json.proofs.shaped.+shaped.Goals as goal
 

@@ -1,7 +1,4 @@
-use Rattle.std.proofs.Common.{◌≡◌, true, drop}
-use Rattle.serde_json.specs.Data.{depth}
-use Rattle.serde_json.specs.View.{items_view, view}
-use Rattle.bcs_registry_json.specs.Shaped.{are_formats}
+use Rattle.bcs_registry_json.proofs.Prelude.{◌≡◌, true, drop, depth, items_view, view, are_formats}
 use Rattle.bcs_registry_json.proofs.shaped.+shaped.Given as goal
 
 abbrev pub decreases-is_format_shaped : goal.decreases-is_format_shaped

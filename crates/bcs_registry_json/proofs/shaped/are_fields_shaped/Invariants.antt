@@ -1,6 +1,4 @@
-use Rattle.std.proofs.Common.{◌≡◌, true, drop}
-use Rattle.serde_json.specs.View.{items_view}
-use Rattle.bcs_registry_json.specs.Shaped.{all_fields}
+use Rattle.bcs_registry_json.proofs.Prelude.{◌≡◌, true, drop, items_view, all_fields}
 use Rattle.bcs_registry_json.proofs.shaped.are_fields_shaped.Given as goal
 
 -- what is left decides

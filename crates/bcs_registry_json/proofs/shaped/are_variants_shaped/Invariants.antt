@@ -1,6 +1,4 @@
-use Rattle.std.proofs.Common.{◌≡◌, true}
-use Rattle.serde_json.specs.View.{members_view, view}
-use Rattle.bcs_registry_json.specs.Shaped.{all_variants, are_variants}
+use Rattle.bcs_registry_json.proofs.Prelude.{◌≡◌, true, members_view, view, all_variants, are_variants}
 use Rattle.bcs_registry_json.proofs.shaped.are_variants_shaped.Given as goal
 
 -- what is left decides

@@ -1,6 +1,4 @@
-use Rattle.std.proofs.Common.{◌≡◌, true}
-use Rattle.serde_json.specs.View.{members_view, view}
-use Rattle.bcs_registry_json.specs.Shaped.{all_containers, is_registry}
+use Rattle.bcs_registry_json.proofs.Prelude.{◌≡◌, true, members_view, view, all_containers, is_registry}
 use Rattle.bcs_registry_json.proofs.shaped.is_registry_shaped.Given as goal
 
 -- what is left decides

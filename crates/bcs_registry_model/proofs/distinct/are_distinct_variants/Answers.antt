@@ -1,5 +1,4 @@
-use Rattle.std.proofs.Common.{string_bytes, sym, ap, ◌∙◌, map}
-use Rattle.bcs_registry_model.specs.WellFormed.{are_distinct}
+use Rattle.bcs_registry_model.proofs.Prelude.{string_bytes, sym, ap, ◌∙◌, map, are_distinct}
 use Rattle.bcs_registry_model.proofs.Inside.{choice_names-values}
 use Rattle.bcs_registry_model.proofs.DistinctNames.{are_distinct-from_none, all_new-next}
 use Rattle.bcs_registry_model.proofs.distinct.are_distinct_variants.Goals as goal

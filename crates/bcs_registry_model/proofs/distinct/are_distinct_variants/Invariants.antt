@@ -1,6 +1,4 @@
-use Rattle.std.proofs.Common.{◌≡◌, map, string_bytes}
-use Rattle.bcs_registry_model.specs.View.{choice_of}
-use Rattle.bcs_registry_model.specs.WellFormed.{are_distinct}
+use Rattle.bcs_registry_model.proofs.Prelude.{◌≡◌, map, string_bytes, choice_of, are_distinct}
 use Rattle.bcs_registry_model.proofs.DistinctNames.{all_new, has_name}
 use Rattle.bcs_registry_model.proofs.distinct.are_distinct_variants.Given as goal
 

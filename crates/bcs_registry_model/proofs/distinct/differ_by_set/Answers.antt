@@ -1,5 +1,4 @@
-use Rattle.std.proofs.Common.{string_bytes, ap, ◌∙◌}
-use Rattle.bcs_registry_model.specs.WellFormed.{are_distinct}
+use Rattle.bcs_registry_model.proofs.Prelude.{string_bytes, ap, ◌∙◌, are_distinct}
 use Rattle.bcs_registry_model.proofs.Inside.{field_names-fields}
 use Rattle.bcs_registry_model.proofs.DistinctNames.{are_distinct-from_none, all_new-step}
 use Rattle.bcs_registry_model.proofs.distinct.differ_by_set.Goals as goal

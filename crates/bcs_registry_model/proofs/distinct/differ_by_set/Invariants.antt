@@ -1,6 +1,4 @@
-use Rattle.std.proofs.Common.{◌≡◌, map, drop, string_bytes}
-use Rattle.bcs_registry_model.specs.View.{field_of}
-use Rattle.bcs_registry_model.specs.WellFormed.{are_distinct}
+use Rattle.bcs_registry_model.proofs.Prelude.{◌≡◌, map, drop, string_bytes, field_of, are_distinct}
 use Rattle.bcs_registry_model.proofs.DistinctNames.{all_new, has_name}
 use Rattle.bcs_registry_model.proofs.distinct.differ_by_set.Given as goal
 

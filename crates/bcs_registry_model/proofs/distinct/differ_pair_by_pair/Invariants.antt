@@ -1,6 +1,4 @@
-use Rattle.std.proofs.Common.{◌≡◌, map, drop}
-use Rattle.bcs_registry_model.specs.View.{field_of}
-use Rattle.bcs_registry_model.specs.WellFormed.{are_distinct}
+use Rattle.bcs_registry_model.proofs.Prelude.{◌≡◌, map, drop, field_of, are_distinct}
 use Rattle.bcs_registry_model.proofs.distinct.differ_pair_by_pair.Given as goal
 
 abbrev pub invariant-loop-i : goal.invariant-loop-i

@@ -1,7 +1,4 @@
-use Rattle.std.proofs.Common.{◌≡◌, map}
-use Rattle.std.specs.List.{list_all, flat_map}
-use Rattle.bcs_registry_model.specs.View.{choice_of}
-use Rattle.bcs_registry_model.specs.WellFormed.{are_distinct, payload_names}
+use Rattle.bcs_registry_model.proofs.Prelude.{◌≡◌, map, list_all, flat_map, choice_of, are_distinct, payload_names}
 use Rattle.bcs_registry_model.proofs.Inside.{variants_names}
 use Rattle.bcs_registry_model.proofs.distinct.have_distinct_fields.Given as goal
 

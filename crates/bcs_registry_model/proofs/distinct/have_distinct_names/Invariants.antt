@@ -1,7 +1,4 @@
-use Rattle.std.proofs.Common.{◌≡◌}
-use Rattle.std.specs.List.{list_all}
-use Rattle.bcs_registry_model.specs.View.{entries_of}
-use Rattle.bcs_registry_model.specs.WellFormed.{are_distinct, names_differ}
+use Rattle.bcs_registry_model.proofs.Prelude.{◌≡◌, list_all, entries_of, are_distinct, names_differ}
 use Rattle.bcs_registry_model.proofs.Inside.{rows_names}
 use Rattle.bcs_registry_model.proofs.distinct.have_distinct_names.Given as goal
 

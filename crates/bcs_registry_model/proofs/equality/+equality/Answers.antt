@@ -1,4 +1,4 @@
-use Rattle.std.proofs.Common.{sym}
+use Rattle.bcs_registry_model.proofs.Prelude.{sym}
 use Rattle.bcs_registry_model.proofs.Sameness.{same_shapes-unlike}
 use Rattle.bcs_registry_model.proofs.equality.+equality.Goals as goal
 

@@ -1,7 +1,4 @@
-use Rattle.std.proofs.Common.{◌≡◌, ◌+◌, ◌*◌, ◌≤◌, drop}
-use Rattle.bcs_registry_model.specs.Equality.{same_shapes}
-use Rattle.bcs_registry_model.specs.View.{shape_of, formats_shapes}
-use Rattle.bcs_registry_model.specs.WellFormed.{levels, shapes_levels}
+use Rattle.bcs_registry_model.proofs.Prelude.{◌≡◌, ◌+◌, ◌*◌, ◌≤◌, drop, same_shapes, shape_of, formats_shapes, levels, shapes_levels}
 use Rattle.bcs_registry_model.proofs.equality.+equality.Given as goal
 
 abbrev pub invariant-are_same_formats-loop-i : goal.invariant-are_same_formats-loop-i

@@ -1,4 +1,4 @@
-use Rattle.std.proofs.Common.{sym}
+use Rattle.bcs_registry_model.proofs.Prelude.{sym}
 use Rattle.bcs_registry_model.proofs.Sameness.{same_fields-unlike}
 use Rattle.bcs_registry_model.proofs.equality.are_same_fields.Goals as goal
 

@@ -1,6 +1,4 @@
-use Rattle.std.proofs.Common.{◌≡◌, map, drop}
-use Rattle.bcs_registry_model.specs.Equality.{same_fields}
-use Rattle.bcs_registry_model.specs.View.{field_of}
+use Rattle.bcs_registry_model.proofs.Prelude.{◌≡◌, map, drop, same_fields, field_of}
 use Rattle.bcs_registry_model.proofs.equality.are_same_fields.Given as goal
 
 abbrev pub invariant-loop-i : goal.invariant-loop-i

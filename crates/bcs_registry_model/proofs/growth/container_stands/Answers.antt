@@ -1,4 +1,4 @@
-use Rattle.std.proofs.Common.{Some, None, sym, ◌∙◌}
+use Rattle.bcs_registry_model.proofs.Prelude.{Some, None, sym, ◌∙◌}
 use Rattle.bcs_registry_model.proofs.GrowthSteps.{container_got}
 use Rattle.bcs_registry_model.proofs.growth.container_stands.Goals as goal
 

@@ -1,6 +1,4 @@
-use Rattle.std.proofs.Common.{◌≡◌}
-use Rattle.bcs_registry_model.specs.Growing.{growth_fault}
-use Rattle.bcs_registry_model.specs.View.{entries_of}
+use Rattle.bcs_registry_model.proofs.Prelude.{◌≡◌, growth_fault, entries_of}
 use Rattle.bcs_registry_model.proofs.growth.containers_grow.Given as goal
 
 abbrev pub invariant-loop-name : goal.invariant-loop-name

@@ -1,6 +1,4 @@
-use Rattle.std.proofs.Common.{Some, None, sym, ap, ◌∙◌}
-use Rattle.bcs_registry_model.specs.Growing.{fault_unless}
-use Rattle.bcs_registry_model.specs.declared.growth_fault.GrowthFault.TheVariants.{VariantChanged}
+use Rattle.bcs_registry_model.proofs.Prelude.{Some, None, sym, ap, ◌∙◌, fault_unless, VariantChanged}
 use Rattle.bcs_registry_model.proofs.GrowthSteps.{choice_got}
 use Rattle.bcs_registry_model.proofs.growth.variant_stands.Goals as goal
 

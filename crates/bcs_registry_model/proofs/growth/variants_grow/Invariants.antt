@@ -1,6 +1,4 @@
-use Rattle.std.proofs.Common.{◌≡◌, map}
-use Rattle.bcs_registry_model.specs.Growing.{first_fault, choice_fault}
-use Rattle.bcs_registry_model.specs.View.{choice_of}
+use Rattle.bcs_registry_model.proofs.Prelude.{◌≡◌, map, first_fault, choice_fault, choice_of}
 use Rattle.bcs_registry_model.proofs.growth.variants_grow.Given as goal
 
 abbrev pub invariant-loop-number : goal.invariant-loop-number

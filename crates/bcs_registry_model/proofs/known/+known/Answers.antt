@@ -1,4 +1,4 @@
-use Rattle.std.proofs.Common.{true, false, sym, ◌∙◌}
+use Rattle.bcs_registry_model.proofs.Prelude.{true, false, sym, ◌∙◌}
 use Rattle.bcs_registry_model.proofs.KnownNames.{is_known-name}
 use Rattle.bcs_registry_model.proofs.known.+known.Goals as goal
 

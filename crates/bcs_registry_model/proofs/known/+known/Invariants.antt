@@ -1,5 +1,4 @@
-use Rattle.std.proofs.Common.{◌≡◌, drop}
-use Rattle.bcs_registry_model.specs.View.{formats_shapes, entries_of}
+use Rattle.bcs_registry_model.proofs.Prelude.{◌≡◌, drop, formats_shapes, entries_of}
 use Rattle.bcs_registry_model.specs.WellFormed as spec
 use Rattle.bcs_registry_model.proofs.known.+known.Given as goal
 

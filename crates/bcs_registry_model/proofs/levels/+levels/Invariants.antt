@@ -1,6 +1,4 @@
-use Rattle.std.proofs.Common.{◌≡◌, drop}
-use Rattle.std.specs.Prelude.{nat_le}
-use Rattle.bcs_registry_model.specs.View.{formats_shapes}
+use Rattle.bcs_registry_model.proofs.Prelude.{◌≡◌, drop, nat_le, formats_shapes}
 use Rattle.bcs_registry_model.specs.WellFormed as spec
 use Rattle.bcs_registry_model.proofs.levels.+levels.Given as goal
 

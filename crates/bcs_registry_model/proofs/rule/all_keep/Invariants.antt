@@ -1,8 +1,4 @@
-use Rattle.std.proofs.Common.{◌≡◌}
-use Rattle.std.specs.List.{list_all}
-use Rattle.bcs_registry_model.specs.Rules.{keeps}
-use Rattle.bcs_registry_model.specs.View.{entries_of}
-use Rattle.bcs_registry_model.specs.WellFormed.{formats}
+use Rattle.bcs_registry_model.proofs.Prelude.{◌≡◌, list_all, keeps, entries_of, formats}
 use Rattle.bcs_registry_model.proofs.Inside.{rows_formats}
 use Rattle.bcs_registry_model.proofs.rule.all_keep.Given as goal
 

@@ -1,7 +1,4 @@
-use Rattle.std.proofs.Common.{◌≡◌, map, drop}
-use Rattle.std.specs.List.{list_all}
-use Rattle.bcs_registry_model.specs.Rules.{keeps}
-use Rattle.bcs_registry_model.specs.View.{field_of, entries_of}
+use Rattle.bcs_registry_model.proofs.Prelude.{◌≡◌, map, drop, list_all, keeps, field_of, entries_of}
 use Rattle.bcs_registry_model.proofs.rule.fields_keep.Given as goal
 
 abbrev pub invariant-loop-field : goal.invariant-loop-field

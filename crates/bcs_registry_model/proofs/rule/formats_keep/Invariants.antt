@@ -1,8 +1,4 @@
-use Rattle.std.proofs.Common.{◌≡◌, drop}
-use Rattle.std.specs.List.{list_all}
-use Rattle.bcs_registry_model.specs.Rules.{keeps}
-use Rattle.bcs_registry_model.specs.View.{formats_shapes, entries_of}
-use Rattle.bcs_registry_model.specs.WellFormed.{shape_list}
+use Rattle.bcs_registry_model.proofs.Prelude.{◌≡◌, drop, list_all, keeps, formats_shapes, entries_of, shape_list}
 use Rattle.bcs_registry_model.proofs.rule.formats_keep.Given as goal
 
 abbrev pub invariant-loop-format : goal.invariant-loop-format

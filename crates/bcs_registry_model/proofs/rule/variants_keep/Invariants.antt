@@ -1,8 +1,4 @@
-use Rattle.std.proofs.Common.{◌≡◌, map}
-use Rattle.std.specs.List.{list_all, flat_map}
-use Rattle.bcs_registry_model.specs.Rules.{keeps}
-use Rattle.bcs_registry_model.specs.View.{choice_of, entries_of}
-use Rattle.bcs_registry_model.specs.WellFormed.{payload_formats}
+use Rattle.bcs_registry_model.proofs.Prelude.{◌≡◌, map, list_all, flat_map, keeps, choice_of, entries_of, payload_formats}
 use Rattle.bcs_registry_model.proofs.Inside.{variants_formats}
 use Rattle.bcs_registry_model.proofs.rule.variants_keep.Given as goal
 

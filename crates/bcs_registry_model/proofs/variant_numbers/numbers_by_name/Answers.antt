@@ -1,6 +1,4 @@
-use Rattle.std.proofs.Common.{◌∙◌, ap, sym}
-use Rattle.bcs_registry_model.specs.Container.{number_called}
-use Rattle.bcs_registry_model.specs.View.{container_of}
+use Rattle.bcs_registry_model.proofs.Prelude.{◌∙◌, ap, sym, number_called, container_of}
 use Rattle.bcs_registry_model.proofs.Rising.{Stored}
 use Rattle.bcs_registry_model.proofs.Gathering.{enum_put, no_number, other_passed, all_gathered}
 use Rattle.bcs_registry_model.proofs.variant_numbers.numbers_by_name.Goals as goal

@@ -1,4 +1,4 @@
-use Rattle.std.proofs.Common.{◌∙◌, sym}
+use Rattle.bcs_registry_model.proofs.Prelude.{◌∙◌, sym}
 use Rattle.bcs_registry_model.proofs.Rising.{Variant}
 use Rattle.bcs_registry_model.proofs.Gathering.{variant_put, variant_passed}
 use Rattle.bcs_registry_model.proofs.variant_numbers.numbers_of.Goals as goal

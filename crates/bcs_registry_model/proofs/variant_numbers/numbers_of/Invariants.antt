@@ -1,4 +1,4 @@
-use Rattle.std.proofs.Common.{◌≡◌, ℕ, List}
+use Rattle.bcs_registry_model.proofs.Prelude.{◌≡◌, ℕ, List}
 use Rattle.bcs_registry_model.proofs.Gathering.{number_among, number_joined}
 use Rattle.bcs_registry_model.proofs.variant_numbers.numbers_of.Given as goal
 

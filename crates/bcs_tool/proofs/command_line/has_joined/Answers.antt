@@ -1,4 +1,4 @@
-use Rattle.std.proofs.Common.{rules}
+use Rattle.bcs_tool.proofs.Prelude.{rules}
 use Rattle.bcs_tool.proofs.command_line.has_joined.Goals as goal
 
 pub returns-then-is_raw : goal.returns-then-is_raw

@@ -1,4 +1,4 @@
-use Rattle.std.proofs.Common.{rules}
+use Rattle.bcs_tool.proofs.Prelude.{rules}
 use Rattle.bcs_tool.proofs.command_line.joined_fault.Goals as goal
 
 pub returns-in-Ok : goal.returns-in-Ok

@@ -1,7 +1,4 @@
-use Rattle.std.proofs.Common.{◌∙◌, sym, rules}
-use Rattle.bcs_tool_command_line.specs.CommandLine.{texts_of}
-use Rattle.bcs_tool_command_line.specs.LineFaults.{IsFaultOf}
-use Rattle.bcs_tool_command_line.proofs.LineFaultLemmas.{fault_of_joined, memory_alone, takes_words}
+use Rattle.bcs_tool.proofs.Prelude.{◌∙◌, sym, rules, texts_of, IsFaultOf, fault_of_joined, memory_alone, takes_words}
 use Rattle.bcs_tool.proofs.command_line.line.Goals as goal
 use Rattle.bcs_tool.proofs.command_line.line.Goals.{Joined-job-2}
 

@@ -1,4 +1,4 @@
-use Rattle.std.proofs.Common.{sym}
+use Rattle.bcs_tool.proofs.Prelude.{sym}
 use Rattle.bcs_tool.proofs.entry.start.Goals as goal
 
 pub returns-in-Ok-clause-job : goal.returns-in-Ok-clause-job

@@ -1,5 +1,4 @@
-use Rattle.std.proofs.Common.{◌≡◌, List, false, inl, inr, refl, rules, subst, ℕ}
-use Rattle.bcs_tool_command_line.specs.Files.{IsTextOfWord, is_registry_text}
+use Rattle.bcs_tool.proofs.Prelude.{◌≡◌, List, false, inl, inr, refl, rules, subst, ℕ, IsTextOfWord, is_registry_text}
 use Rattle.bcs_tool.proofs.files.read_work.Goals as goal
 
 -- the text for REG or OLD was read before

@@ -1,10 +1,4 @@
-use Rattle.std.proofs.Common.{Bool, Err, List, Result, ap, arith, subst, sym, ℕ}
-use Rattle.bcs_tool_answers.specs.Answers.{Answers}
-use Rattle.bcs_tool_answers.proofs.AnswerLemmas.{status_below}
-use Rattle.bcs_tool.specs.Lines.{EndsLines, IsSoFar, ReadsOn}
-use Rattle.bcs_tool.specs.Running.{PutsLine}
-use Rattle.bcs_tool.specs.declared.interruption.Interruption.{Interruption}
-use Rattle.bcs_tool.specs.declared.tally.Tally.{Tally}
+use Rattle.bcs_tool.proofs.Prelude.{Bool, Err, List, Result, ap, arith, subst, sym, ℕ, Answers, status_below, EndsLines, IsSoFar, ReadsOn, PutsLine, Interruption, Tally}
 use Rattle.bcs_tool.proofs.ReadLemmas.{line_room}
 use Rattle.bcs_tool.proofs.RunLemmas.{handed_on, reads_input}
 use Rattle.bcs_tool.proofs.SoFarLemmas.{all_answered, can_count, fails_next, fails_put, so_far_line, so_far_nothing}

@@ -1,5 +1,4 @@
-use Rattle.std.proofs.Common.{◌+◌, length}
-use Rattle.bcs_tool.specs.Lines.{IsSoFar}
+use Rattle.bcs_tool.proofs.Prelude.{◌+◌, length, IsSoFar}
 use Rattle.bcs_tool.proofs.line_running.put_lines.Given as goal
 
 abbrev pub invariant-loop-buffer : goal.invariant-loop-buffer

@@ -1,4 +1,4 @@
-use Rattle.std.proofs.Common.{refl}
+use Rattle.bcs_tool.proofs.Prelude.{refl}
 use Rattle.bcs_tool.proofs.RunLemmas.{reads_input, tallied}
 use Rattle.bcs_tool.proofs.line_running.run_lines.Goals as goal
 

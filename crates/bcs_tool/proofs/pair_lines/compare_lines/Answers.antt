@@ -1,8 +1,4 @@
-use Rattle.std.proofs.Common.{◌∙◌, List, [], ap, arith, refl, subst, sym, ℕ, Err, Result}
-use Rattle.bcs_tool_answers.specs.PairAnswers.{AnswersPair}
-use Rattle.bcs_tool.specs.PairLines.{ArePairsSoFar, EndsPaired, PutsPair, ending_of}
-use Rattle.bcs_tool.specs.declared.interruption.Interruption.{Interruption}
-use Rattle.bcs_tool.specs.declared.pair_lines.Compared.{Compared}
+use Rattle.bcs_tool.proofs.Prelude.{◌∙◌, List, [], ap, arith, refl, subst, sym, ℕ, Err, Result, AnswersPair, ArePairsSoFar, EndsPaired, PutsPair, ending_of, Interruption, Compared}
 use Rattle.bcs_tool.proofs.PairLemmas.{both_read, ends_paired, fails_first, fails_pair_put, fails_second, has_ended, no_pairs, pairs_so_far, room_at_end, room_of_first}
 use Rattle.bcs_tool.proofs.ReadLemmas.{line_room}
 use Rattle.bcs_tool.proofs.RunLemmas.{handed_on, reads_input}

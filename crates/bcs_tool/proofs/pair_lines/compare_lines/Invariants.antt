@@ -1,5 +1,4 @@
-use Rattle.std.proofs.Common.{◌+◌, length}
-use Rattle.bcs_tool.specs.PairLines.{ArePairsSoFar}
+use Rattle.bcs_tool.proofs.Prelude.{◌+◌, length, ArePairsSoFar}
 use Rattle.bcs_tool.proofs.pair_lines.compare_lines.Given as goal
 
 abbrev pub invariant-loop-seconds : goal.invariant-loop-seconds

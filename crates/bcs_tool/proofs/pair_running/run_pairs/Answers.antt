@@ -1,13 +1,4 @@
-use Rattle.std.proofs.Common.{Result, [], refl, subst}
-use Rattle.bcs_tool_answers.specs.Preparing.{IsPrepared}
-use Rattle.bcs_tool_answers.specs.declared.answer.Answer.{Answer}
-use Rattle.bcs_tool_answers.specs.declared.judging.Asked.{Asked}
-use Rattle.bcs_io.specs.declared.taking.TakeFault.TheVariants.{OutOfMemory}
-use Rattle.bcs_tool_command_line.specs.declared.work.Outcome.{Outcome}
-use Rattle.bcs_tool.specs.Pairs.{EndsPairs}
-use Rattle.bcs_tool.specs.declared.interruption.Interruption.{Interruption}
-use Rattle.bcs_tool.specs.declared.interruption.Side.TheVariants.{Second}
-use Rattle.bcs_tool.specs.declared.run_fault.RunFault.TheVariants.{Take}
+use Rattle.bcs_tool.proofs.Prelude.{Result, [], refl, subst, IsPrepared, Answer, Asked, OutOfMemory, Outcome, EndsPairs, Interruption, Second, Take}
 use Rattle.bcs_tool.proofs.PairRunLemmas.{no_memory_for_pairs, refused_pairs, told_pairs}
 use Rattle.bcs_tool.proofs.RunLemmas.{handed_on, reads_input}
 use Rattle.bcs_tool.proofs.pair_running.run_pairs.Goals as goal

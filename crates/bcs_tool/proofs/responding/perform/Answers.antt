@@ -1,10 +1,5 @@
-use Rattle.std.proofs.Common.{◌≡◌, ◌∙◌, List, Option, ap, refl, subst, sym, ℕ}
-use Rattle.std.specs.Prelude.{String, string_bytes}
-use Rattle.std.specs.declared.alloc.Global.{Global}
-use Rattle.bcs_tool_answers.proofs.AnswerLemmas.{if_some_holds}
-use Rattle.bcs_tool_command_line.specs.FaultPlaces.{TellsPlace, file_place}
-use Rattle.bcs_tool_command_line.specs.Files.{ComparesLines, file_note}
-use Rattle.bcs_tool.specs.Endings.{PerformsOne, PerformsPairs, lacks_file, over_one, over_pairs}
+use Rattle.bcs_tool.proofs.Prelude.{◌≡◌, ◌∙◌, List, Option, ap, refl, subst, sym, ℕ, String, Global, if_some_holds, ReportsPlace, file_place, ComparesLines, file_note, PerformsOne, PerformsPairs, lacks_file, over_one, over_pairs}
+use Rattle.std.specs.Prelude.{string_bytes}
 use Rattle.bcs_tool.proofs.responding.perform.Goals as goal
 
 pub returns-in-Err : goal.returns-in-Err
@@ -18,7 +13,7 @@ returns-in-Err g c =
       name = name;
       status = c.failed.ensures.status;
       note = c.failed.ensures.note ∙ c.note.ensures ∙ ap file_note c.from-fault.ensures;
-      place = subst (λ (place : List ℕ). TellsPlace job.options.quiet (file_place refusal.reason name) place) (sym c.failed.ensures.place) c.place.ensures;
+      place = subst (λ (place : List ℕ). ReportsPlace job.options.quiet (file_place refusal.reason name) place) (sym c.failed.ensures.place) c.place.ensures;
       named = of.1;
       known = of.0;
       needed = c.in-Err.ensures.good;

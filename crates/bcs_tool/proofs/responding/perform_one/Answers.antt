@@ -1,11 +1,5 @@
-use Rattle.std.proofs.Common.{List, refl, subst, ℕ}
-use Rattle.std.specs.Io.Buffered.{reader_remaining}
-use Rattle.bcs_io.specs.ReadSource.{allowance_of, failed, reader_of}
+use Rattle.bcs_tool.proofs.Prelude.{List, refl, subst, ℕ, reader_remaining, allowance_of, failed, reader_of, file_text, ReadFailed, IsUnopened, IsUnread, no_room, over_file, unopened, Runs}
 use Rattle.bcs_io.specs.declared.taking.TakeFault.TheVariants as taking
-use Rattle.bcs_tool_command_line.specs.FaultPlaces.{file_text}
-use Rattle.bcs_tool_command_line.specs.declared.unread_file.UnreadFile.TheVariants.{Untaken}
-use Rattle.bcs_tool.specs.Endings.{IsUnopened, IsUnread, no_room, over_file, unopened}
-use Rattle.bcs_tool.specs.Running.{Runs}
 use Rattle.bcs_tool.proofs.responding.perform_one.Goals as goal
 
 -- a file
@@ -19,7 +13,7 @@ returns-in-Ok-with_capacity g c =
 pub returns-in-Ok : goal.returns-in-Ok
 returns-in-Ok g c =
     no_room c.in-Some.name c.in-Some.is
-    (subst (λ (name : List ℕ). IsUnread c.args.work.now.options.quiet name (Untaken taking.OutOfMemory) c.unread.result) c.as_str-name.ensures.value c.unread.ensures) refl refl
+    (subst (λ (name : List ℕ). IsUnread c.args.work.now.options.quiet name (ReadFailed taking.OutOfMemory) c.unread.result) c.as_str-name.ensures.value c.unread.ensures) refl refl
 
 -- a file that isn't there
 pub returns : goal.returns

@@ -1,7 +1,4 @@
-use Rattle.std.proofs.Common.{List, refl, subst, ℕ}
-use Rattle.bcs_tool_command_line.specs.FaultPlaces.{file_text}
-use Rattle.bcs_tool.specs.Endings.{IsUnopened, pairs_over_file, pairs_over_input, second_unopened}
-use Rattle.bcs_tool.specs.Running.{IsOutcomeOf}
+use Rattle.bcs_tool.proofs.Prelude.{List, refl, subst, ℕ, file_text, IsUnopened, pairs_over_file, pairs_over_input, second_unopened, IsOutcomeOf}
 use Rattle.bcs_tool.proofs.responding.perform_pairs.Goals as goal
 
 -- the standard input

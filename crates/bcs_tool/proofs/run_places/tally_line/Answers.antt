@@ -1,4 +1,4 @@
-use Rattle.std.proofs.Common.{refl}
+use Rattle.bcs_tool.proofs.Prelude.{refl}
 use Rattle.bcs_tool.proofs.run_places.tally_line.Goals as goal
 
 pub returns : goal.returns

@@ -1,13 +1,4 @@
-use Rattle.std.proofs.Common.{Result, inl, refl, subst}
-use Rattle.bcs_tool_answers.specs.Preparing.{IsPrepared}
-use Rattle.bcs_tool_answers.specs.declared.answer.Answer.{Answer}
-use Rattle.bcs_tool_answers.specs.declared.judging.Asked.{Asked}
-use Rattle.bcs_io.specs.declared.taking.TakeFault.TheVariants.{OutOfMemory}
-use Rattle.bcs_tool_command_line.specs.declared.work.Outcome.{Outcome}
-use Rattle.bcs_tool.specs.declared.interruption.Side.TheVariants.{Second}
-use Rattle.bcs_tool.specs.Running.{Ends}
-use Rattle.bcs_tool.specs.declared.interruption.Interruption.{Interruption}
-use Rattle.bcs_tool.specs.declared.run_fault.RunFault.TheVariants.{Take}
+use Rattle.bcs_tool.proofs.Prelude.{Result, inl, refl, subst, IsPrepared, Answer, Asked, OutOfMemory, Outcome, Second, Ends, Interruption, Take}
 use Rattle.bcs_tool.proofs.RunLemmas.{handed_on, no_input_no_lines, no_memory, put_once, some_content, unread}
 use Rattle.bcs_tool.proofs.running.put_answers.Goals as goal
 

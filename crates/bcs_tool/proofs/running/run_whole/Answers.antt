@@ -1,12 +1,4 @@
-use Rattle.std.proofs.Common.{◌∙◌, ◌≤◌, Err, List, Result, ap, arith, length, subst, ℕ}
-use Rattle.bcs_tool_answers.specs.Places.{IsAnswer}
-use Rattle.bcs_tool_command_line.specs.Files.{size_limit}
-use Rattle.bcs_io.specs.declared.taking.TakeFault.TheVariants.{OutOfMemory}
-use Rattle.bcs_tool_command_line.specs.declared.work.Outcome.{Outcome}
-use Rattle.bcs_tool.specs.declared.interruption.Side.TheVariants.{Second}
-use Rattle.bcs_tool.specs.Running.{Ends}
-use Rattle.bcs_tool.specs.declared.interruption.Interruption.{Interruption}
-use Rattle.bcs_tool.specs.declared.run_fault.RunFault.TheVariants.{Take}
+use Rattle.bcs_tool.proofs.Prelude.{◌∙◌, ◌≤◌, Err, List, Result, ap, arith, length, subst, ℕ, IsAnswer, size_limit, OutOfMemory, Outcome, Second, Ends, Interruption, Take}
 use Rattle.bcs_tool.proofs.RunLemmas.{handed_on, no_lines, no_memory, not_taken, put_once, reads_input, unhurt_whole, whole_content}
 use Rattle.bcs_tool.proofs.running.run_whole.Goals as goal
 

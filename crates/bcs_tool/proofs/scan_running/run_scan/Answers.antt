@@ -1,7 +1,4 @@
-use Rattle.std.proofs.Common.{Result}
-use Rattle.bcs_tool_command_line.specs.declared.work.Outcome.{Outcome}
-use Rattle.bcs_tool.specs.Running.{Ends}
-use Rattle.bcs_tool.specs.declared.interruption.Interruption.{Interruption}
+use Rattle.bcs_tool.proofs.Prelude.{Result, Outcome, Ends, Interruption}
 use Rattle.bcs_tool.proofs.RunLemmas.{handed_on}
 use Rattle.bcs_tool.proofs.ScanLemmas.{put_scan, scan_fails}
 use Rattle.bcs_tool.proofs.scan_running.run_scan.Goals as goal

@@ -1,4 +1,4 @@
-use Rattle.std.proofs.Common.{Err, ap}
+use Rattle.bcs_tool.proofs.Prelude.{Err, ap}
 use Rattle.bcs_tool.proofs.ScanLemmas.{scanned_count, scanned_refusal}
 use Rattle.bcs_tool.proofs.scan_running.scan_answer.Goals as goal
 

@@ -1,7 +1,4 @@
-use Rattle.std.proofs.Common.{◌≡◌, ◌==◌, ◌<◌, ◌∙◌, ℕ, Bool, List, ap, sym, subst, true, map, string_bytes}
-use Rattle.std.specs.List.{list_any}
-use Rattle.std.proofs.lemmas.List.{length-map, get_or-map}
-use Rattle.std.proofs.lemmas.List.Folds.{list_any_at}
+use Rattle.bcs_tool.proofs.Prelude.{◌≡◌, ◌==◌, ◌<◌, ◌∙◌, ℕ, Bool, List, ap, sym, subst, true, map, string_bytes, list_any, length-map, get_or-map, list_any_at}
 use Rattle.bcs_tool.proofs.visible.breaks_lines.Goals as goal
 
 pub returns-then-contains : goal.returns-then-contains

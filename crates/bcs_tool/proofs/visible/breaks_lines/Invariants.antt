@@ -1,5 +1,4 @@
-use Rattle.std.proofs.Common.{◌≡◌, false, map, string_bytes, take}
-use Rattle.bcs_tool.specs.Visible.{breaks_lines}
+use Rattle.bcs_tool.proofs.Prelude.{◌≡◌, false, map, string_bytes, take, breaks_lines}
 use Rattle.bcs_tool.proofs.visible.breaks_lines.Given as goal
 
 -- no word so far has one

@@ -1,5 +1,4 @@
-use Rattle.std.proofs.Common.{refl}
-use Rattle.bcs_look_text.specs.Escaped.{numbered}
+use Rattle.bcs_tool.proofs.Prelude.{refl, numbered}
 use Rattle.bcs_tool.proofs.visible.escape_of.Goals as goal
 
 pub returns : goal.returns

@@ -1,7 +1,4 @@
-use Rattle.std.proofs.Common.{◌≡◌, ◌∙◌, ◌++◌, ℕ, List, [], IsUtf8, ap, append_assoc, chars, flat_map, rules, subst, sym}
-use Rattle.std.specs.Str.Iter.{chars_rest}
-use Rattle.std.proofs.lemmas.Str.{IsUtf8-past_char}
-use Rattle.bcs_tool.specs.Visible.{visible_char}
+use Rattle.bcs_tool.proofs.Prelude.{◌≡◌, ◌∙◌, ◌++◌, ℕ, List, [], IsUtf8, ap, append_assoc, chars, flat_map, rules, subst, sym, chars_rest, IsUtf8-past_char, visible_char}
 use Rattle.bcs_tool.proofs.Showing.{left_visible, none_hidden, one_more, shown_plain}
 use Rattle.bcs_tool.proofs.visible.has_hidden.Goals as goal
 

@@ -1,6 +1,4 @@
-use Rattle.std.proofs.Common.{◌≡◌, ◌++◌, ℕ, List, IsUtf8, chars, flat_map}
-use Rattle.std.specs.Str.Iter.{chars_rest}
-use Rattle.bcs_tool.specs.Visible.{visible_char, visible}
+use Rattle.bcs_tool.proofs.Prelude.{◌≡◌, ◌++◌, ℕ, List, IsUtf8, chars, flat_map, chars_rest, visible_char, visible}
 use Rattle.bcs_tool.proofs.visible.has_hidden.Given as goal
 
 -- the characters so far are shown as they are

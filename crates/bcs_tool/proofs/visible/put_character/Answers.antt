@@ -1,7 +1,4 @@
-use Rattle.std.proofs.Common.{◌∙◌, ℕ, List, subst, sym}
-use Rattle.std.specs.Prelude.{OnOk, OnErr}
-use Rattle.bcs_io.specs.Taking.{Took}
-use Rattle.bcs_tool.specs.Running.{PutFront}
+use Rattle.bcs_tool.proofs.Prelude.{◌∙◌, ℕ, List, subst, sym, OnOk, OnErr, Took, PutFront}
 use Rattle.bcs_tool.proofs.Showing.{part_of, shown_hidden, shown_plain}
 use Rattle.bcs_tool.proofs.visible.put_character.Goals as goal
 

@@ -1,10 +1,4 @@
-use Rattle.std.proofs.Common.{◌≡◌, ◌∙◌, ◌++◌, ℕ, List, [], IsUtf8, ap, chars, flat_map, rules, subst, sym}
-use Rattle.std.specs.Str.Iter.{chars_rest}
-use Rattle.std.proofs.lemmas.Str.{IsUtf8-past_char}
-use Rattle.bcs_io.specs.Taking.{Took}
-use Rattle.bcs_io.proofs.TakingLemmas.{Took-nothing, Took-then}
-use Rattle.bcs_tool.specs.Running.{PutFront}
-use Rattle.bcs_tool.specs.Visible.{visible_char, visible}
+use Rattle.bcs_tool.proofs.Prelude.{◌≡◌, ◌∙◌, ◌++◌, ℕ, List, [], IsUtf8, ap, chars, flat_map, rules, subst, sym, chars_rest, IsUtf8-past_char, Took, Took-nothing, Took-then, PutFront, visible_char, visible}
 use Rattle.bcs_tool.proofs.EndingLemmas.{front_of_more}
 use Rattle.bcs_tool.proofs.Showing.{all_put, front_then, left_visible, one_more}
 use Rattle.bcs_tool.proofs.visible.put_characters.Goals as goal

@@ -1,7 +1,4 @@
-use Rattle.std.proofs.Common.{◌≡◌, ◌++◌, ℕ, List, IsUtf8, chars, flat_map}
-use Rattle.std.specs.Str.Iter.{chars_rest}
-use Rattle.bcs_io.specs.Taking.{Took}
-use Rattle.bcs_tool.specs.Visible.{visible_char, visible}
+use Rattle.bcs_tool.proofs.Prelude.{◌≡◌, ◌++◌, ℕ, List, IsUtf8, chars, flat_map, chars_rest, Took, visible_char, visible}
 use Rattle.bcs_tool.proofs.visible.put_characters.Given as goal
 
 -- what was put so far, before the characters that are left

@@ -1,9 +1,4 @@
-use Rattle.std.proofs.Common.{◌≡◌, ◌∙◌, ◌++◌, ◌+◌, ◌-◌, ◌%◌, ℕ, List, ap, rules, subst, sym, arith}
-use Rattle.std.specs.Prelude.{OnOk, OnErr}
-use Rattle.bcs_io.specs.Taking.{Took}
-use Rattle.bcs_look_text.specs.Escaped.{numbered}
-use Rattle.bcs_tool.specs.Running.{PutFront}
-use Rattle.bcs_tool.specs.Visible.{escape}
+use Rattle.bcs_tool.proofs.Prelude.{◌≡◌, ◌∙◌, ◌++◌, ◌+◌, ◌-◌, ◌%◌, ℕ, List, ap, rules, subst, sym, arith, OnOk, OnErr, Took, numbered, PutFront, escape}
 use Rattle.bcs_tool.proofs.EndingLemmas.{front_of_more}
 use Rattle.bcs_tool.proofs.Showing.{escape_high, escape_low, part_of, part_then, whole_then}
 use Rattle.bcs_tool.proofs.visible.put_escape.Goals as goal

@@ -1,7 +1,4 @@
-use Rattle.std.proofs.Common.{◌∙◌, ap}
-use Rattle.std.proofs.lemmas.Result.{IfOk-weaker}
-use Rattle.bcs_tool_answers.specs.Answers.{line_of}
-use Rattle.bcs_tool_answers.specs.Input.{base64_text}
+use Rattle.bcs_tool_answers.proofs.Prelude.{◌∙◌, ap, IfOk-weaker, line_of, base64_text}
 use Rattle.bcs_tool_answers.proofs.answer.base64_line.Goals as goal
 
 pub returns : goal.returns

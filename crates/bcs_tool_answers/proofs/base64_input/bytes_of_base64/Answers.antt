@@ -1,4 +1,4 @@
-use Rattle.std.proofs.lemmas.Result.{IfErr-weaker}
+use Rattle.bcs_tool_answers.proofs.Prelude.{IfErr-weaker}
 use Rattle.bcs_tool_answers.proofs.Base64Lemmas.{both_ok, is_base64, is_strict, no_base64}
 use Rattle.bcs_tool_answers.proofs.base64_input.bytes_of_base64.Goals as goal
 

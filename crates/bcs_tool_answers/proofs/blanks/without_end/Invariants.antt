@@ -1,6 +1,4 @@
-use Rattle.std.proofs.Common.{◌≡◌, ◌+◌, ◌-◌, ◌≤◌, length, take}
-use Rattle.std.specs.List.{suffix_len}
-use Rattle.bcs_tool_answers.specs.Input.{is_blank}
+use Rattle.bcs_tool_answers.proofs.Prelude.{◌≡◌, ◌+◌, ◌-◌, ◌≤◌, length, take, suffix_len, is_blank}
 use Rattle.bcs_tool_answers.proofs.blanks.without_end.Given as goal
 
 abbrev pub invariant-loop-end : goal.invariant-loop-end

@@ -1,6 +1,4 @@
-use Rattle.std.proofs.Common.{◌≡◌, ◌+◌, ◌-◌, ◌≤◌, drop, length}
-use Rattle.std.specs.List.{prefix_len}
-use Rattle.bcs_tool_answers.specs.Input.{is_blank}
+use Rattle.bcs_tool_answers.proofs.Prelude.{◌≡◌, ◌+◌, ◌-◌, ◌≤◌, drop, length, prefix_len, is_blank}
 use Rattle.bcs_tool_answers.proofs.blanks.without_front.Given as goal
 
 abbrev pub invariant-loop-start : goal.invariant-loop-start

@@ -1,9 +1,4 @@
-use Rattle.std.proofs.Common.{List, refl, subst, sym, ℕ}
-use Rattle.std.proofs.lemmas.Result.{IfOk-weaker}
-use Rattle.bcs_tool_answers.specs.Answers.{Answers, no_bytes, refusal_line}
-use Rattle.bcs_tool_answers.specs.Input.{GivesBytes, IsBase64Of, input_fault_name}
-use Rattle.bcs_tool_command_line.specs.declared.coding.Coding.{Coding}
-use Rattle.bcs_tool_command_line.specs.declared.coding.Coding.TheVariants.{Base64}
+use Rattle.bcs_tool_answers.proofs.Prelude.{List, refl, subst, sym, ℕ, IfOk-weaker, Answers, no_bytes, refusal_line, GivesBytes, IsBase64Of, input_fault_name, Coding, Base64}
 use Rattle.bcs_tool_answers.proofs.AnswerLemmas.{is_asked, placed_answer}
 use Rattle.bcs_tool_answers.proofs.bytes_answers.answer_base64.Goals as goal
 

@@ -1,8 +1,4 @@
-use Rattle.std.proofs.Common.{string_bytes}
-use Rattle.std.proofs.lemmas.Result.{IfOk-weaker}
-use Rattle.bcs_registry_model.specs.View.{shape_of}
-use Rattle.bcs_tool_answers.specs.Answers.{decoded, stopped, too_nested}
-use Rattle.bcs_tool_command_line.specs.declared.command.Command.TheVariants.{Decode}
+use Rattle.bcs_tool_answers.proofs.Prelude.{string_bytes, IfOk-weaker, shape_of, decoded, stopped, too_nested, Decode}
 use Rattle.bcs_tool_answers.proofs.AnswerLemmas.{is_asked, nests, placed_answer, same_answer, stops}
 use Rattle.bcs_tool_answers.proofs.bytes_answers.answer_decode.Goals as goal
 

@@ -1,10 +1,4 @@
-use Rattle.std.proofs.Common.{◌≡◌, ◌⊎◌, Err, List, Ok, refl, subst, sym, ℕ}
-use Rattle.std.proofs.lemmas.Result.{IfOk-weaker}
-use Rattle.hex.specs.Hex.{decode_of}
-use Rattle.hex.specs.declared.error.FromHexError.TheVariants.{OutOfMemory}
-use Rattle.bcs_tool_answers.specs.Answers.{Answers, no_bytes, refusal_line}
-use Rattle.bcs_tool_answers.specs.Input.{GivesBytes, input_fault_name, without_blanks}
-use Rattle.bcs_tool_command_line.specs.declared.coding.Coding.{Coding}
+use Rattle.bcs_tool_answers.proofs.Prelude.{◌≡◌, ◌⊎◌, Err, List, Ok, refl, subst, sym, ℕ, IfOk-weaker, decode_of, OutOfMemory, Answers, no_bytes, refusal_line, GivesBytes, input_fault_name, without_blanks, Coding}
 use Rattle.bcs_tool_answers.proofs.AnswerLemmas.{is_asked, no_digits, placed_answer}
 use Rattle.bcs_tool_answers.proofs.bytes_answers.answer_digits.Goals as goal
 

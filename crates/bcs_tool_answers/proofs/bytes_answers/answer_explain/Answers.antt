@@ -1,10 +1,4 @@
-use Rattle.std.proofs.Common.{Option, subst}
-use Rattle.std.proofs.lemmas.Result.{IfOk-weaker}
-use Rattle.bcs_registry_model.specs.View.{shape_of}
-use Rattle.bcs_decode_spec.specs.declared.stop.Stop.{Stop}
-use Rattle.bcs_look_pieces.specs.EndsAt.{EndsAt}
-use Rattle.bcs_tool_answers.specs.Answers.{damaged, explained}
-use Rattle.bcs_tool_command_line.specs.declared.command.Command.TheVariants.{Explain}
+use Rattle.bcs_tool_answers.proofs.Prelude.{Option, subst, IfOk-weaker, shape_of, Stop, EndsAt, damaged, explained, Explain}
 use Rattle.bcs_tool_answers.proofs.AnswerLemmas.{is_asked, same_answer}
 use Rattle.bcs_tool_answers.proofs.bytes_answers.answer_explain.Goals as goal
 

@@ -1,7 +1,4 @@
-use Rattle.std.proofs.Common.{◌∙◌, refl, subst, sym}
-use Rattle.std.proofs.lemmas.Result.{IfOk-weaker}
-use Rattle.bcs_tool_answers.specs.Input.{GivesBytes}
-use Rattle.bcs_tool_command_line.specs.declared.coding.Coding.{Coding}
+use Rattle.bcs_tool_answers.proofs.Prelude.{◌∙◌, refl, subst, sym, IfOk-weaker, GivesBytes, Coding}
 use Rattle.bcs_tool_answers.proofs.bytes_answers.answer_given.Goals as goal
 
 pub returns-in-Raw : goal.returns-in-Raw

@@ -1,11 +1,4 @@
-use Rattle.std.proofs.Common.{◌∙◌, IfOk, ap, map, string_bytes, subst}
-use Rattle.std.proofs.lemmas.Result.{IfOk-weaker}
-use Rattle.bcs_registry_model.specs.View.{shape_of}
-use Rattle.bcs_decode_parts.specs.Steps.{step_of}
-use Rattle.bcs_decode_parts.specs.PathSteps.{all_spelled}
-use Rattle.bcs_tool_answers.specs.Answers.{front_stopped, printed, printed_none}
-use Rattle.bcs_tool_answers.specs.Places.{PrintsWithoutPlace}
-use Rattle.bcs_tool_command_line.specs.declared.coding.Coding.{Coding}
+use Rattle.bcs_tool_answers.proofs.Prelude.{◌∙◌, IfOk, ap, map, string_bytes, subst, IfOk-weaker, shape_of, step_of, all_spelled, front_stopped, printed, printed_none, PrintsWithoutPlace, Coding}
 use Rattle.bcs_tool_command_line.specs.declared.command.Command.TheVariants.{Part}
 use Rattle.bcs_tool_answers.proofs.AnswerLemmas.{is_asked, placed_answer, same_answer}
 use Rattle.bcs_tool_answers.proofs.PartAnswers.{finds, leads_nowhere, spells}

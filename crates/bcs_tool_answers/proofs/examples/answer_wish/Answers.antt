@@ -1,7 +1,4 @@
-use Rattle.std.proofs.Common.{inl, inr, refl}
-use Rattle.std.proofs.lemmas.Result.{IfOk-weaker}
-use Rattle.bcs_registry_model.specs.View.{shape_of}
-use Rattle.bcs_tool_answers.specs.Answers.{exampled}
+use Rattle.bcs_tool_answers.proofs.Prelude.{inl, inr, refl, IfOk-weaker, shape_of, exampled}
 use Rattle.bcs_tool_answers.proofs.AnswerLemmas.{same_answer}
 use Rattle.bcs_tool_answers.proofs.examples.answer_wish.Goals as goal
 

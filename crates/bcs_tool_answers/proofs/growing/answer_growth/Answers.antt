@@ -1,4 +1,4 @@
-use Rattle.std.proofs.lemmas.Result.{IfOk-weaker}
+use Rattle.bcs_tool_answers.proofs.Prelude.{IfOk-weaker}
 use Rattle.bcs_tool_answers.proofs.AnswerLemmas.{listed_answer}
 use Rattle.bcs_tool_answers.proofs.growing.answer_growth.Goals as goal
 

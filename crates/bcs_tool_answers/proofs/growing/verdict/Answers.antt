@@ -1,9 +1,4 @@
-use Rattle.std.proofs.Common.{◌∙◌, List, ap, codes, inl, refl, subst, sym, ℕ}
-use Rattle.std.proofs.lemmas.Result.{IfOk-weaker}
-use Rattle.bcs_registry_model.specs.FaultNames.{growth_fault_name}
-use Rattle.bcs_tool_answers.specs.Answers.{grown, line_of, refusal_line, refused_early}
-use Rattle.bcs_tool_answers.specs.Judging.{RefusesJobOf}
-use Rattle.bcs_tool_answers.specs.declared.job_fault.JobFault.TheVariants.{Growth}
+use Rattle.bcs_tool_answers.proofs.Prelude.{◌∙◌, List, ap, codes, inl, refl, subst, sym, ℕ, IfOk-weaker, growth_fault_name, grown, line_of, refusal_line, refused_early, RefusesJobOf, Growth}
 use Rattle.bcs_tool_answers.proofs.AnswerLemmas.{behind_list, with_place}
 use Rattle.bcs_tool_answers.proofs.growing.verdict.Goals as goal
 

@@ -1,8 +1,4 @@
-use Rattle.std.proofs.Common.{Bool, subst}
-use Rattle.std.proofs.lemmas.Result.{IfOk-weaker}
-use Rattle.bcs_registry_model.specs.View.{shape_of}
-use Rattle.bcs_json_spec.specs.Headline.{Compares}
-use Rattle.bcs_tool_answers.specs.Answers.{different, equal}
+use Rattle.bcs_tool_answers.proofs.Prelude.{Bool, subst, IfOk-weaker, shape_of, Compares, different, equal}
 use Rattle.bcs_tool_answers.proofs.AnswerLemmas.{refused_texts, same_pair}
 use Rattle.bcs_tool_answers.proofs.pair_answers.answer_pair.Goals as goal
 

@@ -1,7 +1,4 @@
-use Rattle.std.proofs.Common.{length, subst, ℕ}
-use Rattle.std.proofs.lemmas.Result.{IfOk-weaker}
-use Rattle.bcs_tool_answers.specs.Answers.{checked, count_line}
-use Rattle.bcs_tool_answers.specs.Places.{PrintsWithoutPlace}
+use Rattle.bcs_tool_answers.proofs.Prelude.{length, subst, ℕ, IfOk-weaker, checked, count_line, PrintsWithoutPlace}
 use Rattle.bcs_tool_answers.proofs.AnswerLemmas.{same_answer}
 use Rattle.bcs_tool_answers.proofs.preparing.answer_check.Goals as goal
 

@@ -1,6 +1,4 @@
-use Rattle.std.proofs.Common.{◌∙◌, [], refl}
-use Rattle.bcs_tool_answers.specs.Answers.{refusal_line, refused_early}
-use Rattle.bcs_tool_answers.specs.Judging.{job_fault_name}
+use Rattle.bcs_tool_answers.proofs.Prelude.{◌∙◌, [], refl, refusal_line, refused_early, job_fault_name}
 use Rattle.bcs_tool_answers.proofs.AnswerLemmas.{placed_answer, with_place}
 use Rattle.bcs_tool_answers.proofs.refusing.refused_words.Goals as goal
 

@@ -1,6 +1,4 @@
-use Rattle.std.proofs.lemmas.Result.{IfOk-weaker}
-use Rattle.bcs_tool_answers.specs.Answers.{scan_stopped, scanned}
-use Rattle.bcs_tool_command_line.specs.declared.command.Command.TheVariants.{Scan}
+use Rattle.bcs_tool_answers.proofs.Prelude.{IfOk-weaker, scan_stopped, scanned, Scan}
 use Rattle.bcs_tool_answers.proofs.AnswerLemmas.{is_asked, placed_answer, same_answer}
 use Rattle.bcs_tool_answers.proofs.scan_answers.answer_scan.Goals as goal
 

@@ -1,6 +1,4 @@
-use Rattle.std.proofs.lemmas.Result.{IfOk-weaker}
-use Rattle.bcs_registry_model.specs.View.{shape_of}
-use Rattle.bcs_tool_answers.specs.Answers.{described}
+use Rattle.bcs_tool_answers.proofs.Prelude.{IfOk-weaker, shape_of, described}
 use Rattle.bcs_tool_answers.proofs.AnswerLemmas.{same_answer}
 use Rattle.bcs_tool_answers.proofs.schemas.schema_answer.Goals as goal
 

@@ -1,9 +1,4 @@
-use Rattle.std.proofs.Common.{◌∙◌, IfOk, inl, refl, subst}
-use Rattle.std.proofs.lemmas.Result.{IfOk-weaker}
-use Rattle.bcs_tool_answers.specs.Answers.{encoded, printed, refused}
-use Rattle.bcs_tool_answers.specs.Places.{PrintsWithoutPlace}
-use Rattle.bcs_tool_command_line.specs.declared.coding.Coding.{Coding}
-use Rattle.bcs_tool_command_line.specs.declared.command.Command.TheVariants.{Encode}
+use Rattle.bcs_tool_answers.proofs.Prelude.{◌∙◌, IfOk, inl, refl, subst, IfOk-weaker, encoded, printed, refused, PrintsWithoutPlace, Coding, Encode}
 use Rattle.bcs_tool_answers.proofs.AnswerLemmas.{is_asked, placed_answer, same_answer, with_place}
 use Rattle.bcs_tool_answers.proofs.value_answers.answer_encode.Goals as goal
 

@@ -1,7 +1,4 @@
-use Rattle.std.proofs.Common.{◌∙◌, inr, refl, string_bytes}
-use Rattle.std.proofs.lemmas.Result.{IfOk-weaker}
-use Rattle.bcs_tool_answers.specs.Answers.{normalised, refused}
-use Rattle.bcs_tool_command_line.specs.declared.command.Command.TheVariants.{Normalise}
+use Rattle.bcs_tool_answers.proofs.Prelude.{◌∙◌, inr, refl, string_bytes, IfOk-weaker, normalised, refused, Normalise}
 use Rattle.bcs_tool_answers.proofs.AnswerLemmas.{is_asked, placed_answer, same_answer, with_place}
 use Rattle.bcs_tool_answers.proofs.value_answers.answer_normalise.Goals as goal
 

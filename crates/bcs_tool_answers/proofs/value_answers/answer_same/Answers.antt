@@ -1,8 +1,4 @@
-use Rattle.std.proofs.Common.{List, subst, ℕ}
-use Rattle.bcs_registry_model.specs.View.{shape_of}
-use Rattle.bcs_tool_answers.specs.Answers.{AnswersTexts, compared}
-use Rattle.bcs_tool_answers.specs.Places.{nothing}
-use Rattle.bcs_tool_command_line.specs.declared.command.Command.TheVariants.{Same}
+use Rattle.bcs_tool_answers.proofs.Prelude.{List, subst, ℕ, shape_of, AnswersTexts, compared, nothing, Same}
 use Rattle.bcs_tool_answers.proofs.AnswerLemmas.{is_asked, placed_answer, with_place}
 use Rattle.bcs_tool_answers.proofs.value_answers.answer_same.Goals as goal
 

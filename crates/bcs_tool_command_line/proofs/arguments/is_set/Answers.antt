@@ -1,8 +1,4 @@
-use Rattle.std.proofs.Common.{◌≡◌, ◌∙◌, ap, refl, codes, Option, Some, None, option_map, unwrap_or, Bor, List, ℕ}
-use Rattle.std.specs.Str.{bytes_eq}
-use Rattle.clap.specs.Words.{found_of}
-use Rattle.clap.proofs.WalkLemmas.{first_value-rows}
-use Rattle.bcs_tool_command_line.specs.Jobs.{text_or_empty}
+use Rattle.bcs_tool_command_line.proofs.Prelude.{◌≡◌, ◌∙◌, ap, refl, codes, Option, Some, None, option_map, unwrap_or, Bor, List, ℕ, bytes_eq, found_of, first_value-rows, text_or_empty}
 use Rattle.bcs_tool_command_line.proofs.arguments.is_set.Goals as goal
 
 unwrap_or-option_map : {X Y : Type 0} (f : X → Y) (o : Option X) (d : X)

@@ -1,7 +1,4 @@
-use Rattle.std.proofs.Common.{◌∙◌, ap, codes, refl, rules}
-use Rattle.clap.specs.Words.{found_of}
-use Rattle.clap.proofs.WalkLemmas.{first_value-rows}
-use Rattle.bcs_tool_command_line.specs.Jobs.{text_or_empty}
+use Rattle.bcs_tool_command_line.proofs.Prelude.{◌∙◌, ap, codes, refl, rules, found_of, first_value-rows, text_or_empty}
 use Rattle.bcs_tool_command_line.proofs.FoundTexts.{either}
 use Rattle.bcs_tool_command_line.proofs.arguments.job_of.Goals as goal
 

@@ -1,7 +1,5 @@
-use Rattle.std.proofs.Common.{arith, subst, sym, ℕ}
-use Rattle.std.specs.Str.Parse.{ExplainsUnsignedError, HasUnsignedDigitsIfOk, ParsesUnsigned}
-use Rattle.clap.specs.Words.{found_of, one_of, rows_of}
-use Rattle.bcs_tool_command_line.specs.Jobs.{WritesLimit}
+use Rattle.bcs_tool_command_line.proofs.Prelude.{arith, subst, sym, ℕ, ExplainsUnsignedError, HasUnsignedDigitsIfOk, ParsesUnsigned, found_of, rows_of, WritesLimit}
+use Rattle.clap.specs.Words.{one_of}
 use Rattle.bcs_tool_command_line.proofs.LimitLemmas.{read_limit}
 use Rattle.bcs_tool_command_line.proofs.arguments.number_of.Goals as goal
 

@@ -1,6 +1,4 @@
-use Rattle.std.proofs.Common.{◌≡◌, ◌∙◌, codes, rules}
-use Rattle.clap.specs.Words.{found_of}
-use Rattle.clap.proofs.WalkLemmas.{first_value-rows}
+use Rattle.bcs_tool_command_line.proofs.Prelude.{◌≡◌, ◌∙◌, codes, rules, found_of, first_value-rows}
 use Rattle.bcs_tool_command_line.proofs.FoundTexts.{either}
 use Rattle.bcs_tool_command_line.proofs.arguments.options_of.Goals as goal
 

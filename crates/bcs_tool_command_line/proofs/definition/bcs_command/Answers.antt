@@ -1,17 +1,12 @@
-use Rattle.std.proofs.Common.{◌≡◌, ◌∙◌, ap, codes, fold}
-use Rattle.std.proofs.lemmas.Result.{IfOk-weaker}
-use Rattle.clap.specs.Words.{App, app_of, new_app}
-use Rattle.clap.specs.Simple.{app_of_fields}
-use Rattle.bcs_tool_command_line.specs.CommandLine.{tells_version, wants_command}
-use Rattle.bcs_tool_command_line.specs.Words.{input_apps, registry_apps, with_command}
+use Rattle.bcs_tool_command_line.proofs.Prelude.{◌≡◌, ◌∙◌, ap, codes, fold, IfOk-weaker, App, app_of, new_app, app_of_fields, reports_version, wants_command, input_apps, registry_apps, with_command}
 use Rattle.bcs_tool_command_line.proofs.definition.bcs_command.Goals as goal
 
 pub returns : goal.returns
 returns c =
     let plain = ap app_of_fields c.after_help.ensures ∙ (ap app_of_fields c.about.ensures ∙ c.new.ensures.app) in
-    let top : app_of c.subcommand_required-program.result ≡ wants_command (tells_version (new_app (codes "bcs"))) =
+    let top : app_of c.subcommand_required-program.result ≡ wants_command (reports_version (new_app (codes "bcs"))) =
     ap app_of_fields c.subcommand_required-program.ensures
-    ∙ ap wants_command (ap app_of_fields c.version.ensures ∙ ap tells_version plain) in
+    ∙ ap wants_command (ap app_of_fields c.version.ensures ∙ ap reports_version plain) in
     IfOk-weaker c.with_input_commands.result _ _
     (λ r h. h ∙ ap (λ (a : App). fold with_command a input_apps)
     (c.in_ok-with_registry_commands.ensures ∙ ap (λ (a : App). fold with_command a registry_apps) top))

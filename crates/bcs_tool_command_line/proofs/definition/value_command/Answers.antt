@@ -1,7 +1,4 @@
-use Rattle.std.proofs.Common.{◌∙◌, ap, fold, map}
-use Rattle.std.proofs.lemmas.Result.{IfOk-weaker}
-use Rattle.clap.specs.Words.{App, with_rule}
-use Rattle.bcs_tool_command_line.specs.Words.{rule_of_word}
+use Rattle.bcs_tool_command_line.proofs.Prelude.{◌∙◌, ap, fold, map, IfOk-weaker, App, with_rule, rule_of_word}
 use Rattle.bcs_tool_command_line.proofs.definition.value_command.Goals as goal
 
 pub returns-clause-app : goal.returns-clause-app

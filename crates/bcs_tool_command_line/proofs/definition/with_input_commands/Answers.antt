@@ -1,5 +1,4 @@
-use Rattle.std.proofs.Common.{refl}
-use Rattle.std.proofs.lemmas.Result.{IfOk-weaker}
+use Rattle.bcs_tool_command_line.proofs.Prelude.{refl, IfOk-weaker}
 use Rattle.bcs_tool_command_line.proofs.Program.{added}
 use Rattle.bcs_tool_command_line.proofs.definition.with_input_commands.Goals as goal
 

@@ -1,5 +1,4 @@
-use Rattle.std.proofs.Common.{arith}
-use Rattle.std.proofs.lemmas.Grind.{common_steps}
+use Rattle.bcs_tool_command_line.proofs.Prelude.{arith, common_steps}
 use Rattle.bcs_tool_command_line.proofs.definition.with_words.Goals as goal
 
 pub loop-word-preserved : goal.loop-word-preserved

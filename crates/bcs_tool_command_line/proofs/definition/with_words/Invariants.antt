@@ -1,7 +1,4 @@
-use Rattle.std.proofs.Common.{◌≡◌, drop, false, fold, map}
-use Rattle.clap.specs.Words.{app_of, with_rule}
-use Rattle.clap.specs.declared.builder.command.Command.TheViews.{out-Command}
-use Rattle.bcs_tool_command_line.specs.Words.{rule_of_word}
+use Rattle.bcs_tool_command_line.proofs.Prelude.{◌≡◌, drop, false, fold, map, app_of, with_rule, out-Command, rule_of_word}
 use Rattle.bcs_tool_command_line.proofs.definition.with_words.Given as goal
 
 abbrev pub invariant-loop-word : goal.invariant-loop-word

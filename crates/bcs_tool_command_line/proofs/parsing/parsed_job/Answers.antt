@@ -1,7 +1,5 @@
-use Rattle.std.proofs.Common.{◌∙◌, sym, rules}
-use Rattle.clap.specs.Words.{app_of, fault_of, found_of, rows_of}
-use Rattle.bcs_tool_command_line.specs.CommandLine.{bcs_app, texts_of}
-use Rattle.bcs_tool_command_line.specs.LineFaults.{IsFaultAmong}
+use Rattle.bcs_tool_command_line.proofs.Prelude.{◌∙◌, sym, rules, app_of, found_of, rows_of, bcs_app, texts_of, IsFaultAmong}
+use Rattle.clap.specs.Words.{fault_of}
 use Rattle.bcs_tool_command_line.proofs.LineFaultLemmas.{fault_of_error, none_is_memory, taken_as}
 use Rattle.bcs_tool_command_line.proofs.CommandNames.{met_is_named, met_job}
 use Rattle.bcs_tool_command_line.proofs.CommandOptions.{met_limits}

@@ -1,4 +1,4 @@
-use Rattle.std.proofs.Common.{rules}
+use Rattle.bcs_tool_command_line.proofs.Prelude.{rules}
 use Rattle.bcs_tool_command_line.proofs.parsing.refusal.Goals as goal
 
 pub returns-then-eq : goal.returns-then-eq

@@ -1,7 +1,4 @@
-use Rattle.std.proofs.Common.{◌≡◌, suc, refl, ap, ◌∙◌, arith}
-use Rattle.bcs_value_model.specs.Tree.{nodes, pairs_nodes}
-use Rattle.bcs_value_model.specs.View.{tree_of, entries_pairs}
-use Rattle.bcs_value_model.proofs.Views.{tree_of_pairs}
+use Rattle.bcs_value.proofs.Prelude.{◌≡◌, suc, refl, ap, ◌∙◌, arith, nodes, pairs_nodes, tree_of, entries_pairs, tree_of_pairs}
 use Rattle.bcs_value.proofs.counting.+nodes.Goals as goal
 
 pub nodes-returns-in-Pairs : goal.nodes-returns-in-Pairs

@@ -1,6 +1,4 @@
-use Rattle.std.proofs.Common.{◌≡◌, ◌+◌, ◌≤◌, min, drop}
-use Rattle.bcs_value_model.specs.Tree.{trees_nodes, pairs_nodes}
-use Rattle.bcs_value_model.specs.View.{items_trees, entries_pairs}
+use Rattle.bcs_value.proofs.Prelude.{◌≡◌, ◌+◌, ◌≤◌, min, drop, trees_nodes, pairs_nodes, items_trees, entries_pairs}
 use Rattle.bcs_value.proofs.counting.+nodes.Given as goal
 
 abbrev pub invariant-items_nodes-loop-item : goal.invariant-items_nodes-loop-item

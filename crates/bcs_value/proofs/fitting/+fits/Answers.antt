@@ -1,6 +1,4 @@
-use Rattle.std.proofs.Common.{sym, arith}
-use Rattle.bcs_value_model.proofs.FitsByViews.{each_fits-unlike, fields_fit-unlike, fits-found, fits-missing, fits-map, fits-text, fits-bytes}
-use Rattle.bcs_value_model.proofs.Views.{tree_of_signed, tree_of_unsigned}
+use Rattle.bcs_value.proofs.Prelude.{sym, arith, each_fits-unlike, fields_fit-unlike, fits-found, fits-missing, fits-map, fits-text, fits-bytes, tree_of_signed, tree_of_unsigned}
 use Rattle.bcs_value.proofs.fitting.+fits.Goals as goal
 
 pub each_fits-returns-then-items-formats : goal.each_fits-returns-then-items-formats

@@ -1,8 +1,5 @@
-use Rattle.std.proofs.Common.{◌≡◌, map, drop}
-use Rattle.bcs_registry_model.specs.Container.{field_shapes}
-use Rattle.bcs_registry_model.specs.View.{field_of, formats_shapes, shape_of}
+use Rattle.bcs_value.proofs.Prelude.{◌≡◌, map, drop, field_shapes, field_of, formats_shapes, shape_of, entries_pairs, items_trees}
 use Rattle.bcs_value_model.specs.Fits as spec
-use Rattle.bcs_value_model.specs.View.{entries_pairs, items_trees}
 use Rattle.bcs_value.proofs.fitting.+fits.Given as goal
 
 abbrev pub invariant-all_fit-loop-item : goal.invariant-all_fit-loop-item

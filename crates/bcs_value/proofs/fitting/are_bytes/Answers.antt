@@ -1,5 +1,4 @@
-use Rattle.std.proofs.Common.{sym}
-use Rattle.bcs_value_model.proofs.FitsByViews.{bytes_are}
+use Rattle.bcs_value.proofs.Prelude.{sym, bytes_are}
 use Rattle.bcs_value.proofs.fitting.are_bytes.Goals as goal
 
 pub returns : goal.returns

@@ -1,4 +1,4 @@
-use Rattle.std.proofs.Common.{rules}
+use Rattle.bcs_value.proofs.Prelude.{rules}
 use Rattle.bcs_value.proofs.fitting.fits_loosely.Goals as goal
 
 pub returns : goal.returns

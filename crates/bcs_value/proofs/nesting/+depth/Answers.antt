@@ -1,5 +1,4 @@
-use Rattle.std.proofs.Common.{rules}
-use Rattle.bcs_value_model.specs.declared.value.Value.TheFolds.{the_lemmas}
+use Rattle.bcs_value.proofs.Prelude.{rules, the_lemmas}
 use Rattle.bcs_value.proofs.nesting.+depth.Goals as goal
 
 pub depth-returns-in-Named : goal.depth-returns-in-Named

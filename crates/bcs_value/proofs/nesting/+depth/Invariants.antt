@@ -1,6 +1,4 @@
-use Rattle.std.proofs.Common.{◌≡◌, min, max, drop}
-use Rattle.bcs_value_model.specs.Tree.{trees_depth, pairs_depth}
-use Rattle.bcs_value_model.specs.View.{items_trees, entries_pairs}
+use Rattle.bcs_value.proofs.Prelude.{◌≡◌, min, max, drop, trees_depth, pairs_depth, items_trees, entries_pairs}
 use Rattle.bcs_value.proofs.nesting.+depth.Given as goal
 
 abbrev pub invariant-items_depth-loop-item : goal.invariant-items_depth-loop-item

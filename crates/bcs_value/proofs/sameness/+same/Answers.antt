@@ -1,9 +1,4 @@
-use Rattle.std.proofs.Common.{◌≡◌, true, sym, ◌∙◌, rules}
-use Rattle.std.proofs.lemmas.Bool.{and_from}
-use Rattle.std.proofs.lemmas.List.{at_drop_all}
-use Rattle.bcs_value_model.specs.Same.{is_within}
-use Rattle.bcs_value_model.specs.View.{entries_pairs}
-use Rattle.bcs_value_model.specs.declared.value.Value.TheFolds.{the_lemmas}
+use Rattle.bcs_value.proofs.Prelude.{◌≡◌, true, sym, ◌∙◌, rules, and_from, at_drop_all, is_within, entries_pairs, the_lemmas}
 use Rattle.bcs_value.proofs.Classes.{within_full}
 use Rattle.bcs_value.proofs.SameByViews.{all_same-unlike, is_within-step, same-Pairs}
 use Rattle.bcs_value.proofs.sameness.+same.Goals as goal
@@ -20,11 +15,11 @@ pub same_pairs-loop-pair-preserved : goal.same_pairs-loop-pair-preserved
 same_pairs-loop-pair-preserved t c =
     c.loop-pair.invariant ∙ is_within-step _ _ _ _ c.loop-pair-test.true c.pair-item.is (sym c.if-not-is_among.ensures)
 
-pub same_pairs-returns-then-not-has_twins : goal.same_pairs-returns-then-not-has_twins
-same_pairs-returns-then-not-has_twins t c =
+pub same_pairs-returns-then-not-has_repeated_entries : goal.same_pairs-returns-then-not-has_repeated_entries
+same_pairs-returns-then-not-has_repeated_entries t c =
     let w : is_within (entries_pairs c.args.xs.now) (entries_pairs c.args.ys.now) ≡ true =
     c.loop-pair.invariant ∙ at_drop_all (λ zs. is_within (entries_pairs zs) (entries_pairs c.args.ys.now)) c.args.xs.now c.loop-pair.pair-index c.loop-pair-test.false in
-    sym (and_from _ _ w (within_full _ _ c.if-xs-ys.true (sym c.has_twins.ensures ∙ c.if-not-has_twins.true) w))
+    sym (and_from _ _ w (within_full _ _ c.if-xs-ys.true (sym c.has_repeated_entries.ensures ∙ c.if-not-has_repeated_entries.true) w))
 
 pub same-returns-in-Named-Named : goal.same-returns-in-Named-Named
 same-returns-in-Named-Named t c = search (rules, the_lemmas)

@@ -1,7 +1,4 @@
-use Rattle.std.proofs.Common.{◌≡◌, drop, ◌&&◌}
-use Rattle.bcs_value_model.specs.Same.{same, all_same, any_pair, all_pairs, is_within, has_pair}
-use Rattle.bcs_value.specs.Twins.{has_twins}
-use Rattle.bcs_value_model.specs.View.{tree_of, items_trees, entries_pairs}
+use Rattle.bcs_value.proofs.Prelude.{◌≡◌, drop, ◌&&◌, same, all_same, any_pair, all_pairs, is_within, has_pair, has_repeated_entries, tree_of, items_trees, entries_pairs}
 use Rattle.bcs_value.proofs.sameness.+same.Given as goal
 
 abbrev pub invariant-all_same-loop-i : goal.invariant-all_same-loop-i
@@ -27,5 +24,5 @@ invariant-same_pairs-loop-key l =
     all_pairs (has_pair (entries_pairs l.xs)) (entries_pairs l.ys)
     ≡ all_pairs (has_pair (entries_pairs l.xs)) (entries_pairs (drop l.key-index l.ys))
 
-abbrev pub invariant-has_twins-loop-i : goal.invariant-has_twins-loop-i
-invariant-has_twins-loop-i l = has_twins (entries_pairs l.pairs) ≡ has_twins (entries_pairs (drop l.i l.pairs))
+abbrev pub invariant-has_repeated_entries-loop-i : goal.invariant-has_repeated_entries-loop-i
+invariant-has_repeated_entries-loop-i l = has_repeated_entries (entries_pairs l.pairs) ≡ has_repeated_entries (entries_pairs (drop l.i l.pairs))

@@ -1,6 +1,4 @@
-use Rattle.std.proofs.Common.{◌≡◌, take, map}
-use Rattle.bcs_value_model.specs.Tree.{Tree}
-use Rattle.bcs_value_model.specs.View.{tree_of}
+use Rattle.bcs_value_model.proofs.Prelude.{◌≡◌, take, map, Tree, tree_of}
 use Rattle.bcs_value_model.proofs.copying.+copy.Given as goal
 
 abbrev pub invariant-copy_items-loop-item : goal.invariant-copy_items-loop-item

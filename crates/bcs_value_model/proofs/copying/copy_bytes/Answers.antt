@@ -1,6 +1,4 @@
-use Rattle.std.proofs.Common.{◌≡◌, ap, ◌∙◌, rules}
-use Rattle.std.proofs.lemmas.List.Elements.{same_from_all_zip}
-use Rattle.bcs_value_model.specs.Tree.{bytes}
+use Rattle.bcs_value_model.proofs.Prelude.{◌≡◌, ap, ◌∙◌, rules, same_from_all_zip, bytes}
 use Rattle.bcs_value_model.proofs.Views.{tree_of_bytes}
 use Rattle.bcs_value_model.proofs.copying.copy_bytes.Goals as goal
 

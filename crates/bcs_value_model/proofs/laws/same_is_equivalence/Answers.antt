@@ -1,4 +1,4 @@
-use Rattle.std.proofs.Common.{◌∙◌}
+use Rattle.bcs_value_model.proofs.Prelude.{◌∙◌}
 use Rattle.bcs_value_model.proofs.Equivalence.{same-refl, same-sym, same-trans}
 use Rattle.bcs_value_model.proofs.laws.same_is_equivalence.Goals as goal
 

@@ -1,16 +1,9 @@
 -- A handle may go to another thread, since a registry may, and so may the right to free its block.
 use Rattle.bcs_c.proofs.Steps.{full_share, lone, bare, Ptr, block_ptr, null_ptr, lies_at, shape, to, Global, Option, None, Some}
-use base.Shift.{Keyless}
-use denote.Exit.{Exit, unchanged, leaves, hidden, under}
-use denote.Param.Send.{IsSend, AllSend, Quiet, owning_send, part_keyless, struct_send, sendable}
-use denote.Struct.Owning.{fields}
-use denote.Struct.Struct.{exits_of}
-use Rattle.std.proofs.Crossing.{frees}
+use Rattle.bcs_c.proofs.Prelude.{Keyless, Exit, unchanged, leaves, hidden, under, IsSend, AllSend, Quiet, owning_send, part_keyless, struct_send, sendable, fields, exits_of, frees, holds, the_row, the_type}
 use Rattle.std.proofs.alloc.Global.TheSendSync as allocator
 use Rattle.bcs_c.proofs.RegistrySend.{registry}
 use Rattle.bcs_c.proofs.Holdings.{R}
-use Rattle.bcs_c.specs.Holding.{holds}
-use Rattle.bcs_c.specs.contracts.handle.Handle.{the_row, the_type}
 
 -- nothing that a handle owns names a thread
 lies : (p : Ptr) (x : R.Denot) → Keyless (lies_at R full_share p x)

@@ -1,9 +1,8 @@
 -- Null is told from a block, whose pointer comes out with what the handle owned.
 use Rattle.bcs_c.proofs.Steps.{◌≡◌, List, [], ◌∷◌, ◌++◌, refl, sym, ap, ◌∙◌, subst, lit<, Val, vcons, vnil, SProp, ent, emp, id⊢, ftrue, WpFn, ‵, raw, ◌⊛◌, at_ret, ◌$◌, ◌∵◌, !, qed, by, move, keep, split, fsplit, fjoin, suffices, use0, use1, stop, fld, lit, of_opd, bin, no_more, and_then, first, branches, exec, returns, enter, alloc_all, pass_all, free_all, look_at, get, get_in, sets, sets_last, env, live, agg, sub, whole, fact, fact_i, tables, yes, layout, RattleType, owns, Ptr, block_ptr, null_ptr, ptr_val, tests_null, types_at, type_at, plain, nothing, Stays, stay_dropped, walk_of, Goes-dropped, after, Good, Some-of, none_of, proved_at, leaves, and_tt, None, Some}
-use Rattle.std.specs.contracts.impls.GlobalAllocator.TheImpl.{ghosts}
+use Rattle.bcs_c.proofs.Prelude.{ghosts, the_row}
 use Rattle.bcs_c.proofs.Holdings.{R, Z, L, RawBox, handle_good, handle_out, either}
 use Rattle.bcs_c.proofs.RawBoxes.{both, raw_good, raw_in}
-use Rattle.bcs_c.specs.contracts.handle.Handle.{the_row}
 use Rattle.bcs_c.specs.contracts.handle.Handle.into_raw as f
 use Rattle.bcs_c.proofs.handle.Handle.into_raw.Statement.{statement}
 use Rattle.bcs_c.proofs.handle.Handle.into_raw.Code as code

@@ -1,9 +1,8 @@
 -- The pointer goes into the handle, and what the box owned with it.
 use Rattle.bcs_c.proofs.Steps.{◌≡◌, List, [], ◌∷◌, ◌++◌, refl, sym, subst, Val, vptr, SProp, ent, emp, id⊢, ftrue, WpFn, ‵, raw, ◌⊛◌, ◌$◌, ◌∵◌, !, qed, by, move, keep, split, fsplit, fjoin, suffices, use0, stop, fld, of_opd, no_more, and_then, returns, enter, alloc_all, pass_all, free_all, look_at, get, get_in, sets, agg, sub, whole, fact, fact_i, tables, yes, owns, types_at, plain, block_ptr, nothing, Stays, stay_dropped, walk_of, Goes-dropped, proved_at, leaves, Some}
-use Rattle.std.specs.contracts.impls.GlobalAllocator.TheImpl.{ghosts}
+use Rattle.bcs_c.proofs.Prelude.{ghosts, Handle}
 use Rattle.bcs_c.proofs.Holdings.{R, Z, L, RawBox, handle_in}
 use Rattle.bcs_c.proofs.RawBoxes.{both, raw_good, raw_out}
-use Rattle.bcs_c.specs.declared.handle.Handle.{Handle}
 use Rattle.bcs_c.specs.contracts.handle.Handle.of_raw as f
 use Rattle.bcs_c.proofs.handle.Handle.of_raw.Statement.{statement}
 use Rattle.bcs_c.proofs.handle.Handle.of_raw.Code as code

@@ -1,11 +1,9 @@
 -- `into_box` makes the box again by std's call.
 use Rattle.bcs_c.proofs.Steps.{◌≡◌, List, [], ◌∷◌, ◌++◌, refl, sym, ap, subst, a_type, dcons, dnil, Val, vptr, inst_fn, ftrue, flft, SProp, ent, id⊢, WpFn, ‵, raw, ◌⊛◌, some, later, at_ret, ◌$◌, ◌∵◌, !, qed, by, move, keep, drop, split, split3, join, fsplit, fjoin, pick, suffices, use1, await, rewrite, feq_i, stop, fld, of_opd, no_more, and_then, first, blocks, exec, returns, enter, alloc_all, pass_all, free_all, look_at, get, get_in, sets, lands_last, env, sub, whole, fact, ◌⊑◌, tables, no, RattleType, owns, block_ptr, types_at, plain, nothing, only, param, layout, bounded, param_laws, Lasts, lasts, triple_of, calls_at_last, framed, Stays, stay_dropped, walk_of, Goes-blank, after, Good, proved_at, leaves}
 use Rattle.std.proofs.BoxSteps.Form as box
-use Rattle.std.proofs.BoxSteps.Steps.{box_out, box_in}
+use Rattle.bcs_c.proofs.Prelude.{box_out, box_in, met, ended, clauses}
 use Rattle.bcs_c.proofs.RawBoxes.{both, RawBox, raw_good, raw_out}
 use Rattle.std.specs.contracts.boxed.Box.from_raw as callee
-use Rattle.std.proofs.boxed.Box.from_raw.Met.{met}
-use Rattle.bcs_c.specs.contracts.raw_box.RawBox.into_box.{ended, clauses}
 use Rattle.bcs_c.specs.contracts.raw_box.RawBox.into_box.Key.{name as #self}
 use Rattle.bcs_c.proofs.raw_box.RawBox.into_box.Statement.{statement}
 use Rattle.bcs_c.proofs.raw_box.RawBox.into_box.Code as code

@@ -1,7 +1,7 @@
 -- `of` takes the box apart by std's call, and makes a struct of the two parts.
 use Rattle.bcs_c.proofs.Steps.{◌≡◌, List, [], ◌∷◌, ◌++◌, refl, sym, ap, ◌∙◌, subst, bare, a_type, dcons, dnil, Val, vptr, vstruct, of_list, inst_fn, ftrue, fsep, flft, SProp, ent, emp, fst∗, never, id⊢, WpFn, sem, ‵, raw, ◌⊛◌, some, later, ◌$◌, ◌∵◌, !, qed, by, move, keep, drop, split, split3, join, fsplit, fjoin, fpick, pick, suffices, use0, use1, await, rewrite, feq_l, stop, fld, of_opd, no_more, and_then, returns, enter, alloc_all, pass_all, free_all, look_at, get, get_in, sets, lands_as, agg, sub, whole, fact, fact_i, tables, RawPtr, no, RattleType, owns, Ptr, block_ptr, null_ptr, ptr_val, in_a_block, types_at, plain, nothing, only, heard, param, layout, bounded, param_laws, Tuple, triple_of, calls_at, framed, Stays, stay_dropped, walk_of, Goes-blank, handle_tells, box_owns, proved_at, leaves}
 use Rattle.std.proofs.BoxSteps.Form as box
-use Rattle.std.proofs.BoxSteps.Steps.{box_out, box_in}
+use Rattle.bcs_c.proofs.Prelude.{box_out, box_in}
 use Rattle.bcs_c.proofs.RawBoxes.{both, raw_good, raw_in}
 use Rattle.std.specs.contracts.boxed.Box.into_raw_with_allocator as callee
 use Rattle.std.proofs.boxed.Box.into_raw_with_allocator.Met.{met}

@@ -1,4 +1,4 @@
-use Rattle.std.proofs.Common.{drop, length-take-le, length-append, length-drop, arith}
+use Rattle.bcs_decode_source.proofs.Prelude.{drop, length-take-le, length-append, length-drop, arith}
 use Rattle.bcs_decode_source.proofs.Readers.{Reads-exit}
 use Rattle.bcs_decode_source.proofs.Leading.{Reads-count, Leads-on, Leads-ends, Leads-done}
 use Rattle.bcs_decode_source.proofs.PastBlocks.{bytes_on, bytes_end_early, bytes_end}

@@ -1,5 +1,4 @@
-use Rattle.std.proofs.Common.{◌≡◌, length}
-use Rattle.bcs_decode_source.specs.Past.{bytes_run}
+use Rattle.bcs_decode_source.proofs.Prelude.{◌≡◌, length, bytes_run}
 use Rattle.bcs_decode_source.proofs.Leading.{Leads}
 use Rattle.bcs_decode_source.proofs.scanning.blocks.pass_bytes.Given as goal
 

@@ -1,8 +1,5 @@
-use Rattle.std.proofs.Common.{ℕ}
-use Rattle.bcs_decode_spec.specs.Reading.{length_here}
-use Rattle.bcs_decode_slice.specs.Passing.{counted_here, bytes_past}
+use Rattle.bcs_decode_source.proofs.Prelude.{ℕ, length_here, counted_here, bytes_past, bytes_run}
 use Rattle.bcs_decode_source.proofs.Readers.{Reads-then, Reads-ends, Reads-exit}
-use Rattle.bcs_decode_source.specs.Past.{bytes_run}
 use Rattle.bcs_decode_source.proofs.scanning.leaves.bytes.Goals as goal
 
 pub returns-in_err-begin-clause-reads : goal.returns-in_err-begin-clause-reads

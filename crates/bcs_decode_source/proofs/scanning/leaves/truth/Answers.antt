@@ -1,5 +1,4 @@
-use Rattle.std.proofs.Common.{refl}
-use Rattle.bcs_decode_slice.specs.Passing.{truth_here}
+use Rattle.bcs_decode_source.proofs.Prelude.{refl, truth_here}
 use Rattle.bcs_decode_source.proofs.Readers.{Reads-then, Reads-made, Reads-ends, Reads-exit}
 use Rattle.bcs_decode_source.proofs.scanning.leaves.truth.Goals as goal
 

@@ -1,5 +1,4 @@
-use Rattle.std.proofs.Common.{refl, length-take-le}
-use Rattle.bcs_decode_slice.specs.Passing.{whole_here}
+use Rattle.bcs_decode_source.proofs.Prelude.{refl, length-take-le, whole_here}
 use Rattle.bcs_decode_source.proofs.Readers.{Reads-then, Reads-made, Reads-ends, Reads-exit}
 use Rattle.bcs_decode_source.proofs.Leading.{Reads-count}
 use Rattle.bcs_decode_source.proofs.scanning.leaves.whole.Goals as goal

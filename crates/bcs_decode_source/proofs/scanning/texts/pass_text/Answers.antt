@@ -1,4 +1,4 @@
-use Rattle.std.proofs.Common.{◌≡◌, ◌+◌, ◌-◌, ◌<◌, ◌≤◌, ◌⊎◌, inl, inr, ◌∙◌, arith}
+use Rattle.bcs_decode_source.proofs.Prelude.{◌≡◌, ◌+◌, ◌-◌, ◌<◌, ◌≤◌, ◌⊎◌, inl, inr, ◌∙◌, arith}
 use Rattle.bcs_decode_source.proofs.Readers.{Onward-none, Onward-then, Onward-ends, Onward-stops, Onward-done, Reads-exit}
 use Rattle.bcs_decode_source.proofs.PastTexts.{text_none, text_more, text_refused, text_cut, text_good, text_bad}
 use Rattle.bcs_decode_source.proofs.scanning.texts.pass_text.Goals as goal

@@ -1,6 +1,4 @@
-use Rattle.std.proofs.Common.{◌≡◌, ◌+◌, ◌-◌, take, drop, slice_range, length-take, sym, ap, subst, ◌∙◌, arith}
-use Rattle.std.proofs.lemmas.List.{drop-take}
-use Rattle.bcs_decode_source.specs.Texts.{BeginsNoText}
+use Rattle.bcs_decode_source.proofs.Prelude.{◌≡◌, ◌+◌, ◌-◌, take, drop, slice_range, length-take, sym, ap, subst, ◌∙◌, arith, drop-take, BeginsNoText}
 use Rattle.bcs_decode_source.proofs.scanning.texts.settle.Goals as goal
 
 pub returns-clause-behind : goal.returns-clause-behind

@@ -1,10 +1,7 @@
-use Rattle.std.proofs.Common.{◌≡◌, ◌+◌, ◌≤◌, true, take, Err, sym, subst, ◌∙◌, arith, rules}
-use Rattle.std.proofs.lemmas.List.{take-take}
-use Rattle.bcs_io.specs.Lines.{HasNoLineFeed}
+use Rattle.bcs_io.proofs.Prelude.{◌≡◌, ◌+◌, ◌≤◌, true, take, Err, sym, subst, ◌∙◌, arith, rules, take-take, HasNoLineFeed, OutOfMemory}
 use Rattle.bcs_io.proofs.Ahead.{searched_front}
 use Rattle.bcs_io.proofs.Searching.{plain-take}
 use Rattle.bcs_io.proofs.Reading.{Reads-last, Reads-line, Reads-runs_out, Reads-then, Reads-too_long}
-use Rattle.bcs_io.specs.declared.next_fault.NextFault.TheVariants.{OutOfMemory}
 use Rattle.bcs_io.proofs.line_buffer.LineBuffer.advance.Goals as goal
 
 pub loop-count-preserved : goal.loop-count-preserved

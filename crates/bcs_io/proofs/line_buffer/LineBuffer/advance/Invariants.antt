@@ -1,5 +1,4 @@
-use Rattle.std.proofs.Common.{◌≤◌, length, take}
-use Rattle.bcs_io.specs.Lines.{HasNoLineFeed}
+use Rattle.bcs_io.proofs.Prelude.{◌≤◌, length, take, HasNoLineFeed}
 use Rattle.bcs_io.proofs.Reading.{Reads}
 use Rattle.bcs_io.proofs.line_buffer.LineBuffer.advance.Given as goal
 

@@ -1,6 +1,4 @@
-use Rattle.std.proofs.Common.{◌≡◌, List, ℕ, length, drop, ap, ◌∙◌, subst}
-use Rattle.memchr.specs.Find.{Nowhere, NoneBefore, Passes, is_byte}
-use Rattle.bcs_io.specs.Held.{HeldLine}
+use Rattle.bcs_io.proofs.Prelude.{◌≡◌, List, ℕ, length, drop, ap, ◌∙◌, subst, Nowhere, NoneBefore, Passes, is_byte, HeldLine}
 use Rattle.bcs_io.proofs.Searching.{searched_part, searched_none, searched_found}
 use Rattle.bcs_io.proofs.line_buffer.LineBuffer.find_line_feed.Goals as goal
 

@@ -1,4 +1,4 @@
-use Rattle.std.proofs.Common.{rules}
+use Rattle.bcs_io.proofs.Prelude.{rules}
 use Rattle.bcs_io.proofs.read_source.ReadSourceByteSource.failed.Goals as goal
 
 pub returns : goal.returns

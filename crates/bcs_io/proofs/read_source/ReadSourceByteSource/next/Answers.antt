@@ -1,4 +1,4 @@
-use Rattle.std.proofs.Common.{rules}
+use Rattle.bcs_io.proofs.Prelude.{rules}
 use Rattle.bcs_io.proofs.read_source.ReadSourceByteSource.next.Goals as goal
 
 pub returns-then-self-clause-gives : goal.returns-then-self-clause-gives

@@ -1,5 +1,4 @@
-use Rattle.std.proofs.lemmas.Grind.{common_steps}
-use Rattle.std.proofs.Common.{rules, arith}
+use Rattle.bcs_io.proofs.Prelude.{common_steps, rules, arith}
 use Rattle.bcs_io.proofs.slice_source.SliceSourceByteSource.next.Goals as goal
 
 pub returns-clause-count : goal.returns-clause-count

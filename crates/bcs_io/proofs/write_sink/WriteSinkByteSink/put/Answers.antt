@@ -1,4 +1,4 @@
-use Rattle.std.proofs.Common.{rules}
+use Rattle.bcs_io.proofs.Prelude.{rules}
 use Rattle.bcs_io.proofs.write_sink.WriteSinkByteSink.put.Goals as goal
 
 pub returns-then-self-clause-takes : goal.returns-then-self-clause-takes

@@ -1,4 +1,4 @@
-use Rattle.std.proofs.Common.{rules}
+use Rattle.bcs_num.proofs.Prelude.{rules}
 use Rattle.bcs_num.proofs.width.Width.holds_signed.Goals as goal
 
 pub returns-then-number-lt0-clause-test : goal.returns-then-number-lt0-clause-test

@@ -1,4 +1,4 @@
-use Rattle.std.proofs.Common.{rules}
+use Rattle.bcs_num.proofs.Prelude.{rules}
 use Rattle.bcs_num.proofs.width.Width.holds_unsigned.Goals as goal
 
 pub returns-clause-test : goal.returns-clause-test

@@ -1,5 +1,4 @@
-use Rattle.bcs_registry_model.specs.View.{shape_of}
-use Rattle.bcs_registry_model.proofs.KnownNames.{admits_both, is_known_there}
+use Rattle.bcs_registry.proofs.Prelude.{shape_of, admits_both, is_known_there}
 use Rattle.bcs_registry.proofs.registry.Registry.admits.Goals as goal
 
 pub returns-then-has_few_levels-clause-answer : goal.returns-then-has_few_levels-clause-answer

@@ -1,7 +1,4 @@
-use Rattle.std.proofs.Common.{sym, ap, ◌∙◌, option_map, rules}
-use Rattle.bcs_registry_model.specs.Container.{container_at}
-use Rattle.bcs_registry_model.specs.View.{container_of}
-use Rattle.bcs_registry_model.proofs.Lookup.{map-copied, find-container}
+use Rattle.bcs_registry.proofs.Prelude.{sym, ap, ◌∙◌, option_map, rules, container_at, container_of, map-copied, find-container}
 use Rattle.bcs_registry.proofs.registry.Registry.container.Goals as goal
 
 pub returns-clause-found : goal.returns-clause-found

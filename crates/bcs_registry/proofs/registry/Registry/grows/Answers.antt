@@ -1,8 +1,4 @@
-use Rattle.std.proofs.Common.{ap, ◌∙◌}
-use Rattle.bcs_registry_model.specs.Growing.{growth_fault}
-use Rattle.bcs_registry_model.specs.View.{entries_of}
-use Rattle.bcs_registry_model.proofs.FirstFaults.{ok_exactly, fault_exactly}
-use Rattle.bcs_registry_model.proofs.Ranges.{enums_rise}
+use Rattle.bcs_registry.proofs.Prelude.{ap, ◌∙◌, growth_fault, entries_of, ok_exactly, fault_exactly, enums_rise}
 use Rattle.bcs_registry.proofs.registry.Registry.grows.Goals as goal
 
 pub returns-clause-ok : goal.returns-clause-ok

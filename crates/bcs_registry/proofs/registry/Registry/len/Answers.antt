@@ -1,5 +1,4 @@
-use Rattle.std.proofs.lemmas.Grind.{common_steps}
-use Rattle.std.proofs.Common.{rules, arith}
+use Rattle.bcs_registry.proofs.Prelude.{common_steps, rules, arith}
 use Rattle.bcs_registry.proofs.registry.Registry.len.Goals as goal
 
 pub returns-clause-orderly : goal.returns-clause-orderly

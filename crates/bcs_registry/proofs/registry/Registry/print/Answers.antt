@@ -1,13 +1,4 @@
-use Rattle.std.proofs.Common.{string_bytes, ◌≡◌, ◌∙◌, ◌≤◌, false, sym, ap, subst, rules}
-use Rattle.std.proofs.lemmas.Result.{IfOk-weaker}
-use Rattle.std.proofs.lemmas.Str.{IsUtf8-string_bytes}
-use Rattle.serde_json.specs.Data.{depth}
-use Rattle.serde_json.specs.Read.{max_depth}
-use Rattle.serde_json.specs.View.{view}
-use Rattle.serde_json.specs.Written.{compact_text, has_float}
-use Rattle.bcs_registry_json.specs.Shown.{shown_registry}
-use Rattle.bcs_registry_json.specs.Text.{IsRegistryText, WritesRegistry}
-use Rattle.bcs_registry_model.specs.View.{entries_of}
+use Rattle.bcs_registry.proofs.Prelude.{string_bytes, ◌≡◌, ◌∙◌, ◌≤◌, false, sym, ap, subst, rules, IfOk-weaker, IsUtf8-string_bytes, depth, max_depth, view, compact_text, has_float, shown_registry, IsRegistryText, WritesRegistry, entries_of}
 use Rattle.bcs_registry.proofs.ShownDepth.{depth-shown}
 use Rattle.bcs_registry.proofs.ShownFloats.{no_float-shown}
 use Rattle.bcs_registry.proofs.OneText.{same_registry}

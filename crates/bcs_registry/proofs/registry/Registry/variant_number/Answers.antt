@@ -1,4 +1,4 @@
-use Rattle.std.proofs.Common.{rules}
+use Rattle.bcs_registry.proofs.Prelude.{rules}
 use Rattle.bcs_registry.proofs.registry.Registry.variant_number.Goals as goal
 
 pub returns : goal.returns

@@ -1,6 +1,4 @@
-use Rattle.std.proofs.Common.{◌≡◌, ◌∙◌, map, take, ap, arith}
-use Rattle.std.proofs.lemmas.List.{take_all}
-use Rattle.serde_json.specs.View.{items_of}
+use Rattle.bcs_registry_json.proofs.Prelude.{◌≡◌, ◌∙◌, map, take, ap, arith, take_all, items_of}
 use Rattle.bcs_registry_json.proofs.ShownParts.{format_data, items_formats}
 use Rattle.bcs_registry_json.proofs.printing.formats.+format_value.Goals as goal
 

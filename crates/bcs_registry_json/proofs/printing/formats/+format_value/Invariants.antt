@@ -1,7 +1,4 @@
-use Rattle.std.proofs.Common.{◌≡◌, ◌+◌, ◌*◌, ◌≤◌, drop, map, take}
-use Rattle.serde_json.specs.View.{view}
-use Rattle.bcs_registry_model.specs.View.{formats_shapes, shape_of}
-use Rattle.bcs_registry_model.specs.WellFormed.{levels, shapes_levels}
+use Rattle.bcs_registry_json.proofs.Prelude.{◌≡◌, ◌+◌, ◌*◌, ◌≤◌, drop, map, take, view, formats_shapes, shape_of, levels, shapes_levels}
 use Rattle.bcs_registry_json.proofs.ShownParts.{format_data}
 use Rattle.bcs_registry_json.proofs.printing.formats.+format_value.Given as goal
 

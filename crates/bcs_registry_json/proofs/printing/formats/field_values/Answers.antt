@@ -1,6 +1,4 @@
-use Rattle.std.proofs.Common.{◌≡◌, ◌∙◌, map, take, ap, arith}
-use Rattle.std.proofs.lemmas.List.{take_all}
-use Rattle.serde_json.specs.View.{items_of}
+use Rattle.bcs_registry_json.proofs.Prelude.{◌≡◌, ◌∙◌, map, take, ap, arith, take_all, items_of}
 use Rattle.bcs_registry_json.proofs.ShownParts.{field_data, items_fields}
 use Rattle.bcs_registry_json.proofs.printing.formats.field_values.Goals as goal
 

@@ -1,5 +1,4 @@
-use Rattle.std.proofs.Common.{◌≡◌, map, take}
-use Rattle.serde_json.specs.View.{view}
+use Rattle.bcs_registry_json.proofs.Prelude.{◌≡◌, map, take, view}
 use Rattle.bcs_registry_json.proofs.ShownParts.{field_data}
 use Rattle.bcs_registry_json.proofs.printing.formats.field_values.Given as goal
 

@@ -1,13 +1,6 @@
-use Rattle.std.proofs.Common.{◌≡◌, ◌∙◌, ◌<◌, ◌^◌, List, [], ◌∷◌, ◌++◌, map, sym, ap, ap₂, subst, append_assoc, append-nil, arith}
+use Rattle.bcs_registry_json.proofs.Prelude.{◌≡◌, ◌∙◌, ◌<◌, ◌^◌, List, [], ◌∷◌, ◌++◌, map, sym, ap, ap₂, subst, append_assoc, append-nil, arith, IsStrictlySortedBy, keys_of, put, view, members_view, single, shown_choices, choice_of, Variant, all_push}
 use Rattle.std.specs.Fmt.{decimal}
-use Rattle.std.specs.List.Sorted.{IsStrictlySortedBy}
-use Rattle.std.specs.Map.{keys_of}
 use Rattle.std.specs.Ordering.{nat_cmp}
-use Rattle.serde_json.specs.Data.{put}
-use Rattle.serde_json.specs.View.{view, members_view}
-use Rattle.bcs_registry_json.specs.Shown.{single, shown_choices}
-use Rattle.bcs_registry_model.specs.View.{choice_of}
-use Rattle.bcs_registry_model.proofs.Rising.{Variant, all_push}
 use Rattle.bcs_registry_json.proofs.ShownParts.{variant_data, shown_choices-push}
 use Rattle.bcs_registry_json.proofs.printing.variants.variant_members.Goals as goal
 

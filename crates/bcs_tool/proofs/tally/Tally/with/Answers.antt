@@ -1,4 +1,4 @@
-use Rattle.std.proofs.Common.{◌==◌, ◌+◌, ap, arith, refl}
+use Rattle.bcs_tool.proofs.Prelude.{◌==◌, ◌+◌, ap, arith, refl}
 use Rattle.bcs_tool.proofs.TallyLemmas.{bit_within, count_room, tally_more}
 use Rattle.bcs_tool.proofs.tally.Tally.with.Goals as goal
 

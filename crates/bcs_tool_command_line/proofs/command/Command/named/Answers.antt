@@ -1,4 +1,4 @@
-use Rattle.std.proofs.Common.{rules}
+use Rattle.bcs_tool_command_line.proofs.Prelude.{rules}
 use Rattle.bcs_tool_command_line.proofs.command.Command.named.Goals as goal
 
 pub returns-in-check : goal.returns-in-check

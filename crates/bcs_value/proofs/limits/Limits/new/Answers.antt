@@ -1,4 +1,4 @@
-use Rattle.std.proofs.Common.{rules}
+use Rattle.bcs_value.proofs.Prelude.{rules}
 use Rattle.bcs_value.proofs.limits.Limits.new.Goals as goal
 
 pub returns-then-depth-gt-DEPTH_LIMIT-clause-some : goal.returns-then-depth-gt-DEPTH_LIMIT-clause-some

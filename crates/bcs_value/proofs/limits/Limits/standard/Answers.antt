@@ -1,4 +1,4 @@
-use Rattle.std.proofs.Common.{rules}
+use Rattle.bcs_value.proofs.Prelude.{rules}
 use Rattle.bcs_value.proofs.limits.Limits.standard.Goals as goal
 
 pub returns-clause-depth : goal.returns-clause-depth

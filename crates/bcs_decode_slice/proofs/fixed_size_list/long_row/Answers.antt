@@ -1,0 +1,12 @@
+use Rattle.bcs_decode_slice.proofs.Prelude.{shape_of, skip}
+use Rattle.bcs_decode_slice.proofs.Reaching.{items_reach}
+use Rattle.bcs_decode_slice.proofs.fixed_size_list.long_row.Goals as goal
+
+pub returns-in-Some-clause-whole : goal.returns-in-Some-clause-whole
+returns-in-Some-clause-whole c =
+    let at = c.args.cursor.now in
+    let size = c.in-Some.size in
+    let row = c.sized_row.ensures in
+    rw (row.rest, row.place, row.nodes)
+    (items_reach (skip c.args.registry.now c.args.depth (shape_of c.args.element.now)) size.bytes size.nodes c.in-Some.ensures.fixed.0
+    c.sized_row.result c.args.count row.within at.place at.nodes at.rest.now row.bytes row.begun)

@@ -1,0 +1,64 @@
+//! Where a newer registry stops having what an older one has.
+
+use crate::names::Name;
+use crate::owners::Owner;
+use bcs_display_registry::{Change, Difference, differences};
+use bcs_registry::{Container, GrowthFault};
+use std::alloc::{AllocError, Global};
+use std::collections::BTreeMap;
+
+/// Where a newer registry hasn't what an older one has, and what it has there: the first difference that is no
+/// addition. `None`: it has all of it.
+pub fn place_of_growth(
+    alloc: Global,
+    older: &BTreeMap<String, Container>,
+    newer: &BTreeMap<String, Container>,
+) -> Result<Option<Vec<u8>>, AllocError> {
+    for difference in &differences(alloc, older, newer)? {
+        if let Some(fault) = difference.change.fault() {
+            let line = growth_line(alloc, difference, fault)?;
+            return Ok(Some(line.into_bytes()));
+        }
+    }
+    Ok(None)
+}
+
+fn growth_line(
+    alloc: Global,
+    difference: &Difference<'_>,
+    fault: GrowthFault,
+) -> Result<String, AllocError> {
+    let owner = Owner {
+        container: difference.container,
+        variant: older_variant(&difference.change),
+    };
+    match difference.change {
+        Change::VariantChanged { older, newer, .. } if older.name != newer.name => {
+            let name = Name::of(newer.name.as_str());
+            format!(in alloc; "at {owner}: {fault}: the newer enum has {name} there")
+        }
+        change => {
+            let words = message_of(&change);
+            format!(in alloc; "at {owner}: {fault}: {words}")
+        }
+    }
+}
+
+// The variant of the older enum that differs.
+fn older_variant<'a>(change: &Change<'a>) -> Option<(u32, &'a str)> {
+    match change {
+        Change::VariantMissing { number, older } | Change::VariantChanged { number, older, .. } =>
+            Some((*number, older.name.as_str())),
+        _ => None,
+    }
+}
+
+fn message_of(change: &Change<'_>) -> &'static str {
+    match change {
+        Change::Missing { .. } => "the newer registry has no container of that name",
+        Change::Changed { .. } => "the newer registry has another container of that name",
+        Change::VariantMissing { .. } => "the newer enum has no variant of that number",
+        Change::VariantChanged { .. } => "the newer enum has another payload there",
+        Change::ContainerAdded { .. } | Change::VariantAdded { .. } => "",
+    }
+}

@@ -1,0 +1,224 @@
+//! What is wanted of JSON where a value of a format is to stand.
+
+use crate::content::{Content, Enum};
+use crate::digits::wrong_digits;
+use crate::expectations::{Count, Expected};
+use crate::names::Name;
+use crate::targets::Target;
+use bcs_registry::{Format, Named, Registry, VariantFormat};
+use bcs_registry_model::{Kind, Scalar};
+use serde_json::{Map, Value as Json};
+use std::alloc::{AllocError, Global};
+use std::collections::BTreeSet;
+
+/// What is wanted, or what is wrong. `None`: the JSON is of the kind that it is to be, so only a part of it is refused.
+pub(crate) fn expectation<'a>(
+    alloc: Global,
+    registry: &Registry,
+    target: Target<'a>,
+    json: &'a Json,
+) -> Result<Option<Expected<'a>>, AllocError> {
+    let expectation = match target {
+        Target::Content(Content::Unit) => Some(Expected::Words("wanted null")),
+        Target::Content(Content::One(format)) => format_expectation(format, json),
+        Target::Content(Content::Row(formats)) => row_expectation(formats.len() as u64, json),
+        Target::Content(Content::Fields(fields)) => struct_expectation(alloc, fields, json)?,
+        Target::Content(Content::Variants(choices)) => enum_expectation(registry, choices, json),
+        Target::Entry(_, _) => entry_expectation(json),
+    };
+    Ok(expectation)
+}
+
+fn format_expectation<'a>(format: &Format, json: &'a Json) -> Option<Expected<'a>> {
+    match format.kind() {
+        Kind::Scalar(scalar) => scalar_expectation(scalar, json),
+        Kind::TypeName(_) => None,
+        Kind::Opt(_) => option_expectation(json),
+        Kind::Seq(element) => list_expectation(element, json),
+        Kind::Map(_, _) => map_expectation(json),
+        Kind::Tuple(formats) => row_expectation(formats.len() as u64, json),
+        Kind::TupleArray(element, size) => array_expectation(element, size, json),
+    }
+}
+
+fn scalar_expectation<'a>(scalar: Scalar, json: &'a Json) -> Option<Expected<'a>> {
+    let expectation = match scalar {
+        Scalar::Unit => Expected::Words("wanted null"),
+        Scalar::Bool => Expected::Words("wanted BOOL, true or false"),
+        Scalar::Whole(number) => Expected::Whole(number),
+        Scalar::Unsupported(_) => Expected::Unsupported(scalar.word()),
+        Scalar::Str => Expected::Words("wanted STR, a string"),
+        Scalar::Bytes => return bytes_expectation(json),
+    };
+    Some(expectation)
+}
+
+fn bytes_expectation<'a>(json: &'a Json) -> Option<Expected<'a>> {
+    match json {
+        Json::String(text) => digits_expectation(text),
+        _ => Some(Expected::Words("wanted BYTES, a string of hexadecimal digits")),
+    }
+}
+
+fn digits_expectation<'a>(text: &'a str) -> Option<Expected<'a>> {
+    Some(Expected::Words(wrong_digits(text.as_bytes())?.words))
+}
+
+fn map_expectation<'a>(json: &'a Json) -> Option<Expected<'a>> {
+    if json.is_array() {
+        None
+    } else {
+        Some(Expected::Words("wanted an array of entries, each an array of a key and its value"))
+    }
+}
+
+fn option_expectation<'a>(json: &'a Json) -> Option<Expected<'a>> {
+    let is_option = match json {
+        Json::Null => true,
+        Json::Object(members) => only_name(members) == Some("some"),
+        _ => false,
+    };
+    if is_option {
+        None
+    } else {
+        Some(Expected::Words("wanted null, or an object with the one member some"))
+    }
+}
+
+fn list_expectation<'a>(element: &Format, json: &'a Json) -> Option<Expected<'a>> {
+    if json.is_array() {
+        None
+    } else if matches!(element, Format::U8) {
+        octets_expectation(json)
+    } else {
+        Some(Expected::Words("wanted an array"))
+    }
+}
+
+fn octets_expectation<'a>(json: &'a Json) -> Option<Expected<'a>> {
+    match json {
+        Json::String(text) => digits_expectation(text),
+        _ => Some(Expected::Words("wanted an array of U8, or a string of hexadecimal digits")),
+    }
+}
+
+fn array_expectation<'a>(element: &Format, number: u64, json: &'a Json) -> Option<Expected<'a>> {
+    if matches!(element, Format::U8) && !json.is_array() {
+        all_octets_expectation(number, json)
+    } else {
+        row_expectation(number, json)
+    }
+}
+
+fn all_octets_expectation<'a>(number: u64, json: &'a Json) -> Option<Expected<'a>> {
+    let count = Count {
+        number,
+        part: "byte",
+    };
+    match json {
+        Json::String(text) => all_digits_expectation(count, text),
+        _ => Some(Expected::Parts("wanted an array or hexadecimal digits of", count)),
+    }
+}
+
+fn all_digits_expectation<'a>(count: Count, text: &'a str) -> Option<Expected<'a>> {
+    match wrong_digits(text.as_bytes()) {
+        Some(wrong) => Some(Expected::Words(wrong.words)),
+        None => other_expectation(count, (text.len() / 2) as u64),
+    }
+}
+
+fn row_expectation<'a>(number: u64, json: &'a Json) -> Option<Expected<'a>> {
+    let count = Count {
+        number,
+        part: "item",
+    };
+    match json {
+        Json::Array(items) => other_expectation(count, items.len() as u64),
+        _ => Some(Expected::Parts("wanted an array of", count)),
+    }
+}
+
+fn other_expectation<'a>(count: Count, found: u64) -> Option<Expected<'a>> {
+    if found == count.number {
+        None
+    } else {
+        Some(Expected::Other(count, found))
+    }
+}
+
+fn entry_expectation<'a>(json: &'a Json) -> Option<Expected<'a>> {
+    match json {
+        Json::Array(items) if items.len() == 2 => None,
+        _ => Some(Expected::Words("wanted an entry, an array of a key and its value")),
+    }
+}
+
+fn struct_expectation<'a>(
+    alloc: Global,
+    fields: &'a [Named<Format>],
+    json: &'a Json,
+) -> Result<Option<Expected<'a>>, AllocError> {
+    let Json::Object(members) = json else {
+        return Ok(Some(Expected::Words("wanted an object with a member for each field")));
+    };
+    for field in fields {
+        if !members.contains_key(field.name.as_str()) {
+            return Ok(Some(Expected::Named("no member is called", Name::of(field.name.as_str()))));
+        }
+    }
+    unknown_field(alloc, fields, members)
+}
+
+// The first member that is no field. The names of the fields are collected first, so that each member is looked up in
+// them once, and not compared with all of them.
+fn unknown_field<'a>(
+    alloc: Global,
+    fields: &[Named<Format>],
+    members: &'a Map<String, Json>,
+) -> Result<Option<Expected<'a>>, AllocError> {
+    let mut names = BTreeSet::new(alloc);
+    for field in fields {
+        names.insert(field.name.as_str())?;
+    }
+    for (name, _) in members {
+        if !names.contains(&name.as_str()) {
+            return Ok(Some(Expected::Named("no field is called", Name::of(name.as_str()))));
+        }
+    }
+    Ok(None)
+}
+
+fn enum_expectation<'a>(
+    registry: &Registry,
+    choices: Enum<'a>,
+    json: &'a Json,
+) -> Option<Expected<'a>> {
+    let name = match json {
+        Json::String(word) => Some(word.as_str()),
+        Json::Object(members) => only_name(members),
+        _ => None,
+    };
+    let Some(name) = name else {
+        return Some(Expected::Words(
+            "wanted a variant, its name or an object with one member of that name",
+        ));
+    };
+    match choices.payload(registry, name) {
+        None => Some(Expected::Named("no variant is called", Name::of(name))),
+        Some(VariantFormat::Unit) => None,
+        Some(_) if json.is_object() => None,
+        Some(_) => Some(Expected::Named("wanted an object with the one member", Name::of(name))),
+    }
+}
+
+// The name of the one member. `None`: there is none, or there are more.
+fn only_name<'a>(members: &'a Map<String, Json>) -> Option<&'a str> {
+    let mut entries = members.iter();
+    let (name, _) = entries.next()?;
+    if entries.next().is_none() {
+        Some(name.as_str())
+    } else {
+        None
+    }
+}

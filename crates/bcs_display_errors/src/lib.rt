@@ -1,0 +1,32 @@
+//! Where texts and words are refused, in a line for people: a registry that hasn't the shape or breaks a rule, one that
+//! didn't grow, FORMAT, NAME, PATH, and the JSON text of a value.
+#![tactic(auto)]
+
+mod content;
+mod digits;
+mod expectations;
+mod formats;
+mod growth;
+mod kinds;
+mod limits;
+mod names;
+mod no_json;
+mod owners;
+mod paths;
+mod pointers;
+mod refusals;
+mod rules;
+mod shape_parts;
+mod shapes;
+mod targets;
+mod texts;
+mod wholes;
+mod wrong_text;
+
+pub use digits::wrong_digits;
+pub use formats::place_of_container;
+pub use growth::place_of_growth;
+pub use limits::{put_limit, put_text_limit};
+pub use paths::place_of_path;
+pub use refusals::{format_line, input_line, line_in, registry_line, text_line};
+pub use wrong_text::WrongText;

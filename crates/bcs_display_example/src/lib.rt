@@ -1,0 +1,21 @@
+//! Examples of formats: a sound value of each, and its text, ready to be filled in.
+#![tactic(auto)]
+
+mod depth_ranks;
+mod example;
+mod example_options;
+mod fault;
+mod filling;
+mod least_examples;
+mod making;
+mod needed;
+mod node_budget;
+mod node_counts;
+mod part;
+mod place;
+mod text;
+
+pub use example::{example_value, example_with};
+pub use example_options::{ExampleForm, ExampleOptions};
+pub use fault::{ExampleFault, ExampleOptionsFault, ExampleTextFault};
+pub use text::example_text;

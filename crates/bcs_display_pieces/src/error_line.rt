@@ -1,0 +1,56 @@
+//! The line of the bytes that are no pieces, and why.
+
+use crate::halt::Halt;
+use crate::lines::{MEANING_WIDTH, PLACE_WIDTH, put_first_row};
+use crate::meaning::put_quantity;
+use bcs_display_text::colors::{end_painted, start_color};
+use bcs_display_text::columns::{put_blanks, put_decimal};
+use bcs_display_text::style::{Form, Style};
+use bcs_explain::Stop;
+use std::alloc::AllocError;
+
+// Red and bold.
+const DAMAGE_COLOR: &str = "1;31";
+
+/// Appends the first ones of the bytes, which stand at a place, why they are no value, what would have been right and the
+/// way to it, and how many come after them.
+pub(crate) fn put_error(
+    style: Style,
+    place: u64,
+    rest: &[u8],
+    stop: Stop,
+    halt: &Halt,
+    out: &mut Vec<u8>,
+) -> Result<(), AllocError> {
+    let left = put_first_row(style.paint, place, rest, out)?;
+    start_color(style.paint, DAMAGE_COLOR, out)?;
+    let start = out.len();
+    put_mark(stop, halt, out)?;
+    end_painted(style.paint, start, MEANING_WIDTH, out)?;
+    out.extend_from_slice(&halt.way)?;
+    if style.form == Form::Paths {
+        put_blanks(2, out)?;
+        out.extend_from_slice(&halt.path)?;
+    }
+    out.push(b'\n')?;
+    put_left_out(left.len(), out)
+}
+
+fn put_mark(stop: Stop, halt: &Halt, out: &mut Vec<u8>) -> Result<(), AllocError> {
+    out.extend_from_slice(b"! ")?;
+    out.extend_from_slice(stop.reason.name().as_bytes())?;
+    out.extend_from_slice(b" at ")?;
+    put_decimal(u128::from(stop.place), out)?;
+    out.extend_from_slice(b", ")?;
+    out.extend_from_slice(&halt.expected)
+}
+
+// How many bytes are left out, on a line of its own where there are any.
+fn put_left_out(count: usize, out: &mut Vec<u8>) -> Result<(), AllocError> {
+    if count == 0 {
+        return Ok(());
+    }
+    put_blanks(PLACE_WIDTH, out)?;
+    out.extend_from_slice(b"  ... ")?;
+    put_quantity(count as u64, " byte more\n", " bytes more\n", out)
+}

@@ -1,0 +1,75 @@
+//! Where bytes stop, as it is printed: what would have been right there, and the way to it.
+
+use crate::meaning::{counted_word, put_bits, put_octets, put_quantity};
+use crate::steps::{put_field_path, put_path};
+use bcs_display_text::escaping::put_escaped;
+use bcs_explain::{Expected, Trail};
+use std::alloc::{AllocError, Global};
+
+/// The texts of a stop.
+#[derive(Drop)]
+pub(crate) struct Halt {
+    /// What would have been right there.
+    pub expected: Vec<u8>,
+    /// The way to it, in names.
+    pub way: Vec<u8>,
+    /// The word PATH along it.
+    pub path: Vec<u8>,
+}
+
+impl Halt {
+    /// The first byte behind a whole value. It is where bytes stop unless a listener is told of another place.
+    pub(crate) fn at_end(alloc: Global) -> Result<Halt, AllocError> {
+        Ok(Halt {
+            expected: Vec::from_slice(alloc, b"the end")?,
+            way: Vec::from_slice(alloc, b".")?,
+            path: Vec::from_slice(alloc, b".")?,
+        })
+    }
+
+    /// Where the trail leads.
+    pub(crate) fn at(
+        alloc: Global,
+        trail: &Trail<'_, '_, '_>,
+        expected: Expected<'_>,
+    ) -> Result<Halt, AllocError> {
+        let mut halt = Halt {
+            expected: Vec::new(alloc),
+            way: Vec::new(alloc),
+            path: Vec::new(alloc),
+        };
+        put_expected(expected, &mut halt.expected)?;
+        put_field_path(trail, &mut halt.way)?;
+        put_path(trail, &mut halt.path)?;
+        Ok(halt)
+    }
+}
+
+fn put_expected(expected: Expected<'_>, out: &mut Vec<u8>) -> Result<(), AllocError> {
+    match expected {
+        Expected::Truth => out.extend_from_slice(b"BOOL"),
+        Expected::Unsigned(width) => put_bits(b'U', width.byte_len(), out),
+        Expected::Signed(width) => put_bits(b'I', width.byte_len(), out),
+        Expected::Length(counted) => {
+            out.extend_from_slice(b"length of ")?;
+            out.extend_from_slice(counted_word(counted).as_bytes())
+        }
+        Expected::Text(count) => put_quantity(count as u64, " byte of STR", " bytes of STR", out),
+        Expected::Bytes(count) => put_quantity(
+            count as u64,
+            " byte of BYTES",
+            " bytes of BYTES",
+            out,
+        ),
+        Expected::Octets(count) => put_octets(count, out),
+        Expected::Option => out.extend_from_slice(b"OPTION"),
+        Expected::Number => out.extend_from_slice(b"number of a variant"),
+        Expected::LaterKey => out.extend_from_slice(b"a later key"),
+        Expected::Container(name) => {
+            out.extend_from_slice(b"room for ")?;
+            put_escaped(name, out)
+        }
+        Expected::Node => out.extend_from_slice(b"room for a value"),
+        Expected::Nothing => out.extend_from_slice(b"no value of the format"),
+    }
+}

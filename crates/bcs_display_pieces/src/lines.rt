@@ -1,0 +1,102 @@
+//! Lines in columns: a place, the bytes there, what they are, and the way to them.
+
+use crate::meaning::put_meaning;
+use crate::steps::{put_branch, put_field_path, put_path};
+use bcs_display_text::colors::{end_color, end_painted, start_color};
+use bcs_display_text::columns::{end_column, put_blanks, put_hex, put_place};
+use bcs_display_text::style::{Form, Paint, Style};
+use bcs_explain::{Meaning, Trail};
+use std::alloc::AllocError;
+
+/// How many bytes stand on a line.
+const ROW_SIZE: usize = 32;
+
+pub(crate) const PLACE_WIDTH: usize = 6;
+
+const DIGITS_WIDTH: usize = 64;
+
+pub(crate) const MEANING_WIDTH: usize = 30;
+
+// Cyan.
+const PLACE_COLOR: &str = "36";
+
+/// Appends the lines of a piece: one, and more where its bytes are more than stand on one.
+pub(crate) fn put_lines(
+    style: Style,
+    place: u64,
+    bytes: &[u8],
+    trail: &Trail<'_, '_, '_>,
+    meaning: Meaning<'_>,
+    out: &mut Vec<u8>,
+) -> Result<(), AllocError> {
+    let rest = put_first_row(style.paint, place, bytes, out)?;
+    start_color(style.paint, color_of(meaning), out)?;
+    let start = out.len();
+    put_meaning(trail, bytes.len(), meaning, out)?;
+    end_painted(style.paint, start, MEANING_WIDTH, out)?;
+    put_led(style.form, trail, out)?;
+    out.push(b'\n')?;
+    put_more_rows(style.paint, place, rest, out)
+}
+
+/// Appends up to so many first ones of the bytes that stand on a line, behind their place and in a column, and answers
+/// those that are left.
+pub(crate) fn put_first_row<'a>(
+    paint: Paint,
+    place: u64,
+    bytes: &'a [u8],
+    out: &mut Vec<u8>,
+) -> Result<&'a [u8], AllocError> {
+    let (first, rest) = bytes.split_at(ROW_SIZE.min(bytes.len()));
+    put_spot(paint, place, out)?;
+    let start = out.len();
+    put_hex(first, out)?;
+    end_column(start, DIGITS_WIDTH, out)?;
+    Ok(rest)
+}
+
+// The bytes behind a whole row that stands at the place.
+fn put_more_rows(
+    paint: Paint,
+    mut place: u64,
+    rest: &[u8],
+    out: &mut Vec<u8>,
+) -> Result<(), AllocError> {
+    for row in rest.chunks(ROW_SIZE) {
+        // Places of bytes are below 2^64, so this never wraps.
+        place = place.wrapping_add(ROW_SIZE as u64);
+        put_spot(paint, place, out)?;
+        put_hex(row, out)?;
+        out.push(b'\n')?;
+    }
+    Ok(())
+}
+
+fn put_spot(paint: Paint, place: u64, out: &mut Vec<u8>) -> Result<(), AllocError> {
+    start_color(paint, PLACE_COLOR, out)?;
+    put_place(place, PLACE_WIDTH, out)?;
+    end_color(paint, out)?;
+    put_blanks(2, out)
+}
+
+fn put_led(form: Form, trail: &Trail<'_, '_, '_>, out: &mut Vec<u8>) -> Result<(), AllocError> {
+    match form {
+        Form::Ways | Form::Json => put_field_path(trail, out),
+        Form::Paths => {
+            put_field_path(trail, out)?;
+            put_blanks(2, out)?;
+            put_path(trail, out)
+        }
+        Form::Tree => put_branch(trail, out),
+    }
+}
+
+// Lengths are yellow, options and variants magenta, and the rest is green.
+fn color_of(meaning: Meaning<'_>) -> &'static str {
+    match meaning {
+        Meaning::Length(_, _) => "33",
+        Meaning::Option(_) | Meaning::Variant(_, _) => "35",
+        Meaning::Truth(_) | Meaning::Unsigned(_) | Meaning::Signed(_, _) => "32",
+        Meaning::Text(_) | Meaning::Bytes(_) | Meaning::Octets => "32",
+    }
+}

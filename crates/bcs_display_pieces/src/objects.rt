@@ -1,0 +1,170 @@
+//! A piece as a JSON object, and the objects that stand behind the last piece. Each is on a line of its own. The fields of
+//! the structs are in the order of their names, in which the members are printed.
+
+use crate::halt::Halt;
+use crate::meaning::put_format;
+use crate::steps::{put_field_path, put_path};
+use bcs_display_text::columns::{put_decimal, put_signed};
+use bcs_explain::{Meaning, Stop, Trail};
+use serde::Serialize;
+use std::alloc::{AllocError, Global};
+
+#[derive(Drop, Serialize)]
+struct PieceObject<'a> {
+    bytes: String,
+    kind: &'a str,
+    name: String,
+    path: Option<String>,
+    place: u64,
+    value: PieceValue<'a>,
+    what: String,
+}
+
+#[derive(Drop, Serialize)]
+#[serde(untagged)]
+enum PieceValue<'a> {
+    Flag(bool),
+    Count(u64),
+    /// A whole number, as it may have 128 bits.
+    Digits(String),
+    Text(&'a str),
+}
+
+#[derive(Drop, Serialize)]
+struct EndObject {
+    end: usize,
+}
+
+#[derive(Drop, Serialize)]
+struct StopObject<'a> {
+    name: String,
+    path: Option<String>,
+    place: u64,
+    refused: &'a str,
+    want: String,
+}
+
+/// Appends the object of a piece.
+pub(crate) fn put_piece_object(
+    place: u64,
+    bytes: &[u8],
+    trail: &Trail<'_, '_, '_>,
+    meaning: Meaning<'_>,
+    out: &mut Vec<u8>,
+) -> Result<(), AllocError> {
+    let alloc = *out.allocator();
+    let object = PieceObject {
+        bytes: hex::encode(alloc, bytes)?,
+        kind: kind_word(meaning),
+        name: way_text(alloc, trail)?,
+        path: word_text(alloc, trail)?,
+        place,
+        value: meaning_value(alloc, bytes.len(), meaning)?,
+        what: format_text(alloc, trail, bytes.len(), meaning)?,
+    };
+    put_object(&object, out)
+}
+
+/// Appends the object of the end of a whole value.
+pub(crate) fn put_end_object(end: usize, out: &mut Vec<u8>) -> Result<(), AllocError> {
+    put_object(&EndObject { end }, out)
+}
+
+/// Appends the object of where bytes stop being a value, and why.
+pub(crate) fn put_stop_object(stop: Stop, halt: Halt, out: &mut Vec<u8>) -> Result<(), AllocError> {
+    let object = StopObject {
+        name: ascii_text(halt.way)?,
+        path: path_text(halt.path)?,
+        place: stop.place,
+        refused: stop.reason.name(),
+        want: ascii_text(halt.expected)?,
+    };
+    put_object(&object, out)
+}
+
+// Only an allocation fails here: a struct of texts and numbers has no other fault. No clause of `serde_json` says so.
+fn put_object<T: Serialize>(object: &T, out: &mut Vec<u8>) -> Result<(), AllocError> {
+    let line = serde_json::to_vec(*out.allocator(), object).map_err(|_| AllocError)?;
+    out.extend_from_slice(&line)?;
+    Ok(out.push(b'\n')?)
+}
+
+fn kind_word(meaning: Meaning<'_>) -> &'static str {
+    match meaning {
+        Meaning::Truth(_) => "truth",
+        Meaning::Unsigned(_) => "unsigned",
+        Meaning::Signed(_, _) => "signed",
+        Meaning::Length(_, _) => "length",
+        Meaning::Text(_) => "text",
+        Meaning::Bytes(_) => "bytes",
+        Meaning::Octets => "octets",
+        Meaning::Option(_) => "option",
+        Meaning::Variant(_, _) => "variant",
+    }
+}
+
+// A whole number is a text of its digits, as it may have 128 bits; what is counted is a number.
+fn meaning_value<'a>(
+    alloc: Global,
+    size: usize,
+    meaning: Meaning<'a>,
+) -> Result<PieceValue<'a>, AllocError> {
+    match meaning {
+        Meaning::Truth(flag) | Meaning::Option(flag) => Ok(PieceValue::Flag(flag)),
+        Meaning::Unsigned(number) => {
+            let mut digits = Vec::new(alloc);
+            put_decimal(number, &mut digits)?;
+            Ok(PieceValue::Digits(ascii_text(digits)?))
+        }
+        Meaning::Signed(width, bits) => {
+            let mut digits = Vec::new(alloc);
+            put_signed(width, bits, &mut digits)?;
+            Ok(PieceValue::Digits(ascii_text(digits)?))
+        }
+        Meaning::Length(_, number) | Meaning::Variant(number, _) => {
+            Ok(PieceValue::Count(u64::from(number)))
+        }
+        Meaning::Text(text) => Ok(PieceValue::Text(text)),
+        Meaning::Bytes(_) | Meaning::Octets => Ok(PieceValue::Count(size as u64)),
+    }
+}
+
+// What the piece is of, by names.
+fn way_text(alloc: Global, trail: &Trail<'_, '_, '_>) -> Result<String, AllocError> {
+    let mut way = Vec::new(alloc);
+    put_field_path(trail, &mut way)?;
+    ascii_text(way)
+}
+
+fn word_text(alloc: Global, trail: &Trail<'_, '_, '_>) -> Result<Option<String>, AllocError> {
+    let mut path = Vec::new(alloc);
+    put_path(trail, &mut path)?;
+    path_text(path)
+}
+
+fn format_text(
+    alloc: Global,
+    trail: &Trail<'_, '_, '_>,
+    size: usize,
+    meaning: Meaning<'_>,
+) -> Result<String, AllocError> {
+    let mut format = Vec::new(alloc);
+    put_format(trail, size, meaning, &mut format)?;
+    ascii_text(format)
+}
+
+// The word PATH, or `null` where no path leads.
+fn path_text(path: Vec<u8>) -> Result<Option<String>, AllocError> {
+    if path.as_slice() == b"-".as_slice() {
+        return Ok(None);
+    }
+    Ok(Some(ascii_text(path)?))
+}
+
+// All that is put together here is ASCII, so it is never refused; no clause says so.
+fn ascii_text(bytes: Vec<u8>) -> Result<String, AllocError> {
+    match String::from_utf8(bytes) {
+        Ok(text) => Ok(text),
+        Err(_) => Err(AllocError),
+    }
+}

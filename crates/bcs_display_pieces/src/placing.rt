@@ -1,0 +1,73 @@
+//! Where bytes stop being a value, in a line.
+ghost use Rattle.std.specs.Prelude.{◌≡◌, ⊤, IfOk, IfSome, None, Some};
+ghost use Rattle.bcs_registry_model.specs.View.{shape_of};
+ghost use Rattle.bcs_registry_model.specs.WellFormed.{Admits};
+ghost use Rattle.bcs_decode_spec.specs.declared.stop.Stop as declared;
+ghost use Rattle.bcs_display_pieces.specs.EndsAt.{EndsAt};
+
+use crate::halt::Halt;
+use crate::stopping::stop_of;
+use bcs_explain::{Expected, Listener, Meaning, Reason, Trail};
+use bcs_registry::{Format, Registry};
+use bcs_value::Limits;
+use std::alloc::{AllocError, Global};
+
+/// Where bytes stop being a value, and what would have been right there, in ASCII and without a line end:
+/// `at .owner: BadBool: expected BOOL`. `None`: they are a value.
+pub fn stop_place(
+    alloc: Global,
+    registry: &Registry,
+    format: &Format,
+    limits: &Limits,
+    bytes: &[u8],
+) -> Result<Option<Vec<u8>>, AllocError>
+    requires admitted { Admits registry.now (shape_of format.now) }
+    ensures none { IfOk result (λ x. x ≡ None → EndsAt registry.now limits.now (shape_of format.now) bytes.now None) }
+    ensures some { IfOk result (λ x. IfSome x (λ _. (stop : declared.Stop) × EndsAt registry.now limits.now (shape_of format.now) bytes.now (Some stop))) }
+{
+    let mut keeper = StopKeeper {
+        alloc,
+        halt: Halt::at_end(alloc)?,
+        has_lost: false,
+    };
+    let Some(stop) = stop_of(registry, format, limits, bytes, &mut keeper) else {
+        return Ok(None);
+    };
+    if keeper.has_lost {
+        return Err(AllocError);
+    }
+    Ok(Some(place_line(alloc, stop.reason, &keeper.halt)?))
+}
+
+// The way to a stop, its reason, and what was wanted.
+fn place_line(alloc: Global, reason: Reason, halt: &Halt) -> Result<Vec<u8>, AllocError> {
+    let mut line = Vec::from_slice(alloc, b"at ")?;
+    line.extend_from_slice(&halt.way)?;
+    line.extend_from_slice(b": ")?;
+    line.extend_from_slice(reason.name().as_bytes())?;
+    line.extend_from_slice(b": wanted ")?;
+    line.extend_from_slice(&halt.expected)?;
+    Ok(line)
+}
+
+/// A listener that keeps where the bytes stop.
+#[derive(Drop)]
+struct StopKeeper {
+    alloc: Global,
+    halt: Halt,
+    /// Whether memory ran out.
+    has_lost: bool,
+}
+
+impl Listener for StopKeeper {
+    ghost heard = { λ _ _ _. ⊤ };
+
+    fn hear(&mut self, _: u64, _: &[u8], _: &Trail<'_, '_, '_>, _: Meaning<'_>) {}
+
+    fn halt(&mut self, trail: &Trail<'_, '_, '_>, expected: Expected<'_>) {
+        match Halt::at(self.alloc, trail, expected) {
+            Ok(halt) => self.halt = halt,
+            Err(AllocError) => self.has_lost = true,
+        }
+    }
+}

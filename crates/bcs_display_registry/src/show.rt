@@ -1,0 +1,58 @@
+//! A registry, or a part of it, as text.
+ghost use Rattle.std.specs.Prelude.{◌≡◌, IfOk, IfSome};
+ghost use Rattle.bcs_display_registry.specs.Shows.{WritesSome};
+ghost use Rattle.bcs_display_registry.specs.declared.show.RegistryForm.TheVariants.{Json};
+
+use crate::as_json::json_line;
+use crate::lines::{Selection, registry_lines};
+use crate::rounds::container_sizes;
+use crate::uses::standing;
+use bcs_registry::Registry;
+use bcs_value::Limits;
+use std::alloc::{AllocError, Global};
+
+/// In which form a registry is shown.
+#[derive(Clone, Copy, Debug, PartialEq, Eq)]
+pub enum RegistryForm {
+    /// In lines for reading: each container with its sizes, its formats, fields or variants.
+    Lines,
+    /// In JSON, as serde-reflection has it, in one line.
+    Json,
+}
+
+/// The text of the registry, or with a name that of the containers on which the container of the name stands, itself
+/// among them. `None`: no container has the name. Fails only for want of memory.
+pub fn show_registry(
+    alloc: Global,
+    registry: &Registry,
+    name: Option<&str>,
+    form: RegistryForm,
+) -> Result<Option<Vec<u8>>, AllocError>
+    ensures json { IfOk result (λ shown. IfSome shown (λ text. form ≡ Json → WritesSome text.items)) }
+{
+    let selection = match name {
+        None => Selection::All,
+        Some(name) if registry.container(name).is_none() => return Ok(None),
+        Some(name) => Selection::Names(standing(alloc, registry.containers(), name)?),
+    };
+    Ok(Some(selected_text(alloc, registry, &selection, form)?))
+}
+
+/// The text of the containers that are selected. In lines stand the sizes that values have within the standard limits.
+fn selected_text(
+    alloc: Global,
+    registry: &Registry,
+    selection: &Selection<'_>,
+    form: RegistryForm,
+) -> Result<Vec<u8>, AllocError>
+    ensures { IfOk result (λ text. form ≡ Json → WritesSome text.items) }
+{
+    match form {
+        RegistryForm::Lines => {
+            let containers = registry.containers();
+            let sizes = container_sizes(alloc, containers, Limits::standard().depth())?;
+            registry_lines(alloc, containers, selection, &sizes)
+        }
+        RegistryForm::Json => json_line(alloc, registry, selection),
+    }
+}

@@ -1,0 +1,15 @@
+//! The walk of the encoder: whether a value is sound, and the bytes that it has; and the plain encoder.
+#![tactic(auto)]
+
+mod buffer;
+pub mod by_entries;
+mod leaves;
+mod map_ends;
+mod number_rows;
+pub mod output;
+mod pushing;
+mod soundness;
+mod spans;
+mod validating;
+
+pub use soundness::is_sound;

@@ -1,0 +1,116 @@
+//! Lists of numbers, by a loop for each format: whether they are in range, and their bytes, for which room is asked once.
+ghost use Rattle.std.specs.Prelude.{◌≡◌, ◌+◌, ◌*◌, ◌<◌, ◌≤◌, [], false, length, vec_capacity, vec_len, IsErrOf, OnOk};
+ghost use Rattle.bcs_registry_model.specs.Container.{of};
+ghost use Rattle.bcs_registry_model.specs.Whole.{whole_len, whole_shape};
+ghost use Rattle.bcs_value_model.specs.Fits.{all_fit, fits};
+ghost use Rattle.bcs_value_model.specs.View.{items_trees, tree_of};
+ghost use Rattle.bcs_encode_impl.specs.Writing.{ReportsVerdict, items_written, written};
+
+use crate::pushing::{push_signed, push_unsigned};
+use bcs_encode_spec::EncodeFault;
+use bcs_num::Width;
+use bcs_registry_model::IntegerKind;
+use bcs_value_model::Value;
+
+/// Whether they are all numbers of the format.
+pub fn are_numbers(format: IntegerKind, items: &[Value]) -> bool
+    ensures { result ≡ all_fit false [] (items_trees items.now) (whole_shape format) }
+{
+    // Each format is named once more, so that each has a loop of its own, compiled for its width.
+    match format {
+        IntegerKind::Unsigned(Width::W1) => is_row(IntegerKind::Unsigned(Width::W1), items),
+        IntegerKind::Unsigned(Width::W2) => is_row(IntegerKind::Unsigned(Width::W2), items),
+        IntegerKind::Unsigned(Width::W4) => is_row(IntegerKind::Unsigned(Width::W4), items),
+        IntegerKind::Unsigned(Width::W8) => is_row(IntegerKind::Unsigned(Width::W8), items),
+        IntegerKind::Unsigned(Width::W16) => is_row(IntegerKind::Unsigned(Width::W16), items),
+        IntegerKind::Signed(Width::W1) => is_row(IntegerKind::Signed(Width::W1), items),
+        IntegerKind::Signed(Width::W2) => is_row(IntegerKind::Signed(Width::W2), items),
+        IntegerKind::Signed(Width::W4) => is_row(IntegerKind::Signed(Width::W4), items),
+        IntegerKind::Signed(Width::W8) => is_row(IntegerKind::Signed(Width::W8), items),
+        IntegerKind::Signed(Width::W16) => is_row(IntegerKind::Signed(Width::W16), items),
+    }
+}
+
+#[inline(always)]
+fn is_row(format: IntegerKind, items: &[Value]) -> bool
+    ensures { result ≡ all_fit false [] (items_trees items.now) (whole_shape format) }
+{
+    for item in items {
+        if !is_number(format, item) {
+            return false;
+        }
+    }
+    true
+}
+
+#[inline(always)]
+fn is_number(format: IntegerKind, value: &Value) -> bool
+    ensures { result ≡ fits false [] (tree_of value.now) (of (whole_shape format)) }
+{
+    match (value, format) {
+        (Value::Unsigned(number), IntegerKind::Unsigned(width)) => width.holds_unsigned(*number),
+        (Value::Signed(number), IntegerKind::Signed(width)) => width.holds_signed(*number),
+        _ => false,
+    }
+}
+
+/// Appends the bytes of a list's numbers. A number looks up no container, so the clause names a registry without any.
+/// No memory is asked for where the vector has room for the bytes.
+#[inline(never)]
+pub fn push_numbers(
+    format: IntegerKind,
+    items: &[Value],
+    out: &mut Vec<u8>,
+) -> Result<(), EncodeFault>
+    ensures reports { ReportsVerdict result (items_written [] (items_trees items.now) (whole_shape format) out.old.items) out.new.items }
+    ensures in_place { vec_len out.old + length items.now * whole_len format ≤ vec_capacity out.old
+        → IsErrOf result EncodeFault.OutOfMemory → ⊥ }
+{
+    out.reserve(items.len().saturating_mul(format.byte_len()))?;
+    // Each format is named once more, so that each has a loop of its own, compiled for its width.
+    match format {
+        IntegerKind::Unsigned(Width::W1) => push_row(IntegerKind::Unsigned(Width::W1), items, out),
+        IntegerKind::Unsigned(Width::W2) => push_row(IntegerKind::Unsigned(Width::W2), items, out),
+        IntegerKind::Unsigned(Width::W4) => push_row(IntegerKind::Unsigned(Width::W4), items, out),
+        IntegerKind::Unsigned(Width::W8) => push_row(IntegerKind::Unsigned(Width::W8), items, out),
+        IntegerKind::Unsigned(Width::W16) => push_row(
+            IntegerKind::Unsigned(Width::W16),
+            items,
+            out,
+        ),
+        IntegerKind::Signed(Width::W1) => push_row(IntegerKind::Signed(Width::W1), items, out),
+        IntegerKind::Signed(Width::W2) => push_row(IntegerKind::Signed(Width::W2), items, out),
+        IntegerKind::Signed(Width::W4) => push_row(IntegerKind::Signed(Width::W4), items, out),
+        IntegerKind::Signed(Width::W8) => push_row(IntegerKind::Signed(Width::W8), items, out),
+        IntegerKind::Signed(Width::W16) => push_row(IntegerKind::Signed(Width::W16), items, out),
+    }
+}
+
+#[inline(always)]
+fn push_row(format: IntegerKind, items: &[Value], out: &mut Vec<u8>) -> Result<(), EncodeFault>
+    ensures reports { ReportsVerdict result (items_written [] (items_trees items.now) (whole_shape format) out.old.items) out.new.items }
+    ensures in_place { vec_len out.old + length items.now * whole_len format ≤ vec_capacity out.old
+        → IsErrOf result EncodeFault.OutOfMemory → ⊥ }
+{
+    for item in items {
+        push_plain(format, item, out)?;
+    }
+    Ok(())
+}
+
+#[inline(always)]
+fn push_plain(format: IntegerKind, value: &Value, out: &mut Vec<u8>) -> Result<(), EncodeFault>
+    ensures reports { ReportsVerdict result (written [] (tree_of value.now) (of (whole_shape format)) out.old.items) out.new.items }
+    ensures len { OnOk result (vec_len out.new ≡ vec_len out.old + whole_len format) }
+    ensures capacity { vec_capacity out.old ≤ vec_capacity out.new }
+    ensures full { IsErrOf result EncodeFault.OutOfMemory
+        → vec_capacity out.old < vec_len out.old + whole_len format }
+{
+    match (value, format) {
+        (Value::Unsigned(number), IntegerKind::Unsigned(width)) => push_unsigned(
+            width, *number, out,
+        ),
+        (Value::Signed(number), IntegerKind::Signed(width)) => push_signed(width, *number, out),
+        _ => Err(EncodeFault::NotOfFormat),
+    }
+}

@@ -1,0 +1,31 @@
+//! Whether a value is sound besides the keys of its maps, and its bytes.
+ghost use Rattle.std.specs.Prelude.{◌≡◌, ◌↔◌, IsTrue, true};
+ghost use Rattle.bcs_registry_model.specs.Container.{of};
+ghost use Rattle.bcs_registry_model.specs.View.{shape_of};
+ghost use Rattle.bcs_value_model.specs.View.{tree_of};
+ghost use Rattle.bcs_encode_spec.specs.Refused.{IsSoundBesidesKeys};
+ghost use Rattle.bcs_encode_impl.specs.Writing.{written};
+ghost use Rattle.bcs_encode_impl.specs.Appends.{Appends};
+
+use crate::output::Output;
+use crate::validating::validate_value;
+use bcs_registry::{Format, Registry};
+use bcs_value::{Limits, Value};
+
+/// Whether the value has the format, and its depth, its nodes and its lengths are within the limits. It goes over the
+/// value once, and looks up a container once for each value in it, or once for a list of such values. What it validates is
+/// appended to the output, where that takes it.
+pub fn is_sound(
+    registry: &Registry,
+    format: &Format,
+    limits: &Limits,
+    value: &Value,
+    out: &mut Output,
+) -> bool
+    ensures sound { IsTrue result ↔ IsSoundBesidesKeys registry.now limits.now (shape_of format.now) (tree_of value.now) }
+    ensures appended { result ≡ true → Appends out.old out.new (written registry.now (tree_of value.now) (of (shape_of format.now))) }
+{
+    let depth = u64::from(limits.depth());
+    let nodes = u64::from(limits.nodes());
+    validate_value(value, registry, format, depth, nodes, out).is_some()
+}

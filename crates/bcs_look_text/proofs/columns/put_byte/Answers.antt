@@ -1,5 +1,0 @@
-use Rattle.std.proofs.Common.{rules}
-use Rattle.bcs_look_text.proofs.columns.put_byte.Goals as goal
-
-pub returns : goal.returns
-returns c = search rules

@@ -1,0 +1,150 @@
+-- What is validated of a job before its input is read: its registries, then the format, and then the path.
+use Rattle.std.specs.Prelude.{◌≡◌, ◌⊎◌, ◌==◌, ◌||◌, ◌&&◌, ℕ, List, [], ◌∷◌, Option, Some, None, option_map, Bool, true, false, codes, is_some, string_bytes}
+use Rattle.bcs_registry_model.specs.Container.{Entries, container_at}
+use Rattle.bcs_registry.specs.Faults.{IsLeastFault, IsLeastFormatFault}
+use Rattle.bcs_registry_model.specs.FaultNames.{growth_fault_name, registry_fault_name}
+use Rattle.bcs_registry_model.specs.Grows.{IsFirstGrowthFault}
+use Rattle.bcs_registry_model.specs.Shape.{Shape, name}
+use Rattle.bcs_registry_json.specs.Text.{WritesRegistry, WritesFormat}
+use Rattle.bcs_registry_model.specs.WellFormed.{IsWellFormed, Admits}
+use Rattle.bcs_registry_model.specs.declared.fault.RegistryFault.{RegistryFault}
+use Rattle.bcs_registry_model.specs.declared.fault.RegistryFault.TheVariants.{UnknownName, OutOfMemory}
+use Rattle.bcs_decode_parts.specs.Parts.{Step}
+use Rattle.bcs_decode_parts.specs.Path.{SpellsNoPath, SpellsPath}
+use Rattle.bcs_decode_parts.specs.declared.path_fault.PathFault.{PathFault}
+use Rattle.bcs_decode_parts.specs.declared.path_fault.PathFault.TheVariants as path
+use Rattle.bcs_tool_command_line.specs.declared.command.Command.{Command}
+use Rattle.bcs_tool_command_line.specs.declared.command.Command.TheVariants as command
+use Rattle.bcs_tool_answers.specs.declared.job_fault.JobFault.{JobFault}
+use Rattle.bcs_tool_answers.specs.declared.job_fault.JobFault.TheVariants as job
+use Rattle.bcs_tool_command_line.specs.Jobs.{coding_of, is_raw}
+use Rattle.bcs_tool_command_line.specs.declared.work.Work.{Work}
+
+-- ---- the names that are printed
+
+abbrev pub job_fault_name : JobFault → List ℕ
+job_fault_name (job.Registry fault) = registry_fault_name fault
+job_fault_name (job.Growth fault) = growth_fault_name fault
+job_fault_name job.BadPath = codes "BadPath"
+
+-- the fault of a job whose PATH is refused
+abbrev pub path_job_fault : PathFault → JobFault
+path_job_fault path.BadPath = job.BadPath
+path_job_fault path.OutOfMemory = job.Registry OutOfMemory
+
+-- ---- the registry's text
+
+-- the text writes down this registry, which is well-formed
+abbrev pub IsRegistry : List ℕ → Entries → Type 0
+IsRegistry text registry = WritesRegistry text registry × IsWellFormed registry
+
+-- ---- the format's word
+
+-- it begins with a brace or a quotation mark; any other word is a container's name
+abbrev pub is_json_word : List ℕ → Bool
+is_json_word [] = false
+is_json_word (c ∷ cs) = c == 123 || c == 34
+
+-- the word is the JSON of a format that the registry admits, or the name of one of its containers
+abbrev pub IsFormatWord : Entries → List ℕ → Shape → Type 0
+IsFormatWord registry word s = ((is_json_word word ≡ true) × WritesFormat word s × Admits registry s)
+    ⊎ ((is_json_word word ≡ false) × (is_some (container_at word registry) ≡ true) × (s ≡ name word))
+
+-- it is JSON with this fault, or a name that no container has
+abbrev pub RefusesFormatWord : Entries → List ℕ → RegistryFault → Type 0
+RefusesFormatWord registry word fault = ((is_json_word word ≡ true) × IsLeastFormatFault registry word fault)
+    ⊎ ((is_json_word word ≡ false) × (container_at word registry ≡ None) × (fault ≡ UnknownName))
+
+-- ---- the name that may be left out
+
+-- that of a container or of a variant
+abbrev pub name_of : Work → Option (List ℕ)
+name_of work = option_map string_bytes work.options.name
+
+-- a name is given that no container has
+abbrev pub NamesNone : Option (List ℕ) → Entries → Type 0
+NamesNone None registry = ⊥
+NamesNone (Some word) registry = container_at word registry ≡ None
+
+-- ---- the path's word
+
+-- the steps that a command's word PATH spells; none where the command has no such word
+abbrev pub IsPathOf : Command → List ℕ → List Step → Type 0
+IsPathOf command.Part word path = SpellsPath word path
+IsPathOf other word path = path ≡ []
+
+-- ---- the job
+
+-- the command works on values: it has a format and an input
+abbrev pub works_on_values : Command → Bool
+works_on_values command.Check = false
+works_on_values command.Grows = false
+works_on_values command.Show = false
+works_on_values command.Example = false
+works_on_values command.Schema = false
+works_on_values other = true
+
+-- the command validates bytes alone, and makes nothing of them
+abbrev pub is_scan : Command → Bool
+is_scan command.Scan = true
+is_scan other = false
+
+-- the input may have any size: bytes as they are, which are validated as they come
+abbrev pub is_unlimited : Work → Bool
+is_unlimited work = is_scan work.command && is_raw (coding_of work)
+
+-- the job works on values of this format of this registry, and its PATH is good where it has one
+pub record Asks (work : Work) (registry : Entries) (s : Shape) : Type 0 where
+  pub command : works_on_values work.command ≡ true
+  pub is_registry : IsRegistry work.registry.items registry
+  pub is_format : IsFormatWord registry (string_bytes work.format) s
+  pub has_path : (path : List Step) × IsPathOf work.command (string_bytes work.path) path
+
+-- the job has an input, which is read, since its words are not refused
+abbrev pub ReadsInput : Work → Type 0
+ReadsInput work = (registry : Entries) × (s : Shape) × Asks work registry s
+
+-- the registry's fault, or else the format's
+abbrev pub RefusesFormatted : Work → JobFault → Type 0
+RefusesFormatted work (job.Registry fault) = IsLeastFault work.registry.items fault
+    ⊎ ((registry : Entries) × IsRegistry work.registry.items registry × RefusesFormatWord registry (string_bytes work.format) fault)
+RefusesFormatted work (job.Growth fault) = ⊥
+RefusesFormatted work job.BadPath = ⊥
+
+abbrev pub RefusesCheck : Work → JobFault → Type 0
+RefusesCheck work (job.Registry fault) = IsLeastFault work.registry.items fault
+RefusesCheck work (job.Growth fault) = ⊥
+RefusesCheck work job.BadPath = ⊥
+
+-- the registry's fault, or else no container has NAME
+abbrev pub RefusesShow : Work → JobFault → Type 0
+RefusesShow work (job.Registry fault) = IsLeastFault work.registry.items fault
+    ⊎ ((registry : Entries) × IsRegistry work.registry.items registry × NamesNone (name_of work) registry × (fault ≡ UnknownName))
+RefusesShow work (job.Growth fault) = ⊥
+RefusesShow work job.BadPath = ⊥
+
+-- the older registry's fault, or else the newer's, or else why the one has not grown into the other
+abbrev pub RefusesGrowth : Work → JobFault → Type 0
+RefusesGrowth work (job.Registry fault) = IsLeastFault work.registry.items fault
+    ⊎ ((older : Entries) × IsRegistry work.registry.items older × IsLeastFault work.second.items fault)
+RefusesGrowth work (job.Growth fault) = (older : Entries) × (newer : Entries) × IsRegistry work.registry.items older
+    × IsRegistry work.second.items newer × IsFirstGrowthFault older newer fault
+RefusesGrowth work job.BadPath = ⊥
+
+-- the registry's fault, or else the format's, or else no steps are spelled by PATH
+abbrev pub RefusesPart : Work → JobFault → Type 0
+RefusesPart work (job.Registry fault) = RefusesFormatted work (job.Registry fault)
+RefusesPart work (job.Growth fault) = ⊥
+RefusesPart work job.BadPath = (registry : Entries) × (s : Shape) × IsRegistry work.registry.items registry
+    × IsFormatWord registry (string_bytes work.format) s × SpellsNoPath (string_bytes work.path)
+
+abbrev pub RefusesJobOf : Command → Work → JobFault → Type 0
+RefusesJobOf command.Check = RefusesCheck
+RefusesJobOf command.Grows = RefusesGrowth
+RefusesJobOf command.Show = RefusesShow
+RefusesJobOf command.Part = RefusesPart
+RefusesJobOf other = RefusesFormatted
+
+-- the job is refused before an input is read
+abbrev pub RefusesEarly : Work → JobFault → Type 0
+RefusesEarly work = RefusesJobOf work.command work
