@@ -18,9 +18,9 @@ import sys
 import tempfile
 from collections.abc import Iterator
 
+import debian
+
 ROOT = pathlib.Path(__file__).resolve().parent.parent
-sys.path.insert(0, str(ROOT / "tests"))
-import debian  # noqa: E402 (the folder has to be known first)
 
 LINTERS = {
     "black": "black",

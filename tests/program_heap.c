@@ -134,6 +134,23 @@ static size_t refusals(size_t count) {
     return found;
 }
 
+/* A block of a run that gets shorter needs nothing of the system. */
+static void shrinks_without_requests(void) {
+    for (size_t at = 0; at < BLOCKS; at++) fill(&held[at], rattle_alloc(SMALL_MOST, 16), SMALL_MOST);
+    granted = 0;
+    for (size_t at = 0; at < BLOCKS; at++) {
+        if (run_of(held[at].bytes) == NULL) continue;
+        size_t length = 1 + below(SMALL_MOST);
+        struct tried answer = rattle_realloc(held[at].bytes, length, length, 16);
+        CHECK(answer.ok);
+        held[at] = (struct held){answer.block, length, held[at].mark};
+        check(&held[at], length);
+    }
+    granted = -1;
+    drop_all();
+    CHECK(in_use() == 0);
+}
+
 /* Fills many runs with blocks of one size after another: a size gets the runs of the one before. */
 static void sizes_share_runs(void) {
     size_t before = given;
@@ -156,6 +173,7 @@ int main(int count, char **words) {
     CHECK(found > 500);
     random_steps(STEPS);
     sizes_share_runs();
+    shrinks_without_requests();
     CHECK((region != NULL) == has_region);
     if (strcmp(words[1], "full") == 0) CHECK(given == REGION);
     printf("heap: %s: %d random steps, %zu MiB of runs, and %zu refused requests\n", words[1], STEPS, given >> 20, found);

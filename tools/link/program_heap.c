@@ -190,16 +190,15 @@ void rattle_dealloc(void *block) {
         free(block);
 }
 
-/* If it fails, the block stays as it was. */
+/* If it fails, the block stays as it was. A block that gets shorter stays where it is if no other block can be had. */
 struct tried rattle_realloc(void *block, size_t kept, size_t length, size_t alignment) {
     (void)alignment;
     struct run *run = run_of(block);
     if (run == NULL) return tried(realloc(block, at_least_one(length)));
     if (units(length) == run->size / UNIT) return tried(block);
     void *other = allocate(length);
-    if (other != NULL) {
-        memcpy(other, block, kept);
-        free_small(run, block);
-    }
+    if (other == NULL) return tried(length <= run->size ? block : NULL);
+    memcpy(other, block, kept);
+    free_small(run, block);
     return tried(other);
 }
